@@ -1,0 +1,20 @@
+use Rattle.std.proofs.Common.{◌≡◌, sym, subst, rules}
+use Rattle.aig_circuit.specs.Circuit.{IsCircuit, only_false}
+use Rattle.aig_circuit.proofs.Circuits.{IsCircuit-only_false}
+use Rattle.aig.specs.View.{held_circuit}
+use Rattle.aig.proofs.graph.Aig.new.Goals as goal
+
+pub invariant_of-result : goal.invariant_of-result
+invariant_of-result c =
+    let e : held_circuit (record {
+      nodes = c.push.new.self;
+      inputs = c.new.result;
+      latchs = c.new-2.result;
+      outputs = c.new-3.result;
+      bads = c.new-4.result;
+      constraints = c.new-5.result;
+      justice = c.new-6.result;
+      fairness = c.new-7.result;
+      symbols = c.new-8.result;
+    }) ≡ only_false = search rules in
+    subst IsCircuit (sym e) IsCircuit-only_false

@@ -1,0 +1,249 @@
+//! Circuits: their nodes, inputs, latches, properties and names.
+
+ghost use Rattle.std.specs.Prelude.{◌≡◌, ◌↔◌, ◌<◌, ◌++◌, ◌∷◌, [], ◌&&◌, ℕ, Bool, Some, IsTrue, IfOk, OnOk, OnErr, length, map, slice_get, string_bytes};
+ghost use Rattle.std.specs.FinMap.{from_entries};
+ghost use Rattle.aig_circuit.specs.declared.node.AigNodeType.TheVariants.{Leaf};
+ghost use Rattle.aig_circuit.specs.Build.{with_node, AddsGate, KeepsTrees};
+ghost use Rattle.aig_circuit.specs.Circuit.{IsCircuit, IsClosed, IsInRange, IsLeaf, IsFree, only_false};
+ghost use Rattle.aig_circuit.specs.Tree.{edge_value};
+
+use aig_base::MemoryError;
+use aig_circuit::{AigEdge, AigLatch, AigNode, build, false_node, leaves};
+use std::alloc::Global;
+use std::collections::HashMap;
+use std::marker::Model;
+use std::ops::{Index, Range};
+
+/// A sequential circuit, kept as an And-Inverter Graph.
+///
+/// It is a list of nodes: node 0 is false, and every other node is a leaf or the and of two edges to nodes before it.
+/// A node's number is its place in the list. Inputs and the leaves of latches are leaves, and distinct. A leaf that is
+/// neither is free. Latches have a next edge and perhaps an initial edge. Beside them stand four lists of property
+/// edges, a list of justice sets, and names of nodes.
+#[derive(Drop)]
+pub struct Aig {
+    nodes: Vec<AigNode>,
+    inputs: Vec<usize>,
+    latchs: Vec<AigLatch>,
+    outputs: Vec<AigEdge>,
+    bads: Vec<AigEdge>,
+    constraints: Vec<AigEdge>,
+    justice: Vec<Vec<AigEdge>>,
+    fairness: Vec<AigEdge>,
+    symbols: HashMap<usize, String>,
+}
+
+impl Model for Aig {
+    ghost use Rattle.aig_circuit.specs.Circuit.{Circuit, IsCircuit};
+
+    ghost Value = { Circuit };
+
+    ghost use Rattle.std.specs.Coded.{codes, coded_ℕ, coded_list};
+    ghost use Rattle.std.specs.FinMap as finite_map;
+    ghost use Rattle.std.specs.Ordering.{nat_cmp};
+
+    ghost coded = { Prim.hlevel (codes, finite_map.code {R = nat_cmp} coded_ℕ (coded_list coded_ℕ)) };
+
+    ghost use Rattle.aig.specs.View.{held_circuit};
+
+    ghost view = { held_circuit };
+
+    ghost invariant = { λ a. IsCircuit (held_circuit a) };
+}
+
+impl Aig {
+    /// The circuit of the false node alone.
+    pub fn new(alloc: Global) -> Result<Aig, MemoryError>
+        ensures { IfOk result (λ aig. aig ≡ only_false) }
+    {
+        let mut nodes = Vec::new(alloc);
+        nodes.push(false_node())?;
+        Ok(Aig {
+            nodes,
+            inputs: Vec::new(alloc),
+            latchs: Vec::new(alloc),
+            outputs: Vec::new(alloc),
+            bads: Vec::new(alloc),
+            constraints: Vec::new(alloc),
+            justice: Vec::new(alloc),
+            fairness: Vec::new(alloc),
+            symbols: HashMap::new(alloc),
+        })
+    }
+
+    /// Adds a free leaf, and answers its number.
+    pub fn new_leaf_node(&mut self) -> Result<usize, MemoryError>
+        ensures number { IfOk result (λ id. id ≡ length self.old.nodes) }
+        ensures ok { OnOk result (self.new ≡ record self.old { nodes = with_node self.old.nodes Leaf }) }
+        ensures err { OnErr result (self.new ≡ self.old) }
+    {
+        build::add_leaf(&mut self.nodes)
+    }
+
+    /// Adds a leaf that is an input, and answers its number.
+    pub fn new_input(&mut self) -> Result<usize, MemoryError>
+        ensures number { IfOk result (λ id. id ≡ length self.old.nodes) }
+        ensures ok { IfOk result (λ id. self.new ≡ record self.old { nodes = with_node self.old.nodes Leaf; inputs = self.old.inputs ++ id ∷ [] }) }
+        ensures err { OnErr result (self.new ≡ self.old) }
+    {
+        self.inputs.reserve(1)?;
+        let id = build::add_leaf(&mut self.nodes)?;
+        self.inputs.push(id)?;
+        Ok(id)
+    }
+
+    /// Makes a free leaf, given by its number, an input. Asks `is_free_leaf`.
+    pub fn add_input(&mut self, id: usize) -> Result<(), MemoryError>
+        requires leaf { IsLeaf self.old.nodes id }
+        requires free { IsFree self.old.inputs self.old.latchs id }
+        ensures ok { OnOk result (self.new ≡ record self.old { inputs = self.old.inputs ++ id ∷ [] }) }
+        ensures err { OnErr result (self.new ≡ self.old) }
+    {
+        self.inputs.push(id)?;
+        Ok(())
+    }
+
+    /// Adds one gate, the and of two edges, and answers the edge to it. Asks `has_edge` of both.
+    pub fn trivial_new_and_node(
+        &mut self,
+        fanin0: AigEdge,
+        fanin1: AigEdge,
+    ) -> Result<AigEdge, MemoryError>
+        requires first { IsInRange self.old.nodes fanin0 }
+        requires second { IsInRange self.old.nodes fanin1 }
+        ensures gate { IfOk result (λ e. AddsGate self.old.nodes self.new.nodes fanin0 fanin1 e) }
+        // The new edge has for all leaf values the value of the and, and old nodes keep their trees.
+        ensures value { IfOk result (λ e. (x : ℕ → Bool) → edge_value self.new.nodes x e ≡ (edge_value self.old.nodes x fanin0 && edge_value self.old.nodes x fanin1)) }
+        ensures trees { KeepsTrees self.old.nodes self.new.nodes }
+        ensures same { self.new ≡ record self.old { nodes = self.new.nodes } }
+        ensures err { OnErr result (self.new ≡ self.old) }
+    {
+        build::add_gate(&mut self.nodes, fanin0, fanin1)
+    }
+
+    /// Its nodes: the place of a node is its number.
+    pub fn nodes(&self) -> &[AigNode]
+        ensures value { result.now ≡ self.now.nodes }
+        ensures circuit { IsCircuit self.now }
+    {
+        &self.nodes
+    }
+
+    /// The numbers of its inputs.
+    pub fn inputs(&self) -> &[usize]
+        ensures { result.now ≡ self.now.inputs }
+    {
+        &self.inputs
+    }
+
+    /// Its latches.
+    pub fn latchs(&self) -> &[AigLatch]
+        ensures { result.now ≡ self.now.latchs }
+    {
+        &self.latchs
+    }
+
+    /// The edges of its outputs.
+    pub fn outputs(&self) -> &[AigEdge]
+        ensures { result.now ≡ self.now.outputs }
+    {
+        &self.outputs
+    }
+
+    /// The edges of its bad state properties.
+    pub fn bads(&self) -> &[AigEdge]
+        ensures { result.now ≡ self.now.bads }
+    {
+        &self.bads
+    }
+
+    /// The edges of its invariant constraints.
+    pub fn constraints(&self) -> &[AigEdge]
+        ensures { result.now ≡ self.now.constraints }
+    {
+        &self.constraints
+    }
+
+    /// The edges of its justice properties, a set each.
+    pub fn justice(&self) -> &[Vec<AigEdge>]
+        ensures { map (λ set. set.items) result.now ≡ self.now.justice }
+    {
+        &self.justice
+    }
+
+    /// The edges of its fairness constraints.
+    pub fn fairness(&self) -> &[AigEdge]
+        ensures { result.now ≡ self.now.fairness }
+    {
+        &self.fairness
+    }
+
+    /// The names of nodes, by their numbers.
+    pub fn symbols(&self) -> &HashMap<usize, String>
+        ensures { from_entries (map (λ entry. (entry.0, string_bytes entry.1)) result.now.entries) ≡ self.now.names }
+    {
+        &self.symbols
+    }
+
+    /// How many nodes it has.
+    pub fn num_nodes(&self) -> usize
+        ensures value { result ≡ length self.now.nodes }
+        ensures circuit { IsCircuit self.now }
+    {
+        self.nodes.len()
+    }
+
+    /// The numbers of its nodes but 0.
+    pub fn nodes_range(&self) -> Range<usize>
+        ensures { result ≡ record { start = 1; «end» = length self.now.nodes } }
+    {
+        1..self.nodes.len()
+    }
+
+    /// The numbers of its nodes.
+    pub fn nodes_range_with_false(&self) -> Range<usize>
+        ensures { result ≡ record { start = 0; «end» = length self.now.nodes } }
+    {
+        0..self.nodes.len()
+    }
+
+    /// Whether there is a node of this number.
+    pub fn has_node(&self, id: usize) -> bool
+        ensures { IsTrue result ↔ (id < length self.now.nodes) }
+    {
+        id < self.nodes.len()
+    }
+
+    /// Whether there is a node of the edge's number.
+    pub fn has_edge(&self, e: AigEdge) -> bool
+        ensures { IsTrue result ↔ IsInRange self.now.nodes e }
+    {
+        self.has_node(e.node_id())
+    }
+
+    /// Whether the node of this number is a leaf that is neither an input nor a latch's.
+    pub fn is_free_leaf(&self, id: usize) -> bool
+        ensures { IsTrue result ↔ (IsLeaf self.now.nodes id × IsFree self.now.inputs self.now.latchs id) }
+    {
+        leaves::is_free_leaf(&self.nodes, &self.inputs, &self.latchs, id)
+    }
+
+    /// Whether no leaf is free.
+    pub fn is_closed(&self) -> bool
+        ensures { IsTrue result ↔ IsClosed self.now }
+    {
+        leaves::is_closed(&self.nodes, &self.inputs, &self.latchs)
+    }
+}
+
+impl Index<usize> for Aig {
+    type Output = AigNode;
+
+    ghost can_index = { λ aig id. id < length aig.nodes };
+
+    ghost index_gives = { λ aig id node. slice_get aig.nodes id ≡ Some node };
+
+    fn index(&self, id: usize) -> &AigNode {
+        &self.nodes[id]
+    }
+}

@@ -1,0 +1,7 @@
+//! And-Inverter Graphs: sequential circuits of and gates and inverters, read from and written to AIGER.
+#![tactic(auto)]
+
+mod graph;
+
+pub use aig_circuit::{AigEdge, AigLatch, AigNode, AigNodeType};
+pub use graph::Aig;

@@ -1,0 +1,115 @@
+ghost use Rattle.std.specs.Prelude.{◌≡◌, ◌-◌, ◌^◌, false};
+ghost use Rattle.aig_base.specs.Wrapped.{reader_of, writer_of};
+
+use crate::stream::{Sink, Source, StreamFault};
+use std::io::{Read, Write};
+
+/// A reader of std as a source: its bytes are those that the reader has left.
+///
+/// A read that is interrupted is a failure, as any other `Err` is, and so is every pull after the first 2^64 - 1.
+#[derive(Drop)]
+pub struct FromRead<R> {
+    inner: R,
+    pulls: u64,
+    failed: bool,
+}
+
+impl<R: Read> FromRead<R> {
+    /// The source over a reader.
+    pub fn new(inner: R) -> Self
+        ensures reader { reader_of result ≡ inner }
+        ensures sound { ⟦<FromRead<R> as Source>⟧.failed result ≡ false }
+        ensures pulls { ⟦<FromRead<R> as Source>⟧.pulls result ≡ 2 ^ 64 - 1 }
+    {
+        FromRead {
+            inner,
+            pulls: u64::MAX,
+            failed: false,
+        }
+    }
+
+    /// The reader under it.
+    pub fn into_inner(self) -> R
+        ensures { result ≡ reader_of self }
+    {
+        let FromRead {
+            inner,
+            pulls: _,
+            failed: _,
+        } = self;
+        inner
+    }
+}
+
+impl<R: Read> Source for FromRead<R> {
+    ghost left = { λ s. R.remaining s.inner };
+
+    ghost failed = { λ s. s.failed };
+
+    ghost pulls = { λ s. s.pulls };
+
+    fn pull(&mut self, buf: &mut [u8]) -> Result<usize, StreamFault> {
+        if self.failed || self.pulls == 0 {
+            self.failed = true;
+            return Err(StreamFault::Failed);
+        }
+        self.pulls -= 1;
+        match self.inner.read(buf) {
+            Ok(n) => Ok(n),
+            Err(_) => {
+                self.failed = true;
+                Err(StreamFault::Failed)
+            }
+        }
+    }
+}
+
+/// A writer of std as a sink: the bytes that it holds are those that the writer holds.
+///
+/// A write that is interrupted is a failure, as any other `Err` is, and so is one that takes no byte of a piece that
+/// isn't empty.
+#[derive(Drop)]
+pub struct ToWrite<W> {
+    inner: W,
+    failed: bool,
+}
+
+impl<W: Write> ToWrite<W> {
+    /// The sink over a writer.
+    pub fn new(inner: W) -> Self
+        ensures writer { writer_of result ≡ inner }
+        ensures sound { ⟦<ToWrite<W> as Sink>⟧.failed result ≡ false }
+    {
+        ToWrite {
+            inner,
+            failed: false,
+        }
+    }
+
+    /// The writer under it.
+    pub fn into_inner(self) -> W
+        ensures { result ≡ writer_of self }
+    {
+        let ToWrite { inner, failed: _ } = self;
+        inner
+    }
+}
+
+impl<W: Write> Sink for ToWrite<W> {
+    ghost held = { λ s. W.contents s.inner };
+
+    ghost failed = { λ s. s.failed };
+
+    fn put(&mut self, piece: &[u8]) -> Result<usize, StreamFault> {
+        if self.failed {
+            return Err(StreamFault::Failed);
+        }
+        match self.inner.write(piece) {
+            Ok(n) if n > 0 || piece.is_empty() => Ok(n),
+            _ => {
+                self.failed = true;
+                Err(StreamFault::Failed)
+            }
+        }
+    }
+}

@@ -1,0 +1,127 @@
+use crate::{FromRead, MemoryError, Parts, Sink, Source, StreamFault, Taker, ToWrite};
+use std::io;
+use std::io::{ErrorKind, Read, Write};
+use std::test::Fail;
+
+/// A reader and writer whose every call is interrupted.
+#[derive(Drop)]
+struct Interrupted;
+
+impl Read for Interrupted {
+    fn read(&mut self, _buf: &mut [u8]) -> io::Result<usize> {
+        Err(io::Error::from(ErrorKind::Interrupted))
+    }
+}
+
+impl Write for Interrupted {
+    fn write(&mut self, _piece: &[u8]) -> io::Result<usize> {
+        Err(io::Error::from(ErrorKind::Interrupted))
+    }
+
+    fn flush(&mut self) -> io::Result<()> {
+        Ok(())
+    }
+}
+
+/// A writer that takes no byte.
+#[derive(Drop)]
+struct Idle;
+
+impl Write for Idle {
+    fn write(&mut self, _piece: &[u8]) -> io::Result<usize> {
+        Ok(0)
+    }
+
+    fn flush(&mut self) -> io::Result<()> {
+        Ok(())
+    }
+}
+
+/// Pulls once, through a bound.
+fn pull_once<R: Source>(r: &mut R, buf: &mut [u8]) -> Result<usize, StreamFault> {
+    r.pull(buf)
+}
+
+/// Puts once, through a bound.
+fn put_once<W: Sink>(w: &mut W, piece: &[u8]) -> Result<usize, StreamFault> {
+    w.put(piece)
+}
+
+#[test]
+fn reads_from_std(rt: HostRuntime) {
+    let mut source = FromRead::new(b"abc".as_slice());
+    let mut buf = [0u8; 2];
+    assert_eq!(rt; pull_once(&mut source, &mut buf), Ok(2));
+    assert_eq!(rt; buf, [97, 98]);
+    assert_eq!(rt; pull_once(&mut source, &mut buf), Ok(1));
+    assert_eq!(rt; buf[0], 99);
+    assert_eq!(rt; pull_once(&mut source, &mut buf), Ok(0));
+    assert_eq!(rt; source.into_inner().len(), 0);
+}
+
+#[test]
+fn writes_to_std(rt: HostRuntime) {
+    let mut sink = ToWrite::new(Vec::new(rt.alloc()));
+    assert_eq!(rt; put_once(&mut sink, b"ab"), Ok(2));
+    assert_eq!(rt; put_once(&mut sink, b""), Ok(0));
+    assert_eq!(rt; put_once(&mut sink, b"c"), Ok(1));
+    assert_eq!(rt; sink.into_inner().as_slice(), b"abc".as_slice());
+}
+
+#[test]
+fn fails_where_interrupted(rt: HostRuntime) {
+    let mut buf = [0u8; 2];
+    let mut source = FromRead::new(Interrupted);
+    assert_eq!(rt; pull_once(&mut source, &mut buf), Err(StreamFault::Failed));
+    assert_eq!(rt; pull_once(&mut source, &mut buf), Err(StreamFault::Failed));
+    let mut sink = ToWrite::new(Interrupted);
+    assert_eq!(rt; put_once(&mut sink, b"a"), Err(StreamFault::Failed));
+    assert_eq!(rt; put_once(&mut sink, b""), Err(StreamFault::Failed));
+}
+
+#[test]
+fn fails_where_no_byte_is_taken(rt: HostRuntime) {
+    let mut sink = ToWrite::new(Idle);
+    assert_eq!(rt; put_once(&mut sink, b""), Ok(0));
+    assert_eq!(rt; put_once(&mut sink, b"a"), Err(StreamFault::Failed));
+}
+
+#[test]
+fn gives_parts(rt: HostRuntime) -> Result<(), Fail> {
+    let mut source = Parts::new(b"abcde".as_slice().to_vec(rt.alloc())?, 2, Some(3));
+    let mut buf = [0u8; 4];
+    assert_eq!(rt; pull_once(&mut source, &mut buf), Ok(2));
+    assert_eq!(rt; buf[0], 97);
+    assert_eq!(rt; buf[1], 98);
+    assert_eq!(rt; pull_once(&mut source, &mut buf), Ok(1));
+    assert_eq!(rt; buf[0], 99);
+    assert_eq!(rt; pull_once(&mut source, &mut buf), Err(StreamFault::Failed));
+    assert_eq!(rt; pull_once(&mut source, &mut buf), Err(StreamFault::Failed));
+    let mut whole = Parts::new(b"a".as_slice().to_vec(rt.alloc())?, 2, Some(2));
+    assert_eq!(rt; pull_once(&mut whole, &mut buf), Ok(1));
+    assert_eq!(rt; pull_once(&mut whole, &mut buf), Ok(0));
+    Ok(())
+}
+
+#[test]
+fn takes_parts(rt: HostRuntime) -> Result<(), Fail> {
+    let mut sink = Taker::new(rt.alloc(), 2, 3)?;
+    assert_eq!(rt; put_once(&mut sink, b"abcde"), Ok(2));
+    assert_eq!(rt; put_once(&mut sink, b"cde"), Ok(1));
+    assert_eq!(rt; put_once(&mut sink, b""), Ok(0));
+    assert_eq!(rt; put_once(&mut sink, b"de"), Err(StreamFault::Failed));
+    assert_eq!(rt; put_once(&mut sink, b""), Err(StreamFault::Failed));
+    assert_eq!(rt; sink.bytes(), b"abc".as_slice());
+    Ok(())
+}
+
+#[test]
+fn says_its_faults(rt: HostRuntime) -> Result<(), Fail> {
+    assert_eq!(rt;
+        MemoryError::Memory.to_string(rt.alloc())?.as_str(),
+        "out of memory"
+    );
+    assert_eq!(rt; MemoryError::Memory as u8, 1);
+    assert_eq!(rt; StreamFault::Failed as u8, 1);
+    Ok(())
+}

@@ -1,0 +1,240 @@
+use Rattle.std.proofs.Common.{◌≡◌, ℕ, zero, suc, ◌+◌, ◌<◌, ◌≤◌, Bool, true, false, not, ◌&&◌, ◌⊎◌, Some, List, [], ◌∷◌, ◌++◌, length, take, get_or, refl, sym, ap, subst, ◌∙◌, arith, inl, inr, length-append, append_assoc, append-nil}
+use Rattle.std.proofs.Math.Seq.{take-append_seam}
+use Rattle.std.proofs.lemmas.List.{take_more}
+use Rattle.std.specs.Prelude.{slice_get}
+use Rattle.std.proofs.lemmas.Bool.{cases_lt}
+use Rattle.std.proofs.lemmas.Bool.Decides.{nat_tests}
+use Rattle.aig_circuit.specs.declared.edge.AigEdge.{AigEdge}
+use Rattle.aig_circuit.specs.declared.node.AigNodeType.{AigNodeType}
+use Rattle.aig_circuit.specs.declared.node.AigNodeType.TheVariants.{False, Leaf, And}
+use Rattle.aig_circuit.specs.declared.node.AigNode.{AigNode}
+use Rattle.aig_circuit.specs.Edge.{inverted_if, edge_to, literal_of}
+use Rattle.aig_circuit.specs.Node.{kind_at, IsOrdered, and_of}
+use Rattle.aig_circuit.specs.Tree.{node_value, edge_value}
+use Rattle.aig_circuit.specs.Circuit.{AreNodes, IsInRange}
+use Rattle.std.specs.List.{list_all}
+use Rattle.aig_circuit.specs.Build.{with_node, Folds, true_first, true_second, false_first, false_second, same, opposite, AddsGate, AddsGates, Grows, KeepsTrees}
+use Rattle.aig_circuit.proofs.Trees.{kind_at-append, kind_at-last, kind_at-within, tree_of-agrees, node_value-agrees, node_value-and, node_value-false}
+
+-- a node of a longer list is an old one or the last
+get_push : {X : Type 0} (xs : List X) (y z : X) (n : ℕ) → slice_get (xs ++ y ∷ []) n ≡ Some z → ((n < length xs) × (slice_get xs n ≡ Some z)) ⊎ ((n ≡ length xs) × (y ≡ z))
+get_push [] y z zero is = inr (refl, cc)
+get_push [] y z (suc n) is = cc
+get_push (x ∷ xs) y z zero is = inl (omega arith, is)
+get_push (x ∷ xs) y z (suc n) is =
+    elim (get_push xs y z n is) [ inl p ↦ inl (omega arith, p.1) | inr p ↦ inr (omega arith, p.1) ]
+
+kind_push : (xs : List AigNode) (y : AigNode) (n : ℕ) (k : AigNodeType) → kind_at (xs ++ y ∷ []) n ≡ Some k → ((n < length xs) × (kind_at xs n ≡ Some k)) ⊎ ((n ≡ length xs) × (y.typ ≡ k))
+kind_push [] y zero k is = inr (refl, cc)
+kind_push [] y (suc n) k is = cc
+kind_push (x ∷ xs) y zero k is = inl (omega arith, is)
+kind_push (x ∷ xs) y (suc n) k is =
+    elim (kind_push xs y n k is) [ inl p ↦ inl (omega arith, p.1) | inr p ↦ inr (omega arith, p.1) ]
+
+-- the operands of a gate of this kind are below n and in order
+pub record FitsBelow (n : ℕ) (kind : AigNodeType) : Type 0 where
+  pub first : (a b : AigEdge) → kind ≡ And a b → a.node_id < n
+  pub second : (a b : AigEdge) → kind ≡ And a b → b.node_id < n
+  pub in_order : (a b : AigEdge) → kind ≡ And a b → literal_of a ≤ literal_of b
+
+same_first : (a b c d : AigEdge) → And a b ≡ And c d → a ≡ c
+same_first a b c d e = cc
+
+same_second : (a b c d : AigEdge) → And a b ≡ And c d → b ≡ d
+same_second a b c d e = cc
+
+FitsBelow-And : (n : ℕ) (a b : AigEdge) → a.node_id < n → b.node_id < n → literal_of a ≤ literal_of b → FitsBelow n (And a b)
+FitsBelow-And n a b i j l = record {
+  first = λ c d e. subst (λ (x : AigEdge). x.node_id < n) (same_first a b c d e) i;
+  second = λ c d e. subst (λ (x : AigEdge). x.node_id < n) (same_second a b c d e) j;
+  in_order = λ c d e. subst (λ (x : AigEdge). literal_of x ≤ literal_of d) (same_first a b c d e) (subst (λ (x : AigEdge). literal_of a ≤ literal_of x) (same_second a b c d e) l);
+}
+
+-- the two edges of a gate, in the one order or the other
+pub and_of-cases : (a b : AigEdge) → ((and_of a b ≡ And b a) × (literal_of b < literal_of a)) ⊎ ((and_of a b ≡ And a b) × (literal_of a ≤ literal_of b))
+and_of-cases a b = grind (arith, nat_tests)
+
+and_not_false : (a b : AigEdge) → And a b ≡ False → ⊥
+and_not_false a b e = cc
+
+pub FitsBelow-and_of : (n : ℕ) (a b : AigEdge) → a.node_id < n → b.node_id < n → FitsBelow n (and_of a b)
+FitsBelow-and_of n a b i j = elim (and_of-cases a b) [
+  | inl p ↦ subst (FitsBelow n) (sym p.0) (FitsBelow-And n b a j i (omega arith))
+  | inr p ↦ subst (FitsBelow n) (sym p.0) (FitsBelow-And n a b i j p.1)
+]
+
+pub IsOrdered-with_node : (nodes : List AigNode) (kind : AigNodeType) → IsOrdered nodes → FitsBelow (length nodes) kind → IsOrdered (with_node nodes kind)
+IsOrdered-with_node nodes kind o fits = record {
+  first_before = λ n a b is. elim (kind_push nodes _ n (And a b) is) [ inl p ↦ o.first_before n a b p.1 | inr p ↦ rw p.0 (fits.first a b p.1) ];
+  second_before = λ n a b is. elim (kind_push nodes _ n (And a b) is) [ inl p ↦ o.second_before n a b p.1 | inr p ↦ rw p.0 (fits.second a b p.1) ];
+  in_order = λ n a b is. elim (kind_push nodes _ n (And a b) is) [ inl p ↦ o.in_order n a b p.1 | inr p ↦ fits.in_order a b p.1 ];
+}
+
+pub AreNodes-with_node : (nodes : List AigNode) (kind : AigNodeType) → AreNodes nodes → (kind ≡ False → ⊥) → FitsBelow (length nodes) kind → AreNodes (with_node nodes kind)
+AreNodes-with_node nodes kind s f fits = record {
+  false_first = kind_at-append nodes _ 0 (kind_at-within nodes 0 False s.false_first) ∙ s.false_first;
+  false_once = λ n is. elim (kind_push nodes _ n False is) [ inl p ↦ s.false_once n p.1 | inr p ↦ absurd (f p.1) ];
+  numbered = λ n node is. elim (get_push nodes _ node n is) [ inl p ↦ s.numbered n node p.1 | inr p ↦ sym (ap (λ (x : AigNode). x.node_id) p.1) ∙ sym p.0 ];
+  ordered = IsOrdered-with_node nodes kind s.ordered fits;
+}
+
+pub Grows-longer : (xs ys : List AigNode) → Grows xs ys → length xs ≤ length ys
+Grows-longer xs ys g = rw g.appended (omega (arith, length-append xs g.added))
+
+pub Grows-kept : (xs ys : List AigNode) → Grows xs ys → (n : ℕ) → n < length xs → kind_at ys n ≡ kind_at xs n
+Grows-kept xs ys g n h = rw g.appended (kind_at-append xs g.added n h)
+
+pub Grows-itself : (nodes : List AigNode) → AreNodes nodes → Grows nodes nodes
+Grows-itself nodes s = record { sound = s; added = []; appended = sym (append-nil nodes) }
+
+pub Grows-then : (xs ys zs : List AigNode) → Grows xs ys → Grows ys zs → Grows xs zs
+Grows-then xs ys zs p q = record {
+  sound = q.sound;
+  added = p.added ++ q.added;
+  appended = q.appended ∙ ap (λ l. l ++ q.added) p.appended ∙ append_assoc xs p.added q.added;
+}
+
+pub Grows-with_node : (nodes : List AigNode) (kind : AigNodeType) → AreNodes nodes → (kind ≡ False → ⊥) → FitsBelow (length nodes) kind → Grows nodes (with_node nodes kind)
+Grows-with_node nodes kind s f fits = record {
+  sound = AreNodes-with_node nodes kind s f fits;
+  added = record { node_id = length nodes; typ = kind } ∷ [];
+  appended = refl;
+}
+
+-- cut back to the old length it is the old list
+pub take-Grows : (xs ys : List AigNode) → Grows xs ys → take (length xs) ys ≡ xs
+take-Grows xs ys g = rw g.appended (take-append_seam xs g.added)
+
+FitsBelow-Leaf : (n : ℕ) → FitsBelow n Leaf
+FitsBelow-Leaf n = record { first = λ a b e. cc; second = λ a b e. cc; in_order = λ a b e. cc }
+
+leaf_not_false : Leaf ≡ False → ⊥
+leaf_not_false e = cc
+
+pub Grows-leaf : (nodes : List AigNode) → AreNodes nodes → Grows nodes (with_node nodes Leaf)
+Grows-leaf nodes s = Grows-with_node nodes Leaf s leaf_not_false (FitsBelow-Leaf _)
+
+pub AddsGates-itself : (nodes : List AigNode) → AreNodes nodes → AddsGates nodes nodes
+AddsGates-itself nodes s = record {
+  grows = Grows-itself nodes s;
+  gates = λ n h i. absurd (omega arith);
+}
+
+pub AddsGates-then : (xs ys zs : List AigNode) → AddsGates xs ys → AddsGates ys zs → AddsGates xs zs
+AddsGates-then xs ys zs p q = record {
+  grows = Grows-then xs ys zs p.grows q.grows;
+  gates = λ n h i. elim (cases_lt n (length ys)) [
+    | inl l ↦ (let old = p.gates n h l in (old.0, old.1, Grows-kept ys zs q.grows n l ∙ old.2))
+    | inr l ↦ q.gates n l i
+  ];
+}
+
+pub AddsGates-with_node : (nodes : List AigNode) (a b : AigEdge) → AreNodes nodes → a.node_id < length nodes → b.node_id < length nodes → AddsGates nodes (with_node nodes (and_of a b))
+AddsGates-with_node nodes a b s i j = record {
+  grows = Grows-with_node nodes (and_of a b) s (λ e. elim (and_of-cases a b) [ inl p ↦ and_not_false _ _ (sym p.0 ∙ e) | inr p ↦ and_not_false _ _ (sym p.0 ∙ e) ]) (FitsBelow-and_of (length nodes) a b i j);
+  gates = λ n h l.
+      let here : n ≡ length nodes = omega (arith, length-append nodes (record { node_id = length nodes; typ = and_of a b } ∷ [])) in
+      elim (and_of-cases a b) [
+        | inl p ↦ (b, a, rw here (kind_at-last nodes _ ∙ ap Some p.0))
+        | inr p ↦ (a, b, rw here (kind_at-last nodes _ ∙ ap Some p.0))
+      ];
+}
+
+-- values and trees of old nodes stay
+-- old nodes keep their trees
+pub KeepsTrees-Grows : (xs ys : List AigNode) → AreNodes xs → Grows xs ys → KeepsTrees xs ys
+KeepsTrees-Grows xs ys s p n h = sym (tree_of-agrees xs ys s.ordered n (λ m k. sym (Grows-kept xs ys p m (omega arith))))
+
+pub node_value-Grows : (xs ys : List AigNode) → AreNodes xs → Grows xs ys → (x : ℕ → Bool) (n : ℕ) → n < length xs → node_value ys x n ≡ node_value xs x n
+node_value-Grows xs ys s p x n h = sym (node_value-agrees xs ys s.ordered x n (λ m k. sym (Grows-kept xs ys p m (omega arith))))
+
+pub and_comm : (a b : Bool) → (a && b) ≡ (b && a)
+and_comm true true = refl
+and_comm true false = refl
+and_comm false true = refl
+and_comm false false = refl
+
+and_true : (a : Bool) → (a && true) ≡ a
+and_true true = refl
+and_true false = refl
+
+and_false : (a : Bool) → (a && false) ≡ false
+and_false true = refl
+and_false false = refl
+
+and_same : (a : Bool) → (a && a) ≡ a
+and_same true = refl
+and_same false = refl
+
+and_inverse : (i v : Bool) → (inverted_if (not i) v && inverted_if i v) ≡ false
+and_inverse true true = refl
+and_inverse true false = refl
+and_inverse false true = refl
+and_inverse false false = refl
+
+-- a gate whose operands were put in order has the value of the and of the two
+pub node_value-and_of : (nodes : List AigNode) → IsOrdered nodes → (x : ℕ → Bool) (n : ℕ) (a b : AigEdge) → kind_at nodes n ≡ Some (and_of a b) → node_value nodes x n ≡ (edge_value nodes x a && edge_value nodes x b)
+node_value-and_of nodes o x n a b is = elim (and_of-cases a b) [
+  | inl p ↦ node_value-and nodes o x n b a (is ∙ ap Some p.0) ∙ and_comm (edge_value nodes x b) (edge_value nodes x a)
+  | inr p ↦ node_value-and nodes o x n a b (is ∙ ap Some p.0)
+]
+
+-- the new gate has the value of the and
+pub value-AddsGate : (old new : List AigNode) (a b e : AigEdge) → AreNodes old → a.node_id < length old → b.node_id < length old → AddsGate old new a b e → (x : ℕ → Bool) → edge_value new x e ≡ (edge_value old x a && edge_value old x b)
+value-AddsGate old new a b e s i j adds x =
+    let grown = AddsGates-with_node old a b s i j in
+    let last = kind_at-last old (record { node_id = length old; typ = and_of a b }) in
+    let at : (f : AigEdge) → f.node_id < length old → edge_value (with_node old (and_of a b)) x f ≡ edge_value old x f = λ f h. ap (inverted_if f.compl) (node_value-Grows old _ s grown.grows x f.node_id h) in
+    rw (adds.gate, adds.edge) (
+    node_value-and_of _ grown.grows.sound.ordered x (length old) a b last
+    ∙ ap (λ v. v && edge_value (with_node old (and_of a b)) x b) (at a i) ∙ ap (λ v. edge_value old x a && v) (at b j))
+
+-- what two edges fold to has the value of their and
+pub value-Folds : (nodes : List AigNode) (a b e : AigEdge) → AreNodes nodes → Folds a b e → (x : ℕ → Bool) → edge_value nodes x e ≡ (edge_value nodes x a && edge_value nodes x b)
+value-Folds nodes a b e s (true_first p q) x = let zero_false = node_value-false nodes x 0 s.false_first in rw (p, q, zero_false)
+value-Folds nodes a b e s (true_second p q) x = let zero_false = node_value-false nodes x 0 s.false_first in rw (p, q, zero_false) (sym (and_true _))
+value-Folds nodes a b e s (false_first p q) x = let zero_false = node_value-false nodes x 0 s.false_first in rw (p, q, zero_false)
+value-Folds nodes a b e s (false_second p q) x = let zero_false = node_value-false nodes x 0 s.false_first in rw (p, q, zero_false) (sym (and_false _))
+value-Folds nodes a b e s (same p q) x = rw (q, p) (sym (and_same _))
+value-Folds nodes a b e s (opposite p q) x = let zero_false = node_value-false nodes x 0 s.false_first in rw (p, q, zero_false) (sym (and_inverse b.compl _))
+
+-- the edge has the value of the and of the first edges
+pub record AndSoFar (old new : List AigNode) (fanins : List AigEdge) (all : AigEdge) : Type 0 where
+  pub gates : AddsGates old new
+  pub there : IsInRange new all
+  pub value : (x : ℕ → Bool) → edge_value new x all ≡ list_all (edge_value old x) fanins
+
+pub AndSoFar-none : (nodes : List AigNode) → AreNodes nodes → AndSoFar nodes nodes [] (edge_to 0 true)
+AndSoFar-none nodes s = record {
+  gates = AddsGates-itself nodes s;
+  there = kind_at-within nodes 0 False s.false_first;
+  value = λ x. let zero_false = node_value-false nodes x 0 s.false_first in rw zero_false;
+}
+
+list_all-push : (p : AigEdge → Bool) (es : List AigEdge) (e : AigEdge) → list_all p (es ++ e ∷ []) ≡ (list_all p es && p e)
+list_all-push p [] e = and_true (p e)
+list_all-push p (f ∷ es) e = ap (λ b. p f && b) (list_all-push p es e) ∙ and_assoc (p f) (list_all p es) (p e)
+  where
+    and_assoc : (a b c : Bool) → (a && (b && c)) ≡ ((a && b) && c)
+    and_assoc true b c = refl
+    and_assoc false b c = refl
+
+pub AndSoFar-more : (old mid new : List AigNode) (fanins : List AigEdge) (i : ℕ) (all e d : AigEdge) → AreNodes old → AndSoFar old mid (take i fanins) all → i < length fanins → IsInRange old (get_or fanins i d) → AddsGates mid new → IsInRange new e → ((x : ℕ → Bool) → edge_value new x e ≡ (edge_value mid x all && edge_value mid x (get_or fanins i d))) → AndSoFar old new (take (i + 1) fanins) e
+AndSoFar-more old mid new fanins i all e d s so_far h in_old adds there value =
+    let f = get_or fanins i d in
+    record {
+      gates = AddsGates-then old mid new so_far.gates adds;
+      there = there;
+      value = λ x.
+          let kept : edge_value mid x f ≡ edge_value old x f = ap (inverted_if f.compl) (node_value-Grows old mid s so_far.gates.grows x f.node_id in_old) in
+          value x ∙ ap (λ v. v && edge_value mid x f) (so_far.value x) ∙ ap (λ v. list_all (edge_value old x) (take i fanins) && v) kept
+          ∙ sym (list_all-push (edge_value old x) (take i fanins) f) ∙ ap (list_all (edge_value old x)) (sym (take_more fanins i d h));
+    }
+
+pub Folds-there : (nodes : List AigNode) (a b e : AigEdge) → AreNodes nodes → IsInRange nodes a → IsInRange nodes b → Folds a b e → IsInRange nodes e
+Folds-there nodes a b e s i j (true_first p q) = rw q j
+Folds-there nodes a b e s i j (true_second p q) = rw q i
+Folds-there nodes a b e s i j (false_first p q) = rw q (kind_at-within nodes 0 False s.false_first)
+Folds-there nodes a b e s i j (false_second p q) = rw q (kind_at-within nodes 0 False s.false_first)
+Folds-there nodes a b e s i j (same p q) = rw q i
+Folds-there nodes a b e s i j (opposite p q) = rw q (kind_at-within nodes 0 False s.false_first)

@@ -1,0 +1,151 @@
+use Rattle.std.proofs.Common.{◌≡◌, ◌≢◌, ℕ, zero, suc, nat_cmp, ◌<◌, ◌≤◌, Option, Some, None, List, [], ◌∷◌, ◌++◌, length, get_or, refl, sym, ap, subst, ◌∙◌, arith, inl, inr}
+use Rattle.std.specs.Prelude.{IfSome, All, AllPairs, Contains, IsTrue, slice_get, is_some}
+use Rattle.std.specs.FinMap.{FinMap, contains_key, get-empty}
+use Rattle.std.proofs.lemmas.Option.{same_Some}
+use Rattle.std.proofs.lemmas.Bool.{false≢true}
+use Rattle.std.proofs.lemmas.List.Elements.{All-weaker, All-append, All-push, All-nil, All-map, All-contains, Contains-append_right, Contains-push_cases, Contains-get_or}
+use Rattle.std.proofs.lemmas.List.Quantifiers.{all_pairs_push}
+use Rattle.std.proofs.lemmas.List.Kept.{AllPairs-cons}
+use Rattle.aig_circuit.specs.declared.edge.AigEdge.{AigEdge}
+use Rattle.aig_circuit.specs.declared.node.AigNodeType.TheVariants.{False, Leaf, And}
+use Rattle.aig_circuit.specs.declared.node.AigNode.{AigNode}
+use Rattle.aig_circuit.specs.declared.node.AigLatch.{AigLatch}
+use Rattle.aig_circuit.specs.Node.{kind_at}
+use Rattle.aig_circuit.specs.Circuit.{Circuit, IsCircuit, AreLeaves, AreNodes, IsLeaf, IsInRange, IsLatch, IsFree, latch_leaves, only_false}
+use Rattle.aig_circuit.specs.Build.{Grows, with_node}
+use Rattle.aig_circuit.proofs.Building.{Grows-leaf, Grows-longer, Grows-kept}
+use Rattle.aig_circuit.proofs.Trees.{kind_at-within, kind_at-last}
+
+init_grown : (xs ys : List AigNode) (o : Option AigEdge) → length xs ≤ length ys → IfSome o (IsInRange xs) → IfSome o (IsInRange ys)
+init_grown xs ys (Some e) l h = omega arith
+init_grown xs ys None l h = h
+
+-- a circuit stays one when nodes are added that keep the old ones
+pub IsCircuit-grown : (c : Circuit) (ys : List AigNode) → IsCircuit c → Grows c.nodes ys → IsCircuit (record c { nodes = ys })
+IsCircuit-grown c ys is grows =
+    let longer : length c.nodes ≤ length ys = Grows-longer c.nodes ys grows in
+    let leaf : (n : ℕ) → IsLeaf c.nodes n → IsLeaf ys n = λ n h. Grows-kept c.nodes ys grows n (kind_at-within c.nodes n Leaf h) ∙ h in
+    let edge : (e : AigEdge) → IsInRange c.nodes e → IsInRange ys e = λ e h. omega arith in
+    record {
+      nodes = grows.sound;
+      inputs = All-weaker (IsLeaf c.nodes) (IsLeaf ys) leaf c.inputs is.inputs;
+      inputs_distinct = is.inputs_distinct;
+      latchs = All-weaker (IsLatch c.nodes) (IsLatch ys) (λ l h. record { leaf = leaf l.input h.leaf; next = edge l.next h.next; init = init_grown c.nodes ys l.init longer h.init }) c.latchs is.latchs;
+      latchs_distinct = is.latchs_distinct;
+      apart = is.apart;
+      outputs = All-weaker (IsInRange c.nodes) (IsInRange ys) edge c.outputs is.outputs;
+      bads = All-weaker (IsInRange c.nodes) (IsInRange ys) edge c.bads is.bads;
+      constraints = All-weaker (IsInRange c.nodes) (IsInRange ys) edge c.constraints is.constraints;
+      justice = All-weaker (All (IsInRange c.nodes)) (All (IsInRange ys)) (λ es h. All-weaker (IsInRange c.nodes) (IsInRange ys) edge es h) c.justice is.justice;
+      fairness = All-weaker (IsInRange c.nodes) (IsInRange ys) edge c.fairness is.fairness;
+      named = λ n h. omega (arith, is.named n h);
+    }
+
+-- a free leaf may become an input
+pub IsCircuit-add_input : (c : Circuit) (n : ℕ) → IsCircuit c → IsLeaf c.nodes n → IsFree c.inputs c.latchs n → IsCircuit (record c { inputs = c.inputs ++ n ∷ [] })
+IsCircuit-add_input c n is leaf free = record {
+  nodes = is.nodes;
+  inputs = All-push (IsLeaf c.nodes) c.inputs n is.inputs leaf;
+  inputs_distinct = all_pairs_push (λ x y. x ≢ y) c.inputs n is.inputs_distinct (λ k d h e. free.no_input (subst (Contains c.inputs) e (Contains-get_or c.inputs k d h)));
+  latchs = is.latchs;
+  latchs_distinct = is.latchs_distinct;
+  apart = λ k d h has. elim (Contains-push_cases c.inputs n (get_or (latch_leaves c.latchs) k d) has) [
+    | inl old ↦ is.apart k d h old
+    | inr same ↦ free.no_latch (subst (Contains (latch_leaves c.latchs)) (sym same) (Contains-get_or (latch_leaves c.latchs) k d h))
+  ];
+  outputs = is.outputs;
+  bads = is.bads;
+  constraints = is.constraints;
+  justice = is.justice;
+  fairness = is.fairness;
+  named = is.named;
+}
+
+-- the circuit of the false node alone is one
+AreNodes-only_false : AreNodes only_false.nodes
+AreNodes-only_false = record {
+  false_first = refl;
+  false_once = only_zero;
+  numbered = only_numbered;
+  ordered = record { first_before = λ n a b is. absurd (no_gate n a b is); second_before = λ n a b is. absurd (no_gate n a b is); in_order = λ n a b is. absurd (no_gate n a b is) };
+}
+  where
+    only_zero : (n : ℕ) → kind_at only_false.nodes n ≡ Some False → n ≡ 0
+    only_zero zero is = refl
+    only_zero (suc n) is = cc
+
+    only_numbered : (n : ℕ) (node : AigNode) → slice_get only_false.nodes n ≡ Some node → node.node_id ≡ n
+    only_numbered zero node is = ap (λ (x : AigNode). x.node_id) (sym (same_Some _ _ is))
+    only_numbered (suc n) node is = cc
+
+    no_gate : (n : ℕ) (a b : AigEdge) → kind_at only_false.nodes n ≡ Some (And a b) → ⊥
+    no_gate zero a b is = cc
+    no_gate (suc n) a b is = cc
+
+pub IsCircuit-only_false : IsCircuit only_false
+IsCircuit-only_false = record {
+  nodes = AreNodes-only_false;
+  inputs = All-nil (IsLeaf only_false.nodes);
+  inputs_distinct = λ i j d h l. absurd (omega arith);
+  latchs = All-nil (IsLatch only_false.nodes);
+  latchs_distinct = λ i j d h l. absurd (omega arith);
+  apart = All-nil (λ n. ¬ Contains [] n);
+  outputs = All-nil (IsInRange only_false.nodes);
+  bads = All-nil (IsInRange only_false.nodes);
+  constraints = All-nil (IsInRange only_false.nodes);
+  justice = All-nil (All (IsInRange only_false.nodes));
+  fairness = All-nil (IsInRange only_false.nodes);
+  named = λ n h. absurd (nothing_named n h);
+}
+  where
+    nothing_named : (n : ℕ) → IsTrue (contains_key only_false.names n) → ⊥
+    nothing_named n h = absurd (false≢true (sym (ap is_some (get-empty nat_cmp n)) ∙ h))
+
+-- the leaves of latches are leaves
+latch_leaves-leaves : (c : Circuit) → IsCircuit c → All (IsLeaf c.nodes) (latch_leaves c.latchs)
+latch_leaves-leaves c is = All-map (IsLeaf c.nodes) (λ (l : AigLatch). l.input) c.latchs (All-weaker (IsLatch c.nodes) (λ l. IsLeaf c.nodes l.input) (λ l h. h.leaf) c.latchs is.latchs)
+
+-- a number past the nodes is neither an input nor a latch's leaf
+IsFree-fresh : (c : Circuit) → IsCircuit c → IsFree c.inputs c.latchs (length c.nodes)
+IsFree-fresh c is = record {
+  no_input = λ has. let leaf = All-contains (IsLeaf c.nodes) c.inputs (length c.nodes) is.inputs has in absurd (omega (arith, kind_at-within c.nodes (length c.nodes) Leaf leaf));
+  no_latch = λ has. let leaf = All-contains (IsLeaf c.nodes) (latch_leaves c.latchs) (length c.nodes) (latch_leaves-leaves c is) has in absurd (omega (arith, kind_at-within c.nodes (length c.nodes) Leaf leaf));
+}
+
+-- a new leaf may be an input
+pub IsCircuit-new_input : (c : Circuit) → IsCircuit c → IsCircuit (record c { nodes = with_node c.nodes Leaf; inputs = c.inputs ++ length c.nodes ∷ [] })
+IsCircuit-new_input c is =
+    let free = IsFree-fresh c is in
+    IsCircuit-add_input (record c { nodes = with_node c.nodes Leaf }) (length c.nodes) (IsCircuit-grown c (with_node c.nodes Leaf) is (Grows-leaf c.nodes is.nodes)) (kind_at-last c.nodes _) free
+
+-- a circuit stays one under other names of its nodes
+pub IsCircuit-named : (c : Circuit) (names : FinMap nat_cmp (List ℕ)) → IsCircuit c → ((n : ℕ) → IsTrue (contains_key names n) → n < length c.nodes) → IsCircuit (record c { names = names })
+IsCircuit-named c names is named = record {
+  nodes = is.nodes;
+  inputs = is.inputs;
+  inputs_distinct = is.inputs_distinct;
+  latchs = is.latchs;
+  latchs_distinct = is.latchs_distinct;
+  apart = is.apart;
+  outputs = is.outputs;
+  bads = is.bads;
+  constraints = is.constraints;
+  justice = is.justice;
+  fairness = is.fairness;
+  named = named;
+}
+
+-- entries that differ in pairs, before others that do and that none of them is
+pairs_append : (xs ys : List ℕ) → AllPairs (λ m n. m ≢ n) xs → AllPairs (λ m n. m ≢ n) ys → All (λ n. ¬ Contains xs n) ys → AllPairs (λ m n. m ≢ n) (xs ++ ys)
+pairs_append [] ys p q apart = q
+pairs_append (x ∷ xs) ys p q apart =
+    AllPairs-cons (λ m n. m ≢ n) x (xs ++ ys)
+    (All-append (λ n. x ≢ n) xs ys (λ k d h. p 0 (suc k) d (omega arith) (omega arith)) (All-weaker (λ n. ¬ Contains (x ∷ xs) n) (λ n. x ≢ n) (λ n no e. no (subst (Contains (x ∷ xs)) e (Contains-get_or (x ∷ xs) 0 x (omega arith)))) ys apart))
+    (pairs_append xs ys (λ i j d h l. p (suc i) (suc j) d (omega arith) (omega arith)) q
+    (All-weaker (λ n. ¬ Contains (x ∷ xs) n) (λ n. ¬ Contains xs n) (λ n no has. no (Contains-append_right (x ∷ []) xs n has)) ys apart))
+
+pub AreLeaves-of_circuit : (c : Circuit) → IsCircuit c → AreLeaves c.nodes c.inputs c.latchs
+AreLeaves-of_circuit c is = record {
+  leaves = All-append (IsLeaf c.nodes) c.inputs (latch_leaves c.latchs) is.inputs (latch_leaves-leaves c is);
+  distinct = pairs_append c.inputs (latch_leaves c.latchs) is.inputs_distinct is.latchs_distinct is.apart;
+}

@@ -1,0 +1,4 @@
+pub mod Trees
+pub mod Building
+pub mod Circuits
+pub mod Counting

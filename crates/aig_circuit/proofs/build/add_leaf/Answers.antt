@@ -1,0 +1,16 @@
+use Rattle.std.proofs.Common.{◌≡◌, subst, sym, arith}
+use Rattle.std.proofs.lemmas.Grind.{common_steps}
+use Rattle.aig_circuit.specs.declared.node.AigNodeType.TheVariants.{Leaf}
+use Rattle.aig_circuit.specs.Build.{with_node, Grows}
+use Rattle.aig_circuit.proofs.Building.{Grows-leaf, KeepsTrees-Grows}
+use Rattle.aig_circuit.proofs.build.add_leaf.Goals as goal
+
+pub returns-clause-grows : goal.returns-clause-grows
+returns-clause-grows c =
+    let e : c.push.new.self.items ≡ with_node c.args.nodes.now.items Leaf = grind (arith, common_steps) in
+    subst (Grows c.args.nodes.now.items) (sym e) (Grows-leaf _ c.requires)
+
+pub returns-clause-trees : goal.returns-clause-trees
+returns-clause-trees c =
+    let e : c.push.new.self.items ≡ with_node c.args.nodes.now.items Leaf = grind (arith, common_steps) in
+    KeepsTrees-Grows _ _ c.requires (subst (Grows c.args.nodes.now.items) (sym e) (Grows-leaf _ c.requires))

@@ -1,0 +1,6 @@
+pub mod Edge
+pub mod Node
+pub mod Tree
+pub mod Circuit
+pub mod Build
+pub mod Runs

@@ -1,0 +1,135 @@
+ghost use Rattle.std.specs.Prelude.{◌≡◌, ◌↔◌, IsTrue, Bool, true, false, not, IfSome, IsSome};
+ghost use Rattle.aig_circuit.specs.Edge.{edge_to, inverted_if};
+
+use std::ops::Not;
+
+/// An edge: the number of a node, and whether its value is inverted.
+#[derive(Clone, Copy, Debug, PartialEq, Eq, PartialOrd, Ord, Hash)]
+pub struct AigEdge {
+    node_id: usize,
+    compl: bool,
+}
+
+impl Not for AigEdge {
+    type Output = AigEdge;
+
+    fn not(self) -> AigEdge
+        ensures { result ≡ record { node_id = self.node_id; compl = not self.compl } }
+    {
+        AigEdge {
+            node_id: self.node_id,
+            compl: !self.compl,
+        }
+    }
+}
+
+impl From<usize> for AigEdge {
+    ghost from_gives = { λ id e. e ≡ record { node_id = id; compl = false } };
+
+    fn from(id: usize) -> AigEdge {
+        AigEdge {
+            node_id: id,
+            compl: false,
+        }
+    }
+}
+
+impl AigEdge {
+    /// The edge to node `id`, inverted where `compl` is true.
+    pub fn new(id: usize, compl: bool) -> AigEdge
+        ensures { result ≡ record { node_id = id; compl = compl } }
+    {
+        AigEdge { node_id: id, compl }
+    }
+
+    /// The number of its node.
+    pub fn node_id(&self) -> usize
+        ensures { result ≡ self.now.node_id }
+    {
+        self.node_id
+    }
+
+    /// Whether it is inverted.
+    pub fn compl(&self) -> bool
+        ensures { result ≡ self.now.compl }
+    {
+        self.compl
+    }
+
+    /// Sets the number of its node.
+    pub fn set_nodeid(&mut self, nodeid: usize)
+        ensures { self.new ≡ record self.old { node_id = nodeid } }
+    {
+        self.node_id = nodeid;
+    }
+
+    /// Sets whether it is inverted.
+    pub fn set_compl(&mut self, compl: bool)
+        ensures { self.new ≡ record self.old { compl = compl } }
+    {
+        self.compl = compl;
+    }
+
+    /// The inverse where `x` is true, and else the edge.
+    pub fn not_if(self, x: bool) -> AigEdge
+        ensures { result ≡ edge_to self.node_id (inverted_if x self.compl) }
+    {
+        if x { !self } else { self }
+    }
+
+    /// The edge that is always of this polarity.
+    pub fn constant(polarity: bool) -> AigEdge
+        ensures { result ≡ record { node_id = 0; compl = polarity } }
+    {
+        AigEdge {
+            node_id: 0,
+            compl: polarity,
+        }
+    }
+
+    /// Whether it is one of the two constants.
+    pub fn is_const(&self) -> bool
+        ensures { IsTrue result ↔ (self.now.node_id ≡ 0) }
+    {
+        self.node_id == 0
+    }
+
+    /// Whether it is the constant of this polarity.
+    pub fn is_constant(&self, polarity: bool) -> bool
+        ensures { IsTrue result ↔ (self.now ≡ record { node_id = 0; compl = polarity }) }
+    {
+        *self == AigEdge::constant(polarity)
+    }
+
+    /// The constant that it is, if it is one.
+    pub fn try_to_constant(self) -> Option<bool>
+        ensures constant { IsSome result ↔ (self.node_id ≡ 0) }
+        ensures value { IfSome result (λ polarity. polarity ≡ self.compl) }
+    {
+        if self.node_id == 0 {
+            Some(self.compl)
+        } else {
+            None
+        }
+    }
+
+    /// The constant that it is. Asks `is_const`.
+    pub fn to_constant(self) -> bool
+        requires { self.node_id ≡ 0 }
+        ensures { result ≡ self.compl }
+    {
+        self.compl
+    }
+
+    /// The edge to the node that `map` gives for its node, inverted as it is.
+    pub fn map<M: Fn(usize) -> usize>(&self, map: &M) -> AigEdge
+        requires { M.pre map.now self.now.node_id }
+        ensures node { M.post map.now self.now.node_id result.node_id }
+        ensures same { result.compl ≡ self.now.compl }
+    {
+        AigEdge {
+            node_id: map(self.node_id),
+            compl: self.compl,
+        }
+    }
+}

@@ -1,0 +1,150 @@
+ghost use Rattle.std.specs.Prelude.{◌≡◌, ◌↔◌, ◌≤◌, IsTrue, Bool, true, false, Option, Some, IsSome};
+ghost use Rattle.aig_circuit.specs.Edge.{literal_of};
+ghost use Rattle.aig_circuit.specs.Node.{IsAnd, and_of};
+
+use crate::edge::AigEdge;
+
+/// A latch: its leaf, its next edge, and its initial edge or none.
+#[derive(Clone, Copy, Debug)]
+pub struct AigLatch {
+    input: usize,
+    next: AigEdge,
+    init: Option<AigEdge>,
+}
+
+impl AigLatch {
+    /// The latch of a leaf, given by its node number, with a next edge and perhaps an initial edge.
+    pub fn new(input: usize, next: AigEdge, init: Option<AigEdge>) -> AigLatch
+        ensures { result ≡ record { input = input; next = next; init = init } }
+    {
+        AigLatch { input, next, init }
+    }
+
+    /// The number of its leaf.
+    pub fn input(&self) -> usize
+        ensures { result ≡ self.now.input }
+    {
+        self.input
+    }
+
+    /// The edge whose value it has at the next step.
+    pub fn next(&self) -> AigEdge
+        ensures { result ≡ self.now.next }
+    {
+        self.next
+    }
+
+    /// The edge whose value it has at a start, if its start is bound at all.
+    pub fn init(&self) -> Option<AigEdge>
+        ensures { result ≡ self.now.init }
+    {
+        self.init
+    }
+}
+
+/// What a node is: false, a leaf, or the and of two edges.
+#[derive(Clone, Copy, Debug)]
+pub enum AigNodeType {
+    False,
+    Leaf,
+    And(AigEdge, AigEdge),
+}
+
+/// A node with its number.
+#[derive(Clone, Copy, Debug)]
+pub struct AigNode {
+    node_id: usize,
+    typ: AigNodeType,
+}
+
+/// The false node.
+pub fn false_node() -> AigNode
+    ensures { result ≡ record { node_id = 0; typ = AigNodeType.False } }
+{
+    AigNode {
+        node_id: 0,
+        typ: AigNodeType::False,
+    }
+}
+
+/// A leaf of this number.
+pub fn leaf_node(id: usize) -> AigNode
+    ensures { result ≡ record { node_id = id; typ = AigNodeType.Leaf } }
+{
+    AigNode {
+        node_id: id,
+        typ: AigNodeType::Leaf,
+    }
+}
+
+/// A gate of this number, with its operands put in order.
+pub fn gate_node(id: usize, fanin0: AigEdge, fanin1: AigEdge) -> AigNode
+    ensures { result ≡ record { node_id = id; typ = and_of fanin0 fanin1 } }
+{
+    let (first, second) = if fanin1 < fanin0 {
+        (fanin1, fanin0)
+    } else {
+        (fanin0, fanin1)
+    };
+    AigNode {
+        node_id: id,
+        typ: AigNodeType::And(first, second),
+    }
+}
+
+impl AigNode {
+    /// Its number.
+    pub fn node_id(&self) -> usize
+        ensures { result ≡ self.now.node_id }
+    {
+        self.node_id
+    }
+
+    /// What it is.
+    pub fn typ(&self) -> &AigNodeType
+        ensures { result.now ≡ self.now.typ }
+    {
+        &self.typ
+    }
+
+    /// Whether it is a gate.
+    pub fn is_and(&self) -> bool
+        ensures { IsTrue result ↔ IsAnd self.now }
+    {
+        matches!(self.typ, AigNodeType::And(_, _))
+    }
+
+    /// Whether it is a leaf.
+    pub fn is_leaf(&self) -> bool
+        ensures { IsTrue result ↔ (self.now.typ ≡ AigNodeType.Leaf) }
+    {
+        matches!(self.typ, AigNodeType::Leaf)
+    }
+
+    /// The operands of a gate, the first not greater than the second. Asks `is_and`.
+    pub fn fanin(&self) -> (AigEdge, AigEdge)
+        requires { IsAnd self.now }
+        ensures { self.now.typ ≡ AigNodeType.And result.0 result.1 }
+    {
+        match self.typ {
+            AigNodeType::And(fanin0, fanin1) => (fanin0, fanin1),
+            _ => unreachable!(),
+        }
+    }
+
+    /// The first operand of a gate. Asks `is_and`.
+    pub fn fanin0(&self) -> AigEdge
+        requires { IsAnd self.now }
+        ensures { (other : AigEdge) × (self.now.typ ≡ AigNodeType.And result other) }
+    {
+        self.fanin().0
+    }
+
+    /// The second operand of a gate. Asks `is_and`.
+    pub fn fanin1(&self) -> AigEdge
+        requires { IsAnd self.now }
+        ensures { (other : AigEdge) × (self.now.typ ≡ AigNodeType.And other result) }
+    {
+        self.fanin().1
+    }
+}

@@ -1,0 +1,17 @@
+pub mod Numbers
+pub mod Joined
+pub mod Lines
+pub mod Sections
+pub mod Names
+pub mod Binary
+pub mod Files
+pub mod Rows
+pub mod Printed
+pub mod Law
+pub mod TooManyAt
+pub mod Checked
+pub mod Entries
+pub mod Guards
+pub mod PlainFiles
+pub mod PlainSpelled
+pub mod PlainRows

@@ -1,0 +1,9 @@
+pub mod Text
+pub mod File
+pub mod Spells
+pub mod Fits
+pub mod Machine
+pub mod Written
+pub mod Circuit
+pub mod Rows
+pub mod Plain

@@ -1,0 +1,5 @@
+pub mod Lines
+pub mod FileNodes
+pub mod Joining
+pub mod Rows
+pub mod Circuits
