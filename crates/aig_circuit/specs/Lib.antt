@@ -4,3 +4,4 @@ pub mod Tree
 pub mod Circuit
 pub mod Build
 pub mod Runs
+pub mod Reencode

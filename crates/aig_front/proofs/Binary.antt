@@ -7,7 +7,8 @@ use Rattle.aig_grammar.specs.Text.{◌then◌, Each, IsLine, Groups, IsDelta}
 use Rattle.aig_grammar.specs.File.{Binary, LatchLine, GateLine}
 use Rattle.aig_grammar.specs.Spells.{Latch, Gate, places}
 use Rattle.aig_front.specs.Front.{◌>>=◌, line_at, both_at, tested_at, groups_at, delta_at, placed_at, placed_latch, placed_gate, fits_gate, placed_latch_at, placed_gate_at}
-use Rattle.aig_front.proofs.Numbers.{bind_some, chosen}
+use Rattle.aig_grammar.proofs.Entries.{chosen}
+use Rattle.aig_front.proofs.Numbers.{bind_some}
 use Rattle.aig_front.proofs.Joined.{Begins, Reads, Reads-both, Reads-tested, Reads-seen}
 use Rattle.aig_front.proofs.Lines.{IsShortLine, Reads-line}
 use Rattle.aig_front.proofs.Sections.{Reads-same}

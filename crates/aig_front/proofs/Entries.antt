@@ -1,39 +1,13 @@
--- Facts on each entry of a list, and on each entry beside those before it, over lists that are joined or seen by a key.
+-- Facts on each entry of a list beside those before it, over lists that are joined or seen by a key.
 use Rattle.std.proofs.Common.{◌≡◌, ◌↔◌, ℕ, ◌<◌, List, [], ◌∷◌, ◌++◌, map, sym, ap, subst, ◌∙◌, append_assoc, append-nil, arith}
 use Rattle.std.specs.Prelude.{nat_eq}
 use Rattle.std.specs.List.{AllByRecursion, IsDistinct, flat_map}
 use Rattle.std.proofs.lemmas.List.{map-append}
 use Rattle.aig_grammar.specs.Text.{Each}
 use Rattle.aig_grammar.specs.Fits.{Rises}
+use Rattle.aig_grammar.proofs.Entries.{rec_weaker, rec_append}
 use Rattle.aig_front.specs.Front.{AllAfter, IsNew}
 use Rattle.aig_front.proofs.Checked.{distinct_from_new, new_from_distinct}
-
-module _ {A : Type 0} (P Q : A → Type 0) where
-  pub rec_weaker : ((x : A) → P x → Q x) → (xs : List A) → AllByRecursion P xs → AllByRecursion Q xs
-  rec_weaker h [] all = tt
-  rec_weaker h (x ∷ xs) all = (h x all.0, rec_weaker h xs all.1)
-
-  pub rec_both : (xs : List A) → AllByRecursion P xs → AllByRecursion Q xs → AllByRecursion (λ x. P x × Q x) xs
-  rec_both [] p q = tt
-  rec_both (x ∷ xs) p q = ((p.0, q.0), rec_both xs p.1 q.1)
-
-module _ {A : Type 0} (P : A → Type 0) where
-  pub rec_append : (xs ys : List A) → AllByRecursion P (xs ++ ys) ↔ (AllByRecursion P xs × AllByRecursion P ys)
-  rec_append [] ys = (λ all. (tt, all), λ all. all.1)
-  rec_append (x ∷ xs) ys =
-      let r = rec_append xs ys in
-      (λ all. let s = r.0 all.1 in ((all.0, s.0), s.1), λ all. (all.0.0, r.1 (all.0.1, all.1)))
-
-  pub rec_map : {B : Type 0} (f : B → A) (ys : List B) → AllByRecursion P (map f ys) ↔ AllByRecursion (λ y. P (f y)) ys
-  rec_map f [] = (λ all. tt, λ all. tt)
-  rec_map f (y ∷ ys) = let r = rec_map f ys in (λ all. (all.0, r.0 all.1), λ all. (all.0, r.1 all.1))
-
-  pub rec_flat_map : {B : Type 0} (f : B → List A) (ys : List B) → AllByRecursion P (flat_map f ys) ↔ AllByRecursion (λ y. AllByRecursion P (f y)) ys
-  rec_flat_map f [] = (λ all. tt, λ all. tt)
-  rec_flat_map f (y ∷ ys) =
-      let r = rec_flat_map f ys in
-      let s = rec_append (f y) (flat_map f ys) in
-      (λ all. let t = s.0 all in (t.0, r.0 t.1), λ all. s.1 (all.0, r.1 all.1))
 
 -- a text for each entry, of entries that have a fact besides
 pub each_with : {A : Type 0} (F : A → Type 0) (P : A → List ℕ → Type 0) (xs : List A) (bytes : List ℕ) → Each (λ x text. F x × P x text) xs bytes ↔ (AllByRecursion F xs × Each P xs bytes)

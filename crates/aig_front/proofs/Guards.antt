@@ -12,7 +12,8 @@ use Rattle.aig_grammar.specs.Fits.{IsDefinable, IsOrdered, Rises}
 use Rattle.aig_front.specs.Front.{AllAfter, IsNew}
 use Rattle.aig_front.specs.Plain.{is_definable, defines, is_literal, tests_latch, tests_gate}
 use Rattle.aig_front.proofs.Binary.{latch_key, gate_key}
-use Rattle.aig_front.proofs.Entries.{rec_weaker, rec_both, rec_append, rec_map, rec_flat_map, after_weaker, after_both, after_each, after_append, section_keys, distinct_after, IsAbove, rises_after}
+use Rattle.aig_grammar.proofs.Entries.{rec_weaker, rec_both, rec_append, rec_map, rec_flat_map}
+use Rattle.aig_front.proofs.Entries.{after_weaker, after_both, after_each, after_append, section_keys, distinct_after, IsAbove, rises_after}
 
 -- ---- from tests to facts, and back
 

@@ -8,7 +8,7 @@ use Rattle.aig_grammar.specs.File.{Kind, Text, Binary, LatchLine, GateLine, Name
 use Rattle.aig_grammar.specs.Spells.{magic, IsHeader, Inputs, Latch, Gate, Name, next_and_reset, Spells}
 use Rattle.aig_grammar.specs.Written.{line_of, lines_of, in_front, shortened, header_line_of, inputs_of, latch_of, gate_of, name_of, delta_of, spelling_of}
 use Rattle.aig_front.specs.Writable.{IsSmall, LatchSmall, GateSmall, NameSmall, SetSmall, CanWrite}
-use Rattle.aig_front.proofs.Numbers.{chosen}
+use Rattle.aig_grammar.proofs.Entries.{chosen}
 use Rattle.aig_front.proofs.Printed.{number_written, line_written, delta_written, each_written}
 
 front_is : (n : ℕ) (xs ys : List ℕ) (k : ℕ) → ys ≡ xs ++ replicate k 0 → (j : ℕ) × (n ∷ ys ≡ in_front n xs ++ replicate j 0)

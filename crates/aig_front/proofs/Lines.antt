@@ -4,7 +4,8 @@ use Rattle.std.proofs.lemmas.Bool.{eqb-true}
 use Rattle.std.proofs.lemmas.Option.{same_Some}
 use Rattle.aig_grammar.specs.Text.{IsDigit, Ended, IsLine}
 use Rattle.aig_front.specs.Front.{◌>>=◌, number_at, line_at}
-use Rattle.aig_front.proofs.Numbers.{bind_some, chosen, number_sound, number_complete, Taken}
+use Rattle.aig_grammar.proofs.Entries.{chosen}
+use Rattle.aig_front.proofs.Numbers.{bind_some, number_sound, number_complete, Taken}
 use Rattle.aig_front.proofs.Joined.{Begins, Reads}
 
 abbrev pub IsShortLine : ℕ → List ℕ → List ℕ → Type 0

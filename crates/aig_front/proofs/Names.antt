@@ -8,7 +8,8 @@ use Rattle.aig_grammar.specs.Text.{◌then◌, Each, Just, IsDigit, Ended}
 use Rattle.aig_grammar.specs.File.{NameLine}
 use Rattle.aig_grammar.specs.Spells.{is_letter, Name, IsComment}
 use Rattle.aig_front.specs.Front.{◌>>=◌, is_digit, ended_at, both_at, tested_at, byte_at, text_at, name_from, name_at, is_comment, tail_at}
-use Rattle.aig_front.proofs.Numbers.{bind_some, chosen, true_digit, digit_false, false_digit}
+use Rattle.aig_grammar.proofs.Entries.{chosen}
+use Rattle.aig_front.proofs.Numbers.{bind_some, true_digit, digit_false, false_digit}
 use Rattle.aig_front.proofs.Joined.{Begins, Reads, Reads-ended, Reads-both, Reads-tested, Reads-seen}
 
 abbrev pub IsByte : ℕ → List ℕ → Type 0

@@ -19,7 +19,8 @@ use Rattle.aig_front.proofs.Lines.{IsShortLine, Reads-line}
 use Rattle.aig_front.proofs.Sections.{Reads-same, Reads-behind}
 use Rattle.aig_front.proofs.Checked.{Checked, Reads-checked}
 use Rattle.aig_front.proofs.Binary.{latch_key, gate_key}
-use Rattle.aig_front.proofs.Entries.{rec_weaker, rec_append, each_with}
+use Rattle.aig_grammar.proofs.Entries.{rec_weaker, rec_append}
+use Rattle.aig_front.proofs.Entries.{each_with}
 use Rattle.aig_front.proofs.Guards.{Decides-leb, Defines, Decides-defines, IsLiteral, Decides-literal, LatchAfter, Decides-latch, GateAfter, Decides-gate, defined_anew, defined_by_section, on_used, latches_by_line, gates_by_line, gates_in_range, length-defined}
 
 -- ---- the header

@@ -8,7 +8,8 @@ use Rattle.aig_grammar.specs.Text.{◌then◌, Each, Just, Ended, IsLine, Lines}
 use Rattle.aig_grammar.specs.File.{Kind, Text, Binary}
 use Rattle.aig_grammar.specs.Spells.{magic, IsHeader, Latch, Gate}
 use Rattle.aig_front.specs.Front.{◌>>=◌, ended_at, line_at, strip, or_else, kind_at, padded, header_at, latch_from, gate_from, numbers_at, latch_at, gate_at, sets_at, tested_at, mapped_at}
-use Rattle.aig_front.proofs.Numbers.{bind_some, chosen}
+use Rattle.aig_grammar.proofs.Entries.{chosen}
+use Rattle.aig_front.proofs.Numbers.{bind_some}
 use Rattle.aig_front.proofs.Joined.{Begins, Reads, Reads-ended, Reads-both, Reads-tested, Reads-seen, Reads-times}
 use Rattle.aig_front.proofs.Lines.{IsShortLine, Reads-line}
 

@@ -23,7 +23,8 @@ use Rattle.aig_circuit.proofs.Building.{and_of-cases}
 use Rattle.aig_grammar.specs.File.{LatchLine, GateLine, NameLine, File, defined}
 use Rattle.aig_grammar.specs.Fits.{Fits, IsDefinable, IsNameOf, section_len}
 use Rattle.aig_grammar.specs.Circuit.{edge_of, gate_at, kind_of, nodes_from, initial_of, latch_of, named_node, circuit_of}
-use Rattle.aig_machine.proofs.Lines.{rec_weaker, rec_both, rec_append, rec_unmap, differ_from}
+use Rattle.aig_grammar.proofs.Entries.{rec_map, rec_weaker, rec_both, rec_parts, rec_unmap}
+use Rattle.aig_machine.proofs.Lines.{differ_from}
 use Rattle.aig_machine.proofs.FileNodes.{nodes_of, length-nodes, kind_at-nodes, NodeCase, at_zero, at_gate, at_leaf, node_case, nodes-ordered, UsedInRange, used_in_range}
 use Rattle.aig_machine.proofs.Joining.{half_differs, leaf_missed, kind_missed}
 
@@ -66,7 +67,7 @@ are_leaf_literals : (f : File) (limit : ℕ) → Fits f limit → AllByRecursion
 are_leaf_literals f limit fits =
     let lefts = map (λ (g : GateLine). g.lhs) f.gates in
     rec_both (IsDefinable f.greatest) (λ e. AllByRecursion (λ y. nat_eq e y ≡ false) lefts) (leaf_literals f)
-    (rec_append (IsDefinable f.greatest) (leaf_literals f) lefts fits.definable).0 (differ_from (leaf_literals f) lefts fits.distinct).0
+    (rec_parts (IsDefinable f.greatest) (leaf_literals f) lefts fits.definable).0 (differ_from (leaf_literals f) lefts fits.distinct).0
 
 -- the variable of such a literal is a leaf
 leaf_there : (f : File) (limit : ℕ) → Fits f limit → (e : ℕ) → IsLeafLiteral f e → IsLeaf (nodes_of f) (e / 2)
@@ -77,18 +78,14 @@ leaf_there f limit fits e h =
 distinct_front : (xs ys : List ℕ) → IsDistinct nat_eq (xs ++ ys) → IsDistinct nat_eq xs
 unfolding IsDistinct
 distinct_front [] ys d = tt
-distinct_front (x ∷ xs) ys d = ((rec_append (λ y. nat_eq x y ≡ false) xs ys d.0).0, distinct_front xs ys d.1)
-
-rec_map : {X Y : Type 0} (P : X → Type 0) (g : Y → X) (ys : List Y) → AllByRecursion (λ y. P (g y)) ys → AllByRecursion P (map g ys)
-rec_map P g [] all = tt
-rec_map P g (y ∷ ys) all = (all.0, rec_map P g ys all.1)
+distinct_front (x ∷ xs) ys d = ((rec_parts (λ y. nat_eq x y ≡ false) xs ys d.0).0, distinct_front xs ys d.1)
 
 -- distinct even numbers have distinct halves
 halves_distinct : (xs : List ℕ) → AllByRecursion (λ e. e % 2 ≡ 0) xs → IsDistinct nat_eq xs → IsDistinct nat_eq (halves xs)
 unfolding IsDistinct
 halves_distinct [] even d = tt
 halves_distinct (x ∷ xs) even d = (
-  rec_map (λ y. nat_eq (x / 2) y ≡ false) (λ e. e / 2) xs
+  (rec_map (λ y. nat_eq (x / 2) y ≡ false) (λ e. e / 2) xs).1
       (rec_weaker (λ e. (e % 2 ≡ 0) × (nat_eq x e ≡ false)) (λ (e : ℕ). nat_eq (x / 2) (e / 2) ≡ false) (λ e h. half_differs x e even.0 h.0 h.1) xs
       (rec_both (λ e. e % 2 ≡ 0) (λ e. nat_eq x e ≡ false) xs even.1 d.0)),
   halves_distinct xs even.1 d.1,
@@ -98,7 +95,7 @@ halves_distinct (x ∷ xs) even d = (
 leaves_distinct : (f : File) (limit : ℕ) → Fits f limit → IsDistinct nat_eq (halves f.inputs ++ halves (map (λ (l : LatchLine). l.literal) f.latches))
 leaves_distinct f limit fits =
     let lefts = map (λ (g : GateLine). g.lhs) f.gates in
-    let definable = (rec_append (IsDefinable f.greatest) (leaf_literals f) lefts fits.definable).0 in
+    let definable = (rec_parts (IsDefinable f.greatest) (leaf_literals f) lefts fits.definable).0 in
     subst (IsDistinct nat_eq) (map-append (λ e. e / 2) f.inputs (map (λ (l : LatchLine). l.literal) f.latches))
     (halves_distinct (leaf_literals f) (rec_weaker (IsDefinable f.greatest) (λ e. e % 2 ≡ 0) (λ e d. d.0) (leaf_literals f) definable)
     (distinct_front (leaf_literals f) lefts fits.distinct))
@@ -136,7 +133,7 @@ init_there f l = by_test (nat_lt (unwrap_or l.reset 0) 2)
 latches_there : (f : File) (limit : ℕ) → Fits f limit → All (IsLatch (nodes_of f)) (map (latch_of f) f.latches)
 latches_there f limit fits =
     let literals = map (λ (l : LatchLine). l.literal) f.latches in
-    let leaf = rec_unmap (IsLeafLiteral f) (λ (l : LatchLine). l.literal) f.latches (rec_append (IsLeafLiteral f) f.inputs literals (are_leaf_literals f limit fits)).1 in
+    let leaf = rec_unmap (IsLeafLiteral f) (λ (l : LatchLine). l.literal) f.latches (rec_parts (IsLeafLiteral f) f.inputs literals (are_leaf_literals f limit fits)).1 in
     let next = rec_unmap (λ e. e ≤ 2 * f.greatest + 1) (λ (l : LatchLine). l.next) f.latches (used_in_range f limit fits).nexts in
     All-map (IsLatch (nodes_of f)) (latch_of f) f.latches (All-from_recursion (λ l. IsLatch (nodes_of f) (latch_of f l)) f.latches
     (rec_weaker (λ (l : LatchLine). IsLeafLiteral f l.literal × (l.next ≤ 2 * f.greatest + 1)) (λ l. IsLatch (nodes_of f) (latch_of f l))
@@ -146,7 +143,7 @@ latches_there f limit fits =
 sets_there : (f : File) (limit : ℕ) → Fits f limit → (sets : List (List ℕ)) → AllByRecursion (λ e. e ≤ 2 * f.greatest + 1) (flat_map (λ s. s) sets) → AllByRecursion (λ es. All (IsInRange (nodes_of f)) (map (edge_of f) es)) sets
 sets_there f limit fits [] all = tt
 sets_there f limit fits (es ∷ sets) all =
-    let r = rec_append (λ e. e ≤ 2 * f.greatest + 1) es (flat_map (λ s. s) sets) all in (edges_there f limit fits es r.0, sets_there f limit fits sets r.1)
+    let r = rec_parts (λ e. e ≤ 2 * f.greatest + 1) es (flat_map (λ s. s) sets) all in (edges_there f limit fits es r.0, sets_there f limit fits sets r.1)
 
 -- ---- names
 
@@ -178,8 +175,8 @@ named_there f limit fits n h = by_letter (n.letter == 105) (n.letter == 108) _ h
 
     by_letter : (i l : Bool) (others : ℕ) → n.position < cond i (length f.inputs) (cond l (length f.latches) others)
         → IfSome (cond i (Some (slice_index f.inputs n.position / 2, n.name)) (cond l (Some (slice_index literals n.position / 2, n.name)) None)) (λ (e : ℕ × List ℕ). e.0 < length (nodes_of f))
-    by_letter true l others low = at_place f.inputs low (rec_append (IsLeafLiteral f) f.inputs literals (are_leaf_literals f limit fits)).0
-    by_letter false true others low = at_place literals (rw length-map low) (rec_append (IsLeafLiteral f) f.inputs literals (are_leaf_literals f limit fits)).1
+    by_letter true l others low = at_place f.inputs low (rec_parts (IsLeafLiteral f) f.inputs literals (are_leaf_literals f limit fits)).0
+    by_letter false true others low = at_place literals (rw length-map low) (rec_parts (IsLeafLiteral f) f.inputs literals (are_leaf_literals f limit fits)).1
     by_letter false false others low = tt
 
 entries_there : (f : File) (limit : ℕ) → Fits f limit → (names : List NameLine) → AllByRecursion (IsNameOf f) names → AllByRecursion (λ (e : ℕ × List ℕ). e.0 < length (nodes_of f)) (filter_map (named_node f) names)
@@ -203,7 +200,7 @@ leaves_of_latches f (l ∷ latches) = ap (λ (ns : List ℕ). l.literal / 2 ∷ 
 pub IsCircuit-of_file : (f : File) (limit : ℕ) → Fits f limit → IsCircuit (circuit_of f)
 IsCircuit-of_file f limit fits =
     let literals = map (λ (l : LatchLine). l.literal) f.latches in
-    let leaf = rec_append (IsLeafLiteral f) f.inputs literals (are_leaf_literals f limit fits) in
+    let leaf = rec_parts (IsLeafLiteral f) f.inputs literals (are_leaf_literals f limit fits) in
     let distinct = leaves_distinct f limit fits in
     let used = used_in_range f limit fits in
     let inputs : All (IsLeaf (nodes_of f)) (halves f.inputs) =

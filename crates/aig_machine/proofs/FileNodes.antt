@@ -16,7 +16,8 @@ use Rattle.aig_circuit.proofs.Building.{and_of-cases}
 use Rattle.aig_grammar.specs.File.{LatchLine, GateLine, File, defined, used}
 use Rattle.aig_grammar.specs.Fits.{Fits, IsDefinable, IsOrdered}
 use Rattle.aig_grammar.specs.Circuit.{edge_of, kind_by, gate_at, kind_of, nodes_from, circuit_of}
-use Rattle.aig_machine.proofs.Lines.{chosen, rec_weaker, rec_both, rec_append, rec_unmap, find_some, find_none, differ_from, distinct_parts}
+use Rattle.aig_grammar.proofs.Entries.{chosen, rec_weaker, rec_both, rec_parts, rec_unmap}
+use Rattle.aig_machine.proofs.Lines.{find_some, find_none, differ_from, distinct_parts}
 
 -- the nodes of the file's circuit
 abbrev pub nodes_of : File → List AigNode
@@ -94,10 +95,10 @@ used_in_range f limit fits =
     let nexts = map (λ (l : LatchLine). l.next) f.latches in
     let sets = flat_map (λ s. s) f.justice in
     let operands = flat_map (λ (g : GateLine). g.rhs0 ∷ g.rhs1 ∷ []) f.gates in
-    let to_fairness = rec_append InRange (nexts ++ f.outputs ++ f.bads ++ f.constraints ++ sets ++ f.fairness) operands fits.in_range in
-    let to_justice = rec_append InRange (nexts ++ f.outputs ++ f.bads ++ f.constraints ++ sets) f.fairness to_fairness.0 in
-    let to_constraints = rec_append InRange (nexts ++ f.outputs ++ f.bads ++ f.constraints) sets to_justice.0 in
-    let to_bads = rec_append InRange (nexts ++ f.outputs ++ f.bads) f.constraints to_constraints.0 in
-    let to_outputs = rec_append InRange (nexts ++ f.outputs) f.bads to_bads.0 in
-    let all = rec_append InRange nexts f.outputs to_outputs.0 in
+    let to_fairness = rec_parts InRange (nexts ++ f.outputs ++ f.bads ++ f.constraints ++ sets ++ f.fairness) operands fits.in_range in
+    let to_justice = rec_parts InRange (nexts ++ f.outputs ++ f.bads ++ f.constraints ++ sets) f.fairness to_fairness.0 in
+    let to_constraints = rec_parts InRange (nexts ++ f.outputs ++ f.bads ++ f.constraints) sets to_justice.0 in
+    let to_bads = rec_parts InRange (nexts ++ f.outputs ++ f.bads) f.constraints to_constraints.0 in
+    let to_outputs = rec_parts InRange (nexts ++ f.outputs) f.bads to_bads.0 in
+    let all = rec_parts InRange nexts f.outputs to_outputs.0 in
     record { nexts = all.0; outputs = all.1; bads = to_outputs.1; constraints = to_bads.1; justice = to_constraints.1; fairness = to_justice.1 }

@@ -18,7 +18,8 @@ use Rattle.aig_grammar.specs.Machine as machine
 use Rattle.aig_circuit.specs.declared.node.AigNodeType.TheVariants.{False, Leaf}
 use Rattle.aig_grammar.specs.Circuit.{edge_of, gate_at, kind_by, kind_of, latch_of, circuit_of}
 use Rattle.aig_machine.specs.Nodes.{HasNodeValues, values_over}
-use Rattle.aig_machine.proofs.Lines.{rec_weaker, rec_both, rec_append, rec_unmap, find_some, find_none, differ_from, distinct_parts}
+use Rattle.aig_grammar.proofs.Entries.{rec_weaker, rec_both, rec_parts, rec_unmap}
+use Rattle.aig_machine.proofs.Lines.{find_some, find_none, differ_from, distinct_parts}
 use Rattle.aig_machine.proofs.FileNodes.{nodes_of, length-nodes, kind_at-nodes, NodeCase, at_zero, at_gate, at_leaf, node_case, nodes-ordered, used_in_range}
 
 by_parity : (r : ℕ) → r < 2 → (b : Bool) → inverted_if (r == 1) b ≡ (if r == 0 then b else not b)
@@ -100,20 +101,20 @@ found_all (g ∷ gs) even d =
 pub gates_definable : (f : File) (limit : ℕ) → Fits f limit → AllByRecursion (λ (g : GateLine). IsDefinable f.greatest g.lhs) f.gates
 gates_definable f limit fits =
     rec_unmap (IsDefinable f.greatest) (λ (g : GateLine). g.lhs) f.gates
-    (rec_append (IsDefinable f.greatest) (f.inputs ++ map (λ (l : LatchLine). l.literal) f.latches) (map (λ (g : GateLine). g.lhs) f.gates) fits.definable).1
+    (rec_parts (IsDefinable f.greatest) (f.inputs ++ map (λ (l : LatchLine). l.literal) f.latches) (map (λ (g : GateLine). g.lhs) f.gates) fits.definable).1
 
 pub latches_definable : (f : File) (limit : ℕ) → Fits f limit → AllByRecursion (λ (l : LatchLine). IsDefinable f.greatest l.literal) f.latches
 latches_definable f limit fits =
-    let leaves = (rec_append (IsDefinable f.greatest) (f.inputs ++ map (λ (l : LatchLine). l.literal) f.latches) (map (λ (g : GateLine). g.lhs) f.gates) fits.definable).0 in
+    let leaves = (rec_parts (IsDefinable f.greatest) (f.inputs ++ map (λ (l : LatchLine). l.literal) f.latches) (map (λ (g : GateLine). g.lhs) f.gates) fits.definable).0 in
     rec_unmap (IsDefinable f.greatest) (λ (l : LatchLine). l.literal) f.latches
-    (rec_append (IsDefinable f.greatest) f.inputs (map (λ (l : LatchLine). l.literal) f.latches) leaves).1
+    (rec_parts (IsDefinable f.greatest) f.inputs (map (λ (l : LatchLine). l.literal) f.latches) leaves).1
 
 -- latches differ from gates, and gates from one another
 pub later_distinct : (f : File) (limit : ℕ) → Fits f limit → AllByRecursion (λ x. AllByRecursion (λ y. nat_eq x y ≡ false) (map (λ (g : GateLine). g.lhs) f.gates)) (map (λ (l : LatchLine). l.literal) f.latches) × IsDistinct nat_eq (map (λ (g : GateLine). g.lhs) f.gates)
 later_distinct f limit fits =
     let Differs = λ (x : ℕ). AllByRecursion (λ y. nat_eq x y ≡ false) (map (λ (g : GateLine). g.lhs) f.gates) in
     let r = differ_from (f.inputs ++ map (λ (l : LatchLine). l.literal) f.latches) (map (λ (g : GateLine). g.lhs) f.gates) fits.distinct in
-    ((rec_append Differs f.inputs (map (λ (l : LatchLine). l.literal) f.latches) r.0).1, r.1)
+    ((rec_parts Differs f.inputs (map (λ (l : LatchLine). l.literal) f.latches) r.0).1, r.1)
 
 -- a node that is neither 0 nor found is a leaf, and one that is found is its gate
 kind_found : (f : File) (n : ℕ) (g : GateLine) → 1 ≤ n → gate_at f n ≡ Some g → kind_of f n ≡ kind_by f (Some g)
