@@ -1,14 +1,16 @@
 //! Circuits: their nodes, inputs, latches, properties and names.
 
-ghost use Rattle.std.specs.Prelude.{◌≡◌, ◌↔◌, ◌<◌, ◌++◌, ◌∷◌, [], ◌&&◌, ℕ, Bool, Some, IsTrue, IfOk, OnOk, OnErr, length, map, slice_get, string_bytes};
+ghost use Rattle.std.specs.Prelude.{◌≡◌, ◌↔◌, ◌<◌, ◌++◌, ◌∷◌, [], ◌&&◌, ℕ, Bool, Some, false, IsTrue, IfOk, OnOk, OnErr, length, map, slice_get, string_bytes};
 ghost use Rattle.std.specs.FinMap.{from_entries};
 ghost use Rattle.aig_circuit.specs.declared.node.AigNodeType.TheVariants.{Leaf};
 ghost use Rattle.aig_circuit.specs.Build.{with_node, AddsGate, KeepsTrees};
-ghost use Rattle.aig_circuit.specs.Circuit.{IsCircuit, IsClosed, IsInRange, IsLeaf, IsFree, only_false};
+ghost use Rattle.aig_circuit.specs.Circuit.{HasFreeLeaf, IsCircuit, IsClosed, IsInRange, IsLeaf, IsFree, only_false};
 ghost use Rattle.aig_circuit.specs.Tree.{edge_value};
+ghost use Rattle.aig_reader.specs.Circuits.{lists_circuit};
 
 use aig_base::MemoryError;
 use aig_circuit::{AigEdge, AigLatch, AigNode, build, false_node, leaves};
+use aig_reader::CircuitLists;
 use std::alloc::Global;
 use std::collections::HashMap;
 use std::marker::Model;
@@ -69,6 +71,30 @@ impl Aig {
             fairness: Vec::new(alloc),
             symbols: HashMap::new(alloc),
         })
+    }
+
+    /// The circuit of the lists that were read, with no properties but outputs, and no names.
+    pub(crate) fn from_lists(alloc: Global, lists: CircuitLists) -> Aig
+        requires { IsCircuit (lists_circuit lists) }
+        ensures { result ≡ lists_circuit lists }
+    {
+        let CircuitLists {
+            nodes,
+            inputs,
+            latchs,
+            outputs,
+        } = lists;
+        Aig {
+            nodes,
+            inputs,
+            latchs,
+            outputs,
+            bads: Vec::new(alloc),
+            constraints: Vec::new(alloc),
+            justice: Vec::new(alloc),
+            fairness: Vec::new(alloc),
+            symbols: HashMap::new(alloc),
+        }
     }
 
     /// Adds a free leaf, and answers its number.
@@ -230,7 +256,8 @@ impl Aig {
 
     /// Whether no leaf is free.
     pub fn is_closed(&self) -> bool
-        ensures { IsTrue result ↔ IsClosed self.now }
+        ensures closed { IsTrue result ↔ IsClosed self.now }
+        ensures open { result ≡ false → HasFreeLeaf self.now.nodes self.now.inputs self.now.latchs }
     {
         leaves::is_closed(&self.nodes, &self.inputs, &self.latchs)
     }

@@ -1,7 +1,10 @@
 //! And-Inverter Graphs: sequential circuits of and gates and inverters, read from and written to AIGER.
 #![tactic(auto)]
 
+mod aiger;
 mod graph;
 
 pub use aig_circuit::{AigEdge, AigLatch, AigNode, AigNodeType};
+pub use aig_reader::{ReadError, Section};
+pub use aiger::WriteError;
 pub use graph::Aig;

@@ -1,0 +1,82 @@
+-- Facts on lists that a refusal tells, or that its absence does.
+use Rattle.std.proofs.Common.{◌≡◌, ◌≢◌, ◌↔◌, ℕ, ◌+◌, ◌<◌, ◌^◌, Bool, true, false, Option, Some, None, List, [], ◌∷◌, ◌++◌, length, map, get_or, refl, sym, ap, subst, ◌∙◌, arith, inl, inr, ◌⊎◌, Vec, Global}
+use Rattle.std.specs.Prelude.{IsTrue, All, Any, Contains, IfSome, IsSomeAnd, nat_eq}
+use Rattle.std.proofs.lemmas.Bool.{eqb-true, eqb-false, false≢true}
+use Rattle.std.proofs.lemmas.List.{get_or-map, length-map}
+use Rattle.std.proofs.lemmas.List.Elements.{All-map, All-weaker, Contains-get_or, Contains-append_left, Contains-append_right, Contains-append_cases}
+use Rattle.aig_circuit.specs.declared.edge.AigEdge.{AigEdge}
+use Rattle.aig_circuit.specs.declared.node.AigLatch.{AigLatch}
+use Rattle.aig_circuit.specs.Edge.{edge_to}
+use Rattle.aig_circuit.specs.Circuit.{Circuit, latch_leaves}
+use Rattle.aig.specs.Writing.{IsOpenStart, IsPlainStart, list_lengths}
+
+module _ {X : Type 0} (P : X → Type 0) where
+  -- what no element has, each is without
+  pub All-from_no_Any : (xs : List X) → ¬ Any P xs → All (λ x. ¬ P x) xs
+  All-from_no_Any xs none k d h has =
+      let found = Contains-get_or xs k d h in
+      none (found.0, get_or xs k d, found.1, found.2, has)
+
+  Any-Contains : (xs : List X) (x : X) → Contains xs x → P x → Any P xs
+  Any-Contains xs x found has = (found.0, x, found.1, found.2, has)
+
+  -- one list behind another
+  pub Any-append : (xs ys : List X) → Any P (xs ++ ys) ↔ (Any P xs ⊎ Any P ys)
+  Any-append xs ys = (
+    λ any. elim (Contains-append_cases xs ys any.1 (any.0, any.2, any.3)) [
+      | inl left ↦ inl (Any-Contains xs any.1 left any.4)
+      | inr right ↦ inr (Any-Contains ys any.1 right any.4)
+    ],
+    λ either. elim either [
+      | inl any ↦ Any-Contains (xs ++ ys) any.1 (Contains-append_left xs ys any.1 (any.0, any.2, any.3)) any.4
+      | inr any ↦ Any-Contains (xs ++ ys) any.1 (Contains-append_right xs ys any.1 (any.0, any.2, any.3)) any.4
+    ],
+  )
+
+-- the leaf of some latch
+pub Any-latch_leaves : (P : ℕ → Type 0) (latchs : List AigLatch) → Any (λ latch. P latch.input) latchs ↔ Any P (latch_leaves latchs)
+Any-latch_leaves P latchs = (
+  λ any.
+      let at : get_or (latch_leaves latchs) any.0 any.1.input ≡ any.1.input = get_or-map (λ (latch : AigLatch). latch.input) latchs any.0 any.1 any.1.input any.2 ∙ ap (λ (latch : AigLatch). latch.input) any.3 in
+      (any.0, any.1.input, rw length-map any.2, at, any.4),
+  λ any.
+      let other : AigLatch = record { input = any.1; next = edge_to 0 false; init = None } in
+      let low : any.0 < length latchs = rw length-map at any.2 in
+      let at : any.1 ≡ (get_or latchs any.0 other).input = sym any.3 ∙ get_or-map (λ (latch : AigLatch). latch.input) latchs any.0 other any.1 low in
+      Any-Contains (λ (latch : AigLatch). P latch.input) latchs (get_or latchs any.0 other) (Contains-get_or latchs any.0 other low) (subst P at any.4),
+)
+
+-- an initial edge that isn't open is constant
+pub plain_start : (latch : AigLatch) → ¬ IsOpenStart latch → IsPlainStart latch
+plain_start latch closed = by_init latch.init closed
+  where
+    by_init : (o : Option AigEdge) → ¬ IsSomeAnd o (λ e. e.node_id ≢ 0) → IfSome o (λ e. e.node_id ≡ 0)
+    by_init None none = tt
+    by_init (Some e) none = by_test (nat_eq e.node_id 0) refl
+      where
+        by_test : (b : Bool) → nat_eq e.node_id 0 ≡ b → e.node_id ≡ 0
+        by_test true is = eqb-true e.node_id 0 is
+        by_test false is = absurd (none (eqb-false e.node_id 0 is))
+
+-- the lengths of a circuit's lists, one by one
+pub lists-numbers : (P : ℕ → Type 0) (c : Circuit) (i l o b k j f : ℕ) → i ≡ length c.inputs → l ≡ length c.latchs → o ≡ length c.outputs → b ≡ length c.bads → k ≡ length c.constraints → j ≡ length c.justice → f ≡ length c.fairness
+    → All P (i ∷ l ∷ o ∷ b ∷ k ∷ j ∷ f ∷ []) ↔ All P (list_lengths c)
+lists-numbers P c i l o b k j f ei el eo eb ek ej ef =
+    let same : (i ∷ l ∷ o ∷ b ∷ k ∷ j ∷ f ∷ []) ≡ list_lengths c = cc in
+    (subst (All P) same, subst (All P) (sym same))
+
+-- a fact on the elements of a list of vectors, by their items
+pub sets-items : (P : ℕ → Type 0) (sets : List (Vec AigEdge Global)) → All (λ (set : Vec AigEdge Global). P (length set.items)) sets ↔ All (λ (set : List AigEdge). P (length set)) (map (λ (set : Vec AigEdge Global). set.items) sets)
+sets-items P sets = (
+  All-map (λ (set : List AigEdge). P (length set)) (λ (set : Vec AigEdge Global). set.items) sets,
+  λ all k d h. subst (λ (set : List AigEdge). P (length set)) (get_or-map (λ (set : Vec AigEdge Global). set.items) sets k d d.items h) (all k d.items (rw length-map h)),
+)
+
+-- no element where a test of some element failed
+pub none_where_false : {X : Type 0} (P : X → Type 0) (xs : List X) (r : Bool) → (IsTrue r ↔ Any P xs) → r ≡ false → All (λ x. ¬ P x) xs
+none_where_false P xs r told is = All-from_no_Any P xs (λ any. false≢true (sym is ∙ told.1 any))
+
+-- every initial edge is constant where a test for open ones failed
+pub starts_plain : (xs latchs : List AigLatch) (r : Bool) → xs ≡ latchs → (IsTrue r ↔ Any IsOpenStart xs) → r ≡ false → All IsPlainStart latchs
+starts_plain xs latchs r same told is =
+    subst (All IsPlainStart) same (All-weaker (λ latch. ¬ IsOpenStart latch) IsPlainStart plain_start xs (none_where_false IsOpenStart xs r told is))

@@ -1,0 +1,229 @@
+//! Reading and writing AIGER.
+
+ghost use Rattle.std.specs.Prelude.{◌≡◌, ◌≢◌, ◌↔◌, ◌<◌, ◌≤◌, ◌^◌, ℕ, List, false, length, All, Any, Contains, IfErr, IfOk, IfSome, IsErrOf, IsTrue, OnOk};
+ghost use Rattle.std.specs.Io.KnownBytes.{Appends, Consumes, IsAtEnd};
+ghost use Rattle.aig_grammar.specs.Circuit.{circuit_of, text_of};
+ghost use Rattle.aig_grammar.specs.File.{File};
+ghost use Rattle.aig_grammar.specs.Plain.{AcceptsPlain};
+ghost use Rattle.aig_reader.specs.Reading.{ReadsExactly, UnlessInterrupted};
+ghost use Rattle.aig_writer.specs.Sinks.{AppendsBeginning};
+ghost use Rattle.aig_writer.specs.View.{names_of};
+ghost use Rattle.aig.specs.Writing.{HasLineFeed, IsOpenStart, IsSmall, TellsOf, named_nodes};
+
+use crate::graph::Aig;
+use aig_base::{FromRead, Sink, Source};
+use aig_circuit::{AigEdge, AigLatch};
+use aig_reader::ReadError;
+use aig_writer::CircuitView;
+use std::alloc::Global;
+use std::collections::HashMap;
+use std::fs;
+use std::path::Path;
+use std::rt::Files;
+use thiserror::Error;
+
+/// Why a circuit isn't written. The cases are numbered from 2 to 6.
+#[derive(Clone, Copy, Debug, PartialEq, Eq, Error)]
+pub enum WriteError {
+    /// The writer failed in this call.
+    #[error("write failed")]
+    Stream,
+    /// The circuit isn't closed.
+    #[error("a leaf is neither input nor latch")]
+    FreeLeaf,
+    /// Some initial edge isn't constant.
+    #[error("an initial edge is not constant")]
+    InitialEdge,
+    /// The name of an input or a latch holds a line feed.
+    #[error("a name holds a line feed")]
+    Name,
+    /// There are more than 2^31 nodes, or more than 2^32 - 1 entries in a list or a justice set.
+    #[error("too large for the format")]
+    TooLarge,
+}
+
+/// The greatest number that a file can have.
+const GREATEST_NUMBER: usize = 0xffff_ffff;
+
+/// The most nodes that a circuit with a written form can have.
+const MOST_NODES: usize = 0x8000_0000;
+
+/// Whether some initial edge isn't constant.
+fn has_open_start(latchs: &[AigLatch]) -> bool
+    ensures { IsTrue result ↔ Any IsOpenStart latchs.now }
+{
+    latchs
+        .iter()
+        .any(|latch| latch.init().is_some_and(|e| !e.is_const()))
+}
+
+/// Whether a text holds a line feed.
+fn holds_line_feed(text: &str) -> bool
+    ensures { IsTrue result ↔ Contains text.now 10 }
+{
+    text.as_bytes().contains(&b'\n')
+}
+
+/// Whether the node of this number has a name that holds a line feed.
+fn has_line_feed(symbols: &HashMap<usize, String>, id: usize) -> bool
+    ensures { IsTrue result ↔ HasLineFeed (names_of symbols.now.entries) id }
+{
+    match symbols.get(&id) {
+        Some(name) => holds_line_feed(name.as_str()),
+        None => false,
+    }
+}
+
+/// Whether one of the nodes of these numbers has such a name.
+fn input_has_line_feed(symbols: &HashMap<usize, String>, ids: &[usize]) -> bool
+    ensures { IsTrue result ↔ Any (HasLineFeed (names_of symbols.now.entries)) ids.now }
+{
+    ids.iter().any(|id| has_line_feed(symbols, *id))
+}
+
+/// Whether the leaf of one of the latches has such a name.
+fn latch_has_line_feed(symbols: &HashMap<usize, String>, latchs: &[AigLatch]) -> bool
+    ensures { IsTrue result ↔ Any (λ latch. HasLineFeed (names_of symbols.now.entries) latch.input) latchs.now }
+{
+    latchs
+        .iter()
+        .any(|latch| has_line_feed(symbols, latch.input()))
+}
+
+/// Whether each of the counts is within the format's numbers.
+fn are_numbers(counts: &[usize]) -> bool
+    ensures { IsTrue result ↔ All (λ n. n < 2 ^ 32) counts.now }
+{
+    counts.iter().all(|count| *count <= GREATEST_NUMBER)
+}
+
+/// Whether each of the sets is.
+fn are_short(sets: &[Vec<AigEdge>]) -> bool
+    ensures { IsTrue result ↔ All (λ set. length set.items < 2 ^ 32) sets.now }
+{
+    sets.iter().all(|set| set.len() <= GREATEST_NUMBER)
+}
+
+impl Aig {
+    /// Reads a circuit: the plain part of the AIGER text format (AIGER format 20071012), up to the end of the reader.
+    ///
+    /// `limit` is on variables: the greatest variable and one more is at most the limit. Asks `1 <= limit <= 2^31`.
+    /// Which refusal a bad file gets beyond `TooMany`, `Memory` and `Stream` goes by the first line that shows a fault.
+    pub fn from_aiger<R: Source>(alloc: Global, r: &mut R, limit: usize) -> Result<Aig, ReadError>
+        requires some { 1 ≤ limit }
+        requires few { limit ≤ 2 ^ 31 }
+        // The bytes that were read are a file that is accepted, and the circuit is that file's.
+        ensures circuit { IfOk result (λ aig. (file : File) × (bytes : List ℕ) × AcceptsPlain bytes limit file × (aig ≡ circuit_of file) × Consumes (R.left r.old) (R.left r.new) bytes) }
+        // Memory and stream aside, accepted exactly where the bytes are such a file, and TooMany exactly where the header
+        // line is good and passes the limit.
+        ensures exact { IfSome (R.left r.old) (λ bytes. UnlessInterrupted result (ReadsExactly result bytes limit)) }
+        // A circuit only where no read failed and the stream was read to its end.
+        ensures whole { OnOk result ((R.failed r.new ≡ false) × IsAtEnd (R.left r.new)) }
+        // Stream only where a read failed in this call.
+        ensures stream { IsErrOf result ReadError.Stream → IsTrue (R.failed r.new) }
+        ensures never_open { IsErrOf result ReadError.Open → ⊥ }
+    {
+        match aig_reader::read(alloc, r, limit) {
+            Ok(lists) => Ok(Aig::from_lists(alloc, lists)),
+            Err(fault) => Err(fault),
+        }
+    }
+
+    /// Opens the file of a path, and reads a circuit from it as `from_aiger` does.
+    ///
+    /// Answers `Open` where the path couldn't be opened.
+    pub fn from_file(
+        rt: &impl Files,
+        alloc: Global,
+        f: Path<'_>,
+        limit: usize,
+    ) -> Result<Aig, ReadError>
+        requires some { 1 ≤ limit }
+        requires few { limit ≤ 2 ^ 31 }
+        // The circuit is that of a file that is accepted.
+        ensures { IfOk result (λ aig. (file : File) × (bytes : List ℕ) × AcceptsPlain bytes limit file × (aig ≡ circuit_of file)) }
+    {
+        match fs::open(rt, f) {
+            Ok(file) => Aig::from_aiger(alloc, &mut FromRead::new(file), limit),
+            Err(_) => Err(ReadError::Open),
+        }
+    }
+
+    /// Whether the name of an input or a latch holds a line feed.
+    fn names_hold_line_feed(&self) -> bool
+        ensures { IsTrue result ↔ Any (HasLineFeed self.now.names) (named_nodes self.now) }
+    {
+        let symbols = self.symbols();
+        input_has_line_feed(symbols, self.inputs()) || latch_has_line_feed(symbols, self.latchs())
+    }
+
+    /// Whether nodes and lists are within the format's numbers.
+    fn is_small(&self) -> bool
+        ensures { IsTrue result ↔ IsSmall self.now }
+    {
+        let counts = [
+            self.inputs().len(),
+            self.latchs().len(),
+            self.outputs().len(),
+            self.bads().len(),
+            self.constraints().len(),
+            self.justice().len(),
+            self.fairness().len(),
+        ];
+        if self.num_nodes() > MOST_NODES {
+            return false;
+        }
+        if !are_numbers(&counts) {
+            return false;
+        }
+        are_short(self.justice())
+    }
+
+    /// The first refusal that applies, if one does.
+    fn refusal(&self) -> Result<(), WriteError>
+        ensures tells { TellsOf self.now result }
+        ensures no_stream { IsErrOf result WriteError.Stream → ⊥ }
+    {
+        if !self.is_closed() {
+            Err(WriteError::FreeLeaf)
+        } else if has_open_start(self.latchs()) {
+            Err(WriteError::InitialEdge)
+        } else if self.names_hold_line_feed() {
+            Err(WriteError::Name)
+        } else if !self.is_small() {
+            Err(WriteError::TooLarge)
+        } else {
+            Ok(())
+        }
+    }
+
+    /// Writes the text form (AIGER format 20071012 and AIGER 1.9). It takes no memory of its own, and doesn't flush.
+    ///
+    /// Of the refusals beside a failed writer the first that applies is answered, before any byte is written.
+    pub fn write_text<W: Sink>(&self, w: &mut W) -> Result<(), WriteError>
+        ensures tells { TellsOf self.now result }
+        // All of the text was written, and the writer has not failed.
+        ensures ok { OnOk result (Appends (W.held w.old) (W.held w.new) (text_of self.now) × (W.failed w.new ≡ false)) }
+        // A beginning of the text was written, and the writer has failed in this call.
+        ensures stream { IsErrOf result WriteError.Stream → AppendsBeginning (W.held w.old) (W.held w.new) (text_of self.now) × IsTrue (W.failed w.new) }
+        // Every other refusal comes before the first byte, and leaves the writer as it was.
+        ensures kept { IfErr result (λ e. e ≢ WriteError.Stream → w.new ≡ w.old) }
+    {
+        self.refusal()?;
+        let view = CircuitView {
+            nodes: self.nodes(),
+            inputs: self.inputs(),
+            latchs: self.latchs(),
+            outputs: self.outputs(),
+            bads: self.bads(),
+            constraints: self.constraints(),
+            justice: self.justice(),
+            fairness: self.fairness(),
+            names: self.symbols(),
+        };
+        match aig_writer::write_text(w, view) {
+            Ok(()) => Ok(()),
+            Err(_) => Err(WriteError::Stream),
+        }
+    }
+}

@@ -1,0 +1,12 @@
+pub mod Window
+pub mod Going
+pub mod Taking
+pub mod Words
+pub mod Lines
+pub mod Nodes
+pub mod GateLines
+pub mod Body
+pub mod Accepting
+pub mod Ending
+pub mod TestedLines
+pub mod HeaderLine

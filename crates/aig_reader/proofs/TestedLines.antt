@@ -1,0 +1,27 @@
+-- A line whose numbers are tested.
+use Rattle.std.proofs.Common.{ℕ, Bool, List, Option, Result, Ok, Err}
+use Rattle.aig_front.specs.Front.{tested_at}
+use Rattle.aig_reader.specs.declared.error.LineError.{LineError}
+use Rattle.aig_reader.specs.declared.error.LineError.TheVariants.{Memory, Stream, Syntax, Literal}
+use Rattle.aig_reader.specs.Faults.{OnLine}
+use Rattle.aig_reader.specs.Marks.{Tested}
+use Rattle.aig_reader.specs.Takes.{Takes, Misses, Makes}
+use Rattle.aig_reader.proofs.Taking.{takes_tested, misses_test}
+
+pub on_line-always : (e : LineError) (P : Type 0) → P → OnLine e P
+on_line-always Memory P h = tt
+on_line-always Stream P h = tt
+on_line-always Syntax P h = h
+on_line-always Literal P h = h
+
+pub on_line-weaker : (e : LineError) (P Q : Type 0) → (P → Q) → OnLine e P → OnLine e Q
+on_line-weaker Memory P Q f h = tt
+on_line-weaker Stream P Q f h = tt
+on_line-weaker Syntax P Q f h = f h
+on_line-weaker Literal P Q f h = f h
+
+-- a line that was taken, and what its test made of it
+pub tested_line : {X Y : Type 0} (p : List ℕ → Option (Y × List ℕ)) (test : Y → Bool) (IsOf : X → Y → Type 0) (P : X → Type 0) (b m : Option (List ℕ)) (y : Y) (r : Result X LineError)
+    → Takes p b m y → Tested (test y) P r → ((x : X) → P x → IsOf x y) → Makes OnLine IsOf b m r (tested_at p test)
+tested_line p test IsOf P b m y (Ok x) h t f = (y, f x t.1, takes_tested p test b m y h t.0)
+tested_line p test IsOf P b m y (Err e) h t f = on_line-always e (Misses (tested_at p test) b) (misses_test p test b m y h t.0)

@@ -1,0 +1,10 @@
+pub mod Bytes
+pub mod Takes
+pub mod Faults
+pub mod Words
+pub mod Header
+pub mod Reading
+pub mod Marks
+pub mod Lists
+pub mod Gates
+pub mod Circuits

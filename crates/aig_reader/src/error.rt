@@ -1,0 +1,162 @@
+ghost use Rattle.std.specs.Prelude.{◌≡◌};
+ghost use Rattle.aig_reader.specs.Faults.{header_error_of, line_error_of, result_in};
+ghost use Rattle.aig_reader.specs.declared.error.LexError.TheVariants as lex;
+ghost use Rattle.aig_reader.specs.declared.error.LineError.TheVariants as line;
+ghost use Rattle.aig_reader.specs.declared.error.ReadError.TheVariants as errors;
+
+use aig_base::StreamFault;
+use std::alloc::{AllocError, AllocFailed};
+use std::fmt;
+use thiserror::Error;
+
+/// A part of a file.
+#[derive(Clone, Copy, Debug, PartialEq, Eq)]
+pub enum Section {
+    Inputs,
+    Latches,
+    Outputs,
+    Bads,
+    Constraints,
+    Justice,
+    Fairness,
+    Gates,
+}
+
+impl fmt::Display for Section {
+    fn fmt<W: fmt::Write>(&self, f: &mut fmt::Formatter<W>) -> fmt::Result {
+        f.write_str(match self {
+            Section::Inputs => "inputs",
+            Section::Latches => "latches",
+            Section::Outputs => "outputs",
+            Section::Bads => "bads",
+            Section::Constraints => "constraints",
+            Section::Justice => "justice",
+            Section::Fairness => "fairness",
+            Section::Gates => "gates",
+        })
+    }
+}
+
+/// Why a file is refused.
+#[derive(Clone, Copy, Debug, PartialEq, Eq, Error)]
+pub enum ReadError {
+    /// Memory ran out.
+    #[error("out of memory")]
+    Memory,
+    /// A read failed.
+    #[error("read failed")]
+    Stream,
+    /// The first line is no good header line.
+    #[error("bad header line")]
+    Header,
+    /// The header line is good, and the file has more variables than the limit allows.
+    #[error("too many variables")]
+    TooMany,
+    /// A line of this part is misshapen, or the stream ended in it.
+    #[error("bad line in {0}")]
+    Syntax(Section),
+    /// A number of this part is not a literal that may stand there.
+    #[error("bad literal in {0}")]
+    Literal(Section),
+    /// A binary difference is misshapen or too large.
+    #[error("bad difference")]
+    Delta,
+    /// What stands behind the gates is misshapen.
+    #[error("bad name line")]
+    Name,
+    /// The file can't be opened.
+    #[error("cannot open")]
+    Open,
+}
+
+/// Why a word of the format is not read.
+#[derive(Clone, Copy, Debug, PartialEq, Eq)]
+pub enum LexError {
+    /// A read failed.
+    Stream,
+    /// The bytes are misshapen, or the stream ended.
+    Shape,
+}
+
+/// Why a line of a section is not read.
+#[derive(Clone, Copy, Debug, PartialEq, Eq)]
+pub enum LineError {
+    /// Memory ran out.
+    Memory,
+    /// A read failed.
+    Stream,
+    /// The line is misshapen, or the stream ended in it.
+    Syntax,
+    /// A number is not a literal that may stand there.
+    Literal,
+}
+
+impl From<StreamFault> for LexError {
+    ghost from_gives = { λ _ r. r ≡ lex.Stream };
+
+    fn from(_fault: StreamFault) -> LexError {
+        LexError::Stream
+    }
+}
+
+impl From<LexError> for LineError {
+    ghost from_gives = { λ e r. r ≡ line_error_of e };
+
+    fn from(error: LexError) -> LineError {
+        match error {
+            LexError::Stream => LineError::Stream,
+            LexError::Shape => LineError::Syntax,
+        }
+    }
+}
+
+impl<T: Drop> From<AllocFailed<T>> for LineError {
+    ghost from_gives = { λ _ r. r ≡ line.Memory };
+
+    fn from(_error: AllocFailed<T>) -> LineError {
+        LineError::Memory
+    }
+}
+
+impl From<AllocError> for ReadError {
+    ghost from_gives = { λ _ r. r ≡ errors.Memory };
+
+    fn from(_error: AllocError) -> ReadError {
+        ReadError::Memory
+    }
+}
+
+impl From<StreamFault> for ReadError {
+    ghost from_gives = { λ _ r. r ≡ errors.Stream };
+
+    fn from(_fault: StreamFault) -> ReadError {
+        ReadError::Stream
+    }
+}
+
+impl LexError {
+    /// This fault in the header line.
+    pub fn in_header(self) -> ReadError
+        ensures { result ≡ header_error_of self }
+    {
+        match self {
+            LexError::Stream => ReadError::Stream,
+            LexError::Shape => ReadError::Header,
+        }
+    }
+}
+
+impl Section {
+    /// What reading lines of this section gave.
+    pub fn result_of<T>(self, lines: Result<T, LineError>) -> Result<T, ReadError>
+        ensures { result ≡ result_in self lines }
+    {
+        match lines {
+            Ok(value) => Ok(value),
+            Err(LineError::Memory) => Err(ReadError::Memory),
+            Err(LineError::Stream) => Err(ReadError::Stream),
+            Err(LineError::Syntax) => Err(ReadError::Syntax(self)),
+            Err(LineError::Literal) => Err(ReadError::Literal(self)),
+        }
+    }
+}

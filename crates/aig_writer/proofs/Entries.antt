@@ -1,0 +1,78 @@
+-- The names of a map, and their lines.
+use Rattle.std.proofs.Common.{◌≡◌, ℕ, ◌+◌, ◌<◌, length, get_or, zero-add, Bool, true, false, cond, Option, Some, None, List, [], ◌∷◌, ◌++◌, map, nat_cmp, nat_eq, String, refl, sym, ap, ◌∙◌, arith, append_assoc}
+use Rattle.std.specs.Prelude.{option_map, option_to_list, string_bytes, decimal}
+use Rattle.std.specs.List.{enumerate_from, flat_map}
+use Rattle.std.proofs.lemmas.List.FromFn.{get_or-enumerate_from}
+use Rattle.std.specs.declared.alloc.Global.{Global}
+use Rattle.std.specs.Ordering.{eq_by_cmp}
+use Rattle.std.specs.Map.{lookup}
+use Rattle.std.specs.FinMap.{get, find, get-from_entries}
+use Rattle.std.proofs.lemmas.Cmp.{nat_cmp_total}
+use Rattle.std.proofs.lemmas.Bool.Decides.{nat_tests}
+use Rattle.std.proofs.lemmas.List.Concat.{flat_map-append}
+use Rattle.std.proofs.lemmas.List.{get_or-map, length-map}
+use Rattle.aig_circuit.specs.declared.node.AigLatch.{AigLatch}
+use Rattle.aig_circuit.specs.Circuit.{Circuit, latch_leaves}
+use Rattle.aig_grammar.specs.File.{NameLine, Text}
+use Rattle.aig_grammar.specs.Written.{name_of}
+use Rattle.aig_grammar.specs.Circuit.{file_of, name_lines}
+use Rattle.aig_writer.specs.View.{names_of, name_text}
+
+same_test : (q k : ℕ) → eq_by_cmp nat_cmp q k ≡ nat_eq q k
+same_test q k = grind (arith, nat_tests)
+
+option_map_cond : (b : Bool) (v : String Global) (o : Option (String Global)) → option_map string_bytes (cond b (Some v) o) ≡ cond b (Some (string_bytes v)) (option_map string_bytes o)
+option_map_cond true v o = refl
+option_map_cond false v o = refl
+
+find_names : (es : List (ℕ × String Global)) (q : ℕ) → find nat_cmp q (map (λ (entry : ℕ × String Global). (entry.0, string_bytes entry.1)) es) ≡ option_map string_bytes (lookup (nat_eq q) es)
+find_names [] q = refl
+find_names (e ∷ es) q =
+    ap (λ b. cond b (Some (string_bytes e.1)) (find nat_cmp q (map (λ (entry : ℕ × String Global). (entry.0, string_bytes entry.1)) es))) (same_test q e.0)
+    ∙ ap (cond (nat_eq q e.0) (Some (string_bytes e.1))) (find_names es q)
+    ∙ sym (option_map_cond (nat_eq q e.0) e.1 (lookup (nat_eq q) es))
+
+-- what name a node has
+pub get_names : (es : List (ℕ × String Global)) (q : ℕ) → get (names_of es) q ≡ option_map string_bytes (lookup (nat_eq q) es)
+get_names es q = get-from_entries nat_cmp_total _ q ∙ find_names es q
+
+-- ---- the lines of names
+
+pub name_pieces : (letter position : ℕ) (name : List ℕ) → name_of (record { letter = letter; position = position; name = name }) ≡ (letter ∷ (decimal position ++ 32 ∷ [])) ++ name ++ 10 ∷ []
+name_pieces letter position name = simp append_assoc
+
+-- the text of a place and its node
+pub name_entry : ℕ → (ℕ → Option (List ℕ)) → ℕ × ℕ → List ℕ
+name_entry letter name place = name_text letter place.0 (name place.1)
+
+pub name_entry-at : (letter : ℕ) (name : ℕ → Option (List ℕ)) (ns : List ℕ) (i : ℕ) → i < length ns
+    → name_entry letter name (get_or (enumerate_from 0 ns) i (0, 0)) ≡ name_text letter i (name (get_or ns i 0))
+unfolding name_entry
+name_entry-at letter name ns i h = ap (name_entry letter name) (get_or-enumerate_from 0 ns i (0, 0) h) ∙ ap (λ position. name_text letter position (name (get_or ns i 0))) (zero-add i)
+
+-- the lines of names, as a text for each place
+pub name_lines-places : (letter position : ℕ) (ns : List ℕ) (name : ℕ → Option (List ℕ)) → flat_map name_of (name_lines letter position ns name) ≡ flat_map (name_entry letter name) (enumerate_from position ns)
+unfolding name_entry
+name_lines-places letter position [] name = refl
+name_lines-places letter position (n ∷ ns) name =
+    by_option (name n) (name_lines letter (position + 1) ns name) ∙ ap (λ l. name_text letter position (name n) ++ l) (name_lines-places letter (position + 1) ns name)
+  where
+    by_option : (o : Option (List ℕ)) (rest : List NameLine)
+        → flat_map name_of (option_to_list (option_map (λ bytes. record { letter = letter; position = position; name = bytes }) o) ++ rest) ≡ name_text letter position o ++ flat_map name_of rest
+    by_option None rest = refl
+    by_option (Some bytes) rest = refl
+
+pub length-leaves : (latchs : List AigLatch) → length (latch_leaves latchs) ≡ length latchs
+length-leaves latchs = length-map latchs (λ (latch : AigLatch). latch.input)
+
+pub leaf_at : (latchs : List AigLatch) (i : ℕ) (d : AigLatch) → i < length latchs → get_or (latch_leaves latchs) i 0 ≡ (get_or latchs i d).input
+leaf_at latchs i d h = get_or-map (λ (latch : AigLatch). latch.input) latchs i d 0 h
+
+abbrev pub input_name_lines : Circuit → List ℕ
+input_name_lines c = flat_map name_of (name_lines 105 0 c.inputs (get c.names))
+
+abbrev pub latch_name_lines : Circuit → List ℕ
+latch_name_lines c = flat_map name_of (name_lines 108 0 (latch_leaves c.latchs) (get c.names))
+
+pub name_lines-both : (c : Circuit) → flat_map name_of (file_of Text c).names ≡ input_name_lines c ++ latch_name_lines c
+name_lines-both c = flat_map-append name_of (name_lines 105 0 c.inputs (get c.names)) (name_lines 108 0 (latch_leaves c.latchs) (get c.names))

@@ -1,0 +1,71 @@
+-- The sections of a file as a text for each entry of a list.
+use Rattle.std.proofs.Common.{◌≡◌, ℕ, List, [], ◌∷◌, ◌++◌, ◌*◌, length, map, refl, sym, ap, subst, ◌∙◌, append-nil, Option, Some, None, All, arith}
+use Rattle.std.specs.Prelude.{filter_map, option_to_list, Vec, vec_len}
+use Rattle.std.specs.List.{cons_option, flat_map}
+use Rattle.std.specs.declared.alloc.Global.{Global}
+use Rattle.std.proofs.lemmas.List.{get_or-map, length-map}
+use Rattle.std.proofs.lemmas.List.Folds.{flat_map-map}
+use Rattle.aig_circuit.specs.declared.edge.AigEdge.{AigEdge}
+use Rattle.aig_circuit.specs.declared.node.AigNode.{AigNode}
+use Rattle.aig_circuit.specs.declared.node.AigLatch.{AigLatch}
+use Rattle.aig_circuit.specs.Edge.{literal_of}
+use Rattle.aig_grammar.specs.File.{Text}
+use Rattle.aig_grammar.specs.Written.{line_of, lines_of, latch_of, gate_of}
+use Rattle.aig_grammar.specs.Circuit.{latch_line, gate_line}
+use Rattle.aig_writer.specs.Literals.{IsSmallEdge}
+use Rattle.aig_writer.specs.View.{literal_sets}
+
+abbrev pub input_line : ℕ → List ℕ
+input_line n = line_of (2 * n ∷ [])
+
+abbrev pub edge_line : AigEdge → List ℕ
+edge_line e = line_of (literal_of e ∷ [])
+
+abbrev pub latch_text : AigLatch → List ℕ
+latch_text latch = latch_of Text (latch_line latch)
+
+abbrev pub size_line : Vec AigEdge Global → List ℕ
+size_line set = line_of (length set.items ∷ [])
+
+abbrev pub set_lines : Vec AigEdge Global → List ℕ
+set_lines set = lines_of (map literal_of set.items)
+
+abbrev pub gate_text : AigNode → List ℕ
+gate_text node = flat_map (gate_of Text) (option_to_list (gate_line node))
+
+pub input_lines : (ns : List ℕ) → lines_of (map (λ n. 2 * n) ns) ≡ flat_map input_line ns
+input_lines ns = flat_map-map (λ n. line_of (n ∷ [])) (λ n. 2 * n) ns
+
+pub edge_lines : (es : List AigEdge) → lines_of (map literal_of es) ≡ flat_map edge_line es
+edge_lines es = flat_map-map (λ n. line_of (n ∷ [])) literal_of es
+
+pub latch_texts : (latchs : List AigLatch) → flat_map (latch_of Text) (map latch_line latchs) ≡ flat_map latch_text latchs
+latch_texts latchs = flat_map-map (latch_of Text) latch_line latchs
+
+pub len_is : (set : Vec AigEdge Global) → vec_len set ≡ length set.items
+len_is set = set.ok.0
+
+pub size_lines : (sets : List (Vec AigEdge Global)) → lines_of (map length (literal_sets sets)) ≡ flat_map size_line sets
+size_lines [] = refl
+size_lines (set ∷ sets) = ap (λ n. line_of (n ∷ []) ++ lines_of (map length (literal_sets sets))) (length-map set.items literal_of) ∙ ap (λ l. size_line set ++ l) (size_lines sets)
+
+pub sets_lines : (sets : List (Vec AigEdge Global)) → flat_map lines_of (literal_sets sets) ≡ flat_map set_lines sets
+sets_lines [] = refl
+sets_lines (set ∷ sets) = ap (λ l. set_lines set ++ l) (sets_lines sets)
+
+flat_map-filter_map : {X Y : Type 0} (f : Y → List ℕ) (h : X → Option Y) (xs : List X) → flat_map f (filter_map h xs) ≡ flat_map (λ x. flat_map f (option_to_list (h x))) xs
+flat_map-filter_map f h [] = refl
+flat_map-filter_map f h (x ∷ xs) = by_option f (h x) (filter_map h xs) ∙ ap (λ l. flat_map f (option_to_list (h x)) ++ l) (flat_map-filter_map f h xs)
+  where
+    by_option : {Y : Type 0} (f : Y → List ℕ) (o : Option Y) (ys : List Y) → flat_map f (cons_option o ys) ≡ flat_map f (option_to_list o) ++ flat_map f ys
+    by_option f None ys = refl
+    by_option f (Some y) ys = ap (λ l. l ++ flat_map f ys) (sym (append-nil (f y)))
+
+pub gate_texts : (nodes : List AigNode) → flat_map (gate_of Text) (filter_map gate_line nodes) ≡ flat_map gate_text nodes
+gate_texts nodes = flat_map-filter_map (gate_of Text) gate_line nodes
+
+-- the sets' edges are small
+pub sets_small : (sets : List (Vec AigEdge Global)) → All (All IsSmallEdge) (map (λ (set : Vec AigEdge Global). set.items) sets) → All (λ (set : Vec AigEdge Global). All IsSmallEdge set.items) sets
+sets_small sets h = λ k d lt.
+    let same = get_or-map (λ (set : Vec AigEdge Global). set.items) sets k d d.items lt in
+    subst (All IsSmallEdge) same (h k d.items (let e = length-map sets (λ (set : Vec AigEdge Global). set.items) in omega arith))

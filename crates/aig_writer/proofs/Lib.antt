@@ -1,0 +1,7 @@
+pub mod Putting
+pub mod Lines
+pub mod Items
+pub mod Counts
+pub mod Entries
+pub mod Texts
+pub mod Small

@@ -1,0 +1,44 @@
+-- A circuit's node numbers are below the count of its nodes.
+use Rattle.std.proofs.Common.{◌≡◌, ℕ, ◌^◌, ◌≤◌, Option, Some, None, List, length, get_or, ap, ◌∙◌, arith}
+use Rattle.std.specs.Prelude.{All, IfSome, option_map, slice_get}
+use Rattle.std.proofs.lemmas.Option.{slice_get-get_or}
+use Rattle.std.proofs.lemmas.List.Elements.{All-weaker}
+use Rattle.aig_circuit.specs.declared.edge.AigEdge.{AigEdge}
+use Rattle.aig_circuit.specs.declared.node.AigNodeType.TheVariants.{Leaf}
+use Rattle.aig_circuit.specs.declared.node.AigNode.{AigNode}
+use Rattle.aig_circuit.specs.Circuit.{Circuit, IsCircuit, AreNodes, IsLeaf, IsInRange, IsLatch}
+use Rattle.aig_circuit.proofs.Trees.{kind_at-within}
+use Rattle.aig_writer.specs.Literals.{IsSmall, IsSmallEdge, IsSmallLatch, IsSmallNode, HasSmallNumbers}
+
+IsSmallNode-at : (nodes : List AigNode) → AreNodes nodes → length nodes ≤ 2 ^ 63 → All IsSmallNode nodes
+IsSmallNode-at nodes are few = λ k d h.
+    let here : slice_get nodes k ≡ Some (get_or nodes k d) = slice_get-get_or nodes k d h in
+    record {
+      own = let same = are.numbered k (get_or nodes k d) here in omega arith;
+      operands = λ a b typ.
+          let gate = ap (option_map (λ (node : AigNode). node.typ)) here ∙ ap Some typ in
+          let first = are.ordered.first_before k a b gate in
+          let second = are.ordered.second_before k a b gate in
+          (omega arith, omega arith);
+    }
+
+init_small : (nodes : List AigNode) (o : Option AigEdge) → length nodes ≤ 2 ^ 63 → IfSome o (IsInRange nodes) → IfSome o IsSmallEdge
+init_small nodes (Some e) few h = omega arith
+init_small nodes None few h = h
+
+-- each literal of a circuit fits
+pub HasSmallNumbers-from_circuit : (c : Circuit) → IsCircuit c → length c.nodes ≤ 2 ^ 63 → HasSmallNumbers c
+HasSmallNumbers-from_circuit c is few =
+    let leaf : (n : ℕ) → IsLeaf c.nodes n → IsSmall n = λ n h. omega (arith, kind_at-within c.nodes n Leaf h) in
+    let edge : (e : AigEdge) → IsInRange c.nodes e → IsSmallEdge e = λ e h. omega arith in
+    let edges : (es : List AigEdge) → All (IsInRange c.nodes) es → All IsSmallEdge es = All-weaker (IsInRange c.nodes) IsSmallEdge edge in
+    record {
+      nodes = IsSmallNode-at c.nodes is.nodes few;
+      inputs = All-weaker (IsLeaf c.nodes) IsSmall leaf c.inputs is.inputs;
+      latchs = All-weaker (IsLatch c.nodes) IsSmallLatch (λ l h. record { leaf = leaf l.input h.leaf; next = edge l.next h.next; init = init_small c.nodes l.init few h.init }) c.latchs is.latchs;
+      outputs = edges c.outputs is.outputs;
+      bads = edges c.bads is.bads;
+      constraints = edges c.constraints is.constraints;
+      justice = All-weaker (All (IsInRange c.nodes)) (All IsSmallEdge) edges c.justice is.justice;
+      fairness = edges c.fairness is.fairness;
+    }

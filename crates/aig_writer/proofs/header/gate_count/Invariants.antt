@@ -1,0 +1,7 @@
+use Rattle.std.proofs.Common.{◌≡◌, ◌≤◌, length, take}
+use Rattle.std.specs.Prelude.{filter_map}
+use Rattle.aig_grammar.specs.Circuit.{gate_line}
+use Rattle.aig_writer.proofs.header.gate_count.Given as goal
+
+abbrev pub invariant-loop-node : goal.invariant-loop-node
+invariant-loop-node l = record { few : l.count ≤ l.node-index; gates : l.count ≡ length (filter_map gate_line (take l.node-index l.nodes)) }

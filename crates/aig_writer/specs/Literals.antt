@@ -1,0 +1,37 @@
+-- Node numbers whose literals fit 64 bits.
+use Rattle.std.specs.Prelude.{◌≡◌, ℕ, ◌^◌, ◌<◌, All, IfSome}
+use Rattle.aig_circuit.specs.declared.edge.AigEdge.{AigEdge}
+use Rattle.aig_circuit.specs.declared.node.AigNodeType.TheVariants.{And}
+use Rattle.aig_circuit.specs.declared.node.AigNode.{AigNode}
+use Rattle.aig_circuit.specs.declared.node.AigLatch.{AigLatch}
+use Rattle.aig_circuit.specs.Circuit.{Circuit}
+
+-- twice the number, and one more, fits 64 bits
+abbrev pub IsSmall : ℕ → Type 0
+IsSmall n = n < 2 ^ 63
+
+-- the edge's literal fits
+abbrev pub IsSmallEdge : AigEdge → Type 0
+IsSmallEdge e = IsSmall e.node_id
+
+-- the latch's own number and those of its edges are small
+pub record IsSmallLatch (latch : AigLatch) : Type 0 where
+  pub leaf : IsSmall latch.input
+  pub next : IsSmallEdge latch.next
+  pub init : IfSome latch.init IsSmallEdge
+
+-- the node's own number and those of its operands are small
+pub record IsSmallNode (node : AigNode) : Type 0 where
+  pub own : IsSmall node.node_id
+  pub operands : (a b : AigEdge) → node.typ ≡ And a b → IsSmallEdge a × IsSmallEdge b
+
+-- each number that is written as a literal is small
+pub record HasSmallNumbers (c : Circuit) : Type 0 where
+  pub nodes : All IsSmallNode c.nodes
+  pub inputs : All IsSmall c.inputs
+  pub latchs : All IsSmallLatch c.latchs
+  pub outputs : All IsSmallEdge c.outputs
+  pub bads : All IsSmallEdge c.bads
+  pub constraints : All IsSmallEdge c.constraints
+  pub justice : All (All IsSmallEdge) c.justice
+  pub fairness : All IsSmallEdge c.fairness

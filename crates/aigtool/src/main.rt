@@ -1,0 +1,67 @@
+//! `aigtool`: converts, hashes and encodes the circuits of AIGER files.
+#![tactic(auto)]
+
+mod command;
+#[cfg(test)]
+mod tests;
+mod tool;
+
+use aig::{ReadError, WriteError};
+use aig_base::{FromRead, ToWrite};
+use command::{Command, parse};
+use std::fs::File;
+use std::io::{BufWriter, Write};
+use std::process::ExitCode;
+use std::rt::{Env, Files};
+use std::{env, io};
+use tool::{ToolError, run};
+
+const USAGE: &str = "usage: aigtool text FILE, binary FILE OUT, strash FILE, cnf FILE K [raw]";
+
+/// The words after the program's name.
+fn words(rt: &(impl Env + AllocGlobal)) -> io::Result<Vec<String>> {
+    let mut words = Vec::new(rt.alloc());
+    for word in env::args(rt)?.skip(1) {
+        words.push(word)?;
+    }
+    Ok(words)
+}
+
+/// Runs a command on a file, with standard output behind a buffer.
+fn execute(
+    rt: &(impl Files + Print + AllocGlobal),
+    c: Command,
+    file: &str,
+) -> Result<(), ToolError> {
+    let Ok(file) = File::open(rt, file) else {
+        return Err(ToolError::Read(ReadError::Open));
+    };
+    let Ok(out) = BufWriter::new(rt.alloc(), io::writer(rt)) else {
+        return Err(ToolError::Memory);
+    };
+    let mut source = FromRead::new(file);
+    let mut sink = ToWrite::new(out);
+    run(rt.alloc(), c, &mut source, &mut sink)?;
+    match sink.into_inner().flush() {
+        Ok(()) => Ok(()),
+        Err(_) => Err(ToolError::Write(WriteError::Stream)),
+    }
+}
+
+fn main(rt: HostRuntime) -> ExitCode {
+    let Ok(words) = words(&rt) else {
+        let _ = eprintln!(rt; "aigtool: {}", ToolError::Memory);
+        return ExitCode::FAILURE;
+    };
+    let Some(command) = parse(&words) else {
+        let _ = eprintln!(rt; "{USAGE}");
+        return ExitCode::from(2);
+    };
+    match execute(&rt, command, words[1].as_str()) {
+        Ok(()) => ExitCode::SUCCESS,
+        Err(fault) => {
+            let _ = eprintln!(rt; "aigtool: {fault}");
+            ExitCode::FAILURE
+        }
+    }
+}
