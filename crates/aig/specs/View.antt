@@ -1,7 +1,7 @@
 -- What contracts see of a circuit.
-use Rattle.std.specs.Prelude.{map, string_bytes}
-use Rattle.std.specs.FinMap.{from_entries}
+use Rattle.std.specs.Prelude.{map}
 use Rattle.aig_circuit.specs.Circuit.{Circuit}
+use Rattle.aig_writer.specs.View.{names_of}
 use Rattle.aig.specs.declared.graph.Aig.TheInside.{Inside}
 
 -- the circuit that the fields hold
@@ -15,5 +15,5 @@ held_circuit a = record {
   constraints = a.constraints.items;
   justice = map (λ set. set.items) a.justice.items;
   fairness = a.fairness.items;
-  names = from_entries (map (λ entry. (entry.0, string_bytes entry.1)) a.symbols.entries);
+  names = names_of a.symbols.entries;
 }

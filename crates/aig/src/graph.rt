@@ -1,20 +1,27 @@
 //! Circuits: their nodes, inputs, latches, properties and names.
 
-ghost use Rattle.std.specs.Prelude.{◌≡◌, ◌↔◌, ◌<◌, ◌++◌, ◌∷◌, [], ◌&&◌, ℕ, Bool, Some, false, IsTrue, IfOk, OnOk, OnErr, length, map, slice_get, string_bytes};
-ghost use Rattle.std.specs.FinMap.{from_entries};
+ghost use Rattle.std.specs.Prelude.{◌≡◌, ◌↔◌, ◌<◌, ◌≤◌, ◌^◌, ◌++◌, ◌∷◌, [], Some, false, IsTrue, IfOk, IfSome, OnOk, OnErr, length, map, slice_get};
 ghost use Rattle.aig_circuit.specs.declared.node.AigNodeType.TheVariants.{Leaf};
-ghost use Rattle.aig_circuit.specs.Build.{with_node, AddsGate, KeepsTrees};
-ghost use Rattle.aig_circuit.specs.Circuit.{HasFreeLeaf, IsCircuit, IsClosed, IsInRange, IsLeaf, IsFree, only_false};
-ghost use Rattle.aig_circuit.specs.Tree.{edge_value};
+ghost use Rattle.aig_circuit.specs.Node.{Admits, gates_of};
+ghost use Rattle.aig_circuit.specs.Build.{with_node};
+ghost use Rattle.aig_circuit.specs.Circuit.{BeginsWith, HasFreeLeaf, IsCircuit, IsClosed, IsInRange, IsLeaf, IsFree, only_false};
 ghost use Rattle.aig_reader.specs.Circuits.{lists_circuit};
+ghost use Rattle.aig_writer.specs.View.{names_of};
+
+mod builders;
+mod names;
+mod writing;
 
 use aig_base::MemoryError;
-use aig_circuit::{AigEdge, AigLatch, AigNode, build, false_node, leaves};
+use aig_circuit::{
+    AigEdge, AigLatch, AigNode, AndsIter, build, checks, false_node, gates_among, leaves,
+};
 use aig_reader::CircuitLists;
-use std::alloc::Global;
+use std::alloc::{AllocError, Global};
 use std::collections::HashMap;
 use std::marker::Model;
 use std::ops::{Index, Range};
+pub use writing::PropList;
 
 /// A sequential circuit, kept as an And-Inverter Graph.
 ///
@@ -129,22 +136,38 @@ impl Aig {
         Ok(())
     }
 
-    /// Adds one gate, the and of two edges, and answers the edge to it. Asks `has_edge` of both.
-    pub fn trivial_new_and_node(
-        &mut self,
-        fanin0: AigEdge,
-        fanin1: AigEdge,
-    ) -> Result<AigEdge, MemoryError>
-        requires first { IsInRange self.old.nodes fanin0 }
-        requires second { IsInRange self.old.nodes fanin1 }
-        ensures gate { IfOk result (λ e. AddsGate self.old.nodes self.new.nodes fanin0 fanin1 e) }
-        // The new edge has for all leaf values the value of the and, and old nodes keep their trees.
-        ensures value { IfOk result (λ e. (x : ℕ → Bool) → edge_value self.new.nodes x e ≡ (edge_value self.old.nodes x fanin0 && edge_value self.old.nodes x fanin1)) }
-        ensures trees { KeepsTrees self.old.nodes self.new.nodes }
-        ensures same { self.new ≡ record self.old { nodes = self.new.nodes } }
+    /// Adds a leaf that is a latch's, with its next edge and perhaps an initial edge, and answers the leaf's number.
+    /// Asks `has_edge` of both edges before the call.
+    pub fn new_latch(&mut self, next: AigEdge, init: Option<AigEdge>) -> Result<usize, MemoryError>
+        requires next_edge { IsInRange self.old.nodes next }
+        requires init_edge { IfSome init (IsInRange self.old.nodes) }
+        ensures number { IfOk result (λ id. id ≡ length self.old.nodes) }
+        ensures ok { IfOk result (λ id. self.new ≡ record self.old { nodes = with_node self.old.nodes Leaf; latchs = self.old.latchs ++ record { input = id; next = next; init = init } ∷ [] }) }
         ensures err { OnErr result (self.new ≡ self.old) }
     {
-        build::add_gate(&mut self.nodes, fanin0, fanin1)
+        self.latchs.reserve(1)?;
+        let id = build::add_leaf(&mut self.nodes)?;
+        self.latchs.push(AigLatch::new(id, next, init))?;
+        Ok(id)
+    }
+
+    /// Makes a free leaf, given by its number, a latch's, with its next edge and perhaps an initial edge. Asks
+    /// `is_free_leaf`, and `has_edge` of both edges.
+    pub fn add_latch(
+        &mut self,
+        id: usize,
+        next: AigEdge,
+        init: Option<AigEdge>,
+    ) -> Result<(), MemoryError>
+        requires leaf { IsLeaf self.old.nodes id }
+        requires free { IsFree self.old.inputs self.old.latchs id }
+        requires next_edge { IsInRange self.old.nodes next }
+        requires init_edge { IfSome init (IsInRange self.old.nodes) }
+        ensures ok { OnOk result (self.new ≡ record self.old { latchs = self.old.latchs ++ record { input = id; next = next; init = init } ∷ [] }) }
+        ensures err { OnErr result (self.new ≡ self.old) }
+    {
+        self.latchs.push(AigLatch::new(id, next, init))?;
+        Ok(())
     }
 
     /// Its nodes: the place of a node is its number.
@@ -206,7 +229,7 @@ impl Aig {
 
     /// The names of nodes, by their numbers.
     pub fn symbols(&self) -> &HashMap<usize, String>
-        ensures { from_entries (map (λ entry. (entry.0, string_bytes entry.1)) result.now.entries) ≡ self.now.names }
+        ensures { names_of result.now.entries ≡ self.now.names }
     {
         &self.symbols
     }
@@ -231,6 +254,14 @@ impl Aig {
         ensures { result ≡ record { start = 0; «end» = length self.now.nodes } }
     {
         0..self.nodes.len()
+    }
+
+    /// Its gates in rising number.
+    pub fn ands_iter(&self) -> AndsIter<'_>
+        ensures gates { result ≡ gates_of self.now.nodes }
+        ensures bound { length result < 2 ^ 64 }
+    {
+        gates_among(&self.nodes)
     }
 
     /// Whether there is a node of this number.
@@ -261,6 +292,63 @@ impl Aig {
     {
         leaves::is_closed(&self.nodes, &self.inputs, &self.latchs)
     }
+
+    /// Whether it has at most 2^31 nodes, so that each edge has a literal.
+    pub fn fits_lits(&self) -> bool
+        ensures { IsTrue result ↔ (length self.now.nodes ≤ 2 ^ 31) }
+    {
+        self.nodes.len() <= 1 << 31
+    }
+
+    /// Whether a node may stand in place of node `i`: node `i` is there, the number is `i`, the kind is the same, and a
+    /// gate's operands are in order and have smaller numbers.
+    pub fn admits(&self, i: usize, node: &AigNode) -> bool
+        ensures { IsTrue result ↔ Admits self.now.nodes i node.now }
+    {
+        checks::admits(&self.nodes, i, node)
+    }
+
+    /// Whether its first nodes are those of `from`, and its latches have the same leaves in the same order.
+    pub fn begins_with(&self, from: &Aig) -> bool
+        ensures { IsTrue result ↔ BeginsWith self.now from.now }
+    {
+        checks::has_first(&self.nodes, &from.nodes)
+            && checks::have_same_leaves(&self.latchs, &from.latchs)
+    }
+}
+
+impl Clone for Aig {
+    ghost is_clone = { λ aig copy. copy ≡ aig };
+
+    /// A copy, which is the same circuit.
+    fn clone(&self) -> Result<Aig, AllocError> {
+        let alloc = *self.nodes.allocator();
+        Ok(Aig {
+            nodes: Vec::from_slice(alloc, &self.nodes)?,
+            inputs: Vec::from_slice(alloc, &self.inputs)?,
+            latchs: Vec::from_slice(alloc, &self.latchs)?,
+            outputs: Vec::from_slice(alloc, &self.outputs)?,
+            bads: Vec::from_slice(alloc, &self.bads)?,
+            constraints: Vec::from_slice(alloc, &self.constraints)?,
+            justice: copied_sets(&self.justice)?,
+            fairness: Vec::from_slice(alloc, &self.fairness)?,
+            symbols: copied_names(&self.symbols)?,
+        })
+    }
+}
+
+/// A copy of the sets.
+fn copied_sets(sets: &Vec<Vec<AigEdge>>) -> Result<Vec<Vec<AigEdge>>, AllocError>
+    ensures { IfOk result (λ copy. map (λ set. set.items) copy.items ≡ map (λ set. set.items) sets.now.items) }
+{
+    sets.clone()
+}
+
+/// A copy of the names.
+fn copied_names(names: &HashMap<usize, String>) -> Result<HashMap<usize, String>, AllocError>
+    ensures { IfOk result (λ copy. names_of copy.entries ≡ names_of names.now.entries) }
+{
+    names.clone()
 }
 
 impl Index<usize> for Aig {

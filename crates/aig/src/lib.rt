@@ -3,8 +3,10 @@
 
 mod aiger;
 mod graph;
+#[cfg(test)]
+mod tests;
 
-pub use aig_circuit::{AigEdge, AigLatch, AigNode, AigNodeType};
+pub use aig_circuit::{AigEdge, AigLatch, AigNode, AigNodeType, AndsIter};
 pub use aig_reader::{ReadError, Section};
 pub use aiger::WriteError;
-pub use graph::Aig;
+pub use graph::{Aig, PropList};

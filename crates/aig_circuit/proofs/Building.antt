@@ -1,6 +1,5 @@
-use Rattle.std.proofs.Common.{◌≡◌, ℕ, zero, suc, ◌+◌, ◌<◌, ◌≤◌, Bool, true, false, not, ◌&&◌, ◌⊎◌, Some, List, [], ◌∷◌, ◌++◌, length, take, get_or, refl, sym, ap, subst, ◌∙◌, arith, inl, inr, length-append, append_assoc, append-nil}
+use Rattle.std.proofs.Common.{◌≡◌, ℕ, zero, suc, ◌<◌, ◌≤◌, Bool, true, false, not, ◌&&◌, ◌⊎◌, Some, List, [], ◌∷◌, ◌++◌, length, take, refl, sym, ap, subst, ◌∙◌, arith, inl, inr, length-append, append_assoc, append-nil}
 use Rattle.std.proofs.Math.Seq.{take-append_seam}
-use Rattle.std.proofs.lemmas.List.{take_more}
 use Rattle.std.specs.Prelude.{slice_get}
 use Rattle.std.proofs.lemmas.Bool.{cases_lt}
 use Rattle.std.proofs.lemmas.Bool.Decides.{nat_tests}
@@ -8,11 +7,10 @@ use Rattle.aig_circuit.specs.declared.edge.AigEdge.{AigEdge}
 use Rattle.aig_circuit.specs.declared.node.AigNodeType.{AigNodeType}
 use Rattle.aig_circuit.specs.declared.node.AigNodeType.TheVariants.{False, Leaf, And}
 use Rattle.aig_circuit.specs.declared.node.AigNode.{AigNode}
-use Rattle.aig_circuit.specs.Edge.{inverted_if, edge_to, literal_of}
-use Rattle.aig_circuit.specs.Node.{kind_at, IsOrdered, and_of}
+use Rattle.aig_circuit.specs.Edge.{inverted_if, literal_of}
+use Rattle.aig_circuit.specs.Node.{kind_at, FitsBelow, IsOrdered, and_of}
 use Rattle.aig_circuit.specs.Tree.{node_value, edge_value}
 use Rattle.aig_circuit.specs.Circuit.{AreNodes, IsInRange}
-use Rattle.std.specs.List.{list_all}
 use Rattle.aig_circuit.specs.Build.{with_node, Folds, true_first, true_second, false_first, false_second, same, opposite, AddsGate, AddsGates, Grows, KeepsTrees}
 use Rattle.aig_circuit.proofs.Trees.{kind_at-append, kind_at-last, kind_at-within, tree_of-agrees, node_value-agrees, node_value-and, node_value-false}
 
@@ -31,19 +29,13 @@ kind_push (x ∷ xs) y zero k is = inl (omega arith, is)
 kind_push (x ∷ xs) y (suc n) k is =
     elim (kind_push xs y n k is) [ inl p ↦ inl (omega arith, p.1) | inr p ↦ inr (omega arith, p.1) ]
 
--- the operands of a gate of this kind are below n and in order
-pub record FitsBelow (n : ℕ) (kind : AigNodeType) : Type 0 where
-  pub first : (a b : AigEdge) → kind ≡ And a b → a.node_id < n
-  pub second : (a b : AigEdge) → kind ≡ And a b → b.node_id < n
-  pub in_order : (a b : AigEdge) → kind ≡ And a b → literal_of a ≤ literal_of b
-
 same_first : (a b c d : AigEdge) → And a b ≡ And c d → a ≡ c
 same_first a b c d e = cc
 
 same_second : (a b c d : AigEdge) → And a b ≡ And c d → b ≡ d
 same_second a b c d e = cc
 
-FitsBelow-And : (n : ℕ) (a b : AigEdge) → a.node_id < n → b.node_id < n → literal_of a ≤ literal_of b → FitsBelow n (And a b)
+pub FitsBelow-And : (n : ℕ) (a b : AigEdge) → a.node_id < n → b.node_id < n → literal_of a ≤ literal_of b → FitsBelow n (And a b)
 FitsBelow-And n a b i j l = record {
   first = λ c d e. subst (λ (x : AigEdge). x.node_id < n) (same_first a b c d e) i;
   second = λ c d e. subst (λ (x : AigEdge). x.node_id < n) (same_second a b c d e) j;
@@ -140,7 +132,6 @@ AddsGates-with_node nodes a b s i j = record {
       ];
 }
 
--- values and trees of old nodes stay
 -- old nodes keep their trees
 pub KeepsTrees-Grows : (xs ys : List AigNode) → AreNodes xs → Grows xs ys → KeepsTrees xs ys
 KeepsTrees-Grows xs ys s p n h = sym (tree_of-agrees xs ys s.ordered n (λ m k. sym (Grows-kept xs ys p m (omega arith))))
@@ -148,13 +139,17 @@ KeepsTrees-Grows xs ys s p n h = sym (tree_of-agrees xs ys s.ordered n (λ m k. 
 pub node_value-Grows : (xs ys : List AigNode) → AreNodes xs → Grows xs ys → (x : ℕ → Bool) (n : ℕ) → n < length xs → node_value ys x n ≡ node_value xs x n
 node_value-Grows xs ys s p x n h = sym (node_value-agrees xs ys s.ordered x n (λ m k. sym (Grows-kept xs ys p m (omega arith))))
 
+-- edges to old nodes keep their values
+pub edge_value-Grows : (xs ys : List AigNode) → AreNodes xs → Grows xs ys → (x : ℕ → Bool) (e : AigEdge) → e.node_id < length xs → edge_value ys x e ≡ edge_value xs x e
+edge_value-Grows xs ys s p x e h = ap (inverted_if e.compl) (node_value-Grows xs ys s p x e.node_id h)
+
 pub and_comm : (a b : Bool) → (a && b) ≡ (b && a)
 and_comm true true = refl
 and_comm true false = refl
 and_comm false true = refl
 and_comm false false = refl
 
-and_true : (a : Bool) → (a && true) ≡ a
+pub and_true : (a : Bool) → (a && true) ≡ a
 and_true true = refl
 and_true false = refl
 
@@ -184,7 +179,7 @@ pub value-AddsGate : (old new : List AigNode) (a b e : AigEdge) → AreNodes old
 value-AddsGate old new a b e s i j adds x =
     let grown = AddsGates-with_node old a b s i j in
     let last = kind_at-last old (record { node_id = length old; typ = and_of a b }) in
-    let at : (f : AigEdge) → f.node_id < length old → edge_value (with_node old (and_of a b)) x f ≡ edge_value old x f = λ f h. ap (inverted_if f.compl) (node_value-Grows old _ s grown.grows x f.node_id h) in
+    let at : (f : AigEdge) → f.node_id < length old → edge_value (with_node old (and_of a b)) x f ≡ edge_value old x f = edge_value-Grows old _ s grown.grows x in
     rw (adds.gate, adds.edge) (
     node_value-and_of _ grown.grows.sound.ordered x (length old) a b last
     ∙ ap (λ v. v && edge_value (with_node old (and_of a b)) x b) (at a i) ∙ ap (λ v. edge_value old x a && v) (at b j))
@@ -197,39 +192,6 @@ value-Folds nodes a b e s (false_first p q) x = let zero_false = node_value-fals
 value-Folds nodes a b e s (false_second p q) x = let zero_false = node_value-false nodes x 0 s.false_first in rw (p, q, zero_false) (sym (and_false _))
 value-Folds nodes a b e s (same p q) x = rw (q, p) (sym (and_same _))
 value-Folds nodes a b e s (opposite p q) x = let zero_false = node_value-false nodes x 0 s.false_first in rw (p, q, zero_false) (sym (and_inverse b.compl _))
-
--- the edge has the value of the and of the first edges
-pub record AndSoFar (old new : List AigNode) (fanins : List AigEdge) (all : AigEdge) : Type 0 where
-  pub gates : AddsGates old new
-  pub there : IsInRange new all
-  pub value : (x : ℕ → Bool) → edge_value new x all ≡ list_all (edge_value old x) fanins
-
-pub AndSoFar-none : (nodes : List AigNode) → AreNodes nodes → AndSoFar nodes nodes [] (edge_to 0 true)
-AndSoFar-none nodes s = record {
-  gates = AddsGates-itself nodes s;
-  there = kind_at-within nodes 0 False s.false_first;
-  value = λ x. let zero_false = node_value-false nodes x 0 s.false_first in rw zero_false;
-}
-
-list_all-push : (p : AigEdge → Bool) (es : List AigEdge) (e : AigEdge) → list_all p (es ++ e ∷ []) ≡ (list_all p es && p e)
-list_all-push p [] e = and_true (p e)
-list_all-push p (f ∷ es) e = ap (λ b. p f && b) (list_all-push p es e) ∙ and_assoc (p f) (list_all p es) (p e)
-  where
-    and_assoc : (a b c : Bool) → (a && (b && c)) ≡ ((a && b) && c)
-    and_assoc true b c = refl
-    and_assoc false b c = refl
-
-pub AndSoFar-more : (old mid new : List AigNode) (fanins : List AigEdge) (i : ℕ) (all e d : AigEdge) → AreNodes old → AndSoFar old mid (take i fanins) all → i < length fanins → IsInRange old (get_or fanins i d) → AddsGates mid new → IsInRange new e → ((x : ℕ → Bool) → edge_value new x e ≡ (edge_value mid x all && edge_value mid x (get_or fanins i d))) → AndSoFar old new (take (i + 1) fanins) e
-AndSoFar-more old mid new fanins i all e d s so_far h in_old adds there value =
-    let f = get_or fanins i d in
-    record {
-      gates = AddsGates-then old mid new so_far.gates adds;
-      there = there;
-      value = λ x.
-          let kept : edge_value mid x f ≡ edge_value old x f = ap (inverted_if f.compl) (node_value-Grows old mid s so_far.gates.grows x f.node_id in_old) in
-          value x ∙ ap (λ v. v && edge_value mid x f) (so_far.value x) ∙ ap (λ v. list_all (edge_value old x) (take i fanins) && v) kept
-          ∙ sym (list_all-push (edge_value old x) (take i fanins) f) ∙ ap (list_all (edge_value old x)) (sym (take_more fanins i d h));
-    }
 
 pub Folds-there : (nodes : List AigNode) (a b e : AigEdge) → AreNodes nodes → IsInRange nodes a → IsInRange nodes b → Folds a b e → IsInRange nodes e
 Folds-there nodes a b e s i j (true_first p q) = rw q j

@@ -16,18 +16,16 @@ use Rattle.aig_circuit.specs.Build.{Grows, with_node}
 use Rattle.aig_circuit.proofs.Building.{Grows-leaf, Grows-longer, Grows-kept}
 use Rattle.aig_circuit.proofs.Trees.{kind_at-within, kind_at-last}
 
-init_grown : (xs ys : List AigNode) (o : Option AigEdge) → length xs ≤ length ys → IfSome o (IsInRange xs) → IfSome o (IsInRange ys)
+pub init_grown : (xs ys : List AigNode) (o : Option AigEdge) → length xs ≤ length ys → IfSome o (IsInRange xs) → IfSome o (IsInRange ys)
 init_grown xs ys (Some e) l h = omega arith
 init_grown xs ys None l h = h
 
--- a circuit stays one when nodes are added that keep the old ones
-pub IsCircuit-grown : (c : Circuit) (ys : List AigNode) → IsCircuit c → Grows c.nodes ys → IsCircuit (record c { nodes = ys })
-IsCircuit-grown c ys is grows =
-    let longer : length c.nodes ≤ length ys = Grows-longer c.nodes ys grows in
-    let leaf : (n : ℕ) → IsLeaf c.nodes n → IsLeaf ys n = λ n h. Grows-kept c.nodes ys grows n (kind_at-within c.nodes n Leaf h) ∙ h in
+-- a circuit stays one over other sound nodes that are as many and have its leaves
+pub IsCircuit-over : (c : Circuit) (ys : List AigNode) → IsCircuit c → AreNodes ys → length c.nodes ≤ length ys → ((n : ℕ) → IsLeaf c.nodes n → IsLeaf ys n) → IsCircuit (record c { nodes = ys })
+IsCircuit-over c ys is sound longer leaf =
     let edge : (e : AigEdge) → IsInRange c.nodes e → IsInRange ys e = λ e h. omega arith in
     record {
-      nodes = grows.sound;
+      nodes = sound;
       inputs = All-weaker (IsLeaf c.nodes) (IsLeaf ys) leaf c.inputs is.inputs;
       inputs_distinct = is.inputs_distinct;
       latchs = All-weaker (IsLatch c.nodes) (IsLatch ys) (λ l h. record { leaf = leaf l.input h.leaf; next = edge l.next h.next; init = init_grown c.nodes ys l.init longer h.init }) c.latchs is.latchs;
@@ -41,25 +39,23 @@ IsCircuit-grown c ys is grows =
       named = λ n h. omega (arith, is.named n h);
     }
 
+-- a circuit stays one when nodes are added that keep the old ones
+pub IsCircuit-grown : (c : Circuit) (ys : List AigNode) → IsCircuit c → Grows c.nodes ys → IsCircuit (record c { nodes = ys })
+IsCircuit-grown c ys is grows =
+    IsCircuit-over c ys is grows.sound (Grows-longer c.nodes ys grows) (λ n h. Grows-kept c.nodes ys grows n (kind_at-within c.nodes n Leaf h) ∙ h)
+
 -- a free leaf may become an input
 pub IsCircuit-add_input : (c : Circuit) (n : ℕ) → IsCircuit c → IsLeaf c.nodes n → IsFree c.inputs c.latchs n → IsCircuit (record c { inputs = c.inputs ++ n ∷ [] })
-IsCircuit-add_input c n is leaf free = record {
-  nodes = is.nodes;
-  inputs = All-push (IsLeaf c.nodes) c.inputs n is.inputs leaf;
-  inputs_distinct = all_pairs_push (λ x y. x ≢ y) c.inputs n is.inputs_distinct (λ k d h e. free.no_input (subst (Contains c.inputs) e (Contains-get_or c.inputs k d h)));
-  latchs = is.latchs;
-  latchs_distinct = is.latchs_distinct;
-  apart = λ k d h has. elim (Contains-push_cases c.inputs n (get_or (latch_leaves c.latchs) k d) has) [
-    | inl old ↦ is.apart k d h old
-    | inr same ↦ free.no_latch (subst (Contains (latch_leaves c.latchs)) (sym same) (Contains-get_or (latch_leaves c.latchs) k d h))
-  ];
-  outputs = is.outputs;
-  bads = is.bads;
-  constraints = is.constraints;
-  justice = is.justice;
-  fairness = is.fairness;
-  named = is.named;
-}
+IsCircuit-add_input c n is leaf free =
+    let inputs = All-push (IsLeaf c.nodes) c.inputs n is.inputs leaf in
+    let distinct = all_pairs_push (λ x y. x ≢ y) c.inputs n is.inputs_distinct (λ k d h e. free.no_input (subst (Contains c.inputs) e (Contains-get_or c.inputs k d h))) in
+    let apart : All (λ m. ¬ Contains (c.inputs ++ n ∷ []) m) (latch_leaves c.latchs) = λ k d h has.
+    elim (Contains-push_cases c.inputs n (get_or (latch_leaves c.latchs) k d) has) [
+      | inl old ↦ is.apart k d h old
+      | inr same ↦ free.no_latch (subst (Contains (latch_leaves c.latchs)) (sym same) (Contains-get_or (latch_leaves c.latchs) k d h))
+    ]
+    in
+    assumption (is, inputs, distinct, apart)
 
 -- the circuit of the false node alone is one
 AreNodes-only_false : AreNodes only_false.nodes
@@ -106,7 +102,7 @@ latch_leaves-leaves : (c : Circuit) → IsCircuit c → All (IsLeaf c.nodes) (la
 latch_leaves-leaves c is = All-map (IsLeaf c.nodes) (λ (l : AigLatch). l.input) c.latchs (All-weaker (IsLatch c.nodes) (λ l. IsLeaf c.nodes l.input) (λ l h. h.leaf) c.latchs is.latchs)
 
 -- a number past the nodes is neither an input nor a latch's leaf
-IsFree-fresh : (c : Circuit) → IsCircuit c → IsFree c.inputs c.latchs (length c.nodes)
+pub IsFree-fresh : (c : Circuit) → IsCircuit c → IsFree c.inputs c.latchs (length c.nodes)
 IsFree-fresh c is = record {
   no_input = λ has. let leaf = All-contains (IsLeaf c.nodes) c.inputs (length c.nodes) is.inputs has in absurd (omega (arith, kind_at-within c.nodes (length c.nodes) Leaf leaf));
   no_latch = λ has. let leaf = All-contains (IsLeaf c.nodes) (latch_leaves c.latchs) (length c.nodes) (latch_leaves-leaves c is) has in absurd (omega (arith, kind_at-within c.nodes (length c.nodes) Leaf leaf));
@@ -120,20 +116,7 @@ IsCircuit-new_input c is =
 
 -- a circuit stays one under other names of its nodes
 pub IsCircuit-named : (c : Circuit) (names : FinMap nat_cmp (List ℕ)) → IsCircuit c → ((n : ℕ) → IsTrue (contains_key names n) → n < length c.nodes) → IsCircuit (record c { names = names })
-IsCircuit-named c names is named = record {
-  nodes = is.nodes;
-  inputs = is.inputs;
-  inputs_distinct = is.inputs_distinct;
-  latchs = is.latchs;
-  latchs_distinct = is.latchs_distinct;
-  apart = is.apart;
-  outputs = is.outputs;
-  bads = is.bads;
-  constraints = is.constraints;
-  justice = is.justice;
-  fairness = is.fairness;
-  named = named;
-}
+IsCircuit-named c names is named = assumption (is, named)
 
 -- entries that differ in pairs, before others that do and that none of them is
 pairs_append : (xs ys : List ℕ) → AllPairs (λ m n. m ≢ n) xs → AllPairs (λ m n. m ≢ n) ys → All (λ n. ¬ Contains xs n) ys → AllPairs (λ m n. m ≢ n) (xs ++ ys)

@@ -1,12 +1,13 @@
-use Rattle.std.specs.Prelude.{◌≡◌, ℕ, ◌<◌, ◌≤◌, ◌++◌, ◌∷◌, [], ◌⊎◌, true, false, List, length, Some}
+use Rattle.std.specs.Prelude.{◌≡◌, ℕ, ◌+◌, ◌-◌, ◌<◌, ◌≤◌, ◌++◌, ◌∷◌, [], ◌⊎◌, Bool, true, false, List, length, Some}
+use Rattle.std.specs.List.{list_all, list_any}
 use Rattle.aig_circuit.specs.declared.edge.AigEdge.{AigEdge}
 use Rattle.aig_circuit.specs.declared.node.AigNodeType.{AigNodeType}
 use Rattle.aig_circuit.specs.declared.node.AigNodeType.TheVariants.{And}
 use Rattle.aig_circuit.specs.declared.node.AigNode.{AigNode}
 use Rattle.aig_circuit.specs.Edge.{edge_to, inverse}
 use Rattle.aig_circuit.specs.Node.{kind_at, and_of}
-use Rattle.aig_circuit.specs.Tree.{tree_of}
-use Rattle.aig_circuit.specs.Circuit.{AreNodes}
+use Rattle.aig_circuit.specs.Tree.{tree_of, edge_value}
+use Rattle.aig_circuit.specs.Circuit.{AreNodes, IsInRange}
 
 -- the list with one more node of this kind, numbered by its place
 abbrev pub with_node : List AigNode → AigNodeType → List AigNode
@@ -45,3 +46,22 @@ pub record Grows (old new : List AigNode) : Type 0 where
 pub record AddsGates (old new : List AigNode) : Type 0 where
   pub grows : Grows old new
   pub gates : (n : ℕ) → length old ≤ n → n < length new → (a b : AigEdge) × (kind_at new n ≡ Some (And a b))
+
+-- the edge e joins the edges es: its value is what `join` gives of theirs, of no edges it is constant, and of one edge it is that one
+pub record Joins (join : (AigEdge → Bool) → List AigEdge → Bool) (unit : Bool) (old new : List AigNode) (es : List AigEdge) (e : AigEdge) : Type 0 where
+  pub there : IsInRange new e
+  pub value : (x : ℕ → Bool) → edge_value new x e ≡ join (edge_value old x) es
+  pub none : es ≡ [] → (e ≡ edge_to 0 unit) × (new ≡ old)
+  pub one : (f : AigEdge) → es ≡ f ∷ [] → (e ≡ f) × (new ≡ old)
+
+-- the edge is the and of the edges
+abbrev pub JoinsByAnd : List AigNode → List AigNode → List AigEdge → AigEdge → Type 0
+JoinsByAnd = Joins list_all true
+
+-- the edge is the or of the edges
+abbrev pub JoinsByOr : List AigNode → List AigNode → List AigEdge → AigEdge → Type 0
+JoinsByOr = Joins list_any false
+
+-- one node more for each edge after the first
+abbrev pub AddsOneEach : List AigNode → List AigNode → List AigEdge → Type 0
+AddsOneEach old new es = length new ≡ length old + (length es - 1)

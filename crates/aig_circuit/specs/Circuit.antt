@@ -1,4 +1,4 @@
-use Rattle.std.specs.Prelude.{◌≡◌, ◌≢◌, ℕ, ◌<◌, IsTrue, Some, IfSome, List, [], ◌∷◌, ◌++◌, length, map, All, AllPairs, Contains, slice_get}
+use Rattle.std.specs.Prelude.{◌≡◌, ◌≢◌, ℕ, ◌<◌, ◌≤◌, IsTrue, Some, IfSome, List, [], ◌∷◌, ◌++◌, length, map, All, AllPairs, Contains, slice_get}
 use Rattle.std.specs.Ordering.{nat_cmp}
 use Rattle.std.specs.FinMap.{FinMap, contains_key, empty}
 use Rattle.aig_circuit.specs.declared.edge.AigEdge.{AigEdge}
@@ -76,6 +76,16 @@ pub record IsCircuit (c : Circuit) : Type 0 where
 -- every leaf is an input or a latch's
 abbrev pub IsClosed : Circuit → Type 0
 IsClosed c = (n : ℕ) → IsLeaf c.nodes n → Contains (c.inputs ++ latch_leaves c.latchs) n
+
+-- the first nodes are those of `first`
+pub record HasFirst (nodes first : List AigNode) : Type 0 where
+  pub longer : length first ≤ length nodes
+  pub same : (n : ℕ) → n < length first → kind_at nodes n ≡ kind_at first n
+
+-- the first nodes are those of `from`, and the latch leaves are the same in the same order
+pub record BeginsWith (circuit from : Circuit) : Type 0 where
+  pub nodes : HasFirst circuit.nodes from.nodes
+  pub leaves : latch_leaves circuit.latchs ≡ latch_leaves from.latchs
 
 -- the circuit of the false node alone
 abbrev pub only_false : Circuit

@@ -1,9 +1,9 @@
 //! Nodes that are added to a list of nodes.
 
-ghost use Rattle.std.specs.Prelude.{◌≡◌, ◌<◌, ◌&&◌, ℕ, Bool, IfOk, IsOk, OnErr, All, length};
-ghost use Rattle.std.specs.List.{list_all};
+ghost use Rattle.std.specs.Prelude.{◌≡◌, ◌↔◌, ◌<◌, ◌&&◌, ◌||◌, ℕ, Bool, IsTrue, IfOk, IsOk, OnErr, All, length};
 ghost use Rattle.aig_circuit.specs.declared.node.AigNodeType.TheVariants.{Leaf};
-ghost use Rattle.aig_circuit.specs.Build.{with_node, AddsGate, AddsGates, Grows, KeepsTrees};
+ghost use Rattle.aig_circuit.specs.Edge.{inverse};
+ghost use Rattle.aig_circuit.specs.Build.{with_node, AddsGate, AddsGates, AddsOneEach, Folds, FoldsOrAdds, Grows, JoinsByAnd, KeepsTrees};
 ghost use Rattle.aig_circuit.specs.Circuit.{AreNodes, IsInRange};
 ghost use Rattle.aig_circuit.specs.Tree.{edge_value};
 
@@ -44,4 +44,151 @@ pub fn add_gate(
     let id = nodes.len();
     nodes.push(gate_node(id, fanin0, fanin1))?;
     Ok(AigEdge::from(id))
+}
+
+/// The and of two edges: an old edge where they fold, and else a new gate.
+pub fn and_of_edges(
+    nodes: &mut Vec<AigNode>,
+    fanin0: AigEdge,
+    fanin1: AigEdge,
+) -> Result<AigEdge, MemoryError>
+    requires sound { AreNodes nodes.old.items }
+    requires first { IsInRange nodes.old.items fanin0 }
+    requires second { IsInRange nodes.old.items fanin1 }
+    ensures rule { IfOk result (λ e. FoldsOrAdds nodes.old.items nodes.new.items fanin0 fanin1 e) }
+    // Folding takes no memory.
+    ensures folds { (f : AigEdge) → Folds fanin0 fanin1 f → IsOk result }
+    ensures edge { IfOk result (λ e. IsInRange nodes.new.items e) }
+    ensures value { IfOk result (λ e. (x : ℕ → Bool) → edge_value nodes.new.items x e ≡ (edge_value nodes.old.items x fanin0 && edge_value nodes.old.items x fanin1)) }
+    ensures gates { AddsGates nodes.old.items nodes.new.items }
+    ensures trees { KeepsTrees nodes.old.items nodes.new.items }
+    ensures err { OnErr result (nodes.new.items ≡ nodes.old.items) }
+{
+    if fanin0 == AigEdge::constant(true) {
+        return Ok(fanin1);
+    }
+    if fanin1 == AigEdge::constant(true) {
+        return Ok(fanin0);
+    }
+    if fanin0 == AigEdge::constant(false) || fanin1 == AigEdge::constant(false) {
+        return Ok(AigEdge::constant(false));
+    }
+    if fanin0 == fanin1 {
+        return Ok(fanin0);
+    }
+    if fanin0 == !fanin1 {
+        return Ok(AigEdge::constant(false));
+    }
+    add_gate(nodes, fanin0, fanin1)
+}
+
+/// The or of two edges, the inverse of the and of their inverses.
+pub fn or_of_edges(
+    nodes: &mut Vec<AigNode>,
+    fanin0: AigEdge,
+    fanin1: AigEdge,
+) -> Result<AigEdge, MemoryError>
+    requires sound { AreNodes nodes.old.items }
+    requires first { IsInRange nodes.old.items fanin0 }
+    requires second { IsInRange nodes.old.items fanin1 }
+    ensures rule { IfOk result (λ e. FoldsOrAdds nodes.old.items nodes.new.items (inverse fanin0) (inverse fanin1) (inverse e)) }
+    // Folding takes no memory.
+    ensures folds { (f : AigEdge) → Folds (inverse fanin0) (inverse fanin1) f → IsOk result }
+    ensures edge { IfOk result (λ e. IsInRange nodes.new.items e) }
+    ensures value { IfOk result (λ e. (x : ℕ → Bool) → edge_value nodes.new.items x e ≡ (edge_value nodes.old.items x fanin0 || edge_value nodes.old.items x fanin1)) }
+    ensures gates { AddsGates nodes.old.items nodes.new.items }
+    ensures trees { KeepsTrees nodes.old.items nodes.new.items }
+    ensures err { OnErr result (nodes.new.items ≡ nodes.old.items) }
+{
+    Ok(!and_of_edges(nodes, !fanin0, !fanin1)?)
+}
+
+/// The edge that is true where two edges are equal: the or of their and and of the and of their inverses.
+pub fn eq_of_edges(
+    nodes: &mut Vec<AigNode>,
+    fanin0: AigEdge,
+    fanin1: AigEdge,
+) -> Result<AigEdge, MemoryError>
+    requires sound { AreNodes nodes.old.items }
+    requires first { IsInRange nodes.old.items fanin0 }
+    requires second { IsInRange nodes.old.items fanin1 }
+    ensures edge { IfOk result (λ e. IsInRange nodes.new.items e) }
+    ensures value { IfOk result (λ e. (x : ℕ → Bool) → IsTrue (edge_value nodes.new.items x e) ↔ (edge_value nodes.old.items x fanin0 ≡ edge_value nodes.old.items x fanin1)) }
+    ensures gates { AddsGates nodes.old.items nodes.new.items }
+    ensures trees { KeepsTrees nodes.old.items nodes.new.items }
+    ensures err { OnErr result (nodes.new.items ≡ nodes.old.items) }
+{
+    let before = nodes.len();
+    let answer = both_or_neither(nodes, fanin0, fanin1);
+    if answer.is_err() {
+        nodes.truncate(before);
+    }
+    answer
+}
+
+/// As `eq_of_edges`, but a refused one leaves the gates that it added.
+fn both_or_neither(
+    nodes: &mut Vec<AigNode>,
+    fanin0: AigEdge,
+    fanin1: AigEdge,
+) -> Result<AigEdge, MemoryError>
+    requires sound { AreNodes nodes.old.items }
+    requires first { IsInRange nodes.old.items fanin0 }
+    requires second { IsInRange nodes.old.items fanin1 }
+    ensures edge { IfOk result (λ e. IsInRange nodes.new.items e) }
+    ensures value { IfOk result (λ e. (x : ℕ → Bool) → IsTrue (edge_value nodes.new.items x e) ↔ (edge_value nodes.old.items x fanin0 ≡ edge_value nodes.old.items x fanin1)) }
+    ensures gates { AddsGates nodes.old.items nodes.new.items }
+{
+    let both = and_of_edges(nodes, fanin0, fanin1)?;
+    let neither = and_of_edges(nodes, !fanin0, !fanin1)?;
+    or_of_edges(nodes, both, neither)
+}
+
+/// The and of the edges, joined from the left by `and_of_edges`: of no edges true, and of one that edge.
+pub fn and_of_list(nodes: &mut Vec<AigNode>, fanins: &[AigEdge]) -> Result<AigEdge, MemoryError>
+    requires sound { AreNodes nodes.old.items }
+    requires edges { All (IsInRange nodes.old.items) fanins.now }
+    ensures joins { IfOk result (λ e. JoinsByAnd nodes.old.items nodes.new.items fanins.now e) }
+    ensures gates { AddsGates nodes.old.items nodes.new.items }
+    ensures trees { KeepsTrees nodes.old.items nodes.new.items }
+    ensures err { OnErr result (nodes.new.items ≡ nodes.old.items) }
+{
+    let before = nodes.len();
+    let mut all = AigEdge::constant(true);
+    for fanin in fanins {
+        match and_of_edges(nodes, all, *fanin) {
+            Ok(e) => all = e,
+            Err(error) => {
+                nodes.truncate(before);
+                return Err(error);
+            }
+        }
+    }
+    Ok(all)
+}
+
+/// The and of the edges, joined from the left by one gate for each edge after the first: of no edges true, and of one that edge.
+pub fn gates_of_list(nodes: &mut Vec<AigNode>, fanins: &[AigEdge]) -> Result<AigEdge, MemoryError>
+    requires sound { AreNodes nodes.old.items }
+    requires edges { All (IsInRange nodes.old.items) fanins.now }
+    ensures joins { IfOk result (λ e. JoinsByAnd nodes.old.items nodes.new.items fanins.now e × AddsOneEach nodes.old.items nodes.new.items fanins.now) }
+    ensures gates { AddsGates nodes.old.items nodes.new.items }
+    ensures trees { KeepsTrees nodes.old.items nodes.new.items }
+    ensures err { OnErr result (nodes.new.items ≡ nodes.old.items) }
+{
+    let Some((first, rest)) = fanins.split_first() else {
+        return Ok(AigEdge::constant(true));
+    };
+    let before = nodes.len();
+    let mut all = *first;
+    for fanin in rest {
+        match add_gate(nodes, all, *fanin) {
+            Ok(e) => all = e,
+            Err(error) => {
+                nodes.truncate(before);
+                return Err(error);
+            }
+        }
+    }
+    Ok(all)
 }

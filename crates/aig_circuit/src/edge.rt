@@ -1,5 +1,6 @@
 ghost use Rattle.std.specs.Prelude.{◌≡◌, ◌↔◌, IsTrue, Bool, true, false, not, IfSome, IsSome};
-ghost use Rattle.aig_circuit.specs.Edge.{edge_to, inverted_if};
+ghost use Rattle.std.specs.Ordering.{nat_cmp};
+ghost use Rattle.aig_circuit.specs.Edge.{edge_to, inverted_if, literal_of};
 
 use std::ops::Not;
 
@@ -133,3 +134,9 @@ impl AigEdge {
         }
     }
 }
+
+/// Law: edges are ordered as their literals are, and equal exactly where they are the same.
+pub fn orders_by_literal()
+    ensures order { (a b : AigEdge) → ⟦<AigEdge as Ord>⟧.cmp a b ≡ nat_cmp (literal_of a) (literal_of b) }
+    ensures equality { (a b : AigEdge) → IsTrue (⟦<AigEdge as PartialEq>⟧.eq a b) ↔ (a ≡ b) }
+{}

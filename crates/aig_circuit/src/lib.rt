@@ -1,10 +1,13 @@
 //! Circuits of the And-Inverter Graph library: edges, nodes, and what is said of them.
 #![tactic(auto)]
 
+mod ands;
 pub mod build;
+pub mod checks;
 mod edge;
 pub mod leaves;
 mod node;
 
-pub use edge::AigEdge;
+pub use ands::{AndsIter, gates_among};
+pub use edge::{AigEdge, orders_by_literal};
 pub use node::{AigLatch, AigNode, AigNodeType, false_node, gate_node, leaf_node};

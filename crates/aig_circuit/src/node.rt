@@ -1,6 +1,6 @@
 ghost use Rattle.std.specs.Prelude.{◌≡◌, ◌↔◌, ◌≤◌, IsTrue, Bool, true, false, Option, Some, IsSome};
 ghost use Rattle.aig_circuit.specs.Edge.{literal_of};
-ghost use Rattle.aig_circuit.specs.Node.{IsAnd, and_of};
+ghost use Rattle.aig_circuit.specs.Node.{IsAnd, IfAnd, MapsKind, and_of};
 
 use crate::edge::AigEdge;
 
@@ -146,5 +146,36 @@ impl AigNode {
         ensures { (other : AigEdge) × (self.now.typ ≡ AigNodeType.And other result) }
     {
         self.fanin().1
+    }
+
+    /// Sets the first operand of a gate, and leaves the two in their places. Asks `is_and`.
+    pub fn set_fanin0(&mut self, fanin: AigEdge)
+        requires { IsAnd self.old }
+        ensures { (a b : AigEdge) → self.old.typ ≡ AigNodeType.And a b → self.new ≡ record self.old { typ = AigNodeType.And fanin b } }
+    {
+        self.typ = AigNodeType::And(fanin, self.fanin1());
+    }
+
+    /// Sets the second operand of a gate, and leaves the two in their places. Asks `is_and`.
+    pub fn set_fanin1(&mut self, fanin: AigEdge)
+        requires { IsAnd self.old }
+        ensures { (a b : AigEdge) → self.old.typ ≡ AigNodeType.And a b → self.new ≡ record self.old { typ = AigNodeType.And a fanin } }
+    {
+        self.typ = AigNodeType::And(self.fanin0(), fanin);
+    }
+
+    /// The node of the number that `map` gives for its number. A gate's operands go through `map` too, and stay in their places.
+    pub fn map<M: Fn(usize) -> usize>(&self, map: &M) -> AigNode
+        requires number { M.pre map.now self.now.node_id }
+        requires operands { IfAnd self.now.typ (M.pre map.now) }
+        ensures number { M.post map.now self.now.node_id result.node_id }
+        ensures kind { MapsKind (M.post map.now) self.now.typ result.typ }
+    {
+        let node_id = map(self.node_id);
+        let typ = match self.typ {
+            AigNodeType::And(fanin0, fanin1) => AigNodeType::And(fanin0.map(map), fanin1.map(map)),
+            other => other,
+        };
+        AigNode { node_id, typ }
     }
 }

@@ -18,10 +18,11 @@ use Rattle.aig_grammar.specs.Written.{name_of}
 use Rattle.aig_grammar.specs.Circuit.{file_of, name_lines}
 use Rattle.aig_writer.specs.View.{names_of, name_text}
 
-same_test : (q k : ℕ) → eq_by_cmp nat_cmp q k ≡ nat_eq q k
+-- the map's test is that of equality
+pub same_test : (q k : ℕ) → eq_by_cmp nat_cmp q k ≡ nat_eq q k
 same_test q k = grind (arith, nat_tests)
 
-option_map_cond : (b : Bool) (v : String Global) (o : Option (String Global)) → option_map string_bytes (cond b (Some v) o) ≡ cond b (Some (string_bytes v)) (option_map string_bytes o)
+pub option_map_cond : (b : Bool) (v : String Global) (o : Option (String Global)) → option_map string_bytes (cond b (Some v) o) ≡ cond b (Some (string_bytes v)) (option_map string_bytes o)
 option_map_cond true v o = refl
 option_map_cond false v o = refl
 

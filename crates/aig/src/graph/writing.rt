@@ -1,0 +1,113 @@
+//! Changes of single entries: property edges, latches' edges, and nodes.
+
+ghost use Rattle.std.specs.Prelude.{◌≡◌, ◌<◌, ◌++◌, ◌∷◌, [], Some, IfSome, OnOk, OnErr, All, length, slice_get, slice_set};
+ghost use Rattle.aig_circuit.specs.declared.node.AigLatch.{AigLatch};
+ghost use Rattle.aig_circuit.specs.Node.{Admits};
+ghost use Rattle.aig_circuit.specs.Circuit.{IsInRange};
+ghost use Rattle.aig.specs.Lists.{edges_of, with_edges};
+
+use super::Aig;
+use aig_base::MemoryError;
+use aig_circuit::{AigEdge, AigLatch, AigNode};
+
+/// One of the four lists of property edges.
+#[derive(Clone, Copy, Debug, PartialEq, Eq)]
+pub enum PropList {
+    /// The outputs.
+    Outputs,
+    /// The bad state properties.
+    Bads,
+    /// The invariant constraints.
+    Constraints,
+    /// The fairness constraints.
+    Fairness,
+}
+
+impl Aig {
+    /// Appends an edge to a list. Asks `has_edge`.
+    pub fn push_edge(&mut self, list: PropList, e: AigEdge) -> Result<(), MemoryError>
+        requires { IsInRange self.old.nodes e }
+        ensures ok { OnOk result (self.new ≡ with_edges list self.old (edges_of list self.old ++ e ∷ [])) }
+        ensures err { OnErr result (self.new ≡ self.old) }
+    {
+        match list {
+            PropList::Outputs => self.outputs.push(e)?,
+            PropList::Bads => self.bads.push(e)?,
+            PropList::Constraints => self.constraints.push(e)?,
+            PropList::Fairness => self.fairness.push(e)?,
+        }
+        Ok(())
+    }
+
+    /// Replaces entry `i` of a list. Asks that `i` is below the list's length, and `has_edge`.
+    pub fn set_edge(&mut self, list: PropList, i: usize, e: AigEdge)
+        requires place { i < length (edges_of list self.old) }
+        requires edge { IsInRange self.old.nodes e }
+        ensures { self.new ≡ with_edges list self.old (slice_set (edges_of list self.old) i e) }
+    {
+        match list {
+            PropList::Outputs => self.outputs[i] = e,
+            PropList::Bads => self.bads[i] = e,
+            PropList::Constraints => self.constraints[i] = e,
+            PropList::Fairness => self.fairness[i] = e,
+        }
+    }
+
+    /// Empties a list.
+    pub fn clear_edges(&mut self, list: PropList)
+        ensures { self.new ≡ with_edges list self.old [] }
+    {
+        match list {
+            PropList::Outputs => self.outputs.clear(),
+            PropList::Bads => self.bads.clear(),
+            PropList::Constraints => self.constraints.clear(),
+            PropList::Fairness => self.fairness.clear(),
+        }
+    }
+
+    /// Appends a justice property, a set of edges. Asks `has_edge` of each.
+    pub fn push_justice(&mut self, set: Vec<AigEdge>) -> Result<(), MemoryError>
+        requires { All (IsInRange self.old.nodes) set.items }
+        ensures ok { OnOk result (self.new ≡ record self.old { justice = self.old.justice ++ set.items ∷ [] }) }
+        ensures err { OnErr result (self.new ≡ self.old) }
+    {
+        self.justice.push(set)?;
+        Ok(())
+    }
+
+    /// Drops all justice properties.
+    pub fn clear_justice(&mut self)
+        ensures { self.new ≡ record self.old { justice = [] } }
+    {
+        self.justice.clear();
+    }
+
+    /// Replaces the next edge of latch `i`. Asks that `i` is below the number of latches, and `has_edge`.
+    pub fn set_next(&mut self, i: usize, e: AigEdge)
+        requires place { i < length self.old.latchs }
+        requires edge { IsInRange self.old.nodes e }
+        ensures { (latch : AigLatch) → slice_get self.old.latchs i ≡ Some latch → self.new ≡ record self.old { latchs = slice_set self.old.latchs i (record latch { next = e }) } }
+    {
+        let latch = self.latchs[i];
+        self.latchs[i] = AigLatch::new(latch.input(), e, latch.init());
+    }
+
+    /// Replaces the initial edge of latch `i`, which may be none. Asks that `i` is below the number of latches, and
+    /// `has_edge`.
+    pub fn set_init(&mut self, i: usize, e: Option<AigEdge>)
+        requires place { i < length self.old.latchs }
+        requires edge { IfSome e (IsInRange self.old.nodes) }
+        ensures { (latch : AigLatch) → slice_get self.old.latchs i ≡ Some latch → self.new ≡ record self.old { latchs = slice_set self.old.latchs i (record latch { init = e }) } }
+    {
+        let latch = self.latchs[i];
+        self.latchs[i] = AigLatch::new(latch.input(), latch.next(), e);
+    }
+
+    /// Puts a node in place of node `i`. Asks `admits`.
+    pub fn set_node(&mut self, i: usize, node: AigNode)
+        requires { Admits self.old.nodes i node }
+        ensures { self.new ≡ record self.old { nodes = slice_set self.old.nodes i node } }
+    {
+        self.nodes[i] = node;
+    }
+}

@@ -1,0 +1,142 @@
+use Rattle.std.proofs.Common.{◌≡◌, ℕ, Bool, true, false, not, ◌&&◌, ◌||◌, ◌↔◌, IsTrue, List, [], ◌∷◌, ◌++◌, map, refl, sym, ap, ◌∙◌, inl, inr}
+use Rattle.std.specs.Prelude.{All}
+use Rattle.std.specs.List.{list_all, list_any}
+use Rattle.std.proofs.lemmas.List.Elements.{All-map}
+use Rattle.std.proofs.lemmas.Bool.{false≢true}
+use Rattle.aig_circuit.specs.declared.edge.AigEdge.{AigEdge}
+use Rattle.aig_circuit.specs.declared.node.AigNodeType.TheVariants.{False}
+use Rattle.aig_circuit.specs.declared.node.AigNode.{AigNode}
+use Rattle.aig_circuit.specs.Edge.{edge_to, inverse, inverted_if}
+use Rattle.aig_circuit.specs.Tree.{node_value, edge_value}
+use Rattle.aig_circuit.specs.Circuit.{AreNodes, IsInRange}
+use Rattle.aig_circuit.specs.Build.{Folds, true_first, true_second, false_first, false_second, same, opposite, FoldsOrAdds, AddsGates, Grows, JoinsByAnd, JoinsByOr}
+use Rattle.aig_circuit.proofs.Trees.{kind_at-within, node_value-false}
+use Rattle.aig_circuit.proofs.Building.{AddsGates-itself, AddsGates-then, edge_value-Grows, and_true}
+
+pub inverse_twice : (e : AigEdge) → inverse (inverse e) ≡ e
+inverse_twice e = by e.compl
+  where
+    by : (i : Bool) → edge_to e.node_id (not (not i)) ≡ edge_to e.node_id i
+    by true = refl
+    by false = refl
+
+pub edge_value-inverse : (nodes : List AigNode) (x : ℕ → Bool) (e : AigEdge) → edge_value nodes x (inverse e) ≡ not (edge_value nodes x e)
+edge_value-inverse nodes x e = by e.compl (node_value nodes x e.node_id)
+  where
+    by : (i b : Bool) → inverted_if (not i) b ≡ not (inverted_if i b)
+    by true true = refl
+    by true false = refl
+    by false true = refl
+    by false false = refl
+
+-- true folds with every edge, to that edge
+folds_true : (f e : AigEdge) → Folds (edge_to 0 true) f e → e ≡ f
+folds_true f e (true_first p q) = q
+folds_true f e (true_second p q) = q ∙ sym p
+folds_true f e (false_first p q) = absurd (false≢true (sym (ap (λ (a : AigEdge). a.compl) p)))
+folds_true f e (false_second p q) = q ∙ sym p
+folds_true f e (same p q) = q ∙ p
+folds_true f e (opposite p q) = q ∙ ap inverse p ∙ inverse_twice f
+
+pub adds_none-true : (old new : List AigNode) (f e : AigEdge) → FoldsOrAdds old new (edge_to 0 true) f e → (e ≡ f) × (new ≡ old)
+adds_none-true old new f e (inl p) = (folds_true f e p.0, p.1)
+adds_none-true old new f e (inr p) = absurd (p.0 f (true_first refl refl))
+
+-- the gates that were added so far, and the and of the first edges
+pub record AndSoFar (old new : List AigNode) (fanins : List AigEdge) (all : AigEdge) : Type 0 where
+  pub gates : AddsGates old new
+  pub joins : JoinsByAnd old new fanins all
+
+true_there : (nodes : List AigNode) → AreNodes nodes → IsInRange nodes (edge_to 0 true)
+true_there nodes s = kind_at-within nodes 0 False s.false_first
+
+pub JoinsByAnd-none : (nodes : List AigNode) → AreNodes nodes → JoinsByAnd nodes nodes [] (edge_to 0 true)
+JoinsByAnd-none nodes s = record {
+  there = true_there nodes s;
+  value = λ x. let zero_false = node_value-false nodes x 0 s.false_first in rw zero_false;
+  none = λ h. (refl, refl);
+  one = λ f h. cc;
+}
+
+pub AndSoFar-none : (nodes : List AigNode) → AreNodes nodes → AndSoFar nodes nodes [] (edge_to 0 true)
+AndSoFar-none nodes s = record { gates = AddsGates-itself nodes s; joins = JoinsByAnd-none nodes s }
+
+pub AndSoFar-one : (nodes : List AigNode) → AreNodes nodes → (f : AigEdge) → IsInRange nodes f → AndSoFar nodes nodes (f ∷ []) f
+AndSoFar-one nodes s f there = record {
+  gates = AddsGates-itself nodes s;
+  joins = record {
+    there = there;
+    value = λ x. sym (and_true _);
+    none = λ h. cc;
+    one = λ g h. (cc, refl);
+  };
+}
+
+list_all-push : (p : AigEdge → Bool) (es : List AigEdge) (e : AigEdge) → list_all p (es ++ e ∷ []) ≡ (list_all p es && p e)
+list_all-push p [] e = and_true (p e)
+list_all-push p (f ∷ es) e = ap (λ b. p f && b) (list_all-push p es e) ∙ and_assoc (p f) (list_all p es) (p e)
+  where
+    and_assoc : (a b c : Bool) → (a && (b && c)) ≡ ((a && b) && c)
+    and_assoc true b c = refl
+    and_assoc false b c = refl
+
+not_empty : (es : List AigEdge) (e : AigEdge) → es ++ e ∷ [] ≡ [] → ⊥
+not_empty [] e h = cc
+not_empty (f ∷ es) e h = cc
+
+only_one : (es : List AigEdge) (e f : AigEdge) → es ++ e ∷ [] ≡ f ∷ [] → (es ≡ []) × (e ≡ f)
+only_one [] e f h = (refl, cc)
+only_one (g ∷ es) e f h = absurd (not_empty es e cc)
+
+-- one edge more
+pub AndSoFar-push : (old mid new : List AigNode) (fanins : List AigEdge) (all f e : AigEdge) → AreNodes old → AndSoFar old mid fanins all → IsInRange old f → AddsGates mid new → IsInRange new e → ((x : ℕ → Bool) → edge_value new x e ≡ (edge_value mid x all && edge_value mid x f)) → (fanins ≡ [] → (e ≡ f) × (new ≡ mid)) → AndSoFar old new (fanins ++ f ∷ []) e
+AndSoFar-push old mid new fanins all f e s so_far in_old adds there value first = record {
+  gates = AddsGates-then old mid new so_far.gates adds;
+  joins = record {
+    there = there;
+    value = λ x.
+        value x ∙ ap (λ v. v && edge_value mid x f) (so_far.joins.value x)
+        ∙ ap (λ v. list_all (edge_value old x) fanins && v) (edge_value-Grows old mid s so_far.gates.grows x f in_old)
+        ∙ sym (list_all-push (edge_value old x) fanins f);
+    none = λ h. absurd (not_empty fanins f h);
+    one = λ g h. let only = only_one fanins f g h in ((first only.0).0 ∙ only.1, (first only.0).1 ∙ (so_far.joins.none only.0).1);
+  };
+}
+
+not_all : (p q : AigEdge → Bool) → ((e : AigEdge) → q (inverse e) ≡ not (p e)) → (es : List AigEdge) → not (list_all q (map inverse es)) ≡ list_any p es
+not_all p q h [] = refl
+not_all p q h (e ∷ es) = ap (λ b. not (b && list_all q (map inverse es))) (h e) ∙ by (p e) (list_all q (map inverse es)) ∙ ap (λ b. p e || b) (not_all p q h es)
+  where
+    by : (a b : Bool) → not (not a && b) ≡ (a || not b)
+    by true b = refl
+    by false b = refl
+
+pub All-inverse : (nodes : List AigNode) (es : List AigEdge) → All (IsInRange nodes) es → All (IsInRange nodes) (map inverse es)
+All-inverse nodes es h = All-map (IsInRange nodes) inverse es h
+
+-- the or of edges is the inverse of the and of their inverses
+pub JoinsByOr-inverse : (old new : List AigNode) (es : List AigEdge) (e : AigEdge) → JoinsByAnd old new (map inverse es) e → JoinsByOr old new es (inverse e)
+JoinsByOr-inverse old new es e j = record {
+  there = j.there;
+  value = λ x. edge_value-inverse new x e ∙ ap not (j.value x) ∙ not_all (edge_value old x) (edge_value old x) (edge_value-inverse old x) es;
+  none = λ h. let at = j.none (ap (map inverse) h) in (ap inverse at.0, at.1);
+  one = λ f h. let at = j.one (inverse f) (ap (map inverse) h) in (ap inverse at.0 ∙ inverse_twice f, at.1);
+}
+
+-- two values are equal exactly where both hold or neither does
+equal_says : (a b : Bool) → IsTrue ((a && b) || (not a && not b)) ↔ (a ≡ b)
+equal_says true true = (λ h. refl, λ h. refl)
+equal_says true false = (λ h. cc, λ h. cc)
+equal_says false true = (λ h. cc, λ h. cc)
+equal_says false false = (λ h. refl, λ h. refl)
+
+-- the or of the and of two edges and of the and of their inverses, where each of the three may have added nodes
+pub value-both_or_neither : (old one two three : List AigNode) (a b both neither e : AigEdge) → AreNodes old → Grows old one → Grows one two → IsInRange old a → IsInRange old b → IsInRange one both → ((x : ℕ → Bool) → edge_value one x both ≡ (edge_value old x a && edge_value old x b)) → ((x : ℕ → Bool) → edge_value two x neither ≡ (edge_value one x (inverse a) && edge_value one x (inverse b))) → ((x : ℕ → Bool) → edge_value three x e ≡ (edge_value two x both || edge_value two x neither)) → (x : ℕ → Bool) → IsTrue (edge_value three x e) ↔ (edge_value old x a ≡ edge_value old x b)
+value-both_or_neither old one two three a b both neither e s p q i j k is_both is_neither is_or x =
+    let at : (f : AigEdge) → IsInRange old f → edge_value one x (inverse f) ≡ not (edge_value old x f) = λ f h. edge_value-inverse one x f ∙ ap not (edge_value-Grows old one s p x f h) in
+    let is : edge_value three x e ≡ ((edge_value old x a && edge_value old x b) || (not (edge_value old x a) && not (edge_value old x b))) =
+    is_or x
+    ∙ ap (λ v. v || edge_value two x neither) (edge_value-Grows one two p.sound q x both k ∙ is_both x)
+    ∙ ap (λ v. (edge_value old x a && edge_value old x b) || v) (is_neither x ∙ ap (λ v. v && edge_value one x (inverse b)) (at a i) ∙ ap (λ v. not (edge_value old x a) && v) (at b j))
+    in
+    rw is (equal_says (edge_value old x a) (edge_value old x b))

@@ -1,0 +1,17 @@
+use Rattle.std.proofs.Common.{◌≡◌, ℕ, Bool, ◌&&◌}
+use Rattle.std.proofs.lemmas.Result.{IfOk-weaker}
+use Rattle.aig_circuit.specs.Edge.{inverse}
+use Rattle.aig_circuit.specs.Tree.{edge_value}
+use Rattle.aig_circuit.proofs.Building.{AddsGates-then}
+use Rattle.aig_circuit.proofs.Joining.{value-both_or_neither}
+use Rattle.aig_circuit.proofs.build.both_or_neither.Goals as goal
+
+pub returns-clause-value : goal.returns-clause-value
+returns-clause-value c =
+    let one = c.and_of_edges.new.nodes.items in
+    let two = c.and_of_edges-2.new.nodes.items in
+    let neither : (x : ℕ → Bool) → edge_value two x c.in_ok-neither.neither ≡ (edge_value one x (inverse c.args.fanin0) && edge_value one x (inverse c.args.fanin1)) = rw (c.not.ensures, c.not-2.ensures) at c.in_ok-neither.ensures.value in
+    IfOk-weaker c.or_of_edges.result _ _ (λ e value. value-both_or_neither c.args.nodes.now.items one two c.or_of_edges.new.nodes.items c.args.fanin0 c.args.fanin1 c.in_ok-both.both c.in_ok-neither.neither e c.requires.sound c.and_of_edges.ensures.gates.grows c.and_of_edges-2.ensures.gates.grows c.requires.first c.requires.second c.in_ok-both.ensures.edge c.in_ok-both.ensures.value neither value) c.or_of_edges.ensures.value
+
+pub returns-clause-gates : goal.returns-clause-gates
+returns-clause-gates c = AddsGates-then _ _ _ c.and_of_edges.ensures.gates (AddsGates-then _ _ _ c.and_of_edges-2.ensures.gates c.or_of_edges.ensures.gates)
