@@ -148,7 +148,7 @@ impl LexError {
 
 impl Section {
     /// What reading lines of this section gave.
-    pub fn result_of<T>(self, lines: Result<T, LineError>) -> Result<T, ReadError>
+    pub(crate) fn result_of<T>(self, lines: Result<T, LineError>) -> Result<T, ReadError>
         ensures { result ≡ result_in self lines }
     {
         match lines {
