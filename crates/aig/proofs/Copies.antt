@@ -2,7 +2,7 @@ use Rattle.std.proofs.Common.{◌≡◌, ℕ, List, [], ◌∷◌, map, String, 
 use Rattle.std.specs.Prelude.{string_bytes}
 use Rattle.std.specs.List.{AllZip}
 use Rattle.std.specs.FinMap.{from_entries}
-use Rattle.aig_writer.specs.View.{names_of}
+use Rattle.aig_circuit.specs.View.{names_of}
 
 -- entries that a function can't tell apart, one for one, are mapped alike
 pub map_from_all_zip : {A B : Type 0} (f : A → B) (R : A → A → Type 0) → ((x y : A) → R x y → f y ≡ f x) → (xs ys : List A) → AllZip R xs ys → map f ys ≡ map f xs

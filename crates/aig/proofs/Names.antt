@@ -1,9 +1,8 @@
-use Rattle.std.proofs.Common.{◌≡◌, ℕ, ◌<◌, Bool, true, false, cond, Option, Some, List, [], ◌∷◌, map, nat_cmp, nat_eq, String, Global, refl, sym, ap, ◌∙◌, arith, IsTrue}
+use Rattle.std.proofs.Common.{◌≡◌, ℕ, ◌<◌, Bool, true, false, cond, Some, List, nat_cmp, nat_eq, String, Global, refl, sym, ap, ◌∙◌, arith, IsTrue}
 use Rattle.std.specs.Prelude.{option_map, string_bytes, is_some}
-use Rattle.std.specs.Ordering.{eq_by_cmp}
 use Rattle.std.specs.Map.{lookup}
-use Rattle.std.specs.FinMap.{FinMap, insert, get, find, contains_key, get-insert, get-from_entries, same_map, nat_cmp-IsAntisymmetric}
-use Rattle.aig_writer.specs.View.{names_of}
+use Rattle.std.specs.FinMap.{FinMap, insert, get, contains_key, get-insert, same_map, nat_cmp-IsAntisymmetric}
+use Rattle.aig_circuit.specs.View.{names_of}
 use Rattle.aig_writer.proofs.Entries.{get_names, option_map_cond, same_test}
 use Rattle.std.proofs.lemmas.Cmp.{nat_cmp_total}
 use Rattle.std.proofs.lemmas.Bool.Decides.{nat_tests}

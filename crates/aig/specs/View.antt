@@ -1,7 +1,7 @@
 -- What contracts see of a circuit.
 use Rattle.std.specs.Prelude.{map}
 use Rattle.aig_circuit.specs.Circuit.{Circuit}
-use Rattle.aig_writer.specs.View.{names_of}
+use Rattle.aig_circuit.specs.View.{names_of}
 use Rattle.aig.specs.declared.graph.Aig.TheInside.{Inside}
 
 -- the circuit that the fields hold

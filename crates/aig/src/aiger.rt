@@ -7,14 +7,13 @@ ghost use Rattle.aig_grammar.specs.File.{File};
 ghost use Rattle.aig_grammar.specs.Plain.{AcceptsPlain};
 ghost use Rattle.aig_reader.specs.Reading.{ReadsExactly, UnlessInterrupted};
 ghost use Rattle.aig_writer.specs.Sinks.{AppendsBeginning};
-ghost use Rattle.aig_writer.specs.View.{names_of};
+ghost use Rattle.aig_circuit.specs.View.{names_of};
 ghost use Rattle.aig.specs.Writing.{HasLineFeed, IsOpenStart, IsSmall, TellsOf, named_nodes};
 
 use crate::graph::Aig;
 use aig_base::{FromRead, Sink, Source};
 use aig_circuit::{AigEdge, AigLatch};
 use aig_reader::ReadError;
-use aig_writer::CircuitView;
 use std::alloc::Global;
 use std::collections::HashMap;
 use std::fs;
@@ -210,18 +209,7 @@ impl Aig {
         ensures kept { IfErr result (λ e. e ≢ WriteError.Stream → w.new ≡ w.old) }
     {
         self.refusal()?;
-        let view = CircuitView {
-            nodes: self.nodes(),
-            inputs: self.inputs(),
-            latchs: self.latchs(),
-            outputs: self.outputs(),
-            bads: self.bads(),
-            constraints: self.constraints(),
-            justice: self.justice(),
-            fairness: self.fairness(),
-            names: self.symbols(),
-        };
-        match aig_writer::write_text(w, view) {
+        match aig_writer::write_text(w, self.view()) {
             Ok(()) => Ok(()),
             Err(_) => Err(WriteError::Stream),
         }

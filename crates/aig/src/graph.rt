@@ -6,7 +6,7 @@ ghost use Rattle.aig_circuit.specs.Node.{Admits, gates_of};
 ghost use Rattle.aig_circuit.specs.Build.{with_node};
 ghost use Rattle.aig_circuit.specs.Circuit.{BeginsWith, HasFreeLeaf, IsCircuit, IsClosed, IsInRange, IsLeaf, IsFree, only_false};
 ghost use Rattle.aig_reader.specs.Circuits.{lists_circuit};
-ghost use Rattle.aig_writer.specs.View.{names_of};
+ghost use Rattle.aig_circuit.specs.View.{names_of, view_circuit};
 
 mod builders;
 mod names;
@@ -14,7 +14,8 @@ mod writing;
 
 use aig_base::MemoryError;
 use aig_circuit::{
-    AigEdge, AigLatch, AigNode, AndsIter, build, checks, false_node, gates_among, leaves,
+    AigEdge, AigLatch, AigNode, AndsIter, CircuitView, build, checks, false_node, gates_among,
+    leaves,
 };
 use aig_reader::CircuitLists;
 use std::alloc::{AllocError, Global};
@@ -101,6 +102,24 @@ impl Aig {
             justice: Vec::new(alloc),
             fairness: Vec::new(alloc),
             symbols: HashMap::new(alloc),
+        }
+    }
+
+    /// Its lists, lent.
+    pub(crate) fn view(&self) -> CircuitView<'_>
+        ensures lists { view_circuit result ≡ self.now }
+        ensures circuit { IsCircuit self.now }
+    {
+        CircuitView {
+            nodes: &self.nodes,
+            inputs: &self.inputs,
+            latchs: &self.latchs,
+            outputs: &self.outputs,
+            bads: &self.bads,
+            constraints: &self.constraints,
+            justice: &self.justice,
+            fairness: &self.fairness,
+            names: &self.symbols,
         }
     }
 

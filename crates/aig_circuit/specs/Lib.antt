@@ -5,3 +5,4 @@ pub mod Circuit
 pub mod Build
 pub mod Runs
 pub mod Reencode
+pub mod View

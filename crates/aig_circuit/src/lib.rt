@@ -7,7 +7,9 @@ pub mod checks;
 mod edge;
 pub mod leaves;
 mod node;
+mod view;
 
 pub use ands::{AndsIter, gates_among};
 pub use edge::{AigEdge, orders_by_literal};
 pub use node::{AigLatch, AigNode, AigNodeType, false_node, gate_node, leaf_node};
+pub use view::{CircuitLists, CircuitView};

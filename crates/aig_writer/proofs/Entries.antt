@@ -16,7 +16,8 @@ use Rattle.aig_circuit.specs.Circuit.{Circuit, latch_leaves}
 use Rattle.aig_grammar.specs.File.{NameLine, Text}
 use Rattle.aig_grammar.specs.Written.{name_of}
 use Rattle.aig_grammar.specs.Circuit.{file_of, name_lines}
-use Rattle.aig_writer.specs.View.{names_of, name_text}
+use Rattle.aig_circuit.specs.View.{names_of}
+use Rattle.aig_writer.specs.Parts.{name_text}
 
 -- the map's test is that of equality
 pub same_test : (q k : ℕ) → eq_by_cmp nat_cmp q k ≡ nat_eq q k

@@ -13,7 +13,7 @@ use Rattle.aig_grammar.specs.File.{Text}
 use Rattle.aig_grammar.specs.Written.{line_of, lines_of, latch_of, gate_of}
 use Rattle.aig_grammar.specs.Circuit.{latch_line, gate_line}
 use Rattle.aig_writer.specs.Literals.{IsSmallEdge}
-use Rattle.aig_writer.specs.View.{literal_sets}
+use Rattle.aig_writer.specs.Parts.{literal_sets}
 
 abbrev pub input_line : ℕ → List ℕ
 input_line n = line_of (2 * n ∷ [])

@@ -5,7 +5,7 @@ use Rattle.aig_grammar.specs.File.{File, Text}
 use Rattle.aig_grammar.specs.Written.{header_line_of, lines_of, latch_of, gate_of, name_of, spelling_of}
 use Rattle.aig_circuit.specs.Circuit.{Circuit}
 use Rattle.aig_grammar.specs.Circuit.{file_of, text_of}
-use Rattle.aig_writer.specs.View.{properties_of}
+use Rattle.aig_writer.specs.Parts.{properties_of}
 use Rattle.aig_writer.proofs.Putting.{then_texts}
 
 -- the sections between the latches and the gates

@@ -1,3 +1,3 @@
 pub mod Literals
 pub mod Sinks
-pub mod View
+pub mod Parts

@@ -5,12 +5,11 @@ ghost use Rattle.aig_grammar.specs.File.{Text, header_of};
 ghost use Rattle.aig_grammar.specs.Written.{shortened, header_line_of};
 ghost use Rattle.aig_grammar.specs.Circuit.{file_of, gate_line};
 ghost use Rattle.aig_writer.specs.Sinks.{Stops, Writes};
-ghost use Rattle.aig_writer.specs.View.{view_circuit};
+ghost use Rattle.aig_circuit.specs.View.{view_circuit};
 
 use crate::block::Block;
-use crate::view::CircuitView;
 use aig_base::{Sink, StreamFault};
-use aig_circuit::AigNode;
+use aig_circuit::{AigNode, CircuitView};
 
 /// How many numbers a header has at least: M I L O A.
 const ALWAYS: usize = 5;

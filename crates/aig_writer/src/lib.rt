@@ -10,7 +10,5 @@ mod sections;
 #[cfg(test)]
 mod tests;
 mod text;
-mod view;
 
 pub use text::write_text;
-pub use view::CircuitView;

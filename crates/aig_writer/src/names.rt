@@ -8,12 +8,12 @@ ghost use Rattle.aig_grammar.specs.Written.{name_of};
 ghost use Rattle.aig_grammar.specs.File.{Text};
 ghost use Rattle.aig_grammar.specs.Circuit.{file_of, name_lines};
 ghost use Rattle.aig_writer.specs.Sinks.{Stops, Writes};
-ghost use Rattle.aig_writer.specs.View.{names_of, name_text, view_circuit};
+ghost use Rattle.aig_circuit.specs.View.{names_of, view_circuit};
+ghost use Rattle.aig_writer.specs.Parts.{name_text};
 
 use crate::block::Block;
-use crate::view::CircuitView;
 use aig_base::{Sink, StreamFault};
-use aig_circuit::AigLatch;
+use aig_circuit::{AigLatch, CircuitView};
 use std::collections::HashMap;
 
 /// The letter of an input's name.

@@ -7,7 +7,7 @@ ghost use Rattle.aig_grammar.specs.File.{Text};
 ghost use Rattle.aig_grammar.specs.Written.{line_of, lines_of, latch_of, gate_of};
 ghost use Rattle.aig_grammar.specs.Circuit.{reset_of, latch_line, gate_line};
 ghost use Rattle.aig_writer.specs.Sinks.{Stops, Writes};
-ghost use Rattle.aig_writer.specs.View.{literal_sets};
+ghost use Rattle.aig_writer.specs.Parts.{literal_sets};
 ghost use Rattle.aig_writer.specs.Literals.{IsSmall, IsSmallEdge, IsSmallLatch, IsSmallNode};
 
 use crate::block::Block;

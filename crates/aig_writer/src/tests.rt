@@ -2,12 +2,13 @@
 
 ghost use Rattle.std.specs.Prelude.{IsTrue, All, map};
 ghost use Rattle.aig_writer.specs.Literals.{IsSmall, IsSmallEdge, IsSmallLatch, IsSmallNode, HasSmallNumbers};
-ghost use Rattle.aig_writer.specs.View.{view_circuit};
+ghost use Rattle.aig_circuit.specs.View.{view_circuit};
 
 use crate::text::write_text;
-use crate::view::CircuitView;
 use aig_base::{StreamFault, Taker};
-use aig_circuit::{AigEdge, AigLatch, AigNode, AigNodeType, false_node, gate_node, leaf_node};
+use aig_circuit::{
+    AigEdge, AigLatch, AigNode, AigNodeType, CircuitView, false_node, gate_node, leaf_node,
+};
 use std::alloc::Global;
 use std::collections::HashMap;
 use std::process::Abort;

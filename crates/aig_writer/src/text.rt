@@ -4,14 +4,15 @@ ghost use Rattle.aig_grammar.specs.File.{Text};
 ghost use Rattle.aig_grammar.specs.Circuit.{file_of, text_of};
 ghost use Rattle.aig_writer.specs.Literals.{HasSmallNumbers};
 ghost use Rattle.aig_writer.specs.Sinks.{AppendsBeginning, Stops, Writes};
-ghost use Rattle.aig_writer.specs.View.{properties_of, view_circuit};
+ghost use Rattle.aig_circuit.specs.View.{view_circuit};
+ghost use Rattle.aig_writer.specs.Parts.{properties_of};
 
 use crate::block::Block;
 use crate::header::header;
 use crate::names::names;
 use crate::sections::{edges, gates, inputs, latches, sets, sizes};
-use crate::view::CircuitView;
 use aig_base::{Sink, StreamFault};
+use aig_circuit::CircuitView;
 
 /// Adds the outputs and the properties.
 fn properties<W: Sink>(

@@ -2,7 +2,7 @@ use Rattle.std.proofs.Common.{codes}
 use Rattle.std.proofs.lemmas.Result.{on_ok_weaker, on_err_weaker}
 use Rattle.aig_grammar.specs.File.{Text}
 use Rattle.aig_grammar.specs.Circuit.{file_of}
-use Rattle.aig_writer.specs.View.{view_circuit}
+use Rattle.aig_circuit.specs.View.{view_circuit}
 use Rattle.aig_writer.proofs.Putting.{on_err, Stops-after, Stops-more, Writes-trans}
 use Rattle.aig_writer.proofs.Counts.{header_text}
 use Rattle.aig_writer.proofs.header.header.Goals as goal

@@ -2,7 +2,7 @@ use Rattle.std.proofs.Common.{arith}
 use Rattle.std.specs.List.{enumerate_from}
 use Rattle.std.specs.FinMap.{get}
 use Rattle.std.proofs.lemmas.List.FromFn.{length-enumerate_from}
-use Rattle.aig_writer.specs.View.{names_of}
+use Rattle.aig_circuit.specs.View.{names_of}
 use Rattle.aig_writer.proofs.Putting.{on_err, Stops-turn, Writes-end, Writes-turn}
 use Rattle.aig_writer.proofs.Entries.{name_entry, name_entry-at, name_lines-places}
 use Rattle.aig_writer.proofs.names.input_names.Goals as goal

@@ -3,7 +3,7 @@ use Rattle.std.specs.List.{enumerate_from}
 use Rattle.std.specs.FinMap.{get}
 use Rattle.std.proofs.lemmas.List.FromFn.{length-enumerate_from}
 use Rattle.aig_circuit.specs.Circuit.{latch_leaves}
-use Rattle.aig_writer.specs.View.{names_of}
+use Rattle.aig_circuit.specs.View.{names_of}
 use Rattle.aig_writer.proofs.Putting.{on_err, Stops-turn, Writes-end, Writes-turn}
 use Rattle.aig_writer.proofs.Entries.{leaf_at, length-leaves, name_entry, name_entry-at, name_lines-places}
 use Rattle.aig_writer.proofs.names.latch_names.Goals as goal

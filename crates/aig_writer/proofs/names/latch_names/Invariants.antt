@@ -3,7 +3,7 @@ use Rattle.std.specs.List.{enumerate_from, flat_map}
 use Rattle.std.specs.FinMap.{get}
 use Rattle.aig_circuit.specs.Circuit.{latch_leaves}
 use Rattle.aig_writer.specs.Sinks.{Writes}
-use Rattle.aig_writer.specs.View.{names_of}
+use Rattle.aig_circuit.specs.View.{names_of}
 use Rattle.aig_writer.proofs.Entries.{name_entry}
 use Rattle.aig_writer.proofs.names.latch_names.Given as goal
 

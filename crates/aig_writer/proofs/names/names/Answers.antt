@@ -1,5 +1,5 @@
 use Rattle.std.proofs.lemmas.Result.{on_ok_weaker, on_err_weaker}
-use Rattle.aig_writer.specs.View.{view_circuit}
+use Rattle.aig_circuit.specs.View.{view_circuit}
 use Rattle.aig_writer.proofs.Putting.{on_err, Stops-after, Stops-more, Writes-trans}
 use Rattle.aig_writer.proofs.Entries.{input_name_lines, name_lines-both}
 use Rattle.aig_writer.proofs.names.names.Goals as goal

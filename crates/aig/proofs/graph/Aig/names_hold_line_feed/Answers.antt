@@ -1,11 +1,8 @@
-use Rattle.std.proofs.Common.{◌≡◌, ◌↔◌, ◌++◌, ℕ, List, IsTrue, true, false, Bool, subst, sym, ◌∙◌, inl, inr}
+use Rattle.std.proofs.Common.{◌≡◌, ◌↔◌, ◌++◌, ℕ, List, IsTrue, false, Bool, sym, ◌∙◌, inl, inr}
 use Rattle.std.specs.Prelude.{Any}
 use Rattle.std.proofs.lemmas.Bool.{false≢true}
-use Rattle.std.specs.FinMap.{FinMap}
-use Rattle.std.specs.Ordering.{nat_cmp}
 use Rattle.aig_circuit.specs.declared.node.AigLatch.{AigLatch}
 use Rattle.aig_circuit.specs.Circuit.{latch_leaves}
-use Rattle.aig.specs.Writing.{HasLineFeed}
 use Rattle.aig.proofs.Refusing.{Any-append, Any-latch_leaves}
 use Rattle.aig.proofs.graph.Aig.names_hold_line_feed.Goals as goal
 

@@ -1,6 +1,6 @@
-use Rattle.std.proofs.Common.{◌≡◌, sym, ◌∙◌}
+use Rattle.std.proofs.Common.{sym, ◌∙◌}
 use Rattle.std.proofs.lemmas.Bool.{false≢true}
-use Rattle.aig.specs.Writing.{HasLineFeed, IsWritable, named_nodes}
+use Rattle.aig.specs.Writing.{HasLineFeed, named_nodes}
 use Rattle.aig.proofs.Refusing.{none_where_false, starts_plain}
 use Rattle.aig.proofs.graph.Aig.refusal.Goals as goal
 

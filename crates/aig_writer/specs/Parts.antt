@@ -1,33 +1,11 @@
--- The circuit whose lists are lent.
-use Rattle.std.specs.Prelude.{ℕ, List, [], ◌++◌, map, length, Option, Some, None, string_bytes, String, Vec}
+-- The parts of a text.
+use Rattle.std.specs.Prelude.{ℕ, List, [], ◌++◌, map, length, Option, Some, None, Vec}
 use Rattle.std.specs.declared.alloc.Global.{Global}
 use Rattle.std.specs.List.{flat_map}
-use Rattle.std.specs.Ordering.{nat_cmp}
-use Rattle.std.specs.FinMap.{FinMap, from_entries}
 use Rattle.aig_circuit.specs.declared.edge.AigEdge.{AigEdge}
 use Rattle.aig_circuit.specs.Edge.{literal_of}
-use Rattle.aig_circuit.specs.Circuit.{Circuit}
 use Rattle.aig_grammar.specs.File.{File}
 use Rattle.aig_grammar.specs.Written.{lines_of, name_of}
-use Rattle.aig_writer.specs.declared.view.CircuitView.{CircuitView}
-
--- the names that the entries hold, by their bytes
-abbrev pub names_of : List (ℕ × String Global) → FinMap nat_cmp (List ℕ)
-names_of es = from_entries (map (λ entry. (entry.0, string_bytes entry.1)) es)
-
--- the circuit of a view
-abbrev pub view_circuit : CircuitView → Circuit
-view_circuit v = record {
-  nodes = v.nodes.now;
-  inputs = v.inputs.now;
-  latchs = v.latchs.now;
-  outputs = v.outputs.now;
-  bads = v.bads.now;
-  constraints = v.constraints.now;
-  justice = map (λ set. set.items) v.justice.now;
-  fairness = v.fairness.now;
-  names = names_of v.names.now.entries;
-}
 
 -- the literals of each set of edges
 abbrev pub literal_sets : List (Vec AigEdge Global) → List (List ℕ)
