@@ -1,9 +1,11 @@
 #!/usr/bin/env python3
-"""Measures `aigtool text` on files of random gates: measure.py TOOL [GATES ..]
+"""Measures `aigtool` on files of random gates, text and binary: measure.py TOOL [GATES ..]
 
-TOOL is the built program, crates/aigtool/out/aigtool after `rt run` in crates/aigtool. For each count of gates it prints
-the seconds of processor time, the peak memory and the bytes a second of the best of five runs, next to those of `cat`.
+TOOL is the built program, crates/aigtool/out/aigtool after `rt run` in crates/aigtool. For each count of gates and each
+command it prints the seconds of processor time and the peak memory of the best of five runs, and the bytes a second that
+it reads and writes together, next to `cat` of the text file.
 """
+import filecmp
 import os
 import subprocess
 import sys
@@ -28,24 +30,54 @@ def best(words, out):
     return min(run(words, out) for _ in range(RUNS))
 
 
+def row(words):
+    """A row of a table."""
+    print("| " + " | ".join(words) + " |")
+
+
+def check_clauses(out):
+    """Ends where the count of clauses is not that of the lines."""
+    with open(out, "rb") as b:
+        counted = int(b.readline().split()[3])
+        if sum(1 for _ in b) != counted:
+            sys.exit("the clauses are not as many as the header says")
+
+
+def check_same(file, out):
+    """Ends where two files differ."""
+    if not filecmp.cmp(file, out, shallow=False):
+        sys.exit(f"{out} is not as {file}")
+
+
+def measure(tool, gates, folder):
+    """Prints the rows of one count of gates."""
+    text, binary, out, other = (os.path.join(folder, name) for name in ["made.aag", "made.aig", "out", "other"])
+    with open(text, "wb") as made:
+        maker = [sys.executable, os.path.join(HERE, "make_aag.py"), "1", "1000", "1000", str(gates)]
+        subprocess.run(maker, stdout=made, check=True)
+    cat, _ = best(["cat", text], out)
+    subprocess.run([tool, "binary", text, binary], check=True)
+    commands = [
+        ("text of a text", text, ["text", text], out, lambda: check_same(text, out)),
+        ("binary of a text", text, ["binary", text, other], other, lambda: check_same(binary, other)),
+        ("text of a binary", binary, ["text", binary], out, lambda: check_same(text, out)),
+        ("binary of a binary", binary, ["binary", binary, other], other, lambda: check_same(binary, other)),
+        ("cnf of a text", text, ["cnf", text, "0", "raw"], out, lambda: check_clauses(out)),
+    ]
+    for name, file, words, written, check in commands:
+        seconds, peak = best([tool, *words], out)
+        check()
+        read, made = os.path.getsize(file) / 1e6, os.path.getsize(written) / 1e6
+        row([str(gates), name, f"{read:.1f} MB", f"{made:.1f} MB", f"{seconds:.3f} s", f"{peak / 1024:.1f} MiB", f"{(read + made) / seconds:.0f} MB", f"{cat:.3f} s"])
+
+
 def main():
     tool, counts = sys.argv[1], [int(word) for word in sys.argv[2:]] or [250_000, 500_000, 1_000_000]
-    print("| gates | file | aigtool text | peak | bytes a second | cat |")
-    print("|---|---|---|---|---|---|")
+    row(["gates", "command", "read", "written", "time", "peak", "bytes a second", "cat of the text"])
+    row(["---"] * 8)
     for gates in counts:
         with tempfile.TemporaryDirectory() as folder:
-            file, out = os.path.join(folder, "made.aag"), os.path.join(folder, "out.aag")
-            with open(file, "wb") as made:
-                maker = [sys.executable, os.path.join(HERE, "make_aag.py"), "1", "1000", "1000", str(gates)]
-                subprocess.run(maker, stdout=made, check=True)
-            size = os.path.getsize(file)
-            cat, _ = best(["cat", file], out)
-            seconds, peak = best([tool, "text", file], out)
-            with open(file, "rb") as a, open(out, "rb") as b:
-                if a.read() != b.read():
-                    sys.exit("the file was not printed as it is")
-            rate = size / seconds / 1e6
-            print(f"| {gates} | {size / 1e6:.1f} MB | {seconds:.3f} s | {peak / 1024:.1f} MiB | {rate:.0f} MB | {cat:.3f} s |")
+            measure(tool, gates, folder)
 
 
 main()

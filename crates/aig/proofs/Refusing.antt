@@ -8,7 +8,7 @@ use Rattle.aig_circuit.specs.declared.edge.AigEdge.{AigEdge}
 use Rattle.aig_circuit.specs.declared.node.AigLatch.{AigLatch}
 use Rattle.aig_circuit.specs.Edge.{edge_to}
 use Rattle.aig_circuit.specs.Circuit.{Circuit, latch_leaves}
-use Rattle.aig.specs.Writing.{IsOpenStart, IsPlainStart, list_lengths}
+use Rattle.aig_grammar.specs.Writable.{IsOpenStart, IsPlainStart, list_lengths}
 
 module _ {X : Type 0} (P : X → Type 0) where
   -- what no element has, each is without

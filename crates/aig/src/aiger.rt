@@ -1,29 +1,37 @@
 //! Reading and writing AIGER.
 
-ghost use Rattle.std.specs.Prelude.{◌≡◌, ◌≢◌, ◌↔◌, ◌<◌, ◌≤◌, ◌^◌, ℕ, List, false, length, All, Any, Contains, IfErr, IfOk, IfSome, IsErrOf, IsTrue, OnOk};
+ghost use Rattle.std.specs.Prelude.{◌≡◌, ◌≢◌, ◌↔◌, ◌⊎◌, ◌<◌, ◌≤◌, ◌^◌, ℕ, List, Some, false, length, All, Any, Contains, IfErr, IfOk, IfSome, IsErrOf, IsTrue, OnOk};
 ghost use Rattle.std.specs.Io.KnownBytes.{Appends, Consumes, IsAtEnd};
-ghost use Rattle.aig_grammar.specs.Circuit.{circuit_of, text_of};
-ghost use Rattle.aig_grammar.specs.File.{File};
-ghost use Rattle.aig_grammar.specs.Plain.{AcceptsPlain};
+ghost use Rattle.aig_circuit.specs.Reencode.{reencoded};
+ghost use Rattle.aig_grammar.specs.Circuit.{binary_of, circuit_of, file_of, text_of, IsReadAgain};
+ghost use Rattle.aig_grammar.specs.File.{Binary, File, Text};
+ghost use Rattle.aig_grammar.specs.Fits.{Accepts};
 ghost use Rattle.aig_reader.specs.Reading.{ReadsExactly, UnlessInterrupted};
 ghost use Rattle.aig_writer.specs.Sinks.{AppendsBeginning};
+ghost use Rattle.aig_circuit.specs.Circuit.{IsCircuit};
 ghost use Rattle.aig_circuit.specs.View.{names_of};
-ghost use Rattle.aig.specs.Writing.{HasLineFeed, IsOpenStart, IsSmall, TellsOf, named_nodes};
+ghost use Rattle.aig_grammar.specs.Writable.{HasLineFeed, IsOpenStart, IsSmall, named_nodes};
+ghost use Rattle.aig.specs.Writing.{IsRefusal, TellsOf};
+ghost use Rattle.aig.specs.declared.aiger.WriteError.TheVariants as errors;
 
 use crate::graph::Aig;
-use aig_base::{FromRead, Sink, Source};
+use aig_base::{FromRead, MemoryError, Sink, Source, StreamFault, ToWrite};
 use aig_circuit::{AigEdge, AigLatch};
+use aig_display::fmt_text;
 use aig_reader::ReadError;
 use std::alloc::Global;
 use std::collections::HashMap;
-use std::fs;
 use std::path::Path;
 use std::rt::Files;
+use std::{fmt, fs};
 use thiserror::Error;
 
-/// Why a circuit isn't written. The cases are numbered from 2 to 6.
+/// Why a circuit isn't written.
 #[derive(Clone, Copy, Debug, PartialEq, Eq, Error)]
 pub enum WriteError {
+    /// A growth was refused for want of memory.
+    #[error("out of memory")]
+    Memory,
     /// The writer failed in this call.
     #[error("write failed")]
     Stream,
@@ -39,6 +47,25 @@ pub enum WriteError {
     /// There are more than 2^31 nodes, or more than 2^32 - 1 entries in a list or a justice set.
     #[error("too large for the format")]
     TooLarge,
+    /// The file couldn't be made.
+    #[error("cannot create")]
+    Open,
+}
+
+impl From<MemoryError> for WriteError {
+    ghost from_gives = { λ _ r. r ≡ errors.Memory };
+
+    fn from(_error: MemoryError) -> WriteError {
+        WriteError::Memory
+    }
+}
+
+impl From<StreamFault> for WriteError {
+    ghost from_gives = { λ _ r. r ≡ errors.Stream };
+
+    fn from(_fault: StreamFault) -> WriteError {
+        WriteError::Stream
+    }
 }
 
 /// The greatest number that a file can have.
@@ -46,6 +73,16 @@ const GREATEST_NUMBER: usize = 0xffff_ffff;
 
 /// The most nodes that a circuit with a written form can have.
 const MOST_NODES: usize = 0x8000_0000;
+
+/// The file of a path, made anew.
+fn created<R: Files>(rt: &R, f: Path<'_>) -> Result<ToWrite<R::File>, WriteError>
+    ensures { IfErr result (λ e. e ≡ WriteError.Open) }
+{
+    match fs::create(rt, f) {
+        Ok(file) => Ok(ToWrite::new(file)),
+        Err(_) => Err(WriteError::Open),
+    }
+}
 
 /// Whether some initial edge isn't constant.
 fn has_open_start(latchs: &[AigLatch]) -> bool
@@ -104,7 +141,8 @@ fn are_short(sets: &[Vec<AigEdge>]) -> bool
 }
 
 impl Aig {
-    /// Reads a circuit: the plain part of the AIGER text format (AIGER format 20071012), up to the end of the reader.
+    /// Reads a circuit from a text or binary file (AIGER format 20071012, with the resets and properties of AIGER 1.9), up to
+    /// the end of the reader.
     ///
     /// `limit` is on variables: the greatest variable and one more is at most the limit. Asks `1 <= limit <= 2^31`.
     /// Which refusal a bad file gets beyond `TooMany`, `Memory` and `Stream` goes by the first line that shows a fault.
@@ -112,7 +150,9 @@ impl Aig {
         requires some { 1 ≤ limit }
         requires few { limit ≤ 2 ^ 31 }
         // The bytes that were read are a file that is accepted, and the circuit is that file's.
-        ensures circuit { IfOk result (λ aig. (file : File) × (bytes : List ℕ) × AcceptsPlain bytes limit file × (aig ≡ circuit_of file) × Consumes (R.left r.old) (R.left r.new) bytes) }
+        ensures circuit { IfOk result (λ aig. (file : File) × (bytes : List ℕ) × Accepts bytes limit file × (aig ≡ circuit_of file) × Consumes (R.left r.old) (R.left r.new) bytes) }
+        // The limit is on its nodes.
+        ensures few { IfOk result (λ aig. length aig.nodes ≤ limit) }
         // Memory and stream aside, accepted exactly where the bytes are such a file, and TooMany exactly where the header
         // line is good and passes the limit.
         ensures exact { IfSome (R.left r.old) (λ bytes. UnlessInterrupted result (ReadsExactly result bytes limit)) }
@@ -123,7 +163,7 @@ impl Aig {
         ensures never_open { IsErrOf result ReadError.Open → ⊥ }
     {
         match aig_reader::read(alloc, r, limit) {
-            Ok(lists) => Ok(Aig::from_lists(alloc, lists)),
+            Ok(lists) => Ok(Aig::from_lists(lists)),
             Err(fault) => Err(fault),
         }
     }
@@ -140,7 +180,7 @@ impl Aig {
         requires some { 1 ≤ limit }
         requires few { limit ≤ 2 ^ 31 }
         // The circuit is that of a file that is accepted.
-        ensures { IfOk result (λ aig. (file : File) × (bytes : List ℕ) × AcceptsPlain bytes limit file × (aig ≡ circuit_of file)) }
+        ensures { IfOk result (λ aig. (file : File) × (bytes : List ℕ) × Accepts bytes limit file × (aig ≡ circuit_of file)) }
     {
         match fs::open(rt, f) {
             Ok(file) => Aig::from_aiger(alloc, &mut FromRead::new(file), limit),
@@ -158,7 +198,8 @@ impl Aig {
 
     /// Whether nodes and lists are within the format's numbers.
     fn is_small(&self) -> bool
-        ensures { IsTrue result ↔ IsSmall self.now }
+        ensures small { IsTrue result ↔ IsSmall self.now }
+        ensures circuit { IsCircuit self.now }
     {
         let counts = [
             self.inputs().len(),
@@ -181,7 +222,8 @@ impl Aig {
     /// The first refusal that applies, if one does.
     fn refusal(&self) -> Result<(), WriteError>
         ensures tells { TellsOf self.now result }
-        ensures no_stream { IsErrOf result WriteError.Stream → ⊥ }
+        ensures own { IfErr result IsRefusal }
+        ensures circuit { OnOk result (IsCircuit self.now) }
     {
         if !self.is_closed() {
             Err(WriteError::FreeLeaf)
@@ -203,15 +245,70 @@ impl Aig {
         ensures tells { TellsOf self.now result }
         // All of the text was written, and the writer has not failed.
         ensures ok { OnOk result (Appends (W.held w.old) (W.held w.new) (text_of self.now) × (W.failed w.new ≡ false)) }
+        // What was written is read again, within any limit from the count of nodes up.
+        ensures again { OnOk result (IsReadAgain self.now (file_of Text self.now)) }
         // A beginning of the text was written, and the writer has failed in this call.
         ensures stream { IsErrOf result WriteError.Stream → AppendsBeginning (W.held w.old) (W.held w.new) (text_of self.now) × IsTrue (W.failed w.new) }
         // Every other refusal comes before the first byte, and leaves the writer as it was.
         ensures kept { IfErr result (λ e. e ≢ WriteError.Stream → w.new ≡ w.old) }
+        // No memory is asked for, and no file.
+        ensures faults { IfErr result (λ e. IsRefusal e ⊎ (e ≡ WriteError.Stream)) }
     {
         self.refusal()?;
-        match aig_writer::write_text(w, self.view()) {
-            Ok(()) => Ok(()),
-            Err(_) => Err(WriteError::Stream),
+        Ok(aig_writer::write_text(w, self.view())?)
+    }
+
+    /// Writes the binary form (AIGER format 20071012, "Binary encoding", and AIGER 1.9), which is that of `reencode`. It
+    /// doesn't flush.
+    ///
+    /// Of the refusals beside a failed writer the first that applies is answered, and `Memory` where none does, before
+    /// any byte is written.
+    pub fn write_binary<W: Sink>(&self, w: &mut W) -> Result<(), WriteError>
+        ensures tells { TellsOf self.now result }
+        // All of the bytes were written, and the writer has not failed.
+        ensures ok { OnOk result (Appends (W.held w.old) (W.held w.new) (binary_of self.now) × (W.failed w.new ≡ false)) }
+        // What was written is read again as the re-encoded circuit, within any limit from the count of nodes up.
+        ensures again { OnOk result (IsReadAgain (reencoded self.now) (file_of Binary (reencoded self.now))) }
+        // A beginning of the bytes was written, and the writer has failed in this call.
+        ensures stream { IsErrOf result WriteError.Stream → AppendsBeginning (W.held w.old) (W.held w.new) (binary_of self.now) × IsTrue (W.failed w.new) }
+        // Every other refusal comes before the first byte, and leaves the writer as it was.
+        ensures kept { IfErr result (λ e. e ≢ WriteError.Stream → w.new ≡ w.old) }
+        ensures never_open { IsErrOf result WriteError.Open → ⊥ }
+    {
+        self.refusal()?;
+        let made = self.reencode()?;
+        Ok(aig_writer::write_binary(w, made.view())?)
+    }
+
+    /// Writes the circuit to the file of a path, in the text form where `ascii` is true, and else in the binary form.
+    ///
+    /// The file is made only where no other refusal applies. Answers `Open` where it couldn't be made.
+    pub fn to_file(&self, rt: &impl Files, f: Path<'_>, ascii: bool) -> Result<(), WriteError>
+        ensures { TellsOf self.now result }
+    {
+        self.refusal()?;
+        if ascii {
+            let mut file = created(rt, f)?;
+            Ok(aig_writer::write_text(&mut file, self.view())?)
+        } else {
+            let made = self.reencode()?;
+            let mut file = created(rt, f)?;
+            Ok(aig_writer::write_binary(&mut file, made.view())?)
+        }
+    }
+}
+
+/// Prints the text form, as `write_text` writes it. It takes no memory of its own, and passes over the options of a
+/// placeholder, as its width.
+///
+/// Answers `fmt::Error` where a refusal of `write_text` applies, before anything is printed, and where the formatter fails.
+impl fmt::Display for Aig {
+    ghost output = { λ aig. Some (text_of aig) };
+
+    fn fmt<W: fmt::Write>(&self, f: &mut fmt::Formatter<W>) -> fmt::Result {
+        match self.refusal() {
+            Ok(()) => fmt_text(&self.view(), f),
+            Err(_) => Err(fmt::Error),
         }
     }
 }

@@ -5,8 +5,7 @@ ghost use Rattle.aig_circuit.specs.declared.node.AigNodeType.TheVariants.{Leaf};
 ghost use Rattle.aig_circuit.specs.Node.{Admits, gates_of};
 ghost use Rattle.aig_circuit.specs.Build.{with_node};
 ghost use Rattle.aig_circuit.specs.Circuit.{BeginsWith, HasFreeLeaf, IsCircuit, IsClosed, IsInRange, IsLeaf, IsFree, only_false};
-ghost use Rattle.aig_reader.specs.Circuits.{lists_circuit};
-ghost use Rattle.aig_circuit.specs.View.{names_of, view_circuit};
+ghost use Rattle.aig_circuit.specs.View.{lists_circuit, names_of, view_circuit};
 
 mod builders;
 mod names;
@@ -14,10 +13,9 @@ mod writing;
 
 use aig_base::MemoryError;
 use aig_circuit::{
-    AigEdge, AigLatch, AigNode, AndsIter, CircuitView, build, checks, false_node, gates_among,
-    leaves,
+    AigEdge, AigLatch, AigNode, AndsIter, CircuitLists, CircuitView, build, checks, false_node,
+    gates_among, leaves,
 };
-use aig_reader::CircuitLists;
 use std::alloc::{AllocError, Global};
 use std::collections::HashMap;
 use std::marker::Model;
@@ -81,8 +79,8 @@ impl Aig {
         })
     }
 
-    /// The circuit of the lists that were read, with no properties but outputs, and no names.
-    pub(crate) fn from_lists(alloc: Global, lists: CircuitLists) -> Aig
+    /// The circuit of these lists.
+    pub(crate) fn from_lists(lists: CircuitLists) -> Aig
         requires { IsCircuit (lists_circuit lists) }
         ensures { result ≡ lists_circuit lists }
     {
@@ -91,18 +89,28 @@ impl Aig {
             inputs,
             latchs,
             outputs,
+            bads,
+            constraints,
+            justice,
+            fairness,
+            names,
         } = lists;
         Aig {
             nodes,
             inputs,
             latchs,
             outputs,
-            bads: Vec::new(alloc),
-            constraints: Vec::new(alloc),
-            justice: Vec::new(alloc),
-            fairness: Vec::new(alloc),
-            symbols: HashMap::new(alloc),
+            bads,
+            constraints,
+            justice,
+            fairness,
+            symbols: names,
         }
+    }
+
+    /// The allocator of its lists.
+    pub(crate) fn allocator(&self) -> Global {
+        *self.nodes.allocator()
     }
 
     /// Its lists, lent.

@@ -2,7 +2,9 @@
 #![tactic(auto)]
 
 mod aiger;
+mod cnf;
 mod graph;
+mod others;
 #[cfg(test)]
 mod tests;
 

@@ -1,8 +1,11 @@
 ghost use Rattle.std.specs.Prelude.{◌≡◌, ◌+◌, IfOk, length};
 
+mod display;
+
 use crate::{Aig, AigEdge, AigNode, AigNodeType, PropList};
 use aig_base::MemoryError;
 use std::alloc::Global;
+use std::process::Abort;
 use std::test::Fail;
 
 /// A circuit of the inputs 1 to `count`.
@@ -40,6 +43,14 @@ fn edges_give_their_fields(rt: HostRuntime) {
     assert_eq!(rt; e.not_if(true), AigEdge::constant(false));
     assert_eq!(rt; e.map(&|id| id ^ 5), AigEdge::new(5, true));
     assert!(rt; AigEdge::from(1) < !AigEdge::from(1) && !AigEdge::from(1) < AigEdge::from(2));
+}
+
+#[test]
+fn edges_are_literals(rt: HostRuntime) {
+    let literal = AigEdge::new(3, true).to_lit();
+    assert_eq!(rt; u32::from(literal), 7);
+    assert_eq!(rt; AigEdge::from_lit(literal), AigEdge::new(3, true));
+    assert_eq!(rt; u32::from(AigEdge::new(3, false).to_lit()), 6);
 }
 
 #[test]
@@ -250,6 +261,130 @@ fn names_are_replaced_and_copied(rt: HostRuntime) -> Result<(), Fail> {
     let _id = aig.new_latch(AigEdge::from(1), None)?;
     assert!(rt; !copy.begins_with(&aig) && !aig.begins_with(&copy));
     Ok(())
+}
+
+/// The re-encoded circuit, if no leaf is free.
+fn closed_reencoded(aig: &Aig) -> Result<Option<Aig>, MemoryError> {
+    if aig.is_closed() {
+        Ok(Some(aig.reencode()?))
+    } else {
+        Ok(None)
+    }
+}
+
+#[test]
+fn inputs_come_before_latches(rt: HostRuntime) -> Result<(), Fail> {
+    let mut aig = Aig::new(rt.alloc())?;
+    assert_eq!(rt; aig.new_leaf_node()?, 1);
+    assert_eq!(rt; aig.new_input()?, 2);
+    assert!(rt; aig.is_free_leaf(1));
+    assert!(rt; aig.has_edge(AigEdge::from(2)) && aig.has_edge(AigEdge::constant(false)));
+    aig.add_latch(1, AigEdge::from(2), Some(AigEdge::constant(false)))?;
+    assert!(rt; aig.has_edge(AigEdge::from(1)));
+    aig.push_edge(PropList::Outputs, AigEdge::from(1))?;
+    let made = closed_reencoded(&aig)?.ok_or("a leaf is free")?;
+    assert_eq!(rt; made.num_nodes(), 3);
+    assert_eq!(rt; made.inputs(), [1].as_slice());
+    assert_eq!(rt; made.outputs(), [AigEdge::from(2)].as_slice());
+    assert_eq!(rt; made.latchs().len(), 1);
+    let latch = made.latchs()[0];
+    assert_eq!(rt;
+        (latch.input(), latch.next(), latch.init()),
+        (2, AigEdge::from(1), Some(AigEdge::constant(false)))
+    );
+    Ok(())
+}
+
+/// The inputs 1 and 4, latch 2 with next 5 and initial edge false, gate 3 = and(1,2), gate 5 = and(3,4), outputs 3 and 5.
+fn two_steps(alloc: Global, rt: &impl Abort) -> Result<Aig, MemoryError> {
+    let mut aig = with_inputs(alloc, 1)?;
+    assert_eq!(rt; aig.new_leaf_node()?, 2);
+    assert!(rt; aig.has_edge(AigEdge::from(1)) && aig.has_edge(AigEdge::from(2)));
+    assert_eq!(rt;
+        aig.new_and_node(AigEdge::from(1), AigEdge::from(2))?,
+        AigEdge::from(3)
+    );
+    assert_eq!(rt; aig.new_input()?, 4);
+    assert!(rt; aig.has_edge(AigEdge::from(3)) && aig.has_edge(AigEdge::from(4)));
+    assert_eq!(rt;
+        aig.new_and_node(AigEdge::from(3), AigEdge::from(4))?,
+        AigEdge::from(5)
+    );
+    assert!(rt; aig.is_free_leaf(2));
+    assert!(rt; aig.has_edge(AigEdge::from(5)) && aig.has_edge(AigEdge::constant(false)));
+    aig.add_latch(2, AigEdge::from(5), Some(AigEdge::constant(false)))?;
+    for edge in [AigEdge::from(3), AigEdge::from(5)] {
+        assert!(rt; aig.has_edge(edge));
+        aig.push_edge(PropList::Outputs, edge)?;
+    }
+    Ok(aig)
+}
+
+#[test]
+fn gates_come_after_latches(rt: HostRuntime) -> Result<(), Fail> {
+    let aig = two_steps(rt.alloc(), &rt)?;
+    let made = closed_reencoded(&aig)?.ok_or("a leaf is free")?;
+    assert_eq!(rt; made.inputs(), [1, 2].as_slice());
+    assert_eq!(rt;
+        made.outputs(),
+        [AigEdge::from(4), AigEdge::from(5)].as_slice()
+    );
+    assert_eq!(rt; made.latchs().len(), 1);
+    let latch = made.latchs()[0];
+    assert_eq!(rt;
+        (latch.input(), latch.next(), latch.init()),
+        (3, AigEdge::from(5), Some(AigEdge::constant(false)))
+    );
+    assert_eq!(rt; made.num_nodes(), 6);
+    assert!(rt; is_gate(&made[4], AigEdge::from(1), AigEdge::from(3)));
+    assert!(rt; is_gate(&made[5], AigEdge::from(2), AigEdge::from(4)));
+    Ok(())
+}
+
+#[test]
+fn initial_edges_and_names_get_new_numbers(rt: HostRuntime) -> Result<(), Fail> {
+    let mut aig = Aig::new(rt.alloc())?;
+    assert_eq!(rt; aig.new_leaf_node()?, 1);
+    assert_eq!(rt; aig.new_input()?, 2);
+    let (a, b) = (AigEdge::from(1), AigEdge::from(2));
+    assert!(rt; aig.has_edge(a) && aig.has_edge(b));
+    assert_eq!(rt; aig.new_and_node(a, !b)?, AigEdge::from(3));
+    assert!(rt; aig.is_free_leaf(1));
+    assert!(rt; aig.has_edge(b));
+    aig.add_latch(1, b, Some(!b))?;
+    assert!(rt; aig.has_node(3));
+    aig.set_symbol(3, "gate")?;
+    assert!(rt; aig.has_node(2));
+    aig.set_symbol(2, "input")?;
+    let made = closed_reencoded(&aig)?.ok_or("a leaf is free")?;
+    assert_eq!(rt; made.latchs().len(), 1);
+    let latch = made.latchs()[0];
+    assert_eq!(rt;
+        (latch.input(), latch.next(), latch.init()),
+        (2, a, Some(!a))
+    );
+    assert_eq!(rt; made.num_nodes(), 4);
+    assert!(rt; is_gate(&made[3], !a, b));
+    let (first, gate) = (made.get_symbol(1)?, made.get_symbol(3)?);
+    assert_eq!(rt; first.as_ref().map(|s| s.as_str()), Some("input"));
+    assert_eq!(rt; gate.as_ref().map(|s| s.as_str()), Some("gate"));
+    assert!(rt; made.get_symbol(2)?.is_none());
+    Ok(())
+}
+
+#[test]
+fn a_refused_reencoding_is_told(rt: HostRuntime) {
+    let Ok(mut aig) = with_inputs(rt.alloc(), 2) else {
+        return;
+    };
+    assert!(rt; aig.has_node(1));
+    let Ok(()) = aig.set_symbol(1, "x") else {
+        return;
+    };
+    match closed_reencoded(&aig) {
+        Ok(made) => assert!(rt; made.is_some_and(|made| are_alike(&aig, &made))),
+        Err(error) => assert_eq!(rt; error, MemoryError::Memory),
+    }
 }
 
 #[test]

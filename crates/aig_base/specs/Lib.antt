@@ -1,2 +1,5 @@
 pub mod Wrapped
 pub mod Devices
+pub mod Clauses
+pub mod Cut
+pub mod Three

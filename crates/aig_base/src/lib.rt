@@ -1,6 +1,7 @@
-//! What the crates of the circuit library share: the fault of memory, and streams of bytes.
+//! What the crates of the circuit library share: the fault of memory, literals and clauses, and streams of bytes.
 #![tactic(auto)]
 
+mod logic;
 mod memory;
 mod std_stream;
 mod stream;
@@ -8,6 +9,7 @@ mod test_streams;
 #[cfg(test)]
 mod tests;
 
+pub use logic::{DagCnf, Lbool, Lit, LitVvec, Var, VarVMap};
 pub use memory::MemoryError;
 pub use std_stream::{FromRead, ToWrite};
 pub use stream::{Sink, Source, StreamFault};

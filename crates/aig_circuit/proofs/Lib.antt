@@ -4,3 +4,4 @@ pub mod Joining
 pub mod Circuits
 pub mod Writing
 pub mod Counting
+pub mod Names

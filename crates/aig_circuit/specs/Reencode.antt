@@ -1,6 +1,6 @@
 -- The numbering of a closed circuit that a binary file has: inputs first, then latches, then gates in rising number.
 -- (AIGER format 20071012, "Binary encoding".)
-use Rattle.std.specs.Prelude.{ℕ, ◌+◌, ◌==◌, if◌then◌else◌, Option, Some, None, option_map, List, [], ◌∷◌, ◌++◌, map, filter_map}
+use Rattle.std.specs.Prelude.{◌≡◌, ℕ, ◌+◌, ◌==◌, if◌then◌else◌, Option, Some, None, option_map, List, [], ◌∷◌, ◌++◌, map, filter_map, slice_index, EachIndex}
 use Rattle.std.specs.FinMap.{from_entries, entries}
 use Rattle.aig_circuit.specs.declared.edge.AigEdge.{AigEdge}
 use Rattle.aig_circuit.specs.declared.node.AigNodeType.{AigNodeType}
@@ -29,6 +29,10 @@ abbrev pub place_of : List ℕ → ℕ → ℕ
 place_of [] n = 0
 place_of (m ∷ ms) n = if m == n then 0 else place_of ms n + 1
 
+-- the new number of a node
+abbrev pub new_number : Circuit → ℕ → ℕ
+new_number c = place_of (order_of c)
+
 -- the edge to the node's new number
 abbrev pub renumbered_edge : (ℕ → ℕ) → AigEdge → AigEdge
 renumbered_edge number e = edge_to (number e.node_id) e.compl
@@ -52,7 +56,7 @@ nodes_in_order nodes number i (n ∷ ns) = record { node_id = i; typ = renumbere
 -- the circuit with its nodes in the new order; lists and names follow
 abbrev pub reencoded : Circuit → Circuit
 reencoded c =
-    let number = place_of (order_of c) in
+    let number = new_number c in
     let edges = map (renumbered_edge number) in
     record {
       nodes = nodes_in_order c.nodes number 0 (order_of c);
@@ -65,3 +69,9 @@ reencoded c =
       fairness = edges c.fairness;
       names = from_entries (map (λ entry. (number entry.0, entry.1)) (entries c.names));
     }
+
+-- inputs and then the leaves of latches are the numbers 1, 2 and so on, in their order
+abbrev pub IsPlaced : Circuit → Type 0
+IsPlaced c =
+    let leaves = c.inputs ++ latch_leaves c.latchs in
+    EachIndex leaves (λ i. slice_index leaves i ≡ i + 1)

@@ -1,7 +1,9 @@
-ghost use Rattle.std.specs.Prelude.{◌≡◌, ◌↔◌, IsTrue, Bool, true, false, not, IfSome, IsSome};
+ghost use Rattle.std.specs.Prelude.{◌≡◌, ◌↔◌, ◌<◌, ◌^◌, IsTrue, Bool, true, false, not, IfSome, IsSome};
 ghost use Rattle.std.specs.Ordering.{nat_cmp};
-ghost use Rattle.aig_circuit.specs.Edge.{edge_to, inverted_if, literal_of};
+ghost use Rattle.aig_base.specs.Clauses.{number_of_lit};
+ghost use Rattle.aig_circuit.specs.Edge.{edge_from_lit, edge_to, inverted_if, lit_of, literal_of};
 
+use aig_base::{Lit, Var};
 use std::ops::Not;
 
 /// An edge: the number of a node, and whether its value is inverted.
@@ -122,6 +124,24 @@ impl AigEdge {
         self.compl
     }
 
+    /// The edge of a literal: to the node of its variable's number, inverted as it is.
+    pub fn from_lit(lit: Lit) -> AigEdge
+        ensures { result ≡ edge_from_lit lit }
+    {
+        AigEdge {
+            node_id: usize::from(lit.var()),
+            compl: !lit.polarity(),
+        }
+    }
+
+    /// The literal of an edge: of the variable of its node's number, inverted as it is. Asks a number below 2^31.
+    pub fn to_lit(&self) -> Lit
+        requires { self.now.node_id < 2 ^ 31 }
+        ensures { result ≡ lit_of self.now }
+    {
+        Lit::new(Var::new(self.node_id), !self.compl)
+    }
+
     /// The edge to the node that `map` gives for its node, inverted as it is.
     pub fn map<M: Fn(usize) -> usize>(&self, map: &M) -> AigEdge
         requires { M.pre map.now self.now.node_id }
@@ -139,4 +159,10 @@ impl AigEdge {
 pub fn orders_by_literal()
     ensures order { (a b : AigEdge) → ⟦<AigEdge as Ord>⟧.cmp a b ≡ nat_cmp (literal_of a) (literal_of b) }
     ensures equality { (a b : AigEdge) → IsTrue (⟦<AigEdge as PartialEq>⟧.eq a b) ↔ (a ≡ b) }
+{}
+
+/// Law: the edge of an edge's literal is the edge itself, and the literal's number is that by which edges are ordered.
+pub fn keeps_edges_by_literal()
+    ensures edge { (e : AigEdge) → edge_from_lit (lit_of e) ≡ e }
+    ensures number { (e : AigEdge) → number_of_lit (lit_of e) ≡ literal_of e }
 {}

@@ -1,13 +1,11 @@
 -- Facts on each entry of a list beside those before it, over lists that are joined or seen by a key.
 use Rattle.std.proofs.Common.{◌≡◌, ◌↔◌, ℕ, ◌<◌, List, [], ◌∷◌, ◌++◌, map, sym, ap, subst, ◌∙◌, append_assoc, append-nil, arith}
-use Rattle.std.specs.Prelude.{nat_eq}
-use Rattle.std.specs.List.{AllByRecursion, IsDistinct, flat_map}
+use Rattle.std.specs.List.{AllByRecursion}
 use Rattle.std.proofs.lemmas.List.{map-append}
 use Rattle.aig_grammar.specs.Text.{Each}
 use Rattle.aig_grammar.specs.Fits.{Rises}
 use Rattle.aig_grammar.proofs.Entries.{rec_weaker, rec_append}
-use Rattle.aig_front.specs.Front.{AllAfter, IsNew}
-use Rattle.aig_front.proofs.Checked.{distinct_from_new, new_from_distinct}
+use Rattle.aig_front.specs.Front.{AllAfter}
 
 -- a text for each entry, of entries that have a fact besides
 pub each_with : {A : Type 0} (F : A → Type 0) (P : A → List ℕ → Type 0) (xs : List A) (bytes : List ℕ) → Each (λ x text. F x × P x text) xs bytes ↔ (AllByRecursion F xs × Each P xs bytes)
@@ -65,15 +63,7 @@ section_keys F key front xs =
     let same = append-nil front in
     (λ all. subst (λ b. AllAfter F b (map key xs)) same (r.0 all), λ all. r.1 (subst (λ b. AllAfter F b (map key xs)) (sym same) all))
 
--- ---- distinct numbers, and numbers that rise
-
-new_beside_none : (xs : List ℕ) → AllByRecursion (IsNew []) xs
-new_beside_none [] = tt
-new_beside_none (x ∷ xs) = (tt, new_beside_none xs)
-
--- numbers are distinct exactly if each is new beside those before it
-pub distinct_after : (xs : List ℕ) → AllAfter IsNew [] xs ↔ IsDistinct nat_eq xs
-distinct_after xs = (λ all. (distinct_from_new xs [] all).0, λ d. new_from_distinct xs [] d (new_beside_none xs))
+-- ---- numbers that rise
 
 -- above each number before it
 abbrev pub IsAbove : List ℕ → ℕ → Type 0

@@ -8,10 +8,10 @@ use Rattle.aig_grammar.specs.File.{Kind, Text, Binary, LatchLine, GateLine, Name
 use Rattle.aig_grammar.specs.Spells.{Inputs, Latch, Gate, IsHeader, Body, Placed, places, Spells}
 use Rattle.aig_front.specs.Front.{◌>>=◌, header_at, latch_at, gate_at, inputs_at, latches_at, gates_at, placed_latch_at, placed_gate_at, Parts, sections_at, body_at, tail_at, file_from, file_at}
 use Rattle.aig_front.proofs.Numbers.{bind_some}
-use Rattle.aig_front.proofs.Joined.{Begins, Reads, Reads-both, Reads-times}
+use Rattle.aig_front.proofs.Joined.{Begins, Reads, Several, Reads-both, Reads-times}
 use Rattle.aig_front.proofs.Sections.{HeaderIs, Reads-header, Reads-latch, Reads-gate, SoMany, Reads-numbers, SetsOf, Reads-sets}
 use Rattle.aig_front.proofs.Binary.{InPlaces, latch_key, gate_key, Reads-placed, Reads-placed_latch, Reads-placed_gate}
-use Rattle.aig_front.proofs.Names.{tail_sound, tail_complete}
+use Rattle.aig_front.proofs.Names.{IsTail, tail_sound, tail_complete}
 
 -- ---- places
 
@@ -29,7 +29,7 @@ places-append (suc m) n v =
     let f : v + 1 + m ≡ v + suc m = omega arith in
     ap (λ (k : ℕ). places k v) e ∙ ap (λ (xs : List ℕ). 2 * v ∷ xs) (places-append m n (v + 1) ∙ ap (λ (k : ℕ). places m (v + 1) ++ places n k) f)
 
-split_places : (xs ys : List ℕ) (n v : ℕ) → xs ++ ys ≡ places n v → (xs ≡ places (length xs) v) × (ys ≡ places (length ys) (v + length xs))
+pub split_places : (xs ys : List ℕ) (n v : ℕ) → xs ++ ys ≡ places n v → (xs ≡ places (length xs) v) × (ys ≡ places (length ys) (v + length xs))
 split_places [] ys n v h =
     let k : n ≡ length ys = sym (ap length h ∙ length-places n v) in
     let f : v ≡ v + 0 = omega arith in
@@ -50,14 +50,14 @@ InputsPart Text n xs bytes = SoMany n xs bytes
 InputsPart Binary n xs bytes = (xs ≡ places n 1) × (bytes ≡ [])
 
 abbrev pub LatchesPart : Kind → ℕ → ℕ → List LatchLine → List ℕ → Type 0
-LatchesPart Text i n ls bytes = (length ls ≡ n) × Each (Latch Text) ls bytes
+LatchesPart Text i n ls bytes = Several (Latch Text) n ls bytes
 LatchesPart Binary i n ls bytes = InPlaces latch_key (Latch Binary) n (1 + i) ls bytes
 
 abbrev pub GatesPart : Kind → ℕ → ℕ → ℕ → List GateLine → List ℕ → Type 0
-GatesPart Text i l n gs bytes = (length gs ≡ n) × Each (Gate Text) gs bytes
+GatesPart Text i l n gs bytes = Several (Gate Text) n gs bytes
 GatesPart Binary i l n gs bytes = InPlaces gate_key (Gate Binary) n (1 + i + l) gs bytes
 
-Reads-inputs : (kind : Kind) (ns : List ℕ) → Reads (InputsPart kind (slice_index ns 1)) (inputs_at kind ns)
+pub Reads-inputs : (kind : Kind) (ns : List ℕ) → Reads (InputsPart kind (slice_index ns 1)) (inputs_at kind ns)
 Reads-inputs Text ns = Reads-numbers (slice_index ns 1)
 Reads-inputs Binary ns = record {
   sound = λ bytes x h. subst (Begins (InputsPart Binary (slice_index ns 1)) bytes) (same_Some _ _ h) ([], refl, (refl, refl));
@@ -222,7 +222,11 @@ gates_back Binary xs ls gs bytes p h =
     let from : 1 + length (xs ++ map latch_key ls) ≡ 1 + length xs + length ls = omega (arith, length-append xs (map latch_key ls), length-map ls latch_key) in
     (s.1 ∙ ap (λ (n : ℕ). places n (1 + length (xs ++ map latch_key ls))) (length-map gs gate_key) ∙ ap (places (length gs)) from, h)
 
-body_from : (f : File) (bytes : List ℕ) → Body f bytes → Placed f.kind (defined f) → IsBody ((f.kind, header_of f), (f.inputs, (f.latches, (f.outputs, (f.bads, (f.constraints, (map length f.justice, (f.justice, (f.fairness, f.gates))))))))) bytes
+-- the header and the sections of a file
+abbrev pub parts_of : File → (Kind × List ℕ) × Parts
+parts_of f = ((f.kind, header_of f), (f.inputs, (f.latches, (f.outputs, (f.bads, (f.constraints, (map length f.justice, (f.justice, (f.fairness, f.gates)))))))))
+
+pub body_from : (f : File) (bytes : List ℕ) → Body f bytes → Placed f.kind (defined f) → IsBody (parts_of f) bytes
 body_from f bytes h p =
     let p1 = h.4 in let p2 = p1.4 in let p3 = p2.4 in let p4 = p3.4 in let p5 = p4.4 in let p6 = p5.4 in let p7 = p6.4 in let p8 = p7.4 in (
       h.0,
@@ -274,6 +278,14 @@ body_from f bytes h p =
       ),
     )
 
+-- a body, and names behind it, spell a file
+pub spelled : (b : (Kind × List ℕ) × Parts) (names : List NameLine) (bytes front rest : List ℕ) → bytes ≡ front ++ rest → IsBody b front → IsTail names rest → Spells (file_from b names) bytes
+spelled b names bytes front rest whole body tail = let w = body_to b names front body in record { sections = (front, rest, whole, w.0, tail); placed = w.1 }
+
+-- the parts of a file are read from each text that spells it
+pub body_read : (f : File) (bytes : List ℕ) (h : Spells f bytes) → body_at bytes ≡ Some (parts_of f, h.sections.1)
+body_read f bytes h = let w = h.sections in ap body_at w.2 ∙ Reads-body.complete (parts_of f) w.0 w.1 (body_from f w.0 w.3 h.placed)
+
 -- What is read is spelled so, and what is spelled so is read: so there is one file at most.
 pub file_sound : (bytes : List ℕ) (f : File) → file_at bytes ≡ Some f → Spells f bytes
 unfolding file_at
@@ -282,13 +294,11 @@ file_sound bytes f h =
     let c = bind_some (tail_at (suc (length b.0.1)) b.0.1) (λ names. Some (file_from b.0.0 names)) f b.2 in
     let s = Reads-body.sound bytes b.0 b.1 in
     let t = tail_sound (suc (length b.0.1)) b.0.1 c.0 c.1 in
-    let w = body_to b.0.0 c.0 s.0 s.2 in
-    subst (λ (g : File). Spells g bytes) (same_Some _ _ c.2) (record { sections = (s.0, b.0.1, s.1, w.0, t); placed = w.1 })
+    subst (λ (g : File). Spells g bytes) (same_Some _ _ c.2) (spelled b.0.0 c.0 bytes s.0 b.0.1 s.1 s.2 t)
 
 pub file_complete : (f : File) (bytes : List ℕ) → Spells f bytes → file_at bytes ≡ Some f
 unfolding file_at
 file_complete f bytes h =
     let w = h.sections in
-    let b : (Kind × List ℕ) × Parts = ((f.kind, header_of f), (f.inputs, (f.latches, (f.outputs, (f.bads, (f.constraints, (map length f.justice, (f.justice, (f.fairness, f.gates))))))))) in
-    let one : body_at bytes ≡ Some (b, w.1) = ap body_at w.2 ∙ Reads-body.complete b w.0 w.1 (body_from f w.0 w.3 h.placed) in
+    let one : body_at bytes ≡ Some (parts_of f, w.1) = body_read f bytes h in
     rw (one, tail_complete f.names (suc (length w.1)) w.1 (omega arith) w.4) refl

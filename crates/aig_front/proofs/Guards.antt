@@ -1,19 +1,22 @@
 -- What the tests of a reader say of each line, and how these facts make up those on a whole file.
-use Rattle.std.proofs.Common.{◌≡◌, ◌↔◌, ℕ, ◌+◌, ◌*◌, ◌/◌, ◌%◌, ◌<◌, ◌≤◌, Bool, not, ◌&&◌, leb, List, [], ◌∷◌, ◌++◌, length, map, refl, arith}
-use Rattle.std.specs.Prelude.{nat_eq, nat_lt, nat_le, ◌==◌}
+use Rattle.std.proofs.Common.{◌≡◌, ◌↔◌, ℕ, ◌+◌, ◌*◌, ◌/◌, ◌%◌, ◌<◌, ◌≤◌, Bool, true, false, not, ◌&&◌, ◌||◌, leb, List, [], ◌∷◌, ◌++◌, length, map, Option, Some, None, refl, arith}
+use Rattle.std.specs.Prelude.{nat_eq, nat_lt, nat_le, ◌==◌, ◌⊎◌, IfSome, IsUtf8, slice_index}
+use Rattle.std.specs.Str.{is_utf8}
 use Rattle.std.specs.Bool.{Decides}
 use Rattle.std.specs.List.{AllByRecursion, IsDistinct, list_any, list_all, flat_map}
-use Rattle.std.proofs.lemmas.Bool.{not-true, not_from_false, or_parts, or_from, leb-true, le-leb}
-use Rattle.std.proofs.lemmas.Bool.Decides.{Decides-like, Decides-and, Decides-by_and, Decides-ltb, Decides-eqb}
+use Rattle.std.proofs.lemmas.Bool.{both_ways, not-true, not_from_false, or_parts, or_from, leb-true, le-leb}
+use Rattle.std.proofs.lemmas.Bool.Decides.{Decides-like, Decides-and, Decides-or, Decides-by_and, Decides-ltb, Decides-eqb}
+use Rattle.std.proofs.lemmas.Str.{IsUtf8-from_is_utf8, is_utf8-from_IsUtf8}
 use Rattle.std.proofs.lemmas.List.Elements.{All-from_recursion, recursion_from_All}
 use Rattle.std.proofs.lemmas.List.{length-append, length-map}
-use Rattle.aig_grammar.specs.File.{LatchLine, GateLine, File, defined, used}
-use Rattle.aig_grammar.specs.Fits.{IsDefinable, IsOrdered, Rises}
-use Rattle.aig_front.specs.Front.{AllAfter, IsNew}
-use Rattle.aig_front.specs.Plain.{is_definable, defines, is_literal, tests_latch, tests_gate}
+use Rattle.aig_grammar.specs.File.{LatchLine, GateLine, NameLine, File, header_of, defined, used}
+use Rattle.aig_grammar.specs.Fits.{IsDefinable, HasReset, IsOrdered, Rises, IsNameOf, same_place}
+use Rattle.aig_front.specs.Front.{AllAfter}
+use Rattle.aig_front.proofs.Checked.{IsNew, distinct_after}
+use Rattle.aig_front.specs.Fitting.{is_definable, defines, is_literal, is_reset, has_next, tests_latch, tests_gate, count_of, is_kept, tests_name, is_good, is_within}
 use Rattle.aig_front.proofs.Binary.{latch_key, gate_key}
 use Rattle.aig_grammar.proofs.Entries.{rec_weaker, rec_both, rec_append, rec_map, rec_flat_map}
-use Rattle.aig_front.proofs.Entries.{after_weaker, after_both, after_each, after_append, section_keys, distinct_after, IsAbove, rises_after}
+use Rattle.aig_front.proofs.Entries.{after_weaker, after_both, after_each, after_append, section_keys, IsAbove, rises_after}
 
 -- ---- from tests to facts, and back
 
@@ -23,13 +26,13 @@ Decides-leb a b = (leb-true a b, le-leb a b)
 pub Decides-list_all : {A : Type 0} (p : A → Bool) (P : A → Type 0) → ((x : A) → Decides (p x) (P x)) → (xs : List A) → Decides (list_all p xs) (AllByRecursion P xs)
 Decides-list_all p P each xs = Decides-like (list_all p xs) (recursion_from_All P xs) (All-from_recursion P xs) (Decides-by_and p P (list_all p) each refl (λ _ _. refl) xs)
 
--- a number is new where none of those before it is the same
-pub Decides-new : (x : ℕ) (before : List ℕ) → Decides (not (list_any (λ y. y == x) before)) (IsNew before x)
-Decides-new x [] = (λ _. tt, λ _. refl)
-Decides-new x (y ∷ before) =
-    let d = Decides-new x before in (
-      λ e. let p = or_parts (y == x) (list_any (λ z. z == x) before) (not-true _ e) in (p.0, d.0 (not_from_false _ p.1)),
-      λ h. not_from_false _ (or_from (y == x) (list_any (λ z. z == x) before) h.0 (not-true _ (d.1 h.1))),
+-- an entry is new where none of those before it is the same
+pub Decides-new : {A : Type 0} (same : A → A → Bool) (x : A) (before : List A) → Decides (not (list_any (λ y. same y x) before)) (IsNew same before x)
+Decides-new same x [] = (λ _. tt, λ _. refl)
+Decides-new same x (y ∷ before) =
+    let d = Decides-new same x before in (
+      λ e. let p = or_parts (same y x) (list_any (λ z. same z x) before) (not-true _ e) in (p.0, d.0 (not_from_false _ p.1)),
+      λ h. not_from_false _ (or_from (same y x) (list_any (λ z. same z x) before) h.0 (not-true _ (d.1 h.1))),
     )
 
 pub Decides-definable : (greatest e : ℕ) → Decides (is_definable greatest e) (IsDefinable greatest e)
@@ -39,10 +42,10 @@ Decides-definable greatest e =
 
 -- a literal that may be defined, and that none of those before it is
 abbrev pub Defines : ℕ → List ℕ → ℕ → Type 0
-Defines greatest before e = IsDefinable greatest e × IsNew before e
+Defines greatest before e = IsDefinable greatest e × IsNew nat_eq before e
 
 pub Decides-defines : (greatest : ℕ) (before : List ℕ) (e : ℕ) → Decides (defines greatest before e) (Defines greatest before e)
-Decides-defines greatest before e = Decides-and (is_definable greatest e) (not (list_any (λ d. d == e) before)) (Decides-definable greatest e) (Decides-new e before)
+Decides-defines greatest before e = Decides-and (is_definable greatest e) (not (list_any (λ d. d == e) before)) (Decides-definable greatest e) (Decides-new nat_eq e before)
 
 -- a literal that may be used
 abbrev pub IsLiteral : ℕ → ℕ → Type 0
@@ -51,14 +54,26 @@ IsLiteral greatest e = e ≤ 2 * greatest + 1
 pub Decides-literal : (greatest e : ℕ) → Decides (is_literal greatest e) (IsLiteral greatest e)
 Decides-literal greatest e = Decides-leb e (2 * greatest + 1)
 
--- a latch defines a new literal, and its next literal may be used
+-- no reset, or 0, 1 or the latch's own literal
+Decides-reset : (own : ℕ) (reset : Option ℕ) → Decides (is_reset own reset) (IfSome reset (λ r. (r ≤ 1) ⊎ (r ≡ own)))
+Decides-reset own None = (λ _. tt, λ _. refl)
+Decides-reset own (Some r) = Decides-or (nat_le r 1) (r == own) (Decides-leb r 1) (Decides-eqb r own)
+
+-- a latch's next literal may be used, and its reset is one
+abbrev pub HasNext : ℕ → LatchLine → Type 0
+HasNext greatest l = IsLiteral greatest l.next × HasReset l
+
+pub Decides-next : (greatest : ℕ) (l : LatchLine) → Decides (has_next greatest l) (HasNext greatest l)
+Decides-next greatest l = Decides-and (is_literal greatest l.next) (is_reset l.literal l.reset) (Decides-literal greatest l.next) (Decides-reset l.literal l.reset)
+
+-- a latch defines a new literal
 abbrev pub LatchAfter : ℕ → List ℕ → List LatchLine → LatchLine → Type 0
-LatchAfter greatest inputs before l = Defines greatest (inputs ++ map latch_key before) l.literal × IsLiteral greatest l.next
+LatchAfter greatest inputs before l = Defines greatest (inputs ++ map latch_key before) l.literal × HasNext greatest l
 
 pub Decides-latch : (greatest : ℕ) (inputs : List ℕ) (before : List LatchLine) (l : LatchLine) → Decides (tests_latch greatest inputs before l) (LatchAfter greatest inputs before l)
 Decides-latch greatest inputs before l =
-    Decides-and (defines greatest (inputs ++ map latch_key before) l.literal) (is_literal greatest l.next)
-    (Decides-defines greatest (inputs ++ map latch_key before) l.literal) (Decides-literal greatest l.next)
+    Decides-and (defines greatest (inputs ++ map latch_key before) l.literal) (has_next greatest l)
+    (Decides-defines greatest (inputs ++ map latch_key before) l.literal) (Decides-next greatest l)
 
 -- a gate defines a new literal above those of the gates before it, and its operands' variables are smaller than its own
 abbrev pub GateAfter : ℕ → List ℕ → List GateLine → GateLine → Type 0
@@ -78,6 +93,48 @@ Decides-gate greatest leaves before g =
     (Decides-ltb (g.rhs0 / 2) (g.lhs / 2)))
     (Decides-ltb (g.rhs1 / 2) (g.lhs / 2)))
 
+-- a name of an input or a latch
+abbrev pub IsKept : ℕ → Type 0
+IsKept letter = (letter ≡ 105) ⊎ (letter ≡ 108)
+
+-- a test that is asked only where another holds
+Decides-where : {P Q : Type 0} (x y : Bool) → Decides x P → Decides y Q → Decides (not x || y) (P → Q)
+Decides-where true y p q = (λ e _. q.0 e, λ h. q.1 (h (p.0 refl)))
+Decides-where false y p q = (λ _ h. absurd (both_ways false refl (p.1 h)), λ _. refl)
+
+Decides-utf8 : (bytes : List ℕ) → Decides (is_utf8 bytes) (IsUtf8 bytes)
+Decides-utf8 bytes = (IsUtf8-from_is_utf8 bytes, is_utf8-from_IsUtf8 bytes)
+
+-- a name stands below its section's count, none of those before it is for its place, and it is UTF-8 if it is kept
+abbrev pub NameAfter : List ℕ → List NameLine → NameLine → Type 0
+NameAfter ns before n = (n.position < count_of ns n.letter) × IsNew same_place before n × (IsKept n.letter → IsUtf8 n.name)
+
+pub Decides-name : (ns : List ℕ) (before : List NameLine) (n : NameLine) → Decides (tests_name ns before n) (NameAfter ns before n)
+Decides-name ns before n =
+    let is_below = nat_lt n.position (count_of ns n.letter) in
+    let is_new = not (list_any (λ m. same_place m n) before) in
+    let is_text = not (is_kept n.letter) || is_utf8 n.name in
+    Decides-like (is_below && is_new && is_text) (λ h. (h.0.0, h.0.1, h.1)) (λ h. ((h.0, h.1), h.2))
+    (Decides-and (is_below && is_new) is_text
+    (Decides-and is_below is_new (Decides-ltb n.position (count_of ns n.letter)) (Decides-new same_place n before))
+    (Decides-where (is_kept n.letter) (is_utf8 n.name)
+    (Decides-or (n.letter == 105) (n.letter == 108) (Decides-eqb n.letter 105) (Decides-eqb n.letter 108))
+    (Decides-utf8 n.name)))
+
+-- M = I + L + A
+abbrev pub IsGood : List ℕ → Type 0
+IsGood ns = slice_index ns 0 ≡ slice_index ns 1 + slice_index ns 2 + slice_index ns 4
+
+-- M + 1 is within the limit
+abbrev pub IsWithin : ℕ → List ℕ → Type 0
+IsWithin limit ns = slice_index ns 0 + 1 ≤ limit
+
+Decides-good : (ns : List ℕ) → Decides (is_good ns) (IsGood ns)
+Decides-good ns = Decides-eqb (slice_index ns 0) (slice_index ns 1 + slice_index ns 2 + slice_index ns 4)
+
+pub Decides-good_within : (limit : ℕ) (ns : List ℕ) → Decides (is_good ns && is_within limit ns) (IsGood ns × IsWithin limit ns)
+Decides-good_within limit ns = Decides-and (is_good ns) (is_within limit ns) (Decides-good ns) (Decides-leb (slice_index ns 0 + 1) limit)
+
 -- ---- from the facts on lines to the facts on a file, and back
 
 -- literals that are each defined anew are all definable, and distinct
@@ -86,9 +143,9 @@ defined_anew greatest literals =
     let F : List ℕ → ℕ → Type 0 = λ _. IsDefinable greatest in (
       λ all. (
         (after_each (IsDefinable greatest) literals []).0 (after_weaker (Defines greatest) F (λ b x h. h.0) literals [] all),
-        (distinct_after literals).0 (after_weaker (Defines greatest) IsNew (λ b x h. h.1) literals [] all),
+        (distinct_after nat_eq literals).0 (after_weaker (Defines greatest) (IsNew nat_eq) (λ b x h. h.1) literals [] all),
       ),
-      λ h. after_both F IsNew literals [] ((after_each (IsDefinable greatest) literals []).1 h.0) ((distinct_after literals).1 h.1),
+      λ h. after_both F (IsNew nat_eq) literals [] ((after_each (IsDefinable greatest) literals []).1 h.0) ((distinct_after nat_eq literals).1 h.1),
     )
 
 -- a fact on each literal of a file beside those before it, section by section
@@ -165,16 +222,16 @@ operands_in_range greatest g d o = let high = d.2 in let first = o.0 in let seco
 -- the facts on latches by lines, and on them all
 pub latches_by_line : (greatest : ℕ) (inputs : List ℕ) (latches : List LatchLine)
     → AllAfter (LatchAfter greatest inputs) [] latches ↔ (AllAfter (λ b l. Defines greatest (inputs ++ map latch_key b) l.literal) [] latches
-    × AllByRecursion (λ l. IsLiteral greatest l.next) latches)
+    × AllByRecursion (HasNext greatest) latches)
 latches_by_line greatest inputs latches =
     let Anew : List LatchLine → LatchLine → Type 0 = λ b l. Defines greatest (inputs ++ map latch_key b) l.literal in
-    let Used : LatchLine → Type 0 = λ l. IsLiteral greatest l.next in
-    let used = after_each Used latches [] in (
+    let Next : LatchLine → Type 0 = HasNext greatest in
+    let next = after_each Next latches [] in (
       λ all. (
         after_weaker (LatchAfter greatest inputs) Anew (λ b l h. h.0) latches [] all,
-        used.0 (after_weaker (LatchAfter greatest inputs) (λ _. Used) (λ b l h. h.1) latches [] all),
+        next.0 (after_weaker (LatchAfter greatest inputs) (λ _. Next) (λ b l h. h.1) latches [] all),
       ),
-      λ h. after_both Anew (λ _. Used) latches [] h.0 (used.1 h.1),
+      λ h. after_both Anew (λ _. Next) latches [] h.0 (next.1 h.1),
     )
 
 -- the facts on gates by lines, and on them all
@@ -211,3 +268,14 @@ length-defined f =
     let latches = map latch_key f.latches in
     let gates = map gate_key f.gates in
     omega (arith, length-append (f.inputs ++ latches) gates, length-append f.inputs latches, length-map f.latches latch_key, length-map f.gates gate_key)
+
+-- the facts on names by lines, and on them all
+pub names_by_line : (f : File) → AllAfter (NameAfter (header_of f)) [] f.names ↔ (AllByRecursion (IsNameOf f) f.names × IsDistinct same_place f.names)
+names_by_line f =
+    let After : List NameLine → NameLine → Type 0 = NameAfter (header_of f) in
+    let New : List NameLine → NameLine → Type 0 = IsNew same_place in
+    let named = after_each (IsNameOf f) f.names [] in
+    let distinct = distinct_after same_place f.names in (
+      λ all. (named.0 (after_weaker After (λ _. IsNameOf f) (λ b n h. (h.0, h.2)) f.names [] all), distinct.0 (after_weaker After New (λ b n h. h.1) f.names [] all)),
+      λ h. after_weaker (λ b n. IsNameOf f n × New b n) After (λ b n k. (k.0.0, k.1, k.0.1)) f.names [] (after_both (λ _. IsNameOf f) New f.names [] (named.1 h.0) (distinct.1 h.1)),
+    )

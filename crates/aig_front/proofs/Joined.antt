@@ -50,15 +50,19 @@ Reads-both {A} {B} P Q p q hp hq = record {
       rw (same, hp.complete xy.0 h.0 (h.1 ++ rest) h.3, (hq xy.0).complete xy.1 h.1 rest h.4) refl;
 }
 
+-- a value with a fact, and a text of it
+abbrev pub With : {A : Type 0} → (A → Type 0) → (A → List ℕ → Type 0) → A → List ℕ → Type 0
+With F P x bytes = F x × P x bytes
+
 -- with a test
 pub Reads-tested : {A : Type 0} (P : A → List ℕ → Type 0) (F : A → Type 0) (p : List ℕ → Option (A × List ℕ)) (test : A → Bool)
-    → Reads P p → ((x : A) → test x ≡ true → F x) → ((x : A) → F x → test x ≡ true) → Reads (λ x bytes. F x × P x bytes) (tested_at p test)
+    → Reads P p → ((x : A) → test x ≡ true → F x) → ((x : A) → F x → test x ≡ true) → Reads (With F P) (tested_at p test)
 Reads-tested P F p test hp to from = record {
   sound = λ bytes x h.
       let b = bind_some (p bytes) (λ y. cond (test y.0) (Some y) None) x h in
       let g = cond_some (test b.0.0) b.0 x b.2 in
       let s = hp.sound bytes b.0 b.1 in
-      subst (Begins (λ x bytes. F x × P x bytes) bytes) g.1 (s.0, s.1, (to b.0.0 g.0, s.2));
+      subst (Begins (With F P) bytes) g.1 (s.0, s.1, (to b.0.0 g.0, s.2));
   complete = λ x front rest h. rw (hp.complete x front rest h.1, from x h.0) refl;
 }
 
@@ -73,17 +77,21 @@ Reads-mapped P Q p f g hp to from back = record {
   complete = λ y front rest h. rw (hp.complete (g y) front rest (from y front h), back y) refl;
 }
 
+-- n entries, with a text for each
+abbrev pub Several : {A : Type 0} → (A → List ℕ → Type 0) → ℕ → List A → List ℕ → Type 0
+Several P n xs bytes = (length xs ≡ n) × Each P xs bytes
+
 -- n times
 pub times_sound : {A : Type 0} (P : A → List ℕ → Type 0) (p : List ℕ → Option (A × List ℕ)) → Reads P p
-    → (n : ℕ) (bytes : List ℕ) (x : List A × List ℕ) → times_at p n bytes ≡ Some x → Begins (λ xs front. (length xs ≡ n) × Each P xs front) bytes x
-times_sound {A} P p hp zero bytes x h = subst (Begins (λ xs front. (length xs ≡ 0) × Each P xs front) bytes) (same_Some _ _ h) ([], refl, (refl, refl))
+    → (n : ℕ) (bytes : List ℕ) (x : List A × List ℕ) → times_at p n bytes ≡ Some x → Begins (Several P n) bytes x
+times_sound {A} P p hp zero bytes x h = subst (Begins (Several P 0) bytes) (same_Some _ _ h) ([], refl, (refl, refl))
 times_sound {A} P p hp (suc n) bytes x h =
     let b = bind_some (p bytes) (λ x. times_at p n x.1 >>= λ xs. Some (x.0 ∷ xs.0, xs.1)) x h in
     let c = bind_some (times_at p n b.0.1) (λ xs. Some (b.0.0 ∷ xs.0, xs.1)) x b.2 in
     let s = hp.sound bytes b.0 b.1 in
     let t = times_sound P p hp n b.0.1 c.0 c.1 in
     let whole : bytes ≡ (s.0 ++ t.0) ++ c.0.1 = s.1 ∙ ap (λ (xs : List ℕ). s.0 ++ xs) t.1 ∙ sym (append_assoc s.0 t.0 c.0.1) in
-    subst (Begins (λ xs front. (length xs ≡ suc n) × Each P xs front) bytes) (same_Some _ _ c.2) (s.0 ++ t.0, whole, (ap suc t.2.0, (s.0, t.0, refl, s.2, t.2.1)))
+    subst (Begins (Several P (suc n)) bytes) (same_Some _ _ c.2) (s.0 ++ t.0, whole, (ap suc t.2.0, (s.0, t.0, refl, s.2, t.2.1)))
 
 pub times_complete : {A : Type 0} (P : A → List ℕ → Type 0) (p : List ℕ → Option (A × List ℕ)) → Reads P p
     → (xs : List A) (front rest : List ℕ) → Each P xs front → times_at p (length xs) (front ++ rest) ≡ Some (xs, rest)
@@ -92,7 +100,7 @@ times_complete P p hp (x ∷ xs) front rest h =
     let same : front ++ rest ≡ h.0 ++ (h.1 ++ rest) = ap (λ (ys : List ℕ). ys ++ rest) h.2 ∙ append_assoc h.0 h.1 rest in
     rw (same, hp.complete x h.0 (h.1 ++ rest) h.3, times_complete P p hp xs h.1 rest h.4) refl
 
-pub Reads-times : {A : Type 0} (P : A → List ℕ → Type 0) (p : List ℕ → Option (A × List ℕ)) (n : ℕ) → Reads P p → Reads (λ xs front. (length xs ≡ n) × Each P xs front) (times_at p n)
+pub Reads-times : {A : Type 0} (P : A → List ℕ → Type 0) (p : List ℕ → Option (A × List ℕ)) (n : ℕ) → Reads P p → Reads (Several P n) (times_at p n)
 Reads-times P p n hp = record {
   sound = times_sound P p hp n;
   complete = λ xs front rest h. ap (λ (k : ℕ). times_at p k (front ++ rest)) (sym h.0) ∙ times_complete P p hp xs front rest h.1;

@@ -5,13 +5,13 @@ pub mod Sections
 pub mod Names
 pub mod Binary
 pub mod Files
-pub mod Rows
 pub mod Printed
 pub mod Law
 pub mod TooManyAt
 pub mod Checked
 pub mod Entries
 pub mod Guards
-pub mod PlainFiles
-pub mod PlainSpelled
-pub mod PlainRows
+pub mod FittingLines
+pub mod FittingTail
+pub mod FittingFiles
+pub mod Rows

@@ -11,6 +11,10 @@ use Rattle.aig_front.proofs.Joined.{Begins, Reads}
 abbrev pub IsShortLine : ℕ → List ℕ → List ℕ → Type 0
 IsShortLine k ns bytes = (length ns ≤ k) × IsLine ns bytes
 
+pub cond_then : {A : Type 0} (b : Bool) (o : Option A) (x : A) → cond b o None ≡ Some x → (b ≡ true) × (o ≡ Some x)
+cond_then true o x h = (refl, h)
+cond_then false o x h = absurd cc
+
 line_more : (n : ℕ) (ns first rest : List ℕ) → Ended 32 n first → IsLine ns rest → IsLine (n ∷ ns) (first ++ rest)
 line_more n [] first rest e h = absurd h
 line_more n (m ∷ ns) first rest e h = (first, rest, refl, e, h)
@@ -20,7 +24,7 @@ abbrev after : ℕ → (ℕ × ℕ) × List ℕ → Option (List ℕ × List ℕ
 after k n = cond (eqb n.0.1 10) (Some (n.0.0 ∷ [], n.1)) (cond (eqb n.0.1 32) (line_at k n.1 >>= λ ns. Some (n.0.0 ∷ ns.0, ns.1)) None)
 
 -- the bytes of a number and of the byte that ends it
-taken_front : (bytes : List ℕ) (n e end : ℕ) (rest : List ℕ) → e ≡ end → Taken bytes n e rest → (front : List ℕ) × (bytes ≡ front ++ rest) × Ended end n front
+pub taken_front : (bytes : List ℕ) (n e end : ℕ) (rest : List ℕ) → e ≡ end → Taken bytes n e rest → (front : List ℕ) × (bytes ≡ front ++ rest) × Ended end n front
 taken_front bytes n e end rest is t =
     (t.digits ++ end ∷ [], t.whole ∙ ap (λ (k : ℕ). t.digits ++ k ∷ rest) is ∙ sym (append_assoc t.digits (end ∷ []) rest), (t.digits, end ∷ [], refl, t.is, refl))
 
@@ -42,21 +46,17 @@ line_sound (suc k) bytes x h =
           let whole : bytes ≡ (f.0 ++ r.0) ++ c.0.1 = f.1 ∙ ap (λ (xs : List ℕ). f.0 ++ xs) r.1 ∙ sym (append_assoc f.0 r.0 c.0.1) in
           subst (Begins (IsShortLine (suc k)) bytes) (same_Some _ _ c.2) (f.0 ++ r.0, whole, (omega (arith, r.2.0), line_more b.0.0.0 c.0.0 f.0 r.0 f.2 r.2.1))
     ]
-  where
-    cond_then : {A : Type 0} (b : Bool) (o : Option A) (x : A) → cond b o None ≡ Some x → (b ≡ true) × (o ≡ Some x)
-    cond_then true o x h = (refl, h)
-    cond_then false o x h = absurd cc
 
 -- a number at the front
-number_again : (end n : ℕ) (front rest : List ℕ) → (IsDigit end → ⊥) → Ended end n front → number_at (front ++ rest) ≡ Some ((n, end), rest)
+pub number_again : (end n : ℕ) (front rest : List ℕ) → (IsDigit end → ⊥) → Ended end n front → number_at (front ++ rest) ≡ Some ((n, end), rest)
 number_again end n front rest ends h =
     let same : front ++ rest ≡ h.0 ++ end ∷ rest = ap (λ (xs : List ℕ). xs ++ rest) (h.2 ∙ ap (λ (xs : List ℕ). h.0 ++ xs) h.4) ∙ append_assoc h.0 (end ∷ []) rest in
     rw (same, number_complete h.0 n end rest h.3 ends) refl
 
-not_10 : IsDigit 10 → ⊥
+pub not_10 : IsDigit 10 → ⊥
 not_10 h = omega arith
 
-not_32 : IsDigit 32 → ⊥
+pub not_32 : IsDigit 32 → ⊥
 not_32 h = omega arith
 
 pub line_complete : (k : ℕ) (ns front rest : List ℕ) → IsShortLine k ns front → line_at k (front ++ rest) ≡ Some (ns, rest)

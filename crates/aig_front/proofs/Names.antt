@@ -86,7 +86,7 @@ digits_go_on letter [] more some each = absurd (some refl)
 digits_go_on letter (d ∷ ds) more some each = rw (true_digit d each.0) (and_false (eqb letter 99))
 
 -- a name line is no comment, and has some bytes
-name_goes_on : (n : NameLine) (front rest : List ℕ) → Name n front → is_comment (front ++ rest) ≡ false
+pub name_goes_on : (n : NameLine) (front rest : List ℕ) → Name n front → is_comment (front ++ rest) ≡ false
 name_goes_on n front rest h =
     let w = h.2 in
     let e = w.4.3 in
@@ -97,7 +97,7 @@ name_goes_on n front rest h =
     ap (λ (xs : List ℕ). xs ++ rest) (w.2 ∙ ap (λ (xs : List ℕ). xs ++ w.1) w.3) ∙ ap (λ (xs : List ℕ). n.letter ∷ xs) inner in
     ap is_comment same ∙ digits_go_on n.letter e.0 more e.3.some e.3.each
 
-name_is_some : (n : NameLine) (front : List ℕ) → Name n front → 0 < length front
+pub name_is_some : (n : NameLine) (front : List ℕ) → Name n front → 0 < length front
 name_is_some n front h =
     let w = h.2 in
     let same : front ≡ n.letter ∷ w.1 = w.2 ∙ ap (λ (xs : List ℕ). xs ++ w.1) w.3 in

@@ -1,3 +1,3 @@
 pub mod Front
-pub mod Plain
+pub mod Fitting
 pub mod Writable

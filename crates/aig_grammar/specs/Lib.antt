@@ -6,4 +6,5 @@ pub mod Machine
 pub mod Written
 pub mod Circuit
 pub mod Rows
-pub mod Plain
+pub mod Writable
+pub mod Kinds

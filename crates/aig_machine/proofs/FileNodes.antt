@@ -30,6 +30,10 @@ length-nodes_from f (suc n) v = ap suc (length-nodes_from f n (v + 1))
 pub length-nodes : (f : File) → length (nodes_of f) ≡ length (defined f) + 1
 length-nodes f = length-nodes_from f (length (defined f) + 1) 0
 
+-- the limit of a file that fits is on its circuit's nodes
+pub few_nodes : (f : File) (limit : ℕ) → Fits f limit → length (nodes_of f) ≤ limit
+few_nodes f limit fits = omega (arith, length-nodes f, fits.exact, fits.within)
+
 kind_at-nodes_from : (f : File) (n v i : ℕ) → i < n → kind_at (nodes_from f n v) i ≡ Some (kind_of f (v + i))
 kind_at-nodes_from f zero v i h = absurd (omega arith)
 kind_at-nodes_from f (suc n) v zero h = let e : v ≡ v + 0 = omega arith in ap (λ k. Some (kind_of f k)) e

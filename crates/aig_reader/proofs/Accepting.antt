@@ -1,25 +1,27 @@
 -- What the answer of a reading call tells of the bytes, by the laws of readers on lists.
-use Rattle.std.proofs.Common.{◌≡◌, ◌↔◌, ℕ, zero, suc, ◌+◌, true, List, [], ◌∷◌, ◌++◌, length, Option, Some, None, Result, Ok, Err, IfSome, IsErrOf, refl, sym, ap, subst, ◌∙◌, append_assoc}
+use Rattle.std.proofs.Common.{◌≡◌, ◌≢◌, ◌↔◌, ℕ, zero, suc, ◌+◌, ◌/◌, true, List, [], ◌∷◌, ◌++◌, length, map, slice_index, Option, Some, None, Result, Ok, Err, IfSome, IsErrOf, refl, sym, ap, subst, ◌∙◌, append_assoc}
 use Rattle.std.specs.Io.KnownBytes.{Consumes, IsAtEnd}
 use Rattle.std.proofs.KnownBytes.{Consumes-trans, Consumes-whole}
-use Rattle.aig_grammar.specs.File.{File, defined}
-use Rattle.aig_grammar.specs.Circuit.{circuit_of, nodes_from}
-use Rattle.aig_grammar.specs.Plain.{AcceptsPlain}
-use Rattle.aig_front.proofs.PlainFiles.{plain_sound, plain_complete}
-use Rattle.aig_front.proofs.PlainSpelled.{too_many_plain_exact}
-use Rattle.aig_front.specs.Front.{◌>>=◌}
-use Rattle.aig_front.specs.Plain.{PlainParts, at_end, plain_at, plain_body_at, plain_file, plain_sections_at, too_many_plain_at}
+use Rattle.aig_grammar.specs.File.{Kind, NameLine, File, defined}
+use Rattle.aig_grammar.specs.Fits.{Accepts}
+use Rattle.aig_front.proofs.FittingFiles.{fitting_sound, fitting_complete}
+use Rattle.aig_front.proofs.TooManyAt.{too_many_exact}
+use Rattle.aig_front.specs.Front.{◌>>=◌, Parts, file_from, too_many_at}
+use Rattle.aig_front.specs.Fitting.{fitting_at, fitting_body_at, fitting_header_at, fitting_sections_at, fitting_tail_at}
+use Rattle.aig_circuit.specs.declared.view.CircuitLists.{CircuitLists}
+use Rattle.aig_names.specs.Names.{tail_of}
 use Rattle.aig_reader.specs.declared.error.ReadError.{ReadError}
 use Rattle.aig_reader.specs.declared.error.ReadError.TheVariants as errors
-use Rattle.aig_reader.specs.declared.lists.CircuitLists.{CircuitLists}
-use Rattle.aig_reader.specs.Circuits.{AreListsOf, lists_circuit}
 use Rattle.aig_reader.specs.Faults.{IsSectionFault, OnRefusal}
-use Rattle.aig_reader.specs.Lists.{with_gates}
 use Rattle.aig_reader.specs.Reading.{ReadsExactly, UnlessInterrupted}
-use Rattle.aig_reader.specs.Takes.{Takes, Misses}
-use Rattle.aig_reader.specs.Words.{good_header_at}
-use Rattle.aig_reader.proofs.Going.{known_after}
-use Rattle.aig_reader.proofs.Taking.{misses_either, misses_both}
+use Rattle.aig_lexer.specs.Takes.{Takes, Misses}
+use Rattle.aig_reader.proofs.Body.{on_refusal-weaker}
+use Rattle.aig_lexer.proofs.Going.{known_rest}
+use Rattle.aig_lexer.proofs.Taking.{misses_either, misses_both}
+
+-- the kind, the header's numbers, and the sections behind them
+abbrev pub Body : Type 0
+Body = (Kind × List ℕ) × Parts
 
 -- ---- refusals
 
@@ -29,7 +31,7 @@ fault T e = Err e
 
 -- the fault is TooMany exactly where the header line passes the limit
 abbrev TellsTooMany : ℕ → ReadError → List ℕ → Type 0
-TellsTooMany limit e bytes = (e ≡ errors.TooMany) ↔ (too_many_plain_at limit bytes ≡ true)
+TellsTooMany limit e bytes = (e ≡ errors.TooMany) ↔ (too_many_at limit bytes ≡ true)
 
 same_fault : (T : Type 0) (e : ReadError) → IsErrOf (fault T e) errors.TooMany → e ≡ errors.TooMany
 same_fault T e h = cc
@@ -37,10 +39,10 @@ same_fault T e h = cc
 told : (T : Type 0) (e : ReadError) (P : Type 0) → IsErrOf (fault T e) errors.TooMany ↔ P → (e ≡ errors.TooMany) ↔ P
 told T e P h = (λ is. h.0 (ap (fault T) is), λ p. same_fault T e (h.1 p))
 
-refuses : (limit : ℕ) (bytes : List ℕ) (e : ReadError) → plain_at limit bytes ≡ None → TellsTooMany limit e bytes → ReadsExactly (fault CircuitLists e) bytes limit
+refuses : (limit : ℕ) (bytes : List ℕ) (e : ReadError) → fitting_at limit bytes ≡ None → TellsTooMany limit e bytes → ReadsExactly (fault CircuitLists e) bytes limit
 refuses limit bytes e none tells = record {
-  accepted = (λ ok. absurd cc, λ w. let same = sym none ∙ plain_complete limit bytes w.0 w.1 in absurd cc);
-  too_many = (λ h. (too_many_plain_exact limit bytes).0 (tells.0 (same_fault CircuitLists e h)), λ h. ap (fault CircuitLists) (tells.1 ((too_many_plain_exact limit bytes).1 h)));
+  accepted = (λ ok. absurd cc, λ w. let same = sym none ∙ fitting_complete limit bytes w.0 w.1 in absurd cc);
+  too_many = (λ h. (too_many_exact bytes limit).0 (tells.0 (same_fault CircuitLists e h)), λ h. ap (fault CircuitLists) (tells.1 ((too_many_exact bytes limit).1 h)));
 }
 
 -- a fault that refuses, with what it tells
@@ -55,98 +57,99 @@ refusal T U errors.Delta P Q R f h k = f h k
 refusal T U errors.Name P Q R f h k = f h k
 refusal T U errors.Open P Q R f h k = f h k
 
+always : (T : Type 0) (e : ReadError) → UnlessInterrupted (fault T e) (Unit {0})
+always T errors.Memory = tt
+always T errors.Stream = tt
+always T errors.Header = tt
+always T errors.TooMany = tt
+always T (errors.Syntax s) = tt
+always T (errors.Literal s) = tt
+always T errors.Delta = tt
+always T errors.Name = tt
+always T errors.Open = tt
+
 -- what is said of an answer where the bytes are known
 abbrev pub ReadsKnown : Result CircuitLists ReadError → ℕ → Option (List ℕ) → Type 0
 ReadsKnown result limit before = IfSome before (λ bytes. UnlessInterrupted result (ReadsExactly result bytes limit))
 
-abbrev file_of_body : (List ℕ × PlainParts) × List ℕ → Option File
-file_of_body b = at_end (plain_file b.0) b.1
+-- what stands behind the body, read as names
+abbrev with_names : Body × List ℕ → Option File
+with_names b = tail_of b.0.0.1 b.1 >>= λ names. Some (file_from b.0 names)
 
-no_file : (limit : ℕ) (bytes : List ℕ) → plain_body_at limit bytes ≡ None → plain_at limit bytes ≡ None
-unfolding plain_at
-no_file limit bytes h = ap (λ (o : Option ((List ℕ × PlainParts) × List ℕ)). o >>= file_of_body) h
+file_is : (limit : ℕ) (bytes : List ℕ) → fitting_at limit bytes ≡ (fitting_body_at limit bytes >>= with_names)
+unfolding fitting_at
+file_is limit bytes = refl
+
+no_file : (limit : ℕ) (bytes : List ℕ) → fitting_body_at limit bytes ≡ None → fitting_at limit bytes ≡ None
+no_file limit bytes h = file_is limit bytes ∙ ap (λ (o : Option (Body × List ℕ)). o >>= with_names) h
+
+-- the sections, by what the header line says
+abbrev pub sections_of : Kind × List ℕ → List ℕ → Option (Parts × List ℕ)
+sections_of h = fitting_sections_at h.0 h.1
 
 -- the header is refused
-pub refused_header : (T : Type 0) (limit : ℕ) (before : Option (List ℕ)) (e : ReadError) → OnRefusal e (Misses (good_header_at limit) before)
-    → IfSome before (λ bytes. UnlessInterrupted (fault T e) (IsErrOf (fault T e) errors.TooMany ↔ (too_many_plain_at limit bytes ≡ true))) → ReadsKnown (fault CircuitLists e) limit before
+pub refused_header : (T : Type 0) (limit : ℕ) (before : Option (List ℕ)) (e : ReadError) → OnRefusal e (Misses (fitting_header_at limit) before)
+    → IfSome before (λ bytes. UnlessInterrupted (fault T e) (IsErrOf (fault T e) errors.TooMany ↔ (too_many_at limit bytes ≡ true))) → ReadsKnown (fault CircuitLists e) limit before
 refused_header T limit None e h k = tt
 refused_header T limit (Some bytes) e h k =
-    refusal T CircuitLists e (good_header_at limit bytes ≡ None) (IsErrOf (fault T e) errors.TooMany ↔ (too_many_plain_at limit bytes ≡ true)) (ReadsExactly (fault CircuitLists e) bytes limit)
-    (λ none tells. refuses limit bytes e (no_file limit bytes (misses_either (good_header_at limit) plain_sections_at (Some bytes) none)) (told T e _ tells)) h k
+    refusal T CircuitLists e (fitting_header_at limit bytes ≡ None) (IsErrOf (fault T e) errors.TooMany ↔ (too_many_at limit bytes ≡ true)) (ReadsExactly (fault CircuitLists e) bytes limit)
+    (λ none tells. refuses limit bytes e (no_file limit bytes (misses_either (fitting_header_at limit) sections_of (Some bytes) none)) (told T e _ tells)) h k
 
 -- a header that was taken is not too large
-abbrev NotTooMany : ℕ → List ℕ → Type 0
-NotTooMany limit bytes = too_many_plain_at limit bytes ≡ true → ⊥
-
 not_too_many : (T : Type 0) (x : T) (P : Type 0) → ◌≡◌ {A = Result T ReadError} (Ok x) (Err errors.TooMany) ↔ P → P → ⊥
 not_too_many T x P h p = let same = h.1 p in absurd cc
 
-pub section_fault : (e : ReadError) → IsSectionFault e → e ≡ errors.TooMany → ⊥
+pub section_fault : (e : ReadError) → IsSectionFault e → e ≢ errors.TooMany
 section_fault e h is = subst IsSectionFault is h
 
+-- where a header was taken and no file is read, a fault that isn't TooMany is told
+refused_behind : (T : Type 0) (header : T) (limit : ℕ) (before : Option (List ℕ)) (e : ReadError) → OnRefusal e (IfSome before (λ bytes. fitting_at limit bytes ≡ None)) → e ≢ errors.TooMany
+    → IfSome before (λ bytes. ◌≡◌ {A = Result T ReadError} (Ok header) (Err errors.TooMany) ↔ (too_many_at limit bytes ≡ true)) → ReadsKnown (fault CircuitLists e) limit before
+refused_behind T header limit None e h other k = tt
+refused_behind T header limit (Some bytes) e h other k =
+    refusal CircuitLists CircuitLists e (fitting_at limit bytes ≡ None) (Unit {0}) (ReadsExactly (fault CircuitLists e) bytes limit)
+    (λ none t. refuses limit bytes e none (λ is. absurd (other is), λ p. absurd (not_too_many T header _ k p))) h (always CircuitLists e)
+
+no_files : (limit : ℕ) (before : Option (List ℕ)) → Misses (fitting_body_at limit) before → IfSome before (λ bytes. fitting_at limit bytes ≡ None)
+no_files limit None h = tt
+no_files limit (Some bytes) h = no_file limit bytes h
+
 -- a section is refused
-pub refused_section : (T : Type 0) (header : T) (limit : ℕ) (before m : Option (List ℕ)) (ns : List ℕ) (e : ReadError) → Takes (good_header_at limit) before m ns → OnRefusal e (Misses (plain_sections_at ns) m) → (e ≡ errors.TooMany → ⊥)
-    → IfSome before (λ bytes. ◌≡◌ {A = Result T ReadError} (Ok header) (Err errors.TooMany) ↔ (too_many_plain_at limit bytes ≡ true)) → ReadsKnown (fault CircuitLists e) limit before
-refused_section T header limit None m ns e taken h other k = tt
-refused_section T header limit (Some bytes) m ns e taken h other k =
-    refusal CircuitLists CircuitLists e (Misses (plain_sections_at ns) m) (Unit {0}) (ReadsExactly (fault CircuitLists e) bytes limit)
-    (λ none t. refuses limit bytes e (no_file limit bytes (misses_both (good_header_at limit) plain_sections_at (Some bytes) m ns taken none)) (λ is. absurd (other is), λ p. absurd (not_too_many T header _ k p)))
-    h (always e)
-  where
-    always : (e : ReadError) → UnlessInterrupted (fault CircuitLists e) (Unit {0})
-    always errors.Memory = tt
-    always errors.Stream = tt
-    always errors.Header = tt
-    always errors.TooMany = tt
-    always (errors.Syntax s) = tt
-    always (errors.Literal s) = tt
-    always errors.Delta = tt
-    always errors.Name = tt
-    always errors.Open = tt
+pub refused_section : (T : Type 0) (header : T) (limit : ℕ) (before m : Option (List ℕ)) (h : Kind × List ℕ) (e : ReadError) → Takes (fitting_header_at limit) before m h → OnRefusal e (Misses (sections_of h) m) → e ≢ errors.TooMany
+    → IfSome before (λ bytes. ◌≡◌ {A = Result T ReadError} (Ok header) (Err errors.TooMany) ↔ (too_many_at limit bytes ≡ true)) → ReadsKnown (fault CircuitLists e) limit before
+refused_section T header limit before m h e taken missed other k =
+    refused_behind T header limit before e
+    (on_refusal-weaker e _ _ (λ (none : Misses (sections_of h) m). no_files limit before (misses_both (fitting_header_at limit) sections_of before m h taken none)) missed) other k
+
+-- the names are refused
+pub refused_names : (T : Type 0) (header : T) (limit : ℕ) (before m : Option (List ℕ)) (body : Body) (e : ReadError) → Takes (fitting_body_at limit) before m body → OnRefusal e (IfSome m (λ bytes. tail_of body.0.1 bytes ≡ None)) → e ≢ errors.TooMany
+    → IfSome before (λ bytes. ◌≡◌ {A = Result T ReadError} (Ok header) (Err errors.TooMany) ↔ (too_many_at limit bytes ≡ true)) → ReadsKnown (fault CircuitLists e) limit before
+refused_names T header limit before m body e taken missed other k =
+    refused_behind T header limit before e
+    (on_refusal-weaker e _ _
+    (λ (none : IfSome m (λ bytes. tail_of body.0.1 bytes ≡ None)).
+    known_rest before m taken.taken (λ bytes. fitting_at limit bytes ≡ None) (λ bytes. tail_of body.0.1 bytes ≡ None) taken.consumed none
+    (λ rest no. file_is limit (taken.taken ++ rest) ∙ ap (λ (o : Option (Body × List ℕ)). o >>= with_names) (taken.reads rest) ∙ ap (λ (o : Option (List NameLine)). o >>= λ names. Some (file_from body names)) no)) missed) other k
+
+-- ---- acceptance
+
+-- the file that was read
+pub accepted : (limit : ℕ) (before m : Option (List ℕ)) (body : Body) (h : Takes (fitting_body_at limit) before m body) (names : List NameLine) (tail : List ℕ) → tail_of body.0.1 tail ≡ Some names → Accepts (h.taken ++ tail) limit (file_from body names)
+accepted limit before m body h names tail is =
+    fitting_sound limit (h.taken ++ tail) (file_from body names)
+    (file_is limit (h.taken ++ tail) ∙ ap (λ (o : Option (Body × List ℕ)). o >>= with_names) (h.reads tail) ∙ ap (λ (o : Option (List NameLine)). o >>= λ ns. Some (file_from body ns)) is)
 
 -- two facts of known bytes
 both_known : (before : Option (List ℕ)) (P Q R : List ℕ → Type 0) → IfSome before P → IfSome before Q → ((bytes : List ℕ) → P bytes → Q bytes → R bytes) → IfSome before R
 both_known None P Q R p q f = tt
 both_known (Some bytes) P Q R p q f = f bytes p q
 
-rest_none : (limit : ℕ) (before m : Option (List ℕ)) (body : List ℕ × PlainParts) (b : ℕ) → (h : Takes (plain_body_at limit) before m body) → (rest : List ℕ) → plain_at limit ((h.taken ++ b ∷ []) ++ rest) ≡ None
-unfolding plain_at
-rest_none limit before m body b h rest =
-    ap (λ (bs : List ℕ). plain_body_at limit bs >>= file_of_body) (append_assoc h.taken (b ∷ []) rest) ∙ ap (λ (o : Option ((List ℕ × PlainParts) × List ℕ)). o >>= file_of_body) (h.reads (b ∷ rest))
-
--- something stands behind the gates
-pub refused_rest : (T : Type 0) (header : T) (limit : ℕ) (before m after : Option (List ℕ)) (body : List ℕ × PlainParts) (b : ℕ) → Takes (plain_body_at limit) before m body → Consumes m after (b ∷ [])
-    → IfSome before (λ bytes. ◌≡◌ {A = Result T ReadError} (Ok header) (Err errors.TooMany) ↔ (too_many_plain_at limit bytes ≡ true)) → ReadsKnown (fault CircuitLists errors.Name) limit before
-refused_rest T header limit before m after body b taken c k =
-    both_known before (λ bytes. plain_at limit bytes ≡ None) (λ bytes. ◌≡◌ {A = Result T ReadError} (Ok header) (Err errors.TooMany) ↔ (too_many_plain_at limit bytes ≡ true)) (λ bytes. ReadsExactly (fault CircuitLists errors.Name) bytes limit)
-    (known_after before after (taken.taken ++ b ∷ []) (λ bytes. plain_at limit bytes ≡ None) (Consumes-trans before m after taken.taken (b ∷ []) taken.consumed c) (rest_none limit before m body b taken)) k
-    (λ bytes none tells. refuses limit bytes errors.Name none (λ is. absurd cc, λ p. absurd (not_too_many T header _ tells p)))
-
--- ---- acceptance
-
--- the same gates make the same nodes
-same_nodes : (f : File) (n v : ℕ) → nodes_from (with_gates f.gates) n v ≡ nodes_from f n v
-same_nodes f zero v = refl
-same_nodes f (suc n) v = rw (same_nodes f n (v + 1)) refl
-
-pub circuit_is : (lists : CircuitLists) (body : List ℕ × PlainParts) → AreListsOf lists (plain_file body) → (plain_file body).greatest ≡ length (defined (plain_file body)) → lists_circuit lists ≡ circuit_of (plain_file body)
-circuit_is lists body h exact =
-    rw (h.nodes, h.inputs, h.latchs, h.outputs, same_nodes (plain_file body) ((plain_file body).greatest + 1) 0, exact) refl
-
-pub file_read : (limit : ℕ) (before m : Option (List ℕ)) (body : List ℕ × PlainParts) (h : Takes (plain_body_at limit) before m body) → plain_at limit (h.taken ++ []) ≡ Some (plain_file body)
-unfolding plain_at
-file_read limit before m body h = ap (λ (o : Option ((List ℕ × PlainParts) × List ℕ)). o >>= file_of_body) (h.reads [])
-
--- the file that was read
-pub accepted : (limit : ℕ) (before m : Option (List ℕ)) (body : List ℕ × PlainParts) (h : Takes (plain_body_at limit) before m body) → AcceptsPlain (h.taken ++ []) limit (plain_file body)
-accepted limit before m body h = plain_sound limit (h.taken ++ []) (plain_file body) (file_read limit before m body h)
-
-pub accepts : (T : Type 0) (header : T) (limit : ℕ) (before m after : Option (List ℕ)) (body : List ℕ × PlainParts) (lists : CircuitLists) → Takes (plain_body_at limit) before m body → Consumes m after [] → IsAtEnd after
-    → IfSome before (λ bytes. ◌≡◌ {A = Result T ReadError} (Ok header) (Err errors.TooMany) ↔ (too_many_plain_at limit bytes ≡ true)) → IfSome before (λ bytes. ReadsExactly {T = CircuitLists} (Ok lists) bytes limit)
-accepts T header limit before m after body lists h c end k =
-    both_known before (λ bytes. (f : File) × AcceptsPlain bytes limit f) (λ bytes. ◌≡◌ {A = Result T ReadError} (Ok header) (Err errors.TooMany) ↔ (too_many_plain_at limit bytes ≡ true)) (λ bytes. ReadsExactly {T = CircuitLists} (Ok lists) bytes limit)
-    (Consumes-whole before after (h.taken ++ []) (λ bytes. (f : File) × AcceptsPlain bytes limit f) (Consumes-trans before m after h.taken [] h.consumed c) end (plain_file body, accepted limit before m body h)) k
+pub accepts : (T : Type 0) (header : T) (limit : ℕ) (before after : Option (List ℕ)) (f : File) (bytes : List ℕ) (lists : CircuitLists) → Accepts bytes limit f → Consumes before after bytes → IsAtEnd after
+    → IfSome before (λ bytes. ◌≡◌ {A = Result T ReadError} (Ok header) (Err errors.TooMany) ↔ (too_many_at limit bytes ≡ true)) → IfSome before (λ bytes. ReadsExactly {T = CircuitLists} (Ok lists) bytes limit)
+accepts T header limit before after f bytes lists is c end k =
+    both_known before (λ bytes. (f : File) × Accepts bytes limit f) (λ bytes. ◌≡◌ {A = Result T ReadError} (Ok header) (Err errors.TooMany) ↔ (too_many_at limit bytes ≡ true)) (λ bytes. ReadsExactly {T = CircuitLists} (Ok lists) bytes limit)
+    (Consumes-whole before after bytes (λ bytes. (f : File) × Accepts bytes limit f) c end (f, is)) k
     (λ bytes file tells. record {
       accepted = (λ ok. file, λ w. refl);
-      too_many = (λ is. absurd cc, λ p. absurd (not_too_many T header _ tells ((too_many_plain_exact limit bytes).1 p)));
+      too_many = (λ is. absurd cc, λ p. absurd (not_too_many T header _ tells ((too_many_exact bytes limit).1 p)));
     })

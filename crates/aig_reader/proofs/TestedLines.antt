@@ -3,10 +3,13 @@ use Rattle.std.proofs.Common.{ℕ, Bool, List, Option, Result, Ok, Err}
 use Rattle.aig_front.specs.Front.{tested_at}
 use Rattle.aig_reader.specs.declared.error.LineError.{LineError}
 use Rattle.aig_reader.specs.declared.error.LineError.TheVariants.{Memory, Stream, Syntax, Literal}
-use Rattle.aig_reader.specs.Faults.{OnLine}
-use Rattle.aig_reader.specs.Marks.{Tested}
-use Rattle.aig_reader.specs.Takes.{Takes, Misses, Makes}
-use Rattle.aig_reader.proofs.Taking.{takes_tested, misses_test}
+use Rattle.aig_lexer.specs.declared.error.LexError.{LexError}
+use Rattle.aig_lexer.specs.declared.error.LexError.TheVariants as lex
+use Rattle.aig_lexer.specs.Faults.{OnShape}
+use Rattle.aig_reader.specs.Faults.{OnLine, line_error_of}
+use Rattle.aig_reader.specs.Variables.{Tested}
+use Rattle.aig_lexer.specs.Takes.{Takes, Misses, Makes}
+use Rattle.aig_lexer.proofs.Taking.{takes_tested, misses_test}
 
 pub on_line-always : (e : LineError) (P : Type 0) → P → OnLine e P
 on_line-always Memory P h = tt
@@ -25,3 +28,8 @@ pub tested_line : {X Y : Type 0} (p : List ℕ → Option (Y × List ℕ)) (test
     → Takes p b m y → Tested (test y) P r → ((x : X) → P x → IsOf x y) → Makes OnLine IsOf b m r (tested_at p test)
 tested_line p test IsOf P b m y (Ok x) h t f = (y, f x t.1, takes_tested p test b m y h t.0)
 tested_line p test IsOf P b m y (Err e) h t f = on_line-always e (Misses (tested_at p test) b) (misses_test p test b m y h t.0)
+
+-- a misshapen word, as a fault in a line
+pub on_line-from_shape : (e : LexError) (P Q : Type 0) → (P → Q) → OnShape e P → OnLine (line_error_of e) Q
+on_line-from_shape lex.Stream P Q f h = tt
+on_line-from_shape lex.Shape P Q f h = f h

@@ -1,17 +1,16 @@
 -- What a fault tells.
 use Rattle.std.specs.Prelude.{Result, Ok, Err}
+use Rattle.aig_grammar.specs.File.{Kind, Text, Binary}
+use Rattle.aig_names.specs.declared.error.NameError.{NameError}
+use Rattle.aig_names.specs.declared.error.NameError.TheVariants as name
 use Rattle.aig_reader.specs.declared.error.Section.{Section}
-use Rattle.aig_reader.specs.declared.error.LexError.{LexError}
-use Rattle.aig_reader.specs.declared.error.LexError.TheVariants as lex
+use Rattle.aig_reader.specs.declared.error.Section.TheVariants as sections
+use Rattle.aig_lexer.specs.declared.error.LexError.{LexError}
+use Rattle.aig_lexer.specs.declared.error.LexError.TheVariants as lex
 use Rattle.aig_reader.specs.declared.error.LineError.{LineError}
 use Rattle.aig_reader.specs.declared.error.LineError.TheVariants as line
 use Rattle.aig_reader.specs.declared.error.ReadError.{ReadError}
 use Rattle.aig_reader.specs.declared.error.ReadError.TheVariants as errors
-
--- the fact, unless the stream failed
-abbrev pub OnShape : LexError → Type 0 → Type 0
-OnShape lex.Stream P = Unit {0}
-OnShape lex.Shape P = P
 
 -- the fact, unless memory or the stream failed
 abbrev pub OnLine : LineError → Type 0 → Type 0
@@ -36,6 +35,12 @@ abbrev pub header_error_of : LexError → ReadError
 header_error_of lex.Stream = errors.Stream
 header_error_of lex.Shape = errors.Header
 
+-- a fault in a name
+abbrev pub name_error_of : NameError → ReadError
+name_error_of name.Memory = errors.Memory
+name_error_of name.Stream = errors.Stream
+name_error_of name.Shape = errors.Name
+
 -- a fault in a line of this section
 abbrev pub error_in : Section → LineError → ReadError
 error_in section line.Memory = errors.Memory
@@ -43,15 +48,24 @@ error_in section line.Stream = errors.Stream
 error_in section line.Syntax = errors.Syntax section
 error_in section line.Literal = errors.Literal section
 
--- what reading lines of this section gave
-abbrev pub result_in : {T : Type 0} → Section → Result T LineError → Result T ReadError
-result_in section (Ok x) = Ok x
-result_in section (Err e) = Err (error_in section e)
+-- a fault in the gates of a file of this kind
+abbrev pub gate_error_in : Kind → LineError → ReadError
+gate_error_in Text e = error_in sections.Gates e
+gate_error_in Binary line.Memory = errors.Memory
+gate_error_in Binary line.Stream = errors.Stream
+gate_error_in Binary line.Syntax = errors.Delta
+gate_error_in Binary line.Literal = errors.Delta
 
--- a fault that a section's lines may have
+-- an answer whose fault is seen otherwise
+abbrev pub result_by : {T E : Type 0} → (E → ReadError) → Result T E → Result T ReadError
+result_by fault (Ok x) = Ok x
+result_by fault (Err e) = Err (fault e)
+
+-- a fault that the sections behind the header line may have
 abbrev pub IsSectionFault : ReadError → Type 0
 IsSectionFault errors.Memory = Unit {0}
 IsSectionFault errors.Stream = Unit {0}
 IsSectionFault (errors.Syntax section) = Unit {0}
 IsSectionFault (errors.Literal section) = Unit {0}
+IsSectionFault errors.Delta = Unit {0}
 IsSectionFault e = ⊥

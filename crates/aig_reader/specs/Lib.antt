@@ -1,10 +1,8 @@
-pub mod Bytes
-pub mod Takes
 pub mod Faults
-pub mod Words
-pub mod Header
 pub mod Reading
-pub mod Marks
+pub mod Variables
 pub mod Lists
+pub mod Entries
 pub mod Gates
-pub mod Circuits
+pub mod Properties
+pub mod Sections

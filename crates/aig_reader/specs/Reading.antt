@@ -1,7 +1,7 @@
 -- What the answer of a reading call tells of the bytes.
 use Rattle.std.specs.Prelude.{ℕ, List, ◌↔◌, Result, Ok, Err, IsOk, IsErrOf}
 use Rattle.aig_grammar.specs.File.{File}
-use Rattle.aig_grammar.specs.Plain.{AcceptsPlain, TooManyPlain}
+use Rattle.aig_grammar.specs.Fits.{Accepts, TooMany}
 use Rattle.aig_reader.specs.declared.error.ReadError.{ReadError}
 use Rattle.aig_reader.specs.declared.error.ReadError.TheVariants as errors
 
@@ -12,7 +12,7 @@ UnlessInterrupted (Err errors.Stream) P = Unit {0}
 UnlessInterrupted (Err e) P = P
 UnlessInterrupted (Ok x) P = P
 
--- accepted exactly where the bytes spell a plain file that fits, and TooMany exactly where the header line is good and passes the limit
+-- accepted exactly where the bytes spell a file that fits, and TooMany exactly where the header line is good and passes the limit
 pub record ReadsExactly {T : Type 0} (result : Result T ReadError) (bytes : List ℕ) (limit : ℕ) : Type 0 where
-  pub accepted : IsOk result ↔ ((f : File) × AcceptsPlain bytes limit f)
-  pub too_many : IsErrOf result errors.TooMany ↔ TooManyPlain bytes limit
+  pub accepted : IsOk result ↔ ((f : File) × Accepts bytes limit f)
+  pub too_many : IsErrOf result errors.TooMany ↔ TooMany bytes limit

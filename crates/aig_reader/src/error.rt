@@ -1,10 +1,12 @@
 ghost use Rattle.std.specs.Prelude.{◌≡◌};
-ghost use Rattle.aig_reader.specs.Faults.{header_error_of, line_error_of, result_in};
-ghost use Rattle.aig_reader.specs.declared.error.LexError.TheVariants as lex;
+ghost use Rattle.aig_lexer.specs.Header.{kind_of};
+ghost use Rattle.aig_reader.specs.Faults.{error_in, gate_error_in, header_error_of, line_error_of, name_error_of, result_by};
 ghost use Rattle.aig_reader.specs.declared.error.LineError.TheVariants as line;
 ghost use Rattle.aig_reader.specs.declared.error.ReadError.TheVariants as errors;
 
 use aig_base::StreamFault;
+use aig_lexer::{FileKind, LexError};
+use aig_names::NameError;
 use std::alloc::{AllocError, AllocFailed};
 use std::fmt;
 use thiserror::Error;
@@ -69,15 +71,6 @@ pub enum ReadError {
     Open,
 }
 
-/// Why a word of the format is not read.
-#[derive(Clone, Copy, Debug, PartialEq, Eq)]
-pub enum LexError {
-    /// A read failed.
-    Stream,
-    /// The bytes are misshapen, or the stream ended.
-    Shape,
-}
-
 /// Why a line of a section is not read.
 #[derive(Clone, Copy, Debug, PartialEq, Eq)]
 pub enum LineError {
@@ -91,14 +84,6 @@ pub enum LineError {
     Literal,
 }
 
-impl From<StreamFault> for LexError {
-    ghost from_gives = { λ _ r. r ≡ lex.Stream };
-
-    fn from(_fault: StreamFault) -> LexError {
-        LexError::Stream
-    }
-}
-
 impl From<LexError> for LineError {
     ghost from_gives = { λ e r. r ≡ line_error_of e };
 
@@ -107,6 +92,14 @@ impl From<LexError> for LineError {
             LexError::Stream => LineError::Stream,
             LexError::Shape => LineError::Syntax,
         }
+    }
+}
+
+impl From<AllocError> for LineError {
+    ghost from_gives = { λ _ r. r ≡ line.Memory };
+
+    fn from(_error: AllocError) -> LineError {
+        LineError::Memory
     }
 }
 
@@ -134,29 +127,58 @@ impl From<StreamFault> for ReadError {
     }
 }
 
-impl LexError {
-    /// This fault in the header line.
-    pub fn in_header(self) -> ReadError
-        ensures { result ≡ header_error_of self }
-    {
-        match self {
-            LexError::Stream => ReadError::Stream,
-            LexError::Shape => ReadError::Header,
-        }
+/// This fault in the header line.
+pub fn in_header(fault: LexError) -> ReadError
+    ensures { result ≡ header_error_of fault }
+{
+    match fault {
+        LexError::Stream => ReadError::Stream,
+        LexError::Shape => ReadError::Header,
     }
 }
 
 impl Section {
+    /// This fault in a line of this section.
+    fn fault_of(self, fault: LineError) -> ReadError
+        ensures { result ≡ error_in self fault }
+    {
+        match fault {
+            LineError::Memory => ReadError::Memory,
+            LineError::Stream => ReadError::Stream,
+            LineError::Syntax => ReadError::Syntax(self),
+            LineError::Literal => ReadError::Literal(self),
+        }
+    }
+
     /// What reading lines of this section gave.
     pub(crate) fn result_of<T>(self, lines: Result<T, LineError>) -> Result<T, ReadError>
-        ensures { result ≡ result_in self lines }
+        ensures { result ≡ result_by (error_in self) lines }
     {
         match lines {
             Ok(value) => Ok(value),
-            Err(LineError::Memory) => Err(ReadError::Memory),
-            Err(LineError::Stream) => Err(ReadError::Stream),
-            Err(LineError::Syntax) => Err(ReadError::Syntax(self)),
-            Err(LineError::Literal) => Err(ReadError::Literal(self)),
+            Err(fault) => Err(self.fault_of(fault)),
         }
+    }
+}
+
+/// What reading the gates of a file of this kind gave.
+pub fn gates_result(kind: FileKind, gates: Result<(), LineError>) -> Result<(), ReadError>
+    ensures { result ≡ result_by (gate_error_in (kind_of kind)) gates }
+{
+    match (kind, gates) {
+        (FileKind::Binary, Err(LineError::Syntax | LineError::Literal)) => Err(ReadError::Delta),
+        (_, gates) => Section::Gates.result_of(gates),
+    }
+}
+
+/// What reading the names gave.
+pub fn names_result<T>(names: Result<T, NameError>) -> Result<T, ReadError>
+    ensures { result ≡ result_by name_error_of names }
+{
+    match names {
+        Ok(value) => Ok(value),
+        Err(NameError::Memory) => Err(ReadError::Memory),
+        Err(NameError::Stream) => Err(ReadError::Stream),
+        Err(NameError::Shape) => Err(ReadError::Name),
     }
 }

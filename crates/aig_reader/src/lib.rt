@@ -1,17 +1,19 @@
-//! Reads the plain part of the AIGER text format from a source of bytes.
+//! Reads AIGER files, text and binary, from a source of bytes.
 #![tactic(auto)]
 
+mod edges;
 mod error;
-mod feed;
+mod gates;
 mod header;
-mod lexer;
-mod lists;
+mod inputs;
+mod justice;
+mod latches;
+mod nodes;
+mod properties;
 mod reader;
-mod sections;
 mod variables;
 
 pub use error::{ReadError, Section};
-pub use lists::CircuitLists;
 pub use reader::read;
 
 #[cfg(test)]

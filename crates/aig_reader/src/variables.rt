@@ -1,65 +1,89 @@
 //! The variables of a file.
 
-ghost use Rattle.std.specs.Prelude.{◌≡◌, ℕ, ◌/◌, ◌^◌, ◌<◌, List, [], ◌∷◌, ◌++◌, IfOk, IfErr, vec_len};
-ghost use Rattle.aig_front.specs.Plain.{defines, is_literal};
-ghost use Rattle.aig_reader.specs.Lists.{edge_from};
-ghost use Rattle.aig_reader.specs.Marks.{AreMarks, Tested};
+ghost use Rattle.std.specs.Prelude.{◌≡◌, ℕ, ◌+◌, ◌/◌, ◌^◌, ◌<◌, ◌≤◌, List, [], ◌∷◌, ◌++◌, IfErr, IfOk, IsErrOf, length, true, vec_len};
+ghost use Rattle.aig_front.specs.Fitting.{defines};
+ghost use Rattle.aig_lexer.specs.Faults.{OnShape};
+ghost use Rattle.aig_lexer.specs.Header.{kind_of};
+ghost use Rattle.aig_lexer.specs.Takes.{Gives};
+ghost use Rattle.aig_reader.specs.Entries.{may_define, own_at};
+ghost use Rattle.aig_reader.specs.Variables.{AreDefined, AreMarks, HasRoom, IsNext, IsOwn, Tested, kind_by};
 
 use crate::error::LineError;
-use aig_circuit::AigEdge;
+use aig_lexer::{ByteFeed, FileKind, LexError, ended};
 use std::alloc::{AllocError, Global};
 
-/// The variables 0 to a greatest one, each with a mark that tells whether it is defined.
+/// The variables of a file that are defined so far.
 #[derive(Drop)]
-pub struct Variables {
-    pub defined: Vec<bool>,
+pub enum Variables {
+    /// Those of a text file, where any may be next: for each from 0 to the greatest, whether it is defined.
+    Marked(Vec<bool>),
+    /// Those of a binary file, where they are defined in order of number from 1 on: how many are.
+    Counted(u32),
+}
+
+/// Marks the variable of a literal, which is even, is not that of variable 0, and is not marked yet.
+fn mark(marks: &mut Vec<bool>, literal: u32) -> Result<usize, LineError>
+    ensures exact { (greatest : ℕ) (before : List ℕ) → AreMarks greatest marks.old.items before → Tested (defines greatest before literal) (λ id. (id ≡ literal / 2) × AreMarks greatest marks.new.items (before ++ literal ∷ [])) result }
+    ensures fault { IfErr result (λ e. e ≡ LineError.Literal) }
+    ensures own { IfOk result (λ _. IsOwn (length marks.old.items) literal) }
+    ensures len { vec_len marks.new ≡ vec_len marks.old }
+    ensures id { IfOk result (λ id. id ≡ literal / 2) }
+{
+    let variable = literal as usize / 2;
+    if literal % 2 != 0 || variable == 0 {
+        return Err(LineError::Literal);
+    }
+    if variable >= marks.len() || marks[variable] {
+        return Err(LineError::Literal);
+    }
+    marks[variable] = true;
+    Ok(variable)
 }
 
 impl Variables {
-    /// Variables of which none is defined.
-    pub fn new(alloc: Global, greatest: u32) -> Result<Self, AllocError>
+    /// The variables up to a greatest one in a file of this kind. None is defined.
+    pub fn new(alloc: Global, kind: FileKind, greatest: u32) -> Result<Self, AllocError>
         requires { greatest < 2 ^ 31 }
-        ensures { IfOk result (λ v. AreMarks greatest v.defined.items []) }
+        ensures defined { IfOk result (λ v. AreDefined greatest v []) }
+        ensures kind { IfOk result (λ v. kind_by v ≡ kind_of kind) }
+        ensures room { IfOk result (λ v. HasRoom (greatest + 1) v greatest) }
     {
-        Ok(Variables {
-            defined: vec![in alloc; false; greatest as usize + 1]?,
-        })
+        match kind {
+            FileKind::Text => Ok(Variables::Marked(vec![in alloc; false; greatest as usize + 1]?)),
+            FileKind::Binary => Ok(Variables::Counted(0)),
+        }
     }
 
-    /// Defines the variable of a literal, which is even, is not that of variable 0, and is not defined yet.
+    /// The literal that the next entry defines. In a text file it is read, with this byte behind it.
+    pub fn own_literal<F: ByteFeed>(&self, f: &mut F, end: u8) -> Result<u32, LexError>
+        requires { (size : ℕ) × (size ≤ 2 ^ 31) × HasRoom size self.now 1 }
+        ensures exact { (greatest : ℕ) (before : List ℕ) → AreDefined greatest self.now before → Gives OnShape (λ e. e) (F.coming f.old) (F.coming f.new) result (own_at (kind_by self.now) end before) }
+        ensures next { IfOk result (λ e. IsNext self.now e) }
+        ensures stream { IsErrOf result LexError.Stream → F.failed f.new ≡ true }
+        ensures same { F.behind f.new ≡ F.behind f.old }
+    {
+        match self {
+            Variables::Marked(_) => ended(f, end),
+            Variables::Counted(count) => Ok(2 * (count + 1)),
+        }
+    }
+
+    /// Defines the variable of a literal, that of the next entry: it is even, is not that of variable 0, and is not defined yet.
     pub fn define(&mut self, literal: u32) -> Result<usize, LineError>
-        ensures exact { (greatest : ℕ) (before : List ℕ) → AreMarks greatest self.old.defined.items before → Tested (defines greatest before literal) (λ id. (id ≡ literal / 2) × AreMarks greatest self.new.defined.items (before ++ literal ∷ [])) result }
+        requires { IsNext self.old literal }
+        ensures exact { (greatest : ℕ) (before : List ℕ) → AreDefined greatest self.old before → Tested (may_define (kind_by self.old) greatest before literal) (λ id. (id ≡ literal / 2) × AreDefined greatest self.new (before ++ literal ∷ [])) result }
         ensures fault { IfErr result (λ e. e ≡ LineError.Literal) }
-        ensures within { IfOk result (λ id. id < vec_len self.new.defined) }
-        ensures len { vec_len self.new.defined ≡ vec_len self.old.defined }
+        ensures own { IfOk result (λ _. (size : ℕ) → HasRoom size self.old 1 → IsOwn size literal) }
+        ensures id { IfOk result (λ id. id ≡ literal / 2) }
+        ensures room { IfOk result (λ _. (size k : ℕ) → HasRoom size self.old (k + 1) → HasRoom size self.new k) }
+        ensures kind { kind_by self.new ≡ kind_by self.old }
     {
-        let variable = literal as usize / 2;
-        if literal % 2 != 0 || variable == 0 {
-            return Err(LineError::Literal);
+        match self {
+            Variables::Marked(marks) => mark(marks, literal),
+            Variables::Counted(count) => {
+                *count += 1;
+                Ok(literal as usize / 2)
+            }
         }
-        if variable >= self.defined.len() || self.defined[variable] {
-            return Err(LineError::Literal);
-        }
-        self.defined[variable] = true;
-        Ok(variable)
     }
-
-    /// The edge of a literal that may be used.
-    pub fn edge(&self, literal: u32) -> Result<AigEdge, LineError>
-        ensures exact { (greatest : ℕ) (before : List ℕ) → AreMarks greatest self.now.defined.items before → Tested (is_literal greatest literal) (λ e. e ≡ edge_from literal) result }
-        ensures fault { IfErr result (λ e. e ≡ LineError.Literal) }
-    {
-        let variable = literal as usize / 2;
-        if variable >= self.defined.len() {
-            return Err(LineError::Literal);
-        }
-        Ok(edge_of(literal))
-    }
-}
-
-/// The edge of a literal.
-pub fn edge_of(literal: u32) -> AigEdge
-    ensures { result ≡ edge_from literal }
-{
-    AigEdge::new(literal as usize / 2, literal % 2 == 1)
 }

@@ -1,14 +1,9 @@
 -- The names of a map, and their lines.
-use Rattle.std.proofs.Common.{◌≡◌, ℕ, ◌+◌, ◌<◌, length, get_or, zero-add, Bool, true, false, cond, Option, Some, None, List, [], ◌∷◌, ◌++◌, map, nat_cmp, nat_eq, String, refl, sym, ap, ◌∙◌, arith, append_assoc}
-use Rattle.std.specs.Prelude.{option_map, option_to_list, string_bytes, decimal}
+use Rattle.std.proofs.Common.{◌≡◌, ℕ, ◌+◌, ◌<◌, length, get_or, zero-add, Option, Some, None, List, [], ◌∷◌, ◌++◌, refl, ap, ◌∙◌, append_assoc}
+use Rattle.std.specs.Prelude.{option_map, option_to_list, decimal}
 use Rattle.std.specs.List.{enumerate_from, flat_map}
 use Rattle.std.proofs.lemmas.List.FromFn.{get_or-enumerate_from}
-use Rattle.std.specs.declared.alloc.Global.{Global}
-use Rattle.std.specs.Ordering.{eq_by_cmp}
-use Rattle.std.specs.Map.{lookup}
-use Rattle.std.specs.FinMap.{get, find, get-from_entries}
-use Rattle.std.proofs.lemmas.Cmp.{nat_cmp_total}
-use Rattle.std.proofs.lemmas.Bool.Decides.{nat_tests}
+use Rattle.std.specs.FinMap.{get}
 use Rattle.std.proofs.lemmas.List.Concat.{flat_map-append}
 use Rattle.std.proofs.lemmas.List.{get_or-map, length-map}
 use Rattle.aig_circuit.specs.declared.node.AigLatch.{AigLatch}
@@ -16,27 +11,7 @@ use Rattle.aig_circuit.specs.Circuit.{Circuit, latch_leaves}
 use Rattle.aig_grammar.specs.File.{NameLine, Text}
 use Rattle.aig_grammar.specs.Written.{name_of}
 use Rattle.aig_grammar.specs.Circuit.{file_of, name_lines}
-use Rattle.aig_circuit.specs.View.{names_of}
 use Rattle.aig_writer.specs.Parts.{name_text}
-
--- the map's test is that of equality
-pub same_test : (q k : ℕ) → eq_by_cmp nat_cmp q k ≡ nat_eq q k
-same_test q k = grind (arith, nat_tests)
-
-pub option_map_cond : (b : Bool) (v : String Global) (o : Option (String Global)) → option_map string_bytes (cond b (Some v) o) ≡ cond b (Some (string_bytes v)) (option_map string_bytes o)
-option_map_cond true v o = refl
-option_map_cond false v o = refl
-
-find_names : (es : List (ℕ × String Global)) (q : ℕ) → find nat_cmp q (map (λ (entry : ℕ × String Global). (entry.0, string_bytes entry.1)) es) ≡ option_map string_bytes (lookup (nat_eq q) es)
-find_names [] q = refl
-find_names (e ∷ es) q =
-    ap (λ b. cond b (Some (string_bytes e.1)) (find nat_cmp q (map (λ (entry : ℕ × String Global). (entry.0, string_bytes entry.1)) es))) (same_test q e.0)
-    ∙ ap (cond (nat_eq q e.0) (Some (string_bytes e.1))) (find_names es q)
-    ∙ sym (option_map_cond (nat_eq q e.0) e.1 (lookup (nat_eq q) es))
-
--- what name a node has
-pub get_names : (es : List (ℕ × String Global)) (q : ℕ) → get (names_of es) q ≡ option_map string_bytes (lookup (nat_eq q) es)
-get_names es q = get-from_entries nat_cmp_total _ q ∙ find_names es q
 
 -- ---- the lines of names
 

@@ -9,7 +9,7 @@ use Rattle.aig_circuit.specs.declared.edge.AigEdge.{AigEdge}
 use Rattle.aig_circuit.specs.declared.node.AigNode.{AigNode}
 use Rattle.aig_circuit.specs.declared.node.AigLatch.{AigLatch}
 use Rattle.aig_circuit.specs.Edge.{literal_of}
-use Rattle.aig_grammar.specs.File.{Text}
+use Rattle.aig_grammar.specs.File.{Kind}
 use Rattle.aig_grammar.specs.Written.{line_of, lines_of, latch_of, gate_of}
 use Rattle.aig_grammar.specs.Circuit.{latch_line, gate_line}
 use Rattle.aig_writer.specs.Literals.{IsSmallEdge}
@@ -21,8 +21,8 @@ input_line n = line_of (2 * n ∷ [])
 abbrev pub edge_line : AigEdge → List ℕ
 edge_line e = line_of (literal_of e ∷ [])
 
-abbrev pub latch_text : AigLatch → List ℕ
-latch_text latch = latch_of Text (latch_line latch)
+abbrev pub latch_text : Kind → AigLatch → List ℕ
+latch_text kind latch = latch_of kind (latch_line latch)
 
 abbrev pub size_line : Vec AigEdge Global → List ℕ
 size_line set = line_of (length set.items ∷ [])
@@ -30,8 +30,8 @@ size_line set = line_of (length set.items ∷ [])
 abbrev pub set_lines : Vec AigEdge Global → List ℕ
 set_lines set = lines_of (map literal_of set.items)
 
-abbrev pub gate_text : AigNode → List ℕ
-gate_text node = flat_map (gate_of Text) (option_to_list (gate_line node))
+abbrev pub gate_text : Kind → AigNode → List ℕ
+gate_text kind node = flat_map (gate_of kind) (option_to_list (gate_line node))
 
 pub input_lines : (ns : List ℕ) → lines_of (map (λ n. 2 * n) ns) ≡ flat_map input_line ns
 input_lines ns = flat_map-map (λ n. line_of (n ∷ [])) (λ n. 2 * n) ns
@@ -39,8 +39,8 @@ input_lines ns = flat_map-map (λ n. line_of (n ∷ [])) (λ n. 2 * n) ns
 pub edge_lines : (es : List AigEdge) → lines_of (map literal_of es) ≡ flat_map edge_line es
 edge_lines es = flat_map-map (λ n. line_of (n ∷ [])) literal_of es
 
-pub latch_texts : (latchs : List AigLatch) → flat_map (latch_of Text) (map latch_line latchs) ≡ flat_map latch_text latchs
-latch_texts latchs = flat_map-map (latch_of Text) latch_line latchs
+pub latch_texts : (kind : Kind) (latchs : List AigLatch) → flat_map (latch_of kind) (map latch_line latchs) ≡ flat_map (latch_text kind) latchs
+latch_texts kind latchs = flat_map-map (latch_of kind) latch_line latchs
 
 pub len_is : (set : Vec AigEdge Global) → vec_len set ≡ length set.items
 len_is set = set.ok.0
@@ -61,8 +61,8 @@ flat_map-filter_map f h (x ∷ xs) = by_option f (h x) (filter_map h xs) ∙ ap 
     by_option f None ys = refl
     by_option f (Some y) ys = ap (λ l. l ++ flat_map f ys) (sym (append-nil (f y)))
 
-pub gate_texts : (nodes : List AigNode) → flat_map (gate_of Text) (filter_map gate_line nodes) ≡ flat_map gate_text nodes
-gate_texts nodes = flat_map-filter_map (gate_of Text) gate_line nodes
+pub gate_texts : (kind : Kind) (nodes : List AigNode) → flat_map (gate_of kind) (filter_map gate_line nodes) ≡ flat_map (gate_text kind) nodes
+gate_texts kind nodes = flat_map-filter_map (gate_of kind) gate_line nodes
 
 -- the sets' edges are small
 pub sets_small : (sets : List (Vec AigEdge Global)) → All (All IsSmallEdge) (map (λ (set : Vec AigEdge Global). set.items) sets) → All (λ (set : Vec AigEdge Global). All IsSmallEdge set.items) sets

@@ -5,3 +5,4 @@ pub mod Counts
 pub mod Entries
 pub mod Texts
 pub mod Small
+mod Differences

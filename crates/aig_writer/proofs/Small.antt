@@ -1,14 +1,14 @@
 -- A circuit's node numbers are below the count of its nodes.
-use Rattle.std.proofs.Common.{◌≡◌, ℕ, ◌^◌, ◌≤◌, Option, Some, None, List, length, get_or, ap, ◌∙◌, arith}
+use Rattle.std.proofs.Common.{◌≡◌, ℕ, ◌+◌, ◌*◌, ◌^◌, ◌<◌, ◌≤◌, Bool, true, false, cond, Option, Some, None, List, length, get_or, ap, ◌∙◌, arith}
 use Rattle.std.specs.Prelude.{All, IfSome, option_map, slice_get}
 use Rattle.std.proofs.lemmas.Option.{slice_get-get_or}
 use Rattle.std.proofs.lemmas.List.Elements.{All-weaker}
 use Rattle.aig_circuit.specs.declared.edge.AigEdge.{AigEdge}
-use Rattle.aig_circuit.specs.declared.node.AigNodeType.TheVariants.{Leaf}
+use Rattle.aig_circuit.specs.declared.node.AigNodeType.TheVariants.{Leaf, And}
 use Rattle.aig_circuit.specs.declared.node.AigNode.{AigNode}
 use Rattle.aig_circuit.specs.Circuit.{Circuit, IsCircuit, AreNodes, IsLeaf, IsInRange, IsLatch}
 use Rattle.aig_circuit.proofs.Trees.{kind_at-within}
-use Rattle.aig_writer.specs.Literals.{IsSmall, IsSmallEdge, IsSmallLatch, IsSmallNode, HasSmallNumbers}
+use Rattle.aig_writer.specs.Literals.{FallsBelow, IsSmall, IsSmallEdge, IsSmallLatch, IsSmallNode, HasSmallNumbers}
 
 IsSmallNode-at : (nodes : List AigNode) → AreNodes nodes → length nodes ≤ 2 ^ 63 → All IsSmallNode nodes
 IsSmallNode-at nodes are few = λ k d h.
@@ -25,6 +25,22 @@ IsSmallNode-at nodes are few = λ k d h.
 init_small : (nodes : List AigNode) (o : Option AigEdge) → length nodes ≤ 2 ^ 63 → IfSome o (IsInRange nodes) → IfSome o IsSmallEdge
 init_small nodes (Some e) few h = omega arith
 init_small nodes None few h = h
+
+at_most : (k : ℕ) (e : AigEdge) (b : Bool) → e.node_id < k → 2 * e.node_id + cond b 1 0 ≤ 2 * k
+at_most k e true h = omega arith
+at_most k e false h = omega arith
+
+-- the gates of a small circuit fall below one another
+pub FallsBelow-from_circuit : (c : Circuit) → IsCircuit c → length c.nodes ≤ 2 ^ 31 → All FallsBelow c.nodes
+FallsBelow-from_circuit c is few = λ k d h.
+    let here : slice_get c.nodes k ≡ Some (get_or c.nodes k d) = slice_get-get_or c.nodes k d h in
+    let same = is.nodes.numbered k (get_or c.nodes k d) here in
+    let gate = λ (a b : AigEdge) (typ : (get_or c.nodes k d).typ ≡ And a b). ap (option_map (λ (node : AigNode). node.typ)) here ∙ ap Some typ in
+    record {
+      own = omega arith;
+      second = λ a b typ. omega (arith, at_most k b b.compl (is.nodes.ordered.second_before k a b (gate a b typ)));
+      first = λ a b typ. is.nodes.ordered.in_order k a b (gate a b typ);
+    }
 
 -- each literal of a circuit fits
 pub HasSmallNumbers-from_circuit : (c : Circuit) → IsCircuit c → length c.nodes ≤ 2 ^ 63 → HasSmallNumbers c

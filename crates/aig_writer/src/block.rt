@@ -1,8 +1,8 @@
 //! A block of bytes that wait to be put.
 
-ghost use Rattle.std.specs.Prelude.{◌≡◌, ◌+◌, ◌<◌, ◌≤◌, ◌++◌, ◌∷◌, [], List, ℕ, length, take, decimal, OnOk, OnErr, false};
+ghost use Rattle.std.specs.Prelude.{◌≡◌, ◌+◌, ◌^◌, ◌<◌, ◌≤◌, ◌++◌, ◌∷◌, [], List, ℕ, length, take, decimal, OnOk, OnErr, false};
 ghost use Rattle.std.specs.Io.KnownBytes.{Appends};
-ghost use Rattle.aig_grammar.specs.Written.{line_of};
+ghost use Rattle.aig_grammar.specs.Written.{delta_of, line_of};
 ghost use Rattle.aig_writer.specs.Sinks.{Stops, Writes};
 
 use crate::put::put_all;
@@ -18,6 +18,9 @@ const DIGITS: usize = 20;
 
 /// Room for the longest line, of nine numbers with a byte behind each.
 const LINE: usize = 192;
+
+/// How many groups of seven bits a difference has at most.
+const GROUPS: usize = 5;
 
 /// Bytes that wait, in order, until the block is full.
 #[derive(Drop)]
@@ -117,5 +120,23 @@ impl Block {
             start = write_digits(*n as u64, &mut text, start - 1);
         }
         self.bytes(w, &text[start..])
+    }
+
+    /// Adds a binary difference, in groups of seven bits, the lowest first, in its shortest spelling.
+    pub fn difference<W: Sink>(&mut self, w: &mut W, d: usize) -> Result<(), StreamFault>
+        requires { d < 2 ^ 32 }
+        ensures ok { OnOk result (Writes self.old (W.held w.old) self.new (W.held w.new) (delta_of d)) }
+        ensures err { OnErr result (Stops (W.held w.old) (W.held w.new) (W.failed w.new) (self.old ++ delta_of d)) }
+    {
+        let mut groups = [0; GROUPS];
+        let mut count = 0;
+        let mut rest = d;
+        while rest >= 128 {
+            groups[count] = (rest % 128) as u8 + 128;
+            count += 1;
+            rest /= 128;
+        }
+        groups[count] = rest as u8;
+        self.bytes(w, &groups[..count + 1])
     }
 }

@@ -1,14 +1,17 @@
-//! The AIGER text form of a circuit, written to any sink.
+//! The AIGER forms of a circuit, written to any sink.
 #![tactic(auto)]
 
 mod block;
+mod form;
 mod header;
-mod literal;
+pub mod literal;
 mod names;
 mod put;
 mod sections;
 #[cfg(test)]
 mod tests;
-mod text;
 
-pub use text::write_text;
+pub use block::Block;
+pub use form::{write_binary, write_text};
+pub use header::{ALWAYS, header_numbers, shown};
+pub use sections::reset;

@@ -1,22 +1,23 @@
 //! The sections of a file, behind its header.
 
-ghost use Rattle.std.specs.Prelude.{◌≡◌, ◌*◌, ◌^◌, ◌<◌, ◌++◌, ℕ, length, map, filter_map, option_to_list, All, OnOk, OnErr};
+ghost use Rattle.std.specs.Prelude.{◌≡◌, ◌-◌, ◌*◌, ◌^◌, ◌<◌, ◌≤◌, ◌++◌, ℕ, length, map, filter_map, option_to_list, All, OnOk, OnErr};
 ghost use Rattle.std.specs.List.{flat_map};
 ghost use Rattle.aig_circuit.specs.Edge.{literal_of};
-ghost use Rattle.aig_grammar.specs.File.{Text};
-ghost use Rattle.aig_grammar.specs.Written.{line_of, lines_of, latch_of, gate_of};
+ghost use Rattle.aig_grammar.specs.Kinds.{kind_of};
+ghost use Rattle.aig_grammar.specs.Written.{delta_of, gate_of, inputs_of, latch_of, line_of, lines_of};
 ghost use Rattle.aig_grammar.specs.Circuit.{reset_of, latch_line, gate_line};
 ghost use Rattle.aig_writer.specs.Sinks.{Stops, Writes};
 ghost use Rattle.aig_writer.specs.Parts.{literal_sets};
-ghost use Rattle.aig_writer.specs.Literals.{IsSmall, IsSmallEdge, IsSmallLatch, IsSmallNode};
+ghost use Rattle.aig_writer.specs.Literals.{IsSmall, IsSmallEdge, IsSmallLatch, IsSmallNode, FallsBelow};
 
 use crate::block::Block;
 use crate::literal::literal;
 use aig_base::{Sink, StreamFault};
 use aig_circuit::{AigEdge, AigLatch, AigNode, AigNodeType};
+use aig_grammar::FileKind;
 
 /// Adds a line for each input, its literal.
-pub fn inputs<W: Sink>(block: &mut Block, w: &mut W, inputs: &[usize]) -> Result<(), StreamFault>
+fn input_lines<W: Sink>(block: &mut Block, w: &mut W, inputs: &[usize]) -> Result<(), StreamFault>
     requires { All IsSmall inputs.now }
     ensures ok { OnOk result (Writes block.old (W.held w.old) block.new (W.held w.new) (lines_of (map (λ n. 2 * n) inputs.now))) }
     ensures err { OnErr result (Stops (W.held w.old) (W.held w.new) (W.failed w.new) (block.old ++ lines_of (map (λ n. 2 * n) inputs.now))) }
@@ -27,8 +28,25 @@ pub fn inputs<W: Sink>(block: &mut Block, w: &mut W, inputs: &[usize]) -> Result
     Ok(())
 }
 
+/// Adds the inputs: in a text file a line each, and in a binary file nothing.
+pub fn inputs<W: Sink>(
+    block: &mut Block,
+    w: &mut W,
+    kind: FileKind,
+    inputs: &[usize],
+) -> Result<(), StreamFault>
+    requires { All IsSmall inputs.now }
+    ensures ok { OnOk result (Writes block.old (W.held w.old) block.new (W.held w.new) (inputs_of (kind_of kind) (map (λ n. 2 * n) inputs.now))) }
+    ensures err { OnErr result (Stops (W.held w.old) (W.held w.new) (W.failed w.new) (block.old ++ inputs_of (kind_of kind) (map (λ n. 2 * n) inputs.now))) }
+{
+    match kind {
+        FileKind::Text => input_lines(block, w, inputs),
+        FileKind::Binary => Ok(()),
+    }
+}
+
 /// The reset of a latch, where one is written: the literal of its initial edge if that is not 0, or its own literal where it has none.
-fn reset(latch: &AigLatch) -> Option<usize>
+pub fn reset(latch: &AigLatch) -> Option<usize>
     requires { IsSmallLatch latch.now }
     ensures { result ≡ reset_of latch.now }
 {
@@ -38,17 +56,24 @@ fn reset(latch: &AigLatch) -> Option<usize>
     }
 }
 
-/// Adds a line for a latch: its literal, its next literal, and its reset if it is not 0.
-fn latch<W: Sink>(block: &mut Block, w: &mut W, latch: &AigLatch) -> Result<(), StreamFault>
+/// Adds a line for a latch: its literal, which a binary file leaves out, its next literal, and its reset if it is not 0.
+fn latch<W: Sink>(
+    block: &mut Block,
+    w: &mut W,
+    kind: FileKind,
+    latch: &AigLatch,
+) -> Result<(), StreamFault>
     requires { IsSmallLatch latch.now }
-    ensures ok { OnOk result (Writes block.old (W.held w.old) block.new (W.held w.new) (latch_of Text (latch_line latch.now))) }
-    ensures err { OnErr result (Stops (W.held w.old) (W.held w.new) (W.failed w.new) (block.old ++ latch_of Text (latch_line latch.now))) }
+    ensures ok { OnOk result (Writes block.old (W.held w.old) block.new (W.held w.new) (latch_of (kind_of kind) (latch_line latch.now))) }
+    ensures err { OnErr result (Stops (W.held w.old) (W.held w.new) (W.failed w.new) (block.old ++ latch_of (kind_of kind) (latch_line latch.now))) }
 {
     let own = 2 * latch.input();
     let next = literal(latch.next());
-    match reset(latch) {
-        None => block.line(w, &[own, next]),
-        Some(reset) => block.line(w, &[own, next, reset]),
+    match (kind, reset(latch)) {
+        (FileKind::Text, None) => block.line(w, &[own, next]),
+        (FileKind::Text, Some(reset)) => block.line(w, &[own, next, reset]),
+        (FileKind::Binary, None) => block.line(w, &[next]),
+        (FileKind::Binary, Some(reset)) => block.line(w, &[next, reset]),
     }
 }
 
@@ -56,14 +81,15 @@ fn latch<W: Sink>(block: &mut Block, w: &mut W, latch: &AigLatch) -> Result<(), 
 pub fn latches<W: Sink>(
     block: &mut Block,
     w: &mut W,
+    kind: FileKind,
     latchs: &[AigLatch],
 ) -> Result<(), StreamFault>
     requires { All IsSmallLatch latchs.now }
-    ensures ok { OnOk result (Writes block.old (W.held w.old) block.new (W.held w.new) (flat_map (latch_of Text) (map latch_line latchs.now))) }
-    ensures err { OnErr result (Stops (W.held w.old) (W.held w.new) (W.failed w.new) (block.old ++ flat_map (latch_of Text) (map latch_line latchs.now))) }
+    ensures ok { OnOk result (Writes block.old (W.held w.old) block.new (W.held w.new) (flat_map (latch_of (kind_of kind)) (map latch_line latchs.now))) }
+    ensures err { OnErr result (Stops (W.held w.old) (W.held w.new) (W.failed w.new) (block.old ++ flat_map (latch_of (kind_of kind)) (map latch_line latchs.now))) }
 {
     for l in latchs {
-        latch(block, w, l)?;
+        latch(block, w, kind, l)?;
     }
     Ok(())
 }
@@ -107,29 +133,61 @@ pub fn sets<W: Sink>(block: &mut Block, w: &mut W, sets: &[Vec<AigEdge>]) -> Res
     Ok(())
 }
 
-/// Adds a line for a node that is a gate: its literal, its second operand, its first.
-fn gate<W: Sink>(block: &mut Block, w: &mut W, node: &AigNode) -> Result<(), StreamFault>
-    requires { IsSmallNode node.now }
-    ensures ok { OnOk result (Writes block.old (W.held w.old) block.new (W.held w.new) (flat_map (gate_of Text) (option_to_list (gate_line node.now)))) }
-    ensures err { OnErr result (Stops (W.held w.old) (W.held w.new) (W.failed w.new) (block.old ++ flat_map (gate_of Text) (option_to_list (gate_line node.now)))) }
+/// Adds the two differences of a gate of a binary file.
+fn differences<W: Sink>(
+    block: &mut Block,
+    w: &mut W,
+    lhs: usize,
+    rhs0: usize,
+    rhs1: usize,
+) -> Result<(), StreamFault>
+    requires small { lhs < 2 ^ 32 }
+    requires first { rhs0 ≤ lhs }
+    requires second { rhs1 ≤ rhs0 }
+    ensures ok { OnOk result (Writes block.old (W.held w.old) block.new (W.held w.new) (delta_of (lhs - rhs0) ++ delta_of (rhs0 - rhs1))) }
+    ensures err { OnErr result (Stops (W.held w.old) (W.held w.new) (W.failed w.new) (block.old ++ (delta_of (lhs - rhs0) ++ delta_of (rhs0 - rhs1)))) }
 {
-    match node.typ() {
-        AigNodeType::And(first, second) => block.line(
-            w,
-            &[2 * node.node_id(), literal(*second), literal(*first)],
-        ),
-        _ => Ok(()),
+    block.difference(w, lhs - rhs0)?;
+    block.difference(w, rhs0 - rhs1)
+}
+
+/// Adds a node that is a gate: in a text file a line of its literal, its second operand and its first, and in a binary
+/// file the differences between these.
+fn gate<W: Sink>(
+    block: &mut Block,
+    w: &mut W,
+    kind: FileKind,
+    node: &AigNode,
+) -> Result<(), StreamFault>
+    requires small { IsSmallNode node.now }
+    requires falls { kind ≡ FileKind.Binary → FallsBelow node.now }
+    ensures ok { OnOk result (Writes block.old (W.held w.old) block.new (W.held w.new) (flat_map (gate_of (kind_of kind)) (option_to_list (gate_line node.now)))) }
+    ensures err { OnErr result (Stops (W.held w.old) (W.held w.new) (W.failed w.new) (block.old ++ flat_map (gate_of (kind_of kind)) (option_to_list (gate_line node.now)))) }
+{
+    let AigNodeType::And(first, second) = *node.typ() else {
+        return Ok(());
+    };
+    let (lhs, rhs0, rhs1) = (2 * node.node_id(), literal(second), literal(first));
+    match kind {
+        FileKind::Text => block.line(w, &[lhs, rhs0, rhs1]),
+        FileKind::Binary => differences(block, w, lhs, rhs0, rhs1),
     }
 }
 
-/// Adds a line for each node that is a gate.
-pub fn gates<W: Sink>(block: &mut Block, w: &mut W, nodes: &[AigNode]) -> Result<(), StreamFault>
-    requires { All IsSmallNode nodes.now }
-    ensures ok { OnOk result (Writes block.old (W.held w.old) block.new (W.held w.new) (flat_map (gate_of Text) (filter_map gate_line nodes.now))) }
-    ensures err { OnErr result (Stops (W.held w.old) (W.held w.new) (W.failed w.new) (block.old ++ flat_map (gate_of Text) (filter_map gate_line nodes.now))) }
+/// Adds each node that is a gate.
+pub fn gates<W: Sink>(
+    block: &mut Block,
+    w: &mut W,
+    kind: FileKind,
+    nodes: &[AigNode],
+) -> Result<(), StreamFault>
+    requires small { All IsSmallNode nodes.now }
+    requires falls { kind ≡ FileKind.Binary → All FallsBelow nodes.now }
+    ensures ok { OnOk result (Writes block.old (W.held w.old) block.new (W.held w.new) (flat_map (gate_of (kind_of kind)) (filter_map gate_line nodes.now))) }
+    ensures err { OnErr result (Stops (W.held w.old) (W.held w.new) (W.failed w.new) (block.old ++ flat_map (gate_of (kind_of kind)) (filter_map gate_line nodes.now))) }
 {
     for node in nodes {
-        gate(block, w, node)?;
+        gate(block, w, kind, node)?;
     }
     Ok(())
 }

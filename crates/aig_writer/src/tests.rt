@@ -4,7 +4,7 @@ ghost use Rattle.std.specs.Prelude.{IsTrue, All, map};
 ghost use Rattle.aig_writer.specs.Literals.{IsSmall, IsSmallEdge, IsSmallLatch, IsSmallNode, HasSmallNumbers};
 ghost use Rattle.aig_circuit.specs.View.{view_circuit};
 
-use crate::text::write_text;
+use crate::form::{write_binary, write_text};
 use aig_base::{StreamFault, Taker};
 use aig_circuit::{
     AigEdge, AigLatch, AigNode, AigNodeType, CircuitView, false_node, gate_node, leaf_node,

@@ -1,20 +1,24 @@
 //! `aigtool`: converts, hashes and encodes the circuits of AIGER files.
 #![tactic(auto)]
 
+ghost use Rattle.aigtool.specs.Commands.{IsOneStep};
+
 mod command;
+mod dimacs;
 #[cfg(test)]
 mod tests;
 mod tool;
 
-use aig::{ReadError, WriteError};
+use aig::{Aig, ReadError, WriteError};
 use aig_base::{FromRead, ToWrite};
 use command::{Command, parse};
 use std::fs::File;
 use std::io::{BufWriter, Write};
+use std::path::Path;
 use std::process::ExitCode;
 use std::rt::{Env, Files};
 use std::{env, io};
-use tool::{ToolError, run};
+use tool::{LIMIT, ToolError, run};
 
 const USAGE: &str = "usage: aigtool text FILE, binary FILE OUT, strash FILE, cnf FILE K [raw]";
 
@@ -28,11 +32,9 @@ fn words(rt: &(impl Env + AllocGlobal)) -> io::Result<Vec<String>> {
 }
 
 /// Runs a command on a file, with standard output behind a buffer.
-fn execute(
-    rt: &(impl Files + Print + AllocGlobal),
-    c: Command,
-    file: &str,
-) -> Result<(), ToolError> {
+fn execute(rt: &(impl Files + Print + AllocGlobal), c: Command, file: &str) -> Result<(), ToolError>
+    requires { IsOneStep c }
+{
     let Ok(file) = File::open(rt, file) else {
         return Err(ToolError::Read(ReadError::Open));
     };
@@ -48,6 +50,16 @@ fn execute(
     }
 }
 
+/// Writes the binary form of a file to another, which is made only after the first was read whole.
+fn convert(
+    rt: &(impl Files + AllocGlobal),
+    file: Path<'_>,
+    out: Path<'_>,
+) -> Result<(), ToolError> {
+    let circuit = Aig::from_file(rt, rt.alloc(), file, LIMIT).map_err(ToolError::Read)?;
+    circuit.to_file(rt, out, false).map_err(ToolError::Write)
+}
+
 fn main(rt: HostRuntime) -> ExitCode {
     let Ok(words) = words(&rt) else {
         let _ = eprintln!(rt; "aigtool: {}", ToolError::Memory);
@@ -57,7 +69,12 @@ fn main(rt: HostRuntime) -> ExitCode {
         let _ = eprintln!(rt; "{USAGE}");
         return ExitCode::from(2);
     };
-    match execute(&rt, command, words[1].as_str()) {
+    let file = words[1].as_str();
+    let done = match command {
+        Command::Binary => convert(&rt, Path::new(file), Path::new(words[2].as_str())),
+        _ => execute(&rt, command, file),
+    };
+    match done {
         Ok(()) => ExitCode::SUCCESS,
         Err(fault) => {
             let _ = eprintln!(rt; "aigtool: {fault}");

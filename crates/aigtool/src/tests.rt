@@ -2,6 +2,8 @@
 
 ghost use Rattle.std.specs.Prelude.{◌<◌, ◌≤◌, ◌^◌};
 
+mod binary;
+mod clauses;
 mod reading;
 mod tool;
 mod writing;
@@ -36,4 +38,12 @@ fn read_parts(
 /// A circuit or a refusal of a text that is given at once.
 fn read(alloc: Global, text: &str) -> Result<Result<Aig, ReadError>, Fail> {
     read_parts(alloc, text, 4096, None, LIMIT)
+}
+
+/// A circuit or a refusal of bytes that are given in pieces of `p` bytes.
+fn read_bytes(alloc: Global, bytes: &[u8], p: usize) -> Result<Result<Aig, ReadError>, Fail>
+    requires { 0 < p }
+{
+    let mut source = Parts::new(bytes.to_vec(alloc)?, p, None);
+    Ok(Aig::from_aiger(alloc, &mut source, LIMIT))
 }

@@ -51,8 +51,7 @@ fn refuses_by_name(rt: HostRuntime) -> Result<(), Fail> {
         ("aag 4294967296 0 0 0 0\n", ReadError::Header),
         ("aag 0 4294967295 1 0 0\n", ReadError::Header),
         ("aag 2 1 0 0 0\n2\n", ReadError::Header),
-        ("aag 0 0 0 0 0 0\n", ReadError::Header),
-        ("aig 0 0 0 0 0\n", ReadError::Header),
+        ("aag 0 0 0 0 0 0 0 0 0 0\n", ReadError::Header),
         ("aag 1 1 0 0 0\n2", ReadError::Syntax(Section::Inputs)),
         ("aag 1 1 0 0 0\n2 \n", ReadError::Syntax(Section::Inputs)),
         (
@@ -60,8 +59,12 @@ fn refuses_by_name(rt: HostRuntime) -> Result<(), Fail> {
             ReadError::Syntax(Section::Inputs),
         ),
         (
-            "aag 1 0 1 0 0\n2 3 0\n",
+            "aag 1 0 1 0 0\n2 3 2 0\n",
             ReadError::Syntax(Section::Latches),
+        ),
+        (
+            "aag 1 0 1 0 0\n2 3 4\n",
+            ReadError::Literal(Section::Latches),
         ),
         ("aag 1 1 0 0 0\n3\n", ReadError::Literal(Section::Inputs)),
         ("aag 2 2 0 0 0\n2\n2\n", ReadError::Literal(Section::Inputs)),

@@ -19,6 +19,8 @@ fn parses_words(rt: HostRuntime) -> Result<(), Fail> {
     assert_eq!(rt; parse(&words), Some(Command::Text));
     words.push(String::from_str(alloc, "more")?)?;
     assert_eq!(rt; parse(&words), None);
+    words[0] = String::from_str(alloc, "binary")?;
+    assert_eq!(rt; parse(&words), Some(Command::Binary));
     Ok(())
 }
 

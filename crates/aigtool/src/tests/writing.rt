@@ -6,8 +6,11 @@ use std::io;
 use std::io::Write;
 use std::test::Fail;
 
+/// Two inputs, two justice sets and a fairness constraint.
+const PROPERTIES: &str = "aag 2 2 0 0 0 0 0 2 1\n2\n4\n2\n1\n2\n5\n4\n3\n";
+
 /// What a circuit is written as.
-fn text_of(alloc: Global, circuit: &Aig) -> Result<String, Fail> {
+pub(super) fn text_of(alloc: Global, circuit: &Aig) -> Result<String, Fail> {
     let mut sink = ToWrite::new(Vec::new(alloc));
     circuit.write_text(&mut sink)?;
     Ok(String::from_utf8(sink.into_inner())?)
@@ -22,6 +25,18 @@ fn prints_what_it_read(rt: HostRuntime) -> Result<(), Fail> {
         ("aag 1 01 0 0 0\n02\n", "aag 1 1 0 0 0\n2\n"),
         ("aag 1 0 1 1 0\n2 3\n2\n", "aag 1 0 1 1 0\n2 3\n2\n"),
         ("aag 2 2 0 1 0\n4\n2\n2\n", "aag 2 2 0 1 0\n4\n2\n2\n"),
+        ("aag 1 0 1 1 0\n2 3 2\n2\n", "aag 1 0 1 1 0\n2 3 2\n2\n"),
+        ("aag 1 0 1 1 0\n2 3 1\n2\n", "aag 1 0 1 1 0\n2 3 1\n2\n"),
+        ("aig 1 0 1 1 0\n3\n2\n", "aag 1 0 1 1 0\n2 3\n2\n"),
+        (PROPERTIES, PROPERTIES),
+        ("aag 0 0 0 1 0 0 0 0 0\n1\n", "aag 0 0 0 1 0\n1\n"),
+        ("aag 0 0 0 0 0 0 0 1\n0\n", "aag 0 0 0 0 0 0 0 1\n0\n"),
+        ("aig 3 2 0 1 1\n6\n\x02\x02", AND),
+        (
+            "aig 3 2 0 1 1\n6\n\x02\x02i0 x\ncmade here",
+            "aag 3 2 0 1 1\n2\n4\n6\n6 4 2\ni0 x\n",
+        ),
+        ("aag 1 1 0 0 0\n2\ni0 é\n", "aag 1 1 0 0 0\n2\ni0 é\n"),
     ];
     for (text, printed) in rows {
         let circuit = read(rt.alloc(), text)??;

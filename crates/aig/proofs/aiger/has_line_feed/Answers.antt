@@ -1,5 +1,5 @@
 use Rattle.std.proofs.lemmas.Bool.{false≢true}
-use Rattle.aig_writer.proofs.Entries.{get_names}
+use Rattle.aig_circuit.proofs.Names.{get_names}
 use Rattle.aig.proofs.aiger.has_line_feed.Goals as goal
 
 pub returns-in-Some : goal.returns-in-Some

@@ -1,15 +1,15 @@
 use Rattle.std.proofs.Common.{◌≡◌, ◌∙◌, sym, arith}
 use Rattle.aig_grammar.specs.Circuit.{circuit_of}
-use Rattle.aig_grammar.specs.Plain.{AcceptsPlain}
-use Rattle.aig_reader.specs.Circuits.{lists_circuit}
-use Rattle.aig_reader.proofs.Ending.{ends_read, ends_whole}
+use Rattle.aig_grammar.specs.Fits.{Accepts}
+use Rattle.aig_circuit.specs.View.{lists_circuit}
+use Rattle.aig_lexer.proofs.Ending.{ends_read, ends_whole}
 use Rattle.aig_reader.proofs.reader.read.Goals as goal
 
 pub returns-clause-circuit : goal.returns-clause-circuit
 returns-clause-circuit g c =
     let name = sym (c.read_file.ensures.same ∙ c.new-bytes.ensures.same) in
     let b = c.read_file.new.f in
-    ends_read g.R.Source.left c.read_file.result b.window.now b.at b.end b.source.now _ (grind arith) (λ f bytes. AcceptsPlain bytes c.args.limit f) (λ lists f. lists_circuit lists ≡ circuit_of f) _ _ c.read_file.ensures.whole
+    ends_read g.R.Source.left c.read_file.result b.window.now b.at b.end b.source.now _ (grind arith) (λ f bytes. Accepts bytes c.args.limit f) (λ lists f. lists_circuit lists ≡ circuit_of f) _ _ c.read_file.ensures.whole
     (rw c.new-bytes.ensures.bytes at c.read_file.ensures.circuit)
 
 pub returns-clause-exact : goal.returns-clause-exact

@@ -1,12 +1,19 @@
-use Rattle.std.proofs.Common.{◌++◌, [], option_to_list, Option, ℕ, subst}
-use Rattle.std.specs.Io.KnownBytes.{Consumes}
+use Rattle.std.proofs.Common.{◌≡◌, ◌∙◌, ◌++◌, [], ℕ, List, ap}
 use Rattle.std.proofs.KnownBytes.{Consumes-trans}
 use Rattle.std.proofs.lemmas.Result.{err_from_is_err_and}
-use Rattle.aig_front.specs.Plain.{plain_file, plain_sections_at}
-use Rattle.aig_reader.specs.Header.{numbers_of}
-use Rattle.aig_reader.specs.Words.{good_header_at}
-use Rattle.aig_reader.proofs.Accepting.{refused_header, refused_section, refused_rest, section_fault, accepted, accepts, circuit_is}
-use Rattle.aig_reader.proofs.Taking.{takes_both}
+use Rattle.aig_circuit.specs.Circuit.{latch_leaves}
+use Rattle.aig_circuit.specs.View.{names_of}
+use Rattle.aig_circuit.specs.declared.node.AigLatch.{AigLatch}
+use Rattle.aig_circuit.specs.declared.view.CircuitLists.{CircuitLists}
+use Rattle.aig_front.specs.Front.{file_from}
+use Rattle.aig_front.specs.Fitting.{fitting_header_at}
+use Rattle.aig_lexer.specs.Header.{kind_of, numbers_of}
+use Rattle.aig_lexer.proofs.Taking.{takes_both}
+use Rattle.aig_names.specs.Names.{kept_names, tail_of}
+use Rattle.aig_reader.specs.Faults.{name_error_of}
+use Rattle.aig_reader.proofs.Accepting.{Body, refused_header, refused_section, refused_names, section_fault, sections_of, accepted, accepts}
+use Rattle.aig_reader.proofs.FileCircuit.{circuit_is, nodes_distinct}
+use Rattle.aig_reader.proofs.ReadNames.{names_fault, names_in, no_names_in, no_names_left, on_ok_in}
 use Rattle.aig_reader.proofs.reader.read_file.Goals as goal
 
 pub returns-in_err-header-clause-exact : goal.returns-in_err-header-clause-exact
@@ -14,33 +21,71 @@ returns-in_err-header-clause-exact g c =
     let p = err_from_is_err_and c.from_residual.result c.from_residual.ensures.1 in
     rw (p.1, p.2) (refused_header _ c.args.limit _ c.in_err-header.field-0.0 c.in_err-header.ensures.exact c.in_err-header.ensures.too_many)
 
-pub returns-in_err-lists-clause-exact : goal.returns-in_err-lists-clause-exact
-returns-in_err-lists-clause-exact g c =
-    let p = err_from_is_err_and c.from_residual-in_err-lists.result c.from_residual-in_err-lists.ensures.1 in
-    let e = c.in_err-lists.field-0.0 in
-    rw (p.1, p.2) (refused_section _ c.in_ok-header.header c.args.limit _ _ (numbers_of c.in_ok-header.header) e c.in_ok-header.ensures.exact c.in_err-lists.ensures.exact (section_fault e c.in_err-lists.ensures.fault) c.in_ok-header.ensures.too_many)
+pub returns-in_err-sections-clause-exact : goal.returns-in_err-sections-clause-exact
+returns-in_err-sections-clause-exact g c =
+    let p = err_from_is_err_and c.from_residual-in_err-sections.result c.from_residual-in_err-sections.ensures.1 in
+    let e = c.in_err-sections.field-0.0 in
+    let header = c.in_ok-header.header in
+    rw (p.1, p.2)
+    (refused_section _ header c.args.limit _ _ (kind_of header.kind, numbers_of header) e c.in_ok-header.ensures.exact c.in_err-sections.ensures.exact (section_fault e c.in_err-sections.ensures.fault) c.in_ok-header.ensures.too_many)
 
-pub returns-in-None-clause-circuit : goal.returns-in-None-clause-circuit
-returns-in-None-clause-circuit g c =
-    let made = c.in_ok-lists.ensures.exact in
-    let ns = numbers_of c.in_ok-header.header in
-    let body = takes_both (good_header_at c.args.limit) plain_sections_at _ _ _ ns made.0 c.in_ok-header.ensures.exact made.2 in
-    let fits = accepted c.args.limit _ _ (ns, made.0) body in
-    let none = subst (λ (o : Option ℕ). Consumes (g.F.ByteFeed.coming c.read_sections.new.f) (g.F.ByteFeed.coming c.next.new.self) (option_to_list o)) c.in-None.is c.in_ok-next.ensures.byte in
-    (plain_file (ns, made.0), body.taken ++ [], fits, circuit_is c.in_ok-lists.lists (ns, made.0) made.1 fits.1.exact, Consumes-trans _ _ _ body.taken [] body.consumed none)
+pub read_names-names-requires-clause-distinct : goal.read_names-names-requires-clause-distinct
+read_names-names-requires-clause-distinct g c =
+    let header = c.in_ok-header.header in
+    let made = c.in_ok-sections.ensures.exact in
+    let body : Body = ((kind_of header.kind, numbers_of header), made.0) in
+    let taken = takes_both (fitting_header_at c.args.limit) sections_of _ _ _ (kind_of header.kind, numbers_of header) made.0 c.in_ok-header.ensures.exact made.2 in
+    let fits = accepted c.args.limit _ _ body taken [] [] (no_names_left (numbers_of header)) in
+    rw (c.deref.ensures.value, c.deref-2.ensures.value, made.1.inputs, made.1.latchs) (nodes_distinct (file_from body []) c.args.limit fits.1)
 
-pub returns-in-None-clause-exact : goal.returns-in-None-clause-exact
-returns-in-None-clause-exact g c =
-    let made = c.in_ok-lists.ensures.exact in
-    let ns = numbers_of c.in_ok-header.header in
-    let body = takes_both (good_header_at c.args.limit) plain_sections_at _ _ _ ns made.0 c.in_ok-header.ensures.exact made.2 in
-    let none = subst (λ (o : Option ℕ). Consumes (g.F.ByteFeed.coming c.read_sections.new.f) (g.F.ByteFeed.coming c.next.new.self) (option_to_list o)) c.in-None.is c.in_ok-next.ensures.byte in
-    accepts _ c.in_ok-header.header c.args.limit _ _ _ (ns, made.0) c.in_ok-lists.lists body none (c.in_ok-next.ensures.end c.in-None.is).0 c.in_ok-header.ensures.too_many
+pub returns-in_err-names-clause-exact : goal.returns-in_err-names-clause-exact
+returns-in_err-names-clause-exact g c =
+    let p = err_from_is_err_and c.from_residual-in_err-names.result c.from_residual-in_err-names.ensures.1 in
+    let e = c.in_err-names.field-0.0 in
+    let header = c.in_ok-header.header in
+    let made = c.in_ok-sections.ensures.exact in
+    let body : Body = ((kind_of header.kind, numbers_of header), made.0) in
+    let taken = takes_both (fitting_header_at c.args.limit) sections_of _ _ _ (kind_of header.kind, numbers_of header) made.0 c.in_ok-header.ensures.exact made.2 in
+    rw (p.1, p.2)
+    (refused_names _ header c.args.limit _ _ body e taken
+    (no_names_in _ _ _ (tail_of (numbers_of header)) c.read_names-names.result c.names_result.result c.names_result.ensures c.read_names-names.ensures.exact e c.in_err-names.was)
+    (names_fault c.read_names-names.result c.names_result.result e c.names_result.ensures c.in_err-names.was) c.in_ok-header.ensures.too_many)
 
-pub returns-in-Some-clause-exact : goal.returns-in-Some-clause-exact
-returns-in-Some-clause-exact g c =
-    let made = c.in_ok-lists.ensures.exact in
-    let ns = numbers_of c.in_ok-header.header in
-    let body = takes_both (good_header_at c.args.limit) plain_sections_at _ _ _ ns made.0 c.in_ok-header.ensures.exact made.2 in
-    let one = subst (λ (o : Option ℕ). Consumes (g.F.ByteFeed.coming c.read_sections.new.f) (g.F.ByteFeed.coming c.next.new.self) (option_to_list o)) c.in-Some.is c.in_ok-next.ensures.byte in
-    refused_rest _ c.in_ok-header.header c.args.limit _ _ _ (ns, made.0) c.in-Some.field-0 body one c.in_ok-header.ensures.too_many
+pub returns-clause-circuit : goal.returns-clause-circuit
+returns-clause-circuit g c =
+    let header = c.in_ok-header.header in
+    let made = c.in_ok-sections.ensures.exact in
+    let body : Body = ((kind_of header.kind, numbers_of header), made.0) in
+    let taken = takes_both (fitting_header_at c.args.limit) sections_of _ _ _ (kind_of header.kind, numbers_of header) made.0 c.in_ok-header.ensures.exact made.2 in
+    let names = names_in _ _ _ (tail_of (numbers_of header)) c.read_names-names.result c.names_result.result c.names_result.ensures c.read_names-names.ensures.exact c.in_ok-names.names c.in_ok-names.was in
+    let fits = accepted c.args.limit _ _ body taken names.0 names.2 names.3 in
+    let s = c.in_ok-sections.sections in
+    let named : CircuitLists = record {
+      nodes = s.nodes;
+      inputs = s.inputs;
+      latchs = s.latchs;
+      outputs = s.properties.outputs;
+      bads = s.properties.bads;
+      constraints = s.properties.constraints;
+      justice = s.properties.justice;
+      fairness = s.properties.fairness;
+      names = c.in_ok-names.names;
+    } in
+    let kept : names_of named.names.entries ≡ kept_names s.inputs.items (latch_leaves s.latchs.items) names.0 =
+    names.1 ∙ ap (λ (ns : List ℕ). kept_names ns (latch_leaves c.deref-2.result.now) names.0) c.deref.ensures.value ∙ ap (λ (ls : List AigLatch). kept_names s.inputs.items (latch_leaves ls) names.0) c.deref-2.ensures.value in (
+      file_from body names.0,
+      taken.taken ++ names.2,
+      fits,
+      rw c.with_names.ensures (circuit_is (kind_of header.kind) (numbers_of header) made.0 names.0 s named made.1 kept fits.1.exact),
+      Consumes-trans _ _ _ taken.taken names.2 taken.consumed names.4,
+    )
+
+pub returns-clause-exact : goal.returns-clause-exact
+returns-clause-exact g c =
+    let header = c.in_ok-header.header in
+    let made = c.in_ok-sections.ensures.exact in
+    let body : Body = ((kind_of header.kind, numbers_of header), made.0) in
+    let taken = takes_both (fitting_header_at c.args.limit) sections_of _ _ _ (kind_of header.kind, numbers_of header) made.0 c.in_ok-header.ensures.exact made.2 in
+    let names = names_in _ _ _ (tail_of (numbers_of header)) c.read_names-names.result c.names_result.result c.names_result.ensures c.read_names-names.ensures.exact c.in_ok-names.names c.in_ok-names.was in
+    let end = on_ok_in name_error_of _ c.read_names-names.result c.names_result.result c.in_ok-names.names c.names_result.ensures c.in_ok-names.was c.read_names-names.ensures.whole in
+    accepts _ header c.args.limit _ _ (file_from body names.0) (taken.taken ++ names.2) _ (accepted c.args.limit _ _ body taken names.0 names.2 names.3) (Consumes-trans _ _ _ taken.taken names.2 taken.consumed names.4) end.1 c.in_ok-header.ensures.too_many

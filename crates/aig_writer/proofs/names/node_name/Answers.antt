@@ -1,5 +1,5 @@
 use Rattle.aig_writer.proofs.Putting.{Writes-nil}
-use Rattle.aig_writer.proofs.Entries.{get_names}
+use Rattle.aig_circuit.proofs.Names.{get_names}
 use Rattle.aig_writer.proofs.names.node_name.Goals as goal
 
 pub returns-in-Some-clause-ok : goal.returns-in-Some-clause-ok

@@ -1,10 +1,11 @@
-use Rattle.std.proofs.Common.{◌≡◌, ℕ, Option, Some, None, Result, Err, List, IfSome, sym, ap, subst}
+use Rattle.std.proofs.Common.{◌≡◌, ℕ, Option, Some, None, Result, Err, List, ◌≤◌, length, IfSome, sym, ap, subst, ◌∙◌}
 use Rattle.std.specs.Prelude.{IsErrOf}
-use Rattle.aig_circuit.specs.Circuit.{IsCircuit}
+use Rattle.aig_circuit.specs.Circuit.{Circuit, IsCircuit}
 use Rattle.aig_machine.proofs.Circuits.{IsCircuit-of_file}
+use Rattle.aig_machine.proofs.FileNodes.{few_nodes}
 use Rattle.aig_reader.specs.declared.error.ReadError.{ReadError}
 use Rattle.aig_reader.specs.declared.error.ReadError.TheVariants.{Memory, Stream, Header, TooMany, Syntax, Literal, Delta, Name, Open}
-use Rattle.aig_reader.specs.declared.lists.CircuitLists.{CircuitLists}
+use Rattle.aig_circuit.specs.declared.view.CircuitLists.{CircuitLists}
 use Rattle.aig_reader.specs.Reading.{UnlessInterrupted, ReadsExactly}
 use Rattle.aig.specs.declared.graph.Aig.{Aig}
 use Rattle.aig.proofs.graph.Aig.from_aiger.Goals as goal
@@ -44,6 +45,12 @@ pub from_lists-requires : goal.from_lists-requires
 from_lists-requires g c =
     let read = c.in-Ok.ensures.circuit in
     subst IsCircuit (sym read.3) (IsCircuit-of_file read.0 c.args.limit read.2.1)
+
+pub returns-in-Ok-clause-few : goal.returns-in-Ok-clause-few
+returns-in-Ok-clause-few g c =
+    let read = c.in-Ok.ensures.circuit in
+    let same = c.from_lists.ensures ∙ read.3 in
+    subst (λ (circuit : Circuit). length circuit.nodes ≤ c.args.limit) (sym same) (few_nodes read.0 c.args.limit read.2.1)
 
 pub returns-in-Err-clause-exact : goal.returns-in-Err-clause-exact
 returns-in-Err-clause-exact g c = same_where_known CircuitLists Aig c.in-Err.fault _ c.args.limit c.in-Err.ensures.exact

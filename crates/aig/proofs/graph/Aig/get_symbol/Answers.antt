@@ -2,7 +2,7 @@ use Rattle.std.proofs.Common.{Some, sym, ap, ◌∙◌}
 use Rattle.std.specs.Prelude.{option_map, string_bytes}
 use Rattle.std.specs.FinMap.{get}
 use Rattle.aig_circuit.specs.Circuit.{Circuit}
-use Rattle.aig_writer.proofs.Entries.{get_names}
+use Rattle.aig_circuit.proofs.Names.{get_names}
 use Rattle.aig.proofs.graph.Aig.get_symbol.Goals as goal
 
 pub returns-in_ok-clone-in-Some : goal.returns-in_ok-clone-in-Some

@@ -6,13 +6,13 @@ use Rattle.aig_circuit.specs.declared.edge.AigEdge.{AigEdge}
 use Rattle.aig.proofs.Refusing.{lists-numbers, sets-items}
 use Rattle.aig.proofs.graph.Aig.is_small.Goals as goal
 
-pub returns-then-not-are_numbers : goal.returns-then-not-are_numbers
-returns-then-not-are_numbers c =
+pub returns-then-not-are_numbers-clause-small : goal.returns-then-not-are_numbers-clause-small
+returns-then-not-are_numbers-clause-small c =
     let lists = lists-numbers (λ n. n < 2 ^ 32) c.args.self.now _ _ _ _ _ _ _ (ap length c.inputs.ensures) (ap length c.latchs.ensures) (ap length c.outputs.ensures) (ap length c.bads.ensures) (ap length c.constraints.ensures) (sym (length-map c.justice.result.now _) ∙ ap length c.justice.ensures) (ap length c.fairness.ensures) in
     (λ h. absurd (false≢true h), λ small. absurd (false≢true (sym c.if-not-are_numbers.true ∙ c.are_numbers.ensures.1 (lists.1 small.lists))))
 
-pub returns : goal.returns
-returns c =
+pub returns-clause-small : goal.returns-clause-small
+returns-clause-small c =
     let lists = lists-numbers (λ n. n < 2 ^ 32) c.args.self.now _ _ _ _ _ _ _ (ap length c.inputs.ensures) (ap length c.latchs.ensures) (ap length c.outputs.ensures) (ap length c.bads.ensures) (ap length c.constraints.ensures) (sym (length-map c.justice.result.now _) ∙ ap length c.justice.ensures) (ap length c.fairness.ensures) in
     let sets = sets-items (λ n. n < 2 ^ 32) c.justice-2.result.now in
     let in_view = λ (all : All (λ (set : List AigEdge). length set < 2 ^ 32) _). subst (All (λ (set : List AigEdge). length set < 2 ^ 32)) c.justice-2.ensures all in (

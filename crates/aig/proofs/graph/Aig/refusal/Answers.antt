@@ -1,6 +1,6 @@
 use Rattle.std.proofs.Common.{sym, ◌∙◌}
 use Rattle.std.proofs.lemmas.Bool.{false≢true}
-use Rattle.aig.specs.Writing.{HasLineFeed, named_nodes}
+use Rattle.aig_grammar.specs.Writable.{HasLineFeed, named_nodes}
 use Rattle.aig.proofs.Refusing.{none_where_false, starts_plain}
 use Rattle.aig.proofs.graph.Aig.refusal.Goals as goal
 
@@ -17,7 +17,7 @@ returns-then-not-is_small-clause-tells c = (
   c.is_closed.ensures.closed.0 c.if-not-is_closed.false,
   starts_plain c.latchs.result.now c.args.self.now.latchs _ c.latchs.ensures c.has_open_start.ensures c.if-has_open_start.false,
   none_where_false (HasLineFeed c.args.self.now.names) (named_nodes c.args.self.now) _ c.names_hold_line_feed.ensures c.if-names_hold_line_feed.false,
-  λ small. false≢true (sym c.if-not-is_small.true ∙ c.is_small.ensures.1 small),
+  λ small. false≢true (sym c.if-not-is_small.true ∙ c.is_small.ensures.small.1 small),
 )
 
 pub returns-else-not-is_small-clause-tells : goal.returns-else-not-is_small-clause-tells
@@ -25,5 +25,5 @@ returns-else-not-is_small-clause-tells c = record {
   closed = c.is_closed.ensures.closed.0 c.if-not-is_closed.false;
   start = starts_plain c.latchs.result.now c.args.self.now.latchs _ c.latchs.ensures c.has_open_start.ensures c.if-has_open_start.false;
   names = none_where_false (HasLineFeed c.args.self.now.names) (named_nodes c.args.self.now) _ c.names_hold_line_feed.ensures c.if-names_hold_line_feed.false;
-  small = c.is_small.ensures.0 c.if-not-is_small.false;
+  small = c.is_small.ensures.small.0 c.if-not-is_small.false;
 }

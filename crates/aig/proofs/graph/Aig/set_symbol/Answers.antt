@@ -3,7 +3,7 @@ use Rattle.std.specs.FinMap.{FinMap, insert}
 use Rattle.aig_circuit.specs.Circuit.{Circuit, IsCircuit}
 use Rattle.aig_circuit.proofs.Circuits.{IsCircuit-named}
 use Rattle.aig.specs.View.{held_circuit}
-use Rattle.aig.proofs.Names.{names_insert, named_insert}
+use Rattle.aig_circuit.proofs.Names.{names_insert, named_insert}
 use Rattle.aig.proofs.graph.Aig.set_symbol.Goals as goal
 
 pub invariant_of-self-2 : goal.invariant_of-self-2

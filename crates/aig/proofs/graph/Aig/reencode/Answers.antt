@@ -1,0 +1,28 @@
+use Rattle.std.proofs.Common.{◌≡◌, sym, ap, subst, ◌∙◌}
+use Rattle.aig_circuit.specs.Circuit.{Circuit, IsCircuit}
+use Rattle.aig_circuit.specs.Runs.{KeepsRuns}
+use Rattle.aig_circuit.specs.Reencode.{IsPlaced, new_number, reencoded}
+use Rattle.aig_renumber.proofs.Placed.{IsCircuit-reencoded, IsPlaced-reencoded, KeepsRuns-reencoded, reencoded-twice}
+use Rattle.aig.proofs.graph.Aig.reencode.Goals as goal
+
+pub from_lists-requires : goal.from_lists-requires
+from_lists-requires c =
+    subst IsCircuit (sym (c.in_ok-lists.ensures ∙ ap reencoded c.view-circuit.ensures.lists)) (IsCircuit-reencoded c.args.self.now c.view-circuit.ensures.circuit c.requires)
+
+pub returns-clause-exact : goal.returns-clause-exact
+returns-clause-exact c = c.from_lists.ensures ∙ c.in_ok-lists.ensures ∙ ap reencoded c.view-circuit.ensures.lists
+
+pub returns-clause-kept : goal.returns-clause-kept
+returns-clause-kept c =
+    let made = c.from_lists.ensures ∙ c.in_ok-lists.ensures ∙ ap reencoded c.view-circuit.ensures.lists in
+    subst (λ (d : Circuit). KeepsRuns c.args.self.now d (new_number c.args.self.now)) (sym made) (KeepsRuns-reencoded c.args.self.now c.view-circuit.ensures.circuit c.requires)
+
+pub returns-clause-placed : goal.returns-clause-placed
+returns-clause-placed c =
+    let made = c.from_lists.ensures ∙ c.in_ok-lists.ensures ∙ ap reencoded c.view-circuit.ensures.lists in
+    subst IsPlaced (sym made) (IsPlaced-reencoded c.args.self.now c.view-circuit.ensures.circuit c.requires)
+
+pub returns-clause-twice : goal.returns-clause-twice
+returns-clause-twice c =
+    let made = c.from_lists.ensures ∙ c.in_ok-lists.ensures ∙ ap reencoded c.view-circuit.ensures.lists in
+    subst (λ (d : Circuit). reencoded d ≡ d) (sym made) (reencoded-twice c.args.self.now c.view-circuit.ensures.circuit c.requires)

@@ -1,0 +1,26 @@
+//! The clauses of a circuit.
+
+ghost use Rattle.std.specs.Prelude.{◌≤◌, ◌^◌, false, IfOk, length};
+ghost use Rattle.aig_clauses.specs.Cnf.{FixesRoots, HasClauses, NodeValuesSatisfy};
+
+use crate::graph::Aig;
+use aig_base::{DagCnf, MemoryError};
+
+impl Aig {
+    /// The clauses of the gates that the roots reach, with one variable a node, numbered as the node is.
+    ///
+    /// The roots are all properties, all next and all initial edges. A gate is the and of its operands; variable 0 is
+    /// false. The clauses say nothing of the values of bad states, constraints or initial edges. Asks `fits_lits`.
+    /// `optimize` changes nothing yet.
+    pub fn cnf(&self, _optimize: bool) -> Result<DagCnf, MemoryError>
+        requires { length self.now.nodes ≤ 2 ^ 31 }
+        // Which variable has which clauses.
+        ensures clauses { IfOk result (λ lists. HasClauses self.now false lists) }
+        // Each satisfying assignment gives each root its value under the assignment's leaf values.
+        ensures fixes { IfOk result (λ lists. FixesRoots self.now lists) }
+        // The node values under any leaf values satisfy.
+        ensures satisfied { IfOk result (λ lists. NodeValuesSatisfy self.now lists) }
+    {
+        aig_clauses::clauses(self.allocator(), &self.view(), false)
+    }
+}

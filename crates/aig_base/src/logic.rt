@@ -1,0 +1,13 @@
+//! Literals, three values, lists of clauses, and a map of variables.
+
+mod clauses;
+mod dag;
+mod literal;
+mod map;
+mod three;
+
+pub use clauses::LitVvec;
+pub use dag::DagCnf;
+pub use literal::{Lit, Var};
+pub use map::VarVMap;
+pub use three::Lbool;

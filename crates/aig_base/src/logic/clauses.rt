@@ -1,0 +1,163 @@
+ghost use Rattle.std.specs.Prelude.{◌≡◌, ◌↔◌, ◌<◌, ◌≤◌, ◌+◌, ◌^◌, ◌++◌, ◌∷◌, [], ℕ, Bool, Some, IsTrue, All, not, if◌then◌else◌, length, map, slice_get, vec_len, vec_capacity, IfOk, OnOk, OnErr};
+ghost use Rattle.std.specs.List.{list_all};
+ghost use Rattle.aig_base.specs.Clauses.{literal_value, are_true, and_clauses, xor_clauses, ite_clauses, inverse_lit};
+ghost use Rattle.aig_base.specs.Cut.{start_of};
+
+use crate::logic::literal::Lit;
+use crate::memory::MemoryError;
+use std::alloc::Global;
+use std::marker::Model;
+
+/// A list of clauses: their literals one after another, and where each clause ends.
+#[derive(Drop)]
+pub struct LitVvec {
+    literals: Vec<Lit>,
+    ends: Vec<usize>,
+}
+
+impl Model for LitVvec {
+    ghost use Rattle.std.specs.Prelude.{List, length};
+    ghost use Rattle.aig_base.specs.declared.logic.literal.Lit.{Lit};
+    ghost use Rattle.aig_base.specs.Cut.{cut_at, AreEnds};
+
+    ghost Value = { List (List Lit) };
+
+    ghost view = { λ a. cut_at 0 a.ends.items a.literals.items };
+
+    ghost invariant = { λ a. AreEnds 0 a.ends.items (length a.literals.items) };
+}
+
+impl LitVvec {
+    /// A list of no clauses.
+    pub fn new(alloc: Global) -> LitVvec
+        ensures { result ≡ [] }
+    {
+        LitVvec {
+            literals: Vec::new(alloc),
+            ends: Vec::new(alloc),
+        }
+    }
+
+    /// Appends one clause.
+    pub fn push(&mut self, clause: &[Lit]) -> Result<(), MemoryError>
+        ensures ok { OnOk result (self.new ≡ self.old ++ clause.now ∷ []) }
+        ensures err { OnErr result (self.new ≡ self.old) }
+    {
+        self.ends.reserve(1)?;
+        self.literals.extend_from_slice(clause)?;
+        self.ends.push(self.literals.len())?;
+        Ok(())
+    }
+
+    /// How many clauses there are.
+    pub fn len(&self) -> usize
+        ensures { result ≡ length self.now }
+    {
+        self.ends.len()
+    }
+
+    /// The literals of a clause. Asks a number below `len`.
+    pub fn clause(&self, i: usize) -> &[Lit]
+        requires { i < length self.now }
+        ensures { slice_get self.now i ≡ Some result.now }
+    {
+        &self.literals[start(&self.ends, i)..self.ends[i]]
+    }
+
+    /// Appends the clauses of another list.
+    pub(crate) fn append(&mut self, other: &LitVvec) -> Result<(), MemoryError>
+        ensures ok { OnOk result (self.new ≡ self.old ++ other.now) }
+        ensures err { OnErr result (self.new ≡ self.old) }
+    {
+        self.ends.reserve(other.ends.len())?;
+        let before = self.literals.len();
+        self.literals.extend_from_slice(&other.literals)?;
+        append_shifted(&mut self.ends, &other.ends, before);
+        Ok(())
+    }
+
+    /// Appends the clause of one literal and the inverses of others.
+    fn push_inverses(&mut self, first: Lit, others: &[Lit]) -> Result<(), MemoryError>
+        ensures ok { OnOk result (self.new ≡ self.old ++ (first ∷ map inverse_lit others.now) ∷ []) }
+        ensures err { OnErr result (self.new ≡ self.old) }
+    {
+        self.ends.reserve(1)?;
+        self.literals.reserve(others.len() + 1)?;
+        self.literals.push(first)?;
+        append_inverses(&mut self.literals, others);
+        self.ends.push(self.literals.len())?;
+        Ok(())
+    }
+
+    /// The clauses that hold exactly where `n` is the and of the literals.
+    pub fn cnf_and(alloc: Global, n: Lit, lits: &[Lit]) -> Result<LitVvec, MemoryError>
+        ensures clauses { IfOk result (λ rel. rel ≡ and_clauses n lits.now) }
+        ensures relation { IfOk result (λ rel. (v : ℕ → Bool) → IsTrue (are_true v rel) ↔ (literal_value v n ≡ list_all (literal_value v) lits.now)) }
+    {
+        let mut rel = LitVvec::new(alloc);
+        for lit in lits {
+            rel.push(&[!n, *lit])?;
+        }
+        rel.push_inverses(n, lits)?;
+        Ok(rel)
+    }
+
+    /// The clauses that hold exactly where `n` is `x` exclusive or `y`.
+    pub fn cnf_xor(alloc: Global, n: Lit, x: Lit, y: Lit) -> Result<LitVvec, MemoryError>
+        ensures clauses { IfOk result (λ rel. rel ≡ xor_clauses n x y) }
+        ensures relation { IfOk result (λ rel. (v : ℕ → Bool) → IsTrue (are_true v rel) ↔ (literal_value v n ≡ (if literal_value v x then not (literal_value v y) else literal_value v y))) }
+    {
+        let mut rel = LitVvec::new(alloc);
+        rel.push(&[!n, x, y])?;
+        rel.push(&[!n, !x, !y])?;
+        rel.push(&[n, !x, y])?;
+        rel.push(&[n, x, !y])?;
+        Ok(rel)
+    }
+
+    /// The clauses that hold exactly where `n` is `t` if `c` is true, and else `e`.
+    pub fn cnf_ite(alloc: Global, n: Lit, c: Lit, t: Lit, e: Lit) -> Result<LitVvec, MemoryError>
+        ensures clauses { IfOk result (λ rel. rel ≡ ite_clauses n c t e) }
+        ensures relation { IfOk result (λ rel. (v : ℕ → Bool) → IsTrue (are_true v rel) ↔ (literal_value v n ≡ (if literal_value v c then literal_value v t else literal_value v e))) }
+    {
+        let mut rel = LitVvec::new(alloc);
+        rel.push(&[!c, !t, n])?;
+        rel.push(&[!c, t, !n])?;
+        rel.push(&[c, !e, n])?;
+        rel.push(&[c, e, !n])?;
+        Ok(rel)
+    }
+}
+
+/// Where the clause of this place begins.
+fn start(ends: &[usize], i: usize) -> usize
+    requires { i < length ends.now }
+    ensures { result ≡ start_of 0 ends.now i }
+{
+    if i == 0 { 0 } else { ends[i - 1] }
+}
+
+/// Appends the ends of other clauses, which begin behind `by` literals. There is room for them.
+fn append_shifted(ends: &mut Vec<usize>, others: &[usize], by: usize)
+    requires room { vec_len ends.old + length others.now ≤ vec_capacity ends.old }
+    requires fits { All (λ end. by + end < 2 ^ 64) others.now }
+    ensures { ends.new.items ≡ ends.old.items ++ map (λ end. by + end) others.now }
+{
+    for end in others {
+        if ends.push(by + *end).is_err() {
+            unreachable!();
+        }
+    }
+}
+
+/// Appends the inverses of literals. There is room for them.
+fn append_inverses(literals: &mut Vec<Lit>, others: &[Lit])
+    requires { vec_len literals.old + length others.now ≤ vec_capacity literals.old }
+    ensures { literals.new.items ≡ literals.old.items ++ map inverse_lit others.now }
+{
+    for lit in others {
+        if literals.push(!*lit).is_err() {
+            unreachable!();
+        }
+    }
+}

@@ -1,0 +1,92 @@
+ghost use Rattle.std.specs.Prelude.{◌≡◌, ◌<◌, ◌^◌, ◌++◌, ◌∷◌, [], Some, length, false, sum_by, slice_get, slice_set, slice_index_or, IfOk, OnOk, OnErr};
+ghost use Rattle.aig_base.specs.Clauses.{AreBelow, AreRelations, lit_to, number_of, var_of};
+
+use crate::logic::clauses::LitVvec;
+use crate::logic::literal::{Lit, Var};
+use crate::memory::MemoryError;
+use std::alloc::Global;
+use std::marker::Model;
+
+/// Clauses in one list for each variable, which are numbered from 0.
+///
+/// There is one variable at least, and 2^31 at most. Every literal is one of a variable that is there.
+#[derive(Drop)]
+pub struct DagCnf {
+    relations: Vec<LitVvec>,
+}
+
+impl Model for DagCnf {
+    ghost use Rattle.std.specs.Prelude.{List};
+    ghost use Rattle.aig_base.specs.declared.logic.literal.Lit.{Lit};
+    ghost use Rattle.aig_base.specs.Clauses.{AreRelations};
+
+    ghost Value = { List (List (List Lit)) };
+
+    ghost view = { λ a. a.relations.items };
+
+    ghost invariant = { λ a. AreRelations a.relations.items };
+}
+
+impl DagCnf {
+    /// Variable 0 alone, with the one clause that it is false.
+    pub fn new(alloc: Global) -> Result<DagCnf, MemoryError>
+        ensures { IfOk result (λ dag. dag ≡ ((lit_to 0 false ∷ []) ∷ []) ∷ []) }
+    {
+        let mut unit = LitVvec::new(alloc);
+        unit.push(&[!Var::new(0).lit()])?;
+        let mut relations = Vec::new(alloc);
+        relations.push(unit)?;
+        Ok(DagCnf { relations })
+    }
+
+    /// Adds a variable without clauses, and answers it. Asks that there are fewer than 2^31.
+    pub fn new_var(&mut self) -> Result<Var, MemoryError>
+        requires { length self.old < 2 ^ 31 }
+        ensures var { IfOk result (λ var. var ≡ var_of (length self.old)) }
+        ensures ok { OnOk result (self.new ≡ self.old ++ [] ∷ []) }
+        ensures err { OnErr result (self.new ≡ self.old) }
+    {
+        let number = self.relations.len();
+        let alloc = *self.relations.allocator();
+        self.relations.push(LitVvec::new(alloc))?;
+        Ok(Var::new(number))
+    }
+
+    /// Appends clauses to the list of a variable. Asks that it and all variables of the clauses are there.
+    pub fn add_rel(&mut self, var: Var, rel: &LitVvec) -> Result<(), MemoryError>
+        requires var { number_of var < length self.old }
+        requires rel { AreBelow (length self.old) rel.now }
+        ensures ok { OnOk result (self.new ≡ slice_set self.old (number_of var) (slice_index_or self.old (number_of var) [] ++ rel.now)) }
+        ensures err { OnErr result (self.new ≡ self.old) }
+    {
+        let i = usize::from(var);
+        self.relations[i].append(rel)
+    }
+
+    /// How many variables there are.
+    pub fn num_vars(&self) -> usize
+        ensures count { result ≡ length self.now }
+        ensures relations { AreRelations self.now }
+    {
+        self.relations.len()
+    }
+
+    /// How many clauses all lists have together.
+    pub fn num_clauses(&self) -> usize
+        ensures { sum_by length self.now < 2 ^ 64 → result ≡ sum_by length self.now }
+    {
+        let mut count: usize = 0;
+        for relation in &self.relations {
+            count = count.saturating_add(relation.len());
+        }
+        count
+    }
+
+    /// The clauses of a variable. Asks that it is there.
+    pub fn clauses_of(&self, var: Var) -> &LitVvec
+        requires { number_of var < length self.now }
+        ensures { slice_get self.now (number_of var) ≡ Some result.now }
+    {
+        &self.relations[usize::from(var)]
+    }
+}

@@ -1,0 +1,58 @@
+ghost use Rattle.std.specs.Prelude.{◌≡◌};
+
+use std::ops::{BitAnd, Not};
+
+/// False, true or unknown.
+#[derive(Clone, Copy, Debug, Default, PartialEq, Eq)]
+pub enum Lbool {
+    /// False.
+    FALSE,
+    /// True.
+    TRUE,
+    /// Unknown.
+    #[default]
+    NONE,
+}
+
+impl Lbool {
+    ghost use Rattle.aig_base.specs.Three.{lbool_not_if};
+
+    /// The inverse where `x` is true, and else the value.
+    pub fn not_if(self, x: bool) -> Lbool
+        ensures { result ≡ lbool_not_if x self }
+    {
+        if x { !self } else { self }
+    }
+}
+
+impl Not for Lbool {
+    type Output = Lbool;
+
+    ghost use Rattle.aig_base.specs.Three.{lbool_not};
+
+    ghost not_gives = { λ value inverse. inverse ≡ lbool_not value };
+
+    fn not(self) -> Lbool {
+        match self {
+            Lbool::FALSE => Lbool::TRUE,
+            Lbool::TRUE => Lbool::FALSE,
+            Lbool::NONE => Lbool::NONE,
+        }
+    }
+}
+
+impl BitAnd for Lbool {
+    type Output = Lbool;
+
+    ghost use Rattle.aig_base.specs.Three.{lbool_and};
+
+    ghost bitand_gives = { λ a b both. both ≡ lbool_and a b };
+
+    fn bitand(self, other: Lbool) -> Lbool {
+        match (self, other) {
+            (Lbool::FALSE, _) | (_, Lbool::FALSE) => Lbool::FALSE,
+            (Lbool::TRUE, Lbool::TRUE) => Lbool::TRUE,
+            _ => Lbool::NONE,
+        }
+    }
+}

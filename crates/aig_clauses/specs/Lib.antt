@@ -1,0 +1,3 @@
+pub mod Cnf
+pub mod Marks
+pub mod Patterns

@@ -1,0 +1,11 @@
+pub mod Window
+pub mod Going
+pub mod Taking
+pub mod Words
+pub mod WordBytes
+pub mod NextLine
+pub mod Deltas
+pub mod KindWord
+pub mod HeaderNumbers
+pub mod Lines
+pub mod Ending

@@ -1,0 +1,8 @@
+-- What a fault tells.
+use Rattle.aig_lexer.specs.declared.error.LexError.{LexError}
+use Rattle.aig_lexer.specs.declared.error.LexError.TheVariants as lex
+
+-- the fact, unless the stream failed
+abbrev pub OnShape : LexError → Type 0 → Type 0
+OnShape lex.Stream P = Unit {0}
+OnShape lex.Shape P = P

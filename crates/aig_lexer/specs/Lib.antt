@@ -1,0 +1,5 @@
+pub mod Bytes
+pub mod Takes
+pub mod Faults
+pub mod Words
+pub mod Header

@@ -1,0 +1,21 @@
+-- Readers on lists for the words of the format.
+use Rattle.std.specs.Prelude.{ℕ, ◌==◌, if◌then◌else◌, nat_le, List, [], ◌∷◌, length, Option, Some, None}
+use Rattle.aig_grammar.specs.File.{Kind, Text, Binary}
+use Rattle.aig_front.specs.Front.{◌>>=◌, byte_at, line_at, mapped_at, padded, strip, tested_at}
+
+-- this byte
+abbrev pub expect_at : ℕ → List ℕ → Option (ℕ × List ℕ)
+expect_at byte = tested_at byte_at (λ b. byte == b)
+
+-- these bytes
+abbrev pub word_at : List ℕ → List ℕ → Option (Unit {0} × List ℕ)
+word_at text bytes = strip text bytes >>= λ rest. Some (tt, rest)
+
+-- the second byte of the kind's word: `a` or `i`
+abbrev pub kind_byte_at : List ℕ → Option (Kind × List ℕ)
+kind_byte_at [] = None
+kind_byte_at (b ∷ bs) = if b == 97 then Some (Text, bs) else if b == 105 then Some (Binary, bs) else None
+
+-- five to nine numbers in a line, with zeros for those that are not written
+abbrev pub header_numbers_at : List ℕ → Option (List ℕ × List ℕ)
+header_numbers_at = mapped_at padded (tested_at (line_at 9) (λ ns. nat_le 5 (length ns)))

@@ -1,0 +1,83 @@
+ghost use Rattle.std.specs.Prelude.{◌≡◌, ℕ, ◌+◌, ◌-◌, ◌*◌, ◌<◌, ◌≤◌, List, Option, None, Bool, true, false, length, IfOk, OnErr, OnSome, option_to_list};
+ghost use Rattle.std.specs.Io.KnownBytes.{Consumes, IsAtEnd};
+ghost use Rattle.aig_lexer.specs.Bytes.{coming_of};
+
+use aig_base::{Source, StreamFault};
+
+/// Gives bytes one by one.
+pub trait ByteFeed {
+    /// The bytes to come, where they are known.
+    ghost coming: { Self → Option (List ℕ) };
+
+    /// Whether a read has failed.
+    ghost failed: { Self → Bool };
+
+    /// How many bytes at most will still come.
+    ghost turns: { Self → ℕ };
+
+    /// The reference that it reads through, if any: 0 where there is none.
+    ghost behind: { Self → ℕ };
+
+    /// The next byte, or none at the end.
+    fn next(&mut self) -> Result<Option<u8>, StreamFault>
+        ensures byte { IfOk result (λ o. Consumes (coming self.old) (coming self.new) (option_to_list o)) }
+        ensures end { IfOk result (λ o. o ≡ None → IsAtEnd (coming self.new) × (failed self.new ≡ false)) }
+        ensures err { OnErr result (failed self.new ≡ true) }
+        ensures fewer { IfOk result (λ o. OnSome o (turns self.new < turns self.old)) }
+        ensures same { behind self.new ≡ behind self.old };
+}
+
+/// How many bytes the window of a `Buffered` has.
+pub const SIZE: usize = 4096;
+
+/// A source through a window of a fixed size.
+#[derive(Drop)]
+pub struct Buffered<'a, R> {
+    source: &'a mut R,
+    window: &'a mut [u8],
+    at: usize,
+    end: usize,
+    ghost size: { length window.now ≡ 4096 },
+    ghost low: { at ≤ end },
+    ghost high: { end ≤ 4096 },
+}
+
+impl<'a, R: Source> Buffered<'a, R> {
+    /// Reads `source` from where it is.
+    pub fn new(source: &'a mut R, window: &'a mut [u8]) -> Self
+        requires { length window.old ≡ SIZE }
+        ensures bytes { coming_of result.window.now result.at result.end (R.left result.source.now) ≡ R.left source.entry.now }
+        ensures same { result.source.ghost_name ≡ source.entry.ghost_name }
+    {
+        Buffered {
+            source,
+            window,
+            at: 0,
+            end: 0,
+        }
+    }
+}
+
+impl<'a, R: Source> ByteFeed for Buffered<'a, R> {
+    ghost coming = { λ b. coming_of b.window.now b.at b.end (R.left b.source.now) };
+
+    ghost failed = { λ b. R.failed b.source.now };
+
+    ghost turns = { λ b. 4096 * R.pulls b.source.now + (b.end - b.at) };
+
+    ghost behind = { λ b. b.source.ghost_name };
+
+    fn next(&mut self) -> Result<Option<u8>, StreamFault> {
+        if self.at == self.end {
+            let n = self.source.pull(self.window)?;
+            self.at = 0;
+            self.end = n;
+            if n == 0 {
+                return Ok(None);
+            }
+        }
+        let b = self.window[self.at];
+        self.at += 1;
+        Ok(Some(b))
+    }
+}

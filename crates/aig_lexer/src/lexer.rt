@@ -1,0 +1,148 @@
+//! Words of the format: bytes, numbers, and lines of numbers.
+
+ghost use Rattle.std.specs.Prelude.{◌≡◌, ◌+◌, ◌<◌, ◌≤◌, length, IsErrOf, OnOk, true};
+ghost use Rattle.aig_front.specs.Front.{delta_at, ended_at, number_at};
+ghost use Rattle.aig_front.specs.Fitting.{next_at, pair_at, triple_at};
+ghost use Rattle.aig_lexer.specs.Faults.{OnShape};
+ghost use Rattle.aig_lexer.specs.Takes.{Gives};
+ghost use Rattle.aig_lexer.specs.Words.{expect_at, word_at};
+
+use crate::error::LexError;
+use crate::feed::ByteFeed;
+
+/// Reads this byte.
+pub fn expect<F: ByteFeed>(f: &mut F, byte: u8) -> Result<(), LexError>
+    ensures exact { Gives OnShape (λ _. byte) (F.coming f.old) (F.coming f.new) result (expect_at byte) }
+    ensures stream { IsErrOf result LexError.Stream → F.failed f.new ≡ true }
+    ensures same { F.behind f.new ≡ F.behind f.old }
+    ensures fewer { OnOk result (F.turns f.new < F.turns f.old) }
+{
+    match f.next()? {
+        Some(b) if b == byte => Ok(()),
+        _ => Err(LexError::Shape),
+    }
+}
+
+/// Reads a number, and the byte that ends it.
+pub fn number<F: ByteFeed>(f: &mut F) -> Result<(u32, u8), LexError>
+    ensures exact { Gives OnShape (λ x. (x.0, x.1)) (F.coming f.old) (F.coming f.new) result number_at }
+    ensures stream { IsErrOf result LexError.Stream → F.failed f.new ≡ true }
+    ensures same { F.behind f.new ≡ F.behind f.old }
+    ensures fewer { OnOk result (F.turns f.new < F.turns f.old) }
+{
+    let Some(first) = f.next()? else {
+        return Err(LexError::Shape);
+    };
+    if !first.is_ascii_digit() {
+        return Err(LexError::Shape);
+    }
+    let mut value = (first - b'0') as u64;
+    while let Some(b) = f.next()? {
+        if !b.is_ascii_digit() {
+            return Ok((value as u32, b));
+        }
+        value = 10 * value + (b - b'0') as u64;
+        if value > u32::MAX as u64 {
+            return Err(LexError::Shape);
+        }
+    }
+    Err(LexError::Shape)
+}
+
+/// Reads a number that this byte ends.
+pub fn ended<F: ByteFeed>(f: &mut F, end: u8) -> Result<u32, LexError>
+    ensures exact { Gives OnShape (λ x. x) (F.coming f.old) (F.coming f.new) result (ended_at end) }
+    ensures stream { IsErrOf result LexError.Stream → F.failed f.new ≡ true }
+    ensures same { F.behind f.new ≡ F.behind f.old }
+    ensures fewer { OnOk result (F.turns f.new < F.turns f.old) }
+{
+    let (value, found) = number(f)?;
+    if found != end {
+        return Err(LexError::Shape);
+    }
+    Ok(value)
+}
+
+/// Reads a line of two numbers.
+pub fn pair<F: ByteFeed>(f: &mut F) -> Result<(u32, u32), LexError>
+    ensures exact { Gives OnShape (λ x. (x.0, x.1)) (F.coming f.old) (F.coming f.new) result pair_at }
+    ensures stream { IsErrOf result LexError.Stream → F.failed f.new ≡ true }
+    ensures same { F.behind f.new ≡ F.behind f.old }
+    ensures fewer { OnOk result (F.turns f.new < F.turns f.old) }
+{
+    let first = ended(f, b' ')?;
+    let second = ended(f, b'\n')?;
+    Ok((first, second))
+}
+
+/// Reads a line of three numbers.
+pub fn triple<F: ByteFeed>(f: &mut F) -> Result<(u32, u32, u32), LexError>
+    ensures exact { Gives OnShape (λ x. (x.0, (x.1, x.2))) (F.coming f.old) (F.coming f.new) result triple_at }
+    ensures stream { IsErrOf result LexError.Stream → F.failed f.new ≡ true }
+    ensures same { F.behind f.new ≡ F.behind f.old }
+    ensures fewer { OnOk result (F.turns f.new < F.turns f.old) }
+{
+    let first = ended(f, b' ')?;
+    let (second, third) = pair(f)?;
+    Ok((first, second, third))
+}
+
+/// Reads a latch's next literal, and its reset if one is written, up to the end of the line.
+pub fn next_line<F: ByteFeed>(f: &mut F) -> Result<(u32, Option<u32>), LexError>
+    ensures exact { Gives OnShape (λ x. (x.0, x.1)) (F.coming f.old) (F.coming f.new) result next_at }
+    ensures stream { IsErrOf result LexError.Stream → F.failed f.new ≡ true }
+    ensures same { F.behind f.new ≡ F.behind f.old }
+    ensures fewer { OnOk result (F.turns f.new < F.turns f.old) }
+{
+    let (next, end) = number(f)?;
+    if end == b'\n' {
+        return Ok((next, None));
+    }
+    if end != b' ' {
+        return Err(LexError::Shape);
+    }
+    let reset = ended(f, b'\n')?;
+    Ok((next, Some(reset)))
+}
+
+/// How many groups of seven bits a difference has at most.
+const MOST_GROUPS: u32 = 5;
+
+/// Reads a difference of a binary file: groups of seven bits, the lowest first; a byte whose top bit is clear ends it.
+/// A spelling need not be the shortest.
+pub fn delta<F: ByteFeed>(f: &mut F) -> Result<u32, LexError>
+    ensures exact { Gives OnShape (λ d. d) (F.coming f.old) (F.coming f.new) result delta_at }
+    ensures stream { IsErrOf result LexError.Stream → F.failed f.new ≡ true }
+    ensures same { F.behind f.new ≡ F.behind f.old }
+    ensures fewer { OnOk result (F.turns f.new < F.turns f.old) }
+{
+    let mut difference = 0u64;
+    let mut place = 1u64;
+    for _ in 0..MOST_GROUPS {
+        let Some(b) = f.next()? else {
+            return Err(LexError::Shape);
+        };
+        difference += place * (b % 128) as u64;
+        if b < 128 {
+            if difference > u32::MAX as u64 {
+                return Err(LexError::Shape);
+            }
+            return Ok(difference as u32);
+        }
+        place *= 128;
+    }
+    Err(LexError::Shape)
+}
+
+/// Reads the bytes of a word.
+pub fn word<F: ByteFeed>(f: &mut F, text: &[u8]) -> Result<(), LexError>
+    ensures exact { Gives OnShape (λ _. tt {0}) (F.coming f.old) (F.coming f.new) result (word_at text.now) }
+    ensures stream { IsErrOf result LexError.Stream → F.failed f.new ≡ true }
+    ensures same { F.behind f.new ≡ F.behind f.old }
+    ensures fewer { OnOk result (F.turns f.new + length text.now ≤ F.turns f.old) }
+{
+    for byte in text {
+        expect(f, *byte)?;
+    }
+    Ok(())
+}

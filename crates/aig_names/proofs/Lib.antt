@@ -1,0 +1,9 @@
+pub mod Texts
+pub mod Positions
+pub mod Fronts
+pub mod Kept
+pub mod NameLines
+pub mod Tails
+pub mod KeptNames
+pub mod Faults
+pub mod SoFar

@@ -1,0 +1,13 @@
+//! Reads the names of an AIGER file and the comment behind them, up to the end of the stream.
+#![tactic(auto)]
+
+mod error;
+mod names;
+mod place;
+mod text;
+
+pub use error::NameError;
+pub use names::read_names;
+
+#[cfg(test)]
+mod tests;

@@ -1,0 +1,153 @@
+-- The entries of both kinds of file, as the sections that they make.
+use Rattle.std.proofs.Common.{◌≡◌, ℕ, zero, suc, ◌+◌, ◌-◌, ◌*◌, ◌/◌, ◌<◌, Bool, true, false, ◌&&◌, cond, ltb, List, [], ◌∷◌, ◌++◌, Option, Some, None, refl, sym, ap, subst, ◌∙◌, length, length-append, map, slice_index, arith}
+use Rattle.std.specs.List.{list_all}
+use Rattle.std.proofs.lemmas.Bool.Decides.{nat_tests}
+use Rattle.std.proofs.lemmas.Option.{same_Some}
+use Rattle.std.proofs.lemmas.List.{length-map, map_push}
+use Rattle.aig_grammar.specs.File.{Kind, Text, Binary, LatchLine, GateLine}
+use Rattle.aig_grammar.specs.Spells.{places}
+use Rattle.aig_front.specs.Front.{◌>>=◌, both_at, delta_at, ended_at, fits_gate, mapped_at, placed_at, placed_gate, placed_gate_at, tested_at}
+use Rattle.aig_front.specs.Fitting.{binary_latch_at, defines, fitting_gates_at, fitting_inputs_at, fitting_latches_at, gate_line_at, gate_of, has_next, latch_line_at, latch_of, next_at, tests_gate, tests_latch}
+use Rattle.aig_front.proofs.Numbers.{bind_some}
+use Rattle.aig_reader.specs.Entries.{gate_at, input_at, latch_at, operands_at}
+use Rattle.aig_reader.specs.Gates.{literals_of}
+use Rattle.aig_reader.proofs.Entries.{checked_is_entries, entries_at, length_push, placed_is_entries, put_first}
+
+-- a value that passes a test, seen otherwise
+abbrev passing : {A : Type 0} → (A → Bool) → A × List ℕ → Option (A × List ℕ)
+passing test x = cond (test x.0) (Some x) None
+
+abbrev seen : {A B : Type 0} → (A → B) → A × List ℕ → Option (B × List ℕ)
+seen f x = Some (f x.0, x.1)
+
+abbrev beside : {A B : Type 0} → A → B × List ℕ → Option ((A × B) × List ℕ)
+beside x y = Some ((x, y.0), y.1)
+
+-- ---- inputs
+
+binary_inputs : (greatest n : ℕ) (front : List ℕ) (bs : List ℕ) → entries_at (input_at Binary greatest) front n bs ≡ Some (places n (length front + 1), bs)
+binary_inputs greatest zero front bs = refl
+binary_inputs greatest (suc n) front bs =
+    let e = 2 * (length front + 1) in
+    ap (λ (o : Option (List ℕ × List ℕ)). o >>= put_first e) (binary_inputs greatest n (front ++ e ∷ []) bs) ∙ ap (λ (v : ℕ). Some (e ∷ places n (v + 1), bs)) (length_push front e)
+
+pub inputs_is : (kind : Kind) (ns bs : List ℕ) → entries_at (input_at kind (slice_index ns 0)) [] (slice_index ns 1) bs ≡ fitting_inputs_at kind ns bs
+inputs_is Text ns bs = checked_is_entries (ended_at 10) (defines (slice_index ns 0)) [] (slice_index ns 1) bs
+inputs_is Binary ns bs = binary_inputs (slice_index ns 0) (slice_index ns 1) [] bs
+
+-- ---- latches
+
+module _ (greatest : ℕ) (inputs : List ℕ) where
+  abbrev literals : List LatchLine → List ℕ
+  literals front = inputs ++ map (λ l. l.literal) front
+
+  latch_here : (front : List LatchLine) (bs : List ℕ) → latch_at Binary greatest inputs front bs ≡ tested_at (binary_latch_at (length (literals front) + 1)) (has_next greatest) bs
+  latch_here front bs = go (2 * (length (literals front) + 1)) (next_at bs)
+    where
+      go : (own : ℕ) (o : Option ((ℕ × Option ℕ) × List ℕ)) → (((o >>= beside own) >>= seen (λ x. latch_of x.0 x.1)) >>= passing (λ l. true && has_next greatest l)) ≡ ((o >>= seen (latch_of own)) >>= passing (has_next greatest))
+      go own None = refl
+      go own (Some y) = refl
+
+  latch_place : (base : ℕ) → length inputs + 1 ≡ base → (front : List LatchLine) → length (literals front) + 1 ≡ base + length front
+  latch_place base h front =
+      let both = length-append inputs (map (λ (l : LatchLine). l.literal) front) in
+      let mapped = length-map front (λ (l : LatchLine). l.literal) in
+      omega (arith, both, mapped, h)
+
+  latch_agrees : (base : ℕ) → length inputs + 1 ≡ base → (front : List LatchLine) (bs : List ℕ) → latch_at Binary greatest inputs front bs ≡ tested_at (binary_latch_at (base + length front)) (has_next greatest) bs
+  latch_agrees base h front bs = latch_here front bs ∙ ap (λ (v : ℕ). tested_at (binary_latch_at v) (has_next greatest) bs) (latch_place base h front)
+
+pub latches_is : (kind : Kind) (ns inputs bs : List ℕ) → length inputs ≡ slice_index ns 1 → entries_at (latch_at kind (slice_index ns 0) inputs) [] (slice_index ns 2) bs ≡ fitting_latches_at kind ns inputs bs
+latches_is Text ns inputs bs h = checked_is_entries latch_line_at (tests_latch (slice_index ns 0) inputs) [] (slice_index ns 2) bs
+latches_is Binary ns inputs bs h =
+    let greatest = slice_index ns 0 in
+    let line = λ (v : ℕ). tested_at (binary_latch_at v) (has_next greatest) in
+    let base = 1 + slice_index ns 1 in
+    let start : length inputs + 1 ≡ base = omega (arith, h) in
+    let here : base + 0 ≡ base = omega arith in
+    placed_is_entries (latch_at Binary greatest inputs) line base (λ _. Unit {0}) (λ front i. latch_agrees greatest inputs base start front) (λ front i bs rest x is. tt) (slice_index ns 2) [] bs tt
+    ∙ ap (λ (v : ℕ). placed_at line (slice_index ns 2) v bs) here
+
+-- ---- gates
+
+-- operands by differences are below the gate exactly where the first is
+below_tests : (v d e : ℕ) → ltb ((2 * v - d) / 2) (2 * v / 2) && ltb ((2 * v - d - e) / 2) (2 * v / 2) ≡ ltb (2 * v - d) (2 * v)
+below_tests v d e = grind (arith, nat_tests)
+
+all_push : (v e : ℕ) (xs : List ℕ) → list_all (λ d. ltb d (2 * v)) xs ≡ true → e ≡ 2 * v → list_all (λ d. ltb d (2 * (v + 1))) (xs ++ e ∷ []) ≡ true
+all_push v e [] h is = grind (arith, nat_tests)
+all_push v e (x ∷ xs) h is = go (ltb x (2 * v)) refl h (all_push v e xs)
+  where
+    go : (t : Bool) → ltb x (2 * v) ≡ t → t && list_all (λ d. ltb d (2 * v)) xs ≡ true → (list_all (λ d. ltb d (2 * v)) xs ≡ true → e ≡ 2 * v → list_all (λ d. ltb d (2 * (v + 1))) (xs ++ e ∷ []) ≡ true)
+        → ltb x (2 * (v + 1)) && list_all (λ d. ltb d (2 * (v + 1))) (xs ++ e ∷ []) ≡ true
+    go true k all rest = rw (rest all is) (grind (arith, nat_tests))
+    go false k all rest = absurd cc
+
+-- what was mapped and tested was read
+mapped_tested : {A B : Type 0} (f : A → B) (test : B → Bool) (o : Option (A × List ℕ)) (x : B) (rest : List ℕ) → ((o >>= seen f) >>= passing test) ≡ Some (x, rest) → (d : A) × (f d ≡ x)
+mapped_tested f test None x rest h = absurd cc
+mapped_tested {A} {B} f test (Some y) x rest h = go (test (f y.0)) h
+  where
+    go : (t : Bool) → cond {A = Option (B × List ℕ)} t (Some (f y.0, y.1)) None ≡ Some (x, rest) → (d : A) × (f d ≡ x)
+    go true k = (y.0, ap (λ (z : B × List ℕ). z.0) (same_Some _ _ k))
+    go false k = absurd cc
+
+module _ (greatest : ℕ) (leaves : List ℕ) where
+  abbrev defined : List GateLine → List ℕ
+  defined front = leaves ++ literals_of front
+
+  -- all gates before are below the gate of variable v
+  abbrev AreBelow : ℕ → List GateLine → Type 0
+  AreBelow v front = list_all (λ d. ltb d (2 * v)) (literals_of front) ≡ true
+
+  -- a gate of variable v
+  abbrev gate_by : ℕ → List GateLine → List ℕ → Option (GateLine × List ℕ)
+  gate_by v front =
+      tested_at (mapped_at gate_of (both_at (λ bytes. Some (2 * v, bytes)) (operands_at Binary)))
+      (λ g. true && list_all (λ e. ltb e g.lhs) (literals_of front) && ltb (g.rhs0 / 2) (g.lhs / 2) && ltb (g.rhs1 / 2) (g.lhs / 2))
+
+  abbrev first_below : GateLine → Bool
+  first_below g = ltb g.rhs0 g.lhs
+
+  abbrev all_below : List GateLine → GateLine → Bool
+  all_below front g = true && list_all (λ e. ltb e g.lhs) (literals_of front) && ltb (g.rhs0 / 2) (g.lhs / 2) && ltb (g.rhs1 / 2) (g.lhs / 2)
+
+  abbrev operands_of : ℕ → ℕ × ℕ → ℕ × ℕ
+  operands_of lhs d = (lhs - d.0, lhs - d.0 - d.1)
+
+  gate_here : (v : ℕ) (front : List GateLine) (bs : List ℕ) → AreBelow v front → gate_by v front bs ≡ tested_at (placed_gate_at v) first_below bs
+  gate_here v front bs all = go (tested_at (both_at delta_at (λ _. delta_at)) (fits_gate v) bs)
+    where
+      go : (o : Option ((ℕ × ℕ) × List ℕ)) → ((((o >>= seen (operands_of (2 * v))) >>= beside (2 * v)) >>= seen gate_of) >>= passing (all_below front)) ≡ ((o >>= seen (placed_gate v)) >>= passing first_below)
+      go None = refl
+      go (Some d) = ap (λ (t : Bool). cond t (Some (placed_gate v d.0, d.1)) None) (rw all (below_tests v d.0.0 d.0.1))
+
+  gate_place : (base : ℕ) → length leaves + 1 ≡ base → (front : List GateLine) → length (defined front) + 1 ≡ base + length front
+  gate_place base h front =
+      let both = length-append leaves (literals_of front) in
+      let mapped = length-map front (λ (g : GateLine). g.lhs) in
+      omega (arith, both, mapped, h)
+
+  gate_agrees : (base : ℕ) → length leaves + 1 ≡ base → (front : List GateLine) → AreBelow (base + length front) front → (bs : List ℕ) → gate_at Binary greatest leaves front bs ≡ tested_at (placed_gate_at (base + length front)) first_below bs
+  gate_agrees base h front all bs = ap (λ (v : ℕ). gate_by v front bs) (gate_place base h front) ∙ gate_here (base + length front) front bs all
+
+  gate_lasts : (base : ℕ) (front : List GateLine) → AreBelow (base + length front) front → (bs rest : List ℕ) (x : GateLine) → tested_at (placed_gate_at (base + length front)) first_below bs ≡ Some (x, rest) → AreBelow (base + length (front ++ x ∷ [])) (front ++ x ∷ [])
+  gate_lasts base front all bs rest x is =
+      let v = base + length front in
+      let d = mapped_tested (placed_gate v) first_below (tested_at (both_at delta_at (λ _. delta_at)) (fits_gate v) bs) x rest is in
+      let lhs : x.lhs ≡ 2 * v = sym (ap (λ (g : GateLine). g.lhs) d.1) in
+      let l = length_push front x in
+      let place : v + 1 ≡ base + length (front ++ x ∷ []) = omega (arith, l) in
+      let pushed : literals_of (front ++ x ∷ []) ≡ literals_of front ++ x.lhs ∷ [] = map_push (λ (g : GateLine). g.lhs) front x in
+      rw (pushed, ← place) (all_push v x.lhs (literals_of front) all lhs)
+
+pub gates_is : (kind : Kind) (ns leaves bs : List ℕ) → length leaves ≡ slice_index ns 1 + slice_index ns 2 → entries_at (gate_at kind (slice_index ns 0) leaves) [] (slice_index ns 4) bs ≡ fitting_gates_at kind ns leaves bs
+gates_is Text ns leaves bs h = checked_is_entries gate_line_at (tests_gate (slice_index ns 0) leaves) [] (slice_index ns 4) bs
+gates_is Binary ns leaves bs h =
+    let greatest = slice_index ns 0 in
+    let line = λ (v : ℕ). tested_at (placed_gate_at v) (λ (g : GateLine). ltb g.rhs0 g.lhs) in
+    let base = 1 + slice_index ns 1 + slice_index ns 2 in
+    let start : length leaves + 1 ≡ base = omega (arith, h) in
+    let here : base + 0 ≡ base = omega arith in
+    placed_is_entries (gate_at Binary greatest leaves) line base (λ front. AreBelow greatest leaves (base + length front) front) (gate_agrees greatest leaves base start) (gate_lasts greatest leaves base) (slice_index ns 4) [] bs refl
+    ∙ ap (λ (v : ℕ). placed_at line (slice_index ns 4) v bs) here

@@ -1,0 +1,42 @@
+use Rattle.std.proofs.Common.{◌≡◌, ◌∙◌, ◌∷◌, ◌++◌, [], ℕ, subst, arith}
+use Rattle.std.proofs.lemmas.Result.{err_from_is_err_and}
+use Rattle.aig_front.specs.Front.{ended_at, tested_at, times_at}
+use Rattle.aig_front.specs.Fitting.{is_literal}
+use Rattle.aig_reader.specs.Lists.{edge_from}
+use Rattle.aig_lexer.specs.Takes.{Takes, Misses}
+use Rattle.aig_lexer.proofs.Taking.{takes_same, misses_same}
+use Rattle.aig_reader.proofs.Entries.{entries_at, takes_more, misses_more, made_push, times_is_entries}
+use Rattle.aig_reader.proofs.TestedLines.{on_line-weaker}
+use Rattle.aig_reader.proofs.edges.read_edges.Goals as goal
+
+pub returns-in_err-edge-clause-exact : goal.returns-in_err-edge-clause-exact
+returns-in_err-edge-clause-exact g c =
+    let p = err_from_is_err_and c.from_residual.result c.from_residual.ensures.1 in
+    let h = c.loop.invariant.made in
+    let count = c.args.count in
+    let line = tested_at (ended_at 10) (is_literal c.args.greatest) in
+    rw (p.1, p.2) (on_line-weaker c.in_err-edge.field-0.0 _ _
+    (λ (k : Misses line (g.F.ByteFeed.coming c.loop.f)). misses_same (entries_at (λ _. line) [] count) (times_at line count) _ (misses_more (λ _. line) c.loop.counter count _ _ h.0 c.loop-test.true h.2 k) (times_is_entries line [] count))
+    c.in_err-edge.ensures.exact)
+
+pub loop-preserved : goal.loop-preserved
+loop-preserved g c = record {
+  made =
+      let h = c.loop.invariant.made in
+      let k = c.in_ok-edge.ensures.exact in
+      (h.0 ++ k.0 ∷ [], made_push edge_from h.0 k.0 _ _ _ h.1 k.1 c.in_ok-push.ensures.items, takes_more (λ _. tested_at (ended_at 10) (is_literal c.args.greatest)) c.loop.counter _ _ _ h.0 k.0 h.2 k.2);
+  same = c.edge_line.ensures.same ∙ c.loop.invariant.same;
+}
+
+pub returns-clause-exact : goal.returns-clause-exact
+returns-clause-exact g c =
+    let all : c.loop.counter ≡ c.args.count = omega arith in
+    let h = c.loop.invariant.made in
+    let count = c.args.count in
+    let line = tested_at (ended_at 10) (is_literal c.args.greatest) in (
+      h.0,
+      h.1,
+      takes_same (entries_at (λ _. line) [] count) (times_at line count) _ _ h.0
+          (subst (λ (n : ℕ). Takes (entries_at (λ _. line) [] n) (g.F.ByteFeed.coming c.args.f.now) (g.F.ByteFeed.coming c.loop.f) h.0) all h.2)
+          (times_is_entries line [] count),
+    )

@@ -1,0 +1,13 @@
+use Rattle.std.proofs.Common.{◌≡◌, ℕ, [], map}
+use Rattle.aig_front.specs.Front.{ended_at, tested_at}
+use Rattle.aig_front.specs.Fitting.{is_literal}
+use Rattle.aig_reader.specs.Lists.{edge_from}
+use Rattle.aig_lexer.specs.Takes.{Made}
+use Rattle.aig_reader.proofs.Entries.{entries_at}
+use Rattle.aig_reader.proofs.edges.read_edges.Given as goal
+
+abbrev pub invariant-loop : goal.invariant-loop
+invariant-loop g l = record {
+  made : Made (λ edges literals. edges.items ≡ map edge_from literals) (g.F.ByteFeed.coming l.fn.f) (g.F.ByteFeed.coming l.f) l.edges (entries_at (λ _. tested_at (ended_at 10) (is_literal l.greatest)) [] l.counter);
+  same : g.F.ByteFeed.behind l.f ≡ g.F.ByteFeed.behind l.fn.f;
+}

@@ -1,0 +1,18 @@
+use Rattle.std.proofs.Common.{◌≡◌, ◌-◌, ◌&&◌, ℕ, Bool, true, leb, refl, arith}
+use Rattle.std.proofs.lemmas.Bool.Decides.{nat_tests}
+use Rattle.aig_front.specs.Front.{both_at, delta_at, tested_at}
+use Rattle.aig_lexer.proofs.Taking.{takes_both, takes_mapped, takes_tested}
+use Rattle.aig_reader.proofs.gates.differences.Goals as goal
+
+pub returns-clause-exact : goal.returns-clause-exact
+returns-clause-exact g c =
+    let lhs = c.args.lhs in
+    let first = c.in_ok-first.first in
+    let second = c.in_ok-second.second in
+    let low = c.if-first-lhs.false in
+    let lower = c.if-second-lhs.false in
+    let below = λ (d : ℕ × ℕ). leb d.0 lhs && leb d.1 (lhs - d.0) in
+    let fits : leb first lhs && leb second (lhs - first) ≡ true = grind (arith, nat_tests, low, lower) in
+    let both = both_at delta_at (λ (_ : ℕ). delta_at) in
+    let pair : ℕ × ℕ = (first, second) in
+    takes_mapped (λ d. (lhs - d.0, lhs - d.0 - d.1)) (tested_at both below) _ _ pair (takes_tested both below _ _ pair (takes_both delta_at (λ _. delta_at) _ _ _ first second c.in_ok-first.ensures.exact c.in_ok-second.ensures.exact) fits)

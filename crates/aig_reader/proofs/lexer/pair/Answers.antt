@@ -1,5 +1,0 @@
-use Rattle.aig_reader.proofs.Words.{takes_pair}
-use Rattle.aig_reader.proofs.lexer.pair.Goals as goal
-
-pub returns-clause-exact : goal.returns-clause-exact
-returns-clause-exact g c = takes_pair _ _ _ _ _ c.in_ok-first.ensures.exact c.in_ok-second.ensures.exact

@@ -1,0 +1,56 @@
+//! Inputs: in a text file a line each, in a binary file the first variables.
+
+ghost use Rattle.std.specs.Prelude.{◌≡◌, ℕ, ◌+◌, ◌^◌, ◌<◌, ◌≤◌, List, [], ◌∷◌, ◌++◌, map, true, vec_len, IfOk, IsErrOf};
+ghost use Rattle.aig_front.specs.Fitting.{fitting_inputs_at};
+ghost use Rattle.aig_lexer.specs.Header.{numbers_of};
+ghost use Rattle.aig_lexer.specs.Takes.{Makes};
+ghost use Rattle.aig_reader.specs.Entries.{input_at};
+ghost use Rattle.aig_reader.specs.Faults.{OnLine};
+ghost use Rattle.aig_reader.specs.Lists.{variable_of};
+ghost use Rattle.aig_reader.specs.Variables.{AreDefined, HasRoom, kind_by};
+
+use crate::error::LineError;
+use crate::variables::Variables;
+use aig_lexer::{ByteFeed, FileKind, Header};
+use std::alloc::Global;
+
+/// Reads an input, and defines its variable.
+fn input_line<F: ByteFeed>(f: &mut F, variables: &mut Variables) -> Result<usize, LineError>
+    requires { (size : ℕ) × (size ≤ 2 ^ 31) × HasRoom size variables.old 1 }
+    ensures exact { (greatest : ℕ) (before : List ℕ) → AreDefined greatest variables.old before → Makes OnLine (λ id literal. (id ≡ variable_of literal) × AreDefined greatest variables.new (before ++ literal ∷ [])) (F.coming f.old) (F.coming f.new) result (input_at (kind_by variables.old) greatest before) }
+    ensures room { IfOk result (λ _. (size k : ℕ) → HasRoom size variables.old (k + 1) → HasRoom size variables.new k) }
+    ensures kind { kind_by variables.new ≡ kind_by variables.old }
+    ensures stream { IsErrOf result LineError.Stream → F.failed f.new ≡ true }
+    ensures same { F.behind f.new ≡ F.behind f.old }
+{
+    let literal = variables.own_literal(f, b'\n')?;
+    variables.define(literal)
+}
+
+/// Reads the inputs, and defines their variables. Memory is reserved for those that have no lines alone.
+pub fn read_inputs<F: ByteFeed>(
+    alloc: Global,
+    f: &mut F,
+    header: Header,
+    variables: &mut Variables,
+) -> Result<Vec<usize>, LineError>
+    requires few { header.greatest < 2 ^ 31 }
+    requires room { HasRoom (header.greatest + 1) variables.old header.inputs }
+    ensures exact { AreDefined header.greatest variables.old [] → Makes OnLine (λ inputs literals. (inputs.items ≡ map variable_of literals) × AreDefined header.greatest variables.new literals) (F.coming f.old) (F.coming f.new) result (fitting_inputs_at (kind_by variables.old) (numbers_of header)) }
+    ensures count { IfOk result (λ inputs. vec_len inputs ≡ header.inputs) }
+    ensures room { IfOk result (λ _. (size k : ℕ) → HasRoom size variables.old (k + header.inputs) → HasRoom size variables.new k) }
+    ensures kind { kind_by variables.new ≡ kind_by variables.old }
+    ensures stream { IsErrOf result LineError.Stream → F.failed f.new ≡ true }
+    ensures same { F.behind f.new ≡ F.behind f.old }
+{
+    let unread = match header.kind {
+        FileKind::Text => 0,
+        FileKind::Binary => header.inputs as usize,
+    };
+    let mut inputs = Vec::with_capacity(alloc, unread)?;
+    for _ in 0..header.inputs {
+        let input = input_line(f, variables)?;
+        inputs.push(input)?;
+    }
+    Ok(inputs)
+}

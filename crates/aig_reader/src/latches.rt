@@ -1,0 +1,79 @@
+//! Latches, a line each.
+
+ghost use Rattle.std.specs.Prelude.{◌≡◌, ℕ, ◌+◌, ◌^◌, ◌<◌, ◌≤◌, List, Option, [], ◌∷◌, ◌++◌, map, length, true, vec_len, IfErr, IfOk, IsErrOf};
+ghost use Rattle.aig_front.specs.Fitting.{fitting_latches_at, is_reset};
+ghost use Rattle.aig_grammar.specs.Circuit.{initial_of};
+ghost use Rattle.aig_grammar.specs.File.{LatchLine};
+ghost use Rattle.aig_lexer.specs.Header.{numbers_of};
+ghost use Rattle.aig_lexer.specs.Takes.{Makes};
+ghost use Rattle.aig_reader.specs.Entries.{latch_at};
+ghost use Rattle.aig_reader.specs.Faults.{OnLine};
+ghost use Rattle.aig_reader.specs.Lists.{latch_from};
+ghost use Rattle.aig_reader.specs.Variables.{AreDefined, HasRoom, Tested, kind_by};
+
+use crate::edges::edge_within;
+use crate::error::LineError;
+use crate::variables::Variables;
+use aig_circuit::{AigEdge, AigLatch};
+use aig_lexer::{ByteFeed, Header, next_line};
+use std::alloc::Global;
+
+/// The initial edge of a latch with this literal and reset: false where the reset is 0 or none, true where it is 1, and none where it is the latch's literal.
+fn initial_edge(literal: u32, reset: Option<u32>) -> Result<Option<AigEdge>, LineError>
+    ensures exact { (next : ℕ) → Tested (is_reset literal reset) (λ init. init ≡ initial_of (record { literal = literal; next = next; reset = reset })) result }
+    ensures fault { IfErr result (λ e. e ≡ LineError.Literal) }
+{
+    let reset = reset.unwrap_or(0);
+    if reset < 2 {
+        return Ok(Some(AigEdge::constant(reset == 1)));
+    }
+    if reset != literal {
+        return Err(LineError::Literal);
+    }
+    Ok(None)
+}
+
+/// Reads a latch line, and defines the latch's variable.
+fn latch_line<F: ByteFeed>(
+    f: &mut F,
+    greatest: u32,
+    variables: &mut Variables,
+) -> Result<AigLatch, LineError>
+    requires { (size : ℕ) × (size ≤ 2 ^ 31) × HasRoom size variables.old 1 }
+    ensures exact { (inputs : List ℕ) (before : List LatchLine) → AreDefined greatest variables.old (inputs ++ map (λ l. l.literal) before) → Makes OnLine (λ latch line. (latch ≡ latch_from line) × AreDefined greatest variables.new ((inputs ++ map (λ l. l.literal) before) ++ line.literal ∷ [])) (F.coming f.old) (F.coming f.new) result (latch_at (kind_by variables.old) greatest inputs before) }
+    ensures room { IfOk result (λ _. (size k : ℕ) → HasRoom size variables.old (k + 1) → HasRoom size variables.new k) }
+    ensures kind { kind_by variables.new ≡ kind_by variables.old }
+    ensures stream { IsErrOf result LineError.Stream → F.failed f.new ≡ true }
+    ensures same { F.behind f.new ≡ F.behind f.old }
+{
+    let literal = variables.own_literal(f, b' ')?;
+    let (next, reset) = next_line(f)?;
+    let input = variables.define(literal)?;
+    let next = edge_within(greatest, next)?;
+    let init = initial_edge(literal, reset)?;
+    Ok(AigLatch::new(input, next, init))
+}
+
+/// Reads the latches, and defines their variables.
+pub fn read_latches<F: ByteFeed>(
+    alloc: Global,
+    f: &mut F,
+    header: Header,
+    variables: &mut Variables,
+) -> Result<Vec<AigLatch>, LineError>
+    requires few { header.greatest < 2 ^ 31 }
+    requires room { HasRoom (header.greatest + 1) variables.old header.latches }
+    ensures exact { (inputs : List ℕ) → length inputs ≡ header.inputs → AreDefined header.greatest variables.old inputs → Makes OnLine (λ latchs lines. (latchs.items ≡ map latch_from lines) × AreDefined header.greatest variables.new (inputs ++ map (λ l. l.literal) lines)) (F.coming f.old) (F.coming f.new) result (fitting_latches_at (kind_by variables.old) (numbers_of header) inputs) }
+    ensures count { IfOk result (λ latchs. vec_len latchs ≡ header.latches) }
+    ensures room { IfOk result (λ _. (size k : ℕ) → HasRoom size variables.old (k + header.latches) → HasRoom size variables.new k) }
+    ensures kind { kind_by variables.new ≡ kind_by variables.old }
+    ensures stream { IsErrOf result LineError.Stream → F.failed f.new ≡ true }
+    ensures same { F.behind f.new ≡ F.behind f.old }
+{
+    let mut latchs = Vec::new(alloc);
+    for _ in 0..header.latches {
+        let latch = latch_line(f, header.greatest, variables)?;
+        latchs.push(latch)?;
+    }
+    Ok(latchs)
+}

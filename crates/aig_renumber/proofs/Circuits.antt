@@ -1,0 +1,185 @@
+-- A circuit under other numbers is a circuit, with the runs and values of the old one.
+use Rattle.std.proofs.Common.{◌≡◌, ◌≢◌, ◌↔◌, ℕ, ◌+◌, ◌<◌, Bool, Option, Some, None, List, [], ◌∷◌, ◌++◌, length, map, get_or, refl, sym, ap, subst, ◌∙◌}
+use Rattle.std.specs.Prelude.{All, AllPairs, Contains, IfSome, option_map}
+use Rattle.std.specs.FinMap.{entries}
+use Rattle.std.proofs.lemmas.List.{length-map, map-append}
+use Rattle.std.proofs.lemmas.List.Elements.{All-map, All-weaker, All-contains}
+use Rattle.aig_circuit.specs.declared.edge.AigEdge.{AigEdge}
+use Rattle.aig_circuit.specs.declared.node.AigNode.{AigNode}
+use Rattle.aig_circuit.specs.declared.node.AigNodeType.TheVariants.{Leaf}
+use Rattle.aig_circuit.specs.declared.node.AigLatch.{AigLatch}
+use Rattle.aig_circuit.specs.Tree.{edge_value}
+use Rattle.aig_circuit.specs.Circuit.{Circuit, IsCircuit, IsClosed, IsInRange, IsLatch, IsLeaf, latch_leaves}
+use Rattle.aig_circuit.specs.Runs.{AreAsLong, HaveSameProperties, HaveSameValues, IsRun, IsStart, KeepsRuns, next_edges}
+use Rattle.aig_circuit.specs.Reencode.{nodes_in_order, renumbered_edge, renumbered_latch}
+use Rattle.aig_circuit.proofs.Trees.{kind_at-within}
+use Rattle.aig_renumber.specs.Numbers.{IsEdgeIn, IsLatchIn, SpeaksOf, renumbered_circuit}
+use Rattle.aig_renumber.proofs.Places.{AllPairs-map_numbers, AllZip-map, All-from_map, Contains-map, Contains-map_back}
+use Rattle.aig_renumber.proofs.Values.{edge_value-renumbered}
+use Rattle.aig_renumber.proofs.Numbering.{Numbers, length-nodes_in_order, within_made, number-apart, AreNodes-made, IsOrdered-made, IsLeaf-number, IsLeaf-back, Renumbers-made}
+use Rattle.aig_renumber.proofs.Names.{names_in_circuit, named_back}
+
+pub latch_leaves-map : (number : ℕ → ℕ) (latchs : List AigLatch) → latch_leaves (map (renumbered_latch number) latchs) ≡ map number (latch_leaves latchs)
+latch_leaves-map number [] = refl
+latch_leaves-map number (l ∷ ls) = ap (λ ns. number l.input ∷ ns) (latch_leaves-map number ls)
+
+next_edges-map : (number : ℕ → ℕ) (latchs : List AigLatch) → next_edges (map (renumbered_latch number) latchs) ≡ map (renumbered_edge number) (next_edges latchs)
+next_edges-map number [] = refl
+next_edges-map number (l ∷ ls) = ap (λ es. renumbered_edge number l.next ∷ es) (next_edges-map number ls)
+
+-- inputs and latch leaves, in order
+pub leaves-map : (number : ℕ → ℕ) (c : Circuit) → map number c.inputs ++ latch_leaves (map (renumbered_latch number) c.latchs) ≡ map number (c.inputs ++ latch_leaves c.latchs)
+leaves-map number c = ap (λ ns. map number c.inputs ++ ns) (latch_leaves-map number c.latchs) ∙ sym (map-append number c.inputs (latch_leaves c.latchs))
+
+-- there are as many nodes as the list has numbers, and lists are as long as before
+pub AreAsLong-renumbered : (number : ℕ → ℕ) (ns : List ℕ) (c : Circuit) → length ns ≡ length c.nodes → AreAsLong c (renumbered_circuit number ns c)
+AreAsLong-renumbered number ns c count = record {
+  nodes = length-nodes_in_order c.nodes number 0 ns ∙ count;
+  inputs = length-map c.inputs number;
+  latchs = length-map c.latchs (renumbered_latch number);
+  outputs = length-map c.outputs (renumbered_edge number);
+  bads = length-map c.bads (renumbered_edge number);
+  constraints = length-map c.constraints (renumbered_edge number);
+  justice = AllZip-map (map (renumbered_edge number)) (λ es fs. length fs ≡ length es) c.justice (λ k d h. length-map (get_or c.justice k d) (renumbered_edge number));
+  fairness = length-map c.fairness (renumbered_edge number);
+}
+
+module _ (c : Circuit) (S : ℕ → Type 0) (ns : List ℕ) (number : ℕ → ℕ) (numbers : Numbers c.nodes S ns number) (is : IsCircuit c) (speaks : SpeaksOf S c) where
+  abbrev new : List AigNode
+  new = nodes_in_order c.nodes number 0 ns
+
+  in_range : (e : AigEdge) → IsEdgeIn S e → IsInRange new (renumbered_edge number e)
+  in_range e s = within_made c.nodes S ns number numbers e.node_id s
+
+  edges_in_range : (es : List AigEdge) → All (IsEdgeIn S) es → All (IsInRange new) (map (renumbered_edge number) es)
+  edges_in_range es all = All-map (IsInRange new) (renumbered_edge number) es (All-weaker (IsEdgeIn S) (λ e. IsInRange new (renumbered_edge number e)) in_range es all)
+
+  init_in_range : (o : Option AigEdge) → IfSome o (IsEdgeIn S) → IfSome (option_map (renumbered_edge number) o) (IsInRange new)
+  init_in_range (Some e) s = in_range e s
+  init_in_range None s = tt
+
+  leaf : (n : ℕ) → S n → IsLeaf c.nodes n → IsLeaf new (number n)
+  leaf n s h = IsLeaf-number c.nodes S ns number numbers n s h
+
+  apart : (m n : ℕ) → S m → S n → number m ≡ number n → m ≡ n
+  apart m n s t e = number-apart c.nodes S ns number numbers m n s t e
+
+  leaves_in_S : All S (latch_leaves c.latchs)
+  leaves_in_S = All-map S (λ (l : AigLatch). l.input) c.latchs (All-weaker (IsLatchIn S) (λ l. S l.input) (λ l h. h.leaf) c.latchs speaks.latchs)
+
+  latchs_are : All (IsLatch new) (map (renumbered_latch number) c.latchs)
+  latchs_are = All-map (IsLatch new) (renumbered_latch number) c.latchs (λ k d h.
+      let old = is.latchs k d h in
+      let s = speaks.latchs k d h in
+      record {
+        leaf = leaf (get_or c.latchs k d).input s.leaf old.leaf;
+        next = in_range (get_or c.latchs k d).next s.next;
+        init = init_in_range (get_or c.latchs k d).init s.init;
+      })
+
+  leaves_apart : All (λ n. ¬ Contains (map number c.inputs) n) (map number (latch_leaves c.latchs))
+  leaves_apart = All-map (λ n. ¬ Contains (map number c.inputs) n) number (latch_leaves c.latchs) (λ k d h has.
+      let input = Contains-map_back number c.inputs (number (get_or (latch_leaves c.latchs) k d)) has in
+      let same = apart input.0 (get_or (latch_leaves c.latchs) k d) (All-contains S c.inputs input.0 speaks.inputs input.1) (leaves_in_S k d h) input.2 in
+      is.apart k d h (subst (Contains c.inputs) same input.1))
+
+  names_in_S : All (λ (e : ℕ × List ℕ). S e.0) (entries c.names)
+  names_in_S = names_in_circuit S c.names speaks.named
+
+  -- it is a circuit
+  pub IsCircuit-renumbered : IsCircuit (renumbered_circuit number ns c)
+  IsCircuit-renumbered = record {
+    nodes = AreNodes-made c.nodes S ns number numbers is.nodes;
+    inputs = All-map (IsLeaf new) number c.inputs (λ k d h. leaf (get_or c.inputs k d) (speaks.inputs k d h) (is.inputs k d h));
+    inputs_distinct = AllPairs-map_numbers S number c.inputs apart speaks.inputs is.inputs_distinct;
+    latchs = latchs_are;
+    latchs_distinct = subst (AllPairs (λ m n. m ≢ n)) (sym (latch_leaves-map number c.latchs)) (AllPairs-map_numbers S number (latch_leaves c.latchs) apart leaves_in_S is.latchs_distinct);
+    apart = subst (All (λ n. ¬ Contains (map number c.inputs) n)) (sym (latch_leaves-map number c.latchs)) leaves_apart;
+    outputs = edges_in_range c.outputs speaks.outputs;
+    bads = edges_in_range c.bads speaks.bads;
+    constraints = edges_in_range c.constraints speaks.constraints;
+    justice = All-map (All (IsInRange new)) (map (renumbered_edge number)) c.justice (λ k d h. edges_in_range (get_or c.justice k d) (speaks.justice k d h));
+    fairness = edges_in_range c.fairness speaks.fairness;
+    named = λ q has.
+        let old = named_back S number (entries c.names) q names_in_S has in
+        subst (λ n. n < length new) old.2 (within_made c.nodes S ns number numbers old.0 old.1);
+  }
+
+  -- and closed, where the old one is
+  pub IsClosed-renumbered : IsClosed c → IsClosed (renumbered_circuit number ns c)
+  IsClosed-renumbered closed i h =
+      let old = IsLeaf-back c.nodes S ns number numbers i h in
+      let there = Contains-map number (c.inputs ++ latch_leaves c.latchs) (get_or ns i 0) (closed (get_or ns i 0) old.1) in
+      let moved = subst (λ l. Contains l (number (get_or ns i 0))) (sym (leaves-map number c)) there in
+      subst (Contains (map number c.inputs ++ latch_leaves (map (renumbered_latch number) c.latchs))) (numbers.place i old.0) moved
+
+  -- ---- values and runs
+
+  value : (z : ℕ → Bool) (e : AigEdge) → IsEdgeIn S e → edge_value new z (renumbered_edge number e) ≡ edge_value c.nodes (λ n. z (number n)) e
+  value z e s = edge_value-renumbered c.nodes new S number is.nodes.ordered (IsOrdered-made c.nodes S ns number numbers) (Renumbers-made c.nodes S ns number numbers) (λ n. z (number n)) z (λ n s h. refl) e s
+
+  values : (z : ℕ → Bool) (es : List AigEdge) → All (IsEdgeIn S) es → HaveSameValues c.nodes (λ n. z (number n)) es new z (map (renumbered_edge number) es)
+  values z es all = AllZip-map (renumbered_edge number) (λ e f. edge_value c.nodes (λ n. z (number n)) e ≡ edge_value new z f) es (λ k d h. sym (value z (get_or es k d) (all k d h)))
+
+  start_forth : (z : ℕ → Bool) (n : ℕ) (o : Option AigEdge) → IfSome o (IsEdgeIn S) → IfSome (option_map (renumbered_edge number) o) (λ e. edge_value new z e ≡ z (number n)) → IfSome o (λ e. edge_value c.nodes (λ n. z (number n)) e ≡ z (number n))
+  start_forth z n (Some e) s h = sym (value z e s) ∙ h
+  start_forth z n None s h = tt
+
+  start_back : (z : ℕ → Bool) (n : ℕ) (o : Option AigEdge) → IfSome o (IsEdgeIn S) → IfSome o (λ e. edge_value c.nodes (λ n. z (number n)) e ≡ z (number n)) → IfSome (option_map (renumbered_edge number) o) (λ e. edge_value new z e ≡ z (number n))
+  start_back z n (Some e) s h = value z e s ∙ h
+  start_back z n None s h = tt
+
+  pub runs-renumbered : (last : ℕ) (z : ℕ → ℕ → Bool) → IsRun (renumbered_circuit number ns c) last z ↔ IsRun c last (λ t n. z t (number n))
+  runs-renumbered last z = (
+    λ run t h k d l.
+        let step = All-from_map (renumbered_latch number) (λ latch. z (t + 1) latch.input ≡ edge_value new (z t) latch.next) c.latchs (run t h) k d l in
+        step ∙ value (z t) (get_or c.latchs k d).next (speaks.latchs k d l).next,
+    λ run t h. All-map (λ latch. z (t + 1) latch.input ≡ edge_value new (z t) latch.next) (renumbered_latch number) c.latchs (λ k d l.
+        run t h k d l ∙ sym (value (z t) (get_or c.latchs k d).next (speaks.latchs k d l).next)),
+  )
+
+  pub starts-renumbered : (z : ℕ → Bool) → IsStart (renumbered_circuit number ns c) z ↔ IsStart c (λ n. z (number n))
+  starts-renumbered z = (
+    λ start k d l.
+        let latch = get_or c.latchs k d in
+        let begins = All-from_map (renumbered_latch number) (λ latch. IfSome latch.init (λ e. edge_value new z e ≡ z latch.input)) c.latchs start k d l in
+        start_forth z latch.input latch.init (speaks.latchs k d l).init begins,
+    λ start. All-map (λ latch. IfSome latch.init (λ e. edge_value new z e ≡ z latch.input)) (renumbered_latch number) c.latchs (λ k d l.
+        start_back z (get_or c.latchs k d).input (get_or c.latchs k d).init (speaks.latchs k d l).init (start k d l)),
+  )
+
+  pub properties-renumbered : (z : ℕ → Bool) → HaveSameProperties c (λ n. z (number n)) (renumbered_circuit number ns c) z
+  properties-renumbered z = record {
+    outputs = values z c.outputs speaks.outputs;
+    bads = values z c.bads speaks.bads;
+    constraints = values z c.constraints speaks.constraints;
+    justice = AllZip-map (map (renumbered_edge number)) (λ es fs. HaveSameValues c.nodes (λ n. z (number n)) es new z fs) c.justice (λ k d h. values z (get_or c.justice k d) (speaks.justice k d h));
+    fairness = values z c.fairness speaks.fairness;
+  }
+
+  pub next-renumbered : (z : ℕ → Bool) → HaveSameValues c.nodes (λ n. z (number n)) (next_edges c.latchs) new z (next_edges (map (renumbered_latch number) c.latchs))
+  next-renumbered z = subst (HaveSameValues c.nodes (λ n. z (number n)) (next_edges c.latchs) new z) (sym (next_edges-map number c.latchs))
+      (values z (next_edges c.latchs) (All-map (IsEdgeIn S) (λ (l : AigLatch). l.next) c.latchs (All-weaker (IsLatchIn S) (λ l. IsEdgeIn S l.next) (λ l h. h.next) c.latchs speaks.latchs)))
+
+  -- it has the runs of the old one, where S has every node
+  pub KeepsRuns-renumbered : ((n : ℕ) → n < length c.nodes → S n) → KeepsRuns c (renumbered_circuit number ns c) number
+  KeepsRuns-renumbered every = record {
+    runs = runs-renumbered;
+    starts = starts-renumbered;
+    properties = properties-renumbered;
+    next = next-renumbered;
+    each = λ x. (λ m. x (get_or ns m 0), λ n h. ap x (numbers.back n (every n h)));
+  }
+
+-- a circuit speaks of its nodes
+pub SpeaksOf-nodes : (c : Circuit) → IsCircuit c → SpeaksOf (λ n. n < length c.nodes) c
+SpeaksOf-nodes c is = record {
+  inputs = All-weaker (IsLeaf c.nodes) (λ n. n < length c.nodes) (λ n h. kind_at-within c.nodes n Leaf h) c.inputs is.inputs;
+  latchs = All-weaker (IsLatch c.nodes) (IsLatchIn (λ n. n < length c.nodes)) (λ l h. record { leaf = kind_at-within c.nodes l.input Leaf h.leaf; next = h.next; init = h.init }) c.latchs is.latchs;
+  outputs = is.outputs;
+  bads = is.bads;
+  constraints = is.constraints;
+  justice = is.justice;
+  fairness = is.fairness;
+  named = is.named;
+}

@@ -1,0 +1,9 @@
+pub mod Places
+pub mod Values
+pub mod Numbering
+pub mod Names
+pub mod Circuits
+pub mod Agreeing
+pub mod Order
+pub mod Placed
+pub mod Tables

@@ -1,0 +1,189 @@
+-- Names under other numbers.
+use Rattle.std.proofs.Common.{◌≡◌, ℕ, zero, suc, ◌<◌, Bool, true, false, cond, eqb, nat_cmp, Option, Some, None, List, [], ◌∷◌, length, map, get_or, refl, sym, ap, subst, ◌∙◌, arith, IsTrue, ◌++◌, nat_eq, String, Global, length-append, append_assoc, append-nil}
+use Rattle.std.specs.Prelude.{All, is_some, slice_index, string_bytes}
+use Rattle.std.specs.List.{AllByRecursion, IsDistinct}
+use Rattle.std.specs.Map.{keys_of, lookup}
+use Rattle.std.specs.Ordering.{eq_by_cmp}
+use Rattle.std.proofs.lemmas.List.{get_or_append_left, get_or_at, map-id}
+use Rattle.std.proofs.lemmas.List.Elements.{All-map}
+use Rattle.std.specs.FinMap.{FinMap, find, contains_key, entries, from_entries, get-from_entries, get-entries, same_map, nat_cmp-IsAntisymmetric, insert, from_entries_push}
+use Rattle.std.proofs.lemmas.Cmp.{nat_cmp_total}
+use Rattle.std.proofs.lemmas.Bool.{eqb-true, eqb-false, eq-eqb, ne_eqb, false≢true}
+use Rattle.std.proofs.lemmas.Option.{none-some}
+use Rattle.std.proofs.lemmas.Map.Lookups.{map_keys}
+use Rattle.aig_circuit.specs.View.{names_of}
+use Rattle.aig_circuit.proofs.Names.{names_insert, same_test}
+use Rattle.aig_renumber.specs.Numbers.{IsIndex, TellsApart, renumbered_names}
+use Rattle.aig_renumber.proofs.Places.{All-from_map, map-same}
+
+-- entries of names, by their bytes
+abbrev pub Entries : Type 0
+Entries = List (ℕ × List ℕ)
+
+-- the number of an entry is found
+found_there : (es : Entries) (k : ℕ) (d : ℕ × List ℕ) → k < length es → is_some (find nat_cmp (get_or es k d).0 es) ≡ true
+found_there [] k d h = absurd (omega arith)
+found_there (e ∷ es) zero d h = let same : eqb e.0 e.0 ≡ true = eq-eqb e.0 e.0 refl in rw (same_test e.0 e.0, same) refl
+found_there (e ∷ es) (suc k) d h = by_test (eq_by_cmp nat_cmp (get_or es k d).0 e.0) (found_there es k d (omega arith))
+  where
+    by_test : (b : Bool) → is_some (find nat_cmp (get_or es k d).0 es) ≡ true → is_some (cond b (Some e.1) (find nat_cmp (get_or es k d).0 es)) ≡ true
+    by_test true rest = refl
+    by_test false rest = rest
+
+-- what holds of the numbers with a name holds of those of the entries
+pub numbers_in : (S : ℕ → Type 0) (es : Entries) → ((n : ℕ) → IsTrue (contains_key (from_entries {R = nat_cmp} es) n) → S n) → All (λ (e : ℕ × List ℕ). S e.0) es
+numbers_in S es named k d h = named (get_or es k d).0 (ap is_some (get-from_entries nat_cmp_total es (get_or es k d).0) ∙ found_there es k d h)
+
+-- the names of a map's entries are that map
+pub from_entries-entries : (names : FinMap nat_cmp (List ℕ)) → from_entries (entries names) ≡ names
+from_entries-entries names = same_map nat_cmp_total nat_cmp-IsAntisymmetric _ _ (λ q. get-from_entries nat_cmp_total (entries names) q ∙ sym (get-entries names q))
+
+-- what holds of the numbers with a name holds of those of the map's entries
+pub names_in_circuit : (S : ℕ → Type 0) (names : FinMap nat_cmp (List ℕ)) → ((n : ℕ) → IsTrue (contains_key names n) → S n) → All (λ (e : ℕ × List ℕ). S e.0) (entries names)
+names_in_circuit S names named = numbers_in S (entries names) (λ n has. named n (subst (λ (m : FinMap nat_cmp (List ℕ)). IsTrue (contains_key m n)) (from_entries-entries names) has))
+
+module _ (S : ℕ → Type 0) (number : ℕ → ℕ) where
+  -- a name that is found under a new number was there under an old one
+  pub found_back : (es : Entries) (q : ℕ) (v : List ℕ) → All (λ (e : ℕ × List ℕ). S e.0) es → find nat_cmp q (map_keys number es) ≡ Some v → (n : ℕ) × S n × (number n ≡ q) × (find nat_cmp n es ≡ Some v)
+  found_back [] q v all is = absurd (none-some v is)
+  found_back (e ∷ es) q v all is = by_test (eqb q (number e.0)) refl (subst (λ b. cond b (Some e.1) (find nat_cmp q (map_keys number es)) ≡ Some v) (same_test q (number e.0)) is)
+      (found_back es q v (λ k d h. all (suc k) d (omega arith)))
+    where
+      Found : Type 0
+      Found = (n : ℕ) × S n × (number n ≡ q) × (find nat_cmp n (e ∷ es) ≡ Some v)
+
+      Rest : Type 0
+      Rest = find nat_cmp q (map_keys number es) ≡ Some v → (n : ℕ) × S n × (number n ≡ q) × (find nat_cmp n es ≡ Some v)
+
+      by_test : (b : Bool) → eqb q (number e.0) ≡ b → cond b (Some e.1) (find nat_cmp q (map_keys number es)) ≡ Some v → Rest → Found
+      by_test true same here rest =
+          let itself : eqb e.0 e.0 ≡ true = eq-eqb e.0 e.0 refl in
+          (e.0, all 0 e (omega arith), sym (eqb-true q (number e.0) same), rw (same_test e.0 e.0, itself) here)
+      by_test false differs here rest =
+          let old = rest here in
+          let other : eqb old.0 e.0 ≡ false = ne_eqb old.0 e.0 (λ same. eqb-false q (number e.0) differs (sym old.2 ∙ ap number same)) in
+          (old.0, old.1, old.2, rw (same_test old.0 e.0, other) old.3)
+
+  module _ (apart : (m n : ℕ) → S m → S n → number m ≡ number n → m ≡ n) where
+    -- a number has its name under the new number
+    pub find-number : (es : Entries) (n : ℕ) → S n → All (λ (e : ℕ × List ℕ). S e.0) es → find nat_cmp (number n) (map_keys number es) ≡ find nat_cmp n es
+    find-number [] n s all = refl
+    find-number (e ∷ es) n s all =
+        ap (λ b. cond b (Some e.1) (find nat_cmp (number n) (map_keys number es))) (same_test (number n) (number e.0) ∙ told (eqb n e.0) refl ∙ sym (same_test n e.0))
+        ∙ ap (cond (eq_by_cmp nat_cmp n e.0) (Some e.1)) (find-number es n s (λ k d h. all (suc k) d (omega arith)))
+      where
+        told : (b : Bool) → eqb n e.0 ≡ b → eqb (number n) (number e.0) ≡ eqb n e.0
+        told true is = eq-eqb (number n) (number e.0) (ap number (eqb-true n e.0 is)) ∙ sym is
+        told false is = ne_eqb (number n) (number e.0) (λ e'. eqb-false n e.0 is (apart n e.0 s (all 0 e (omega arith)) e')) ∙ sym is
+
+    -- where the names are the same, they are the same under the new numbers
+    found_too : (es fs : Entries) (q : ℕ) (v : List ℕ) → All (λ (e : ℕ × List ℕ). S e.0) es → All (λ (e : ℕ × List ℕ). S e.0) fs → ((n : ℕ) → find nat_cmp n es ≡ find nat_cmp n fs)
+        → find nat_cmp q (map_keys number es) ≡ Some v → find nat_cmp q (map_keys number fs) ≡ Some v
+    found_too es fs q v in_es in_fs same is =
+        let old = found_back es q v in_es is in
+        ap (λ m. find nat_cmp m (map_keys number fs)) (sym old.2) ∙ find-number fs old.0 old.1 in_fs ∙ sym (same old.0) ∙ old.3
+
+    find-same : (es fs : Entries) (q : ℕ) → All (λ (e : ℕ × List ℕ). S e.0) es → All (λ (e : ℕ × List ℕ). S e.0) fs → ((n : ℕ) → find nat_cmp n es ≡ find nat_cmp n fs)
+        → find nat_cmp q (map_keys number es) ≡ find nat_cmp q (map_keys number fs)
+    find-same es fs q in_es in_fs same = by_found (find nat_cmp q (map_keys number es)) refl (find nat_cmp q (map_keys number fs)) refl
+      where
+        by_found : (o : Option (List ℕ)) → find nat_cmp q (map_keys number es) ≡ o → (p : Option (List ℕ)) → find nat_cmp q (map_keys number fs) ≡ p → find nat_cmp q (map_keys number es) ≡ find nat_cmp q (map_keys number fs)
+        by_found (Some v) is p other = is ∙ sym (found_too es fs q v in_es in_fs same is)
+        by_found None is (Some w) other = found_too fs es q w in_fs in_es (λ n. sym (same n)) other ∙ sym other
+        by_found None is None other = is ∙ sym other
+
+    pub names-same : (es fs : Entries) → All (λ (e : ℕ × List ℕ). S e.0) es → All (λ (e : ℕ × List ℕ). S e.0) fs → ((n : ℕ) → find nat_cmp n es ≡ find nat_cmp n fs)
+        → from_entries {R = nat_cmp} (map_keys number es) ≡ from_entries (map_keys number fs)
+    names-same es fs in_es in_fs same = same_map nat_cmp_total nat_cmp-IsAntisymmetric _ _ (λ q.
+        get-from_entries nat_cmp_total (map_keys number es) q ∙ find-same es fs q in_es in_fs same ∙ sym (get-from_entries nat_cmp_total (map_keys number fs) q))
+
+-- only new numbers of named nodes have names
+pub named_back : (S : ℕ → Type 0) (number : ℕ → ℕ) (es : Entries) (q : ℕ) → All (λ (e : ℕ × List ℕ). S e.0) es → IsTrue (contains_key (from_entries {R = nat_cmp} (map_keys number es)) q) → (n : ℕ) × S n × (number n ≡ q)
+named_back S number es q all has = by_found (find nat_cmp q (map_keys number es)) refl
+  where
+    by_found : (o : Option (List ℕ)) → find nat_cmp q (map_keys number es) ≡ o → (n : ℕ) × S n × (number n ≡ q)
+    by_found (Some v) is = let old = found_back S number es q v all is in (old.0, old.1, old.2)
+    by_found None is = absurd (false≢true (sym (ap is_some (get-from_entries nat_cmp_total (map_keys number es) q ∙ is)) ∙ has))
+
+-- names under the same numbers
+pub names-kept : (number : ℕ → ℕ) (names : FinMap nat_cmp (List ℕ)) → All (λ (e : ℕ × List ℕ). number e.0 ≡ e.0) (entries names) → from_entries (map_keys number (entries names)) ≡ names
+names-kept number names all = ap from_entries (map-same (λ (e : ℕ × List ℕ). (number e.0, e.1)) (entries names) (λ k d h. ap (λ n. (n, (get_or (entries names) k d).1)) (all k d h))) ∙ from_entries-entries names
+
+-- ---- the entries of a map, one after another
+
+-- the entries, by the bytes of their names
+abbrev pub name_entries : List (ℕ × String Global) → Entries
+name_entries es = map (λ (entry : ℕ × String Global). (entry.0, string_bytes entry.1)) es
+
+later_differs : (P : ℕ → Type 0) (es rest : List (ℕ × String Global)) (e : ℕ × String Global) → AllByRecursion P (keys_of (es ++ e ∷ rest)) → P e.0
+later_differs P [] rest e all = all.0
+later_differs P (d ∷ ds) rest e all = later_differs P ds rest e all.1
+
+-- the number of an entry isn't among those before it
+not_before : (es rest : List (ℕ × String Global)) (e : ℕ × String Global) → IsDistinct nat_eq (keys_of (es ++ e ∷ rest)) → find nat_cmp e.0 (name_entries es) ≡ None
+unfolding IsDistinct
+not_before [] rest e distinct = refl
+not_before (d ∷ ds) rest e distinct =
+    let differs : nat_eq d.0 e.0 ≡ false = later_differs (λ y. nat_eq d.0 y ≡ false) ds rest e distinct.0 in
+    let other : nat_eq e.0 d.0 ≡ false = ne_eqb e.0 d.0 (λ same. eqb-false d.0 e.0 differs (sym same)) in
+    rw (same_test e.0 d.0, other) (not_before ds rest e distinct.1)
+
+pub numbers_there : (S : ℕ → Type 0) (es : List (ℕ × String Global)) → All (λ (e : ℕ × String Global). S e.0) es → All (λ (e : ℕ × List ℕ). S e.0) (name_entries es)
+numbers_there S es all = All-map (λ (e : ℕ × List ℕ). S e.0) (λ (entry : ℕ × String Global). (entry.0, string_bytes entry.1)) es all
+
+module _ (S : ℕ → Type 0) (number : ℕ → ℕ) (apart : (m n : ℕ) → S m → S n → number m ≡ number n → m ≡ n) where
+  -- one more name, under its new number
+  pub names-more : (done rest : List (ℕ × String Global)) (e : ℕ × String Global) → IsDistinct nat_eq (keys_of (done ++ e ∷ rest)) → All (λ (x : ℕ × String Global). S x.0) (done ++ e ∷ rest)
+      → from_entries {R = nat_cmp} (map_keys number (name_entries (done ++ e ∷ []))) ≡ insert (from_entries (map_keys number (name_entries done))) (number e.0) (string_bytes e.1)
+  names-more done rest e distinct all =
+      let before : All (λ (x : ℕ × String Global). S x.0) done = λ k d h. subst (λ (x : ℕ × String Global). S x.0) (get_or_append_left done (e ∷ rest) d k h) (all k d (omega (arith, length-append done (e ∷ rest)))) in
+      let here : S e.0 = subst (λ (x : ℕ × String Global). S x.0) (get_or_at done e rest e (length done) refl) (all (length done) e (omega (arith, length-append done (e ∷ rest)))) in
+      let fresh = find-number S number apart (name_entries done) e.0 here (numbers_there S done before) ∙ not_before done rest e distinct in
+      let parts : map_keys number (name_entries (done ++ e ∷ [])) ≡ map_keys number (name_entries done) ++ (number e.0, string_bytes e.1) ∷ [] = pieces done in
+      ap from_entries parts ∙ from_entries_push nat_cmp_total nat_cmp-IsAntisymmetric (map_keys number (name_entries done)) (number e.0) (string_bytes e.1) fresh
+    where
+      pieces : (es : List (ℕ × String Global)) → map_keys number (name_entries (es ++ e ∷ [])) ≡ map_keys number (name_entries es) ++ (number e.0, string_bytes e.1) ∷ []
+      pieces [] = refl
+      pieces (d ∷ ds) = ap (λ l. (number d.0, string_bytes d.1) ∷ l) (pieces ds)
+
+  -- all names, under their new numbers
+  pub names-all : (es : List (ℕ × String Global)) → All (λ (x : ℕ × String Global). S x.0) es → from_entries {R = nat_cmp} (map_keys number (name_entries es)) ≡ renumbered_names number (names_of es)
+  names-all es all =
+      names-same S number apart (name_entries es) (entries (names_of es)) (numbers_there S es all)
+      (numbers_in S (entries (names_of es)) (λ n has.
+      let old = named_back S (λ m. m) (name_entries es) n (numbers_there S es all) (subst (λ (names : FinMap nat_cmp (List ℕ)). IsTrue (contains_key names n)) (from_entries-entries (names_of es) ∙ ap from_entries (sym (map-id (name_entries es)))) has) in
+      subst S old.2 old.1))
+      (λ n. sym (get-from_entries nat_cmp_total (name_entries es) n) ∙ get-entries (names_of es) n)
+
+-- ---- the loop over a map's entries
+
+-- what stands in the new map after some entries
+abbrev pub NamesSoFar : List ℕ → List (ℕ × String Global) → List (ℕ × String Global) → List (ℕ × String Global) → Type 0
+NamesSoFar numbers es rest made = (done : List (ℕ × String Global)) × (done ++ rest ≡ es) × (names_of made ≡ from_entries (map_keys (slice_index numbers) (name_entries done)))
+
+pub names-turn : (numbers : List ℕ) (es rest left made after : List (ℕ × String Global)) (id : ℕ) (name copy : String Global) → IsDistinct nat_eq (keys_of es) → All (λ (e : ℕ × String Global). IsIndex numbers e.0) es → TellsApart numbers
+    → NamesSoFar numbers es rest made → rest ≡ (id, name) ∷ left → string_bytes copy ≡ string_bytes name
+    → ((q : ℕ) → lookup (nat_eq q) after ≡ cond (nat_eq (slice_index numbers id) q) (Some copy) (lookup (nat_eq q) made)) → NamesSoFar numbers es left after
+names-turn numbers es rest left made after id name copy distinct there apart so_far step same updates =
+    let done = so_far.0 in
+    let split : done ++ (id, name) ∷ left ≡ es = ap (λ l. done ++ l) (sym step) ∙ so_far.1 in
+    let more = names-more (IsIndex numbers) (slice_index numbers) apart done left (id, name)
+    (subst (λ (l : List (ℕ × String Global)). IsDistinct nat_eq (keys_of l)) (sym split) distinct)
+    (subst (All (λ (e : ℕ × String Global). IsIndex numbers e.0)) (sym split) there)
+    in
+    let names = names_insert made after (slice_index numbers id) copy updates
+    ∙ ap (λ (bytes : List ℕ). insert (names_of made) (slice_index numbers id) bytes) same
+    ∙ ap (λ (m : FinMap nat_cmp (List ℕ)). insert m (slice_index numbers id) (string_bytes name)) so_far.2
+    ∙ sym more
+    in
+    (done ++ (id, name) ∷ [], append_assoc done ((id, name) ∷ []) left ∙ split, names)
+
+pub names-end : (numbers : List ℕ) (es rest made : List (ℕ × String Global)) → All (λ (e : ℕ × String Global). IsIndex numbers e.0) es → TellsApart numbers → NamesSoFar numbers es rest made → rest ≡ [] → names_of made ≡ renumbered_names (slice_index numbers) (names_of es)
+names-end numbers es rest made there apart so_far none =
+    let all : so_far.0 ≡ es = sym (append-nil so_far.0) ∙ ap (λ l. so_far.0 ++ l) (sym none) ∙ so_far.1 in
+    so_far.2 ∙ ap (λ (l : List (ℕ × String Global)). from_entries (map_keys (slice_index numbers) (name_entries l))) all
+    ∙ names-all (IsIndex numbers) (slice_index numbers) apart es there
+
+-- what holds of the numbers with a name holds of those of the map's entries
+pub entries_there : (S : ℕ → Type 0) (es : List (ℕ × String Global)) → ((n : ℕ) → IsTrue (contains_key (names_of es) n) → S n) → All (λ (e : ℕ × String Global). S e.0) es
+entries_there S es named = All-from_map (λ (entry : ℕ × String Global). (entry.0, string_bytes entry.1)) (λ (e : ℕ × List ℕ). S e.0) es (numbers_in S (name_entries es) named)

@@ -1,0 +1,165 @@
+-- The nodes of a list of numbers, in its order.
+use Rattle.std.proofs.Common.{◌≡◌, ℕ, zero, suc, ◌+◌, ◌<◌, Option, Some, List, [], ◌∷◌, ◌++◌, length, get_or, refl, sym, ap, subst, ◌∙◌, arith, inl, inr, take}
+use Rattle.std.specs.Prelude.{option_map, slice_get}
+use Rattle.std.proofs.lemmas.Option.{same_Some, slice_get-get_or, slice_get_within}
+use Rattle.std.proofs.lemmas.List.{length-take-le, take_more}
+use Rattle.aig_circuit.specs.declared.edge.AigEdge.{AigEdge}
+use Rattle.aig_circuit.specs.declared.node.AigNodeType.{AigNodeType}
+use Rattle.aig_circuit.specs.declared.node.AigNodeType.TheVariants.{False, Leaf, And}
+use Rattle.aig_circuit.specs.declared.node.AigNode.{AigNode}
+use Rattle.aig_circuit.specs.Node.{kind_at, FitsBelow, IsOrdered, and_of}
+use Rattle.aig_circuit.specs.Circuit.{AreNodes, IsLeaf}
+use Rattle.aig_circuit.specs.Reencode.{nodes_in_order, renumbered_edge, renumbered_kind}
+use Rattle.aig_circuit.proofs.Trees.{kind_at-there, kind_at-within}
+use Rattle.aig_circuit.proofs.Building.{and_of-cases, FitsBelow-and_of}
+use Rattle.aig_renumber.proofs.Values.{Renumbers}
+
+-- ---- the nodes, place by place
+
+pub length-nodes_in_order : (nodes : List AigNode) (number : ℕ → ℕ) (v : ℕ) (ns : List ℕ) → length (nodes_in_order nodes number v ns) ≡ length ns
+length-nodes_in_order nodes number v [] = refl
+length-nodes_in_order nodes number v (n ∷ ns) = ap suc (length-nodes_in_order nodes number (v + 1) ns)
+
+-- the node that stands for the old node n at place i
+abbrev pub node_in_order : List AigNode → (ℕ → ℕ) → ℕ → ℕ → AigNode
+node_in_order nodes number i n = record { node_id = i; typ = renumbered_kind number (kind_at nodes n) }
+
+pub get-nodes_in_order : (nodes : List AigNode) (number : ℕ → ℕ) (v : ℕ) (ns : List ℕ) (i : ℕ) → i < length ns → slice_get (nodes_in_order nodes number v ns) i ≡ Some (node_in_order nodes number (v + i) (get_or ns i 0))
+get-nodes_in_order nodes number v [] i h = absurd (omega arith)
+get-nodes_in_order nodes number v (n ∷ ns) zero h = let e : v ≡ v + 0 = omega arith in ap (λ i. Some (node_in_order nodes number i n)) e
+get-nodes_in_order nodes number v (n ∷ ns) (suc i) h =
+    let e : (v + 1) + i ≡ v + suc i = omega arith in
+    get-nodes_in_order nodes number (v + 1) ns i (omega arith) ∙ ap (λ j. Some (node_in_order nodes number j (get_or ns i 0))) e
+
+pub kind_at-nodes_in_order : (nodes : List AigNode) (number : ℕ → ℕ) (ns : List ℕ) (i : ℕ) → i < length ns → kind_at (nodes_in_order nodes number 0 ns) i ≡ Some (renumbered_kind number (kind_at nodes (get_or ns i 0)))
+kind_at-nodes_in_order nodes number ns i h = ap (option_map (λ (node : AigNode). node.typ)) (get-nodes_in_order nodes number 0 ns i h)
+
+-- one more number at the end
+pub nodes_in_order-push : (nodes : List AigNode) (number : ℕ → ℕ) (v : ℕ) (ns : List ℕ) (n : ℕ) → nodes_in_order nodes number v (ns ++ n ∷ []) ≡ nodes_in_order nodes number v ns ++ node_in_order nodes number (v + length ns) n ∷ []
+nodes_in_order-push nodes number v [] n = let e : v ≡ v + 0 = omega arith in ap (λ i. node_in_order nodes number i n ∷ []) e
+nodes_in_order-push nodes number v (m ∷ ms) n =
+    let e : (v + 1) + length ms ≡ v + suc (length ms) = omega arith in
+    let rest = nodes_in_order-push nodes number (v + 1) ms n ∙ ap (λ i. nodes_in_order nodes number (v + 1) ms ++ node_in_order nodes number i n ∷ []) e in
+    ap (λ l. node_in_order nodes number v m ∷ l) rest
+
+-- one more number of the order
+pub nodes-turn : (nodes : List AigNode) (number : ℕ → ℕ) (order : List ℕ) (i : ℕ) (d : AigNode) (before after : List AigNode) (made : AigNode) → i < length order → get_or order i 0 < length nodes
+    → before ≡ nodes_in_order nodes number 0 (take i order) → made ≡ record { node_id = i; typ = renumbered_kind number (Some (get_or nodes (get_or order i 0) d).typ) } → after ≡ before ++ made ∷ []
+    → after ≡ nodes_in_order nodes number 0 (take (i + 1) order)
+nodes-turn nodes number order i d before after made h there so_far is appended =
+    let n = get_or order i 0 in
+    let kind : kind_at nodes n ≡ Some (get_or nodes n d).typ = ap (option_map (λ (x : AigNode). x.typ)) (slice_get-get_or nodes n d there) in
+    let long : length (take i order) ≡ i = length-take-le i order (omega arith) in
+    let place : 0 + length (take i order) ≡ i = omega arith in
+    let node : node_in_order nodes number (0 + length (take i order)) n ≡ made = ap (λ j. node_in_order nodes number j n) place ∙ ap (λ (o : Option AigNodeType). record { node_id = i; typ = renumbered_kind number o }) kind ∙ sym is in
+    appended ∙ ap (λ l. l ++ made ∷ []) so_far
+    ∙ sym (ap (nodes_in_order nodes number 0) (take_more order i 0 h) ∙ nodes_in_order-push nodes number 0 (take i order) n ∙ ap (λ x. nodes_in_order nodes number 0 (take i order) ++ x ∷ []) node)
+
+-- ---- numberings
+
+-- The list has the numbers in S, each once, and `number` gives each its place. False comes first, and operands come before their gates.
+pub record Numbers (nodes : List AigNode) (S : ℕ → Type 0) (ns : List ℕ) (number : ℕ → ℕ) : Type 0 where
+  pub within : (n : ℕ) → S n → number n < length ns
+  pub back : (n : ℕ) → S n → get_or ns (number n) 0 ≡ n
+  pub in_S : (i : ℕ) → i < length ns → S (get_or ns i 0)
+  pub place : (i : ℕ) → i < length ns → number (get_or ns i 0) ≡ i
+  pub false_in_S : S 0
+  pub false_first : number 0 ≡ 0
+  pub there : (n : ℕ) → S n → n < length nodes
+  pub operands : (n : ℕ) (a b : AigEdge) → S n → kind_at nodes n ≡ Some (And a b) → S a.node_id × S b.node_id
+  pub first_before : (n : ℕ) (a b : AigEdge) → S n → kind_at nodes n ≡ Some (And a b) → number a.node_id < number n
+  pub second_before : (n : ℕ) (a b : AigEdge) → S n → kind_at nodes n ≡ Some (And a b) → number b.node_id < number n
+
+and_of-not_false : (a b : AigEdge) → and_of a b ≡ False → ⊥
+and_of-not_false a b e = elim (and_of-cases a b) [ inl p ↦ not_false b a (sym p.0 ∙ e) | inr p ↦ not_false a b (sym p.0 ∙ e) ]
+  where
+    not_false : (a b : AigEdge) → And a b ≡ False → ⊥
+    not_false a b e = cc
+
+and_of-not_leaf : (a b : AigEdge) → and_of a b ≡ Leaf → ⊥
+and_of-not_leaf a b e = elim (and_of-cases a b) [ inl p ↦ not_leaf b a (sym p.0 ∙ e) | inr p ↦ not_leaf a b (sym p.0 ∙ e) ]
+  where
+    not_leaf : (a b : AigEdge) → And a b ≡ Leaf → ⊥
+    not_leaf a b e = cc
+
+false_back : (number : ℕ → ℕ) (k : AigNodeType) → renumbered_kind number (Some k) ≡ False → k ≡ False
+false_back number False e = refl
+false_back number Leaf e = cc
+false_back number (And a b) e = absurd (and_of-not_false (renumbered_edge number a) (renumbered_edge number b) e)
+
+leaf_back : (number : ℕ → ℕ) (k : AigNodeType) → renumbered_kind number (Some k) ≡ Leaf → k ≡ Leaf
+leaf_back number False e = cc
+leaf_back number Leaf e = refl
+leaf_back number (And a b) e = absurd (and_of-not_leaf (renumbered_edge number a) (renumbered_edge number b) e)
+
+module _ (nodes : List AigNode) (S : ℕ → Type 0) (ns : List ℕ) (number : ℕ → ℕ) (numbers : Numbers nodes S ns number) where
+  abbrev made : List AigNode
+  made = nodes_in_order nodes number 0 ns
+
+  pub within_made : (n : ℕ) → S n → number n < length made
+  within_made n s = rw length-nodes_in_order (numbers.within n s)
+
+  -- what an old node is, it is under its new number
+  pub kind_at-number : (n : ℕ) (k : AigNodeType) → S n → kind_at nodes n ≡ Some k → kind_at made (number n) ≡ Some (renumbered_kind number (Some k))
+  kind_at-number n k s is =
+      kind_at-nodes_in_order nodes number ns (number n) (numbers.within n s)
+      ∙ ap (λ m. Some (renumbered_kind number (kind_at nodes m))) (numbers.back n s)
+      ∙ ap (λ o. Some (renumbered_kind number o)) is
+
+  -- and each new node was an old one
+  pub kind_at-back : (i : ℕ) (l : AigNodeType) → kind_at made i ≡ Some l → (k : AigNodeType) × (i < length ns) × (kind_at nodes (get_or ns i 0) ≡ Some k) × (renumbered_kind number (Some k) ≡ l)
+  kind_at-back i l is =
+      let h : i < length ns = subst (λ n. i < n) (length-nodes_in_order nodes number 0 ns) (kind_at-within made i l is) in
+      let old = kind_at-there nodes (get_or ns i 0) (numbers.there (get_or ns i 0) (numbers.in_S i h)) in
+      let same = same_Some _ _ (sym (kind_at-nodes_in_order nodes number ns i h) ∙ is) in
+      (old.0, h, old.1, ap (renumbered_kind number) (sym old.1) ∙ same)
+
+  pub Renumbers-made : Renumbers nodes made S number
+  Renumbers-made = record { there = numbers.there; kinds = kind_at-number; operands = numbers.operands }
+
+  pub IsLeaf-number : (n : ℕ) → S n → IsLeaf nodes n → IsLeaf made (number n)
+  IsLeaf-number n s leaf = kind_at-number n Leaf s leaf
+
+  -- a leaf was one
+  pub IsLeaf-back : (i : ℕ) → IsLeaf made i → (i < length ns) × IsLeaf nodes (get_or ns i 0)
+  IsLeaf-back i leaf = let old = kind_at-back i Leaf leaf in (old.1, old.2 ∙ ap Some (leaf_back number old.0 old.3))
+
+  -- numbers of S are told apart
+  pub number-apart : (m n : ℕ) → S m → S n → number m ≡ number n → m ≡ n
+  number-apart m n s t e = sym (numbers.back m s) ∙ ap (λ i. get_or ns i 0) e ∙ numbers.back n t
+
+  fits : (i : ℕ) → i < length ns → (k : AigNodeType) → kind_at nodes (get_or ns i 0) ≡ Some k → FitsBelow i (renumbered_kind number (Some k))
+  fits i h False is = record { first = λ a b e. cc; second = λ a b e. cc; in_order = λ a b e. cc }
+  fits i h Leaf is = record { first = λ a b e. cc; second = λ a b e. cc; in_order = λ a b e. cc }
+  fits i h (And a b) is =
+      let here = numbers.place i h in
+      let s = numbers.in_S i h in
+      FitsBelow-and_of i (renumbered_edge number a) (renumbered_edge number b)
+      (subst (λ n. number a.node_id < n) here (numbers.first_before (get_or ns i 0) a b s is))
+      (subst (λ n. number b.node_id < n) here (numbers.second_before (get_or ns i 0) a b s is))
+
+  fits_made : (i : ℕ) (l : AigNodeType) → kind_at made i ≡ Some l → FitsBelow i l
+  fits_made i l is = let old = kind_at-back i l is in subst (FitsBelow i) old.3 (fits i old.1 old.0 old.2)
+
+  pub IsOrdered-made : IsOrdered made
+  IsOrdered-made = record {
+    first_before = λ n a b is. (fits_made n (And a b) is).first a b refl;
+    second_before = λ n a b is. (fits_made n (And a b) is).second a b refl;
+    in_order = λ n a b is. (fits_made n (And a b) is).in_order a b refl;
+  }
+
+  -- they are nodes of a circuit
+  pub AreNodes-made : AreNodes nodes → AreNodes made
+  AreNodes-made are = record {
+    false_first = subst (λ n. kind_at made n ≡ Some False) numbers.false_first (kind_at-number 0 False numbers.false_in_S are.false_first);
+    false_once = λ i is.
+        let old = kind_at-back i False is in
+        let zero_there : get_or ns i 0 ≡ 0 = are.false_once (get_or ns i 0) (old.2 ∙ ap Some (false_back number old.0 old.3)) in
+        sym (numbers.place i old.1) ∙ ap number zero_there ∙ numbers.false_first;
+    numbered = λ i node is.
+        let h : i < length ns = subst (λ n. i < n) (length-nodes_in_order nodes number 0 ns) (slice_get_within made i node is) in
+        let same = same_Some _ _ (sym (get-nodes_in_order nodes number 0 ns i h) ∙ is) in
+        let e : 0 + i ≡ i = omega arith in
+        sym (ap (λ (x : AigNode). x.node_id) same) ∙ e;
+    ordered = IsOrdered-made;
+  }

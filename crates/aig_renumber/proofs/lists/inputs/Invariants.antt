@@ -1,0 +1,5 @@
+use Rattle.std.proofs.Common.{◌≡◌, map, slice_index, take}
+use Rattle.aig_renumber.proofs.lists.inputs.Given as goal
+
+abbrev pub invariant-loop-input : goal.invariant-loop-input
+invariant-loop-input l = l.new.items ≡ map (slice_index l.numbers) (take l.input-index l.old)

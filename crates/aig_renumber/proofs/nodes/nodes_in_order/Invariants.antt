@@ -1,0 +1,6 @@
+use Rattle.std.proofs.Common.{◌≡◌, slice_index, take}
+use Rattle.aig_circuit.specs.Reencode.{nodes_in_order}
+use Rattle.aig_renumber.proofs.nodes.nodes_in_order.Given as goal
+
+abbrev pub invariant-loop-i : goal.invariant-loop-i
+invariant-loop-i l = l.new.items ≡ nodes_in_order l.nodes (slice_index l.numbers) 0 (take l.i l.order)

@@ -1,0 +1,7 @@
+mod Gates
+mod Edges
+mod Nodes
+mod Names
+pub mod Written
+pub mod Placed
+pub mod Reencoded
