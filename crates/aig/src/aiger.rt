@@ -1,6 +1,6 @@
 //! Reading and writing AIGER.
 
-ghost use Rattle.std.specs.Prelude.{◌≡◌, ◌≢◌, ◌↔◌, ◌⊎◌, ◌<◌, ◌≤◌, ◌^◌, ℕ, List, Some, false, length, All, Any, Contains, IfErr, IfOk, IfSome, IsErrOf, IsTrue, OnOk};
+ghost use Rattle.std.specs.Prelude.{◌≡◌, ◌≢◌, ◌↔◌, ◌⊎◌, ◌<◌, ◌≤◌, ◌^◌, ℕ, List, Some, false, length, All, Any, Contains, IfErr, IfOk, IfSome, IsErrOf, IsTrue, OnOk, true};
 ghost use Rattle.std.specs.Io.KnownBytes.{Appends, Consumes, IsAtEnd};
 ghost use Rattle.aig_circuit.specs.Reencode.{reencoded};
 ghost use Rattle.aig_grammar.specs.Circuit.{binary_of, circuit_of, file_of, text_of, IsReadAgain};
@@ -14,7 +14,7 @@ ghost use Rattle.aig_grammar.specs.Writable.{HasLineFeed, IsOpenStart, IsSmall, 
 ghost use Rattle.aig.specs.Writing.{IsRefusal, TellsOf};
 ghost use Rattle.aig.specs.declared.aiger.WriteError.TheVariants as errors;
 
-use crate::graph::Aig;
+use crate::graph::{Aig, MOST_NODES};
 use aig_base::{FromRead, MemoryError, Sink, Source, StreamFault, ToWrite};
 use aig_circuit::{AigEdge, AigLatch};
 use aig_display::fmt_text;
@@ -31,25 +31,25 @@ use thiserror::Error;
 pub enum WriteError {
     /// A growth was refused for want of memory.
     #[error("out of memory")]
-    Memory,
+    Memory = 1,
     /// The writer failed in this call.
     #[error("write failed")]
-    Stream,
+    Stream = 2,
     /// The circuit isn't closed.
     #[error("a leaf is neither input nor latch")]
-    FreeLeaf,
+    FreeLeaf = 3,
     /// Some initial edge isn't constant.
     #[error("an initial edge is not constant")]
-    InitialEdge,
+    InitialEdge = 4,
     /// The name of an input or a latch holds a line feed.
     #[error("a name holds a line feed")]
-    Name,
+    Name = 5,
     /// There are more than 2^31 nodes, or more than 2^32 - 1 entries in a list or a justice set.
     #[error("too large for the format")]
-    TooLarge,
+    TooLarge = 6,
     /// The file couldn't be made.
     #[error("cannot create")]
-    Open,
+    Open = 7,
 }
 
 impl From<MemoryError> for WriteError {
@@ -69,19 +69,16 @@ impl From<StreamFault> for WriteError {
 }
 
 /// The greatest number that a file can have.
-const GREATEST_NUMBER: usize = 0xffff_ffff;
-
-/// The most nodes that a circuit with a written form can have.
-const MOST_NODES: usize = 0x8000_0000;
+const GREATEST_NUMBER: usize = u32::MAX as usize;
 
 /// The file of a path, made anew.
 fn created<R: Files>(rt: &R, f: Path<'_>) -> Result<ToWrite<R::File>, WriteError>
     ensures { IfErr result (λ e. e ≡ WriteError.Open) }
 {
-    match fs::create(rt, f) {
-        Ok(file) => Ok(ToWrite::new(file)),
-        Err(_) => Err(WriteError::Open),
-    }
+    let Ok(file) = fs::create(rt, f) else {
+        return Err(WriteError::Open);
+    };
+    Ok(ToWrite::new(file))
 }
 
 /// Whether some initial edge isn't constant.
@@ -110,14 +107,14 @@ fn has_line_feed(symbols: &HashMap<usize, String>, id: usize) -> bool
     }
 }
 
-/// Whether one of the nodes of these numbers has such a name.
+/// Whether one of the nodes of these numbers has a name that holds a line feed.
 fn input_has_line_feed(symbols: &HashMap<usize, String>, ids: &[usize]) -> bool
     ensures { IsTrue result ↔ Any (HasLineFeed (names_of symbols.now.entries)) ids.now }
 {
     ids.iter().any(|id| has_line_feed(symbols, *id))
 }
 
-/// Whether the leaf of one of the latches has such a name.
+/// Whether the leaf of one of the latches has a name that holds a line feed.
 fn latch_has_line_feed(symbols: &HashMap<usize, String>, latchs: &[AigLatch]) -> bool
     ensures { IsTrue result ↔ Any (λ latch. HasLineFeed (names_of symbols.now.entries) latch.input) latchs.now }
 {
@@ -126,14 +123,14 @@ fn latch_has_line_feed(symbols: &HashMap<usize, String>, latchs: &[AigLatch]) ->
         .any(|latch| has_line_feed(symbols, latch.input()))
 }
 
-/// Whether each of the counts is within the format's numbers.
+/// Whether each of the counts is at most 2^32 - 1.
 fn are_numbers(counts: &[usize]) -> bool
     ensures { IsTrue result ↔ All (λ n. n < 2 ^ 32) counts.now }
 {
     counts.iter().all(|count| *count <= GREATEST_NUMBER)
 }
 
-/// Whether each of the sets is.
+/// Whether each set has at most 2^32 - 1 edges.
 fn are_short(sets: &[Vec<AigEdge>]) -> bool
     ensures { IsTrue result ↔ All (λ set. length set.items < 2 ^ 32) sets.now }
 {
@@ -162,10 +159,8 @@ impl Aig {
         ensures stream { IsErrOf result ReadError.Stream → IsTrue (R.failed r.new) }
         ensures never_open { IsErrOf result ReadError.Open → ⊥ }
     {
-        match aig_reader::read(alloc, r, limit) {
-            Ok(lists) => Ok(Aig::from_lists(lists)),
-            Err(fault) => Err(fault),
-        }
+        let lists = aig_reader::read(alloc, r, limit)?;
+        Ok(Aig::from_lists(lists))
     }
 
     /// Opens the file of a path, and reads a circuit from it as `from_aiger` does.
@@ -180,7 +175,9 @@ impl Aig {
         requires some { 1 ≤ limit }
         requires few { limit ≤ 2 ^ 31 }
         // The circuit is that of a file that is accepted.
-        ensures { IfOk result (λ aig. (file : File) × (bytes : List ℕ) × Accepts bytes limit file × (aig ≡ circuit_of file)) }
+        ensures circuit { IfOk result (λ aig. (file : File) × (bytes : List ℕ) × Accepts bytes limit file × (aig ≡ circuit_of file)) }
+        // The limit is on its nodes.
+        ensures few { IfOk result (λ aig. length aig.nodes ≤ limit) }
     {
         match fs::open(rt, f) {
             Ok(file) => Aig::from_aiger(alloc, &mut FromRead::new(file), limit),
@@ -284,7 +281,9 @@ impl Aig {
     ///
     /// The file is made only where no other refusal applies. Answers `Open` where it couldn't be made.
     pub fn to_file(&self, rt: &impl Files, f: Path<'_>, ascii: bool) -> Result<(), WriteError>
-        ensures { TellsOf self.now result }
+        ensures tells { TellsOf self.now result }
+        // The text form asks for no memory.
+        ensures no_memory { ascii ≡ true → IsErrOf result WriteError.Memory → ⊥ }
     {
         self.refusal()?;
         if ascii {

@@ -22,6 +22,9 @@ use std::marker::Model;
 use std::ops::{Index, Range};
 pub use writing::PropList;
 
+/// The most nodes whose edges have literals.
+pub(crate) const MOST_NODES: usize = 1 << 31;
+
 /// A sequential circuit, kept as an And-Inverter Graph.
 ///
 /// It is a list of nodes: node 0 is false, and every other node is a leaf or the and of two edges to nodes before it.
@@ -324,7 +327,7 @@ impl Aig {
     pub fn fits_lits(&self) -> bool
         ensures { IsTrue result ↔ (length self.now.nodes ≤ 2 ^ 31) }
     {
-        self.nodes.len() <= 1 << 31
+        self.nodes.len() <= MOST_NODES
     }
 
     /// Whether a node may stand in place of node `i`: node `i` is there, the number is `i`, the kind is the same, and a
@@ -349,7 +352,7 @@ impl Clone for Aig {
 
     /// A copy, which is the same circuit.
     fn clone(&self) -> Result<Aig, AllocError> {
-        let alloc = *self.nodes.allocator();
+        let alloc = self.allocator();
         Ok(Aig {
             nodes: Vec::from_slice(alloc, &self.nodes)?,
             inputs: Vec::from_slice(alloc, &self.inputs)?,

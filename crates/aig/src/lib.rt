@@ -5,8 +5,6 @@ mod aiger;
 mod cnf;
 mod graph;
 mod others;
-#[cfg(test)]
-mod tests;
 
 pub use aig_circuit::{AigEdge, AigLatch, AigNode, AigNodeType, AndsIter};
 pub use aig_reader::{ReadError, Section};

@@ -2,7 +2,7 @@
 
 ghost use Rattle.std.specs.Prelude.{◌≡◌, IfOk};
 ghost use Rattle.aig_circuit.specs.Circuit.{IsClosed};
-ghost use Rattle.aig_circuit.specs.Runs.{KeepsRuns};
+ghost use Rattle.aig_circuit.specs.Runs.{AreAsLong, KeepsRuns};
 ghost use Rattle.aig_circuit.specs.Reencode.{IsPlaced, new_number, reencoded};
 
 use crate::graph::Aig;
@@ -15,6 +15,8 @@ impl Aig {
     pub fn reencode(&self) -> Result<Aig, MemoryError>
         requires { IsClosed self.now }
         ensures exact { IfOk result (λ made. made ≡ reencoded self.now) }
+        ensures closed { IfOk result (λ made. IsClosed made) }
+        ensures long { IfOk result (λ made. AreAsLong self.now made) }
         ensures kept { IfOk result (λ made. KeepsRuns self.now made (new_number self.now)) }
         ensures placed { IfOk result (λ made. IsPlaced made) }
         ensures twice { IfOk result (λ made. reencoded made ≡ made) }

@@ -13,7 +13,8 @@ use Rattle.std.proofs.lemmas.Bool.Decides.{nat_tests}
 pub same_test : (q k : ℕ) → eq_by_cmp nat_cmp q k ≡ nat_eq q k
 same_test q k = grind (arith, nat_tests)
 
-turned : (q k : ℕ) → nat_eq q k ≡ nat_eq k q
+-- either number may stand first
+pub turned : (q k : ℕ) → nat_eq q k ≡ nat_eq k q
 turned q k = grind (arith, nat_tests)
 
 find_lookup : (es : List (ℕ × ℕ)) (q : ℕ) → find nat_cmp q es ≡ lookup (nat_eq q) es

@@ -1,4 +1,5 @@
 use Rattle.std.proofs.Common.{◌≡◌, ℕ, zero, suc, ◌<◌, ◌≤◌, Bool, true, false, not, ◌&&◌, ◌⊎◌, Some, List, [], ◌∷◌, ◌++◌, length, take, refl, sym, ap, subst, ◌∙◌, arith, inl, inr, length-append, append_assoc, append-nil}
+use Rattle.std.proofs.Math.Bool.{and_comm, and-true, and-false, and_self}
 use Rattle.std.proofs.Math.Seq.{take-append_seam}
 use Rattle.std.specs.Prelude.{slice_get}
 use Rattle.std.proofs.lemmas.Bool.{cases_lt}
@@ -10,7 +11,7 @@ use Rattle.aig_circuit.specs.declared.node.AigNode.{AigNode}
 use Rattle.aig_circuit.specs.Edge.{inverted_if, literal_of}
 use Rattle.aig_circuit.specs.Node.{kind_at, FitsBelow, IsOrdered, and_of}
 use Rattle.aig_circuit.specs.Tree.{node_value, edge_value}
-use Rattle.aig_circuit.specs.Circuit.{AreNodes, IsInRange}
+use Rattle.aig_circuit.specs.Circuit.{AreNodes}
 use Rattle.aig_circuit.specs.Build.{with_node, Folds, true_first, true_second, false_first, false_second, same, opposite, AddsGate, AddsGates, Grows, KeepsTrees}
 use Rattle.aig_circuit.proofs.Trees.{kind_at-append, kind_at-last, kind_at-within, tree_of-agrees, node_value-agrees, node_value-and, node_value-false}
 
@@ -48,6 +49,9 @@ and_of-cases a b = grind (arith, nat_tests)
 
 and_not_false : (a b : AigEdge) → And a b ≡ False → ⊥
 and_not_false a b e = cc
+
+pub and_of-not_false : (a b : AigEdge) → and_of a b ≡ False → ⊥
+and_of-not_false a b e = elim (and_of-cases a b) [ inl p ↦ and_not_false _ _ (sym p.0 ∙ e) | inr p ↦ and_not_false _ _ (sym p.0 ∙ e) ]
 
 pub FitsBelow-and_of : (n : ℕ) (a b : AigEdge) → a.node_id < n → b.node_id < n → FitsBelow n (and_of a b)
 FitsBelow-and_of n a b i j = elim (and_of-cases a b) [
@@ -123,7 +127,7 @@ AddsGates-then xs ys zs p q = record {
 
 pub AddsGates-with_node : (nodes : List AigNode) (a b : AigEdge) → AreNodes nodes → a.node_id < length nodes → b.node_id < length nodes → AddsGates nodes (with_node nodes (and_of a b))
 AddsGates-with_node nodes a b s i j = record {
-  grows = Grows-with_node nodes (and_of a b) s (λ e. elim (and_of-cases a b) [ inl p ↦ and_not_false _ _ (sym p.0 ∙ e) | inr p ↦ and_not_false _ _ (sym p.0 ∙ e) ]) (FitsBelow-and_of (length nodes) a b i j);
+  grows = Grows-with_node nodes (and_of a b) s (and_of-not_false a b) (FitsBelow-and_of (length nodes) a b i j);
   gates = λ n h l.
       let here : n ≡ length nodes = omega (arith, length-append nodes (record { node_id = length nodes; typ = and_of a b } ∷ [])) in
       elim (and_of-cases a b) [
@@ -142,24 +146,6 @@ node_value-Grows xs ys s p x n h = sym (node_value-agrees xs ys s.ordered x n (�
 -- edges to old nodes keep their values
 pub edge_value-Grows : (xs ys : List AigNode) → AreNodes xs → Grows xs ys → (x : ℕ → Bool) (e : AigEdge) → e.node_id < length xs → edge_value ys x e ≡ edge_value xs x e
 edge_value-Grows xs ys s p x e h = ap (inverted_if e.compl) (node_value-Grows xs ys s p x e.node_id h)
-
-pub and_comm : (a b : Bool) → (a && b) ≡ (b && a)
-and_comm true true = refl
-and_comm true false = refl
-and_comm false true = refl
-and_comm false false = refl
-
-pub and_true : (a : Bool) → (a && true) ≡ a
-and_true true = refl
-and_true false = refl
-
-and_false : (a : Bool) → (a && false) ≡ false
-and_false true = refl
-and_false false = refl
-
-and_same : (a : Bool) → (a && a) ≡ a
-and_same true = refl
-and_same false = refl
 
 and_inverse : (i v : Bool) → (inverted_if (not i) v && inverted_if i v) ≡ false
 and_inverse true true = refl
@@ -187,16 +173,8 @@ value-AddsGate old new a b e s i j adds x =
 -- what two edges fold to has the value of their and
 pub value-Folds : (nodes : List AigNode) (a b e : AigEdge) → AreNodes nodes → Folds a b e → (x : ℕ → Bool) → edge_value nodes x e ≡ (edge_value nodes x a && edge_value nodes x b)
 value-Folds nodes a b e s (true_first p q) x = let zero_false = node_value-false nodes x 0 s.false_first in rw (p, q, zero_false)
-value-Folds nodes a b e s (true_second p q) x = let zero_false = node_value-false nodes x 0 s.false_first in rw (p, q, zero_false) (sym (and_true _))
+value-Folds nodes a b e s (true_second p q) x = let zero_false = node_value-false nodes x 0 s.false_first in rw (p, q, zero_false) (sym (and-true _))
 value-Folds nodes a b e s (false_first p q) x = let zero_false = node_value-false nodes x 0 s.false_first in rw (p, q, zero_false)
-value-Folds nodes a b e s (false_second p q) x = let zero_false = node_value-false nodes x 0 s.false_first in rw (p, q, zero_false) (sym (and_false _))
-value-Folds nodes a b e s (same p q) x = rw (q, p) (sym (and_same _))
+value-Folds nodes a b e s (false_second p q) x = let zero_false = node_value-false nodes x 0 s.false_first in rw (p, q, zero_false) (sym (and-false _))
+value-Folds nodes a b e s (same p q) x = rw (q, p) (sym (and_self _))
 value-Folds nodes a b e s (opposite p q) x = let zero_false = node_value-false nodes x 0 s.false_first in rw (p, q, zero_false) (sym (and_inverse b.compl _))
-
-pub Folds-there : (nodes : List AigNode) (a b e : AigEdge) → AreNodes nodes → IsInRange nodes a → IsInRange nodes b → Folds a b e → IsInRange nodes e
-Folds-there nodes a b e s i j (true_first p q) = rw q j
-Folds-there nodes a b e s i j (true_second p q) = rw q i
-Folds-there nodes a b e s i j (false_first p q) = rw q (kind_at-within nodes 0 False s.false_first)
-Folds-there nodes a b e s i j (false_second p q) = rw q (kind_at-within nodes 0 False s.false_first)
-Folds-there nodes a b e s i j (same p q) = rw q i
-Folds-there nodes a b e s i j (opposite p q) = rw q (kind_at-within nodes 0 False s.false_first)

@@ -1,11 +1,11 @@
-use Rattle.std.proofs.Common.{◌≡◌, ◌≢◌, ℕ, zero, suc, nat_cmp, ◌<◌, ◌≤◌, Option, Some, None, List, [], ◌∷◌, ◌++◌, length, get_or, refl, sym, ap, subst, ◌∙◌, arith, inl, inr}
+use Rattle.std.proofs.Common.{◌≡◌, ◌≢◌, ℕ, zero, suc, nat_cmp, ◌<◌, ◌≤◌, Option, Some, None, List, [], ◌∷◌, ◌++◌, length, length-append, get_or, refl, sym, ap, subst, ◌∙◌, arith, inl, inr, ◌-◌}
 use Rattle.std.specs.Prelude.{IfSome, All, AllPairs, Contains, IsTrue, slice_get, is_some}
 use Rattle.std.specs.FinMap.{FinMap, contains_key, get-empty}
 use Rattle.std.proofs.lemmas.Option.{same_Some}
-use Rattle.std.proofs.lemmas.Bool.{false≢true}
-use Rattle.std.proofs.lemmas.List.Elements.{All-weaker, All-append, All-push, All-nil, All-map, All-contains, Contains-append_right, Contains-push_cases, Contains-get_or}
+use Rattle.std.proofs.lemmas.Bool.{cases_lt, false≢true}
+use Rattle.std.proofs.lemmas.List.{get_or_append_left, get_or-append_right}
+use Rattle.std.proofs.lemmas.List.Elements.{All-weaker, All-append, All-push, All-nil, All-map, All-contains, Contains-push_cases, Contains-get_or}
 use Rattle.std.proofs.lemmas.List.Quantifiers.{all_pairs_push}
-use Rattle.std.proofs.lemmas.List.Kept.{AllPairs-cons}
 use Rattle.aig_circuit.specs.declared.edge.AigEdge.{AigEdge}
 use Rattle.aig_circuit.specs.declared.node.AigNodeType.TheVariants.{False, Leaf, And}
 use Rattle.aig_circuit.specs.declared.node.AigNode.{AigNode}
@@ -118,17 +118,24 @@ IsCircuit-new_input c is =
 pub IsCircuit-named : (c : Circuit) (names : FinMap nat_cmp (List ℕ)) → IsCircuit c → ((n : ℕ) → IsTrue (contains_key names n) → n < length c.nodes) → IsCircuit (record c { names = names })
 IsCircuit-named c names is named = assumption (is, named)
 
--- entries that differ in pairs, before others that do and that none of them is
-pairs_append : (xs ys : List ℕ) → AllPairs (λ m n. m ≢ n) xs → AllPairs (λ m n. m ≢ n) ys → All (λ n. ¬ Contains xs n) ys → AllPairs (λ m n. m ≢ n) (xs ++ ys)
-pairs_append [] ys p q apart = q
-pairs_append (x ∷ xs) ys p q apart =
-    AllPairs-cons (λ m n. m ≢ n) x (xs ++ ys)
-    (All-append (λ n. x ≢ n) xs ys (λ k d h. p 0 (suc k) d (omega arith) (omega arith)) (All-weaker (λ n. ¬ Contains (x ∷ xs) n) (λ n. x ≢ n) (λ n no e. no (subst (Contains (x ∷ xs)) e (Contains-get_or (x ∷ xs) 0 x (omega arith)))) ys apart))
-    (pairs_append xs ys (λ i j d h l. p (suc i) (suc j) d (omega arith) (omega arith)) q
-    (All-weaker (λ n. ¬ Contains (x ∷ xs) n) (λ n. ¬ Contains xs n) (λ n no has. no (Contains-append_right (x ∷ []) xs n has)) ys apart))
+-- pairs of the first list, of the second, and of one entry each
+pub AllPairs-append : {X : Type 0} (R : X → X → Type 0) (xs ys : List X) → AllPairs R xs → AllPairs R ys → All (λ x. All (R x) ys) xs → AllPairs R (xs ++ ys)
+AllPairs-append R xs ys p q across i j d h l = elim (cases_lt j (length xs)) [
+  | inl left ↦ (
+      let first : i < length xs = omega arith in
+      rw (get_or_append_left xs ys d i first, get_or_append_left xs ys d j left) (p i j d h left))
+  | inr past ↦ (
+      let second : j - length xs < length ys = omega (arith, length-append xs ys) in
+      rw (get_or-append_right xs ys (length xs) j d refl past)
+      (elim (cases_lt i (length xs)) [
+        | inl left ↦ rw (get_or_append_left xs ys d i left) (across i d left (j - length xs) d second)
+        | inr later ↦ rw (get_or-append_right xs ys (length xs) i d refl later) (q (i - length xs) (j - length xs) d (omega arith) second)
+      ]))
+]
 
 pub AreLeaves-of_circuit : (c : Circuit) → IsCircuit c → AreLeaves c.nodes c.inputs c.latchs
 AreLeaves-of_circuit c is = record {
   leaves = All-append (IsLeaf c.nodes) c.inputs (latch_leaves c.latchs) is.inputs (latch_leaves-leaves c is);
-  distinct = pairs_append c.inputs (latch_leaves c.latchs) is.inputs_distinct is.latchs_distinct is.apart;
+  distinct = AllPairs-append (λ m n. m ≢ n) c.inputs (latch_leaves c.latchs) is.inputs_distinct is.latchs_distinct
+      (λ k d h i e l same. is.apart i e l (subst (Contains c.inputs) same (Contains-get_or c.inputs k d h)));
 }

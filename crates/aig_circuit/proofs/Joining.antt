@@ -1,5 +1,6 @@
 use Rattle.std.proofs.Common.{◌≡◌, ℕ, Bool, true, false, not, ◌&&◌, ◌||◌, ◌↔◌, IsTrue, List, [], ◌∷◌, ◌++◌, map, refl, sym, ap, ◌∙◌, inl, inr}
 use Rattle.std.specs.Prelude.{All}
+use Rattle.std.proofs.Math.Bool.{and_assoc, and-true, not-not}
 use Rattle.std.specs.List.{list_all, list_any}
 use Rattle.std.proofs.lemmas.List.Elements.{All-map}
 use Rattle.std.proofs.lemmas.Bool.{false≢true}
@@ -11,14 +12,11 @@ use Rattle.aig_circuit.specs.Tree.{node_value, edge_value}
 use Rattle.aig_circuit.specs.Circuit.{AreNodes, IsInRange}
 use Rattle.aig_circuit.specs.Build.{Folds, true_first, true_second, false_first, false_second, same, opposite, FoldsOrAdds, AddsGates, Grows, JoinsByAnd, JoinsByOr}
 use Rattle.aig_circuit.proofs.Trees.{kind_at-within, node_value-false}
-use Rattle.aig_circuit.proofs.Building.{AddsGates-itself, AddsGates-then, edge_value-Grows, and_true}
+use Rattle.aig_circuit.proofs.Building.{AddsGates-itself, AddsGates-then, edge_value-Grows}
 
+-- an edge inverted twice is the edge
 pub inverse_twice : (e : AigEdge) → inverse (inverse e) ≡ e
-inverse_twice e = by e.compl
-  where
-    by : (i : Bool) → edge_to e.node_id (not (not i)) ≡ edge_to e.node_id i
-    by true = refl
-    by false = refl
+inverse_twice e = ap (edge_to e.node_id) (not-not e.compl)
 
 pub edge_value-inverse : (nodes : List AigNode) (x : ℕ → Bool) (e : AigEdge) → edge_value nodes x (inverse e) ≡ not (edge_value nodes x e)
 edge_value-inverse nodes x e = by e.compl (node_value nodes x e.node_id)
@@ -66,19 +64,15 @@ AndSoFar-one nodes s f there = record {
   gates = AddsGates-itself nodes s;
   joins = record {
     there = there;
-    value = λ x. sym (and_true _);
+    value = λ x. sym (and-true _);
     none = λ h. cc;
     one = λ g h. (cc, refl);
   };
 }
 
 list_all-push : (p : AigEdge → Bool) (es : List AigEdge) (e : AigEdge) → list_all p (es ++ e ∷ []) ≡ (list_all p es && p e)
-list_all-push p [] e = and_true (p e)
-list_all-push p (f ∷ es) e = ap (λ b. p f && b) (list_all-push p es e) ∙ and_assoc (p f) (list_all p es) (p e)
-  where
-    and_assoc : (a b c : Bool) → (a && (b && c)) ≡ ((a && b) && c)
-    and_assoc true b c = refl
-    and_assoc false b c = refl
+list_all-push p [] e = and-true (p e)
+list_all-push p (f ∷ es) e = ap (λ b. p f && b) (list_all-push p es e) ∙ sym (and_assoc (p f) (list_all p es) (p e))
 
 not_empty : (es : List AigEdge) (e : AigEdge) → es ++ e ∷ [] ≡ [] → ⊥
 not_empty [] e h = cc

@@ -2,16 +2,12 @@
 use Rattle.std.proofs.Common.{◌≡◌, ℕ, ◌<◌, Bool, true, false, cond, IsTrue, Option, Some, List, [], ◌∷◌, map, nat_cmp, nat_eq, String, refl, sym, ap, ◌∙◌, arith}
 use Rattle.std.specs.Prelude.{option_map, string_bytes, is_some}
 use Rattle.std.specs.declared.alloc.Global.{Global}
-use Rattle.std.specs.Ordering.{eq_by_cmp}
 use Rattle.std.specs.Map.{lookup}
 use Rattle.std.specs.FinMap.{FinMap, insert, get, find, contains_key, get-insert, get-from_entries, same_map, nat_cmp-IsAntisymmetric}
 use Rattle.std.proofs.lemmas.Cmp.{nat_cmp_total}
 use Rattle.std.proofs.lemmas.Bool.Decides.{nat_tests}
+use Rattle.aig_base.proofs.Mapping.{same_test, turned}
 use Rattle.aig_circuit.specs.View.{names_of}
-
--- the map's test is that of equality
-pub same_test : (q k : ℕ) → eq_by_cmp nat_cmp q k ≡ nat_eq q k
-same_test q k = grind (arith, nat_tests)
 
 option_map_cond : (b : Bool) (v : String Global) (o : Option (String Global)) → option_map string_bytes (cond b (Some v) o) ≡ cond b (Some (string_bytes v)) (option_map string_bytes o)
 option_map_cond true v o = refl
@@ -27,9 +23,6 @@ find_names (e ∷ es) q =
 -- what name a node has
 pub get_names : (es : List (ℕ × String Global)) (q : ℕ) → get (names_of es) q ≡ option_map string_bytes (lookup (nat_eq q) es)
 get_names es q = get-from_entries nat_cmp_total _ q ∙ find_names es q
-
-turned : (q k : ℕ) → nat_eq q k ≡ nat_eq k q
-turned q k = grind (arith, nat_tests)
 
 -- entries that differ at one node give names that differ there
 pub names_insert : (es fs : List (ℕ × String Global)) (k : ℕ) (v : String Global) → ((q : ℕ) → lookup (nat_eq q) fs ≡ cond (nat_eq k q) (Some v) (lookup (nat_eq q) es)) → names_of fs ≡ insert (names_of es) k (string_bytes v)

@@ -18,22 +18,6 @@ use Rattle.aig_circuit.proofs.Trees.{kind_at-within, kind_at-last}
 use Rattle.aig_circuit.proofs.Building.{Grows-leaf, Grows-longer}
 use Rattle.aig_circuit.proofs.Circuits.{IsCircuit-over, IsCircuit-grown, IsFree-fresh, init_grown}
 
--- a circuit stays one under other properties whose edges are in range
-pub IsCircuit-outputs : (c : Circuit) (es : List AigEdge) → IsCircuit c → All (IsInRange c.nodes) es → IsCircuit (record c { outputs = es })
-IsCircuit-outputs c es is h = assumption (is, h)
-
-pub IsCircuit-bads : (c : Circuit) (es : List AigEdge) → IsCircuit c → All (IsInRange c.nodes) es → IsCircuit (record c { bads = es })
-IsCircuit-bads c es is h = assumption (is, h)
-
-pub IsCircuit-constraints : (c : Circuit) (es : List AigEdge) → IsCircuit c → All (IsInRange c.nodes) es → IsCircuit (record c { constraints = es })
-IsCircuit-constraints c es is h = assumption (is, h)
-
-pub IsCircuit-justice : (c : Circuit) (sets : List (List AigEdge)) → IsCircuit c → All (All (IsInRange c.nodes)) sets → IsCircuit (record c { justice = sets })
-IsCircuit-justice c sets is h = assumption (is, h)
-
-pub IsCircuit-fairness : (c : Circuit) (es : List AigEdge) → IsCircuit c → All (IsInRange c.nodes) es → IsCircuit (record c { fairness = es })
-IsCircuit-fairness c es is h = assumption (is, h)
-
 -- a circuit stays one under other latches with the same leaves
 IsCircuit-latchs : (c : Circuit) (latchs : List AigLatch) → IsCircuit c → All (IsLatch c.nodes) latchs → latch_leaves latchs ≡ latch_leaves c.latchs → IsCircuit (record c { latchs = latchs })
 IsCircuit-latchs c latchs is h same =

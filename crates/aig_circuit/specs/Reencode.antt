@@ -1,7 +1,8 @@
 -- The numbering of a closed circuit that a binary file has: inputs first, then latches, then gates in rising number.
 -- (AIGER format 20071012, "Binary encoding".)
 use Rattle.std.specs.Prelude.{◌≡◌, ℕ, ◌+◌, ◌==◌, if◌then◌else◌, Option, Some, None, option_map, List, [], ◌∷◌, ◌++◌, map, filter_map, slice_index, EachIndex}
-use Rattle.std.specs.FinMap.{from_entries, entries}
+use Rattle.std.specs.Ordering.{nat_cmp}
+use Rattle.std.specs.FinMap.{FinMap, from_entries, entries}
 use Rattle.aig_circuit.specs.declared.edge.AigEdge.{AigEdge}
 use Rattle.aig_circuit.specs.declared.node.AigNodeType.{AigNodeType}
 use Rattle.aig_circuit.specs.declared.node.AigNodeType.TheVariants.{False, Leaf, And}
@@ -44,6 +45,7 @@ renumbered_kind number (Some Leaf) = Leaf
 renumbered_kind number (Some False) = False
 renumbered_kind number None = False
 
+-- the latch with its leaf and its edges under their new numbers
 abbrev pub renumbered_latch : (ℕ → ℕ) → AigLatch → AigLatch
 renumbered_latch number latch =
     record { input = number latch.input; next = renumbered_edge number latch.next; init = option_map (renumbered_edge number) latch.init }
@@ -53,13 +55,16 @@ abbrev pub nodes_in_order : List AigNode → (ℕ → ℕ) → ℕ → List ℕ 
 nodes_in_order nodes number i [] = []
 nodes_in_order nodes number i (n ∷ ns) = record { node_id = i; typ = renumbered_kind number (kind_at nodes n) } ∷ nodes_in_order nodes number (i + 1) ns
 
--- the circuit with its nodes in the new order; lists and names follow
-abbrev pub reencoded : Circuit → Circuit
-reencoded c =
-    let number = new_number c in
+-- the names under the new numbers
+abbrev pub renumbered_names : (ℕ → ℕ) → FinMap nat_cmp (List ℕ) → FinMap nat_cmp (List ℕ)
+renumbered_names number names = from_entries (map (λ entry. (number entry.0, entry.1)) (entries names))
+
+-- the circuit of the nodes of these numbers, in their order, with all lists and names under the new numbers
+abbrev pub renumbered_circuit : (ℕ → ℕ) → List ℕ → Circuit → Circuit
+renumbered_circuit number ns c =
     let edges = map (renumbered_edge number) in
     record {
-      nodes = nodes_in_order c.nodes number 0 (order_of c);
+      nodes = nodes_in_order c.nodes number 0 ns;
       inputs = map number c.inputs;
       latchs = map (renumbered_latch number) c.latchs;
       outputs = edges c.outputs;
@@ -67,8 +72,12 @@ reencoded c =
       constraints = edges c.constraints;
       justice = map edges c.justice;
       fairness = edges c.fairness;
-      names = from_entries (map (λ entry. (number entry.0, entry.1)) (entries c.names));
+      names = renumbered_names number c.names;
     }
+
+-- the circuit with its nodes in the new order; lists and names follow
+abbrev pub reencoded : Circuit → Circuit
+reencoded c = renumbered_circuit (new_number c) (order_of c) c
 
 -- inputs and then the leaves of latches are the numbers 1, 2 and so on, in their order
 abbrev pub IsPlaced : Circuit → Type 0

@@ -1,3 +1,5 @@
+//! The gates of a circuit, one after another.
+
 ghost use Rattle.std.specs.Prelude.{◌≡◌};
 ghost use Rattle.std.specs.Iterator.{YieldsFirstRef, item_count};
 ghost use Rattle.aig_circuit.specs.Node.{gates_of};

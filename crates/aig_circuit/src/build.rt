@@ -1,4 +1,8 @@
-//! Nodes that are added to a list of nodes.
+//! Builders: nodes that are added to a list of nodes by the rules of the crate aig.
+//!
+//! The list is that of a circuit: node 0 is false, each node stands at the place of its number, and operands come before
+//! their gate. Each edge that is given has its node in the list. The one error is refused memory, and after it the list
+//! is as it was.
 
 ghost use Rattle.std.specs.Prelude.{◌≡◌, ◌↔◌, ◌<◌, ◌&&◌, ◌||◌, ℕ, Bool, IsTrue, IfOk, IsOk, OnErr, All, length};
 ghost use Rattle.aig_circuit.specs.declared.node.AigNodeType.TheVariants.{Leaf};
@@ -11,7 +15,7 @@ use crate::edge::AigEdge;
 use crate::node::{AigNode, gate_node, leaf_node};
 use aig_base::MemoryError;
 
-/// Adds a leaf.
+/// Adds a leaf, and answers its number (crate aig, `new_leaf_node`).
 pub fn add_leaf(nodes: &mut Vec<AigNode>) -> Result<usize, MemoryError>
     requires { AreNodes nodes.old.items }
     ensures number { IfOk result (λ id. id ≡ length nodes.old.items) }
@@ -25,7 +29,8 @@ pub fn add_leaf(nodes: &mut Vec<AigNode>) -> Result<usize, MemoryError>
     Ok(id)
 }
 
-/// Adds the and of two edges.
+/// Adds one gate, the and of two edges, with its operands put in order, and answers the edge to it (crate aig,
+/// `trivial_new_and_node`).
 pub fn add_gate(
     nodes: &mut Vec<AigNode>,
     fanin0: AigEdge,
@@ -46,7 +51,9 @@ pub fn add_gate(
     Ok(AigEdge::from(id))
 }
 
-/// The and of two edges: an old edge where they fold, and else a new gate.
+/// The and of two edges: an old edge where they fold, and else a new gate, also where there is such a gate already
+/// (crate aig, `new_and_node`). True with an edge folds to that edge, false with an edge to false, an edge with itself to
+/// that edge, and an edge with its inverse to false.
 pub fn and_of_edges(
     nodes: &mut Vec<AigNode>,
     fanin0: AigEdge,
@@ -82,7 +89,7 @@ pub fn and_of_edges(
     add_gate(nodes, fanin0, fanin1)
 }
 
-/// The or of two edges, the inverse of the and of their inverses.
+/// The or of two edges, the inverse of the `and_of_edges` of their inverses (crate aig, `new_or_node`).
 pub fn or_of_edges(
     nodes: &mut Vec<AigNode>,
     fanin0: AigEdge,
@@ -103,7 +110,8 @@ pub fn or_of_edges(
     Ok(!and_of_edges(nodes, !fanin0, !fanin1)?)
 }
 
-/// The edge that is true where two edges are equal: the or of their and and of the and of their inverses.
+/// The edge that is true where two edges are equal: the `or_of_edges` of their `and_of_edges` and of that of their
+/// inverses (crate aig, `new_eq_node`).
 pub fn eq_of_edges(
     nodes: &mut Vec<AigNode>,
     fanin0: AigEdge,
@@ -144,7 +152,8 @@ fn both_or_neither(
     or_of_edges(nodes, both, neither)
 }
 
-/// The and of the edges, joined from the left by `and_of_edges`: of no edges true, and of one that edge.
+/// The and of the edges, joined from the left by `and_of_edges`: of no edges true, and of one that edge (crate aig,
+/// `new_ands_node`).
 pub fn and_of_list(nodes: &mut Vec<AigNode>, fanins: &[AigEdge]) -> Result<AigEdge, MemoryError>
     requires sound { AreNodes nodes.old.items }
     requires edges { All (IsInRange nodes.old.items) fanins.now }
@@ -167,7 +176,8 @@ pub fn and_of_list(nodes: &mut Vec<AigNode>, fanins: &[AigEdge]) -> Result<AigEd
     Ok(all)
 }
 
-/// The and of the edges, joined from the left by one gate for each edge after the first: of no edges true, and of one that edge.
+/// The and of the edges, joined from the left by one gate for each edge after the first: of no edges true, and of one
+/// that edge (crate aig, `trivial_new_ands_node`).
 pub fn gates_of_list(nodes: &mut Vec<AigNode>, fanins: &[AigEdge]) -> Result<AigEdge, MemoryError>
     requires sound { AreNodes nodes.old.items }
     requires edges { All (IsInRange nodes.old.items) fanins.now }

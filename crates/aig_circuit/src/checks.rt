@@ -37,7 +37,8 @@ fn fits_below(id: usize, kind: &AigNodeType) -> bool
     }
 }
 
-/// Whether the node may stand in place of node `i`.
+/// Whether the node may stand in place of node `i`: node `i` is there, the number is `i`, the kind is the same, and a
+/// gate's operands are in order and have smaller numbers.
 pub fn admits(nodes: &[AigNode], i: usize, node: &AigNode) -> bool
     ensures { IsTrue result ↔ Admits nodes.now i node.now }
 {
@@ -57,32 +58,25 @@ fn is_equal(kind: &AigNodeType, other: &AigNodeType) -> bool
     }
 }
 
-/// Whether the first nodes are those of `first`.
+/// Whether the first nodes are those of `first`: there are as many or more, and each of these is of the same kind and has
+/// the same operands.
 pub fn has_first(nodes: &[AigNode], first: &[AigNode]) -> bool
     ensures { IsTrue result ↔ HasFirst nodes.now first.now }
 {
-    if nodes.len() < first.len() {
-        return false;
-    }
-    for (i, node) in first.iter().enumerate() {
-        if !is_equal(nodes[i].typ(), node.typ()) {
-            return false;
-        }
-    }
-    true
+    nodes.len() >= first.len()
+        && nodes
+            .iter()
+            .zip(first)
+            .all(|(node, other)| is_equal(node.typ(), other.typ()))
 }
 
 /// Whether the latches have the same leaves in the same order.
 pub fn have_same_leaves(latchs: &[AigLatch], others: &[AigLatch]) -> bool
     ensures { IsTrue result ↔ (latch_leaves latchs.now ≡ latch_leaves others.now) }
 {
-    if latchs.len() != others.len() {
-        return false;
-    }
-    for (i, latch) in latchs.iter().enumerate() {
-        if latch.input() != others[i].input() {
-            return false;
-        }
-    }
-    true
+    latchs.len() == others.len()
+        && latchs
+            .iter()
+            .zip(others)
+            .all(|(latch, other)| latch.input() == other.input())
 }

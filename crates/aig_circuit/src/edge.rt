@@ -1,7 +1,9 @@
+//! Edges of an And-Inverter Graph (crate aig).
+
 ghost use Rattle.std.specs.Prelude.{◌≡◌, ◌↔◌, ◌<◌, ◌^◌, IsTrue, Bool, true, false, not, IfSome, IsSome};
 ghost use Rattle.std.specs.Ordering.{nat_cmp};
 ghost use Rattle.aig_base.specs.Clauses.{number_of_lit};
-ghost use Rattle.aig_circuit.specs.Edge.{edge_from_lit, edge_to, inverted_if, lit_of, literal_of};
+ghost use Rattle.aig_circuit.specs.Edge.{edge_from_lit, edge_to, inverse, inverted_if, lit_of, literal_of};
 
 use aig_base::{Lit, Var};
 use std::ops::Not;
@@ -165,4 +167,9 @@ pub fn orders_by_literal()
 pub fn keeps_edges_by_literal()
     ensures edge { (e : AigEdge) → edge_from_lit (lit_of e) ≡ e }
     ensures number { (e : AigEdge) → number_of_lit (lit_of e) ≡ literal_of e }
+{}
+
+/// Law: the inverse of an edge's inverse is the edge itself.
+pub fn inverts_back()
+    ensures { (e : AigEdge) → inverse (inverse e) ≡ e }
 {}

@@ -1,4 +1,4 @@
-//! Leaves, inputs and latches.
+//! Leaves of a circuit: which are inputs, which are latches', and which are neither.
 
 ghost use Rattle.std.specs.Prelude.{◌≡◌, ◌↔◌, ◌++◌, ℕ, false, IsTrue, Contains, count_by};
 ghost use Rattle.aig_circuit.specs.Circuit.{AreLeaves, HasFreeLeaf, IsLeaf, IsFree, latch_leaves};
@@ -7,29 +7,24 @@ ghost use Rattle.aig_circuit.specs.Runs.{is_leaf};
 use crate::node::{AigLatch, AigNode};
 
 /// Whether node `id` is there and is a leaf.
-pub fn is_leaf_at(nodes: &[AigNode], id: usize) -> bool
+fn is_leaf_at(nodes: &[AigNode], id: usize) -> bool
     ensures { IsTrue result ↔ IsLeaf nodes.now id }
 {
     id < nodes.len() && nodes[id].is_leaf()
 }
 
 /// Whether the number is one of the inputs.
-pub fn is_input(inputs: &[usize], id: usize) -> bool
+fn is_input(inputs: &[usize], id: usize) -> bool
     ensures { IsTrue result ↔ Contains inputs.now id }
 {
     inputs.contains(&id)
 }
 
 /// Whether the number is a latch's leaf.
-pub fn is_latch_leaf(latchs: &[AigLatch], id: usize) -> bool
+fn is_latch_leaf(latchs: &[AigLatch], id: usize) -> bool
     ensures { IsTrue result ↔ Contains (latch_leaves latchs.now) id }
 {
-    for latch in latchs {
-        if latch.input() == id {
-            return true;
-        }
-    }
-    false
+    latchs.iter().any(|latch| latch.input() == id)
 }
 
 /// Whether node `id` is a leaf that is neither input nor latch.
@@ -43,16 +38,11 @@ pub fn is_free_leaf(nodes: &[AigNode], inputs: &[usize], latchs: &[AigLatch], id
 fn count_leaves(nodes: &[AigNode]) -> usize
     ensures { result ≡ count_by (λ node. is_leaf node.typ) nodes.now }
 {
-    let mut count = 0;
-    for node in nodes {
-        if node.is_leaf() {
-            count += 1;
-        }
-    }
-    count
+    nodes.iter().filter(|node| node.is_leaf()).count()
 }
 
-/// Whether every leaf is an input or a latch's.
+/// Whether every leaf is an input or a latch's: there are as many leaves as inputs and latches, which are distinct
+/// leaves.
 pub fn is_closed(nodes: &[AigNode], inputs: &[usize], latchs: &[AigLatch]) -> bool
     requires { AreLeaves nodes.now inputs.now latchs.now }
     ensures closed { IsTrue result ↔ ((n : ℕ) → IsLeaf nodes.now n → Contains (inputs.now ++ latch_leaves latchs.now) n) }

@@ -10,6 +10,6 @@ mod node;
 mod view;
 
 pub use ands::{AndsIter, gates_among};
-pub use edge::{AigEdge, keeps_edges_by_literal, orders_by_literal};
+pub use edge::{AigEdge, inverts_back, keeps_edges_by_literal, orders_by_literal};
 pub use node::{AigLatch, AigNode, AigNodeType, false_node, gate_node, leaf_node};
 pub use view::{CircuitLists, CircuitView};

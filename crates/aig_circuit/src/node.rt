@@ -1,3 +1,5 @@
+//! Nodes and latches of an And-Inverter Graph (crate aig).
+
 ghost use Rattle.std.specs.Prelude.{◌≡◌, ◌↔◌, ◌≤◌, IsTrue, Bool, true, false, Option, Some, IsSome};
 ghost use Rattle.aig_circuit.specs.Edge.{literal_of};
 ghost use Rattle.aig_circuit.specs.Node.{IsAnd, IfAnd, MapsKind, and_of};
@@ -45,8 +47,11 @@ impl AigLatch {
 /// What a node is: false, a leaf, or the and of two edges.
 #[derive(Clone, Copy, Debug)]
 pub enum AigNodeType {
+    /// Constant false: node 0 of a circuit, and no other.
     False,
+    /// A variable: an input, a latch's leaf, or a free leaf.
     Leaf,
+    /// A gate: the and of two edges, its operands, of which the first is not greater than the second in a circuit.
     And(AigEdge, AigEdge),
 }
 

@@ -1,3 +1,5 @@
+//! The lists that make a circuit, lent or held.
+
 use crate::edge::AigEdge;
 use crate::node::{AigLatch, AigNode};
 use std::collections::HashMap;

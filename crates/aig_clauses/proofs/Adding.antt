@@ -1,5 +1,5 @@
 -- Lists of clauses to which those of one node after another are added.
-use Rattle.std.proofs.Common.{◌≡◌, ◌≢◌, ℕ, ◌+◌, ◌<◌, Bool, true, false, not, Some, List, [], ◌∷◌, ◌++◌, length, get_or, set, IsTrue, refl, sym, ap, subst, ◌∙◌, arith, inl, inr, length-append}
+use Rattle.std.proofs.Common.{◌≡◌, ◌≢◌, ℕ, ◌+◌, ◌<◌, Bool, true, false, not, Some, List, [], ◌∷◌, ◌++◌, length, get_or, set, refl, sym, ap, subst, ◌∙◌, arith, inl, inr, length-append}
 use Rattle.std.specs.Prelude.{All, slice_get}
 use Rattle.std.proofs.Math.Seq.{set-append_seam, get_or-append_seam}
 use Rattle.std.proofs.Math.ListN.{get_or-append}
@@ -87,24 +87,11 @@ AreClausesOf-form nodes optimize n form has = record {
   none = λ no_form. absurd (no_form form (refl, has));
 }
 
-pub AreClausesOf-none : (nodes : List AigNode) (optimize : Bool) (called : Bool) (n : ℕ) → ((form : Form) → ¬ (IsTrue called × HasForm nodes optimize n form)) → AreClausesOf nodes optimize called n []
-AreClausesOf-none nodes optimize called n no_form = record {
-  gate = λ form is_called has. absurd (no_form form (is_called, has));
-  none = λ _. refl;
-}
-
 -- the lists of the first i nodes
 pub record AddedUpTo (nodes : List AigNode) (optimize : Bool) (called : List Bool) (lists : List (List (List Lit))) (i : ℕ) : Type 0 where
   pub count : length lists ≡ i
   pub zero_list : slice_get lists 0 ≡ Some ((lit_to 0 false ∷ []) ∷ [])
   pub each : (n : ℕ) → n ≢ 0 → n < i → AreClausesOf nodes optimize (get_or called n false) n (get_or lists n [])
-
-pub AddedUpTo-first : (nodes : List AigNode) (optimize : Bool) (called : List Bool) (lists : List (List (List Lit))) → lists ≡ ((lit_to 0 false ∷ []) ∷ []) ∷ [] → AddedUpTo nodes optimize called lists 1
-AddedUpTo-first nodes optimize called lists is = record {
-  count = rw is refl;
-  zero_list = rw is refl;
-  each = λ n ne h. absurd (omega (arith, ne));
-}
 
 get_kept : (lists : List (List (List Lit))) (x clauses : List (List Lit)) → slice_get lists 0 ≡ Some x → slice_get (lists ++ clauses ∷ []) 0 ≡ Some x
 get_kept [] x clauses is = cc

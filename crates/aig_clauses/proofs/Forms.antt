@@ -1,5 +1,6 @@
 -- What the clauses of a gate say: that it has the value of its form, which is its value.
 use Rattle.std.proofs.Common.{◌≡◌, ℕ, Bool, true, false, not, ◌&&◌, ◌↔◌, Some, List, [], ◌∷◌, IsTrue, cond, refl, sym, ap, ◌∙◌}
+use Rattle.std.proofs.Math.Bool.{and-true}
 use Rattle.aig_base.specs.Clauses.{literal_value, are_true, with_polarity, lit_to}
 use Rattle.aig_base.proofs.Literals.{literal_value-lit_to, are_true-and_clauses, are_true-xor_clauses, are_true-ite_clauses}
 use Rattle.aig_circuit.specs.declared.edge.AigEdge.{AigEdge}
@@ -8,7 +9,7 @@ use Rattle.aig_circuit.specs.declared.node.AigNode.{AigNode}
 use Rattle.aig_circuit.specs.Edge.{inverse, inverted_if, lit_of}
 use Rattle.aig_circuit.specs.Node.{kind_at, IsOrdered}
 use Rattle.aig_circuit.specs.Tree.{node_value, edge_value}
-use Rattle.aig_circuit.proofs.Building.{and_true}
+use Rattle.aig_circuit.proofs.Joining.{edge_value-inverse}
 use Rattle.aig_circuit.proofs.Trees.{node_value-and}
 use Rattle.aig_clauses.specs.declared.form.Form.{Form}
 use Rattle.aig_clauses.specs.declared.form.Form.TheVariants.{AndOf, XorOf, ChoiceOf}
@@ -28,7 +29,7 @@ clauses-say v n (AndOf a b) =
     let says = are_true-and_clauses v (lit_to n true) (lit_of a ∷ lit_of b ∷ []) in
     let left : literal_value v (lit_to n true) ≡ v n = literal_value-lit_to v n true in
     let right : (literal_value v (lit_of a) && (literal_value v (lit_of b) && true)) ≡ form_value v (AndOf a b) =
-    ap (λ w. w && (literal_value v (lit_of b) && true)) (literal_value-lit_of v a) ∙ ap (λ w. edge_in v a && (w && true)) (literal_value-lit_of v b) ∙ ap (λ w. edge_in v a && w) (and_true (edge_in v b)) in
+    ap (λ w. w && (literal_value v (lit_of b) && true)) (literal_value-lit_of v a) ∙ ap (λ w. edge_in v a && (w && true)) (literal_value-lit_of v b) ∙ ap (λ w. edge_in v a && w) (and-true (edge_in v b)) in
     (λ h. sym left ∙ says.0 h ∙ right, λ h. says.1 (left ∙ h ∙ sym right))
 clauses-say v n (XorOf x y) =
     let says = are_true-xor_clauses v (lit_to n true) (lit_of x) (lit_of y) in
@@ -50,15 +51,6 @@ xor_of_ands true false = refl
 xor_of_ands false true = refl
 xor_of_ands false false = refl
 
-inverse_value : (nodes : List AigNode) (x : ℕ → Bool) (e : AigEdge) → edge_value nodes x (inverse e) ≡ not (edge_value nodes x e)
-inverse_value nodes x e = by e.compl (node_value nodes x e.node_id)
-  where
-    by : (i b : Bool) → inverted_if (not i) b ≡ not (inverted_if i b)
-    by true true = refl
-    by true false = refl
-    by false true = refl
-    by false false = refl
-
 -- an inverted edge to a gate
 inner_value : (nodes : List AigNode) → IsOrdered nodes → (x : ℕ → Bool) (e p q : AigEdge) → Inner nodes e p q → edge_value nodes x e ≡ not (edge_value nodes x p && edge_value nodes x q)
 inner_value nodes o x e p q i = rw i.inverted (ap not (node_value-and nodes o x e.node_id p q i.gate))
@@ -68,16 +60,10 @@ form_is-xor : (nodes : List AigNode) → IsOrdered nodes → (v : ℕ → Bool) 
 form_is-xor nodes o v n a b x y is f =
     node_value-and nodes o v n a b is
     ∙ ap (λ w. w && edge_value nodes v b) (inner_value nodes o v a x y f.first)
-    ∙ ap (λ w. not (edge_value nodes v x && edge_value nodes v y) && w) (inner_value nodes o v b (inverse x) (inverse y) f.second ∙ ap not (ap (λ w. w && edge_value nodes v (inverse y)) (inverse_value nodes v x) ∙ ap (λ w. not (edge_value nodes v x) && w) (inverse_value nodes v y)))
+    ∙ ap (λ w. not (edge_value nodes v x && edge_value nodes v y) && w) (inner_value nodes o v b (inverse x) (inverse y) f.second ∙ ap not (ap (λ w. w && edge_value nodes v (inverse y)) (edge_value-inverse nodes v x) ∙ ap (λ w. not (edge_value nodes v x) && w) (edge_value-inverse nodes v y)))
     ∙ xor_of_ands (edge_value nodes v x) (edge_value nodes v y)
 
--- two inverted gates that share an edge and its inverse choose by it
-choice_of_ands : (c t e : Bool) → (not (c && not t) && not (not c && not e)) ≡ cond c t e
-choice_of_ands true true e = refl
-choice_of_ands true false e = refl
-choice_of_ands false t true = refl
-choice_of_ands false t false = refl
-
+-- the four places in which two gates may share an edge, inverted in one of them
 choose_0_0 : (p1 q0 q1 : Bool) → (not (not q0 && p1) && not (q0 && q1)) ≡ cond (not q0) (not p1) (not q1)
 choose_0_0 p1 true q1 = refl
 choose_0_0 true false q1 = refl
@@ -111,10 +97,10 @@ choose_1_1 false false false = refl
 
 -- two gates that share an edge, inverted in one of them, choose by it
 choice_of_inner : (nodes : List AigNode) → (x : ℕ → Bool) (p0 p1 q0 q1 c t e : AigEdge) → Chooses p0 p1 q0 q1 c t e → (not (edge_value nodes x p0 && edge_value nodes x p1) && not (edge_value nodes x q0 && edge_value nodes x q1)) ≡ cond (edge_value nodes x c) (edge_value nodes x t) (edge_value nodes x e)
-choice_of_inner nodes x p0 p1 q0 q1 _ _ _ (by_0_0 h) = rw (h, inverse_value nodes x q0, inverse_value nodes x p1, inverse_value nodes x q1) (choose_0_0 (edge_value nodes x p1) (edge_value nodes x q0) (edge_value nodes x q1))
-choice_of_inner nodes x p0 p1 q0 q1 _ _ _ (by_0_1 _ h) = rw (h, inverse_value nodes x q1, inverse_value nodes x p1, inverse_value nodes x q0) (choose_0_1 (edge_value nodes x p1) (edge_value nodes x q0) (edge_value nodes x q1))
-choice_of_inner nodes x p0 p1 q0 q1 _ _ _ (by_1_0 _ _ h) = rw (h, inverse_value nodes x q0, inverse_value nodes x p0, inverse_value nodes x q1) (choose_1_0 (edge_value nodes x p0) (edge_value nodes x q0) (edge_value nodes x q1))
-choice_of_inner nodes x p0 p1 q0 q1 _ _ _ (by_1_1 _ _ _ h) = rw (h, inverse_value nodes x q1, inverse_value nodes x p0, inverse_value nodes x q0) (choose_1_1 (edge_value nodes x p0) (edge_value nodes x q0) (edge_value nodes x q1))
+choice_of_inner nodes x p0 p1 q0 q1 _ _ _ (by_0_0 h) = rw (h, edge_value-inverse nodes x q0, edge_value-inverse nodes x p1, edge_value-inverse nodes x q1) (choose_0_0 (edge_value nodes x p1) (edge_value nodes x q0) (edge_value nodes x q1))
+choice_of_inner nodes x p0 p1 q0 q1 _ _ _ (by_0_1 _ h) = rw (h, edge_value-inverse nodes x q1, edge_value-inverse nodes x p1, edge_value-inverse nodes x q0) (choose_0_1 (edge_value nodes x p1) (edge_value nodes x q0) (edge_value nodes x q1))
+choice_of_inner nodes x p0 p1 q0 q1 _ _ _ (by_1_0 _ _ h) = rw (h, edge_value-inverse nodes x q0, edge_value-inverse nodes x p0, edge_value-inverse nodes x q1) (choose_1_0 (edge_value nodes x p0) (edge_value nodes x q0) (edge_value nodes x q1))
+choice_of_inner nodes x p0 p1 q0 q1 _ _ _ (by_1_1 _ _ _ h) = rw (h, edge_value-inverse nodes x q1, edge_value-inverse nodes x p0, edge_value-inverse nodes x q0) (choose_1_1 (edge_value nodes x p0) (edge_value nodes x q0) (edge_value nodes x q1))
 
 -- a gate has the value that its form says
 pub node_value-HasForm : (nodes : List AigNode) → IsOrdered nodes → (optimize : Bool) (v : ℕ → Bool) (n : ℕ) (form : Form) → HasForm nodes optimize n form → node_value nodes v n ≡ form_value (node_value nodes v) form

@@ -40,9 +40,6 @@ marked_set marks i n h = elim (cases_eq n i) [
   | inr ne ↦ (λ m. inl (rw get_or-set_other at m), λ m. elim m [ inl old ↦ rw get_or-set_other old | inr e ↦ absurd (ne (sym e)) ])
 ]
 
-pub MarksToo-none : (marks : List Bool) → MarksToo marks marks []
-MarksToo-none marks n = (λ m. inl m, λ m. elim m [ inl h ↦ h | inr h ↦ absurd (none_named n h) ])
-
 pub MarksToo-then : (a b c : List Bool) (es fs : List AigEdge) → MarksToo a b es → MarksToo b c fs → MarksToo a c (es ++ fs)
 MarksToo-then a b c es fs p q n = (
   λ m. elim ((q n).0 m) [

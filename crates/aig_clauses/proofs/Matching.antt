@@ -1,23 +1,17 @@
 -- The exclusive or and the choice by the operands of the inner gates.
-use Rattle.std.proofs.Common.{◌≡◌, ◌≢◌, ℕ, Bool, true, false, not, Option, Some, None, List, refl, sym, ap, subst, ◌∙◌}
+use Rattle.std.proofs.Common.{◌≡◌, ◌≢◌, ℕ, Bool, true, Option, Some, None, List, sym, ap, subst, ◌∙◌}
 use Rattle.std.specs.Prelude.{MatchOption, unwrap_or}
 use Rattle.aig_circuit.specs.declared.edge.AigEdge.{AigEdge}
 use Rattle.aig_circuit.specs.declared.node.AigNodeType.TheVariants.{And}
 use Rattle.aig_circuit.specs.declared.node.AigNode.{AigNode}
-use Rattle.aig_circuit.specs.Edge.{edge_to, inverse}
+use Rattle.aig_circuit.specs.Edge.{inverse}
 use Rattle.aig_circuit.specs.Node.{kind_at}
+use Rattle.aig_circuit.proofs.Joining.{inverse_twice}
 use Rattle.aig_clauses.specs.declared.form.Form.{Form}
 use Rattle.aig_clauses.specs.declared.form.Form.TheVariants.{AndOf, XorOf, ChoiceOf}
 use Rattle.aig_clauses.specs.Cnf.{HasForm, xor, choice, other, IsXor, IsChoice, Inner, Chooses}
 use Rattle.aig_clauses.specs.Patterns.{AreOpposite, AreApart, HasPattern, is_xor, is_choice}
 use Rattle.aig_clauses.proofs.Unique.{operands_unique, of_operands, chooses_unique}
-
-inverse_twice : (e : AigEdge) → inverse (inverse e) ≡ e
-inverse_twice e = ap (edge_to e.node_id) (by e.compl)
-  where
-    by : (b : Bool) → not (not b) ≡ b
-    by true = refl
-    by false = refl
 
 -- with opposite operands it is an exclusive or
 pub IsXor-from : (nodes : List AigNode) (a b p0 p1 q0 q1 : AigEdge) → Inner nodes a p0 p1 → Inner nodes b q0 q1 → AreOpposite p0 p1 q0 q1 → IsXor nodes a b p0 p1
@@ -57,15 +51,6 @@ Chooses-from nodes a b p0 p1 q0 q1 c t e i j f =
     let right = operands_unique nodes b.node_id f.q0 f.q1 q0 q1 f.second.gate j.gate in
     of_operands (λ u w. Chooses u w q0 q1 c t e) f.p0 f.p1 p0 p1 left (of_operands (λ u w. Chooses f.p0 f.p1 u w c t e) f.q0 f.q1 q0 q1 right f.chooses)
 
--- with no inner gate there is no pattern
-pub no_first : (nodes : List AigNode) (a b : AigEdge) → ((p q : AigEdge) → ¬ Inner nodes a p q) → (form : Form) → ¬ HasPattern nodes a b form
-no_first nodes a b none _ (is_xor {x = x} {y = y} f) = none x y f.first
-no_first nodes a b none _ (is_choice _ f) = none f.p0 f.p1 f.first
-
-pub no_second : (nodes : List AigNode) (a b : AigEdge) → ((p q : AigEdge) → ¬ Inner nodes b p q) → (form : Form) → ¬ HasPattern nodes a b form
-no_second nodes a b none _ (is_xor {x = x} {y = y} f) = none (inverse x) (inverse y) f.second
-no_second nodes a b none _ (is_choice _ f) = none f.q0 f.q1 f.second
-
 -- edges that are chosen are apart only where those that the test chose are
 apart_as_chosen : (c t e c' t' e' : AigEdge) → ChoiceOf c t e ≡ ChoiceOf c' t' e' → AreApart c' t' e' → AreApart c t e
 apart_as_chosen c t e c' t' e' same apart =
@@ -77,7 +62,7 @@ apart_as_chosen c t e c' t' e' same apart =
 pub not_apart : (p0 p1 q0 q1 c t e : AigEdge) → Chooses p0 p1 q0 q1 c t e → ¬ AreApart c t e → (c' t' e' : AigEdge) → Chooses p0 p1 q0 q1 c' t' e' → ¬ AreApart c' t' e'
 not_apart p0 p1 q0 q1 c t e chooses none c' t' e' also apart = none (apart_as_chosen c t e c' t' e' (chooses_unique p0 p1 q0 q1 c t e c' t' e' chooses also) apart)
 
--- nor where neither test succeeds
+-- there is no pattern where neither test succeeds
 pub no_pattern : (nodes : List AigNode) (a b p0 p1 q0 q1 : AigEdge) → Inner nodes a p0 p1 → Inner nodes b q0 q1 → ¬ AreOpposite p0 p1 q0 q1 → ((c t e : AigEdge) → Chooses p0 p1 q0 q1 c t e → ¬ AreApart c t e) → (form : Form) → ¬ HasPattern nodes a b form
 no_pattern nodes a b p0 p1 q0 q1 i j not_xor not_apart _ (is_xor {x = x} {y = y} f) = not_xor (AreOpposite-from nodes a b p0 p1 q0 q1 x y i j f)
 no_pattern nodes a b p0 p1 q0 q1 i j not_xor not_apart _ (is_choice {c = c} {t = t} {e = e} _ f) =

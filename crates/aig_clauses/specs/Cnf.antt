@@ -1,5 +1,5 @@
 -- Which gates of a circuit have clauses, which clauses these are, and what they say together.
--- A variable of the clauses is a node of the circuit, by its number.
+-- A variable of the clauses is a node of the circuit, by its number. (Tseitin encoding.)
 use Rattle.std.specs.Prelude.{◌≡◌, ◌≢◌, ℕ, Bool, true, false, not, ◌&&◌, if◌then◌else◌, Some, List, [], ◌∷◌, ◌++◌, length, map, All, Contains, option_to_list, slice_get}
 use Rattle.std.specs.List.{flat_map}
 use Rattle.aig_base.specs.declared.logic.literal.Lit.{Lit}

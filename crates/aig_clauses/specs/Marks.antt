@@ -1,4 +1,4 @@
--- Marks of nodes, by their numbers, and what is given to a node.
+-- Marks of the nodes that are called for, and the clauses of a node by its mark. (Tseitin encoding.)
 use Rattle.std.specs.Prelude.{◌≡◌, ℕ, ◌<◌, ◌⊎◌, ◌↔◌, Bool, false, IsTrue, List, [], length, All, slice_index_or}
 use Rattle.aig_base.specs.declared.logic.literal.Lit.{Lit}
 use Rattle.aig_circuit.specs.declared.edge.AigEdge.{AigEdge}

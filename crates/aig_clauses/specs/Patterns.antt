@@ -1,4 +1,4 @@
--- The forms that a gate has beside the and of its operands.
+-- The forms that a gate has beside the and of its operands. (Tseitin encoding of the exclusive or and of the choice.)
 use Rattle.std.specs.Prelude.{◌≡◌, ◌≢◌, List}
 use Rattle.aig_circuit.specs.declared.edge.AigEdge.{AigEdge}
 use Rattle.aig_circuit.specs.declared.node.AigNode.{AigNode}

@@ -1,4 +1,4 @@
-//! The clauses of a circuit.
+//! The clauses of a circuit (Tseitin encoding).
 
 ghost use Rattle.std.specs.Prelude.{◌≡◌, ◌+◌, ◌<◌, ◌≤◌, ◌^◌, ◌++◌, ◌∷◌, [], false, All, IfOk, OnOk, List, length};
 ghost use Rattle.aig_base.specs.declared.logic.literal.Lit.{Lit};
@@ -51,8 +51,9 @@ fn add_node(
 }
 
 /// The clauses of the gates that the properties, the next and the initial edges of a circuit call for, with one variable
-/// a node. With `optimize` a gate that is an exclusive or or a choice is said as such, and doesn't call for its inner
-/// gates.
+/// a node, numbered as the node is (Tseitin encoding; crate aig, `cnf`). Variable 0 is false. With `optimize` a gate that
+/// is an exclusive or or a choice is said as such, and doesn't call for its inner gates. Asks at most 2^31 nodes, so
+/// that each has a variable. The one error is refused memory.
 pub fn clauses(
     alloc: Global,
     circuit: &CircuitView<'_>,

@@ -1,4 +1,4 @@
-//! Clauses that say of a circuit's gates what their values are.
+//! Clauses that say of a circuit's gates what their values are, by the Tseitin encoding.
 #![tactic(auto)]
 
 mod cnf;
@@ -7,5 +7,4 @@ mod laws;
 mod marks;
 
 pub use cnf::clauses;
-pub use form::Form;
 pub use laws::clauses_fix_roots;

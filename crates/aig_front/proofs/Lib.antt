@@ -14,4 +14,4 @@ pub mod Guards
 pub mod FittingLines
 pub mod FittingTail
 pub mod FittingFiles
-pub mod Rows
+pub mod Examples

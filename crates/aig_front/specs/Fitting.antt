@@ -1,4 +1,5 @@
 -- Reading a file from the front, each line tested beside those before it: what is read so is a file that fits the limit.
+-- (AIGER format 20071012: "Header", "Binary encoding", "Symbol table"; AIGER 1.9: "Reset logic", "Properties".)
 use Rattle.std.specs.Prelude.{ℕ, zero, suc, ◌+◌, ◌*◌, ◌/◌, ◌%◌, Bool, true, not, ◌&&◌, ◌||◌, nat_lt, nat_le, ◌==◌, if◌then◌else◌, List, [], ◌∷◌, ◌++◌, length, map, slice_index, Option, Some, None}
 use Rattle.std.specs.Str.{is_utf8}
 use Rattle.std.specs.List.{list_any, list_all}
@@ -81,24 +82,27 @@ next_at bytes = do
 abbrev pub latch_of : ℕ → ℕ × Option ℕ → LatchLine
 latch_of own x = record { literal = own; next = x.0; reset = x.1 }
 
--- a latch line, and one of a binary file for the latch of variable v
+-- a latch line of a text file
 abbrev pub latch_line_at : List ℕ → Option (LatchLine × List ℕ)
 latch_line_at = mapped_at (λ x. latch_of x.0 x.1) (both_at (ended_at 32) (λ _. next_at))
 
+-- a latch line of a binary file, for the latch of variable v
 abbrev pub binary_latch_at : ℕ → List ℕ → Option (LatchLine × List ℕ)
 binary_latch_at v = mapped_at (latch_of (2 * v)) next_at
 
--- three numbers in a line
+-- two numbers in a line
 abbrev pub pair_at : List ℕ → Option ((ℕ × ℕ) × List ℕ)
 pair_at = both_at (ended_at 32) (λ _. ended_at 10)
 
+-- three numbers in a line
 abbrev pub triple_at : List ℕ → Option ((ℕ × (ℕ × ℕ)) × List ℕ)
 triple_at = both_at (ended_at 32) (λ _. pair_at)
 
--- a gate line
+-- the gate of three numbers
 abbrev pub gate_of : ℕ × (ℕ × ℕ) → GateLine
 gate_of x = record { lhs = x.0; rhs0 = x.1.0; rhs1 = x.1.1 }
 
+-- a gate line of a text file
 abbrev pub gate_line_at : List ℕ → Option (GateLine × List ℕ)
 gate_line_at = mapped_at gate_of triple_at
 

@@ -5,6 +5,5 @@ pub mod Fits
 pub mod Machine
 pub mod Written
 pub mod Circuit
-pub mod Rows
 pub mod Writable
 pub mod Kinds

@@ -1,7 +1,7 @@
 -- The kind's word, byte by byte.
-use Rattle.std.proofs.Common.{◌≡◌, ℕ, Bool, true, false, cond, eqb, List, [], ◌∷◌, Option, Some, None, refl, arith}
+use Rattle.std.proofs.Common.{◌≡◌, ℕ, Bool, true, false, cond, eqb, List, [], ◌∷◌, Option, Some, None, refl}
 use Rattle.std.specs.Prelude.{option_map}
-use Rattle.std.proofs.lemmas.Bool.Decides.{nat_tests}
+use Rattle.aig_base.proofs.Mapping.{turned}
 use Rattle.aig_grammar.specs.File.{Kind, Text, Binary}
 use Rattle.aig_front.specs.Front.{◌>>=◌, kind_at, or_else, strip}
 use Rattle.aig_lexer.specs.Takes.{Takes, Misses}
@@ -29,13 +29,9 @@ behind_first x = kind_byte_at x.1 >>= behind_kind
 abbrev either_kind : List ℕ → Option (Kind × List ℕ)
 either_kind bytes = or_else (option_map (named Text) (strip (97 ∷ end_text) bytes)) (option_map (named Binary) (strip (105 ∷ end_text) bytes))
 
--- a test turned round
-same_test : (a b : ℕ) → eqb a b ≡ eqb b a
-same_test a b = grind (arith, nat_tests)
-
 is_either : (bs : List ℕ) → behind_first (97, bs) ≡ either_kind bs
 is_either [] = refl
-is_either (b ∷ bs) = rw (same_test b 97, same_test b 105) (go (eqb 97 b) (eqb 105 b))
+is_either (b ∷ bs) = rw (turned b 97, turned b 105) (go (eqb 97 b) (eqb 105 b))
   where
     text : (u : Bool) (o : Option (List ℕ)) → ((o >>= matched) >>= λ w. Some (named Text w.1)) ≡ or_else (option_map (named Text) o) (option_map (named Binary) (cond u o None))
     text true None = refl

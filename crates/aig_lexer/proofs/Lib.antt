@@ -7,5 +7,4 @@ pub mod NextLine
 pub mod Deltas
 pub mod KindWord
 pub mod HeaderNumbers
-pub mod Lines
 pub mod Ending

@@ -1,24 +1,47 @@
--- The words of the format: numbers that a byte ends, and lines of two and three of them.
-use Rattle.std.proofs.Common.{◌≡◌, ℕ, cond, eqb, List, Option, Some, None, refl}
+-- The words of the format: numbers that a byte ends, and lines of two of them.
+use Rattle.std.proofs.Common.{◌≡◌, ℕ, cond, eqb, List, ◌∷◌, Option, Some, None, Result, Ok, Err, option_to_list, refl}
+use Rattle.std.specs.Io.KnownBytes.{Consumes}
 use Rattle.std.proofs.lemmas.Bool.{eq-eqb, ne_eqb}
-use Rattle.aig_front.specs.Front.{number_at, ended_at}
-use Rattle.aig_front.specs.Fitting.{pair_at, triple_at}
+use Rattle.aig_front.specs.Front.{◌>>=◌, number_at, ended_at}
+use Rattle.aig_front.specs.Fitting.{pair_at}
 use Rattle.aig_lexer.specs.declared.error.LexError.{LexError}
 use Rattle.aig_lexer.specs.declared.error.LexError.TheVariants.{Stream, Shape}
 use Rattle.aig_lexer.specs.Faults.{OnShape}
-use Rattle.aig_lexer.specs.Takes.{Takes, Misses}
+use Rattle.aig_lexer.specs.Takes.{Gives, Takes, Misses}
+use Rattle.aig_lexer.proofs.Going.{GoesOn, goes_start, goes_byte, goes_call, goes_done, goes_wrong}
 use Rattle.aig_lexer.proofs.Taking.{takes_bind, misses_first, misses_next, takes_nothing, takes_both}
 
 pub on_shape-weaker : (e : LexError) (P Q : Type 0) → (P → Q) → OnShape e P → OnShape e Q
 on_shape-weaker Stream P Q f h = tt
 on_shape-weaker Shape P Q f h = f h
 
-abbrev with_end : ℕ → (ℕ × ℕ) × List ℕ → Option (ℕ × List ℕ)
+-- a call behind a byte that came
+pub gives_behind : {X Y : Type 0} (view : X → Y) (p : List ℕ → Option (Y × List ℕ)) (before mid after : Option (List ℕ)) (o : Option ℕ) (b : ℕ) (r : Result X LexError)
+    → Consumes before mid (option_to_list o) → o ≡ Some b → Gives OnShape view mid after r (λ bs. p (b ∷ bs)) → Gives OnShape view before after r p
+gives_behind {X} view p before mid after o b r c is h = go r h
+  where
+    behind : GoesOn p before (λ bs. p (b ∷ bs)) mid
+    behind = goes_byte p p (λ bs. p (b ∷ bs)) before before mid o b (goes_start p before) c is (λ bs. refl)
+
+    go : (r : Result X LexError) → Gives OnShape view mid after r (λ bs. p (b ∷ bs)) → Gives OnShape view before after r p
+    go (Ok x) h = goes_done p (view x) before after (goes_call p (λ bs. p (b ∷ bs)) (λ bs. p (b ∷ bs)) (λ bs. Some (view x, bs)) before mid after (view x) behind h (λ bs rest e. e))
+    go (Err e) h = on_shape-weaker e _ _ (goes_wrong p (λ bs. p (b ∷ bs)) before mid behind) h
+
+abbrev pub with_end : ℕ → (ℕ × ℕ) × List ℕ → Option (ℕ × List ℕ)
 with_end end n = cond (eqb n.0.1 end) (Some (n.0.0, n.1)) None
+
+-- a number that is read in this way, and that this byte ends
+module _ (read : List ℕ → Option ((ℕ × ℕ) × List ℕ)) (end : ℕ) where
+  pub takes_before : (b a : Option (List ℕ)) (n found : ℕ) → Takes read b a (n, found) → found ≡ end → Takes (λ bs. read bs >>= with_end end) b a n
+  takes_before b a n found h is = takes_bind read (with_end end) b a a (n, found) n h (rw (eq-eqb found end is) (takes_nothing a n))
+
+  pub misses_before : (b a : Option (List ℕ)) (n found : ℕ) → Takes read b a (n, found) → (found ≡ end → ⊥) → Misses (λ bs. read bs >>= with_end end) b
+  misses_before b None n found h ne = misses_next read (with_end end) b None (n, found) h tt
+  misses_before b (Some bs) n found h ne = misses_next read (with_end end) b (Some bs) (n, found) h (rw (ne_eqb found end ne) refl)
 
 pub takes_ended : (end : ℕ) (b a : Option (List ℕ)) (n found : ℕ) → Takes number_at b a (n, found) → found ≡ end → Takes (ended_at end) b a n
 unfolding ended_at
-takes_ended end b a n found h is = takes_bind number_at (with_end end) b a a (n, found) n h (rw (eq-eqb found end is) (takes_nothing a n))
+takes_ended end b a n found h is = takes_before number_at end b a n found h is
 
 pub misses_number : (end : ℕ) (b : Option (List ℕ)) → Misses number_at b → Misses (ended_at end) b
 unfolding ended_at
@@ -26,11 +49,7 @@ misses_number end b h = misses_first number_at (with_end end) b h
 
 pub misses_end : (end : ℕ) (b a : Option (List ℕ)) (n found : ℕ) → Takes number_at b a (n, found) → (found ≡ end → ⊥) → Misses (ended_at end) b
 unfolding ended_at
-misses_end end b None n found h ne = misses_next number_at (with_end end) b None (n, found) h tt
-misses_end end b (Some bs) n found h ne = misses_next number_at (with_end end) b (Some bs) (n, found) h (rw (ne_eqb found end ne) refl)
+misses_end end b a n found h ne = misses_before number_at end b a n found h ne
 
 pub takes_pair : (b m a : Option (List ℕ)) (x y : ℕ) → Takes (ended_at 32) b m x → Takes (ended_at 10) m a y → Takes pair_at b a (x, y)
 takes_pair b m a x y h k = takes_both (ended_at 32) (λ _. ended_at 10) b m a x y h k
-
-pub takes_triple : (b m a : Option (List ℕ)) (x y z : ℕ) → Takes (ended_at 32) b m x → Takes pair_at m a (y, z) → Takes triple_at b a (x, (y, z))
-takes_triple b m a x y z h k = takes_both (ended_at 32) (λ _. pair_at) b m a x (y, z) h k

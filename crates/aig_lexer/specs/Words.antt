@@ -1,7 +1,7 @@
 -- Readers on lists for the words of the format.
 use Rattle.std.specs.Prelude.{ℕ, ◌==◌, if◌then◌else◌, nat_le, List, [], ◌∷◌, length, Option, Some, None}
 use Rattle.aig_grammar.specs.File.{Kind, Text, Binary}
-use Rattle.aig_front.specs.Front.{◌>>=◌, byte_at, line_at, mapped_at, padded, strip, tested_at}
+use Rattle.aig_front.specs.Front.{◌>>=◌, byte_at, line_at, mapped_at, number_at, padded, strip, tested_at}
 
 -- this byte
 abbrev pub expect_at : ℕ → List ℕ → Option (ℕ × List ℕ)
@@ -10,6 +10,10 @@ expect_at byte = tested_at byte_at (λ b. byte == b)
 -- these bytes
 abbrev pub word_at : List ℕ → List ℕ → Option (Unit {0} × List ℕ)
 word_at text bytes = strip text bytes >>= λ rest. Some (tt, rest)
+
+-- a number whose first byte came before, and the byte that ends it
+abbrev pub number_from_at : ℕ → List ℕ → Option ((ℕ × ℕ) × List ℕ)
+number_from_at first bytes = number_at (first ∷ bytes)
 
 -- the second byte of the kind's word: `a` or `i`
 abbrev pub kind_byte_at : List ℕ → Option (Kind × List ℕ)

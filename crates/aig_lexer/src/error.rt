@@ -1,9 +1,11 @@
+//! Why a word or number is not read.
+
 ghost use Rattle.std.specs.Prelude.{◌≡◌};
 ghost use Rattle.aig_lexer.specs.declared.error.LexError.TheVariants as lex;
 
 use aig_base::StreamFault;
 
-/// Why a word of the format is not read.
+/// Why a word or number of the format is not read.
 #[derive(Clone, Copy, Debug, PartialEq, Eq)]
 pub enum LexError {
     /// A read failed.

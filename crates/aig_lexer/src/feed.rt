@@ -1,3 +1,5 @@
+//! Bytes one by one, and a source that gives them through a window.
+
 ghost use Rattle.std.specs.Prelude.{◌≡◌, ℕ, ◌+◌, ◌-◌, ◌*◌, ◌<◌, ◌≤◌, List, Option, None, Bool, true, false, length, IfOk, OnErr, OnSome, option_to_list};
 ghost use Rattle.std.specs.Io.KnownBytes.{Consumes, IsAtEnd};
 ghost use Rattle.aig_lexer.specs.Bytes.{coming_of};
@@ -28,9 +30,9 @@ pub trait ByteFeed {
 }
 
 /// How many bytes the window of a `Buffered` has.
-pub const SIZE: usize = 4096;
+pub const WINDOW_SIZE: usize = 4096;
 
-/// A source through a window of a fixed size.
+/// A source that is read through a window of `WINDOW_SIZE` bytes.
 #[derive(Drop)]
 pub struct Buffered<'a, R> {
     source: &'a mut R,
@@ -43,9 +45,9 @@ pub struct Buffered<'a, R> {
 }
 
 impl<'a, R: Source> Buffered<'a, R> {
-    /// Reads `source` from where it is.
+    /// Reads `source` from where it is, through `window`, whose bytes are overwritten. Asks that it has `WINDOW_SIZE` bytes.
     pub fn new(source: &'a mut R, window: &'a mut [u8]) -> Self
-        requires { length window.old ≡ SIZE }
+        requires { length window.old ≡ WINDOW_SIZE }
         ensures bytes { coming_of result.window.now result.at result.end (R.left result.source.now) ≡ R.left source.entry.now }
         ensures same { result.source.ghost_name ≡ source.entry.ghost_name }
     {

@@ -12,22 +12,36 @@ use crate::feed::ByteFeed;
 use crate::lexer::{expect, number, word};
 use aig_grammar::FileKind;
 
-/// The header of a file: its kind, the greatest variable, and how many entries each section has.
+/// The header of a file: its kind, the greatest variable, and how many entries each section has (AIGER format 20071012,
+/// "Header": `M I L O A`; AIGER 1.9: `B C J F`).
 #[derive(Clone, Copy)]
 pub struct Header {
+    /// Whether the file is a text or a binary one.
     pub kind: FileKind,
+    /// The number of the greatest variable, `M`.
     pub greatest: u32,
+    /// How many inputs there are, `I`.
     pub inputs: u32,
+    /// How many latches there are, `L`.
     pub latches: u32,
+    /// How many outputs there are, `O`.
     pub outputs: u32,
+    /// How many and gates there are, `A`.
     pub gates: u32,
+    /// How many bad state properties there are, `B`.
     pub bads: u32,
+    /// How many invariant constraints there are, `C`.
     pub constraints: u32,
+    /// How many justice properties there are, `J`: sets of literals.
     pub justice: u32,
+    /// How many fairness constraints there are, `F`.
     pub fairness: u32,
 }
 
-/// Reads the header line: the kind's word, and five to nine numbers.
+/// Reads the header line: the kind's word, and five to nine numbers (AIGER format 20071012, "Header"; the numbers behind the
+/// first five are those of AIGER 1.9, and 0 where they are not written).
+///
+/// Answers `Shape` where the bytes are no such line, or end in it, and `Stream` where a read failed.
 pub fn header_line<F: ByteFeed>(f: &mut F) -> Result<Header, LexError>
     ensures exact { Gives OnShape (λ h. (kind_of h.kind, numbers_of h)) (F.coming f.old) (F.coming f.new) result header_at }
     ensures stream { IsErrOf result LexError.Stream → F.failed f.new ≡ true }

@@ -1,17 +1,17 @@
-//! Words of the format: bytes, numbers, and lines of numbers.
+//! Words of the format: bytes, numbers, lines of numbers, and differences.
 
 ghost use Rattle.std.specs.Prelude.{◌≡◌, ◌+◌, ◌<◌, ◌≤◌, length, IsErrOf, OnOk, true};
 ghost use Rattle.aig_front.specs.Front.{delta_at, ended_at, number_at};
-ghost use Rattle.aig_front.specs.Fitting.{next_at, pair_at, triple_at};
+ghost use Rattle.aig_front.specs.Fitting.{next_at, pair_at};
 ghost use Rattle.aig_lexer.specs.Faults.{OnShape};
 ghost use Rattle.aig_lexer.specs.Takes.{Gives};
-ghost use Rattle.aig_lexer.specs.Words.{expect_at, word_at};
+ghost use Rattle.aig_lexer.specs.Words.{expect_at, number_from_at, word_at};
 
 use crate::error::LexError;
 use crate::feed::ByteFeed;
 
 /// Reads this byte.
-pub fn expect<F: ByteFeed>(f: &mut F, byte: u8) -> Result<(), LexError>
+pub(crate) fn expect<F: ByteFeed>(f: &mut F, byte: u8) -> Result<(), LexError>
     ensures exact { Gives OnShape (λ _. byte) (F.coming f.old) (F.coming f.new) result (expect_at byte) }
     ensures stream { IsErrOf result LexError.Stream → F.failed f.new ≡ true }
     ensures same { F.behind f.new ≡ F.behind f.old }
@@ -23,16 +23,16 @@ pub fn expect<F: ByteFeed>(f: &mut F, byte: u8) -> Result<(), LexError>
     }
 }
 
-/// Reads a number, and the byte that ends it.
-pub fn number<F: ByteFeed>(f: &mut F) -> Result<(u32, u8), LexError>
-    ensures exact { Gives OnShape (λ x. (x.0, x.1)) (F.coming f.old) (F.coming f.new) result number_at }
+/// Reads on in a number whose first byte, which was read before, is `first`: its value, and the byte that ends it.
+///
+/// A number is one or more decimal digits (AIGER format 20071012, "Header"); zeros may lead, and its value is below 2^32. Answers `Shape` where there is no such number, or the bytes end in it, and `Stream` where a
+/// read failed.
+pub fn number_from<F: ByteFeed>(f: &mut F, first: u8) -> Result<(u32, u8), LexError>
+    ensures exact { Gives OnShape (λ x. (x.0, x.1)) (F.coming f.old) (F.coming f.new) result (number_from_at first) }
     ensures stream { IsErrOf result LexError.Stream → F.failed f.new ≡ true }
     ensures same { F.behind f.new ≡ F.behind f.old }
     ensures fewer { OnOk result (F.turns f.new < F.turns f.old) }
 {
-    let Some(first) = f.next()? else {
-        return Err(LexError::Shape);
-    };
     if !first.is_ascii_digit() {
         return Err(LexError::Shape);
     }
@@ -49,7 +49,22 @@ pub fn number<F: ByteFeed>(f: &mut F) -> Result<(u32, u8), LexError>
     Err(LexError::Shape)
 }
 
-/// Reads a number that this byte ends.
+/// Reads a number as `number_from` does, its first byte included: its value, and the byte that ends it.
+pub(crate) fn number<F: ByteFeed>(f: &mut F) -> Result<(u32, u8), LexError>
+    ensures exact { Gives OnShape (λ x. (x.0, x.1)) (F.coming f.old) (F.coming f.new) result number_at }
+    ensures stream { IsErrOf result LexError.Stream → F.failed f.new ≡ true }
+    ensures same { F.behind f.new ≡ F.behind f.old }
+    ensures fewer { OnOk result (F.turns f.new < F.turns f.old) }
+{
+    match f.next()? {
+        Some(first) => number_from(f, first),
+        None => Err(LexError::Shape),
+    }
+}
+
+/// Reads a number that the byte `end` ends.
+///
+/// Answers `Shape` where there is no such number, or another byte ends it, and `Stream` where a read failed.
 pub fn ended<F: ByteFeed>(f: &mut F, end: u8) -> Result<u32, LexError>
     ensures exact { Gives OnShape (λ x. x) (F.coming f.old) (F.coming f.new) result (ended_at end) }
     ensures stream { IsErrOf result LexError.Stream → F.failed f.new ≡ true }
@@ -63,7 +78,10 @@ pub fn ended<F: ByteFeed>(f: &mut F, end: u8) -> Result<u32, LexError>
     Ok(value)
 }
 
-/// Reads a line of two numbers.
+/// Reads a line of two numbers, with one space between them, as an and gate's operands are written in a text file (AIGER
+/// format 20071012, "Input/Latch/Output/And section").
+///
+/// Answers `Shape` where there is no such line, and `Stream` where a read failed.
 pub fn pair<F: ByteFeed>(f: &mut F) -> Result<(u32, u32), LexError>
     ensures exact { Gives OnShape (λ x. (x.0, x.1)) (F.coming f.old) (F.coming f.new) result pair_at }
     ensures stream { IsErrOf result LexError.Stream → F.failed f.new ≡ true }
@@ -75,19 +93,11 @@ pub fn pair<F: ByteFeed>(f: &mut F) -> Result<(u32, u32), LexError>
     Ok((first, second))
 }
 
-/// Reads a line of three numbers.
-pub fn triple<F: ByteFeed>(f: &mut F) -> Result<(u32, u32, u32), LexError>
-    ensures exact { Gives OnShape (λ x. (x.0, (x.1, x.2))) (F.coming f.old) (F.coming f.new) result triple_at }
-    ensures stream { IsErrOf result LexError.Stream → F.failed f.new ≡ true }
-    ensures same { F.behind f.new ≡ F.behind f.old }
-    ensures fewer { OnOk result (F.turns f.new < F.turns f.old) }
-{
-    let first = ended(f, b' ')?;
-    let (second, third) = pair(f)?;
-    Ok((first, second, third))
-}
-
-/// Reads a latch's next literal, and its reset if one is written, up to the end of the line.
+/// Reads a latch's next literal, and its reset if one is written, up to the end of the line (AIGER format 20071012,
+/// "Input/Latch/Output/And section"; AIGER 1.9: "Reset logic").
+///
+/// Answers `Shape` where there is no such line, and `Stream` where a read failed. Which resets a latch may have is not
+/// tested here.
 pub fn next_line<F: ByteFeed>(f: &mut F) -> Result<(u32, Option<u32>), LexError>
     ensures exact { Gives OnShape (λ x. (x.0, x.1)) (F.coming f.old) (F.coming f.new) result next_at }
     ensures stream { IsErrOf result LexError.Stream → F.failed f.new ≡ true }
@@ -108,8 +118,11 @@ pub fn next_line<F: ByteFeed>(f: &mut F) -> Result<(u32, Option<u32>), LexError>
 /// How many groups of seven bits a difference has at most.
 const MOST_GROUPS: u32 = 5;
 
-/// Reads a difference of a binary file: groups of seven bits, the lowest first; a byte whose top bit is clear ends it.
-/// A spelling need not be the shortest.
+/// Reads a difference of a binary file (AIGER format 20071012, "Binary encoding"): groups of seven bits, the lowest first; a
+/// byte whose top bit is clear ends it.
+///
+/// A spelling need not be the shortest. Answers `Shape` where the difference has more than five bytes or is not below 2^32,
+/// or the bytes end in it, and `Stream` where a read failed.
 pub fn delta<F: ByteFeed>(f: &mut F) -> Result<u32, LexError>
     ensures exact { Gives OnShape (λ d. d) (F.coming f.old) (F.coming f.new) result delta_at }
     ensures stream { IsErrOf result LexError.Stream → F.failed f.new ≡ true }
@@ -135,7 +148,7 @@ pub fn delta<F: ByteFeed>(f: &mut F) -> Result<u32, LexError>
 }
 
 /// Reads the bytes of a word.
-pub fn word<F: ByteFeed>(f: &mut F, text: &[u8]) -> Result<(), LexError>
+pub(crate) fn word<F: ByteFeed>(f: &mut F, text: &[u8]) -> Result<(), LexError>
     ensures exact { Gives OnShape (λ _. tt {0}) (F.coming f.old) (F.coming f.new) result (word_at text.now) }
     ensures stream { IsErrOf result LexError.Stream → F.failed f.new ≡ true }
     ensures same { F.behind f.new ≡ F.behind f.old }

@@ -1,4 +1,4 @@
-//! Reads the words of the AIGER formats from a source of bytes.
+//! Reads the words and numbers of the AIGER formats from a source of bytes.
 #![tactic(auto)]
 
 mod error;
@@ -8,9 +8,9 @@ mod lexer;
 
 pub use aig_grammar::FileKind;
 pub use error::LexError;
-pub use feed::{Buffered, ByteFeed, SIZE};
+pub use feed::{Buffered, ByteFeed, WINDOW_SIZE};
 pub use header::{Header, header_line};
-pub use lexer::{delta, ended, expect, next_line, number, pair, triple, word};
+pub use lexer::{delta, ended, next_line, number_from, pair};
 
 #[cfg(test)]
 mod tests;

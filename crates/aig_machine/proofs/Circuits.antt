@@ -1,31 +1,30 @@
 -- The circuit of a file that fits is a circuit.
-use Rattle.std.proofs.Common.{◌≡◌, ◌≢◌, ℕ, zero, suc, ◌+◌, ◌*◌, ◌/◌, ◌%◌, ◌<◌, ◌≤◌, Bool, true, false, cond, List, [], ◌∷◌, ◌++◌, length, map, Option, Some, None, nat_cmp, refl, sym, ap, subst, ◌∙◌, arith, inl, inr, ◌⊎◌}
+use Rattle.std.proofs.Common.{◌≡◌, ◌≢◌, ℕ, zero, suc, ◌+◌, ◌*◌, ◌/◌, ◌%◌, ◌<◌, ◌≤◌, Bool, true, false, cond, List, [], ◌∷◌, ◌++◌, length, map, Option, Some, None, nat_cmp, refl, sym, ap, subst, ◌∙◌, arith, inl, inr}
 use Rattle.std.specs.Prelude.{nat_eq, nat_lt, ◌==◌, All, AllPairs, Contains, IfSome, IsTrue, is_some, slice_get, slice_index, unwrap_or, filter_map}
 use Rattle.std.specs.List.{AllByRecursion, IsDistinct, flat_map, cons_option}
-use Rattle.std.specs.FinMap.{FinMap, contains_key, find, from_entries, get-from_entries}
+use Rattle.std.specs.FinMap.{contains_key, find, get-from_entries}
 use Rattle.std.specs.Ordering.{eq_by_cmp}
 use Rattle.std.proofs.lemmas.Cmp.{nat_cmp_total}
-use Rattle.std.proofs.lemmas.Bool.{eqb-true, eqb-false, ne_eqb, false≢true}
+use Rattle.std.proofs.lemmas.Bool.{eqb-false, false≢true}
 use Rattle.std.proofs.lemmas.Bool.Decides.{nat_tests, Decides-eqb}
 use Rattle.std.proofs.lemmas.Option.{same_Some}
 use Rattle.std.proofs.lemmas.List.{map-append, length-map}
 use Rattle.std.proofs.lemmas.List.Elements.{All-from_recursion, All-map, All-contains, All-contains_itself}
 use Rattle.std.proofs.lemmas.Map.Made.{AllPairs-from_IsDistinct}
 use Rattle.aig_circuit.specs.declared.edge.AigEdge.{AigEdge}
-use Rattle.aig_circuit.specs.declared.node.AigNodeType.TheVariants.{False, Leaf}
+use Rattle.aig_circuit.specs.declared.node.AigNodeType.TheVariants.{False}
 use Rattle.aig_circuit.specs.declared.node.AigNode.{AigNode}
-use Rattle.aig_circuit.specs.declared.node.AigLatch.{AigLatch}
 use Rattle.aig_circuit.specs.Edge.{edge_to}
-use Rattle.aig_circuit.specs.Node.{kind_at, and_of}
+use Rattle.aig_circuit.specs.Node.{and_of}
 use Rattle.aig_circuit.specs.Circuit.{AreNodes, IsInRange, IsLeaf, IsLatch, IsCircuit, latch_leaves}
 use Rattle.aig_circuit.proofs.Trees.{kind_at-within}
 use Rattle.aig_circuit.proofs.Building.{and_of-cases}
 use Rattle.aig_grammar.specs.File.{LatchLine, GateLine, NameLine, File, defined}
-use Rattle.aig_grammar.specs.Fits.{Fits, IsDefinable, IsNameOf, section_len}
-use Rattle.aig_grammar.specs.Circuit.{edge_of, gate_at, kind_of, nodes_from, initial_of, latch_of, named_node, circuit_of}
+use Rattle.aig_grammar.specs.Fits.{Fits, IsDefinable, IsNameOf}
+use Rattle.aig_grammar.specs.Circuit.{edge_of, kind_of, nodes_from, initial_of, latch_of, named_node, circuit_of}
 use Rattle.aig_grammar.proofs.Entries.{rec_map, rec_weaker, rec_both, rec_parts, rec_unmap}
 use Rattle.aig_machine.proofs.Lines.{differ_from}
-use Rattle.aig_machine.proofs.FileNodes.{nodes_of, length-nodes, kind_at-nodes, NodeCase, at_zero, at_gate, at_leaf, node_case, nodes-ordered, UsedInRange, used_in_range}
+use Rattle.aig_machine.proofs.FileNodes.{nodes_of, length-nodes, kind_at-nodes, NodeCase, at_zero, at_gate, at_leaf, node_case, nodes-ordered, used_in_range}
 use Rattle.aig_machine.proofs.Joining.{half_differs, leaf_missed, kind_missed}
 
 -- ---- nodes

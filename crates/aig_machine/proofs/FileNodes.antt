@@ -1,23 +1,21 @@
 -- What the nodes of a file's circuit are.
-use Rattle.std.proofs.Common.{◌≡◌, ◌≢◌, ℕ, zero, suc, ◌+◌, ◌*◌, ◌/◌, ◌%◌, ◌<◌, ◌≤◌, Bool, true, false, not, List, [], ◌∷◌, ◌++◌, length, map, cond, Option, Some, None, refl, sym, ap, subst, ◌∙◌, arith, inl, inr, ◌⊎◌}
-use Rattle.std.specs.Prelude.{nat_eq, find, ◌==◌}
-use Rattle.std.specs.List.{AllByRecursion, IsDistinct, flat_map}
-use Rattle.std.proofs.lemmas.Bool.{eqb-true, eqb-false, eq-eqb, ne_eqb}
+use Rattle.std.proofs.Common.{◌≡◌, ℕ, zero, suc, ◌+◌, ◌*◌, ◌/◌, ◌<◌, ◌≤◌, Bool, true, false, List, [], ◌∷◌, ◌++◌, length, map, cond, Option, Some, None, refl, sym, ap, subst, ◌∙◌, arith}
+use Rattle.std.specs.Prelude.{◌==◌}
+use Rattle.std.specs.List.{AllByRecursion, flat_map}
+use Rattle.std.proofs.lemmas.Bool.{eqb-true}
 use Rattle.std.proofs.lemmas.Bool.Decides.{nat_tests}
 use Rattle.std.proofs.lemmas.Option.{same_Some}
 use Rattle.aig_circuit.specs.declared.edge.AigEdge.{AigEdge}
-use Rattle.aig_circuit.specs.declared.node.AigNodeType.{AigNodeType}
 use Rattle.aig_circuit.specs.declared.node.AigNodeType.TheVariants.{False, Leaf, And}
 use Rattle.aig_circuit.specs.declared.node.AigNode.{AigNode}
 use Rattle.aig_circuit.specs.Edge.{literal_of}
 use Rattle.aig_circuit.specs.Node.{kind_at, and_of, IsOrdered as AreOrdered}
 use Rattle.aig_circuit.proofs.Trees.{kind_at-within}
-use Rattle.aig_circuit.proofs.Building.{and_of-cases}
-use Rattle.aig_grammar.specs.File.{LatchLine, GateLine, File, defined, used}
-use Rattle.aig_grammar.specs.Fits.{Fits, IsDefinable, IsOrdered}
+use Rattle.aig_grammar.specs.File.{LatchLine, GateLine, File, defined}
+use Rattle.aig_grammar.specs.Fits.{Fits, IsOrdered}
 use Rattle.aig_grammar.specs.Circuit.{edge_of, kind_by, gate_at, kind_of, nodes_from, circuit_of}
-use Rattle.aig_grammar.proofs.Entries.{chosen, rec_weaker, rec_both, rec_parts, rec_unmap}
-use Rattle.aig_machine.proofs.Lines.{find_some, find_none, differ_from, distinct_parts}
+use Rattle.aig_grammar.proofs.Entries.{rec_parts}
+use Rattle.aig_machine.proofs.Lines.{find_some}
 
 -- the nodes of the file's circuit
 abbrev pub nodes_of : File → List AigNode

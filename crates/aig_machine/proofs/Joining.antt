@@ -1,17 +1,16 @@
 -- A run of a file's machine and a run of its circuit are one.
-use Rattle.std.proofs.Common.{◌≡◌, ◌≢◌, ℕ, zero, suc, ◌+◌, ◌*◌, ◌/◌, ◌%◌, ◌<◌, ◌≤◌, Bool, true, false, not, ◌&&◌, List, [], ◌∷◌, ◌++◌, length, map, cond, Option, Some, None, refl, sym, ap, subst, ◌∙◌, arith, inl, inr, ◌⊎◌}
+use Rattle.std.proofs.Common.{◌≡◌, ℕ, zero, suc, ◌+◌, ◌*◌, ◌/◌, ◌%◌, ◌<◌, ◌≤◌, Bool, false, not, ◌&&◌, List, [], ◌∷◌, ◌++◌, length, map, cond, Some, None, refl, sym, ap, subst, ◌∙◌, arith}
 use Rattle.std.specs.Prelude.{nat_eq, find, ◌==◌, All, if◌then◌else◌}
-use Rattle.std.specs.List.{AllByRecursion, IsDistinct, flat_map}
+use Rattle.std.specs.List.{AllByRecursion, IsDistinct}
 use Rattle.std.proofs.lemmas.Bool.{eqb-true, eqb-false, eq-eqb, ne_eqb}
 use Rattle.std.proofs.lemmas.List.Elements.{All-from_recursion, recursion_from_All, All-map}
-use Rattle.aig_circuit.specs.declared.edge.AigEdge.{AigEdge}
 use Rattle.aig_circuit.specs.declared.node.AigLatch.{AigLatch}
 use Rattle.aig_circuit.specs.Edge.{inverted_if}
 use Rattle.aig_circuit.specs.Tree.{node_value, edge_value}
 use Rattle.aig_circuit.specs.Runs.{IsRun}
 use Rattle.aig_circuit.proofs.Building.{node_value-and_of}
 use Rattle.aig_circuit.proofs.Trees.{by_smaller, node_value-false, node_value-leaf}
-use Rattle.aig_grammar.specs.File.{LatchLine, GateLine, File, defined, used}
+use Rattle.aig_grammar.specs.File.{LatchLine, GateLine, File, defined}
 use Rattle.aig_grammar.specs.Fits.{Fits, IsDefinable, IsOrdered}
 use Rattle.aig_grammar.specs.Machine.{literal_value, IsStep, Moves}
 use Rattle.aig_grammar.specs.Machine as machine
@@ -20,7 +19,7 @@ use Rattle.aig_grammar.specs.Circuit.{edge_of, gate_at, kind_by, kind_of, latch_
 use Rattle.aig_machine.specs.Nodes.{HasNodeValues, values_over}
 use Rattle.aig_grammar.proofs.Entries.{rec_weaker, rec_both, rec_parts, rec_unmap}
 use Rattle.aig_machine.proofs.Lines.{find_some, find_none, differ_from, distinct_parts}
-use Rattle.aig_machine.proofs.FileNodes.{nodes_of, length-nodes, kind_at-nodes, NodeCase, at_zero, at_gate, at_leaf, node_case, nodes-ordered, used_in_range}
+use Rattle.aig_machine.proofs.FileNodes.{nodes_of, kind_at-nodes, NodeCase, at_zero, at_gate, at_leaf, node_case, nodes-ordered, used_in_range}
 
 by_parity : (r : ℕ) → r < 2 → (b : Bool) → inverted_if (r == 1) b ≡ (if r == 0 then b else not b)
 by_parity zero h b = refl

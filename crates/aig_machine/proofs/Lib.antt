@@ -1,5 +1,5 @@
 pub mod Lines
 pub mod FileNodes
 pub mod Joining
-pub mod Rows
+pub mod Examples
 pub mod Circuits

@@ -15,8 +15,9 @@ pub fn files_are_circuits()
     ensures { (f : File) (limit : ℕ) → Fits f limit → IsCircuit (circuit_of f) }
 {}
 
-/// A run of the machine is a run of the circuit, whose nodes have the variables' values; and the node values of each run of the circuit are a run of the machine.
+/// Each run of the machine has leaf values that are a run of the circuit, whose nodes have the variables' values; and the
+/// values that each run of the circuit gives the nodes of the variables are a run of the machine.
 pub fn joins_runs()
-    ensures forth { (f : File) (limit last : ℕ) (run : ℕ → ℕ → Bool) → Fits f limit → machine.IsRun f last run → IsRun (circuit_of f) last run × HasNodeValues f last run run }
+    ensures forth { (f : File) (limit last : ℕ) (run : ℕ → ℕ → Bool) → Fits f limit → machine.IsRun f last run → (x : ℕ → ℕ → Bool) × IsRun (circuit_of f) last x × HasNodeValues f last x run }
     ensures back { (f : File) (limit last : ℕ) (x : ℕ → ℕ → Bool) → Fits f limit → IsRun (circuit_of f) last x → machine.IsRun f last (values_over f x) }
 {}

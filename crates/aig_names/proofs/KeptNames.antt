@@ -9,20 +9,24 @@ use Rattle.std.proofs.lemmas.Bool.Decides.{nat_tests}
 use Rattle.std.proofs.lemmas.List.{length-append, get_or_append_left, get_or-append-add}
 use Rattle.std.proofs.lemmas.List.Elements.{filter_map-append}
 use Rattle.std.proofs.lemmas.List.Folds.{list_any-append}
-use Rattle.aig_circuit.proofs.Names.{same_test}
+use denote.Enum.Bare.{sameb}
+use Rattle.aig_base.proofs.Mapping.{same_test}
 use Rattle.aig_grammar.specs.File.{NameLine}
 use Rattle.aig_grammar.specs.Fits.{same_place}
 use Rattle.aig_front.specs.Fitting.{count_of, is_kept}
+use Rattle.aig_names.specs.contracts.section.NamedSection.{the_type}
 use Rattle.aig_names.specs.declared.place.Place.{Place}
 use Rattle.aig_names.specs.Names.{kept_name, kept_names}
+use Rattle.aig_names.specs.Sections.{letter_of}
 use Rattle.aig_names.specs.Steps.{node_at, with_name}
 use Rattle.aig_names.proofs.NameLines.{name_line, is_taken}
+use Rattle.aig_names.proofs.Sections.{same_letters}
 
 -- ---- places
 
 -- whether two places are one
 abbrev pub same_spot : Place → Place → Bool
-same_spot a b = nat_eq a.letter b.letter && nat_eq a.position b.position
+same_spot a b = sameb the_type a.section b.section && nat_eq a.position b.position
 
 or_last : (x y : Bool) → cond x true y ≡ (y || (x || false))
 or_last true true = refl
@@ -31,10 +35,13 @@ or_last false true = refl
 or_last false false = refl
 
 -- one more place is taken
-pub taken_more : (names : List NameLine) (place q : Place) (name : List ℕ) → cond (same_spot place q) true (is_taken names q.letter q.position) ≡ is_taken (names ++ name_line place.letter place.position name ∷ []) q.letter q.position
+pub taken_more : (names : List NameLine) (place q : Place) (name : List ℕ) → cond (same_spot place q) true (is_taken names (letter_of q.section) q.position) ≡ is_taken (names ++ name_line (letter_of place.section) place.position name ∷ []) (letter_of q.section) q.position
 taken_more names place q name =
-    or_last (same_spot place q) (is_taken names q.letter q.position)
-    ∙ sym (list_any-append (λ m. same_place m (name_line q.letter q.position [])) names (name_line place.letter place.position name ∷ []))
+    let line = name_line (letter_of place.section) place.position name in
+    let wanted = name_line (letter_of q.section) q.position [] in
+    let taken = is_taken names (letter_of q.section) q.position in
+    ap (λ t. cond (t && nat_eq place.position q.position) true taken) (same_letters place.section q.section) ∙ or_last (same_place line wanted) taken
+    ∙ sym (list_any-append (λ m. same_place m wanted) names (line ∷ []))
 
 -- ---- positions
 

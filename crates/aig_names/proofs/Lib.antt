@@ -1,6 +1,7 @@
 pub mod Texts
 pub mod Positions
-pub mod Fronts
+pub mod Sections
+pub mod Starts
 pub mod Kept
 pub mod NameLines
 pub mod Tails

@@ -1,10 +1,8 @@
 -- A name line in its parts: the letter and a byte, then the place, then the name.
-use Rattle.std.proofs.Common.{◌≡◌, ℕ, ◌≤◌, Bool, true, false, not, ◌&&◌, ◌||◌, cond, ltb, List, [], ◌∷◌, Option, Some, None, refl, sym, ap, ◌∙◌, arith}
+use Rattle.std.proofs.Common.{◌≡◌, ℕ, Bool, true, false, not, ◌&&◌, ◌||◌, cond, ltb, List, [], ◌∷◌, Option, Some, None, refl, ap, ◌∙◌}
 use Rattle.std.specs.Str.{is_utf8}
 use Rattle.std.specs.List.{list_any}
 use Rattle.std.specs.Io.KnownBytes.{Consumes}
-use Rattle.std.proofs.lemmas.Bool.{le-ltb}
-use Rattle.std.proofs.lemmas.Bool.Decides.{nat_tests}
 use Rattle.aig_grammar.specs.File.{NameLine}
 use Rattle.aig_grammar.specs.Fits.{same_place}
 use Rattle.aig_grammar.specs.Spells.{is_letter}
@@ -64,17 +62,6 @@ named_place l (Some p) = named_text l p.0 (text_at p.1)
 with_letter : (l b : ℕ) (bs : List ℕ) → is_letter l ≡ true → name_at (l ∷ b ∷ bs) ≡ (position_at b bs >>= untested l)
 with_letter l b bs is = rw is (named_place l (position_at b bs))
 
-without_letter : (l b : ℕ) (bs : List ℕ) → is_letter l ≡ false → name_at (l ∷ b ∷ bs) ≡ None
-without_letter l b bs is = rw is refl
-
--- a letter that has entries is one
-letter_counts : (ns : List ℕ) (l : ℕ) → is_letter l ≡ false → count_of ns l ≡ 0
-letter_counts ns l e = grind (arith, nat_tests)
-
-none_within : (count : ℕ) (o : Option (ℕ × List ℕ)) → count ≡ 0 → (o >>= λ x. cond (ltb x.0 count) (Some x) None) ≡ None
-none_within count None e = refl
-none_within count (Some x) e = let le : count ≤ x.0 = omega arith in ap (λ t. cond t (Some x) None) (le-ltb x.0 count le)
-
 -- ---- with them
 
 module _ (ns : List ℕ) (names : List NameLine) where
@@ -120,12 +107,8 @@ module _ (ns : List ℕ) (names : List NameLine) where
   tests_place l (Some p) = tests_part l p (text_at p.1) ∙ same_place_within (ltb p.0 (count_of ns l)) l p (behind_place names l)
 
   -- a name line is read in its parts
-  pub line_parts : (l b : ℕ) (bs : List ℕ) → line_at (l ∷ b ∷ bs) ≡ (place_at ns l b bs >>= behind_place names l)
-  line_parts l b bs = go (is_letter l) refl
-    where
-      go : (t : Bool) → is_letter l ≡ t → line_at (l ∷ b ∷ bs) ≡ (place_at ns l b bs >>= behind_place names l)
-      go true is = ap (λ o. o >>= tested) (with_letter l b bs is) ∙ tests_place l (position_at b bs)
-      go false is = ap (λ o. o >>= tested) (without_letter l b bs is) ∙ sym (ap (λ o. o >>= behind_place names l) (none_within (count_of ns l) (position_at b bs) (letter_counts ns l is)))
+  line_parts : (l b : ℕ) (bs : List ℕ) → is_letter l ≡ true → line_at (l ∷ b ∷ bs) ≡ (place_at ns l b bs >>= behind_place names l)
+  line_parts l b bs is = ap (λ o. o >>= tested) (with_letter l b bs is) ∙ tests_place l (position_at b bs)
 
   -- what follows the place, where no name before has it
   new_place : (l n : ℕ) → is_taken names l n ≡ false → (bs : List ℕ) → behind_place names l (n, bs) ≡ (name_text_at (is_kept l) bs >>= with_place l n)
@@ -133,17 +116,17 @@ module _ (ns : List ℕ) (names : List NameLine) where
 
   -- ---- step by step
 
-  pub line_begins : (now mid : Option (List ℕ)) (l b : ℕ) → Consumes now mid (l ∷ b ∷ []) → GoesOn line_at now (λ bs. place_at ns l b bs >>= behind_place names l) mid
-  line_begins now mid l b c = record { taken = l ∷ b ∷ []; goes = λ rest. line_parts l b rest; consumed = c }
+  module _ (now mid : Option (List ℕ)) (l b : ℕ) (is : is_letter l ≡ true) (c : Consumes now mid (l ∷ b ∷ [])) where
+    line_begins : GoesOn line_at now (λ bs. place_at ns l b bs >>= behind_place names l) mid
+    line_begins = record { taken = l ∷ b ∷ []; goes = λ rest. line_parts l b rest is; consumed = c }
 
-  pub line_without_place : (now mid : Option (List ℕ)) (l b : ℕ) → Consumes now mid (l ∷ b ∷ []) → Misses (place_at ns l b) mid → Misses line_at now
-  line_without_place now mid l b c k =
-      goes_wrong line_at (λ bs. place_at ns l b bs >>= behind_place names l) now mid (line_begins now mid l b c) (misses_first (place_at ns l b) (behind_place names l) mid k)
+    pub line_without_place : Misses (place_at ns l b) mid → Misses line_at now
+    line_without_place k = goes_wrong line_at (λ bs. place_at ns l b bs >>= behind_place names l) now mid line_begins (misses_first (place_at ns l b) (behind_place names l) mid k)
 
-  pub line_with_place : (now mid after : Option (List ℕ)) (l b n : ℕ) → Consumes now mid (l ∷ b ∷ []) → Takes (place_at ns l b) mid after n → GoesOn line_at now (λ bs. behind_place names l (n, bs)) after
-  line_with_place now mid after l b n c k =
-      goes_call line_at (place_at ns l b) (λ bs. place_at ns l b bs >>= behind_place names l) (λ bs. behind_place names l (n, bs)) now mid after n (line_begins now mid l b c) k
-      (λ bs rest e. ap (λ o. o >>= behind_place names l) e)
+    pub line_with_place : (after : Option (List ℕ)) (n : ℕ) → Takes (place_at ns l b) mid after n → GoesOn line_at now (λ bs. behind_place names l (n, bs)) after
+    line_with_place after n k =
+        goes_call line_at (place_at ns l b) (λ bs. place_at ns l b bs >>= behind_place names l) (λ bs. behind_place names l (n, bs)) now mid after n line_begins k
+        (λ bs rest e. ap (λ o. o >>= behind_place names l) e)
 
   pub line_of_taken : (now mid : Option (List ℕ)) (l n : ℕ) → GoesOn line_at now (λ bs. behind_place names l (n, bs)) mid → is_taken names l n ≡ true → Misses line_at now
   line_of_taken now mid l n h is =

@@ -116,9 +116,9 @@ tail_wrong ns names before now h k =
     known_rest before now h.taken (λ bytes. tail_of ns bytes ≡ None) (IsWrong ns names) h.consumed k
     (λ rest w. h.goes rest ∙ ap (λ o. o >>= after names) (tail_line ns names rest w.0 ∙ ap (λ o. o >>= one_more ns (length rest) names) w.1))
 
-pub wrong_front : (ns : List ℕ) (names : List NameLine) (now : Option (List ℕ)) → IfSome now IsNoTail → IfSome now (IsWrong ns names)
-wrong_front ns names None h = tt
-wrong_front ns names (Some bytes) h = (h.no_comment, ap (λ (o : Option (NameLine × List ℕ)). o >>= λ n. cond (tests_name ns names n.0) (Some n) None) h.no_name)
+pub wrong_start : (ns : List ℕ) (names : List NameLine) (now : Option (List ℕ)) → IfSome now IsNoTail → IfSome now (IsWrong ns names)
+wrong_start ns names None h = tt
+wrong_start ns names (Some bytes) h = (h.no_comment, ap (λ (o : Option (NameLine × List ℕ)). o >>= λ n. cond (tests_name ns names n.0) (Some n) None) h.no_name)
 
 pub wrong_line : (ns : List ℕ) (names : List NameLine) (now mid : Option (List ℕ)) (l b : ℕ) → Consumes now mid (l ∷ b ∷ []) → is_comment (l ∷ b ∷ []) ≡ false → Misses (line_at ns names) now → IfSome now (IsWrong ns names)
 wrong_line ns names None mid l b c is h = tt

@@ -11,13 +11,6 @@ behind front x = Some (front ++ x.0, x.1)
 abbrev pub text_from : List ℕ → List ℕ → Option (List ℕ × List ℕ)
 text_from front bs = text_at bs >>= behind front
 
-pub text_begins : (bs : List ℕ) → text_at bs ≡ text_from [] bs
-text_begins bs = go (text_at bs)
-  where
-    go : (o : Option (List ℕ × List ℕ)) → o ≡ (o >>= behind [])
-    go None = refl
-    go (Some x) = refl
-
 pub text_goes : (front : List ℕ) (b : ℕ) → b ≢ 10 → (bs : List ℕ) → text_from front (b ∷ bs) ≡ text_from (front ++ b ∷ []) bs
 unfolding text_at
 text_goes front b ne bs = rw (ne_eqb b 10 ne) (go (text_at bs))

@@ -6,17 +6,19 @@ use Rattle.std.specs.FinMap.{FinMap, insert}
 use Rattle.aig_front.specs.Front.{is_comment, name_at, ended_at}
 use Rattle.aig_lexer.specs.declared.error.LexError.{LexError}
 use Rattle.aig_lexer.specs.Faults.{OnShape}
+use Rattle.aig_names.specs.declared.section.NamedSection.{NamedSection}
+use Rattle.aig_names.specs.Sections.{letter_of}
 
 -- neither a comment nor a name
 pub record IsNoTail (bytes : List ℕ) : Type 0 where
   pub no_comment : is_comment bytes ≡ false
   pub no_name : name_at bytes ≡ None
 
--- a comment that went to the end was taken, or the first two bytes of what is none, or the bytes are neither comment nor name
-abbrev pub Fronts : Option (List ℕ) → Option (List ℕ) → Result (Option (ℕ × ℕ)) LexError → Type 0
-Fronts before after (Ok None) = (taken : List ℕ) × (is_comment taken ≡ true) × Consumes before after taken
-Fronts before after (Ok (Some x)) = (is_comment (x.0 ∷ x.1 ∷ []) ≡ false) × Consumes before after (x.0 ∷ x.1 ∷ [])
-Fronts before after (Err e) = OnShape e (IfSome before IsNoTail)
+-- a comment that went to the end was taken, or of what is none a section's letter and the byte behind it, or the bytes are neither comment nor name
+abbrev pub NameStarts : Option (List ℕ) → Option (List ℕ) → Result (Option (NamedSection × ℕ)) LexError → Type 0
+NameStarts before after (Ok None) = (taken : List ℕ) × (is_comment taken ≡ true) × Consumes before after taken
+NameStarts before after (Ok (Some x)) = let start = letter_of x.0 ∷ x.1 ∷ [] in (is_comment start ≡ false) × Consumes before after start
+NameStarts before after (Err e) = OnShape e (IfSome before IsNoTail)
 
 -- a number that a space ends, whose first byte came before
 abbrev pub position_at : ℕ → List ℕ → Option (ℕ × List ℕ)

@@ -1,3 +1,5 @@
+//! Why names are not read.
+
 ghost use Rattle.std.specs.Prelude.{◌≡◌};
 ghost use Rattle.aig_names.specs.Faults.{error_of};
 ghost use Rattle.aig_names.specs.declared.error.NameError.TheVariants as name;

@@ -4,10 +4,8 @@
 mod error;
 mod names;
 mod place;
+mod section;
 mod text;
 
 pub use error::NameError;
 pub use names::read_names;
-
-#[cfg(test)]
-mod tests;

@@ -10,21 +10,23 @@ ghost use Rattle.aig_lexer.specs.Header.{numbers_of};
 ghost use Rattle.aig_lexer.specs.Takes.{Makes};
 ghost use Rattle.aig_names.specs.Faults.{OnName};
 ghost use Rattle.aig_names.specs.Names.{EndsWith, kept_names, tail_of};
-ghost use Rattle.aig_names.specs.Steps.{Fronts, with_name};
+ghost use Rattle.aig_names.specs.Steps.{NameStarts, with_name};
 
 use crate::error::NameError;
 use crate::place::{named_node, read_place};
+use crate::section::NamedSection;
 use crate::text::{kept_text, skip_rest, skip_text};
 use aig_circuit::AigLatch;
 use aig_lexer::{ByteFeed, Header, LexError};
 use std::alloc::Global;
 use std::collections::{HashMap, HashSet};
 
-/// Reads the letter of a name line and the byte behind it, or up to the end of the stream where no name is left.
+/// Reads the letter of a name line and the byte behind it, or up to the end of the stream where no name is left: the letter's
+/// section, and the byte.
 ///
 /// A `c` that ends the stream or has no digit behind it begins the comment.
-fn front<F: ByteFeed>(f: &mut F) -> Result<Option<(u8, u8)>, LexError>
-    ensures exact { Fronts (F.coming f.old) (F.coming f.new) result }
+fn name_start<F: ByteFeed>(f: &mut F) -> Result<Option<(NamedSection, u8)>, LexError>
+    ensures exact { NameStarts (F.coming f.old) (F.coming f.new) result }
     ensures whole { IfOk result (λ x. x ≡ None → (F.failed f.new ≡ false) × IsAtEnd (F.coming f.new)) }
     ensures stream { IsErrOf result LexError.Stream → F.failed f.new ≡ true }
     ensures same { F.behind f.new ≡ F.behind f.old }
@@ -43,7 +45,10 @@ fn front<F: ByteFeed>(f: &mut F) -> Result<Option<(u8, u8)>, LexError>
         skip_rest(f)?;
         return Ok(None);
     }
-    Ok(Some((letter, second)))
+    match NamedSection::of_letter(letter) {
+        Some(section) => Ok(Some((section, second))),
+        None => Err(LexError::Shape),
+    }
 }
 
 /// Reads a name, and keeps it where it is that of a node.
@@ -67,11 +72,15 @@ fn read_name<F: ByteFeed>(
     Ok(())
 }
 
-/// Reads the names behind the gates, and the comment behind these, up to the end of the stream.
+/// Reads the names behind the gates, and the comment behind these, up to the end of the stream (AIGER format 20071012,
+/// "Symbol table" and "Comment section"; AIGER 1.9: "Properties").
 ///
 /// A name's place has to be within its section by the header's counts, and no two names are for one place. Names of
 /// inputs and latches have to be UTF-8 and are answered by their nodes: `inputs` has the nodes of the inputs, and the
 /// leaves of `latchs` are those of the latches, all of them different. Other names are read and not held.
+///
+/// Answers `Shape` where the bytes are no such names and comment, `Stream` where a read failed, and `Memory` where a growth
+/// was refused.
 pub fn read_names<F: ByteFeed>(
     alloc: Global,
     f: &mut F,
@@ -89,8 +98,8 @@ pub fn read_names<F: ByteFeed>(
 {
     let mut places = HashSet::new(alloc);
     let mut names = HashMap::new(alloc);
-    while let Some((letter, first)) = front(f)? {
-        let place = read_place(f, header, letter, first)?;
+    while let Some((section, first)) = name_start(f)? {
+        let place = read_place(f, header, section, first)?;
         if !places.insert(place)? {
             return Err(NameError::Shape);
         }

@@ -13,7 +13,7 @@ use aig_base::StreamFault;
 use aig_lexer::{ByteFeed, LexError};
 use std::alloc::Global;
 
-/// Reads the bytes of a name, up to the line feed.
+/// Reads the bytes of a name, up to the line feed, which is not one of them.
 fn name_bytes<F: ByteFeed>(alloc: Global, f: &mut F) -> Result<Vec<u8>, NameError>
     ensures exact { Gives OnName (λ text. text.items) (F.coming f.old) (F.coming f.new) result text_at }
     ensures stream { IsErrOf result NameError.Stream → F.failed f.new ≡ true }
@@ -38,10 +38,7 @@ pub fn kept_text<F: ByteFeed>(alloc: Global, f: &mut F) -> Result<String, NameEr
     ensures fewer { OnOk result (F.turns f.new < F.turns f.old) }
 {
     let bytes = name_bytes(alloc, f)?;
-    match String::from_utf8(bytes) {
-        Ok(text) => Ok(text),
-        Err(_) => Err(NameError::Shape),
-    }
+    String::from_utf8(bytes).map_err(|_| NameError::Shape)
 }
 
 /// Reads a name that is dropped, up to the line feed, and holds none of it.

@@ -1,13 +1,13 @@
 -- What the answer of a reading call tells of the bytes, by the laws of readers on lists.
-use Rattle.std.proofs.Common.{◌≡◌, ◌≢◌, ◌↔◌, ℕ, zero, suc, ◌+◌, ◌/◌, true, List, [], ◌∷◌, ◌++◌, length, map, slice_index, Option, Some, None, Result, Ok, Err, IfSome, IsErrOf, refl, sym, ap, subst, ◌∙◌, append_assoc}
+use Rattle.std.proofs.Common.{◌≡◌, ◌≢◌, ◌↔◌, ℕ, true, List, ◌++◌, Option, Some, None, Result, Ok, Err, IfSome, IsErrOf, refl, sym, ap, subst, ◌∙◌}
 use Rattle.std.specs.Io.KnownBytes.{Consumes, IsAtEnd}
-use Rattle.std.proofs.KnownBytes.{Consumes-trans, Consumes-whole}
-use Rattle.aig_grammar.specs.File.{Kind, NameLine, File, defined}
+use Rattle.std.proofs.KnownBytes.{Consumes-whole}
+use Rattle.aig_grammar.specs.File.{Kind, NameLine, File}
 use Rattle.aig_grammar.specs.Fits.{Accepts}
 use Rattle.aig_front.proofs.FittingFiles.{fitting_sound, fitting_complete}
 use Rattle.aig_front.proofs.TooManyAt.{too_many_exact}
 use Rattle.aig_front.specs.Front.{◌>>=◌, Parts, file_from, too_many_at}
-use Rattle.aig_front.specs.Fitting.{fitting_at, fitting_body_at, fitting_header_at, fitting_sections_at, fitting_tail_at}
+use Rattle.aig_front.specs.Fitting.{fitting_at, fitting_body_at, fitting_header_at, fitting_sections_at}
 use Rattle.aig_circuit.specs.declared.view.CircuitLists.{CircuitLists}
 use Rattle.aig_names.specs.Names.{tail_of}
 use Rattle.aig_reader.specs.declared.error.ReadError.{ReadError}

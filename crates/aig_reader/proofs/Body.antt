@@ -4,7 +4,7 @@ use Rattle.std.proofs.KnownBytes.{Consumes-trans}
 use Rattle.std.proofs.lemmas.Option.{same_Some}
 use Rattle.aig_grammar.specs.File.{Kind, Text, Binary, File, LatchLine, GateLine}
 use Rattle.aig_grammar.specs.Circuit.{nodes_from}
-use Rattle.aig_front.specs.Front.{◌>>=◌, Parts, both_at, numbers_at}
+use Rattle.aig_front.specs.Front.{◌>>=◌, both_at, numbers_at}
 use Rattle.aig_front.specs.Fitting.{fitting_gates_at, fitting_inputs_at, fitting_latches_at, fitting_sections_at, literal_sets_at, literals_at}
 use Rattle.aig_front.proofs.Numbers.{bind_some}
 use Rattle.aig_reader.specs.declared.error.Section.{Section}

@@ -1,5 +1,5 @@
 -- The entries of both kinds of file, as the sections that they make.
-use Rattle.std.proofs.Common.{◌≡◌, ℕ, zero, suc, ◌+◌, ◌-◌, ◌*◌, ◌/◌, ◌<◌, Bool, true, false, ◌&&◌, cond, ltb, List, [], ◌∷◌, ◌++◌, Option, Some, None, refl, sym, ap, subst, ◌∙◌, length, length-append, map, slice_index, arith}
+use Rattle.std.proofs.Common.{◌≡◌, ℕ, zero, suc, ◌+◌, ◌-◌, ◌*◌, ◌/◌, Bool, true, false, ◌&&◌, cond, ltb, List, [], ◌∷◌, ◌++◌, Option, Some, None, refl, sym, ap, ◌∙◌, length, length-append, map, slice_index, arith}
 use Rattle.std.specs.List.{list_all}
 use Rattle.std.proofs.lemmas.Bool.Decides.{nat_tests}
 use Rattle.std.proofs.lemmas.Option.{same_Some}
@@ -8,7 +8,6 @@ use Rattle.aig_grammar.specs.File.{Kind, Text, Binary, LatchLine, GateLine}
 use Rattle.aig_grammar.specs.Spells.{places}
 use Rattle.aig_front.specs.Front.{◌>>=◌, both_at, delta_at, ended_at, fits_gate, mapped_at, placed_at, placed_gate, placed_gate_at, tested_at}
 use Rattle.aig_front.specs.Fitting.{binary_latch_at, defines, fitting_gates_at, fitting_inputs_at, fitting_latches_at, gate_line_at, gate_of, has_next, latch_line_at, latch_of, next_at, tests_gate, tests_latch}
-use Rattle.aig_front.proofs.Numbers.{bind_some}
 use Rattle.aig_reader.specs.Entries.{gate_at, input_at, latch_at, operands_at}
 use Rattle.aig_reader.specs.Gates.{literals_of}
 use Rattle.aig_reader.proofs.Entries.{checked_is_entries, entries_at, length_push, placed_is_entries, put_first}

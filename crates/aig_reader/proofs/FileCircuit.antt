@@ -1,15 +1,13 @@
 -- The circuit of the file that was read.
-use Rattle.std.proofs.Common.{◌≡◌, ◌≢◌, ℕ, zero, suc, ◌+◌, ◌*◌, ◌/◌, ◌%◌, Bool, true, false, cond, eqb, List, [], ◌∷◌, ◌++◌, length, map, slice_index, Option, Some, None, refl, sym, ap, subst, ◌∙◌, arith}
+use Rattle.std.proofs.Common.{◌≡◌, ◌≢◌, ℕ, zero, suc, ◌+◌, ◌/◌, ◌%◌, false, eqb, List, [], ◌∷◌, ◌++◌, length, map, slice_index, Option, refl, ap, arith}
 use Rattle.std.specs.Prelude.{filter_map, AllPairs, nat_eq}
-use Rattle.std.specs.FinMap.{from_entries}
+use Rattle.std.specs.Ordering.{nat_cmp}
+use Rattle.std.specs.FinMap.{FinMap}
 use Rattle.std.specs.List.{AllByRecursion, IsDistinct}
 use Rattle.std.proofs.lemmas.Bool.Decides.{Decides-eqb, nat_tests}
 use Rattle.std.proofs.lemmas.List.{map-append}
 use Rattle.std.proofs.lemmas.Map.Made.{AllPairs-from_IsDistinct}
 use Rattle.aig_circuit.specs.Circuit.{latch_leaves}
-use Rattle.aig_circuit.specs.View.{lists_circuit, names_of}
-use Rattle.aig_circuit.specs.declared.view.CircuitLists.{CircuitLists}
-use Rattle.aig_circuit.specs.declared.node.AigLatch.{AigLatch}
 use Rattle.aig_front.specs.Front.{Parts, file_from}
 use Rattle.aig_grammar.specs.Circuit.{circuit_of, named_node, nodes_from}
 use Rattle.aig_grammar.specs.File.{Kind, LatchLine, GateLine, NameLine, File, defined}
@@ -17,7 +15,7 @@ use Rattle.aig_grammar.specs.Fits.{Fits, IsDefinable}
 use Rattle.aig_names.specs.Names.{kept_name, kept_names}
 use Rattle.aig_reader.specs.declared.reader.Sections.{Sections}
 use Rattle.aig_reader.specs.Lists.{latch_from, variable_of, with_gates}
-use Rattle.aig_reader.specs.Sections.{AreSectionsOf}
+use Rattle.aig_reader.specs.Sections.{AreSectionsOf, circuit_with}
 
 -- the same gates make the same nodes
 same_nodes : (f : File) (n v : ℕ) → nodes_from (with_gates f.gates) n v ≡ nodes_from f n v
@@ -43,28 +41,14 @@ names_kept : (f : File) (names : List NameLine) → filter_map (kept_name (map v
 names_kept f names =
     same_kept (kept_name (map variable_of f.inputs) (latch_leaves (map latch_from f.latches))) (named_node f) (λ n. rw (input_is f.inputs n.position, leaf_is f.latches n.position) refl) names
 
--- the lists of these sections, with the names of others
-abbrev pub with_names : Sections → CircuitLists → CircuitLists
-with_names s named = record {
-  nodes = s.nodes;
-  inputs = s.inputs;
-  latchs = s.latchs;
-  outputs = s.properties.outputs;
-  bads = s.properties.bads;
-  constraints = s.properties.constraints;
-  justice = s.properties.justice;
-  fairness = s.properties.fairness;
-  names = named.names;
-}
-
--- they are the lists of the file's circuit
-pub circuit_is : (kind : Kind) (ns : List ℕ) (x : Parts) (names : List NameLine) (sections : Sections) (named : CircuitLists) → AreSectionsOf (slice_index ns 0) sections x
-    → names_of named.names.entries ≡ kept_names sections.inputs.items (latch_leaves sections.latchs.items) names → (file_from ((kind, ns), x) names).greatest ≡ length (defined (file_from ((kind, ns), x) names))
-    → lists_circuit (with_names sections named) ≡ circuit_of (file_from ((kind, ns), x) names)
-circuit_is kind ns x names sections named h kept exact =
-    let f = file_from ((kind, ns), x) names in
+-- the sections with the names that are kept are the file's circuit
+pub circuit_is : (kind : Kind) (ns : List ℕ) (x : Parts) (lines : List NameLine) (sections : Sections) (names : FinMap nat_cmp (List ℕ)) → AreSectionsOf (slice_index ns 0) sections x
+    → names ≡ kept_names sections.inputs.items (latch_leaves sections.latchs.items) lines → (file_from ((kind, ns), x) lines).greatest ≡ length (defined (file_from ((kind, ns), x) lines))
+    → circuit_with sections names ≡ circuit_of (file_from ((kind, ns), x) lines)
+circuit_is kind ns x lines sections names h kept exact =
+    let f = file_from ((kind, ns), x) lines in
     let p = h.properties in
-    rw (kept, h.nodes, h.inputs, h.latchs, p.outputs, p.bads, p.constraints, p.justice, p.fairness, names_kept f names, same_nodes f (f.greatest + 1) 0, exact) refl
+    rw (kept, h.nodes, h.inputs, h.latchs, p.outputs, p.bads, p.constraints, p.justice, p.fairness, names_kept f lines, same_nodes f (f.greatest + 1) 0, exact) refl
 
 -- ---- the nodes of inputs and latches are distinct
 

@@ -9,3 +9,4 @@ pub mod Body
 pub mod Accepting
 pub mod FileCircuit
 pub mod ReadNames
+pub mod ReadLeaves

@@ -1,5 +1,5 @@
 -- What a fault tells.
-use Rattle.std.specs.Prelude.{Result, Ok, Err}
+use Rattle.std.specs.Prelude.{ℕ, List, codes, Result, Ok, Err}
 use Rattle.aig_grammar.specs.File.{Kind, Text, Binary}
 use Rattle.aig_names.specs.declared.error.NameError.{NameError}
 use Rattle.aig_names.specs.declared.error.NameError.TheVariants as name
@@ -11,6 +11,17 @@ use Rattle.aig_reader.specs.declared.error.LineError.{LineError}
 use Rattle.aig_reader.specs.declared.error.LineError.TheVariants as line
 use Rattle.aig_reader.specs.declared.error.ReadError.{ReadError}
 use Rattle.aig_reader.specs.declared.error.ReadError.TheVariants as errors
+
+-- what a section is called
+abbrev pub section_name : Section → List ℕ
+section_name sections.Inputs = codes "inputs"
+section_name sections.Latches = codes "latches"
+section_name sections.Outputs = codes "outputs"
+section_name sections.Bads = codes "bads"
+section_name sections.Constraints = codes "constraints"
+section_name sections.Justice = codes "justice"
+section_name sections.Fairness = codes "fairness"
+section_name sections.Gates = codes "gates"
 
 -- the fact, unless memory or the stream failed
 abbrev pub OnLine : LineError → Type 0 → Type 0

@@ -7,10 +7,11 @@ use Rattle.aig_circuit.specs.Edge.{edge_to}
 use Rattle.aig_grammar.specs.File.{Text, LatchLine, GateLine, File}
 use Rattle.aig_grammar.specs.Circuit.{initial_of, nodes_from}
 
--- a literal's variable, and its edge
+-- a literal's variable
 abbrev pub variable_of : ℕ → ℕ
 variable_of e = e / 2
 
+-- a literal's edge
 abbrev pub edge_from : ℕ → AigEdge
 edge_from e = edge_to (e / 2) (e % 2 == 1)
 

@@ -1,30 +1,32 @@
 -- The variables that are defined so far, and what a test of a literal answers.
-use Rattle.std.specs.Prelude.{◌≡◌, ℕ, ◌+◌, ◌*◌, ◌/◌, ◌%◌, ◌<◌, ◌≤◌, ◌==◌, Bool, true, false, List, length, slice_index_or, Result, Ok, Err}
+use Rattle.std.specs.Prelude.{◌≡◌, ℕ, ◌+◌, ◌*◌, ◌/◌, ◌%◌, ◌<◌, ◌≤◌, ◌==◌, ◌⊎◌, Bool, true, false, List, length, slice_index_or, Result, Ok, Err}
 use Rattle.std.specs.List.{list_any}
 use Rattle.aig_grammar.specs.File.{Kind, Text, Binary}
 use Rattle.aig_reader.specs.declared.error.LineError.{LineError}
-use Rattle.aig_reader.specs.declared.error.LineError.TheVariants.{Literal}
+use Rattle.aig_reader.specs.declared.error.LineError.TheVariants.{Literal, Memory}
+use Rattle.aig_reader.specs.declared.variables.Marks.{Marks}
 use Rattle.aig_reader.specs.declared.variables.Variables.{Variables}
 use Rattle.aig_reader.specs.declared.variables.Variables.TheVariants.{Marked, Counted}
+use Rattle.aig_reader.specs.Faults.{OnLine}
 
 -- the kind of the file
 abbrev pub kind_by : Variables → Kind
 kind_by (Marked marks) = Text
 kind_by (Counted count) = Binary
 
--- the marks of the variables 0 to the greatest tell which of them these literals define
-pub record AreMarks (greatest : ℕ) (marks : List Bool) (literals : List ℕ) : Type 0 where
-  pub count : length marks ≡ greatest + 1
-  pub marked : (v : ℕ) → v ≤ greatest → slice_index_or marks v false ≡ list_any (λ e. e == 2 * v) literals
+-- the marks of the variables up to the greatest tell which of them these literals define
+pub record AreMarks (greatest : ℕ) (marks : Marks) (literals : List ℕ) : Type 0 where
+  pub top : marks.greatest ≡ greatest
+  pub marked : (v : ℕ) → v ≤ greatest → slice_index_or marks.marked.items v false ≡ list_any (λ e. e == 2 * v) literals
 
 -- these literals are defined; in a binary file their count tells which they are
 abbrev pub AreDefined : ℕ → Variables → List ℕ → Type 0
-AreDefined greatest (Marked marks) literals = AreMarks greatest marks.items literals
+AreDefined greatest (Marked marks) literals = AreMarks greatest marks literals
 AreDefined greatest (Counted count) literals = length literals ≡ count
 
 -- there are `size` variables, the false one counted, and in a binary file k more of them can be defined
 abbrev pub HasRoom : ℕ → Variables → ℕ → Type 0
-HasRoom size (Marked marks) k = length marks.items ≡ size
+HasRoom size (Marked marks) k = marks.greatest + 1 ≡ size
 HasRoom size (Counted count) k = count + k < size
 
 -- in a binary file the literal is that of the next variable
@@ -36,7 +38,11 @@ IsNext (Counted count) e = e ≡ 2 * (count + 1)
 abbrev pub IsOwn : ℕ → ℕ → Type 0
 IsOwn size e = (e % 2 ≡ 0) × (2 ≤ e) × (e / 2 < size)
 
--- a value where the test is passed, and else the fault of a bad literal
+-- a value where the test is passed, and else a fault, unless memory failed
 abbrev pub Tested : {X : Type 0} → Bool → (X → Type 0) → Result X LineError → Type 0
 Tested test P (Ok x) = (test ≡ true) × P x
-Tested test P (Err e) = (test ≡ false) × (e ≡ Literal)
+Tested test P (Err e) = OnLine e (test ≡ false)
+
+-- memory, or a bad literal
+abbrev pub IsLiteralFault : LineError → Type 0
+IsLiteralFault e = (e ≡ Memory) ⊎ (e ≡ Literal)

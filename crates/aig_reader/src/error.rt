@@ -1,6 +1,6 @@
-ghost use Rattle.std.specs.Prelude.{◌≡◌};
+ghost use Rattle.std.specs.Prelude.{◌≡◌, Some};
 ghost use Rattle.aig_lexer.specs.Header.{kind_of};
-ghost use Rattle.aig_reader.specs.Faults.{error_in, gate_error_in, header_error_of, line_error_of, name_error_of, result_by};
+ghost use Rattle.aig_reader.specs.Faults.{error_in, gate_error_in, header_error_of, line_error_of, name_error_of, result_by, section_name};
 ghost use Rattle.aig_reader.specs.declared.error.LineError.TheVariants as line;
 ghost use Rattle.aig_reader.specs.declared.error.ReadError.TheVariants as errors;
 
@@ -11,7 +11,7 @@ use std::alloc::{AllocError, AllocFailed};
 use std::fmt;
 use thiserror::Error;
 
-/// A part of a file.
+/// A section of a file, as a fault tells of it. It is printed by its name, in small letters and in the plural.
 #[derive(Clone, Copy, Debug, PartialEq, Eq)]
 pub enum Section {
     Inputs,
@@ -25,6 +25,8 @@ pub enum Section {
 }
 
 impl fmt::Display for Section {
+    ghost output = { λ section. Some (section_name section) };
+
     fn fmt<W: fmt::Write>(&self, f: &mut fmt::Formatter<W>) -> fmt::Result {
         f.write_str(match self {
             Section::Inputs => "inputs",

@@ -15,6 +15,3 @@ mod variables;
 
 pub use error::{ReadError, Section};
 pub use reader::read;
-
-#[cfg(test)]
-mod tests;

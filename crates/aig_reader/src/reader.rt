@@ -2,7 +2,7 @@
 
 ghost use Rattle.std.specs.Prelude.{◌≡◌, ℕ, ◌+◌, ◌^◌, ◌<◌, ◌≤◌, true, false, List, IfErr, IfOk, IfSome, IsErrOf, IsTrue, OnOk, vec_len};
 ghost use Rattle.std.specs.Io.KnownBytes.{Consumes, IsAtEnd};
-ghost use Rattle.aig_circuit.specs.View.{lists_circuit};
+ghost use Rattle.aig_circuit.specs.View.{lists_circuit, names_of};
 ghost use Rattle.aig_front.specs.Fitting.{fitting_sections_at};
 ghost use Rattle.aig_grammar.specs.Circuit.{circuit_of};
 ghost use Rattle.aig_grammar.specs.File.{File};
@@ -11,7 +11,7 @@ ghost use Rattle.aig_lexer.specs.Header.{kind_of, numbers_of};
 ghost use Rattle.aig_lexer.specs.Takes.{Makes};
 ghost use Rattle.aig_reader.specs.Faults.{IsSectionFault, OnRefusal};
 ghost use Rattle.aig_reader.specs.Reading.{ReadsExactly, UnlessInterrupted};
-ghost use Rattle.aig_reader.specs.Sections.{AreSectionsOf};
+ghost use Rattle.aig_reader.specs.Sections.{AreSectionsOf, circuit_with};
 
 use crate::error::{ReadError, Section, gates_result, names_result};
 use crate::gates::read_gates;
@@ -23,7 +23,7 @@ use crate::properties::{Properties, read_properties};
 use crate::variables::Variables;
 use aig_base::Source;
 use aig_circuit::{AigLatch, AigNode, CircuitLists};
-use aig_lexer::{Buffered, ByteFeed, Header, SIZE};
+use aig_lexer::{Buffered, ByteFeed, Header, WINDOW_SIZE};
 use aig_names::read_names;
 use std::alloc::Global;
 use std::collections::HashMap;
@@ -53,7 +53,7 @@ pub fn read<R: Source>(alloc: Global, r: &mut R, limit: usize) -> Result<Circuit
     ensures stream { IsErrOf result ReadError.Stream → IsTrue (R.failed r.new) }
     ensures never_open { IsErrOf result ReadError.Open → ⊥ }
 {
-    let mut window = vec![in alloc; 0; SIZE]?;
+    let mut window = vec![in alloc; 0; WINDOW_SIZE]?;
     let mut bytes = Buffered::new(r, &mut window);
     read_file(alloc, &mut bytes, limit)
 }
@@ -78,7 +78,7 @@ fn read_file<F: ByteFeed>(alloc: Global, f: &mut F, limit: usize) -> Result<Circ
 impl Sections {
     /// The lists of the circuit, with these names.
     fn with_names(self, names: HashMap<usize, String>) -> CircuitLists
-        ensures { result ≡ record { nodes = self.nodes; inputs = self.inputs; latchs = self.latchs; outputs = self.properties.outputs; bads = self.properties.bads; constraints = self.properties.constraints; justice = self.properties.justice; fairness = self.properties.fairness; names = names } }
+        ensures { lists_circuit result ≡ circuit_with self (names_of names.entries) }
     {
         let Sections {
             nodes,
@@ -122,7 +122,7 @@ fn read_sections<F: ByteFeed>(
     ensures stream { IsErrOf result ReadError.Stream → F.failed f.new ≡ true }
     ensures same { F.behind f.new ≡ F.behind f.old }
 {
-    let mut variables = Variables::new(alloc, header.kind, header.greatest)?;
+    let mut variables = Variables::new(alloc, header.kind, header.greatest);
     let mut nodes = leaves(alloc, header.greatest)?;
     let inputs = read_inputs(alloc, f, header, &mut variables);
     let inputs = Section::Inputs.result_of(inputs)?;

@@ -1,56 +1,80 @@
 //! The variables of a file.
 
-ghost use Rattle.std.specs.Prelude.{◌≡◌, ℕ, ◌+◌, ◌/◌, ◌^◌, ◌<◌, ◌≤◌, List, [], ◌∷◌, ◌++◌, IfErr, IfOk, IsErrOf, length, true, vec_len};
+ghost use Rattle.std.specs.Prelude.{◌≡◌, ℕ, ◌+◌, ◌/◌, ◌^◌, ◌<◌, ◌≤◌, List, [], ◌∷◌, ◌++◌, IfErr, IfOk, IsErrOf, OnOk, false, slice_index_or, true, vec_len};
 ghost use Rattle.aig_front.specs.Fitting.{defines};
 ghost use Rattle.aig_lexer.specs.Faults.{OnShape};
 ghost use Rattle.aig_lexer.specs.Header.{kind_of};
 ghost use Rattle.aig_lexer.specs.Takes.{Gives};
 ghost use Rattle.aig_reader.specs.Entries.{may_define, own_at};
-ghost use Rattle.aig_reader.specs.Variables.{AreDefined, AreMarks, HasRoom, IsNext, IsOwn, Tested, kind_by};
+ghost use Rattle.aig_reader.specs.Variables.{AreDefined, AreMarks, HasRoom, IsLiteralFault, IsNext, IsOwn, Tested, kind_by};
 
 use crate::error::LineError;
 use aig_lexer::{ByteFeed, FileKind, LexError, ended};
 use std::alloc::{AllocError, Global};
 
+/// Which variables of a text file are defined so far. A variable that has no mark is not.
+#[derive(Drop)]
+pub struct Marks {
+    pub greatest: u32,
+    pub marked: Vec<bool>,
+}
+
 /// The variables of a file that are defined so far.
 #[derive(Drop)]
 pub enum Variables {
-    /// Those of a text file, where any may be next: for each from 0 to the greatest, whether it is defined.
-    Marked(Vec<bool>),
+    /// Those of a text file, where any up to the greatest may be next. There are marks up to the greatest that was defined.
+    Marked(Marks),
     /// Those of a binary file, where they are defined in order of number from 1 on: how many are.
     Counted(u32),
 }
 
-/// Marks the variable of a literal, which is even, is not that of variable 0, and is not marked yet.
-fn mark(marks: &mut Vec<bool>, literal: u32) -> Result<usize, LineError>
-    ensures exact { (greatest : ℕ) (before : List ℕ) → AreMarks greatest marks.old.items before → Tested (defines greatest before literal) (λ id. (id ≡ literal / 2) × AreMarks greatest marks.new.items (before ++ literal ∷ [])) result }
-    ensures fault { IfErr result (λ e. e ≡ LineError.Literal) }
-    ensures own { IfOk result (λ _. IsOwn (length marks.old.items) literal) }
-    ensures len { vec_len marks.new ≡ vec_len marks.old }
-    ensures id { IfOk result (λ id. id ≡ literal / 2) }
+/// Makes room for the mark of this variable.
+fn cover(marked: &mut Vec<bool>, variable: usize) -> Result<(), AllocError>
+    requires { variable < 2 ^ 31 }
+    ensures same { (v : ℕ) → slice_index_or marked.new.items v false ≡ slice_index_or marked.old.items v false }
+    ensures len { OnOk result (variable < vec_len marked.new) }
 {
-    let variable = literal as usize / 2;
-    if literal % 2 != 0 || variable == 0 {
-        return Err(LineError::Literal);
+    if variable >= marked.len() {
+        marked.resize(variable + 1, false)?;
     }
-    if variable >= marks.len() || marks[variable] {
-        return Err(LineError::Literal);
+    Ok(())
+}
+
+impl Marks {
+    /// Marks the variable of a literal, which is even, is that of a variable from 1 to the greatest, and is not marked yet.
+    fn mark(&mut self, literal: u32) -> Result<usize, LineError>
+        ensures exact { (greatest : ℕ) (before : List ℕ) → AreMarks greatest self.old before → Tested (defines greatest before literal) (λ id. (id ≡ literal / 2) × AreMarks greatest self.new (before ++ literal ∷ [])) result }
+        ensures fault { IfErr result IsLiteralFault }
+        ensures own { IfOk result (λ _. IsOwn (self.old.greatest + 1) literal) }
+        ensures greatest { self.new.greatest ≡ self.old.greatest }
+        ensures id { IfOk result (λ id. id ≡ literal / 2) }
+    {
+        let variable = literal as usize / 2;
+        if literal % 2 != 0 || variable == 0 || variable > self.greatest as usize {
+            return Err(LineError::Literal);
+        }
+        cover(&mut self.marked, variable)?;
+        if self.marked[variable] {
+            return Err(LineError::Literal);
+        }
+        self.marked[variable] = true;
+        Ok(variable)
     }
-    marks[variable] = true;
-    Ok(variable)
 }
 
 impl Variables {
     /// The variables up to a greatest one in a file of this kind. None is defined.
-    pub fn new(alloc: Global, kind: FileKind, greatest: u32) -> Result<Self, AllocError>
-        requires { greatest < 2 ^ 31 }
-        ensures defined { IfOk result (λ v. AreDefined greatest v []) }
-        ensures kind { IfOk result (λ v. kind_by v ≡ kind_of kind) }
-        ensures room { IfOk result (λ v. HasRoom (greatest + 1) v greatest) }
+    pub fn new(alloc: Global, kind: FileKind, greatest: u32) -> Self
+        ensures defined { AreDefined greatest result [] }
+        ensures kind { kind_by result ≡ kind_of kind }
+        ensures room { HasRoom (greatest + 1) result greatest }
     {
         match kind {
-            FileKind::Text => Ok(Variables::Marked(vec![in alloc; false; greatest as usize + 1]?)),
-            FileKind::Binary => Ok(Variables::Counted(0)),
+            FileKind::Text => Variables::Marked(Marks {
+                greatest,
+                marked: Vec::new(alloc),
+            }),
+            FileKind::Binary => Variables::Counted(0),
         }
     }
 
@@ -72,14 +96,14 @@ impl Variables {
     pub fn define(&mut self, literal: u32) -> Result<usize, LineError>
         requires { IsNext self.old literal }
         ensures exact { (greatest : ℕ) (before : List ℕ) → AreDefined greatest self.old before → Tested (may_define (kind_by self.old) greatest before literal) (λ id. (id ≡ literal / 2) × AreDefined greatest self.new (before ++ literal ∷ [])) result }
-        ensures fault { IfErr result (λ e. e ≡ LineError.Literal) }
+        ensures fault { IfErr result IsLiteralFault }
         ensures own { IfOk result (λ _. (size : ℕ) → HasRoom size self.old 1 → IsOwn size literal) }
         ensures id { IfOk result (λ id. id ≡ literal / 2) }
         ensures room { IfOk result (λ _. (size k : ℕ) → HasRoom size self.old (k + 1) → HasRoom size self.new k) }
         ensures kind { kind_by self.new ≡ kind_by self.old }
     {
         match self {
-            Variables::Marked(marks) => mark(marks, literal),
+            Variables::Marked(marks) => marks.mark(literal),
             Variables::Counted(count) => {
                 *count += 1;
                 Ok(literal as usize / 2)

@@ -11,9 +11,9 @@ use Rattle.aig_circuit.specs.declared.node.AigLatch.{AigLatch}
 use Rattle.aig_circuit.specs.Tree.{edge_value}
 use Rattle.aig_circuit.specs.Circuit.{Circuit, IsCircuit, IsClosed, IsInRange, IsLatch, IsLeaf, latch_leaves}
 use Rattle.aig_circuit.specs.Runs.{AreAsLong, HaveSameProperties, HaveSameValues, IsRun, IsStart, KeepsRuns, next_edges}
-use Rattle.aig_circuit.specs.Reencode.{nodes_in_order, renumbered_edge, renumbered_latch}
+use Rattle.aig_circuit.specs.Reencode.{nodes_in_order, renumbered_circuit, renumbered_edge, renumbered_latch}
 use Rattle.aig_circuit.proofs.Trees.{kind_at-within}
-use Rattle.aig_renumber.specs.Numbers.{IsEdgeIn, IsLatchIn, SpeaksOf, renumbered_circuit}
+use Rattle.aig_renumber.specs.Numbers.{IsEdgeIn, IsLatchIn, SpeaksOf}
 use Rattle.aig_renumber.proofs.Places.{AllPairs-map_numbers, AllZip-map, All-from_map, Contains-map, Contains-map_back}
 use Rattle.aig_renumber.proofs.Values.{edge_value-renumbered}
 use Rattle.aig_renumber.proofs.Numbering.{Numbers, length-nodes_in_order, within_made, number-apart, AreNodes-made, IsOrdered-made, IsLeaf-number, IsLeaf-back, Renumbers-made}
@@ -61,9 +61,6 @@ module _ (c : Circuit) (S : ℕ → Type 0) (ns : List ℕ) (number : ℕ → �
   leaf : (n : ℕ) → S n → IsLeaf c.nodes n → IsLeaf new (number n)
   leaf n s h = IsLeaf-number c.nodes S ns number numbers n s h
 
-  apart : (m n : ℕ) → S m → S n → number m ≡ number n → m ≡ n
-  apart m n s t e = number-apart c.nodes S ns number numbers m n s t e
-
   leaves_in_S : All S (latch_leaves c.latchs)
   leaves_in_S = All-map S (λ (l : AigLatch). l.input) c.latchs (All-weaker (IsLatchIn S) (λ l. S l.input) (λ l h. h.leaf) c.latchs speaks.latchs)
 
@@ -80,7 +77,7 @@ module _ (c : Circuit) (S : ℕ → Type 0) (ns : List ℕ) (number : ℕ → �
   leaves_apart : All (λ n. ¬ Contains (map number c.inputs) n) (map number (latch_leaves c.latchs))
   leaves_apart = All-map (λ n. ¬ Contains (map number c.inputs) n) number (latch_leaves c.latchs) (λ k d h has.
       let input = Contains-map_back number c.inputs (number (get_or (latch_leaves c.latchs) k d)) has in
-      let same = apart input.0 (get_or (latch_leaves c.latchs) k d) (All-contains S c.inputs input.0 speaks.inputs input.1) (leaves_in_S k d h) input.2 in
+      let same = number-apart c.nodes S ns number numbers input.0 (get_or (latch_leaves c.latchs) k d) (All-contains S c.inputs input.0 speaks.inputs input.1) (leaves_in_S k d h) input.2 in
       is.apart k d h (subst (Contains c.inputs) same input.1))
 
   names_in_S : All (λ (e : ℕ × List ℕ). S e.0) (entries c.names)
@@ -91,9 +88,9 @@ module _ (c : Circuit) (S : ℕ → Type 0) (ns : List ℕ) (number : ℕ → �
   IsCircuit-renumbered = record {
     nodes = AreNodes-made c.nodes S ns number numbers is.nodes;
     inputs = All-map (IsLeaf new) number c.inputs (λ k d h. leaf (get_or c.inputs k d) (speaks.inputs k d h) (is.inputs k d h));
-    inputs_distinct = AllPairs-map_numbers S number c.inputs apart speaks.inputs is.inputs_distinct;
+    inputs_distinct = AllPairs-map_numbers S number c.inputs (number-apart c.nodes S ns number numbers) speaks.inputs is.inputs_distinct;
     latchs = latchs_are;
-    latchs_distinct = subst (AllPairs (λ m n. m ≢ n)) (sym (latch_leaves-map number c.latchs)) (AllPairs-map_numbers S number (latch_leaves c.latchs) apart leaves_in_S is.latchs_distinct);
+    latchs_distinct = subst (AllPairs (λ m n. m ≢ n)) (sym (latch_leaves-map number c.latchs)) (AllPairs-map_numbers S number (latch_leaves c.latchs) (number-apart c.nodes S ns number numbers) leaves_in_S is.latchs_distinct);
     apart = subst (All (λ n. ¬ Contains (map number c.inputs) n)) (sym (latch_leaves-map number c.latchs)) leaves_apart;
     outputs = edges_in_range c.outputs speaks.outputs;
     bads = edges_in_range c.bads speaks.bads;

@@ -12,8 +12,10 @@ use Rattle.std.proofs.lemmas.Bool.{eqb-true, eqb-false, eq-eqb, ne_eqb, false≢
 use Rattle.std.proofs.lemmas.Option.{none-some}
 use Rattle.std.proofs.lemmas.Map.Lookups.{map_keys}
 use Rattle.aig_circuit.specs.View.{names_of}
-use Rattle.aig_circuit.proofs.Names.{names_insert, same_test}
-use Rattle.aig_renumber.specs.Numbers.{IsIndex, TellsApart, renumbered_names}
+use Rattle.aig_base.proofs.Mapping.{same_test}
+use Rattle.aig_circuit.proofs.Names.{names_insert}
+use Rattle.aig_circuit.specs.Reencode.{renumbered_names}
+use Rattle.aig_renumber.specs.Numbers.{IsIndex, TellsApart}
 use Rattle.aig_renumber.proofs.Places.{All-from_map, map-same}
 
 -- entries of names, by their bytes

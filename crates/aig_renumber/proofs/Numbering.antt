@@ -11,7 +11,7 @@ use Rattle.aig_circuit.specs.Node.{kind_at, FitsBelow, IsOrdered, and_of}
 use Rattle.aig_circuit.specs.Circuit.{AreNodes, IsLeaf}
 use Rattle.aig_circuit.specs.Reencode.{nodes_in_order, renumbered_edge, renumbered_kind}
 use Rattle.aig_circuit.proofs.Trees.{kind_at-there, kind_at-within}
-use Rattle.aig_circuit.proofs.Building.{and_of-cases, FitsBelow-and_of}
+use Rattle.aig_circuit.proofs.Building.{and_of-cases, and_of-not_false, FitsBelow-and_of}
 use Rattle.aig_renumber.proofs.Values.{Renumbers}
 
 -- ---- the nodes, place by place
@@ -69,12 +69,6 @@ pub record Numbers (nodes : List AigNode) (S : ℕ → Type 0) (ns : List ℕ) (
   pub operands : (n : ℕ) (a b : AigEdge) → S n → kind_at nodes n ≡ Some (And a b) → S a.node_id × S b.node_id
   pub first_before : (n : ℕ) (a b : AigEdge) → S n → kind_at nodes n ≡ Some (And a b) → number a.node_id < number n
   pub second_before : (n : ℕ) (a b : AigEdge) → S n → kind_at nodes n ≡ Some (And a b) → number b.node_id < number n
-
-and_of-not_false : (a b : AigEdge) → and_of a b ≡ False → ⊥
-and_of-not_false a b e = elim (and_of-cases a b) [ inl p ↦ not_false b a (sym p.0 ∙ e) | inr p ↦ not_false a b (sym p.0 ∙ e) ]
-  where
-    not_false : (a b : AigEdge) → And a b ≡ False → ⊥
-    not_false a b e = cc
 
 and_of-not_leaf : (a b : AigEdge) → and_of a b ≡ Leaf → ⊥
 and_of-not_leaf a b e = elim (and_of-cases a b) [ inl p ↦ not_leaf b a (sym p.0 ∙ e) | inr p ↦ not_leaf a b (sym p.0 ∙ e) ]

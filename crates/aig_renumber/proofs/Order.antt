@@ -18,8 +18,8 @@ use Rattle.aig_circuit.specs.Node.{IsAnd, kind_at, is_gate}
 use Rattle.aig_circuit.specs.Circuit.{Circuit, IsCircuit, IsClosed, IsLeaf, latch_leaves}
 use Rattle.aig_circuit.specs.Reencode.{gate_number, new_number, order_of}
 use Rattle.aig_circuit.proofs.Trees.{kind_at-there, kind_at-within}
-use Rattle.aig_circuit.proofs.Circuits.{AreLeaves-of_circuit}
-use Rattle.aig_renumber.proofs.Places.{AllPairs-append, AllPairs-weaker, place_of-within, get_or-place_of, place_of-get_or}
+use Rattle.aig_circuit.proofs.Circuits.{AllPairs-append, AreLeaves-of_circuit}
+use Rattle.aig_renumber.proofs.Places.{AllPairs-weaker, place_of-within, get_or-place_of, place_of-get_or}
 use Rattle.aig_renumber.proofs.Numbering.{Numbers}
 
 -- node n is a gate

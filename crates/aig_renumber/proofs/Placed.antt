@@ -15,9 +15,10 @@ use Rattle.aig_circuit.specs.Node.{kind_at, and_of}
 use Rattle.aig_circuit.specs.Circuit.{Circuit, IsCircuit, IsClosed, IsInRange, IsLeaf, latch_leaves}
 use Rattle.aig_circuit.specs.Runs.{AreAsLong, KeepsRuns}
 use Rattle.aig_circuit.specs.Reencode.{IsPlaced, gate_number, new_number, nodes_in_order, order_of, reencoded, renumbered_edge, renumbered_kind, renumbered_latch}
+use Rattle.aig_circuit.proofs.Circuits.{AllPairs-append}
 use Rattle.aig_circuit.proofs.Trees.{by_smaller, kind_at-within}
 use Rattle.aig_circuit.proofs.Building.{and_of-cases}
-use Rattle.aig_renumber.proofs.Places.{AllPairs-append, map-same, rising_from}
+use Rattle.aig_renumber.proofs.Places.{map-same, rising_from}
 use Rattle.aig_renumber.proofs.Numbering.{get-nodes_in_order, length-nodes_in_order, node_in_order}
 use Rattle.aig_renumber.proofs.Names.{names-kept, names_in_circuit}
 use Rattle.aig_renumber.proofs.Circuits.{AreAsLong-renumbered, IsCircuit-renumbered, IsClosed-renumbered, KeepsRuns-renumbered, SpeaksOf-nodes, leaves-map}

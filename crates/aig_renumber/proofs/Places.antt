@@ -1,9 +1,9 @@
 -- Lists without repetition, and the places of their entries.
-use Rattle.std.proofs.Common.{◌≡◌, ◌≢◌, ℕ, zero, suc, ◌+◌, ◌<◌, ◌≤◌, Bool, true, false, cond, eqb, List, [], ◌∷◌, ◌++◌, length, map, get_or, refl, ap, subst, ◌∙◌, arith, inl, inr, add-one, length-append, ◌-◌}
+use Rattle.std.proofs.Common.{◌≡◌, ◌≢◌, ℕ, zero, suc, ◌+◌, ◌<◌, ◌≤◌, Bool, true, false, cond, eqb, List, [], ◌∷◌, length, map, get_or, refl, ap, subst, ◌∙◌, arith, add-one}
 use Rattle.std.specs.Prelude.{All, AllPairs, Contains}
 use Rattle.std.specs.List.{AllZip}
-use Rattle.std.proofs.lemmas.Bool.{eqb-true, eqb-false, eq-eqb, ne_eqb, cases_lt}
-use Rattle.std.proofs.lemmas.List.{get_or_append_left, get_or-map, length-map, get_or-append_right}
+use Rattle.std.proofs.lemmas.Bool.{eqb-true, eqb-false, eq-eqb, ne_eqb}
+use Rattle.std.proofs.lemmas.List.{get_or-map, length-map}
 use Rattle.aig_circuit.specs.Reencode.{place_of}
 
 -- ---- the place of an entry
@@ -58,24 +58,8 @@ rising_from v (m ∷ ms) rises above (suc k) h =
 
 -- ---- pairs
 
-module _ {X : Type 0} (R : X → X → Type 0) where
-  -- pairs of the first list, of the second, and of one entry each
-  pub AllPairs-append : (xs ys : List X) → AllPairs R xs → AllPairs R ys → All (λ x. All (R x) ys) xs → AllPairs R (xs ++ ys)
-  AllPairs-append xs ys p q across i j d h l = elim (cases_lt j (length xs)) [
-    | inl left ↦ (
-        let first : i < length xs = omega arith in
-        rw (get_or_append_left xs ys d i first, get_or_append_left xs ys d j left) (p i j d h left))
-    | inr past ↦ (
-        let second : j - length xs < length ys = omega (arith, length-append xs ys) in
-        rw (get_or-append_right xs ys (length xs) j d refl past)
-        (elim (cases_lt i (length xs)) [
-          | inl left ↦ rw (get_or_append_left xs ys d i left) (across i d left (j - length xs) d second)
-          | inr later ↦ rw (get_or-append_right xs ys (length xs) i d refl later) (q (i - length xs) (j - length xs) d (omega arith) second)
-        ]))
-  ]
-
-  pub AllPairs-weaker : (S : X → X → Type 0) (xs : List X) → ((x y : X) → R x y → S x y) → AllPairs R xs → AllPairs S xs
-  AllPairs-weaker S xs w p i j d h l = w (get_or xs i d) (get_or xs j d) (p i j d h l)
+pub AllPairs-weaker : {X : Type 0} (R S : X → X → Type 0) (xs : List X) → ((x y : X) → R x y → S x y) → AllPairs R xs → AllPairs S xs
+AllPairs-weaker R S xs w p i j d h l = w (get_or xs i d) (get_or xs j d) (p i j d h l)
 
 -- ---- maps
 

@@ -3,9 +3,9 @@ use Rattle.std.proofs.Common.{◌≡◌, ℕ, ◌<◌, List, length, sym, ap, su
 use Rattle.std.specs.Prelude.{slice_index}
 use Rattle.aig_circuit.specs.declared.node.AigNodeType.TheVariants.{And}
 use Rattle.aig_circuit.specs.Circuit.{Circuit, IsCircuit, IsClosed}
-use Rattle.aig_circuit.specs.Reencode.{new_number, order_of, reencoded}
+use Rattle.aig_circuit.specs.Reencode.{new_number, order_of, reencoded, renumbered_circuit}
 use Rattle.aig_circuit.proofs.Trees.{kind_at-within}
-use Rattle.aig_renumber.specs.Numbers.{IsIndex, SpeaksOf, TellsApart, renumbered_circuit}
+use Rattle.aig_renumber.specs.Numbers.{IsIndex, SpeaksOf, TellsApart}
 use Rattle.aig_renumber.proofs.Agreeing.{circuits-agree}
 use Rattle.aig_renumber.proofs.Circuits.{SpeaksOf-nodes}
 use Rattle.aig_renumber.proofs.Numbering.{number-apart}

@@ -1,11 +1,10 @@
 -- Lists and names under other numbers. A table gives the new number of node n at place n.
-use Rattle.std.specs.Prelude.{◌≡◌, ℕ, ◌<◌, IfSome, IsTrue, List, All, length, map, slice_index}
-use Rattle.std.specs.Ordering.{nat_cmp}
-use Rattle.std.specs.FinMap.{FinMap, contains_key, entries, from_entries}
+-- (For the numbering of AIGER format 20071012, "Binary encoding".)
+use Rattle.std.specs.Prelude.{◌≡◌, ℕ, ◌<◌, IfSome, IsTrue, List, All, length, slice_index}
+use Rattle.std.specs.FinMap.{contains_key}
 use Rattle.aig_circuit.specs.declared.edge.AigEdge.{AigEdge}
 use Rattle.aig_circuit.specs.declared.node.AigLatch.{AigLatch}
 use Rattle.aig_circuit.specs.Circuit.{Circuit}
-use Rattle.aig_circuit.specs.Reencode.{nodes_in_order, renumbered_edge, renumbered_latch}
 
 -- the table has a number for node n
 abbrev pub IsIndex : List ℕ → ℕ → Type 0
@@ -35,23 +34,3 @@ pub record SpeaksOf (S : ℕ → Type 0) (c : Circuit) : Type 0 where
   pub justice : All (All (IsEdgeIn S)) c.justice
   pub fairness : All (IsEdgeIn S) c.fairness
   pub named : (n : ℕ) → IsTrue (contains_key c.names n) → S n
-
--- the names under the new numbers
-abbrev pub renumbered_names : (ℕ → ℕ) → FinMap nat_cmp (List ℕ) → FinMap nat_cmp (List ℕ)
-renumbered_names number names = from_entries (map (λ entry. (number entry.0, entry.1)) (entries names))
-
--- the circuit of the nodes of these numbers, in their order, with all lists and names under the new numbers
-abbrev pub renumbered_circuit : (ℕ → ℕ) → List ℕ → Circuit → Circuit
-renumbered_circuit number ns c =
-    let edges = map (renumbered_edge number) in
-    record {
-      nodes = nodes_in_order c.nodes number 0 ns;
-      inputs = map number c.inputs;
-      latchs = map (renumbered_latch number) c.latchs;
-      outputs = edges c.outputs;
-      bads = edges c.bads;
-      constraints = edges c.constraints;
-      justice = map edges c.justice;
-      fairness = edges c.fairness;
-      names = renumbered_names number c.names;
-    }

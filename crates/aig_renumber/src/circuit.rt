@@ -3,7 +3,8 @@
 ghost use Rattle.std.specs.Prelude.{◌≡◌, ◌<◌, ℕ, IfOk, All, length, slice_index};
 ghost use Rattle.aig_circuit.specs.Circuit.{AreNodes};
 ghost use Rattle.aig_circuit.specs.View.{lists_circuit, view_circuit};
-ghost use Rattle.aig_renumber.specs.Numbers.{IsIndex, SpeaksOf, TellsApart, renumbered_circuit};
+ghost use Rattle.aig_circuit.specs.Reencode.{renumbered_circuit};
+ghost use Rattle.aig_renumber.specs.Numbers.{IsIndex, SpeaksOf, TellsApart};
 
 use crate::lists;
 use crate::nodes::nodes_in_order;

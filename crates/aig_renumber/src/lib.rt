@@ -1,4 +1,4 @@
-//! Circuits with other numbers for their nodes.
+//! Circuits with other numbers for their nodes, as a binary file of AIGER has them.
 #![tactic(auto)]
 
 mod circuit;

@@ -1,9 +1,9 @@
 //! Lists and names under other numbers. A table gives the new number of node `n` at place `n`.
 
 ghost use Rattle.std.specs.Prelude.{◌≡◌, IfOk, All, map, slice_index};
-ghost use Rattle.aig_circuit.specs.Reencode.{renumbered_edge, renumbered_latch};
+ghost use Rattle.aig_circuit.specs.Reencode.{renumbered_edge, renumbered_latch, renumbered_names};
 ghost use Rattle.aig_circuit.specs.View.{names_of};
-ghost use Rattle.aig_renumber.specs.Numbers.{IsEdgeIn, IsIndex, IsLatchIn, TellsApart, renumbered_names};
+ghost use Rattle.aig_renumber.specs.Numbers.{IsEdgeIn, IsIndex, IsLatchIn, TellsApart};
 
 use aig_base::MemoryError;
 use aig_circuit::{AigEdge, AigLatch};
@@ -71,10 +71,7 @@ fn latch(numbers: &[usize], old: AigLatch) -> AigLatch
     requires { IsLatchIn (IsIndex numbers.now) old }
     ensures { result ≡ renumbered_latch (slice_index numbers.now) old }
 {
-    let init = match old.init() {
-        Some(e) => Some(edge(numbers, e)),
-        None => None,
-    };
+    let init = old.init().map(|e| edge(numbers, e));
     AigLatch::new(numbers[old.input()], edge(numbers, old.next()), init)
 }
 

@@ -1,4 +1,4 @@
-//! The numbering of the binary form.
+//! The numbering of the binary form (AIGER format 20071012, "Binary encoding").
 
 ghost use Rattle.std.specs.Prelude.{◌≡◌, ◌≢◌, ◌<◌, ◌++◌, ℕ, IfOk, All, AllPairs, length, filter_map, slice_index};
 ghost use Rattle.aig_circuit.specs.Circuit.{IsCircuit, IsClosed, latch_leaves};
@@ -10,8 +10,9 @@ use aig_base::MemoryError;
 use aig_circuit::{AigLatch, AigNode, CircuitLists, CircuitView};
 use std::alloc::Global;
 
-/// The circuit with inputs numbered first in their order, then latches in theirs, then gates in rising number.
-/// Operands are put in order again, and lists and names follow.
+/// The closed circuit with inputs numbered first in their order, then latches in theirs, then gates in rising number
+/// (AIGER format 20071012, "Binary encoding"; crate aig, `reencode`). Operands are put in order again, and lists and
+/// names follow. The one error is refused memory.
 pub fn reencode(alloc: Global, circuit: &CircuitView<'_>) -> Result<CircuitLists, MemoryError>
     requires circuit { IsCircuit (view_circuit circuit.now) }
     requires closed { IsClosed (view_circuit circuit.now) }

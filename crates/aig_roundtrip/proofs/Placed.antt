@@ -1,5 +1,5 @@
 -- A circuit whose inputs, latches and gates are numbered in this order has a binary file: each literal is that of its place.
-use Rattle.std.proofs.Common.{◌≡◌, ◌≢◌, ℕ, zero, suc, ◌+◌, ◌-◌, ◌*◌, ◌<◌, ◌≤◌, Option, Some, None, List, [], ◌∷◌, ◌++◌, length, map, refl, sym, ap, subst, ◌∙◌, arith, inl, inr}
+use Rattle.std.proofs.Common.{◌≡◌, ℕ, zero, suc, ◌+◌, ◌-◌, ◌*◌, ◌<◌, ◌≤◌, Some, List, [], ◌∷◌, ◌++◌, length, map, refl, sym, ap, subst, ◌∙◌, arith, inl, inr}
 use Rattle.std.specs.Prelude.{Contains, EachIndex, slice_index}
 use Rattle.std.proofs.lemmas.Option.{same_Some}
 use Rattle.std.proofs.lemmas.Bool.{cases_lt}
@@ -16,7 +16,7 @@ use Rattle.aig_circuit.proofs.Circuits.{AreLeaves-of_circuit}
 use Rattle.aig_circuit.proofs.Trees.{kind_at-there}
 use Rattle.aig_grammar.specs.File.{Binary, defined}
 use Rattle.aig_grammar.specs.Spells.{Placed, places}
-use Rattle.aig_grammar.specs.Circuit.{file_of, gate_line, latch_line}
+use Rattle.aig_grammar.specs.Circuit.{file_of}
 use Rattle.aig_grammar.specs.Writable.{IsWritable}
 use Rattle.aig_roundtrip.proofs.Gates.{AreNumbered, LineCase, has_line, lefts, line_case, lines_for, no_line, numbered_next}
 use Rattle.aig_roundtrip.proofs.Nodes.{numbered}

@@ -1,8 +1,7 @@
 -- A circuit that has a written form has one when it is re-encoded.
-use Rattle.std.proofs.Common.{◌≡◌, ◌≢◌, ℕ, ◌+◌, ◌<◌, ◌≤◌, ◌^◌, Option, Some, None, List, [], ◌∷◌, ◌++◌, length, map, nat_cmp, refl, sym, ap, subst, ◌∙◌, arith}
+use Rattle.std.proofs.Common.{◌≡◌, ℕ, ◌<◌, ◌^◌, Option, Some, None, List, ◌++◌, length, map, refl, sym, ap, subst, ◌∙◌, arith}
 use Rattle.std.specs.Prelude.{All, Contains, IfSome, IsSomeAnd, option_map}
-use Rattle.std.specs.List.{AllZip}
-use Rattle.std.specs.FinMap.{entries, find, get, get-entries, get-from_entries}
+use Rattle.std.specs.FinMap.{entries, get, get-entries, get-from_entries}
 use Rattle.std.proofs.lemmas.Cmp.{nat_cmp_total}
 use Rattle.std.proofs.lemmas.List.{length-map}
 use Rattle.std.proofs.lemmas.List.Elements.{All-contains, All-map, All-weaker, Contains-get_or}
@@ -10,13 +9,13 @@ use Rattle.aig_circuit.specs.declared.edge.AigEdge.{AigEdge}
 use Rattle.aig_circuit.specs.declared.node.AigNodeType.TheVariants.{Leaf}
 use Rattle.aig_circuit.specs.declared.node.AigLatch.{AigLatch}
 use Rattle.aig_circuit.specs.Circuit.{Circuit, IsCircuit, IsLeaf, latch_leaves}
-use Rattle.aig_circuit.specs.Reencode.{new_number, order_of, place_of, reencoded, renumbered_edge, renumbered_latch}
+use Rattle.aig_circuit.specs.Reencode.{new_number, order_of, reencoded, renumbered_edge, renumbered_latch}
 use Rattle.aig_circuit.proofs.Circuits.{AreLeaves-of_circuit}
 use Rattle.aig_circuit.proofs.Trees.{kind_at-within}
 use Rattle.aig_grammar.specs.File.{Binary}
 use Rattle.aig_grammar.specs.Circuit.{IsReadAgain, file_of}
-use Rattle.aig_grammar.specs.Writable.{AreTexts, HasLineFeed, IsPlainStart, IsSmall, IsWritable, list_lengths, named_nodes}
-use Rattle.aig_renumber.proofs.Circuits.{SpeaksOf-nodes, leaves-map}
+use Rattle.aig_grammar.specs.Writable.{AreTexts, HasLineFeed, IsPlainStart, IsWritable, list_lengths, named_nodes}
+use Rattle.aig_renumber.proofs.Circuits.{leaves-map}
 use Rattle.aig_renumber.proofs.Names.{found_back, names_in_circuit}
 use Rattle.aig_renumber.proofs.Numbering.{number-apart}
 use Rattle.aig_renumber.proofs.Order.{Numbers-order}

@@ -8,8 +8,6 @@ pub mod literal;
 mod names;
 mod put;
 mod sections;
-#[cfg(test)]
-mod tests;
 
 pub use block::Block;
 pub use form::{write_binary, write_text};

@@ -1,3 +1,5 @@
+//! The commands, and the words that give them.
+
 ghost use Rattle.std.specs.Prelude.{◌≡◌, ◌≤◌, IfSome, length};
 ghost use Rattle.aigtool.specs.Commands.{IsOneStep};
 
@@ -17,16 +19,13 @@ fn steps(word: &str) -> Option<usize> {
     if !word.bytes().all(|b| b.is_ascii_digit()) {
         return None;
     }
-    match word.parse::<u32>() {
-        Ok(k) => Some(k as usize),
-        Err(_) => None,
-    }
+    word.parse::<u32>().ok().map(|k| k as usize)
 }
 
 /// The command that the words after the program's name give, or none where they are wrong.
 ///
-/// The word behind the command's name is FILE, and the word behind that of `binary` is OUT. No steps but 0 and no optimised clauses are offered yet. It takes no
-/// memory.
+/// The word behind the command's name is FILE, and the word behind that of `binary` is OUT. No steps but 0 and no
+/// optimised clauses are offered yet. It takes no memory.
 pub fn parse(words: &[String]) -> Option<Command>
     ensures file { IfSome result (λ _. 2 ≤ length words.now) }
     ensures out { IfSome result (λ c. c ≡ Command.Binary → 3 ≤ length words.now) }

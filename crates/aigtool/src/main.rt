@@ -1,4 +1,4 @@
-//! `aigtool`: converts, hashes and encodes the circuits of AIGER files.
+//! `aigtool` prints and converts AIGER files, and prints the clauses of their circuits.
 #![tactic(auto)]
 
 ghost use Rattle.aigtool.specs.Commands.{IsOneStep};
@@ -9,16 +9,17 @@ mod dimacs;
 mod tests;
 mod tool;
 
+use crate::tool::LIMIT;
 use aig::{Aig, ReadError, WriteError};
 use aig_base::{FromRead, ToWrite};
-use command::{Command, parse};
+pub use command::{Command, parse};
 use std::fs::File;
 use std::io::{BufWriter, Write};
 use std::path::Path;
 use std::process::ExitCode;
 use std::rt::{Env, Files};
 use std::{env, io};
-use tool::{LIMIT, ToolError, run};
+pub use tool::{ToolError, run};
 
 const USAGE: &str = "usage: aigtool text FILE, binary FILE OUT, strash FILE, cnf FILE K [raw]";
 
@@ -56,8 +57,8 @@ fn convert(
     file: Path<'_>,
     out: Path<'_>,
 ) -> Result<(), ToolError> {
-    let circuit = Aig::from_file(rt, rt.alloc(), file, LIMIT).map_err(ToolError::Read)?;
-    circuit.to_file(rt, out, false).map_err(ToolError::Write)
+    let circuit = Aig::from_file(rt, rt.alloc(), file, LIMIT)?;
+    Ok(circuit.to_file(rt, out, false)?)
 }
 
 fn main(rt: HostRuntime) -> ExitCode {
@@ -72,7 +73,7 @@ fn main(rt: HostRuntime) -> ExitCode {
     let file = words[1].as_str();
     let done = match command {
         Command::Binary => convert(&rt, Path::new(file), Path::new(words[2].as_str())),
-        _ => execute(&rt, command, file),
+        Command::Text | Command::Cnf { .. } => execute(&rt, command, file),
     };
     match done {
         Ok(()) => ExitCode::SUCCESS,

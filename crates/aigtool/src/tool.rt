@@ -1,14 +1,16 @@
+//! What the commands do with the bytes of a file.
+
 ghost use Rattle.std.specs.Prelude.{◌≤◌, ◌^◌, length};
 ghost use Rattle.aigtool.specs.Commands.{IsOneStep};
 
 use crate::command::Command;
 use crate::dimacs;
 use aig::{Aig, ReadError, WriteError};
-use aig_base::{Sink, Source};
+use aig_base::{MemoryError, Sink, Source, StreamFault};
 use std::alloc::Global;
 use thiserror::Error;
 
-/// How many nodes a circuit that the program reads may have.
+/// The limit on the variables of a file that the program reads, the false one counted.
 pub const LIMIT: usize = 1 << 24;
 
 /// Why the program ends with status 1.
@@ -16,26 +18,33 @@ pub const LIMIT: usize = 1 << 24;
 pub enum ToolError {
     /// FILE was refused.
     #[error("{0}")]
-    Read(ReadError),
+    Read(#[from] ReadError),
     /// Memory ran out outside reading and writing.
     #[error("out of memory")]
     Memory,
     /// The answer wasn't written.
     #[error("{0}")]
-    Write(WriteError),
+    Write(#[from] WriteError),
+}
+
+impl From<MemoryError> for ToolError {
+    fn from(_error: MemoryError) -> ToolError {
+        ToolError::Memory
+    }
+}
+
+impl From<StreamFault> for ToolError {
+    fn from(_fault: StreamFault) -> ToolError {
+        ToolError::Write(WriteError::Stream)
+    }
 }
 
 /// Writes the clauses of a circuit in DIMACS form.
 fn write_clauses<W: Sink>(circuit: &Aig, optimize: bool, w: &mut W) -> Result<(), ToolError>
     requires { length circuit.now.nodes ≤ 2 ^ 31 }
 {
-    let Ok(clauses) = circuit.cnf(optimize) else {
-        return Err(ToolError::Memory);
-    };
-    match dimacs::write(w, &clauses) {
-        Ok(()) => Ok(()),
-        Err(_) => Err(ToolError::Write(WriteError::Stream)),
-    }
+    let clauses = circuit.cnf(optimize)?;
+    Ok(dimacs::write(w, &clauses)?)
 }
 
 /// Reads FILE's bytes from `r`, and writes to `w` what the command prints, or for `Binary` what it puts into OUT.
@@ -47,10 +56,10 @@ pub fn run<R: Source, W: Sink>(
 ) -> Result<(), ToolError>
     requires { IsOneStep c }
 {
-    let circuit = Aig::from_aiger(alloc, r, LIMIT).map_err(ToolError::Read)?;
+    let circuit = Aig::from_aiger(alloc, r, LIMIT)?;
     match c {
-        Command::Text => circuit.write_text(w).map_err(ToolError::Write),
-        Command::Binary => circuit.write_binary(w).map_err(ToolError::Write),
+        Command::Text => Ok(circuit.write_text(w)?),
+        Command::Binary => Ok(circuit.write_binary(w)?),
         Command::Cnf { optimize, .. } => write_clauses(&circuit, optimize, w),
     }
 }

@@ -137,7 +137,7 @@ impl Aig {
         ensures same { self.new ≡ record self.old { nodes = self.new.nodes } }
         ensures err { OnErr result (self.new ≡ self.old) }
     {
-        let edges = taken(*self.nodes.allocator(), fanin)?;
+        let edges = taken(self.allocator(), fanin)?;
         build::gates_of_list(&mut self.nodes, &edges)
     }
 
@@ -155,7 +155,7 @@ impl Aig {
         ensures same { self.new ≡ record self.old { nodes = self.new.nodes } }
         ensures err { OnErr result (self.new ≡ self.old) }
     {
-        let edges = taken(*self.nodes.allocator(), fanin)?;
+        let edges = taken(self.allocator(), fanin)?;
         build::and_of_list(&mut self.nodes, &edges)
     }
 
@@ -173,7 +173,7 @@ impl Aig {
         ensures same { self.new ≡ record self.old { nodes = self.new.nodes } }
         ensures err { OnErr result (self.new ≡ self.old) }
     {
-        let edges = taken_inverted(*self.nodes.allocator(), fanin)?;
+        let edges = taken_inverted(self.allocator(), fanin)?;
         Ok(!build::gates_of_list(&mut self.nodes, &edges)?)
     }
 
@@ -191,7 +191,7 @@ impl Aig {
         ensures same { self.new ≡ record self.old { nodes = self.new.nodes } }
         ensures err { OnErr result (self.new ≡ self.old) }
     {
-        let edges = taken_inverted(*self.nodes.allocator(), fanin)?;
+        let edges = taken_inverted(self.allocator(), fanin)?;
         Ok(!build::and_of_list(&mut self.nodes, &edges)?)
     }
 }

@@ -23,7 +23,7 @@ impl Aig {
         ensures ok { OnOk result (self.new ≡ record self.old { names = insert self.old.names id name.now }) }
         ensures err { OnErr result (self.new ≡ self.old) }
     {
-        let text = String::from_str(*self.nodes.allocator(), name)?;
+        let text = String::from_str(self.allocator(), name)?;
         self.symbols.insert(id, text)?;
         Ok(())
     }

@@ -1,107 +1,295 @@
-use super::{AND, LIMIT, read, read_parts};
-use aig::{AigEdge, AigNodeType, ReadError, Section};
+//! Files that are read, and files that are refused, however their bytes are cut.
+
+ghost use Rattle.std.specs.Prelude.{◌<◌, ◌≤◌, ◌^◌};
+
+use super::writing::text_of;
+use super::{AND, BINARY_AND, LIMIT, PIECES, read_parts};
+use aig::{Aig, ReadError, Section};
+use aig_base::Parts;
+use std::alloc::Global;
+use std::process::Abort;
 use std::test::Fail;
 
-#[test]
-fn reads_an_and(rt: HostRuntime) -> Result<(), Fail> {
-    for text in [AND, "aag 3 2 0 1 1\n2\n4\n6\n6 2 4\n"] {
-        let circuit = read(rt.alloc(), text)??;
-        assert_eq!(rt; circuit.num_nodes(), 4);
-        assert_eq!(rt; circuit.inputs(), [1, 2].as_slice());
-        assert_eq!(rt; circuit.outputs(), [AigEdge::from(3)].as_slice());
-        assert!(rt; circuit.has_node(3));
-        let gate = &circuit[3];
-        assert!(rt; gate.is_and());
-        assert_eq!(rt; gate.fanin(), (AigEdge::from(1), AigEdge::from(2)));
-        assert!(rt; circuit.is_closed());
+/// The bytes are read, and their circuit is printed as this text, wherever they are cut.
+fn are_read(rt: &impl Abort, alloc: Global, bytes: &[u8], text: &str) -> Result<(), Fail> {
+    for p in PIECES {
+        let circuit = read_parts(alloc, bytes, p, None, LIMIT)??;
+        assert_eq!(rt; text_of(alloc, &circuit)?.as_str(), text, "by {p}");
+    }
+    Ok(())
+}
+
+/// The bytes are refused so, wherever they are cut.
+fn are_refused(
+    rt: &impl Abort,
+    alloc: Global,
+    bytes: &[u8],
+    limit: usize,
+    fault: ReadError,
+) -> Result<(), Fail>
+    requires some { 1 ≤ limit }
+    requires few { limit ≤ 2 ^ 31 }
+{
+    for p in PIECES {
+        let refused = read_parts(alloc, bytes, p, None, limit)?.err();
+        assert_eq!(rt; refused, Some(fault), "{bytes:?} by {p}");
     }
     Ok(())
 }
 
 #[test]
-fn reads_a_latch(rt: HostRuntime) -> Result<(), Fail> {
-    let circuit = read(rt.alloc(), "aag 1 0 1 1 0\n2 3\n2\n")??;
-    assert_eq!(rt; circuit.latchs().len(), 1);
-    assert_eq!(rt; circuit.latchs()[0].input(), 1);
-    assert_eq!(rt; circuit.latchs()[0].next(), !AigEdge::from(1));
-    assert_eq!(rt; circuit.latchs()[0].init(), Some(AigEdge::constant(false)));
-    assert_eq!(rt; circuit.outputs(), [AigEdge::from(1)].as_slice());
-    Ok(())
-}
-
-#[test]
-fn reads_at_the_limit(rt: HostRuntime) -> Result<(), Fail> {
-    assert_eq!(rt;
-        read_parts(rt.alloc(), "aag 0 0 0 0 0\n", 1, None, 1)??.num_nodes(),
-        1
-    );
-    let many = read_parts(rt.alloc(), "aag 4000 4000 0 0 0\n", 4096, None, 100)?;
-    assert_eq!(rt; many.err(), Some(ReadError::TooMany));
-    let huge = read_parts(rt.alloc(), "aag 0 0 0 4294967295 0\n0\n", 4096, None, 10)?;
-    assert_eq!(rt; huge.err(), Some(ReadError::Syntax(Section::Outputs)));
-    Ok(())
-}
-
-#[test]
-fn refuses_by_name(rt: HostRuntime) -> Result<(), Fail> {
-    let rows = [
-        ("", ReadError::Header),
-        ("aag 0 0 0 0 0\r\n", ReadError::Header),
-        ("aag  0 0 0 0 0\n", ReadError::Header),
-        ("aag 4294967296 0 0 0 0\n", ReadError::Header),
-        ("aag 0 4294967295 1 0 0\n", ReadError::Header),
-        ("aag 2 1 0 0 0\n2\n", ReadError::Header),
-        ("aag 0 0 0 0 0 0 0 0 0 0\n", ReadError::Header),
-        ("aag 1 1 0 0 0\n2", ReadError::Syntax(Section::Inputs)),
-        ("aag 1 1 0 0 0\n2 \n", ReadError::Syntax(Section::Inputs)),
-        (
-            "aag 1 1 0 0 0\n4294967296\n",
-            ReadError::Syntax(Section::Inputs),
-        ),
-        (
-            "aag 1 0 1 0 0\n2 3 2 0\n",
-            ReadError::Syntax(Section::Latches),
-        ),
-        (
-            "aag 1 0 1 0 0\n2 3 4\n",
-            ReadError::Literal(Section::Latches),
-        ),
-        ("aag 1 1 0 0 0\n3\n", ReadError::Literal(Section::Inputs)),
-        ("aag 2 2 0 0 0\n2\n2\n", ReadError::Literal(Section::Inputs)),
-        ("aag 1 1 0 0 0\n4\n", ReadError::Literal(Section::Inputs)),
-        (
-            "aag 1 1 0 1 0\n2\n4\n",
-            ReadError::Literal(Section::Outputs),
-        ),
-        (
-            "aag 2 1 0 0 1\n2\n4 4 2\n",
-            ReadError::Literal(Section::Gates),
-        ),
-        (
-            "aag 3 1 0 0 2\n2\n6 2 2\n4 2 2\n",
-            ReadError::Literal(Section::Gates),
-        ),
-        ("aag 0 0 0 0 0\nx", ReadError::Name),
+fn reads_gates_and_latches(rt: HostRuntime) -> Result<(), Fail> {
+    let rows: [(&[u8], &str); 15] = [
+        (b"aag 0 0 0 0 0\n", "aag 0 0 0 0 0\n"),
+        (AND.as_bytes(), AND),
+        (b"aag 3 2 0 1 1\n2\n4\n6\n6 2 4\n", AND),
+        (b"aag 1 01 0 0 0\n02\n", "aag 1 1 0 0 0\n2\n"),
+        (b"aag 2 2 0 1 0\n4\n2\n2\n", "aag 2 2 0 1 0\n4\n2\n2\n"),
+        (b"aag 1 0 1 1 0\n2 3\n2\n", "aag 1 0 1 1 0\n2 3\n2\n"),
+        (b"aag 1 0 1 1 0\n2 3 0\n2\n", "aag 1 0 1 1 0\n2 3\n2\n"),
+        (b"aag 1 0 1 1 0\n2 3 1\n2\n", "aag 1 0 1 1 0\n2 3 1\n2\n"),
+        (b"aag 1 0 1 1 0\n2 3 2\n2\n", "aag 1 0 1 1 0\n2 3 2\n2\n"),
+        (b"aig 2 2 0 0 0\n", "aag 2 2 0 0 0\n2\n4\n"),
+        (BINARY_AND, AND),
+        (b"aig 3 2 0 1 1\n6\n\x82\x00\x02", AND),
+        (b"aig 3 2 0 1 1\n6\n\x82\x80\x80\x80\x00\x02", AND),
+        (b"aig 1 0 1 1 0\n3\n2\n", "aag 1 0 1 1 0\n2 3\n2\n"),
+        (b"aig 1 0 1 1 0\n3 2\n2\n", "aag 1 0 1 1 0\n2 3 2\n2\n"),
     ];
-    for (text, fault) in rows {
-        assert_eq!(rt; read(rt.alloc(), text)?.err(), Some(fault), "of {text:?}");
-        assert_eq!(rt;
-            read_parts(rt.alloc(), text, 1, None, LIMIT)?.err(),
-            Some(fault),
-            "of {text:?} in single bytes"
-        );
+    for (bytes, text) in rows {
+        are_read(&rt, rt.alloc(), bytes, text)?;
     }
     Ok(())
 }
 
 #[test]
-fn tells_a_failed_read(rt: HostRuntime) -> Result<(), Fail> {
-    for j in 0..=AND.len() {
-        let refused = read_parts(rt.alloc(), AND, 1, Some(j), LIMIT)?;
-        assert_eq!(rt; refused.err(), Some(ReadError::Stream), "after {j} bytes");
+fn reads_properties_names_and_comments(rt: HostRuntime) -> Result<(), Fail> {
+    let rows: [(&str, &str); 12] = [
+        (
+            "aag 2 2 0 0 0 1 1 2 1\n2\n4\n1\n4\n2\n1\n2\n5\n4\n3\n",
+            "aag 2 2 0 0 0 1 1 2 1\n2\n4\n1\n4\n2\n1\n2\n5\n4\n3\n",
+        ),
+        (
+            "aag 2 2 0 0 0 0 0 2 1\n2\n4\n2\n1\n2\n5\n4\n3\n",
+            "aag 2 2 0 0 0 0 0 2 1\n2\n4\n2\n1\n2\n5\n4\n3\n",
+        ),
+        ("aag 0 0 0 1 0 0 0 0 0\n1\n", "aag 0 0 0 1 0\n1\n"),
+        ("aag 0 0 0 0 0 0 0 1\n0\n", "aag 0 0 0 0 0 0 0 1\n0\n"),
+        ("aag 0 0 0 0 0\nc", "aag 0 0 0 0 0\n"),
+        ("aag 0 0 0 0 0\nc 0 x\n", "aag 0 0 0 0 0\n"),
+        ("aag 0 0 0 0 0\ncx0", "aag 0 0 0 0 0\n"),
+        ("aag 1 1 0 0 0\n2\ncnote", "aag 1 1 0 0 0\n2\n"),
+        ("aag 1 1 0 0 0\n2\ni0 \n", "aag 1 1 0 0 0\n2\ni0 \n"),
+        ("aag 1 1 0 0 0\n2\ni0 é\n", "aag 1 1 0 0 0\n2\ni0 é\n"),
+        (
+            "aag 3 2 1 1 0\n4\n2\n6 6\n2\ni1 b\ni0 a\no0 out\nl0 é\r\ncomment\ni0 again\n",
+            "aag 3 2 1 1 0\n4\n2\n6 6\n2\ni0 a\ni1 b\nl0 é\r\n",
+        ),
+        (
+            "aig 3 2 0 1 1\n6\n\x02\x02i0 x\ncmade here",
+            "aag 3 2 0 1 1\n2\n4\n6\n6 4 2\ni0 x\n",
+        ),
+    ];
+    for (bytes, text) in rows {
+        are_read(&rt, rt.alloc(), bytes.as_bytes(), text)?;
     }
-    assert!(rt; read_parts(rt.alloc(), AND, 1, Some(AND.len() + 1), LIMIT)?.is_ok());
+    are_read(
+        &rt,
+        rt.alloc(),
+        b"aag 0 0 0 1 0 1 1 1 1\n0\n0\n0\n0\n0\no0 \xff\xfe\nb0 a\nc0 a\nj0 a\nf0 a\n",
+        "aag 0 0 0 1 0 1 1 1 1\n0\n0\n0\n0\n0\n",
+    )
+}
+
+#[test]
+fn reads_what_is_longer_than_a_buffer(rt: HostRuntime) -> Result<(), Fail> {
+    let alloc = rt.alloc();
+    let mut zeros = b"aag ".to_vec(alloc)?;
+    zeros.resize(5_004, b'0')?;
+    zeros.extend_from_slice(b" 0 0 0 0\n")?;
+    are_read(&rt, alloc, &zeros, "aag 0 0 0 0 0\n")?;
+
+    let mut named = String::from_str(alloc, "aag 1 1 0 0 0\n2\ni0 ")?;
+    for _ in 0..10_000 {
+        named.push('a')?;
+    }
+    named.push('\n')?;
+    are_read(&rt, alloc, named.as_bytes(), named.as_str())?;
+
+    let mut comment = AND.as_bytes().to_vec(alloc)?;
+    comment.push(b'c')?;
+    comment.resize(1_000_027, 0)?;
+    are_read(&rt, alloc, &comment, AND)
+}
+
+#[test]
+fn refuses_headers(rt: HostRuntime) -> Result<(), Fail> {
+    let rows: [&[u8]; 13] = [
+        b"",
+        b"aag",
+        b"big 0 0 0 0 0\n",
+        b"aag 0 0 0 0 0 \n",
+        b"aig 0 0 0 0 0",
+        b"aag 0 0 0 0 0\r\n",
+        b"aag  0 0 0 0 0\n",
+        b"aag 4294967296 0 0 0 0\n",
+        b"aag 0 4294967295 1 0 0\n",
+        b"aag 2 1 0 0 0\n2\n",
+        b"aag 3 1 0 0 1\n2\n6 2 2\n",
+        b"aag 0 0 0 0\n",
+        b"aag 0 0 0 0 0 0 0 0 0 0\n",
+    ];
+    for bytes in rows {
+        are_refused(&rt, rt.alloc(), bytes, LIMIT, ReadError::Header)?;
+    }
+    are_refused(
+        &rt,
+        rt.alloc(),
+        b"aag 4000 4000 0 0 0\n",
+        100,
+        ReadError::TooMany,
+    )?;
+    are_refused(
+        &rt,
+        rt.alloc(),
+        b"aig 4294967295 4294967295 0 0 0\n",
+        LIMIT,
+        ReadError::TooMany,
+    )?;
+    let least = read_parts(rt.alloc(), b"aag 0 0 0 0 0\n", 1, None, 1)??;
+    assert_eq!(rt; least.num_nodes(), 1);
     Ok(())
+}
+
+// Also where a section has a count of entries that no memory holds.
+#[test]
+fn refuses_lines(rt: HostRuntime) -> Result<(), Fail> {
+    let rows: [(&[u8], Section); 14] = [
+        (b"aag 1 1 0 0 0\n2", Section::Inputs),
+        (b"aag 1 1 0 0 0\n2 \n", Section::Inputs),
+        (b"aag 1 1 0 0 0\n4294967296\n", Section::Inputs),
+        (b"aag 1 0 1 0 0\n2 3 2 0\n", Section::Latches),
+        (b"aag 1 0 1 0 0\n3 4294967296\n", Section::Latches),
+        (b"aig 1 0 1 0 0\n2 3 2\n", Section::Latches),
+        (b"aag 0 0 0 4294967295 0\n0\n", Section::Outputs),
+        (b"aag 0 0 0 0 0 1\n0 0\n", Section::Bads),
+        (b"aag 0 0 0 0 0 0 1\n", Section::Constraints),
+        (
+            b"aag 0 0 0 0 0 0 0 2\n4294967295\n4294967295\n0\n",
+            Section::Justice,
+        ),
+        (b"aag 0 0 0 0 0 0 0 1\n2 \n", Section::Justice),
+        (b"aag 0 0 0 0 0 0 0 0 1\nx\n", Section::Fairness),
+        (b"aag 1 0 0 0 1\n2 0\n", Section::Gates),
+        (b"aag 1 0 0 0 1\n3 0 0 \n", Section::Gates),
+    ];
+    for (bytes, section) in rows {
+        are_refused(&rt, rt.alloc(), bytes, 10, ReadError::Syntax(section))?;
+    }
+    Ok(())
+}
+
+#[test]
+fn refuses_literals(rt: HostRuntime) -> Result<(), Fail> {
+    let rows: [(&[u8], Section); 13] = [
+        (b"aag 1 1 0 0 0\n3\n", Section::Inputs),
+        (b"aag 2 2 0 0 0\n2\n2\n", Section::Inputs),
+        (b"aag 1 1 0 0 0\n4\n", Section::Inputs),
+        (b"aag 1 0 1 1 0\n2 3 3\n2\n", Section::Latches),
+        (b"aag 1 0 1 0 0\n2 3 4\n", Section::Latches),
+        (b"aig 1 0 1 0 0\n4\n", Section::Latches),
+        (b"aag 1 1 0 1 0\n2\n4\n", Section::Outputs),
+        (b"aag 0 0 0 0 0 1\n2\n", Section::Bads),
+        (b"aag 0 0 0 0 0 0 1\n2\n", Section::Constraints),
+        (b"aag 0 0 0 0 0 0 0 1\n1\n2\n", Section::Justice),
+        (b"aag 0 0 0 0 0 0 0 0 1\n2\n", Section::Fairness),
+        (b"aag 2 1 0 0 1\n2\n4 4 2\n", Section::Gates),
+        (b"aag 3 1 0 0 2\n2\n6 2 2\n4 2 2\n", Section::Gates),
+    ];
+    for (bytes, section) in rows {
+        are_refused(&rt, rt.alloc(), bytes, LIMIT, ReadError::Literal(section))?;
+    }
+    Ok(())
+}
+
+#[test]
+fn refuses_differences(rt: HostRuntime) -> Result<(), Fail> {
+    let rows: [&[u8]; 8] = [
+        b"",
+        b"\x02",
+        b"\x82",
+        b"\x00\x02",
+        b"\x02\x05",
+        b"\x07\x00",
+        b"\x80\x80\x80\x80\x80\x00\x02",
+        b"\xff\xff\xff\xff\x10\x02",
+    ];
+    for row in rows {
+        let mut bytes = b"aig 3 2 0 1 1\n6\n".to_vec(rt.alloc())?;
+        bytes.extend_from_slice(row)?;
+        are_refused(&rt, rt.alloc(), &bytes, LIMIT, ReadError::Delta)?;
+    }
+    Ok(())
+}
+
+#[test]
+fn refuses_names(rt: HostRuntime) -> Result<(), Fail> {
+    let rows: [&[u8]; 20] = [
+        b"\n",
+        b"i0 a\ni0 b\n",
+        b"i00 a\ni0 b\n",
+        b"o0 a\no0 b\n",
+        b"i1 a\n",
+        b"l0 a\n",
+        b"c0 x\n",
+        b"c0",
+        b"i0 \xff\n",
+        b"x0 a\n",
+        b"i4294967296 a\n",
+        b"i0\n",
+        b"i 0 a\n",
+        b"ia a\n",
+        b"i",
+        b"i0",
+        b"i0 ",
+        b"i0 a",
+        b"o0 a",
+        b"x",
+    ];
+    for row in rows {
+        let mut bytes = b"aag 1 1 0 1 0\n2\n2\n".to_vec(rt.alloc())?;
+        bytes.extend_from_slice(row)?;
+        are_refused(&rt, rt.alloc(), &bytes, LIMIT, ReadError::Name)?;
+    }
+    Ok(())
+}
+
+// Reading the end is a read, too.
+#[test]
+fn tells_a_failed_read_wherever_it_comes(rt: HostRuntime) -> Result<(), Fail> {
+    let named = b"aag 1 1 0 1 0\n2\n2\ni0 name\no0 x\ncnote";
+    for bytes in [AND.as_bytes(), BINARY_AND, named] {
+        for j in 0..bytes.len() + 1 {
+            for p in [1, 4096] {
+                let refused = read_parts(rt.alloc(), bytes, p, Some(j), LIMIT)?.err();
+                assert_eq!(rt; refused, Some(ReadError::Stream), "after {j} bytes");
+            }
+        }
+        let whole = read_parts(rt.alloc(), bytes, 1, Some(bytes.len() + 1), LIMIT)?;
+        assert!(rt; whole.is_ok());
+    }
+    Ok(())
+}
+
+// Also where any one request for memory is refused.
+#[test]
+fn refuses_a_good_file_for_memory_alone(rt: HostRuntime) {
+    let file = b"aag 3 1 1 1 1 1 1 1 1\n2\n4 6 1\n6\n2\n2\n1\n2\n2\n6 4 2\ni0 x\nl0 y\no0 z\n";
+    let Ok(bytes) = file.to_vec(rt.alloc()) else {
+        return;
+    };
+    let refused = Aig::from_aiger(rt.alloc(), &mut Parts::new(bytes, 1, None), LIMIT).err();
+    assert!(rt; matches!(refused, None | Some(ReadError::Memory)));
 }
 
 #[test]

@@ -1,103 +1,97 @@
-use super::{AND, read};
-use aig::{Aig, AigEdge, WriteError};
+//! Writers that fail, and circuits that aren't written.
+
+ghost use Rattle.std.specs.Prelude.{◌<◌};
+
+use super::building::{Step, built};
+use super::{AND, BINARY_AND, LIMIT, read};
+use aig::{Aig, WriteError};
 use aig_base::{Taker, ToWrite};
 use std::alloc::Global;
-use std::io;
 use std::io::Write;
+use std::path::Path;
+use std::process::Abort;
 use std::test::Fail;
+use std::{fs, io};
 
-/// Two inputs, two justice sets and a fairness constraint.
-const PROPERTIES: &str = "aag 2 2 0 0 0 0 0 2 1\n2\n4\n2\n1\n2\n5\n4\n3\n";
-
-/// What a circuit is written as.
+/// The text form of a circuit.
 pub(super) fn text_of(alloc: Global, circuit: &Aig) -> Result<String, Fail> {
     let mut sink = ToWrite::new(Vec::new(alloc));
     circuit.write_text(&mut sink)?;
     Ok(String::from_utf8(sink.into_inner())?)
 }
 
-#[test]
-fn prints_what_it_read(rt: HostRuntime) -> Result<(), Fail> {
-    let rows = [
-        (AND, AND),
-        ("aag 3 2 0 1 1\n2\n4\n6\n6 2 4\n", AND),
-        ("aag 0 0 0 0 0\n", "aag 0 0 0 0 0\n"),
-        ("aag 1 01 0 0 0\n02\n", "aag 1 1 0 0 0\n2\n"),
-        ("aag 1 0 1 1 0\n2 3\n2\n", "aag 1 0 1 1 0\n2 3\n2\n"),
-        ("aag 2 2 0 1 0\n4\n2\n2\n", "aag 2 2 0 1 0\n4\n2\n2\n"),
-        ("aag 1 0 1 1 0\n2 3 2\n2\n", "aag 1 0 1 1 0\n2 3 2\n2\n"),
-        ("aag 1 0 1 1 0\n2 3 1\n2\n", "aag 1 0 1 1 0\n2 3 1\n2\n"),
-        ("aig 1 0 1 1 0\n3\n2\n", "aag 1 0 1 1 0\n2 3\n2\n"),
-        (PROPERTIES, PROPERTIES),
-        ("aag 0 0 0 1 0 0 0 0 0\n1\n", "aag 0 0 0 1 0\n1\n"),
-        ("aag 0 0 0 0 0 0 0 1\n0\n", "aag 0 0 0 0 0 0 0 1\n0\n"),
-        ("aig 3 2 0 1 1\n6\n\x02\x02", AND),
-        (
-            "aig 3 2 0 1 1\n6\n\x02\x02i0 x\ncmade here",
-            "aag 3 2 0 1 1\n2\n4\n6\n6 4 2\ni0 x\n",
-        ),
-        ("aag 1 1 0 0 0\n2\ni0 é\n", "aag 1 1 0 0 0\n2\ni0 é\n"),
-    ];
-    for (text, printed) in rows {
-        let circuit = read(rt.alloc(), text)??;
-        assert_eq!(rt;
-            text_of(rt.alloc(), &circuit)?.as_str(),
-            printed,
-            "of {text:?}"
-        );
+/// The binary form of a circuit.
+pub(super) fn binary_of(alloc: Global, circuit: &Aig) -> Result<Vec<u8>, Fail> {
+    let mut sink = ToWrite::new(Vec::new(alloc));
+    circuit.write_binary(&mut sink)?;
+    Ok(sink.into_inner())
+}
+
+/// What writing a circuit into a sink gives, in the text form or the binary form, and what the sink holds then. The sink takes `p`
+/// bytes at a time, and `room` in all.
+fn written(
+    alloc: Global,
+    circuit: &Aig,
+    ascii: bool,
+    p: usize,
+    room: usize,
+) -> Result<(Result<(), WriteError>, Vec<u8>), Fail>
+    requires { 0 < p }
+{
+    let mut sink = Taker::new(alloc, p, room)?;
+    let result = if ascii {
+        circuit.write_text(&mut sink)
+    } else {
+        circuit.write_binary(&mut sink)
+    };
+    Ok((result, sink.bytes().to_vec(alloc)?))
+}
+
+/// A sink without room for all of the bytes holds a beginning of them, and the answer is `Stream`.
+fn leaves_beginnings(
+    rt: &impl Abort,
+    alloc: Global,
+    circuit: &Aig,
+    ascii: bool,
+    bytes: &[u8],
+) -> Result<(), Fail> {
+    for p in [1, 7, 4096] {
+        for j in 0..bytes.len() {
+            let (result, held) = written(alloc, circuit, ascii, p, j)?;
+            assert_eq!(rt; result, Err(WriteError::Stream));
+            assert!(rt; held.as_slice() == &bytes[..j], "after {j} bytes");
+        }
+        let (result, held) = written(alloc, circuit, ascii, p, bytes.len())?;
+        assert_eq!(rt; result, Ok(()));
+        assert!(rt; held.as_slice() == bytes);
     }
-    Ok(())
-}
-
-#[test]
-fn builds_and_prints(rt: HostRuntime) -> Result<(), Fail> {
-    let mut circuit = Aig::new(rt.alloc())?;
-    assert_eq!(rt; circuit.num_nodes(), 1);
-    assert_eq!(rt; circuit.nodes_range(), 1..1);
-    assert_eq!(rt; circuit.nodes_range_with_false(), 0..1);
-    assert_eq!(rt; text_of(rt.alloc(), &circuit)?.as_str(), "aag 0 0 0 0 0\n");
-    assert_eq!(rt; circuit.new_input()?, 1);
-    let leaf = circuit.new_leaf_node()?;
-    assert_eq!(rt; leaf, 2);
-    assert!(rt; !circuit.is_closed());
-    assert!(rt; circuit.is_free_leaf(leaf));
-    circuit.add_input(leaf)?;
-    assert!(rt; circuit.is_closed());
-    let (first, second) = (!AigEdge::from(2), AigEdge::from(1));
-    assert!(rt; circuit.has_edge(first));
-    assert!(rt; circuit.has_edge(second));
-    assert_eq!(rt;
-        circuit.trivial_new_and_node(first, second)?,
-        AigEdge::from(3)
-    );
-    assert_eq!(rt;
-        text_of(rt.alloc(), &circuit)?.as_str(),
-        "aag 3 2 0 0 1\n2\n4\n6 5 2\n"
-    );
-    Ok(())
-}
-
-#[test]
-fn refuses_a_free_leaf(rt: HostRuntime) -> Result<(), Fail> {
-    let mut circuit = Aig::new(rt.alloc())?;
-    circuit.new_leaf_node()?;
-    let mut sink = Taker::new(rt.alloc(), 1, 64)?;
-    assert_eq!(rt; circuit.write_text(&mut sink), Err(WriteError::FreeLeaf));
-    assert_eq!(rt; sink.bytes().len(), 0);
     Ok(())
 }
 
 #[test]
 fn leaves_a_beginning(rt: HostRuntime) -> Result<(), Fail> {
-    let circuit = read(rt.alloc(), AND)??;
-    for j in 0..AND.len() {
-        let mut sink = Taker::new(rt.alloc(), 7, j)?;
-        assert_eq!(rt; circuit.write_text(&mut sink), Err(WriteError::Stream));
-        assert_eq!(rt; sink.bytes(), &AND.as_bytes()[..j]);
+    let circuit = read(rt.alloc(), AND)?;
+    leaves_beginnings(&rt, rt.alloc(), &circuit, true, AND.as_bytes())?;
+    leaves_beginnings(&rt, rt.alloc(), &circuit, false, BINARY_AND)
+}
+
+#[test]
+fn writes_more_than_a_block(rt: HostRuntime) -> Result<(), Fail> {
+    let mut text = String::from_str(rt.alloc(), "aag 300 300 0 0 0\n")?;
+    for i in 1..301usize {
+        text.push_str(&format!(in rt.alloc(); "{}\n", 2 * i)?)?;
     }
-    let mut sink = Taker::new(rt.alloc(), 7, AND.len())?;
-    assert_eq!(rt; circuit.write_text(&mut sink), Ok(()));
-    assert_eq!(rt; sink.bytes(), AND.as_bytes());
+    text.push_str("i299 ")?;
+    for _ in 0..5000 {
+        text.push('a')?;
+    }
+    text.push('\n')?;
+    let circuit = read(rt.alloc(), &text)?;
+    for p in [1, 7, 4096] {
+        let (result, held) = written(rt.alloc(), &circuit, true, p, text.len())?;
+        assert_eq!(rt; result, Ok(()));
+        assert!(rt; held.as_slice() == text.as_bytes());
+    }
     Ok(())
 }
 
@@ -117,24 +111,80 @@ impl Write for Idle {
 
 #[test]
 fn tells_a_writer_that_takes_nothing(rt: HostRuntime) -> Result<(), Fail> {
-    let circuit = read(rt.alloc(), AND)??;
-    assert_eq!(rt;
-        circuit.write_text(&mut ToWrite::new(Idle)),
-        Err(WriteError::Stream)
-    );
+    let circuit = read(rt.alloc(), AND)?;
+    let mut idle = ToWrite::new(Idle);
+    assert_eq!(rt; circuit.write_text(&mut idle), Err(WriteError::Stream));
+    Ok(())
+}
+
+#[test]
+fn refuses_before_the_first_byte(rt: HostRuntime) -> Result<(), Fail> {
+    let rows: [(&[Step<'_>], WriteError); 4] = [
+        (&[Step::Leaf], WriteError::FreeLeaf),
+        (
+            &[Step::Leaf, Step::Input, Step::Name(2, "a\nb")],
+            WriteError::FreeLeaf,
+        ),
+        (
+            &[Step::Input, Step::Leaf, Step::AddLatch(2, 4, Some(2))],
+            WriteError::InitialEdge,
+        ),
+        (&[Step::Input, Step::Name(1, "a\nb")], WriteError::Name),
+    ];
+    let path = Path::new("refused.aig");
+    for (steps, fault) in rows {
+        let circuit = built(rt.alloc(), steps)?;
+        for ascii in [true, false] {
+            let (result, held) = written(rt.alloc(), &circuit, ascii, 1, 64)?;
+            assert_eq!(rt; result, Err(fault));
+            assert_eq!(rt; held.len(), 0);
+            assert_eq!(rt; circuit.to_file(&rt, path, ascii), Err(fault));
+            assert!(rt; fs::open(&rt, path).is_err());
+        }
+    }
+    Ok(())
+}
+
+// The name of a node that is neither an input nor a latch's isn't written.
+#[test]
+fn passes_over_names_of_other_nodes(rt: HostRuntime) -> Result<(), Fail> {
+    let circuit = built(rt.alloc(), &[Step::Name(0, "a\nb")])?;
+    assert_eq!(rt; text_of(rt.alloc(), &circuit)?.as_str(), "aag 0 0 0 0 0\n");
+    Ok(())
+}
+
+#[test]
+fn writes_files(rt: HostRuntime) -> Result<(), Fail> {
+    let circuit = read(rt.alloc(), AND)?;
+    let nowhere = Path::new("no such folder/out.aig");
+    assert_eq!(rt; circuit.to_file(&rt, nowhere, false), Err(WriteError::Open));
+    for (name, ascii) in [("written.aig", false), ("written.aag", true)] {
+        let path = Path::new(name);
+        assert_eq!(rt; circuit.to_file(&rt, path, ascii), Ok(()));
+        let again = Aig::from_file(&rt, rt.alloc(), path, LIMIT)?;
+        assert_eq!(rt; text_of(rt.alloc(), &again)?.as_str(), AND);
+        fs::remove_file(&rt, path)?;
+    }
     Ok(())
 }
 
 #[test]
 fn says_its_refusals(rt: HostRuntime) -> Result<(), Fail> {
     let rows = [
-        (WriteError::Stream, "write failed"),
-        (WriteError::FreeLeaf, "a leaf is neither input nor latch"),
-        (WriteError::InitialEdge, "an initial edge is not constant"),
-        (WriteError::Name, "a name holds a line feed"),
-        (WriteError::TooLarge, "too large for the format"),
+        (WriteError::Memory, 1, "out of memory"),
+        (WriteError::Stream, 2, "write failed"),
+        (WriteError::FreeLeaf, 3, "a leaf is neither input nor latch"),
+        (
+            WriteError::InitialEdge,
+            4,
+            "an initial edge is not constant",
+        ),
+        (WriteError::Name, 5, "a name holds a line feed"),
+        (WriteError::TooLarge, 6, "too large for the format"),
+        (WriteError::Open, 7, "cannot create"),
     ];
-    for (fault, text) in rows {
+    for (fault, number, text) in rows {
+        assert_eq!(rt; fault as u8, number);
         assert_eq!(rt; fault.to_string(rt.alloc())?.as_str(), text);
     }
     Ok(())

@@ -1,32 +1,29 @@
-use Rattle.std.proofs.Common.{◌≡◌, ℕ, ◌+◌, ◌<◌, ◌++◌, ◌∷◌, [], List, length, get_or, take, ap, sym, ◌∙◌, arith}
-use Rattle.std.proofs.lemmas.Bool.{false≢true}
-use Rattle.std.proofs.lemmas.List.{take_more, get_or-map, length-map}
+use Rattle.std.proofs.Common.{◌≡◌, Bool, eqb, ◌&&◌, List, [], ◌∷◌, length, nat_eq, refl, ap, ◌∙◌, arith, rules, tests}
+use Rattle.std.specs.List.{list_all, zip}
+use Rattle.std.proofs.lemmas.Bool.Decides.{Decides-eqb}
+use Rattle.std.proofs.lemmas.Iterator.{YieldsList-from_slice, YieldsList-from_zip}
+use Rattle.std.proofs.lemmas.Iterator.Search.{all_from_yields_List}
+use Rattle.std.specs.Cmp.Lexicographic.{pointwise}
+use Rattle.std.proofs.lemmas.Slice.Eq.{slice_eq-Decides}
 use Rattle.aig_circuit.specs.declared.node.AigLatch.{AigLatch}
 use Rattle.aig_circuit.specs.Circuit.{latch_leaves}
 use Rattle.aig_circuit.proofs.checks.have_same_leaves.Goals as goal
 
--- the leaf of the latch that was read
-leaf_at : (latchs : List AigLatch) (i : ℕ) (d : AigLatch) (n : ℕ) → i < length latchs → n ≡ (get_or latchs i d).input → get_or (latch_leaves latchs) i 0 ≡ n
-leaf_at latchs i d n h is = get_or-map (λ (l : AigLatch). l.input) latchs i d 0 h ∙ sym is
+-- whether the latches of a pair have the same leaf
+abbrev is_same_leaf : AigLatch × AigLatch → Bool
+is_same_leaf pair = nat_eq pair.0.input pair.1.input
 
-take_leaves : (latchs : List AigLatch) (i n : ℕ) → i < length latchs → get_or (latch_leaves latchs) i 0 ≡ n → take (i + 1) (latch_leaves latchs) ≡ take i (latch_leaves latchs) ++ n ∷ []
-take_leaves latchs i n h is =
-    let within : i < length (latch_leaves latchs) = rw length-map h in
-    take_more (latch_leaves latchs) i 0 within ∙ ap (λ m. take i (latch_leaves latchs) ++ m ∷ []) is
+same_leaves : (xs ys : List AigLatch) → length xs ≡ length ys → list_all is_same_leaf (zip xs ys) ≡ pointwise eqb (latch_leaves xs) (latch_leaves ys)
+same_leaves [] [] long = refl
+same_leaves [] (y ∷ ys) long = absurd (omega arith)
+same_leaves (x ∷ xs) [] long = absurd (omega arith)
+same_leaves (x ∷ xs) (y ∷ ys) long = ap (λ b. eqb x.input y.input && b) (same_leaves xs ys (omega arith))
 
-pub returns-then-input : goal.returns-then-input
-returns-then-input c =
-    let i = c.loop-i.i in
-    let within : i < length c.args.others.now = omega arith in (
-      λ h. absurd (false≢true h),
-      λ same. absurd (c.if-input.true (sym (leaf_at c.args.latchs.now i _ _ c.loop-i-test.true c.input.ensures) ∙ ap (λ ns. get_or ns i 0) same ∙ leaf_at c.args.others.now i _ _ within c.input-in-loop-i.ensures)),
-    )
-
-pub loop-i-preserved : goal.loop-i-preserved
-loop-i-preserved c =
-    let i = c.loop-i.i in
-    let within : i < length c.args.others.now = omega arith in
-    take_leaves c.args.latchs.now i _ c.loop-i-test.true (leaf_at c.args.latchs.now i _ _ c.loop-i-test.true c.input.ensures)
-    ∙ ap (λ ns. ns ++ c.input.result ∷ []) c.loop-i.invariant
-    ∙ ap (λ n. take i (latch_leaves c.args.others.now) ++ n ∷ []) c.if-input.false
-    ∙ sym (take_leaves c.args.others.now i _ within (leaf_at c.args.others.now i _ _ within c.input-in-loop-i.ensures))
+pub returns-then-latchs-others : goal.returns-then-latchs-others
+returns-then-latchs-others c =
+    let xs = c.args.latchs.now in
+    let ys = c.args.others.now in
+    let all : c.all.result ≡ list_all is_same_leaf (zip xs ys) =
+    all_from_yields_List is_same_leaf c.all.new.self _ c.all.result c.all.ensures.ran (YieldsList-from_zip (YieldsList-from_slice xs cc) (YieldsList-from_slice ys cc)) (λ x b q k. search (rules, tests))
+    in
+    slice_eq-Decides Decides-eqb (latch_leaves xs) (latch_leaves ys) c.all.result (all ∙ same_leaves xs ys (omega arith))

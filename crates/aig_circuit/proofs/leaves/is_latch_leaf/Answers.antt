@@ -1,25 +1,24 @@
-use Rattle.std.proofs.Common.{◌≡◌, ℕ, ◌+◌, ◌<◌, ◌≤◌, List, length, get_or, take, sym, subst, ◌∙◌, inl, inr}
-use Rattle.std.specs.Prelude.{Contains}
-use Rattle.std.proofs.lemmas.List.{take_more, take_all, get_or-map, length-map}
-use Rattle.std.proofs.lemmas.List.Elements.{Contains-push_cases}
-use Rattle.std.proofs.lemmas.Bool.{false≢true}
+use Rattle.std.proofs.Common.{◌≡◌, ℕ, eqb, ◌||◌, List, [], ◌∷◌, nat_eq, refl, ap, ◌∙◌, rules, tests}
+use Rattle.std.specs.List.{list_any}
+use Rattle.std.specs.Set.{is_member}
+use Rattle.std.proofs.lemmas.Bool.Decides.{Decides-eqb}
+use Rattle.std.proofs.lemmas.Iterator.{YieldsList-from_slice}
+use Rattle.std.proofs.lemmas.Iterator.Search.{any_from_yields_List}
+use Rattle.std.proofs.lemmas.Map.Made.{is_member-Decides}
+use Rattle.aig_base.proofs.Mapping.{turned}
 use Rattle.aig_circuit.specs.declared.node.AigLatch.{AigLatch}
 use Rattle.aig_circuit.specs.Circuit.{latch_leaves}
 use Rattle.aig_circuit.proofs.leaves.is_latch_leaf.Goals as goal
 
--- a number that none of the first latches' leaves has, nor the next, none of the first and the next has
-none_more : (latchs : List AigLatch) (d : AigLatch) (i n m : ℕ) → i < length latchs → ¬ Contains (take i (latch_leaves latchs)) n → m ≡ (get_or latchs i d).input → ¬ (m ≡ n) → ¬ Contains (take (i + 1) (latch_leaves latchs)) n
-none_more latchs d i n m h before is here has =
-    let within : i < length (latch_leaves latchs) = rw length-map h in
-    elim (Contains-push_cases (take i (latch_leaves latchs)) (get_or (latch_leaves latchs) i 0) n (subst (λ ns. Contains ns n) (take_more (latch_leaves latchs) i 0 within) has)) [
-      | inl old ↦ before old
-      | inr same ↦ here (is ∙ sym (get_or-map (λ (l : AigLatch). l.input) latchs i d 0 h) ∙ same)
-    ]
-
-pub loop-latch-preserved : goal.loop-latch-preserved
-loop-latch-preserved c = none_more c.args.latchs.now _ _ _ c.input.result c.loop-latch-test.true c.loop-latch.invariant c.input.ensures c.if-input-id.false
+-- a latch has this leaf exactly if the leaves have it
+any_leaf : (latchs : List AigLatch) (n : ℕ) → list_any (λ latch. nat_eq latch.input n) latchs ≡ is_member eqb (latch_leaves latchs) n
+any_leaf [] n = refl
+any_leaf (latch ∷ latchs) n = ap (λ b. b || list_any (λ other. nat_eq other.input n) latchs) (turned latch.input n) ∙ ap (λ b. eqb n latch.input || b) (any_leaf latchs n)
 
 pub returns : goal.returns
 returns c =
-    let all : length (latch_leaves c.args.latchs.now) ≤ c.loop-latch.latch-index = rw length-map c.loop-latch-test.false in
-    (λ h. absurd (false≢true h), λ has. absurd (c.loop-latch.invariant (rw take_all has)))
+    let latchs = c.args.latchs.now in
+    let found : c.any.result ≡ list_any (λ (latch : AigLatch). nat_eq latch.input c.args.id) latchs =
+    any_from_yields_List (λ (latch : AigLatch). nat_eq latch.input c.args.id) _ _ c.any.result c.any.ensures.ran (YieldsList-from_slice latchs cc) (λ x b q k. search (rules, tests))
+    in
+    rw (found, any_leaf latchs c.args.id) (is_member-Decides Decides-eqb (latch_leaves latchs) c.args.id)

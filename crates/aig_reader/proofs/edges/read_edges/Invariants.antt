@@ -1,4 +1,4 @@
-use Rattle.std.proofs.Common.{◌≡◌, ℕ, [], map}
+use Rattle.std.proofs.Common.{◌≡◌, [], map}
 use Rattle.aig_front.specs.Front.{ended_at, tested_at}
 use Rattle.aig_front.specs.Fitting.{is_literal}
 use Rattle.aig_reader.specs.Lists.{edge_from}

@@ -1,9 +1,9 @@
-use Rattle.std.proofs.Common.{◌≡◌, ◌∙◌, ◌++◌, ◌+◌, ◌/◌, ◌&&◌, ℕ, List, length, ltb, map, ap, subst, vec_len, arith}
+use Rattle.std.proofs.Common.{◌≡◌, ◌∙◌, ◌++◌, ◌+◌, ◌/◌, ◌&&◌, ℕ, length, ltb, ap, subst, vec_len, arith}
 use Rattle.std.specs.List.{list_all}
 use Rattle.aig_grammar.specs.File.{GateLine}
 use Rattle.aig_front.specs.Fitting.{gate_of}
 use Rattle.aig_reader.specs.Entries.{may_define, operands_at}
-use Rattle.aig_reader.specs.Gates.{AreGates, literals_of}
+use Rattle.aig_reader.specs.Gates.{literals_of}
 use Rattle.aig_reader.specs.Lists.{with_gates}
 use Rattle.aig_reader.specs.Variables.{HasRoom, kind_by}
 use Rattle.aig_reader.proofs.Body.{nodes_length}

@@ -1,4 +1,4 @@
-use Rattle.std.proofs.Common.{◌≡◌, ℕ, [], map}
+use Rattle.std.proofs.Common.{◌≡◌, [], map}
 use Rattle.aig_lexer.specs.Takes.{Made}
 use Rattle.aig_reader.specs.Lists.{edge_from}
 use Rattle.aig_reader.proofs.Entries.{entries_at, set_at}

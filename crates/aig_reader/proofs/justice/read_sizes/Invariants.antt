@@ -1,4 +1,4 @@
-use Rattle.std.proofs.Common.{◌≡◌, ℕ, []}
+use Rattle.std.proofs.Common.{◌≡◌, []}
 use Rattle.aig_front.specs.Front.{ended_at}
 use Rattle.aig_lexer.specs.Takes.{Made}
 use Rattle.aig_reader.proofs.Entries.{entries_at}

@@ -1,11 +1,11 @@
-use Rattle.std.proofs.Common.{◌≡◌, ◌&&◌, ◌∷◌, ◌++◌, [], Bool, true, false, ℕ, List, map, refl}
+use Rattle.std.proofs.Common.{◌≡◌, ◌&&◌, ◌++◌, false, map, refl}
 use Rattle.std.proofs.lemmas.Result.{err_from_is_err_and}
 use Rattle.aig_grammar.specs.File.{LatchLine}
-use Rattle.aig_front.specs.Fitting.{has_next, latch_of, next_at}
+use Rattle.aig_front.specs.Fitting.{has_next, is_reset, latch_of, next_at}
 use Rattle.aig_reader.specs.Entries.{may_define}
 use Rattle.aig_reader.specs.Variables.{kind_by}
 use Rattle.aig_reader.proofs.OwnLines.{misses_line, takes_line}
-use Rattle.aig_reader.proofs.TestedLines.{on_line-always}
+use Rattle.aig_reader.proofs.TestedLines.{on_line-weaker}
 use Rattle.aig_reader.proofs.latches.latch_line.Goals as goal
 
 pub returns-in_err-init-clause-exact : goal.returns-in_err-init-clause-exact
@@ -16,10 +16,12 @@ returns-in_err-init-clause-exact g c = λ inputs before defined.
     let literals = inputs ++ map (λ (l : LatchLine). l.literal) before in
     let first = c.in_ok-input.ensures.exact greatest literals defined in
     let second = c.in_ok-next-2.ensures.exact in
-    let third = c.in_err-init.ensures.exact c.in_ok-next.next in
-    rw p.1 (on_line-always p.0 _
-    (misses_line kind 32 literals (λ _. next_at) (λ x. latch_of x.0 x.1) (λ (l : LatchLine). may_define kind greatest literals l.literal && has_next greatest l) _ _ c.in_ok-literal.literal (c.in_ok-literal.ensures.exact greatest literals defined) _
-    (c.in_ok-next.next, c.in_ok-next.reset) c.in_ok-next.ensures.exact (rw (first.0, second.0, third.0) refl)))
+    let e = c.in_err-init.field-0.0 in
+    rw (p.1, p.2) (on_line-weaker e _ _
+    (λ (third : is_reset c.in_ok-literal.literal c.in_ok-next.reset ≡ false).
+    misses_line kind 32 literals (λ _. next_at) (λ x. latch_of x.0 x.1) (λ (l : LatchLine). may_define kind greatest literals l.literal && has_next greatest l) _ _ c.in_ok-literal.literal (c.in_ok-literal.ensures.exact greatest literals defined) _
+    (c.in_ok-next.next, c.in_ok-next.reset) c.in_ok-next.ensures.exact (rw (first.0, second.0, third) refl))
+    (c.in_err-init.ensures.exact c.in_ok-next.next))
 
 pub returns-clause-exact : goal.returns-clause-exact
 returns-clause-exact g c = λ inputs before defined.

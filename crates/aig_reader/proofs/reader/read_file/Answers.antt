@@ -4,7 +4,6 @@ use Rattle.std.proofs.lemmas.Result.{err_from_is_err_and}
 use Rattle.aig_circuit.specs.Circuit.{latch_leaves}
 use Rattle.aig_circuit.specs.View.{names_of}
 use Rattle.aig_circuit.specs.declared.node.AigLatch.{AigLatch}
-use Rattle.aig_circuit.specs.declared.view.CircuitLists.{CircuitLists}
 use Rattle.aig_front.specs.Front.{file_from}
 use Rattle.aig_front.specs.Fitting.{fitting_header_at}
 use Rattle.aig_lexer.specs.Header.{kind_of, numbers_of}
@@ -60,23 +59,13 @@ returns-clause-circuit g c =
     let names = names_in _ _ _ (tail_of (numbers_of header)) c.read_names-names.result c.names_result.result c.names_result.ensures c.read_names-names.ensures.exact c.in_ok-names.names c.in_ok-names.was in
     let fits = accepted c.args.limit _ _ body taken names.0 names.2 names.3 in
     let s = c.in_ok-sections.sections in
-    let named : CircuitLists = record {
-      nodes = s.nodes;
-      inputs = s.inputs;
-      latchs = s.latchs;
-      outputs = s.properties.outputs;
-      bads = s.properties.bads;
-      constraints = s.properties.constraints;
-      justice = s.properties.justice;
-      fairness = s.properties.fairness;
-      names = c.in_ok-names.names;
-    } in
-    let kept : names_of named.names.entries ≡ kept_names s.inputs.items (latch_leaves s.latchs.items) names.0 =
+    let map = names_of c.in_ok-names.names.entries in
+    let kept : map ≡ kept_names s.inputs.items (latch_leaves s.latchs.items) names.0 =
     names.1 ∙ ap (λ (ns : List ℕ). kept_names ns (latch_leaves c.deref-2.result.now) names.0) c.deref.ensures.value ∙ ap (λ (ls : List AigLatch). kept_names s.inputs.items (latch_leaves ls) names.0) c.deref-2.ensures.value in (
       file_from body names.0,
       taken.taken ++ names.2,
       fits,
-      rw c.with_names.ensures (circuit_is (kind_of header.kind) (numbers_of header) made.0 names.0 s named made.1 kept fits.1.exact),
+      c.with_names.ensures ∙ circuit_is (kind_of header.kind) (numbers_of header) made.0 names.0 s map made.1 kept fits.1.exact,
       Consumes-trans _ _ _ taken.taken names.2 taken.consumed names.4,
     )
 

@@ -1,5 +1,6 @@
 use Rattle.std.proofs.Common.{◌≡◌, ℕ, Option, Some, None, Result, Err, List, ◌≤◌, length, IfSome, sym, ap, subst, ◌∙◌}
 use Rattle.std.specs.Prelude.{IsErrOf}
+use Rattle.std.proofs.lemmas.Result.{err_from_is_err_and}
 use Rattle.aig_circuit.specs.Circuit.{Circuit, IsCircuit}
 use Rattle.aig_machine.proofs.Circuits.{IsCircuit-of_file}
 use Rattle.aig_machine.proofs.FileNodes.{few_nodes}
@@ -43,14 +44,16 @@ same_where_known T U e (Some bytes) limit h = same_refusal T U e bytes limit h
 
 pub from_lists-requires : goal.from_lists-requires
 from_lists-requires g c =
-    let read = c.in-Ok.ensures.circuit in
+    let read = c.in_ok-lists.ensures.circuit in
     subst IsCircuit (sym read.3) (IsCircuit-of_file read.0 c.args.limit read.2.1)
 
-pub returns-in-Ok-clause-few : goal.returns-in-Ok-clause-few
-returns-in-Ok-clause-few g c =
-    let read = c.in-Ok.ensures.circuit in
+pub returns-clause-few : goal.returns-clause-few
+returns-clause-few g c =
+    let read = c.in_ok-lists.ensures.circuit in
     let same = c.from_lists.ensures ∙ read.3 in
     subst (λ (circuit : Circuit). length circuit.nodes ≤ c.args.limit) (sym same) (few_nodes read.0 c.args.limit read.2.1)
 
-pub returns-in-Err-clause-exact : goal.returns-in-Err-clause-exact
-returns-in-Err-clause-exact g c = same_where_known CircuitLists Aig c.in-Err.fault _ c.args.limit c.in-Err.ensures.exact
+pub returns-in_err-lists-clause-exact : goal.returns-in_err-lists-clause-exact
+returns-in_err-lists-clause-exact g c =
+    let p = err_from_is_err_and c.from_residual.result c.from_residual.ensures.1 in
+    rw (p.1, p.2) (same_where_known CircuitLists Aig c.in_err-lists.field-0.0 _ c.args.limit c.in_err-lists.ensures.exact)

@@ -1,8 +1,8 @@
 use Rattle.std.proofs.Common.{◌≡◌, sym, ap, subst, ◌∙◌}
-use Rattle.aig_circuit.specs.Circuit.{Circuit, IsCircuit}
-use Rattle.aig_circuit.specs.Runs.{KeepsRuns}
+use Rattle.aig_circuit.specs.Circuit.{Circuit, IsCircuit, IsClosed}
+use Rattle.aig_circuit.specs.Runs.{AreAsLong, KeepsRuns}
 use Rattle.aig_circuit.specs.Reencode.{IsPlaced, new_number, reencoded}
-use Rattle.aig_renumber.proofs.Placed.{IsCircuit-reencoded, IsPlaced-reencoded, KeepsRuns-reencoded, reencoded-twice}
+use Rattle.aig_renumber.proofs.Placed.{AreAsLong-reencoded, IsCircuit-reencoded, IsClosed-reencoded, IsPlaced-reencoded, KeepsRuns-reencoded, reencoded-twice}
 use Rattle.aig.proofs.graph.Aig.reencode.Goals as goal
 
 pub from_lists-requires : goal.from_lists-requires
@@ -11,6 +11,16 @@ from_lists-requires c =
 
 pub returns-clause-exact : goal.returns-clause-exact
 returns-clause-exact c = c.from_lists.ensures ∙ c.in_ok-lists.ensures ∙ ap reencoded c.view-circuit.ensures.lists
+
+pub returns-clause-closed : goal.returns-clause-closed
+returns-clause-closed c =
+    let made = c.from_lists.ensures ∙ c.in_ok-lists.ensures ∙ ap reencoded c.view-circuit.ensures.lists in
+    subst IsClosed (sym made) (IsClosed-reencoded c.args.self.now c.view-circuit.ensures.circuit c.requires)
+
+pub returns-clause-long : goal.returns-clause-long
+returns-clause-long c =
+    let made = c.from_lists.ensures ∙ c.in_ok-lists.ensures ∙ ap reencoded c.view-circuit.ensures.lists in
+    subst (λ (d : Circuit). AreAsLong c.args.self.now d) (sym made) (AreAsLong-reencoded c.args.self.now c.view-circuit.ensures.circuit c.requires)
 
 pub returns-clause-kept : goal.returns-clause-kept
 returns-clause-kept c =

@@ -1,0 +1,69 @@
+-- What is known once the inputs and the latches were read.
+use Rattle.std.proofs.Common.{◌≡◌, ◌∙◌, ◌+◌, ◌++◌, ℕ, List, Option, Result, Ok, IfOk, Vec, ap, length, length-append, map, subst, vec_len, arith}
+use Rattle.std.proofs.lemmas.List.{length-map}
+use Rattle.std.specs.declared.alloc.Global.{Global}
+use Rattle.aig_circuit.specs.declared.node.AigLatch.{AigLatch}
+use Rattle.aig_front.specs.Fitting.{fitting_inputs_at, fitting_latches_at}
+use Rattle.aig_grammar.specs.File.{Kind, LatchLine}
+use Rattle.aig_lexer.specs.declared.header.Header.{Header}
+use Rattle.aig_lexer.specs.Header.{numbers_of}
+use Rattle.aig_lexer.specs.Takes.{Makes, Takes}
+use Rattle.aig_reader.specs.declared.error.LineError.{LineError}
+use Rattle.aig_reader.specs.declared.error.ReadError.{ReadError}
+use Rattle.aig_reader.specs.declared.error.Section.TheVariants.{Inputs, Latches}
+use Rattle.aig_reader.specs.declared.variables.Variables.{Variables}
+use Rattle.aig_reader.specs.Faults.{OnLine, error_in, result_by}
+use Rattle.aig_reader.specs.Lists.{variable_of, latch_from}
+use Rattle.aig_reader.specs.Variables.{AreDefined, kind_by}
+use Rattle.aig_reader.proofs.Body.{in_section, made_in}
+use Rattle.aig_reader.proofs.ReadNames.{if_ok_in}
+
+-- the literals that inputs and latches define
+abbrev pub literals_with : List ℕ → List LatchLine → List ℕ
+literals_with inputs lines = inputs ++ map (λ (l : LatchLine). l.literal) lines
+
+-- the lines of the inputs and of the latches, which were read one behind the other, and the lists that were made of them
+pub record LeavesRead (header : Header) (kind : Kind) (before between after : Option (List ℕ)) (variables : Variables) (inputs : List ℕ) (latchs : List AigLatch) : Type 0 where
+  pub literals : List ℕ
+  pub lines : List LatchLine
+  pub inputs_are : inputs ≡ map variable_of literals
+  pub latchs_are : latchs ≡ map latch_from lines
+  pub takes_inputs : Takes (fitting_inputs_at kind (numbers_of header)) before between literals
+  pub takes_latchs : Takes (fitting_latches_at kind (numbers_of header) literals) between after lines
+  pub count : length (literals_with literals lines) ≡ header.inputs + header.latches
+  pub defined : AreDefined header.greatest variables (literals_with literals lines)
+
+module _ (header : Header) (kind : Kind) (b m a : Option (List ℕ)) (u v w : Variables)
+    (input_lines : Result (Vec ℕ Global) LineError) (inputs_result : Result (Vec ℕ Global) ReadError) (inputs : Vec ℕ Global)
+    (latch_lines : Result (Vec AigLatch Global) LineError) (latchs_result : Result (Vec AigLatch Global) ReadError) (latchs : Vec AigLatch Global) where
+  pub leaves_read :
+      kind_by u ≡ kind → kind_by v ≡ kind_by u
+      → inputs_result ≡ result_by (error_in Inputs) input_lines → inputs_result ≡ Ok inputs
+      → Makes OnLine (λ (xs : Vec ℕ Global) literals. (xs.items ≡ map variable_of literals) × AreDefined header.greatest v literals) b m input_lines (fitting_inputs_at (kind_by u) (numbers_of header))
+      → IfOk input_lines (λ xs. vec_len xs ≡ header.inputs)
+      → latchs_result ≡ result_by (error_in Latches) latch_lines → latchs_result ≡ Ok latchs
+      → ((literals : List ℕ) → length literals ≡ header.inputs → AreDefined header.greatest v literals
+      → Makes OnLine (λ (xs : Vec AigLatch Global) lines. (xs.items ≡ map latch_from lines) × AreDefined header.greatest w (literals_with literals lines)) m a latch_lines (fitting_latches_at (kind_by v) (numbers_of header) literals))
+      → IfOk latch_lines (λ xs. vec_len xs ≡ header.latches)
+      → LeavesRead header kind b m a w inputs.items latchs.items
+  leaves_read start same inputs_is inputs_was inputs_made inputs_count latchs_is latchs_was latchs_made latchs_count =
+      let ns = numbers_of header in
+      let i = made_in (error_in Inputs) (in_section Inputs) _ _ _ _ input_lines inputs_result inputs inputs_is inputs_was inputs_made in
+      let i_count = if_ok_in (error_in Inputs) (λ xs. vec_len xs ≡ header.inputs) input_lines inputs_result inputs inputs_is inputs_was inputs_count in
+      let i_all = ap length i.1.0 ∙ length-map i.0 variable_of in
+      let i_length : length i.0 ≡ header.inputs = omega (arith, i_all, i_count, inputs.ok.0) in
+      let l = made_in (error_in Latches) (in_section Latches) _ _ _ _ latch_lines latchs_result latchs latchs_is latchs_was (latchs_made i.0 i_length i.1.1) in
+      let l_count = if_ok_in (error_in Latches) (λ xs. vec_len xs ≡ header.latches) latch_lines latchs_result latchs latchs_is latchs_was latchs_count in
+      let l_all = ap length l.1.0 ∙ length-map l.0 latch_from in
+      let both = length-append i.0 (map (λ (l : LatchLine). l.literal) l.0) in
+      let mapped = length-map l.0 (λ (l : LatchLine). l.literal) in
+      record {
+        literals = i.0;
+        lines = l.0;
+        inputs_are = i.1.0;
+        latchs_are = l.1.0;
+        takes_inputs = subst (λ (k : Kind). Takes (fitting_inputs_at k ns) b m i.0) start i.2;
+        takes_latchs = subst (λ (k : Kind). Takes (fitting_latches_at k ns i.0) m a l.0) (same ∙ start) l.2;
+        count = omega (arith, i_length, both, mapped, l_all, l_count, latchs.ok.0);
+        defined = l.1.1;
+      }
