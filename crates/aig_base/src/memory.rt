@@ -1,3 +1,5 @@
+//! The fault of memory.
+
 ghost use Rattle.std.specs.Prelude.{◌≡◌};
 ghost use Rattle.aig_base.specs.declared.memory.MemoryError.TheVariants.{Memory};
 

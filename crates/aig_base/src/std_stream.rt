@@ -1,3 +1,5 @@
+//! Sources and sinks over std's readers and writers.
+
 ghost use Rattle.std.specs.Prelude.{◌≡◌, ◌-◌, ◌^◌, false};
 ghost use Rattle.aig_base.specs.Wrapped.{reader_of, writer_of};
 

@@ -1,3 +1,5 @@
+//! A source and a sink for tests, which give and take bytes in parts and fail where they are told to.
+
 ghost use Rattle.std.specs.Prelude.{◌≡◌, ◌<◌, ◌≤◌, ◌+◌, ◌⊎◌, [], Some, false, take, length, vec_capacity, vec_len, IfOk, IsSomeAnd, IsTrue, IsErr, OnErr, is_err};
 ghost use Rattle.std.specs.Io.KnownBytes.{Consumes, Appends, Keeps, IsAtEnd};
 ghost use Rattle.std.specs.Option.{ForSome};

@@ -1,3 +1,5 @@
+//! The streams, the literals, and the lists of clauses.
+
 use crate::{
     DagCnf, FromRead, Lbool, Lit, LitVvec, MemoryError, Parts, Sink, Source, StreamFault, Taker,
     ToWrite, Var, VarVMap,

@@ -1,3 +1,5 @@
+//! The text form, piece by piece.
+
 ghost use Rattle.std.specs.Fmt.{WritesOnOk};
 ghost use Rattle.aig_circuit.specs.View.{view_circuit};
 ghost use Rattle.aig_grammar.specs.File.{Text};

@@ -1,3 +1,5 @@
+//! Why a file is refused.
+
 ghost use Rattle.std.specs.Prelude.{◌≡◌, Some};
 ghost use Rattle.aig_lexer.specs.Header.{kind_of};
 ghost use Rattle.aig_reader.specs.Faults.{error_in, gate_error_in, header_error_of, line_error_of, name_error_of, result_by, section_name};
@@ -14,13 +16,21 @@ use thiserror::Error;
 /// A section of a file, as a fault tells of it. It is printed by its name, in small letters and in the plural.
 #[derive(Clone, Copy, Debug, PartialEq, Eq)]
 pub enum Section {
+    /// The inputs, `I` in the header.
     Inputs,
+    /// The latches, `L` in the header.
     Latches,
+    /// The outputs, `O` in the header.
     Outputs,
+    /// The bad state properties, `B` in the header.
     Bads,
+    /// The invariant constraints, `C` in the header.
     Constraints,
+    /// The justice properties, `J` in the header.
     Justice,
+    /// The fairness constraints, `F` in the header.
     Fairness,
+    /// The gates, `A` in the header.
     Gates,
 }
 

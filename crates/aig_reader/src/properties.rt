@@ -13,13 +13,18 @@ use aig_circuit::AigEdge;
 use aig_lexer::{ByteFeed, Header};
 use std::alloc::Global;
 
-/// The edges of outputs and properties.
+/// The edges of outputs and properties, each list in the file's order.
 #[derive(Drop)]
 pub struct Properties {
+    /// The outputs.
     pub outputs: Vec<AigEdge>,
+    /// The bad state properties.
     pub bads: Vec<AigEdge>,
+    /// The invariant constraints.
     pub constraints: Vec<AigEdge>,
+    /// The justice properties, a set each.
     pub justice: Vec<Vec<AigEdge>>,
+    /// The fairness constraints.
     pub fairness: Vec<AigEdge>,
 }
 

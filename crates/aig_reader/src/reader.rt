@@ -31,9 +31,13 @@ use std::collections::HashMap;
 /// What the sections of a file give: node 0 is false, and node v is that of variable v.
 #[derive(Drop)]
 pub struct Sections {
+    /// The nodes, one for each variable.
     pub nodes: Vec<AigNode>,
+    /// The numbers of the inputs, in the file's order.
     pub inputs: Vec<usize>,
+    /// The latches, in the file's order.
     pub latchs: Vec<AigLatch>,
+    /// The property lists.
     pub properties: Properties,
 }
 

@@ -15,7 +15,9 @@ use std::alloc::{AllocError, Global};
 /// Which variables of a text file are defined so far. A variable that has no mark is not.
 #[derive(Drop)]
 pub struct Marks {
+    /// The greatest variable of the file.
     pub greatest: u32,
+    /// For each variable up to some one, whether it is defined.
     pub marked: Vec<bool>,
 }
 

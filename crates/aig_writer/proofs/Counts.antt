@@ -74,7 +74,7 @@ gates-turn nodes i d r h both =
 
 -- ---- the numbers of a header
 
--- five, and of the others those that are shown
+-- five, and of the others those that are written
 take-five : (m i l o a : ℕ) (rest : List ℕ) (k : ℕ) → take k rest ≡ shortened rest → take (5 + k) (m ∷ i ∷ l ∷ o ∷ a ∷ rest) ≡ m ∷ i ∷ l ∷ o ∷ a ∷ shortened rest
 take-five m i l o a rest k h =
     (let five : 5 + k ≡ suc (suc (suc (suc (suc k)))) = omega arith in ap (λ n. take n (m ∷ i ∷ l ∷ o ∷ a ∷ rest)) five)

@@ -1,3 +1,5 @@
+//! Both forms of a circuit.
+
 ghost use Rattle.std.specs.Prelude.{◌≡◌, ◌++◌, All, OnOk, OnErr, false, IsTrue};
 ghost use Rattle.std.specs.Io.KnownBytes.{Appends};
 ghost use Rattle.aig_grammar.specs.File.{Text, Binary};

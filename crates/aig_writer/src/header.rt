@@ -15,7 +15,7 @@ use aig_circuit::{AigNode, CircuitView};
 use aig_grammar::FileKind;
 
 /// How many numbers a header has at least: M I L O A.
-pub const ALWAYS: usize = 5;
+pub const FEWEST_NUMBERS: usize = 5;
 
 /// How many of the nodes are gates.
 fn gate_count(nodes: &[AigNode]) -> usize
@@ -48,7 +48,7 @@ pub fn header_numbers(circuit: &CircuitView<'_>) -> [usize; 9]
 }
 
 /// How many of the numbers stand up to the last that is not 0.
-pub fn shown(numbers: &[usize]) -> usize
+pub fn written_count(numbers: &[usize]) -> usize
     ensures within { result ≤ length numbers.now }
     ensures value { take result numbers.now ≡ shortened numbers.now }
 {
@@ -80,7 +80,7 @@ pub fn header<W: Sink>(
     ensures err { OnErr result (Stops (W.held w.old) (W.held w.new) (W.failed w.new) (block.old ++ header_line_of (file_of (kind_of kind) (view_circuit circuit.now)))) }
 {
     let numbers = header_numbers(circuit);
-    let written = ALWAYS + shown(&numbers[ALWAYS..]);
+    let written = FEWEST_NUMBERS + written_count(&numbers[FEWEST_NUMBERS..]);
     block.bytes(w, magic_word(kind))?;
     block.line(w, &numbers[..written])
 }

@@ -11,5 +11,5 @@ mod sections;
 
 pub use block::Block;
 pub use form::{write_binary, write_text};
-pub use header::{ALWAYS, header_numbers, shown};
+pub use header::{FEWEST_NUMBERS, header_numbers, written_count};
 pub use sections::reset;

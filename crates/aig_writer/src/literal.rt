@@ -1,3 +1,5 @@
+//! Literals as they are written.
+
 ghost use Rattle.std.specs.Prelude.{◌≡◌};
 ghost use Rattle.aig_circuit.specs.Edge.{literal_of};
 ghost use Rattle.aig_writer.specs.Literals.{IsSmallEdge};

@@ -1,3 +1,5 @@
+//! Pieces of bytes, put into a sink whole.
+
 ghost use Rattle.std.specs.Prelude.{◌≡◌, OnOk, OnErr, false};
 ghost use Rattle.std.specs.Io.KnownBytes.{Appends};
 ghost use Rattle.aig_writer.specs.Sinks.{Stops};

@@ -1,3 +1,5 @@
+//! Lists of clauses, and the relations that they say.
+
 ghost use Rattle.std.specs.Prelude.{◌≡◌, ◌↔◌, ◌<◌, ◌≤◌, ◌+◌, ◌^◌, ◌++◌, ◌∷◌, [], ℕ, Bool, Some, IsTrue, All, not, if◌then◌else◌, length, map, slice_get, vec_len, vec_capacity, IfOk, OnOk, OnErr};
 ghost use Rattle.std.specs.List.{list_all};
 ghost use Rattle.aig_base.specs.Clauses.{literal_value, are_true, and_clauses, xor_clauses, ite_clauses, inverse_lit};

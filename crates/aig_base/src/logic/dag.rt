@@ -1,3 +1,5 @@
+//! Clauses by the variable that they are given to.
+
 ghost use Rattle.std.specs.Prelude.{◌≡◌, ◌<◌, ◌^◌, ◌++◌, ◌∷◌, [], Some, length, false, sum_by, slice_get, slice_set, slice_index_or, IfOk, OnOk, OnErr};
 ghost use Rattle.aig_base.specs.Clauses.{AreBelow, AreRelations, lit_to, number_of, var_of};
 

@@ -1,3 +1,5 @@
+//! Variables and their literals.
+
 ghost use Rattle.std.specs.Prelude.{◌≡◌, ◌<◌, ◌^◌, true};
 ghost use Rattle.aig_base.specs.Clauses.{var_of, number_of, lit_to, variable_of, is_positive, number_of_lit, inverse_lit};
 

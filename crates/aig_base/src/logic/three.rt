@@ -1,3 +1,5 @@
+//! Three truth values.
+
 ghost use Rattle.std.specs.Prelude.{◌≡◌};
 
 use std::ops::{BitAnd, Not};

@@ -11,9 +11,9 @@ use Rattle.aig_display.proofs.header.header.Goals as goal
 pub returns : goal.returns
 returns g c plain ok =
     let f = file_of Text (view_circuit c.args.circuit.now) in
-    let k = c.shown-written.result in
+    let k = c.written_count-written.result in
     let numbers = c.header_numbers-numbers.result in
     let same = c.header_numbers-numbers.ensures kinds.Text in
     let text = header-spaced (take (5 + k) numbers) c.loop-n.n-index (some_shown f k numbers same) c.loop-n-test.false in
-    rw (header_text f k numbers same c.shown-written.ensures.value)
+    rw (header_text f k numbers same c.written_count-written.ensures.value)
     (has_written_of_eq _ _ _ _ _ text (shown_append _ c.loop-n.invariant (λ p. c.write_str-2.ensures.writes p ok) plain))

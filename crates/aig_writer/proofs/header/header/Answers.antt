@@ -17,12 +17,12 @@ pub returns-clause-ok : goal.returns-clause-ok
 returns-clause-ok g c =
     let put = c.in_ok-bytes.ensures.ok in
     let word = c.magic_word.ensures in
-    rw (header_text (file_of (kind_of c.args.kind) (view_circuit c.args.circuit.now)) c.shown-written.result c.header_numbers-numbers.result (c.header_numbers-numbers.ensures c.args.kind) c.shown-written.ensures.value)
+    rw (header_text (file_of (kind_of c.args.kind) (view_circuit c.args.circuit.now)) c.written_count-written.result c.header_numbers-numbers.result (c.header_numbers-numbers.ensures c.args.kind) c.written_count-written.ensures.value)
     (on_ok_weaker _ (Writes-trans (rw word at put)) c.line.ensures.ok)
 
 pub returns-clause-err : goal.returns-clause-err
 returns-clause-err g c =
     let put = c.in_ok-bytes.ensures.ok in
     let word = c.magic_word.ensures in
-    rw (header_text (file_of (kind_of c.args.kind) (view_circuit c.args.circuit.now)) c.shown-written.result c.header_numbers-numbers.result (c.header_numbers-numbers.ensures c.args.kind) c.shown-written.ensures.value)
+    rw (header_text (file_of (kind_of c.args.kind) (view_circuit c.args.circuit.now)) c.written_count-written.result c.header_numbers-numbers.result (c.header_numbers-numbers.ensures c.args.kind) c.written_count-written.ensures.value)
     (on_err_weaker _ (Stops-after _ (rw word at put)) c.line.ensures.err)

@@ -1,6 +1,6 @@
 use Rattle.std.proofs.Common.{arith, ◌∙◌, sym}
 use Rattle.aig_writer.proofs.Counts.{shortened-without, shortened-whole}
-use Rattle.aig_writer.proofs.header.shown.Goals as goal
+use Rattle.aig_writer.proofs.header.written_count.Goals as goal
 
 pub loop-count-preserved : goal.loop-count-preserved
 loop-count-preserved c =
