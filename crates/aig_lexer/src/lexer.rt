@@ -25,8 +25,8 @@ pub(crate) fn expect<F: ByteFeed>(f: &mut F, byte: u8) -> Result<(), LexError>
 
 /// Reads on in a number whose first byte, which was read before, is `first`: its value, and the byte that ends it.
 ///
-/// A number is one or more decimal digits (AIGER format 20071012, "Header"); zeros may lead, and its value is below 2^32. Answers `Shape` where there is no such number, or the bytes end in it, and `Stream` where a
-/// read failed.
+/// A number is one or more decimal digits (AIGER format 20071012, "Header"); zeros may lead, and its value is below 2^32.
+/// Answers `Shape` where there is no such number, or the bytes end in it, and `Stream` where a read failed.
 pub fn number_from<F: ByteFeed>(f: &mut F, first: u8) -> Result<(u32, u8), LexError>
     ensures exact { Gives OnShape (λ x. (x.0, x.1)) (F.coming f.old) (F.coming f.new) result (number_from_at first) }
     ensures stream { IsErrOf result LexError.Stream → F.failed f.new ≡ true }
