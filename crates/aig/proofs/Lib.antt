@@ -1,3 +1,3 @@
-pub mod Copies
+pub mod Results
 pub mod Refusing
 pub mod Texts

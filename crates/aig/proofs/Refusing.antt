@@ -8,7 +8,8 @@ use Rattle.aig_circuit.specs.declared.edge.AigEdge.{AigEdge}
 use Rattle.aig_circuit.specs.declared.node.AigLatch.{AigLatch}
 use Rattle.aig_circuit.specs.Edge.{edge_to}
 use Rattle.aig_circuit.specs.Circuit.{Circuit, latch_leaves}
-use Rattle.aig_grammar.specs.Writable.{IsOpenStart, IsPlainStart, list_lengths}
+use Rattle.aig_format.specs.Writable.{list_lengths}
+use Rattle.aig_circuit.specs.Edges.{HasVariableInit, HasPlainInit}
 
 module _ {X : Type 0} (P : X → Type 0) where
   -- what no element has, each is without
@@ -47,7 +48,7 @@ Any-latch_leaves P latchs = (
 )
 
 -- an initial edge that isn't open is constant
-pub plain_start : (latch : AigLatch) → ¬ IsOpenStart latch → IsPlainStart latch
+pub plain_start : (latch : AigLatch) → ¬ HasVariableInit latch → HasPlainInit latch
 plain_start latch closed = by_init latch.init closed
   where
     by_init : (o : Option AigEdge) → ¬ IsSomeAnd o (λ e. e.node_id ≢ 0) → IfSome o (λ e. e.node_id ≡ 0)
@@ -77,6 +78,6 @@ pub none_where_false : {X : Type 0} (P : X → Type 0) (xs : List X) (r : Bool) 
 none_where_false P xs r told is = All-from_no_Any P xs (λ any. false≢true (sym is ∙ told.1 any))
 
 -- every initial edge is constant where a test for open ones failed
-pub starts_plain : (xs latchs : List AigLatch) (r : Bool) → xs ≡ latchs → (IsTrue r ↔ Any IsOpenStart xs) → r ≡ false → All IsPlainStart latchs
+pub starts_plain : (xs latchs : List AigLatch) (r : Bool) → xs ≡ latchs → (IsTrue r ↔ Any HasVariableInit xs) → r ≡ false → All HasPlainInit latchs
 starts_plain xs latchs r same told is =
-    subst (All IsPlainStart) same (All-weaker (λ latch. ¬ IsOpenStart latch) IsPlainStart plain_start xs (none_where_false IsOpenStart xs r told is))
+    subst (All HasPlainInit) same (All-weaker (λ latch. ¬ HasVariableInit latch) HasPlainInit plain_start xs (none_where_false HasVariableInit xs r told is))

@@ -1,17 +1,18 @@
 -- The names of a circuit are text.
-use Rattle.std.proofs.Common.{◌≡◌, sym, subst, arith, All, ℕ, Option, Some, None, List, String, Global, nat_eq}
+use Rattle.std.proofs.Common.{◌≡◌, ℕ, Option, Some, None, List, String, Global, nat_eq, refl, sym, subst, ◌∙◌}
+use Rattle.std.proofs.lemmas.Cmp.{nat_cmp_total}
+use Rattle.std.proofs.lemmas.Map.Lookups.{map_keys}
 use Rattle.std.specs.Prelude.{IfSome, IsUtf8, option_map, string_bytes}
+use Rattle.std.specs.Ordering.{nat_cmp}
+use Rattle.std.specs.FinMap.{FinMap, entries, get, get-entries, get-from_entries}
+use Rattle.std.specs.FinMap.Entries.{find}
 use Rattle.std.specs.Map.{lookup}
 use Rattle.std.proofs.lemmas.Str.{IsUtf8-string_bytes}
 use Rattle.aig_circuit.specs.View.{names_of}
-use Rattle.aig_circuit.specs.Circuit.{Circuit, IsCircuit}
-use Rattle.aig_circuit.specs.Reencode.{reencoded}
-use Rattle.aig_grammar.specs.Writable.{AreTexts, IsWritable}
-use Rattle.aig_renumber.proofs.Placed.{IsCircuit-reencoded}
-use Rattle.aig_roundtrip.proofs.Reencoded.{IsWritable-reencoded}
-use Rattle.aig_writer.specs.Literals.{FallsBelow, HasSmallNumbers}
-use Rattle.aig_writer.proofs.Small.{FallsBelow-from_circuit, HasSmallNumbers-from_circuit}
+use Rattle.aig_format.specs.Writable.{AreTexts}
+use Rattle.aig_circuit.specs.Renumber.{renumbered_names}
 use Rattle.aig_circuit.proofs.Names.{get_names}
+use Rattle.aig_renumber.proofs.Names.{found_back}
 
 pub AreTexts-names : (es : List (ℕ × String Global)) → AreTexts (names_of es)
 AreTexts-names es n = rw (get_names es n) (is_text (lookup (nat_eq n) es))
@@ -20,14 +21,13 @@ AreTexts-names es n = rw (get_names es n) (is_text (lookup (nat_eq n) es))
     is_text (Some s) = IsUtf8-string_bytes s
     is_text None = tt
 
--- ---- the numbers of a circuit that is written in binary
-
-module _ (c made : Circuit) (is : IsCircuit c) (w : IsWritable c) (same : made ≡ reencoded c) where
-  pub small_numbers : HasSmallNumbers made
-  small_numbers =
-      let few = (IsWritable-reencoded c is w).small.nodes in
-      subst HasSmallNumbers (sym same) (HasSmallNumbers-from_circuit (reencoded c) (IsCircuit-reencoded c is w.closed) (omega arith))
-
-  pub falls_below : All FallsBelow made.nodes
-  falls_below =
-      subst (λ (circuit : Circuit). All FallsBelow circuit.nodes) (sym same) (FallsBelow-from_circuit (reencoded c) (IsCircuit-reencoded c is w.closed) (IsWritable-reencoded c is w).small.nodes)
+-- names that are texts are texts under new numbers
+pub AreTexts-renumbered : (number : ℕ → ℕ) (names : FinMap nat_cmp (List ℕ)) → AreTexts names → AreTexts (renumbered_names number names)
+AreTexts-renumbered number names texts q = by_name (find nat_cmp q (map_keys number (entries names))) refl
+  where
+    by_name : (o : Option (List ℕ)) → find nat_cmp q (map_keys number (entries names)) ≡ o → IfSome (get (renumbered_names number names) q) IsUtf8
+    by_name None is = rw (get-from_entries nat_cmp_total (map_keys number (entries names)) q, is) tt
+    by_name (Some name) is =
+        let old = found_back (λ _. Unit {0}) number (entries names) q name (λ k d h. tt) is in
+        let text : IsUtf8 name = subst (λ (o : Option (List ℕ)). IfSome o IsUtf8) (get-entries names old.0 ∙ old.3) (texts old.0) in
+        rw (get-from_entries nat_cmp_total (map_keys number (entries names)) q, is) text

@@ -1,23 +1,25 @@
 //! Reading and writing AIGER.
 
-ghost use Rattle.std.specs.Prelude.{◌≡◌, ◌≢◌, ◌↔◌, ◌⊎◌, ◌<◌, ◌≤◌, ◌^◌, ℕ, List, Some, false, length, All, Any, Contains, IfErr, IfOk, IfSome, IsErrOf, IsTrue, OnOk, true};
+ghost use Rattle.std.specs.Prelude.{◌≡◌, ◌≢◌, ◌↔◌, ◌⊎◌, ◌<◌, ◌≤◌, ◌^◌, ℕ, List, Some, false, length, All, Any, Contains, IfErr, IfOk, IfSome, IsErrOf, IsOk, IsTrue, OnOk, true, if◌then◌else◌};
 ghost use Rattle.std.specs.Io.KnownBytes.{Appends, Consumes, IsAtEnd};
 ghost use Rattle.aig_circuit.specs.Reencode.{reencoded};
-ghost use Rattle.aig_grammar.specs.Circuit.{binary_of, circuit_of, file_of, text_of, IsReadAgain};
-ghost use Rattle.aig_grammar.specs.File.{Binary, File, Text};
-ghost use Rattle.aig_grammar.specs.Fits.{Accepts};
+ghost use Rattle.aig_format.specs.Circuit.{binary_of, circuit_of, file_of, text_of, IsReadAgain};
+ghost use Rattle.aig_format.specs.declared.FileKind.TheVariants.{Binary, Text};
+ghost use Rattle.aig_format.specs.File.{File};
+ghost use Rattle.aig_format.specs.Fits.{Accepts};
 ghost use Rattle.aig_reader.specs.Reading.{ReadsExactly, UnlessInterrupted};
-ghost use Rattle.aig_writer.specs.Sinks.{AppendsBeginning};
-ghost use Rattle.aig_circuit.specs.Circuit.{IsCircuit};
+ghost use Rattle.aig_writer.specs.Numbering.{IsBinaryNumbering};
+ghost use Rattle.aig_writer.specs.Sinks.{AppendsBeginning, WritesOrStops};
+ghost use Rattle.aig_circuit.specs.Circuit.{IsCircuit, IsClosed};
 ghost use Rattle.aig_circuit.specs.View.{names_of};
-ghost use Rattle.aig_grammar.specs.Writable.{HasLineFeed, IsOpenStart, IsSmall, named_nodes};
+ghost use Rattle.aig_format.specs.Writable.{HasLineFeed, IsSmall, IsWritable, named_nodes};
+ghost use Rattle.aig_circuit.specs.Edges.{HasVariableInit};
 ghost use Rattle.aig.specs.Writing.{IsRefusal, TellsOf};
 ghost use Rattle.aig.specs.declared.aiger.WriteError.TheVariants as errors;
 
 use crate::graph::{Aig, MOST_NODES};
 use aig_base::{FromRead, MemoryError, Sink, Source, StreamFault, ToWrite};
 use aig_circuit::{AigEdge, AigLatch};
-use aig_display::fmt_text;
 use aig_reader::ReadError;
 use std::alloc::Global;
 use std::collections::HashMap;
@@ -71,8 +73,8 @@ impl From<StreamFault> for WriteError {
 /// The greatest number that a file can have.
 const GREATEST_NUMBER: usize = u32::MAX as usize;
 
-/// The file of a path, made anew.
-fn created<R: Files>(rt: &R, f: Path<'_>) -> Result<ToWrite<R::File>, WriteError>
+/// Makes the file of a path anew.
+fn create_file<R: Files>(rt: &R, f: Path<'_>) -> Result<ToWrite<R::File>, WriteError>
     ensures { IfErr result (λ e. e ≡ WriteError.Open) }
 {
     let Ok(file) = fs::create(rt, f) else {
@@ -83,7 +85,7 @@ fn created<R: Files>(rt: &R, f: Path<'_>) -> Result<ToWrite<R::File>, WriteError
 
 /// Whether some initial edge isn't constant.
 fn has_open_start(latchs: &[AigLatch]) -> bool
-    ensures { IsTrue result ↔ Any IsOpenStart latchs.now }
+    ensures { IsTrue result ↔ Any HasVariableInit latchs.now }
 {
     latchs
         .iter()
@@ -150,6 +152,8 @@ impl Aig {
         ensures circuit { IfOk result (λ aig. (file : File) × (bytes : List ℕ) × Accepts bytes limit file × (aig ≡ circuit_of file) × Consumes (R.left r.old) (R.left r.new) bytes) }
         // The limit is on its nodes.
         ensures few { IfOk result (λ aig. length aig.nodes ≤ limit) }
+        // It has a written form: no leaf is free, initial edges are constant, and names hold no line feed.
+        ensures writable { IfOk result IsWritable }
         // Memory and stream aside, accepted exactly where the bytes are such a file, and TooMany exactly where the header
         // line is good and passes the limit.
         ensures exact { IfSome (R.left r.old) (λ bytes. UnlessInterrupted result (ReadsExactly result bytes limit)) }
@@ -252,7 +256,7 @@ impl Aig {
         ensures faults { IfErr result (λ e. IsRefusal e ⊎ (e ≡ WriteError.Stream)) }
     {
         self.refusal()?;
-        Ok(aig_writer::write_text(w, self.view())?)
+        Ok(aig_writer::write_text(w, &self.view())?)
     }
 
     /// Writes the binary form (AIGER format 20071012, "Binary encoding", and AIGER 1.9), which is that of `reencode`. It
@@ -273,8 +277,9 @@ impl Aig {
         ensures never_open { IsErrOf result WriteError.Open → ⊥ }
     {
         self.refusal()?;
-        let made = self.reencode()?;
-        Ok(aig_writer::write_binary(w, made.view())?)
+        let circuit = self.view();
+        let numbers = aig_writer::binary_numbers(&circuit)?;
+        Ok(aig_writer::write_binary(w, &circuit, &numbers)?)
     }
 
     /// Writes the circuit to the file of a path, in the text form where `ascii` is true, and else in the binary form.
@@ -286,13 +291,40 @@ impl Aig {
         ensures no_memory { ascii ≡ true → IsErrOf result WriteError.Memory → ⊥ }
     {
         self.refusal()?;
+        let numbers = self.form_numbers(ascii)?;
+        let mut file = create_file(rt, f)?;
+        Ok(self.write_form(&mut file, ascii, &numbers)?)
+    }
+
+    /// The table of new numbers that a form is written through: none for the text form.
+    fn form_numbers(&self, ascii: bool) -> Result<Vec<usize>, MemoryError>
+        requires { IsClosed self.now }
+        ensures numbers { IfOk result (λ numbers. ascii ≡ false → IsBinaryNumbering self.now numbers.items) }
+        ensures no_memory { ascii ≡ true → IsOk result }
+    {
         if ascii {
-            let mut file = created(rt, f)?;
-            Ok(aig_writer::write_text(&mut file, self.view())?)
+            return Ok(Vec::new(self.allocator()));
+        }
+        aig_writer::binary_numbers(&self.view())
+    }
+
+    /// Writes the text form where `ascii` is true, and else the binary form through its table of new numbers.
+    fn write_form<W: Sink>(
+        &self,
+        w: &mut W,
+        ascii: bool,
+        numbers: &[usize],
+    ) -> Result<(), StreamFault>
+        requires closed { IsClosed self.now }
+        requires few { length self.now.nodes ≤ 2 ^ 31 }
+        requires numbers { ascii ≡ false → IsBinaryNumbering self.now numbers.now }
+        ensures { let form = if ascii then text_of self.now else binary_of self.now in
+            WritesOrStops W.held W.failed w.old result form w.new }
+    {
+        if ascii {
+            aig_writer::write_text(w, &self.view())
         } else {
-            let made = self.reencode()?;
-            let mut file = created(rt, f)?;
-            Ok(aig_writer::write_binary(&mut file, made.view())?)
+            aig_writer::write_binary(w, &self.view(), numbers)
         }
     }
 }
@@ -306,7 +338,7 @@ impl fmt::Display for Aig {
 
     fn fmt<W: fmt::Write>(&self, f: &mut fmt::Formatter<W>) -> fmt::Result {
         match self.refusal() {
-            Ok(()) => fmt_text(&self.view(), f),
+            Ok(()) => aig_writer::fmt_text(&self.view(), f),
             Err(_) => Err(fmt::Error),
         }
     }

@@ -1,7 +1,7 @@
 //! The clauses of a circuit.
 
 ghost use Rattle.std.specs.Prelude.{◌≤◌, ◌^◌, false, IfOk, length};
-ghost use Rattle.aig_clauses.specs.Cnf.{FixesRoots, HasClauses, NodeValuesSatisfy};
+ghost use Rattle.aig_cnf.specs.Cnf.{FixesRoots, HasClauses, NodeValuesSatisfy};
 
 use crate::graph::Aig;
 use aig_base::{DagCnf, MemoryError};
@@ -21,6 +21,6 @@ impl Aig {
         // The node values under any leaf values satisfy.
         ensures satisfied { IfOk result (λ lists. NodeValuesSatisfy self.now lists) }
     {
-        aig_clauses::clauses(self.allocator(), &self.view(), false)
+        aig_cnf::encode(self.allocator(), &self.view(), false)
     }
 }

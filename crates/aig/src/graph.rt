@@ -1,11 +1,13 @@
 //! Circuits: their nodes, inputs, latches, properties and names.
 
-ghost use Rattle.std.specs.Prelude.{◌≡◌, ◌↔◌, ◌<◌, ◌≤◌, ◌^◌, ◌++◌, ◌∷◌, [], Some, false, IsTrue, IfOk, IfSome, OnOk, OnErr, length, map, slice_get};
+ghost use Rattle.std.specs.Prelude.{◌≡◌, ◌↔◌, ◌<◌, ◌≤◌, ◌^◌, ◌++◌, ◌∷◌, [], Some, false, IsTrue, All, IfOk, IfSome, OnOk, OnErr, length, map, slice_get};
 ghost use Rattle.aig_circuit.specs.declared.node.AigNodeType.TheVariants.{Leaf};
 ghost use Rattle.aig_circuit.specs.Node.{Admits, gates_of};
 ghost use Rattle.aig_circuit.specs.Build.{with_node};
 ghost use Rattle.aig_circuit.specs.Circuit.{BeginsWith, HasFreeLeaf, IsCircuit, IsClosed, IsInRange, IsLeaf, IsFree, only_false};
-ghost use Rattle.aig_circuit.specs.View.{lists_circuit, names_of, view_circuit};
+ghost use Rattle.aig_circuit.specs.Reach.{IsOperand, IsReached, MarksExactly};
+ghost use Rattle.aig_circuit.specs.View.{lists_circuit, names_of};
+ghost use Rattle.aig_format.specs.Writable.{AreTexts};
 
 mod builders;
 mod names;
@@ -20,7 +22,6 @@ use std::alloc::{AllocError, Global};
 use std::collections::HashMap;
 use std::marker::Model;
 use std::ops::{Index, Range};
-pub use writing::PropList;
 
 /// The most nodes whose edges have literals.
 pub(crate) const MOST_NODES: usize = 1 << 31;
@@ -33,15 +34,7 @@ pub(crate) const MOST_NODES: usize = 1 << 31;
 /// edges, a list of justice sets, and names of nodes.
 #[derive(Drop)]
 pub struct Aig {
-    nodes: Vec<AigNode>,
-    inputs: Vec<usize>,
-    latchs: Vec<AigLatch>,
-    outputs: Vec<AigEdge>,
-    bads: Vec<AigEdge>,
-    constraints: Vec<AigEdge>,
-    justice: Vec<Vec<AigEdge>>,
-    fairness: Vec<AigEdge>,
-    symbols: HashMap<usize, String>,
+    pub(crate) lists: CircuitLists,
 }
 
 impl Model for Aig {
@@ -70,15 +63,17 @@ impl Aig {
         let mut nodes = Vec::new(alloc);
         nodes.push(false_node())?;
         Ok(Aig {
-            nodes,
-            inputs: Vec::new(alloc),
-            latchs: Vec::new(alloc),
-            outputs: Vec::new(alloc),
-            bads: Vec::new(alloc),
-            constraints: Vec::new(alloc),
-            justice: Vec::new(alloc),
-            fairness: Vec::new(alloc),
-            symbols: HashMap::new(alloc),
+            lists: CircuitLists {
+                nodes,
+                inputs: Vec::new(alloc),
+                latchs: Vec::new(alloc),
+                outputs: Vec::new(alloc),
+                bads: Vec::new(alloc),
+                constraints: Vec::new(alloc),
+                justice: Vec::new(alloc),
+                fairness: Vec::new(alloc),
+                names: HashMap::new(alloc),
+            },
         })
     }
 
@@ -87,51 +82,21 @@ impl Aig {
         requires { IsCircuit (lists_circuit lists) }
         ensures { result ≡ lists_circuit lists }
     {
-        let CircuitLists {
-            nodes,
-            inputs,
-            latchs,
-            outputs,
-            bads,
-            constraints,
-            justice,
-            fairness,
-            names,
-        } = lists;
-        Aig {
-            nodes,
-            inputs,
-            latchs,
-            outputs,
-            bads,
-            constraints,
-            justice,
-            fairness,
-            symbols: names,
-        }
+        Aig { lists }
     }
 
     /// The allocator of its lists.
     pub(crate) fn allocator(&self) -> Global {
-        *self.nodes.allocator()
+        *self.lists.nodes.allocator()
     }
 
-    /// Its lists, lent.
+    /// The circuit, borrowed.
     pub(crate) fn view(&self) -> CircuitView<'_>
-        ensures lists { view_circuit result ≡ self.now }
+        ensures value { result ≡ self.now }
         ensures circuit { IsCircuit self.now }
+        ensures texts { AreTexts self.now.names }
     {
-        CircuitView {
-            nodes: &self.nodes,
-            inputs: &self.inputs,
-            latchs: &self.latchs,
-            outputs: &self.outputs,
-            bads: &self.bads,
-            constraints: &self.constraints,
-            justice: &self.justice,
-            fairness: &self.fairness,
-            names: &self.symbols,
-        }
+        CircuitView::new(&self.lists)
     }
 
     /// Adds a free leaf, and answers its number.
@@ -140,7 +105,7 @@ impl Aig {
         ensures ok { OnOk result (self.new ≡ record self.old { nodes = with_node self.old.nodes Leaf }) }
         ensures err { OnErr result (self.new ≡ self.old) }
     {
-        build::add_leaf(&mut self.nodes)
+        build::new_leaf_node(&mut self.lists.nodes)
     }
 
     /// Adds a leaf that is an input, and answers its number.
@@ -149,9 +114,9 @@ impl Aig {
         ensures ok { IfOk result (λ id. self.new ≡ record self.old { nodes = with_node self.old.nodes Leaf; inputs = self.old.inputs ++ id ∷ [] }) }
         ensures err { OnErr result (self.new ≡ self.old) }
     {
-        self.inputs.reserve(1)?;
-        let id = build::add_leaf(&mut self.nodes)?;
-        self.inputs.push(id)?;
+        self.lists.inputs.reserve(1)?;
+        let id = build::new_leaf_node(&mut self.lists.nodes)?;
+        self.lists.inputs.push(id)?;
         Ok(id)
     }
 
@@ -162,7 +127,7 @@ impl Aig {
         ensures ok { OnOk result (self.new ≡ record self.old { inputs = self.old.inputs ++ id ∷ [] }) }
         ensures err { OnErr result (self.new ≡ self.old) }
     {
-        self.inputs.push(id)?;
+        self.lists.inputs.push(id)?;
         Ok(())
     }
 
@@ -175,9 +140,9 @@ impl Aig {
         ensures ok { IfOk result (λ id. self.new ≡ record self.old { nodes = with_node self.old.nodes Leaf; latchs = self.old.latchs ++ record { input = id; next = next; init = init } ∷ [] }) }
         ensures err { OnErr result (self.new ≡ self.old) }
     {
-        self.latchs.reserve(1)?;
-        let id = build::add_leaf(&mut self.nodes)?;
-        self.latchs.push(AigLatch::new(id, next, init))?;
+        self.lists.latchs.reserve(1)?;
+        let id = build::new_leaf_node(&mut self.lists.nodes)?;
+        self.lists.latchs.push(AigLatch::new(id, next, init))?;
         Ok(id)
     }
 
@@ -196,7 +161,7 @@ impl Aig {
         ensures ok { OnOk result (self.new ≡ record self.old { latchs = self.old.latchs ++ record { input = id; next = next; init = init } ∷ [] }) }
         ensures err { OnErr result (self.new ≡ self.old) }
     {
-        self.latchs.push(AigLatch::new(id, next, init))?;
+        self.lists.latchs.push(AigLatch::new(id, next, init))?;
         Ok(())
     }
 
@@ -205,63 +170,73 @@ impl Aig {
         ensures value { result.now ≡ self.now.nodes }
         ensures circuit { IsCircuit self.now }
     {
-        &self.nodes
+        &self.lists.nodes
     }
 
     /// The numbers of its inputs.
     pub fn inputs(&self) -> &[usize]
-        ensures { result.now ≡ self.now.inputs }
+        ensures value { result.now ≡ self.now.inputs }
+        ensures circuit { IsCircuit self.now }
     {
-        &self.inputs
+        &self.lists.inputs
     }
 
     /// Its latches.
     pub fn latchs(&self) -> &[AigLatch]
-        ensures { result.now ≡ self.now.latchs }
+        ensures value { result.now ≡ self.now.latchs }
+        ensures circuit { IsCircuit self.now }
     {
-        &self.latchs
+        &self.lists.latchs
     }
 
     /// The edges of its outputs.
     pub fn outputs(&self) -> &[AigEdge]
-        ensures { result.now ≡ self.now.outputs }
+        ensures value { result.now ≡ self.now.outputs }
+        ensures circuit { IsCircuit self.now }
     {
-        &self.outputs
+        &self.lists.outputs
     }
 
     /// The edges of its bad state properties.
     pub fn bads(&self) -> &[AigEdge]
-        ensures { result.now ≡ self.now.bads }
+        ensures value { result.now ≡ self.now.bads }
+        ensures circuit { IsCircuit self.now }
     {
-        &self.bads
+        &self.lists.bads
     }
 
     /// The edges of its invariant constraints.
     pub fn constraints(&self) -> &[AigEdge]
-        ensures { result.now ≡ self.now.constraints }
+        ensures value { result.now ≡ self.now.constraints }
+        ensures circuit { IsCircuit self.now }
     {
-        &self.constraints
+        &self.lists.constraints
     }
 
     /// The edges of its justice properties, a set each.
     pub fn justice(&self) -> &[Vec<AigEdge>]
-        ensures { map (λ set. set.items) result.now ≡ self.now.justice }
+        ensures value { map (λ set. set.items) result.now ≡ self.now.justice }
+        ensures circuit { IsCircuit self.now }
     {
-        &self.justice
+        &self.lists.justice
     }
 
     /// The edges of its fairness constraints.
     pub fn fairness(&self) -> &[AigEdge]
-        ensures { result.now ≡ self.now.fairness }
+        ensures value { result.now ≡ self.now.fairness }
+        ensures circuit { IsCircuit self.now }
     {
-        &self.fairness
+        &self.lists.fairness
     }
 
     /// The names of nodes, by their numbers.
     pub fn symbols(&self) -> &HashMap<usize, String>
-        ensures { names_of result.now.entries ≡ self.now.names }
+        ensures value { names_of result.now.entries ≡ self.now.names }
+        // Each name is UTF-8.
+        ensures texts { AreTexts self.now.names }
+        ensures circuit { IsCircuit self.now }
     {
-        &self.symbols
+        &self.lists.names
     }
 
     /// How many nodes it has.
@@ -269,21 +244,21 @@ impl Aig {
         ensures value { result ≡ length self.now.nodes }
         ensures circuit { IsCircuit self.now }
     {
-        self.nodes.len()
+        self.lists.nodes.len()
     }
 
     /// The numbers of its nodes but 0.
     pub fn nodes_range(&self) -> Range<usize>
         ensures { result ≡ record { start = 1; «end» = length self.now.nodes } }
     {
-        1..self.nodes.len()
+        1..self.lists.nodes.len()
     }
 
     /// The numbers of its nodes.
     pub fn nodes_range_with_false(&self) -> Range<usize>
         ensures { result ≡ record { start = 0; «end» = length self.now.nodes } }
     {
-        0..self.nodes.len()
+        0..self.lists.nodes.len()
     }
 
     /// Its gates in rising number.
@@ -291,14 +266,14 @@ impl Aig {
         ensures gates { result ≡ gates_of self.now.nodes }
         ensures bound { length result < 2 ^ 64 }
     {
-        gates_among(&self.nodes)
+        gates_among(&self.lists.nodes)
     }
 
     /// Whether there is a node of this number.
     pub fn has_node(&self, id: usize) -> bool
         ensures { IsTrue result ↔ (id < length self.now.nodes) }
     {
-        id < self.nodes.len()
+        id < self.lists.nodes.len()
     }
 
     /// Whether there is a node of the edge's number.
@@ -312,7 +287,12 @@ impl Aig {
     pub fn is_free_leaf(&self, id: usize) -> bool
         ensures { IsTrue result ↔ (IsLeaf self.now.nodes id × IsFree self.now.inputs self.now.latchs id) }
     {
-        leaves::is_free_leaf(&self.nodes, &self.inputs, &self.latchs, id)
+        leaves::is_free_leaf(
+            &self.lists.nodes,
+            &self.lists.inputs,
+            &self.lists.latchs,
+            id,
+        )
     }
 
     /// Whether no leaf is free.
@@ -320,14 +300,14 @@ impl Aig {
         ensures closed { IsTrue result ↔ IsClosed self.now }
         ensures open { result ≡ false → HasFreeLeaf self.now.nodes self.now.inputs self.now.latchs }
     {
-        leaves::is_closed(&self.nodes, &self.inputs, &self.latchs)
+        leaves::is_closed(&self.lists.nodes, &self.lists.inputs, &self.lists.latchs)
     }
 
     /// Whether it has at most 2^31 nodes, so that each edge has a literal.
     pub fn fits_lits(&self) -> bool
         ensures { IsTrue result ↔ (length self.now.nodes ≤ 2 ^ 31) }
     {
-        self.nodes.len() <= MOST_NODES
+        self.lists.nodes.len() <= MOST_NODES
     }
 
     /// Whether a node may stand in place of node `i`: node `i` is there, the number is `i`, the kind is the same, and a
@@ -335,15 +315,28 @@ impl Aig {
     pub fn admits(&self, i: usize, node: &AigNode) -> bool
         ensures { IsTrue result ↔ Admits self.now.nodes i node.now }
     {
-        checks::admits(&self.nodes, i, node)
+        checks::admits(&self.lists.nodes, i, node)
     }
 
     /// Whether its first nodes are those of `from`, and its latches have the same leaves in the same order.
     pub fn begins_with(&self, from: &Aig) -> bool
         ensures { IsTrue result ↔ BeginsWith self.now from.now }
     {
-        checks::has_first(&self.nodes, &from.nodes)
-            && checks::have_same_leaves(&self.latchs, &from.latchs)
+        checks::has_first(&self.lists.nodes, &from.lists.nodes)
+            && checks::have_same_leaves(&self.lists.latchs, &from.lists.latchs)
+    }
+}
+
+impl Aig {
+    /// Returns one mark a node: marked are the nodes of these edges and all that they reach along operands (crate aig,
+    /// `fanin_logic_cone`). Node 0 is marked only if it is reached, and latches aren't crossed. Requires `has_edge` of
+    /// each edge.
+    pub fn fanin_logic_cone(&self, logic: &[AigEdge]) -> Result<Vec<bool>, MemoryError>
+        requires { All (IsInRange self.now.nodes) logic.now }
+        ensures { IfOk result (λ marks. MarksExactly self.now.nodes
+            (IsReached (IsOperand self.now.nodes) (map (λ e. e.node_id) logic.now)) marks.items) }
+    {
+        aig_cone::fanin_logic_cone(self.allocator(), self.nodes(), logic)
     }
 }
 
@@ -352,33 +345,11 @@ impl Clone for Aig {
 
     /// A copy, which is the same circuit.
     fn clone(&self) -> Result<Aig, AllocError> {
-        let alloc = self.allocator();
-        Ok(Aig {
-            nodes: Vec::from_slice(alloc, &self.nodes)?,
-            inputs: Vec::from_slice(alloc, &self.inputs)?,
-            latchs: Vec::from_slice(alloc, &self.latchs)?,
-            outputs: Vec::from_slice(alloc, &self.outputs)?,
-            bads: Vec::from_slice(alloc, &self.bads)?,
-            constraints: Vec::from_slice(alloc, &self.constraints)?,
-            justice: copied_sets(&self.justice)?,
-            fairness: Vec::from_slice(alloc, &self.fairness)?,
-            symbols: copied_names(&self.symbols)?,
-        })
+        match self.view().to_lists() {
+            Ok(lists) => Ok(Aig { lists }),
+            Err(_) => Err(AllocError),
+        }
     }
-}
-
-/// A copy of the sets.
-fn copied_sets(sets: &Vec<Vec<AigEdge>>) -> Result<Vec<Vec<AigEdge>>, AllocError>
-    ensures { IfOk result (λ copy. map (λ set. set.items) copy.items ≡ map (λ set. set.items) sets.now.items) }
-{
-    sets.clone()
-}
-
-/// A copy of the names.
-fn copied_names(names: &HashMap<usize, String>) -> Result<HashMap<usize, String>, AllocError>
-    ensures { IfOk result (λ copy. names_of copy.entries ≡ names_of names.now.entries) }
-{
-    names.clone()
 }
 
 impl Index<usize> for Aig {
@@ -389,6 +360,6 @@ impl Index<usize> for Aig {
     ghost index_gives = { λ aig id node. slice_get aig.nodes id ≡ Some node };
 
     fn index(&self, id: usize) -> &AigNode {
-        &self.nodes[id]
+        &self.lists.nodes[id]
     }
 }

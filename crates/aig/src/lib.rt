@@ -5,8 +5,11 @@ mod aiger;
 mod cnf;
 mod graph;
 mod others;
+mod strash;
+mod ternary;
 
-pub use aig_circuit::{AigEdge, AigLatch, AigNode, AigNodeType, AndsIter};
+pub use aig_circuit::{AigEdge, AigLatch, AigNode, AigNodeType, AndsIter, PropList};
 pub use aig_reader::{ReadError, Section};
 pub use aiger::WriteError;
-pub use graph::{Aig, PropList};
+pub use graph::Aig;
+pub use ternary::TernarySimulate;

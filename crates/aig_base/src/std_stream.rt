@@ -1,7 +1,8 @@
 //! Sources and sinks over std's readers and writers.
 
-ghost use Rattle.std.specs.Prelude.{◌≡◌, ◌-◌, ◌^◌, false};
-ghost use Rattle.aig_base.specs.Wrapped.{reader_of, writer_of};
+ghost use Rattle.std.specs.Prelude.{◌≡◌, ◌+◌, ◌-◌, ◌^◌, ◌<◌, ◌≤◌, false, is_err, length, take, IfOk, OnOk, IsErr, IsTrue};
+ghost use Rattle.std.specs.Io.KnownBytes.{Consumes, IsAtEnd};
+ghost use Rattle.aig_base.specs.Wrapped.{pulls_of, read_failed, reader_of, writer_of};
 
 use crate::stream::{Sink, Source, StreamFault};
 use std::io::{Read, Write};
@@ -20,8 +21,8 @@ impl<R: Read> FromRead<R> {
     /// The source over a reader.
     pub fn new(inner: R) -> Self
         ensures reader { reader_of result ≡ inner }
-        ensures sound { ⟦<FromRead<R> as Source>⟧.failed result ≡ false }
-        ensures pulls { ⟦<FromRead<R> as Source>⟧.pulls result ≡ 2 ^ 64 - 1 }
+        ensures sound { read_failed result ≡ false }
+        ensures pulls { pulls_of result ≡ 2 ^ 64 - 1 }
     {
         FromRead {
             inner,
@@ -44,13 +45,26 @@ impl<R: Read> FromRead<R> {
 }
 
 impl<R: Read> Source for FromRead<R> {
+    ghost use Rattle.aig_base.specs.Wrapped.{pulls_of, read_failed};
+
     ghost left = { λ s. R.remaining s.inner };
 
-    ghost failed = { λ s. s.failed };
+    ghost failed = { read_failed };
 
-    ghost pulls = { λ s. s.pulls };
+    ghost pulls = { pulls_of };
 
-    fn pull(&mut self, buf: &mut [u8]) -> Result<usize, StreamFault> {
+    fn pull(&mut self, buf: &mut [u8]) -> Result<usize, StreamFault>
+        ensures bound { IfOk result (λ n. n ≤ length buf.new) }
+        ensures moved { IfOk result (λ n. Consumes (⟦<FromRead<R> as Source>⟧.left self.old) (⟦<FromRead<R> as Source>⟧.left self.new) (take n buf.new)) }
+        ensures end { IfOk result (λ n. n ≡ 0 → 0 < length buf.new → IsAtEnd (⟦<FromRead<R> as Source>⟧.left self.new)) }
+        ensures fewer { IfOk result (λ n. 0 < n → pulls_of self.new < pulls_of self.old) }
+        ensures tells { read_failed self.new ≡ is_err result }
+        ensures for_good { IsTrue (read_failed self.old) → IsErr result }
+
+        // Each pull is counted once, also one of nothing, and after the last one it fails.
+        ensures counted { OnOk result (pulls_of self.old ≡ pulls_of self.new + 1) }
+        ensures spent { pulls_of self.old ≡ 0 → IsErr result }
+    {
         if self.failed || self.pulls == 0 {
             self.failed = true;
             return Err(StreamFault::Failed);

@@ -151,9 +151,9 @@ impl Sink for Taker {
         ensures most { IfOk result (λ n. n ≤ most_taken self.old) }
         ensures counted { IfOk result (λ n. room_of self.old ≡ room_of self.new + n) }
 
-        // It fails once it took j bytes, and for no other reason.
+        // It fails at a byte past the j that it took, and for no other reason.
         ensures full { 0 < length piece.now → room_of self.old ≡ 0 → IsErr result }
-        ensures reason { OnErr result (IsTrue (sink_failed self.old) ⊎ (room_of self.old ≡ 0)) }
+        ensures reason { OnErr result (IsTrue (sink_failed self.old) ⊎ (room_of self.old ≡ 0) × (0 < length piece.now)) }
         ensures same_most { most_taken self.new ≡ most_taken self.old }
     {
         if self.failed || (self.room == 0 && !piece.is_empty()) {

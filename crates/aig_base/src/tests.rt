@@ -74,6 +74,36 @@ fn writes_to_std(rt: HostRuntime) {
 }
 
 #[test]
+fn reads_much_from_std(rt: HostRuntime) -> Result<(), Fail> {
+    let bytes = vec![in rt.alloc(); 7; 300_000]?;
+    let mut buf = vec![in rt.alloc(); 0; 300_000]?;
+    let mut whole = FromRead::new(bytes.as_slice());
+    assert_eq!(rt; pull_once(&mut whole, &mut buf), Ok(300_000));
+    assert_eq!(rt; buf, bytes);
+    assert_eq!(rt; pull_once(&mut whole, &mut buf), Ok(0));
+    let mut single = FromRead::new(bytes.as_slice());
+    for _ in 0..300_000 {
+        assert_eq!(rt; pull_once(&mut single, &mut buf[..1]), Ok(1));
+    }
+    assert_eq!(rt; pull_once(&mut single, &mut buf[..1]), Ok(0));
+    Ok(())
+}
+
+#[test]
+fn writes_much_to_std(rt: HostRuntime) -> Result<(), Fail> {
+    let piece = vec![in rt.alloc(); 7; 300_000]?;
+    let mut whole = ToWrite::new(Vec::new(rt.alloc()));
+    assert_eq!(rt; put_once(&mut whole, &piece), Ok(300_000));
+    assert_eq!(rt; whole.into_inner(), piece);
+    let mut single = ToWrite::new(Vec::new(rt.alloc()));
+    for _ in 0..300_000 {
+        assert_eq!(rt; put_once(&mut single, b"a"), Ok(1));
+    }
+    assert_eq!(rt; single.into_inner().len(), 300_000);
+    Ok(())
+}
+
+#[test]
 fn fails_where_interrupted(rt: HostRuntime) {
     let mut buf = [0u8; 2];
     let mut source = FromRead::new(Interrupted);

@@ -8,11 +8,11 @@ use Rattle.aig_circuit.specs.declared.edge.AigEdge.{AigEdge}
 use Rattle.aig_circuit.specs.declared.node.AigNodeType.{AigNodeType}
 use Rattle.aig_circuit.specs.declared.node.AigNodeType.TheVariants.{False, Leaf, And}
 use Rattle.aig_circuit.specs.declared.node.AigNode.{AigNode}
-use Rattle.aig_circuit.specs.Edge.{inverted_if, literal_of}
+use Rattle.aig_circuit.specs.Edge.{edge_to, inverted_if, literal_of}
 use Rattle.aig_circuit.specs.Node.{kind_at, FitsBelow, IsOrdered, and_of}
 use Rattle.aig_circuit.specs.Tree.{node_value, edge_value}
 use Rattle.aig_circuit.specs.Circuit.{AreNodes}
-use Rattle.aig_circuit.specs.Build.{with_node, Folds, true_first, true_second, false_first, false_second, same, opposite, AddsGate, AddsGates, Grows, KeepsTrees}
+use Rattle.aig_circuit.specs.Build.{with_node, Folds, true_first, true_second, false_first, false_second, same, opposite, AddsGate, AddsGates, Grows, KeepsTrees, KeepsValues}
 use Rattle.aig_circuit.proofs.Trees.{kind_at-append, kind_at-last, kind_at-within, tree_of-agrees, node_value-agrees, node_value-and, node_value-false}
 
 -- a node of a longer list is an old one or the last
@@ -75,27 +75,53 @@ AreNodes-with_node nodes kind s f fits = record {
 }
 
 pub Grows-longer : (xs ys : List AigNode) → Grows xs ys → length xs ≤ length ys
-Grows-longer xs ys g = rw g.appended (omega (arith, length-append xs g.added))
+Grows-longer xs ys g = g.longer
 
 pub Grows-kept : (xs ys : List AigNode) → Grows xs ys → (n : ℕ) → n < length xs → kind_at ys n ≡ kind_at xs n
 Grows-kept xs ys g n h = rw g.appended (kind_at-append xs g.added n h)
 
+tree_of-append : (xs ys : List AigNode) → IsOrdered (xs ++ ys) → KeepsTrees xs (xs ++ ys)
+tree_of-append xs ys o n h = tree_of-agrees (xs ++ ys) xs o n (λ m k. kind_at-append xs ys m (omega arith))
+
+edge_value-append : (xs ys : List AigNode) → IsOrdered (xs ++ ys) → KeepsValues xs (xs ++ ys)
+edge_value-append xs ys o x e h = ap (inverted_if e.compl) (node_value-agrees (xs ++ ys) xs o x e.node_id (λ m k. kind_at-append xs ys m (omega arith)))
+
+-- sound nodes that begin with others grow from these
+pub grows_by_appending : (xs ys : List AigNode) → AreNodes (xs ++ ys) → Grows xs (xs ++ ys)
+grows_by_appending xs ys s = record {
+  sound = s;
+  added = ys;
+  appended = refl;
+  longer = omega (arith, length-append xs ys);
+  trees = tree_of-append xs ys s.ordered;
+  values = edge_value-append xs ys s.ordered;
+}
+
 pub Grows-itself : (nodes : List AigNode) → AreNodes nodes → Grows nodes nodes
-Grows-itself nodes s = record { sound = s; added = []; appended = sym (append-nil nodes) }
+Grows-itself nodes s = record {
+  sound = s;
+  added = [];
+  appended = sym (append-nil nodes);
+  longer = omega arith;
+  trees = λ n h. refl;
+  values = λ x e h. refl;
+}
 
 pub Grows-then : (xs ys zs : List AigNode) → Grows xs ys → Grows ys zs → Grows xs zs
-Grows-then xs ys zs p q = record {
-  sound = q.sound;
-  added = p.added ++ q.added;
-  appended = q.appended ∙ ap (λ l. l ++ q.added) p.appended ∙ append_assoc xs p.added q.added;
-}
+Grows-then xs ys zs p q =
+    let longer : length xs ≤ length ys = p.longer in
+    record {
+      sound = q.sound;
+      added = p.added ++ q.added;
+      appended = q.appended ∙ ap (λ l. l ++ q.added) p.appended ∙ append_assoc xs p.added q.added;
+      longer = omega arith;
+      trees = λ n h. q.trees n (omega arith) ∙ p.trees n h;
+      values = λ x e h. q.values x e (omega arith) ∙ p.values x e h;
+    }
 
 pub Grows-with_node : (nodes : List AigNode) (kind : AigNodeType) → AreNodes nodes → (kind ≡ False → ⊥) → FitsBelow (length nodes) kind → Grows nodes (with_node nodes kind)
-Grows-with_node nodes kind s f fits = record {
-  sound = AreNodes-with_node nodes kind s f fits;
-  added = record { node_id = length nodes; typ = kind } ∷ [];
-  appended = refl;
-}
+Grows-with_node nodes kind s f fits =
+    grows_by_appending nodes (record { node_id = length nodes; typ = kind } ∷ []) (AreNodes-with_node nodes kind s f fits)
 
 -- cut back to the old length it is the old list
 pub take-Grows : (xs ys : List AigNode) → Grows xs ys → take (length xs) ys ≡ xs
@@ -136,16 +162,13 @@ AddsGates-with_node nodes a b s i j = record {
       ];
 }
 
--- old nodes keep their trees
-pub KeepsTrees-Grows : (xs ys : List AigNode) → AreNodes xs → Grows xs ys → KeepsTrees xs ys
-KeepsTrees-Grows xs ys s p n h = sym (tree_of-agrees xs ys s.ordered n (λ m k. sym (Grows-kept xs ys p m (omega arith))))
-
-pub node_value-Grows : (xs ys : List AigNode) → AreNodes xs → Grows xs ys → (x : ℕ → Bool) (n : ℕ) → n < length xs → node_value ys x n ≡ node_value xs x n
-node_value-Grows xs ys s p x n h = sym (node_value-agrees xs ys s.ordered x n (λ m k. sym (Grows-kept xs ys p m (omega arith))))
+-- old nodes keep their values
+pub node_value-Grows : (xs ys : List AigNode) → Grows xs ys → (x : ℕ → Bool) (n : ℕ) → n < length xs → node_value ys x n ≡ node_value xs x n
+node_value-Grows xs ys p x n h = p.values x (edge_to n false) h
 
 -- edges to old nodes keep their values
 pub edge_value-Grows : (xs ys : List AigNode) → AreNodes xs → Grows xs ys → (x : ℕ → Bool) (e : AigEdge) → e.node_id < length xs → edge_value ys x e ≡ edge_value xs x e
-edge_value-Grows xs ys s p x e h = ap (inverted_if e.compl) (node_value-Grows xs ys s p x e.node_id h)
+edge_value-Grows xs ys s p x e h = p.values x e h
 
 and_inverse : (i v : Bool) → (inverted_if (not i) v && inverted_if i v) ≡ false
 and_inverse true true = refl

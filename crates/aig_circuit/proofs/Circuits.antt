@@ -98,7 +98,7 @@ IsCircuit-only_false = record {
     nothing_named n h = absurd (false≢true (sym (ap is_some (get-empty nat_cmp n)) ∙ h))
 
 -- the leaves of latches are leaves
-latch_leaves-leaves : (c : Circuit) → IsCircuit c → All (IsLeaf c.nodes) (latch_leaves c.latchs)
+pub latch_leaves-leaves : (c : Circuit) → IsCircuit c → All (IsLeaf c.nodes) (latch_leaves c.latchs)
 latch_leaves-leaves c is = All-map (IsLeaf c.nodes) (λ (l : AigLatch). l.input) c.latchs (All-weaker (IsLatch c.nodes) (λ l. IsLeaf c.nodes l.input) (λ l h. h.leaf) c.latchs is.latchs)
 
 -- a number past the nodes is neither an input nor a latch's leaf

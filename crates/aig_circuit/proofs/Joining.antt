@@ -1,4 +1,4 @@
-use Rattle.std.proofs.Common.{◌≡◌, ℕ, Bool, true, false, not, ◌&&◌, ◌||◌, ◌↔◌, IsTrue, List, [], ◌∷◌, ◌++◌, map, refl, sym, ap, ◌∙◌, inl, inr}
+use Rattle.std.proofs.Common.{◌≡◌, ℕ, Bool, true, false, not, ◌&&◌, ◌||◌, ◌↔◌, IsTrue, List, [], ◌∷◌, ◌++◌, map, refl, sym, ap, subst, ◌∙◌, inl, inr}
 use Rattle.std.specs.Prelude.{All}
 use Rattle.std.proofs.Math.Bool.{and_assoc, and-true, not-not}
 use Rattle.std.specs.List.{list_all, list_any}
@@ -10,7 +10,7 @@ use Rattle.aig_circuit.specs.declared.node.AigNode.{AigNode}
 use Rattle.aig_circuit.specs.Edge.{edge_to, inverse, inverted_if}
 use Rattle.aig_circuit.specs.Tree.{node_value, edge_value}
 use Rattle.aig_circuit.specs.Circuit.{AreNodes, IsInRange}
-use Rattle.aig_circuit.specs.Build.{Folds, true_first, true_second, false_first, false_second, same, opposite, FoldsOrAdds, AddsGates, Grows, JoinsByAnd, JoinsByOr}
+use Rattle.aig_circuit.specs.Build.{Folds, true_first, true_second, false_first, false_second, same, opposite, FoldsOrAdds, AddsGates, Grows, JoiningStep, JoinsByAnd, JoinsByOr, JoinsFromLeft}
 use Rattle.aig_circuit.proofs.Trees.{kind_at-within, node_value-false}
 use Rattle.aig_circuit.proofs.Building.{AddsGates-itself, AddsGates-then, edge_value-Grows}
 
@@ -134,3 +134,10 @@ value-both_or_neither old one two three a b both neither e s p q i j k is_both i
     ∙ ap (λ v. (edge_value old x a && edge_value old x b) || v) (is_neither x ∙ ap (λ v. v && edge_value one x (inverse b)) (at a i) ∙ ap (λ v. not (edge_value old x a) && v) (at b j))
     in
     rw is (equal_says (edge_value old x a) (edge_value old x b))
+
+-- one step more
+pub joins_from_left_push : (Step : JoiningStep) (old : List AigNode) (all : AigEdge) (es : List AigEdge) (mid new : List AigNode) (next f e : AigEdge) → JoinsFromLeft Step old all es mid next → Step mid new next f e → JoinsFromLeft Step old all (es ++ f ∷ []) new e
+joins_from_left_push Step old all [] mid new next f e h step =
+    (new, e, subst (λ (m : List AigNode). Step m new all f e) h.0 (subst (λ (a : AigEdge). Step mid new a f e) h.1 step), (refl, refl))
+joins_from_left_push Step old all (g ∷ es) mid new next f e h step =
+    (h.0, h.1, h.2, joins_from_left_push Step h.0 h.1 es mid new next f e h.3 step)

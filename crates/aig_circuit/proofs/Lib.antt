@@ -5,3 +5,6 @@ pub mod Circuits
 pub mod Writing
 pub mod Counting
 pub mod Names
+pub mod Copies
+pub mod Marking
+pub mod Values

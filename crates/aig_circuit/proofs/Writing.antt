@@ -19,7 +19,7 @@ use Rattle.aig_circuit.proofs.Building.{Grows-leaf, Grows-longer}
 use Rattle.aig_circuit.proofs.Circuits.{IsCircuit-over, IsCircuit-grown, IsFree-fresh, init_grown}
 
 -- a circuit stays one under other latches with the same leaves
-IsCircuit-latchs : (c : Circuit) (latchs : List AigLatch) → IsCircuit c → All (IsLatch c.nodes) latchs → latch_leaves latchs ≡ latch_leaves c.latchs → IsCircuit (record c { latchs = latchs })
+pub IsCircuit-latchs : (c : Circuit) (latchs : List AigLatch) → IsCircuit c → All (IsLatch c.nodes) latchs → latch_leaves latchs ≡ latch_leaves c.latchs → IsCircuit (record c { latchs = latchs })
 IsCircuit-latchs c latchs is h same =
     let distinct = subst (AllPairs (λ m n. m ≢ n)) (sym same) is.latchs_distinct in
     let apart = subst (All (λ n. ¬ Contains c.inputs n)) (sym same) is.apart in

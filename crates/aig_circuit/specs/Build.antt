@@ -9,7 +9,7 @@ use Rattle.aig_circuit.specs.declared.node.AigNode.{AigNode}
 use Rattle.aig_circuit.specs.Edge.{edge_to, inverse}
 use Rattle.aig_circuit.specs.Node.{kind_at, and_of}
 use Rattle.aig_circuit.specs.Tree.{tree_of, edge_value}
-use Rattle.aig_circuit.specs.Circuit.{AreNodes, IsInRange}
+use Rattle.aig_circuit.specs.Circuit.{Circuit, AreNodes, IsInRange}
 
 -- the list with one more node of this kind, numbered by its place
 abbrev pub with_node : List AigNode → AigNodeType → List AigNode
@@ -38,16 +38,57 @@ FoldsOrAdds old new a b e =
 abbrev pub KeepsTrees : List AigNode → List AigNode → Type 0
 KeepsTrees old new = (n : ℕ) → n < length old → tree_of new n ≡ tree_of old n
 
--- sound nodes, the old ones first
+-- every edge to an old node keeps its value for all leaf values
+abbrev pub KeepsValues : List AigNode → List AigNode → Type 0
+KeepsValues old new = (x : ℕ → Bool) (e : AigEdge) → IsInRange old e → edge_value new x e ≡ edge_value old x e
+
+-- sound nodes, the old ones first, which keep their trees and values
 pub record Grows (old new : List AigNode) : Type 0 where
   pub sound : AreNodes new
   pub added : List AigNode
   pub appended : new ≡ old ++ added
+  pub longer : length old ≤ length new
+  pub trees : KeepsTrees old new
+  pub values : KeepsValues old new
 
 -- gates alone are added, after the old nodes
 pub record AddsGates (old new : List AigNode) : Type 0 where
   pub grows : Grows old new
   pub gates : (n : ℕ) → length old ≤ n → n < length new → (a b : AigEdge) × (kind_at new n ≡ Some (And a b))
+
+-- gates alone are added to the circuit: all its lists and its names stay
+pub record AddsOnlyGates (old new : Circuit) : Type 0 where
+  pub nodes : AddsGates old.nodes new.nodes
+  pub same : new ≡ record old { nodes = new.nodes }
+
+-- a step from some nodes to others that makes an edge of two edges
+abbrev pub JoiningStep : Type 1
+JoiningStep = List AigNode → List AigNode → AigEdge → AigEdge → AigEdge → Type 0
+
+-- the edge e is made of the edge `all` and the edges es, from the left, by one step for each of es
+abbrev pub JoinsFromLeft : JoiningStep → List AigNode → AigEdge → List AigEdge → List AigNode → AigEdge → Type 0
+JoinsFromLeft Step old all [] new e = (new ≡ old) × (e ≡ all)
+JoinsFromLeft Step old all (f ∷ fs) new e =
+    (mid : List AigNode) × (next : AigEdge) × Step old mid all f next × JoinsFromLeft Step mid next fs new e
+
+-- true and then each of the edges, joined from the left: an edge that folds adds no node, and any other adds one gate
+abbrev pub FoldsOrAddsAll : List AigNode → List AigEdge → List AigNode → AigEdge → Type 0
+FoldsOrAddsAll old es new e = JoinsFromLeft FoldsOrAdds old (edge_to 0 true) es new e
+
+-- the edges joined from the left by one gate for each edge after the first; of no edges true, and no node is added
+abbrev pub AddsGateForEach : List AigNode → List AigEdge → List AigNode → AigEdge → Type 0
+AddsGateForEach old [] new e = (new ≡ old) × (e ≡ edge_to 0 true)
+AddsGateForEach old (f ∷ fs) new e = JoinsFromLeft AddsGate old f fs new e
+
+-- the three steps of equality: the and of a and b, the and of their inverses, and the or of the two
+pub record FoldsOrAddsEq (old new : List AigNode) (a b e : AigEdge) : Type 0 where
+  pub one : List AigNode
+  pub two : List AigNode
+  pub both : AigEdge
+  pub neither : AigEdge
+  pub is_both : FoldsOrAdds old one a b both
+  pub is_neither : FoldsOrAdds one two (inverse a) (inverse b) neither
+  pub is_either : FoldsOrAdds two new (inverse both) (inverse neither) (inverse e)
 
 -- the edge e joins the edges es: its value is what `join` gives of theirs, of no edges it is constant, and of one edge it is that one
 pub record Joins (join : (AigEdge → Bool) → List AigEdge → Bool) (unit : Bool) (old new : List AigNode) (es : List AigEdge) (e : AigEdge) : Type 0 where

@@ -4,5 +4,10 @@ pub mod Tree
 pub mod Circuit
 pub mod Build
 pub mod Runs
+pub mod Renumber
 pub mod Reencode
 pub mod View
+pub mod Edges
+pub mod Reach
+pub mod Marks
+pub mod PropLists

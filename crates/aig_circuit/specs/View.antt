@@ -1,29 +1,14 @@
--- The circuit whose lists are lent, and the circuit whose lists are held.
+-- The circuit of lists of the program.
 use Rattle.std.specs.Prelude.{ℕ, List, map, string_bytes, String}
 use Rattle.std.specs.declared.alloc.Global.{Global}
 use Rattle.std.specs.Ordering.{nat_cmp}
 use Rattle.std.specs.FinMap.{FinMap, from_entries}
 use Rattle.aig_circuit.specs.Circuit.{Circuit}
-use Rattle.aig_circuit.specs.declared.view.CircuitView.{CircuitView}
 use Rattle.aig_circuit.specs.declared.view.CircuitLists.{CircuitLists}
 
 -- the names that the entries hold, by their bytes
 abbrev pub names_of : List (ℕ × String Global) → FinMap nat_cmp (List ℕ)
 names_of es = from_entries (map (λ entry. (entry.0, string_bytes entry.1)) es)
-
--- the circuit of a view
-abbrev pub view_circuit : CircuitView → Circuit
-view_circuit v = record {
-  nodes = v.nodes.now;
-  inputs = v.inputs.now;
-  latchs = v.latchs.now;
-  outputs = v.outputs.now;
-  bads = v.bads.now;
-  constraints = v.constraints.now;
-  justice = map (λ set. set.items) v.justice.now;
-  fairness = v.fairness.now;
-  names = names_of v.names.now.entries;
-}
 
 -- the circuit of these lists
 abbrev pub lists_circuit : CircuitLists → Circuit

@@ -4,25 +4,25 @@
 //! their gate. Each edge that is given has its node in the list. The one error is refused memory, and after it the list
 //! is as it was.
 
-ghost use Rattle.std.specs.Prelude.{◌≡◌, ◌↔◌, ◌<◌, ◌&&◌, ◌||◌, ℕ, Bool, IsTrue, IfOk, IsOk, OnErr, All, length};
+ghost use Rattle.std.specs.Prelude.{◌≡◌, ◌↔◌, ◌<◌, ◌&&◌, ◌||◌, ℕ, Bool, IsTrue, IfOk, IsOk, OnErr, All, length, map, not};
 ghost use Rattle.aig_circuit.specs.declared.node.AigNodeType.TheVariants.{Leaf};
 ghost use Rattle.aig_circuit.specs.Edge.{inverse};
-ghost use Rattle.aig_circuit.specs.Build.{with_node, AddsGate, AddsGates, AddsOneEach, Folds, FoldsOrAdds, Grows, JoinsByAnd, KeepsTrees};
+ghost use Rattle.aig_circuit.specs.Build.{with_node, AddsGate, AddsGates, AddsGateForEach, AddsOneEach, Folds, FoldsOrAdds, FoldsOrAddsAll, FoldsOrAddsEq, Grows, JoinsByAnd, JoinsByOr};
 ghost use Rattle.aig_circuit.specs.Circuit.{AreNodes, IsInRange};
 ghost use Rattle.aig_circuit.specs.Tree.{edge_value};
 
 use crate::edge::AigEdge;
 use crate::node::{AigNode, gate_node, leaf_node};
 use aig_base::MemoryError;
+use std::alloc::Global;
 
 /// Adds a leaf, and answers its number (crate aig, `new_leaf_node`).
-pub fn add_leaf(nodes: &mut Vec<AigNode>) -> Result<usize, MemoryError>
+pub fn new_leaf_node(nodes: &mut Vec<AigNode>) -> Result<usize, MemoryError>
     requires { AreNodes nodes.old.items }
     ensures number { IfOk result (λ id. id ≡ length nodes.old.items) }
     ensures ok { IfOk result (λ _. nodes.new.items ≡ with_node nodes.old.items Leaf) }
     ensures err { OnErr result (nodes.new.items ≡ nodes.old.items) }
     ensures grows { Grows nodes.old.items nodes.new.items }
-    ensures trees { KeepsTrees nodes.old.items nodes.new.items }
 {
     let id = nodes.len();
     nodes.push(leaf_node(id))?;
@@ -31,7 +31,7 @@ pub fn add_leaf(nodes: &mut Vec<AigNode>) -> Result<usize, MemoryError>
 
 /// Adds one gate, the and of two edges, with its operands put in order, and answers the edge to it (crate aig,
 /// `trivial_new_and_node`).
-pub fn add_gate(
+pub fn trivial_new_and_node(
     nodes: &mut Vec<AigNode>,
     fanin0: AigEdge,
     fanin1: AigEdge,
@@ -41,9 +41,10 @@ pub fn add_gate(
     requires second { IsInRange nodes.old.items fanin1 }
     ensures ok { IfOk result (λ e. AddsGate nodes.old.items nodes.new.items fanin0 fanin1 e) }
     ensures edge { IfOk result (λ e. IsInRange nodes.new.items e) }
-    ensures value { IfOk result (λ e. (x : ℕ → Bool) → edge_value nodes.new.items x e ≡ (edge_value nodes.old.items x fanin0 && edge_value nodes.old.items x fanin1)) }
+    ensures value { IfOk result (λ e. (x : ℕ → Bool) →
+        edge_value nodes.new.items x e
+        ≡ (edge_value nodes.old.items x fanin0 && edge_value nodes.old.items x fanin1)) }
     ensures gates { AddsGates nodes.old.items nodes.new.items }
-    ensures trees { KeepsTrees nodes.old.items nodes.new.items }
     ensures err { OnErr result (nodes.new.items ≡ nodes.old.items) }
 {
     let id = nodes.len();
@@ -54,7 +55,7 @@ pub fn add_gate(
 /// The and of two edges: an old edge where they fold, and else a new gate, also where there is such a gate already
 /// (crate aig, `new_and_node`). True with an edge folds to that edge, false with an edge to false, an edge with itself to
 /// that edge, and an edge with its inverse to false.
-pub fn and_of_edges(
+pub fn new_and_node(
     nodes: &mut Vec<AigNode>,
     fanin0: AigEdge,
     fanin1: AigEdge,
@@ -66,9 +67,10 @@ pub fn and_of_edges(
     // Folding takes no memory.
     ensures folds { (f : AigEdge) → Folds fanin0 fanin1 f → IsOk result }
     ensures edge { IfOk result (λ e. IsInRange nodes.new.items e) }
-    ensures value { IfOk result (λ e. (x : ℕ → Bool) → edge_value nodes.new.items x e ≡ (edge_value nodes.old.items x fanin0 && edge_value nodes.old.items x fanin1)) }
+    ensures value { IfOk result (λ e. (x : ℕ → Bool) →
+        edge_value nodes.new.items x e
+        ≡ (edge_value nodes.old.items x fanin0 && edge_value nodes.old.items x fanin1)) }
     ensures gates { AddsGates nodes.old.items nodes.new.items }
-    ensures trees { KeepsTrees nodes.old.items nodes.new.items }
     ensures err { OnErr result (nodes.new.items ≡ nodes.old.items) }
 {
     if fanin0 == AigEdge::constant(true) {
@@ -86,11 +88,12 @@ pub fn and_of_edges(
     if fanin0 == !fanin1 {
         return Ok(AigEdge::constant(false));
     }
-    add_gate(nodes, fanin0, fanin1)
+    trivial_new_and_node(nodes, fanin0, fanin1)
 }
 
-/// The or of two edges, the inverse of the `and_of_edges` of their inverses (crate aig, `new_or_node`).
-pub fn or_of_edges(
+/// Adds one gate for the or of two edges, and answers the inverse of the edge to it: the gate is the and of their inverses
+/// (crate aig, `trivial_new_or_node`).
+pub fn trivial_new_or_node(
     nodes: &mut Vec<AigNode>,
     fanin0: AigEdge,
     fanin1: AigEdge,
@@ -98,21 +101,44 @@ pub fn or_of_edges(
     requires sound { AreNodes nodes.old.items }
     requires first { IsInRange nodes.old.items fanin0 }
     requires second { IsInRange nodes.old.items fanin1 }
-    ensures rule { IfOk result (λ e. FoldsOrAdds nodes.old.items nodes.new.items (inverse fanin0) (inverse fanin1) (inverse e)) }
+    ensures ok { IfOk result (λ e.
+        AddsGate nodes.old.items nodes.new.items (inverse fanin0) (inverse fanin1) (inverse e)) }
+    ensures edge { IfOk result (λ e. IsInRange nodes.new.items e) }
+    ensures value { IfOk result (λ e. (x : ℕ → Bool) →
+        edge_value nodes.new.items x e
+        ≡ (edge_value nodes.old.items x fanin0 || edge_value nodes.old.items x fanin1)) }
+    ensures gates { AddsGates nodes.old.items nodes.new.items }
+    ensures err { OnErr result (nodes.new.items ≡ nodes.old.items) }
+{
+    Ok(!trivial_new_and_node(nodes, !fanin0, !fanin1)?)
+}
+
+/// The or of two edges, the inverse of the `new_and_node` of their inverses (crate aig, `new_or_node`).
+pub fn new_or_node(
+    nodes: &mut Vec<AigNode>,
+    fanin0: AigEdge,
+    fanin1: AigEdge,
+) -> Result<AigEdge, MemoryError>
+    requires sound { AreNodes nodes.old.items }
+    requires first { IsInRange nodes.old.items fanin0 }
+    requires second { IsInRange nodes.old.items fanin1 }
+    ensures rule { IfOk result (λ e.
+        FoldsOrAdds nodes.old.items nodes.new.items (inverse fanin0) (inverse fanin1) (inverse e)) }
     // Folding takes no memory.
     ensures folds { (f : AigEdge) → Folds (inverse fanin0) (inverse fanin1) f → IsOk result }
     ensures edge { IfOk result (λ e. IsInRange nodes.new.items e) }
-    ensures value { IfOk result (λ e. (x : ℕ → Bool) → edge_value nodes.new.items x e ≡ (edge_value nodes.old.items x fanin0 || edge_value nodes.old.items x fanin1)) }
+    ensures value { IfOk result (λ e. (x : ℕ → Bool) →
+        edge_value nodes.new.items x e
+        ≡ (edge_value nodes.old.items x fanin0 || edge_value nodes.old.items x fanin1)) }
     ensures gates { AddsGates nodes.old.items nodes.new.items }
-    ensures trees { KeepsTrees nodes.old.items nodes.new.items }
     ensures err { OnErr result (nodes.new.items ≡ nodes.old.items) }
 {
-    Ok(!and_of_edges(nodes, !fanin0, !fanin1)?)
+    Ok(!new_and_node(nodes, !fanin0, !fanin1)?)
 }
 
-/// The edge that is true where two edges are equal: the `or_of_edges` of their `and_of_edges` and of that of their
-/// inverses (crate aig, `new_eq_node`).
-pub fn eq_of_edges(
+/// The edge that is true where the first edge implies the second, the `new_or_node` of the first one's inverse and the
+/// second (crate aig, `new_imply_node`).
+pub fn new_imply_node(
     nodes: &mut Vec<AigNode>,
     fanin0: AigEdge,
     fanin1: AigEdge,
@@ -120,10 +146,37 @@ pub fn eq_of_edges(
     requires sound { AreNodes nodes.old.items }
     requires first { IsInRange nodes.old.items fanin0 }
     requires second { IsInRange nodes.old.items fanin1 }
+    ensures rule { IfOk result (λ e.
+        FoldsOrAdds nodes.old.items nodes.new.items fanin0 (inverse fanin1) (inverse e)) }
+    // Folding takes no memory.
+    ensures folds { (f : AigEdge) → Folds fanin0 (inverse fanin1) f → IsOk result }
     ensures edge { IfOk result (λ e. IsInRange nodes.new.items e) }
-    ensures value { IfOk result (λ e. (x : ℕ → Bool) → IsTrue (edge_value nodes.new.items x e) ↔ (edge_value nodes.old.items x fanin0 ≡ edge_value nodes.old.items x fanin1)) }
+    ensures value { IfOk result (λ e. (x : ℕ → Bool) →
+        edge_value nodes.new.items x e
+        ≡ (not (edge_value nodes.old.items x fanin0) || edge_value nodes.old.items x fanin1)) }
     ensures gates { AddsGates nodes.old.items nodes.new.items }
-    ensures trees { KeepsTrees nodes.old.items nodes.new.items }
+    ensures err { OnErr result (nodes.new.items ≡ nodes.old.items) }
+{
+    new_or_node(nodes, !fanin0, fanin1)
+}
+
+/// The edge that is true where two edges are equal: the `new_or_node` of their `new_and_node` and of that of their
+/// inverses (crate aig, `new_eq_node`).
+pub fn new_eq_node(
+    nodes: &mut Vec<AigNode>,
+    fanin0: AigEdge,
+    fanin1: AigEdge,
+) -> Result<AigEdge, MemoryError>
+    requires sound { AreNodes nodes.old.items }
+    requires first { IsInRange nodes.old.items fanin0 }
+    requires second { IsInRange nodes.old.items fanin1 }
+    ensures rule { IfOk result (λ e.
+        FoldsOrAddsEq nodes.old.items nodes.new.items fanin0 fanin1 e) }
+    ensures edge { IfOk result (λ e. IsInRange nodes.new.items e) }
+    ensures value { IfOk result (λ e. (x : ℕ → Bool) →
+        IsTrue (edge_value nodes.new.items x e) ↔ (edge_value nodes.old.items x fanin0
+        ≡ edge_value nodes.old.items x fanin1)) }
+    ensures gates { AddsGates nodes.old.items nodes.new.items }
     ensures err { OnErr result (nodes.new.items ≡ nodes.old.items) }
 {
     let before = nodes.len();
@@ -134,7 +187,7 @@ pub fn eq_of_edges(
     answer
 }
 
-/// As `eq_of_edges`, but a refused one leaves the gates that it added.
+/// As `new_eq_node`, but a refused one leaves the gates that it added.
 fn both_or_neither(
     nodes: &mut Vec<AigNode>,
     fanin0: AigEdge,
@@ -143,29 +196,33 @@ fn both_or_neither(
     requires sound { AreNodes nodes.old.items }
     requires first { IsInRange nodes.old.items fanin0 }
     requires second { IsInRange nodes.old.items fanin1 }
+    ensures rule { IfOk result (λ e.
+        FoldsOrAddsEq nodes.old.items nodes.new.items fanin0 fanin1 e) }
     ensures edge { IfOk result (λ e. IsInRange nodes.new.items e) }
-    ensures value { IfOk result (λ e. (x : ℕ → Bool) → IsTrue (edge_value nodes.new.items x e) ↔ (edge_value nodes.old.items x fanin0 ≡ edge_value nodes.old.items x fanin1)) }
+    ensures value { IfOk result (λ e. (x : ℕ → Bool) →
+        IsTrue (edge_value nodes.new.items x e) ↔ (edge_value nodes.old.items x fanin0
+        ≡ edge_value nodes.old.items x fanin1)) }
     ensures gates { AddsGates nodes.old.items nodes.new.items }
 {
-    let both = and_of_edges(nodes, fanin0, fanin1)?;
-    let neither = and_of_edges(nodes, !fanin0, !fanin1)?;
-    or_of_edges(nodes, both, neither)
+    let both = new_and_node(nodes, fanin0, fanin1)?;
+    let neither = new_and_node(nodes, !fanin0, !fanin1)?;
+    new_or_node(nodes, both, neither)
 }
 
-/// The and of the edges, joined from the left by `and_of_edges`: of no edges true, and of one that edge (crate aig,
+/// The and of the edges, joined from the left by `new_and_node`: of no edges true, and of one that edge (crate aig,
 /// `new_ands_node`).
-pub fn and_of_list(nodes: &mut Vec<AigNode>, fanins: &[AigEdge]) -> Result<AigEdge, MemoryError>
+pub fn new_ands_node(nodes: &mut Vec<AigNode>, fanins: &[AigEdge]) -> Result<AigEdge, MemoryError>
     requires sound { AreNodes nodes.old.items }
     requires edges { All (IsInRange nodes.old.items) fanins.now }
+    ensures rule { IfOk result (λ e. FoldsOrAddsAll nodes.old.items fanins.now nodes.new.items e) }
     ensures joins { IfOk result (λ e. JoinsByAnd nodes.old.items nodes.new.items fanins.now e) }
     ensures gates { AddsGates nodes.old.items nodes.new.items }
-    ensures trees { KeepsTrees nodes.old.items nodes.new.items }
     ensures err { OnErr result (nodes.new.items ≡ nodes.old.items) }
 {
     let before = nodes.len();
     let mut all = AigEdge::constant(true);
     for fanin in fanins {
-        match and_of_edges(nodes, all, *fanin) {
+        match new_and_node(nodes, all, *fanin) {
             Ok(e) => all = e,
             Err(error) => {
                 nodes.truncate(before);
@@ -178,12 +235,17 @@ pub fn and_of_list(nodes: &mut Vec<AigNode>, fanins: &[AigEdge]) -> Result<AigEd
 
 /// The and of the edges, joined from the left by one gate for each edge after the first: of no edges true, and of one
 /// that edge (crate aig, `trivial_new_ands_node`).
-pub fn gates_of_list(nodes: &mut Vec<AigNode>, fanins: &[AigEdge]) -> Result<AigEdge, MemoryError>
+pub fn trivial_new_ands_node(
+    nodes: &mut Vec<AigNode>,
+    fanins: &[AigEdge],
+) -> Result<AigEdge, MemoryError>
     requires sound { AreNodes nodes.old.items }
     requires edges { All (IsInRange nodes.old.items) fanins.now }
-    ensures joins { IfOk result (λ e. JoinsByAnd nodes.old.items nodes.new.items fanins.now e × AddsOneEach nodes.old.items nodes.new.items fanins.now) }
+    ensures rule { IfOk result (λ e. AddsGateForEach nodes.old.items fanins.now nodes.new.items e) }
+    ensures joins { IfOk result (λ e.
+        JoinsByAnd nodes.old.items nodes.new.items fanins.now e
+        × AddsOneEach nodes.old.items nodes.new.items fanins.now) }
     ensures gates { AddsGates nodes.old.items nodes.new.items }
-    ensures trees { KeepsTrees nodes.old.items nodes.new.items }
     ensures err { OnErr result (nodes.new.items ≡ nodes.old.items) }
 {
     let Some((first, rest)) = fanins.split_first() else {
@@ -192,7 +254,7 @@ pub fn gates_of_list(nodes: &mut Vec<AigNode>, fanins: &[AigEdge]) -> Result<Aig
     let before = nodes.len();
     let mut all = *first;
     for fanin in rest {
-        match add_gate(nodes, all, *fanin) {
+        match trivial_new_and_node(nodes, all, *fanin) {
             Ok(e) => all = e,
             Err(error) => {
                 nodes.truncate(before);
@@ -201,4 +263,46 @@ pub fn gates_of_list(nodes: &mut Vec<AigNode>, fanins: &[AigEdge]) -> Result<Aig
         }
     }
     Ok(all)
+}
+
+/// The or of the edges, the inverse of the `new_ands_node` of their inverses: of no edges false, and of one that edge (crate
+/// aig, `new_ors_node`).
+pub fn new_ors_node(nodes: &mut Vec<AigNode>, fanins: &[AigEdge]) -> Result<AigEdge, MemoryError>
+    requires sound { AreNodes nodes.old.items }
+    requires edges { All (IsInRange nodes.old.items) fanins.now }
+    ensures rule { IfOk result (λ e.
+        FoldsOrAddsAll nodes.old.items (map inverse fanins.now) nodes.new.items (inverse e)) }
+    ensures joins { IfOk result (λ e. JoinsByOr nodes.old.items nodes.new.items fanins.now e) }
+    ensures gates { AddsGates nodes.old.items nodes.new.items }
+    ensures err { OnErr result (nodes.new.items ≡ nodes.old.items) }
+{
+    let inverses = inverses_of(*nodes.allocator(), fanins)?;
+    Ok(!new_ands_node(nodes, &inverses)?)
+}
+
+/// The or of the edges, the inverse of the `trivial_new_ands_node` of their inverses: of no edges false, and of one that edge
+/// (crate aig, `trivial_new_ors_node`).
+pub fn trivial_new_ors_node(
+    nodes: &mut Vec<AigNode>,
+    fanins: &[AigEdge],
+) -> Result<AigEdge, MemoryError>
+    requires sound { AreNodes nodes.old.items }
+    requires edges { All (IsInRange nodes.old.items) fanins.now }
+    ensures rule { IfOk result (λ e.
+        AddsGateForEach nodes.old.items (map inverse fanins.now) nodes.new.items (inverse e)) }
+    ensures joins { IfOk result (λ e.
+        JoinsByOr nodes.old.items nodes.new.items fanins.now e
+        × AddsOneEach nodes.old.items nodes.new.items fanins.now) }
+    ensures gates { AddsGates nodes.old.items nodes.new.items }
+    ensures err { OnErr result (nodes.new.items ≡ nodes.old.items) }
+{
+    let inverses = inverses_of(*nodes.allocator(), fanins)?;
+    Ok(!trivial_new_ands_node(nodes, &inverses)?)
+}
+
+/// The inverses of the edges.
+fn inverses_of(alloc: Global, edges: &[AigEdge]) -> Result<Vec<AigEdge>, MemoryError>
+    ensures { IfOk result (λ inverses. inverses.items ≡ map inverse edges.now) }
+{
+    Ok(edges.iter().map(|e| !*e).collect(alloc)?)
 }

@@ -159,7 +159,8 @@ impl AigEdge {
 
 /// Law: edges are ordered as their literals are, and equal exactly where they are the same.
 pub fn orders_by_literal()
-    ensures order { (a b : AigEdge) → ⟦<AigEdge as Ord>⟧.cmp a b ≡ nat_cmp (literal_of a) (literal_of b) }
+    ensures order { (a b : AigEdge) →
+        ⟦<AigEdge as Ord>⟧.cmp a b ≡ nat_cmp (literal_of a) (literal_of b) }
     ensures equality { (a b : AigEdge) → IsTrue (⟦<AigEdge as PartialEq>⟧.eq a b) ↔ (a ≡ b) }
 {}
 

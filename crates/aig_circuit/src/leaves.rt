@@ -45,7 +45,8 @@ fn count_leaves(nodes: &[AigNode]) -> usize
 /// leaves.
 pub fn is_closed(nodes: &[AigNode], inputs: &[usize], latchs: &[AigLatch]) -> bool
     requires { AreLeaves nodes.now inputs.now latchs.now }
-    ensures closed { IsTrue result ↔ ((n : ℕ) → IsLeaf nodes.now n → Contains (inputs.now ++ latch_leaves latchs.now) n) }
+    ensures closed { IsTrue result ↔ ((n : ℕ) → IsLeaf nodes.now n
+        → Contains (inputs.now ++ latch_leaves latchs.now) n) }
     ensures open { result ≡ false → HasFreeLeaf nodes.now inputs.now latchs.now }
 {
     count_leaves(nodes) == inputs.len() + latchs.len()

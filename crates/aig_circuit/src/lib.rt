@@ -5,11 +5,16 @@ mod ands;
 pub mod build;
 pub mod checks;
 mod edge;
+mod laws;
 pub mod leaves;
+pub mod marks;
 mod node;
+mod prop_list;
 mod view;
 
 pub use ands::{AndsIter, gates_among};
 pub use edge::{AigEdge, inverts_back, keeps_edges_by_literal, orders_by_literal};
+pub use laws::leaves_fix_values;
 pub use node::{AigLatch, AigNode, AigNodeType, false_node, gate_node, leaf_node};
+pub use prop_list::PropList;
 pub use view::{CircuitLists, CircuitView};

@@ -156,7 +156,8 @@ impl AigNode {
     /// Sets the first operand of a gate, and leaves the two in their places. Asks `is_and`.
     pub fn set_fanin0(&mut self, fanin: AigEdge)
         requires { IsAnd self.old }
-        ensures { (a b : AigEdge) → self.old.typ ≡ AigNodeType.And a b → self.new ≡ record self.old { typ = AigNodeType.And fanin b } }
+        ensures { (a b : AigEdge) → self.old.typ ≡ AigNodeType.And a b
+            → self.new ≡ record self.old { typ = AigNodeType.And fanin b } }
     {
         self.typ = AigNodeType::And(fanin, self.fanin1());
     }
@@ -164,7 +165,8 @@ impl AigNode {
     /// Sets the second operand of a gate, and leaves the two in their places. Asks `is_and`.
     pub fn set_fanin1(&mut self, fanin: AigEdge)
         requires { IsAnd self.old }
-        ensures { (a b : AigEdge) → self.old.typ ≡ AigNodeType.And a b → self.new ≡ record self.old { typ = AigNodeType.And a fanin } }
+        ensures { (a b : AigEdge) → self.old.typ ≡ AigNodeType.And a b
+            → self.new ≡ record self.old { typ = AigNodeType.And a fanin } }
     {
         self.typ = AigNodeType::And(self.fanin0(), fanin);
     }

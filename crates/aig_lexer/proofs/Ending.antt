@@ -1,7 +1,7 @@
 -- A buffered source at its end: nothing is left in the window, nor in the source.
 use Rattle.std.proofs.Common.{◌≡◌, ℕ, ◌-◌, List, [], ◌∷◌, ◌++◌, Bool, false, Option, Some, None, Result, Ok, Err, IfOk, OnOk, take, drop, refl, ap, ◌∙◌}
 use Rattle.std.specs.Io.KnownBytes.{Consumes, IsAtEnd, prepend_known}
-use Rattle.aig_grammar.specs.File.{File}
+use Rattle.aig_format.specs.File.{File}
 use Rattle.aig_lexer.specs.Bytes.{coming_of}
 
 both_empty : (ws ys : List ℕ) → ws ++ ys ≡ [] → (ws ≡ []) × (ys ≡ [])

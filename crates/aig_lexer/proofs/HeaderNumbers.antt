@@ -3,7 +3,7 @@ use Rattle.std.proofs.Common.{◌≡◌, ℕ, suc, ◌+◌, ◌-◌, ◌≤◌, 
 use Rattle.std.proofs.lemmas.Bool.{ne_eqb, eqb-true, le-leb, lt-leb}
 use Rattle.std.proofs.lemmas.List.{length-append}
 use Rattle.std.proofs.Math.Seq.{set-append_seam}
-use Rattle.aig_front.specs.Front.{◌>>=◌, number_at, line_at, mapped_at, padded, tested_at}
+use Rattle.aig_parsing.specs.Front.{◌>>=◌, number_at, line_at, mapped_at, padded, tested_at}
 use Rattle.aig_lexer.specs.Words.{header_numbers_at}
 
 -- at most k numbers behind these, in a line

@@ -2,13 +2,14 @@
 use Rattle.std.proofs.Common.{◌≡◌, ℕ, Bool, true, false, cond, eqb, List, [], ◌∷◌, Option, Some, None, refl}
 use Rattle.std.specs.Prelude.{option_map}
 use Rattle.aig_base.proofs.Mapping.{turned}
-use Rattle.aig_grammar.specs.File.{Kind, Text, Binary}
-use Rattle.aig_front.specs.Front.{◌>>=◌, kind_at, or_else, strip}
+use Rattle.aig_format.specs.declared.FileKind.{FileKind}
+use Rattle.aig_format.specs.declared.FileKind.TheVariants.{Text, Binary}
+use Rattle.aig_parsing.specs.Front.{◌>>=◌, kind_at, or_else, strip}
 use Rattle.aig_lexer.specs.Takes.{Takes, Misses}
 use Rattle.aig_lexer.specs.Words.{expect_at, kind_byte_at, word_at}
 use Rattle.aig_lexer.proofs.Taking.{takes_same, misses_same, takes_bind, misses_first, misses_next, takes_mapped, misses_mapped}
 
-abbrev named : Kind → List ℕ → Kind × List ℕ
+abbrev named : FileKind → List ℕ → FileKind × List ℕ
 named kind bytes = (kind, bytes)
 
 abbrev matched : List ℕ → Option (Unit {0} × List ℕ)
@@ -18,15 +19,15 @@ abbrev end_text : List ℕ
 end_text = 103 ∷ 32 ∷ []
 
 -- the word behind the byte that tells the kind
-abbrev behind_kind : Kind × List ℕ → Option (Kind × List ℕ)
+abbrev behind_kind : FileKind × List ℕ → Option (FileKind × List ℕ)
 behind_kind k = word_at end_text k.1 >>= λ w. Some (named k.0 w.1)
 
 -- the word behind its first byte
-abbrev behind_first : ℕ × List ℕ → Option (Kind × List ℕ)
+abbrev behind_first : ℕ × List ℕ → Option (FileKind × List ℕ)
 behind_first x = kind_byte_at x.1 >>= behind_kind
 
 -- either kind's word behind its first byte
-abbrev either_kind : List ℕ → Option (Kind × List ℕ)
+abbrev either_kind : List ℕ → Option (FileKind × List ℕ)
 either_kind bytes = or_else (option_map (named Text) (strip (97 ∷ end_text) bytes)) (option_map (named Binary) (strip (105 ∷ end_text) bytes))
 
 is_either : (bs : List ℕ) → behind_first (97, bs) ≡ either_kind bs
@@ -58,7 +59,7 @@ kind_is (b ∷ bs) = go (eqb 97 b)
     go false = refl
 
 -- the word, and where it stops to be one
-pub takes_kind : (b m n a : Option (List ℕ)) (kind : Kind) → Takes (expect_at 97) b m 97 → Takes kind_byte_at m n kind → Takes (word_at end_text) n a tt → Takes kind_at b a kind
+pub takes_kind : (b m n a : Option (List ℕ)) (kind : FileKind) → Takes (expect_at 97) b m 97 → Takes kind_byte_at m n kind → Takes (word_at end_text) n a tt → Takes kind_at b a kind
 takes_kind b m n a kind first second rest =
     takes_same (λ bs. expect_at 97 bs >>= behind_first) kind_at b a kind
     (takes_bind (expect_at 97) behind_first b m a 97 kind first (takes_bind kind_byte_at behind_kind m n a kind kind second (takes_mapped (λ (_ : Unit {0}). kind) (word_at end_text) n a tt rest))) kind_is
@@ -70,7 +71,7 @@ module _ (b m : Option (List ℕ)) (first : Takes (expect_at 97) b m 97) where
   pub misses_kind_byte : Misses kind_byte_at m → Misses kind_at b
   misses_kind_byte h = misses_same (λ bs. expect_at 97 bs >>= behind_first) kind_at b (misses_next (expect_at 97) behind_first b m 97 first (misses_first kind_byte_at behind_kind m h)) kind_is
 
-  pub misses_word : (n : Option (List ℕ)) (kind : Kind) → Takes kind_byte_at m n kind → Misses (word_at end_text) n → Misses kind_at b
+  pub misses_word : (n : Option (List ℕ)) (kind : FileKind) → Takes kind_byte_at m n kind → Misses (word_at end_text) n → Misses kind_at b
   misses_word n kind second h =
       misses_same (λ bs. expect_at 97 bs >>= behind_first) kind_at b
       (misses_next (expect_at 97) behind_first b m 97 first (misses_next kind_byte_at behind_kind m n kind second (misses_mapped (λ (_ : Unit {0}). kind) (word_at end_text) n h))) kind_is

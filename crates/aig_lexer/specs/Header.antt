@@ -1,7 +1,6 @@
 -- The header as the code holds it.
 use Rattle.std.specs.Prelude.{ℕ, List, [], ◌∷◌}
 use Rattle.aig_lexer.specs.declared.header.Header.{Header}
-pub use Rattle.aig_grammar.specs.Kinds.{kind_of}
 
 -- the nine numbers: M I L O A B C J F
 abbrev pub numbers_of : Header → List ℕ

@@ -1,7 +1,8 @@
 -- Readers on lists for the words of the format.
 use Rattle.std.specs.Prelude.{ℕ, ◌==◌, if◌then◌else◌, nat_le, List, [], ◌∷◌, length, Option, Some, None}
-use Rattle.aig_grammar.specs.File.{Kind, Text, Binary}
-use Rattle.aig_front.specs.Front.{◌>>=◌, byte_at, line_at, mapped_at, number_at, padded, strip, tested_at}
+use Rattle.aig_format.specs.declared.FileKind.{FileKind}
+use Rattle.aig_format.specs.declared.FileKind.TheVariants.{Text, Binary}
+use Rattle.aig_parsing.specs.Front.{◌>>=◌, byte_at, line_at, mapped_at, number_at, padded, strip, tested_at}
 
 -- this byte
 abbrev pub expect_at : ℕ → List ℕ → Option (ℕ × List ℕ)
@@ -16,7 +17,7 @@ abbrev pub number_from_at : ℕ → List ℕ → Option ((ℕ × ℕ) × List �
 number_from_at first bytes = number_at (first ∷ bytes)
 
 -- the second byte of the kind's word: `a` or `i`
-abbrev pub kind_byte_at : List ℕ → Option (Kind × List ℕ)
+abbrev pub kind_byte_at : List ℕ → Option (FileKind × List ℕ)
 kind_byte_at [] = None
 kind_byte_at (b ∷ bs) = if b == 97 then Some (Text, bs) else if b == 105 then Some (Binary, bs) else None
 

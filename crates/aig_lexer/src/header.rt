@@ -1,16 +1,16 @@
 //! The header line.
 
 ghost use Rattle.std.specs.Prelude.{◌≡◌, ◌<◌, IsErrOf, OnOk, true};
-ghost use Rattle.aig_front.specs.Front.{header_at, kind_at};
+ghost use Rattle.aig_parsing.specs.Front.{header_at, kind_at};
 ghost use Rattle.aig_lexer.specs.Faults.{OnShape};
-ghost use Rattle.aig_lexer.specs.Header.{kind_of, numbers_of};
+ghost use Rattle.aig_lexer.specs.Header.{numbers_of};
 ghost use Rattle.aig_lexer.specs.Takes.{Gives};
 ghost use Rattle.aig_lexer.specs.Words.{header_numbers_at, kind_byte_at};
 
 use crate::error::LexError;
 use crate::feed::ByteFeed;
 use crate::lexer::{expect, number, word};
-use aig_grammar::FileKind;
+use aig_format::FileKind;
 
 /// The header of a file: its kind, the greatest variable, and how many entries each section has (AIGER format 20071012,
 /// "Header": `M I L O A`; AIGER 1.9: `B C J F`).
@@ -43,7 +43,7 @@ pub struct Header {
 ///
 /// Answers `Shape` where the bytes are no such line, or end in it, and `Stream` where a read failed.
 pub fn header_line<F: ByteFeed>(f: &mut F) -> Result<Header, LexError>
-    ensures exact { Gives OnShape (λ h. (kind_of h.kind, numbers_of h)) (F.coming f.old) (F.coming f.new) result header_at }
+    ensures exact { Gives OnShape (λ h. (h.kind, numbers_of h)) (F.coming f.old) (F.coming f.new) result header_at }
     ensures stream { IsErrOf result LexError.Stream → F.failed f.new ≡ true }
     ensures same { F.behind f.new ≡ F.behind f.old }
     ensures fewer { OnOk result (F.turns f.new < F.turns f.old) }
@@ -76,7 +76,7 @@ pub fn header_line<F: ByteFeed>(f: &mut F) -> Result<Header, LexError>
 
 /// Reads `aag` or `aig`, and the space behind it.
 fn kind_word<F: ByteFeed>(f: &mut F) -> Result<FileKind, LexError>
-    ensures exact { Gives OnShape kind_of (F.coming f.old) (F.coming f.new) result kind_at }
+    ensures exact { Gives OnShape (λ kind. kind) (F.coming f.old) (F.coming f.new) result kind_at }
     ensures stream { IsErrOf result LexError.Stream → F.failed f.new ≡ true }
     ensures same { F.behind f.new ≡ F.behind f.old }
     ensures fewer { OnOk result (F.turns f.new < F.turns f.old) }
@@ -89,7 +89,7 @@ fn kind_word<F: ByteFeed>(f: &mut F) -> Result<FileKind, LexError>
 
 /// Reads the byte that tells the kind.
 fn kind_byte<F: ByteFeed>(f: &mut F) -> Result<FileKind, LexError>
-    ensures exact { Gives OnShape kind_of (F.coming f.old) (F.coming f.new) result kind_byte_at }
+    ensures exact { Gives OnShape (λ kind. kind) (F.coming f.old) (F.coming f.new) result kind_byte_at }
     ensures stream { IsErrOf result LexError.Stream → F.failed f.new ≡ true }
     ensures same { F.behind f.new ≡ F.behind f.old }
     ensures fewer { OnOk result (F.turns f.new < F.turns f.old) }

@@ -6,7 +6,7 @@ mod feed;
 mod header;
 mod lexer;
 
-pub use aig_grammar::FileKind;
+pub use aig_format::FileKind;
 pub use error::LexError;
 pub use feed::{Buffered, ByteFeed, WINDOW_SIZE};
 pub use header::{Header, header_line};

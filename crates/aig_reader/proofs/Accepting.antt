@@ -2,14 +2,15 @@
 use Rattle.std.proofs.Common.{◌≡◌, ◌≢◌, ◌↔◌, ℕ, true, List, ◌++◌, Option, Some, None, Result, Ok, Err, IfSome, IsErrOf, refl, sym, ap, subst, ◌∙◌}
 use Rattle.std.specs.Io.KnownBytes.{Consumes, IsAtEnd}
 use Rattle.std.proofs.KnownBytes.{Consumes-whole}
-use Rattle.aig_grammar.specs.File.{Kind, NameLine, File}
-use Rattle.aig_grammar.specs.Fits.{Accepts}
-use Rattle.aig_front.proofs.FittingFiles.{fitting_sound, fitting_complete}
-use Rattle.aig_front.proofs.TooManyAt.{too_many_exact}
-use Rattle.aig_front.specs.Front.{◌>>=◌, Parts, file_from, too_many_at}
-use Rattle.aig_front.specs.Fitting.{fitting_at, fitting_body_at, fitting_header_at, fitting_sections_at}
+use Rattle.aig_format.specs.declared.FileKind.{FileKind}
+use Rattle.aig_format.specs.File.{NameLine, File}
+use Rattle.aig_format.specs.Fits.{Accepts}
+use Rattle.aig_parsing.proofs.FittingFiles.{fitting_sound, fitting_complete}
+use Rattle.aig_parsing.proofs.TooManyAt.{too_many_exact}
+use Rattle.aig_parsing.specs.Front.{◌>>=◌, Parts, file_from, too_many_at}
+use Rattle.aig_parsing.specs.Fitting.{fitting_at, fitting_body_at, fitting_header_at, fitting_sections_at}
 use Rattle.aig_circuit.specs.declared.view.CircuitLists.{CircuitLists}
-use Rattle.aig_names.specs.Names.{tail_of}
+use Rattle.aig_reader.specs.Names.{tail_of}
 use Rattle.aig_reader.specs.declared.error.ReadError.{ReadError}
 use Rattle.aig_reader.specs.declared.error.ReadError.TheVariants as errors
 use Rattle.aig_reader.specs.Faults.{IsSectionFault, OnRefusal}
@@ -21,7 +22,7 @@ use Rattle.aig_lexer.proofs.Taking.{misses_either, misses_both}
 
 -- the kind, the header's numbers, and the sections behind them
 abbrev pub Body : Type 0
-Body = (Kind × List ℕ) × Parts
+Body = (FileKind × List ℕ) × Parts
 
 -- ---- refusals
 
@@ -84,7 +85,7 @@ no_file : (limit : ℕ) (bytes : List ℕ) → fitting_body_at limit bytes ≡ N
 no_file limit bytes h = file_is limit bytes ∙ ap (λ (o : Option (Body × List ℕ)). o >>= with_names) h
 
 -- the sections, by what the header line says
-abbrev pub sections_of : Kind × List ℕ → List ℕ → Option (Parts × List ℕ)
+abbrev pub sections_of : FileKind × List ℕ → List ℕ → Option (Parts × List ℕ)
 sections_of h = fitting_sections_at h.0 h.1
 
 -- the header is refused
@@ -115,7 +116,7 @@ no_files limit None h = tt
 no_files limit (Some bytes) h = no_file limit bytes h
 
 -- a section is refused
-pub refused_section : (T : Type 0) (header : T) (limit : ℕ) (before m : Option (List ℕ)) (h : Kind × List ℕ) (e : ReadError) → Takes (fitting_header_at limit) before m h → OnRefusal e (Misses (sections_of h) m) → e ≢ errors.TooMany
+pub refused_section : (T : Type 0) (header : T) (limit : ℕ) (before m : Option (List ℕ)) (h : FileKind × List ℕ) (e : ReadError) → Takes (fitting_header_at limit) before m h → OnRefusal e (Misses (sections_of h) m) → e ≢ errors.TooMany
     → IfSome before (λ bytes. ◌≡◌ {A = Result T ReadError} (Ok header) (Err errors.TooMany) ↔ (too_many_at limit bytes ≡ true)) → ReadsKnown (fault CircuitLists e) limit before
 refused_section T header limit before m h e taken missed other k =
     refused_behind T header limit before e

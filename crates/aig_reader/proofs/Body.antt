@@ -2,16 +2,18 @@
 use Rattle.std.proofs.Common.{◌≡◌, ◌+◌, ℕ, zero, suc, ◌++◌, List, map, length, slice_index, Option, Some, None, Result, Ok, Err, refl, sym, ap, subst, ◌∙◌, append_assoc}
 use Rattle.std.proofs.KnownBytes.{Consumes-trans}
 use Rattle.std.proofs.lemmas.Option.{same_Some}
-use Rattle.aig_grammar.specs.File.{Kind, Text, Binary, File, LatchLine, GateLine}
-use Rattle.aig_grammar.specs.Circuit.{nodes_from}
-use Rattle.aig_front.specs.Front.{◌>>=◌, both_at, numbers_at}
-use Rattle.aig_front.specs.Fitting.{fitting_gates_at, fitting_inputs_at, fitting_latches_at, fitting_sections_at, literal_sets_at, literals_at}
-use Rattle.aig_front.proofs.Numbers.{bind_some}
+use Rattle.aig_format.specs.declared.FileKind.{FileKind}
+use Rattle.aig_format.specs.declared.FileKind.TheVariants.{Text, Binary}
+use Rattle.aig_format.specs.File.{LatchLine, GateLine}
+use Rattle.aig_parsing.specs.Front.{◌>>=◌, both_at, numbers_at}
+use Rattle.aig_parsing.specs.Fitting.{fitting_gates_at, fitting_inputs_at, fitting_latches_at, fitting_sections_at, literal_sets_at, literals_at}
+use Rattle.aig_parsing.proofs.Numbers.{bind_some}
 use Rattle.aig_reader.specs.declared.error.Section.{Section}
 use Rattle.aig_reader.specs.declared.error.LineError.{LineError}
 use Rattle.aig_reader.specs.declared.error.LineError.TheVariants.{Memory, Stream, Syntax, Literal}
 use Rattle.aig_reader.specs.declared.error.ReadError.{ReadError}
 use Rattle.aig_reader.specs.declared.error.ReadError.TheVariants as errors
+use Rattle.aig_reader.specs.Lists.{nodes_in_row}
 use Rattle.aig_reader.specs.Faults.{OnLine, OnRefusal, error_in, gate_error_in, result_by}
 use Rattle.aig_reader.specs.Properties.{PropertyParts, properties_at}
 use Rattle.aig_lexer.specs.Takes.{Takes, Misses, Made, Makes}
@@ -30,7 +32,7 @@ in_section s Stream P h = tt
 in_section s Syntax P h = h
 in_section s Literal P h = h
 
-pub in_gates : (kind : Kind) → Refuses (gate_error_in kind)
+pub in_gates : (kind : FileKind) → Refuses (gate_error_in kind)
 in_gates Text e P h = elim e as (λ d. OnLine d P → OnRefusal (gate_error_in Text d) P) [ Memory ↦ λ k. tt | Stream ↦ λ k. tt | Syntax ↦ λ k. k | Literal ↦ λ k. k ] h
 in_gates Binary e P h = elim e as (λ d. OnLine d P → OnRefusal (gate_error_in Binary d) P) [ Memory ↦ λ k. tt | Stream ↦ λ k. tt | Syntax ↦ λ k. k | Literal ↦ λ k. k ] h
 
@@ -200,7 +202,7 @@ module _ {W X Y Z : Type 0} (first : List ℕ → Option (W × List ℕ)) (p : W
 
 -- ---- all sections
 
-module _ (kind : Kind) (ns : List ℕ) where
+module _ (kind : FileKind) (ns : List ℕ) where
   abbrev gates : List ℕ → List LatchLine → List ℕ → Option (List GateLine × List ℕ)
   gates inputs latches = fitting_gates_at kind ns (inputs ++ map (λ l. l.literal) latches)
 
@@ -271,6 +273,6 @@ module _ (kind : Kind) (ns : List ℕ) where
               consumed = Consumes-trans l p a hp.taken h.taken hp.consumed h.consumed;
             }))
 
-pub nodes_length : (f : File) (n v : ℕ) → length (nodes_from f n v) ≡ n
-nodes_length f zero v = refl
-nodes_length f (suc n) v = ap suc (nodes_length f n (v + 1))
+pub nodes_length : (gates : List GateLine) (n v : ℕ) → length (nodes_in_row gates n v) ≡ n
+nodes_length gates zero v = refl
+nodes_length gates (suc n) v = ap suc (nodes_length gates n (v + 1))

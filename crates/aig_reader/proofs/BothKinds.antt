@@ -4,10 +4,12 @@ use Rattle.std.specs.List.{list_all}
 use Rattle.std.proofs.lemmas.Bool.Decides.{nat_tests}
 use Rattle.std.proofs.lemmas.Option.{same_Some}
 use Rattle.std.proofs.lemmas.List.{length-map, map_push}
-use Rattle.aig_grammar.specs.File.{Kind, Text, Binary, LatchLine, GateLine}
-use Rattle.aig_grammar.specs.Spells.{places}
-use Rattle.aig_front.specs.Front.{◌>>=◌, both_at, delta_at, ended_at, fits_gate, mapped_at, placed_at, placed_gate, placed_gate_at, tested_at}
-use Rattle.aig_front.specs.Fitting.{binary_latch_at, defines, fitting_gates_at, fitting_inputs_at, fitting_latches_at, gate_line_at, gate_of, has_next, latch_line_at, latch_of, next_at, tests_gate, tests_latch}
+use Rattle.aig_format.specs.declared.FileKind.{FileKind}
+use Rattle.aig_format.specs.declared.FileKind.TheVariants.{Text, Binary}
+use Rattle.aig_format.specs.File.{LatchLine, GateLine}
+use Rattle.aig_format.specs.Spells.{places}
+use Rattle.aig_parsing.specs.Front.{◌>>=◌, both_at, delta_at, ended_at, fits_gate, mapped_at, placed_at, placed_gate, placed_gate_at, tested_at}
+use Rattle.aig_parsing.specs.Fitting.{binary_latch_at, defines, fitting_gates_at, fitting_inputs_at, fitting_latches_at, gate_line_at, gate_of, has_next, latch_line_at, latch_of, next_at, tests_gate, tests_latch}
 use Rattle.aig_reader.specs.Entries.{gate_at, input_at, latch_at, operands_at}
 use Rattle.aig_reader.specs.Gates.{literals_of}
 use Rattle.aig_reader.proofs.Entries.{checked_is_entries, entries_at, length_push, placed_is_entries, put_first}
@@ -30,7 +32,7 @@ binary_inputs greatest (suc n) front bs =
     let e = 2 * (length front + 1) in
     ap (λ (o : Option (List ℕ × List ℕ)). o >>= put_first e) (binary_inputs greatest n (front ++ e ∷ []) bs) ∙ ap (λ (v : ℕ). Some (e ∷ places n (v + 1), bs)) (length_push front e)
 
-pub inputs_is : (kind : Kind) (ns bs : List ℕ) → entries_at (input_at kind (slice_index ns 0)) [] (slice_index ns 1) bs ≡ fitting_inputs_at kind ns bs
+pub inputs_is : (kind : FileKind) (ns bs : List ℕ) → entries_at (input_at kind (slice_index ns 0)) [] (slice_index ns 1) bs ≡ fitting_inputs_at kind ns bs
 inputs_is Text ns bs = checked_is_entries (ended_at 10) (defines (slice_index ns 0)) [] (slice_index ns 1) bs
 inputs_is Binary ns bs = binary_inputs (slice_index ns 0) (slice_index ns 1) [] bs
 
@@ -56,7 +58,7 @@ module _ (greatest : ℕ) (inputs : List ℕ) where
   latch_agrees : (base : ℕ) → length inputs + 1 ≡ base → (front : List LatchLine) (bs : List ℕ) → latch_at Binary greatest inputs front bs ≡ tested_at (binary_latch_at (base + length front)) (has_next greatest) bs
   latch_agrees base h front bs = latch_here front bs ∙ ap (λ (v : ℕ). tested_at (binary_latch_at v) (has_next greatest) bs) (latch_place base h front)
 
-pub latches_is : (kind : Kind) (ns inputs bs : List ℕ) → length inputs ≡ slice_index ns 1 → entries_at (latch_at kind (slice_index ns 0) inputs) [] (slice_index ns 2) bs ≡ fitting_latches_at kind ns inputs bs
+pub latches_is : (kind : FileKind) (ns inputs bs : List ℕ) → length inputs ≡ slice_index ns 1 → entries_at (latch_at kind (slice_index ns 0) inputs) [] (slice_index ns 2) bs ≡ fitting_latches_at kind ns inputs bs
 latches_is Text ns inputs bs h = checked_is_entries latch_line_at (tests_latch (slice_index ns 0) inputs) [] (slice_index ns 2) bs
 latches_is Binary ns inputs bs h =
     let greatest = slice_index ns 0 in
@@ -140,7 +142,7 @@ module _ (greatest : ℕ) (leaves : List ℕ) where
       let pushed : literals_of (front ++ x ∷ []) ≡ literals_of front ++ x.lhs ∷ [] = map_push (λ (g : GateLine). g.lhs) front x in
       rw (pushed, ← place) (all_push v x.lhs (literals_of front) all lhs)
 
-pub gates_is : (kind : Kind) (ns leaves bs : List ℕ) → length leaves ≡ slice_index ns 1 + slice_index ns 2 → entries_at (gate_at kind (slice_index ns 0) leaves) [] (slice_index ns 4) bs ≡ fitting_gates_at kind ns leaves bs
+pub gates_is : (kind : FileKind) (ns leaves bs : List ℕ) → length leaves ≡ slice_index ns 1 + slice_index ns 2 → entries_at (gate_at kind (slice_index ns 0) leaves) [] (slice_index ns 4) bs ≡ fitting_gates_at kind ns leaves bs
 gates_is Text ns leaves bs h = checked_is_entries gate_line_at (tests_gate (slice_index ns 0) leaves) [] (slice_index ns 4) bs
 gates_is Binary ns leaves bs h =
     let greatest = slice_index ns 0 in

@@ -5,7 +5,7 @@ use Rattle.std.proofs.lemmas.Bool.Decides.{nat_tests}
 use Rattle.std.proofs.lemmas.Bool.{lt-ltb, ltb-true}
 use Rattle.std.proofs.lemmas.List.{map_push}
 use Rattle.aig_circuit.specs.declared.node.AigNode.{AigNode}
-use Rattle.aig_grammar.specs.File.{GateLine}
+use Rattle.aig_format.specs.File.{GateLine}
 use Rattle.aig_reader.specs.declared.variables.Variables.{Variables}
 use Rattle.aig_reader.specs.Gates.{AreGates, gate_node_of, greatest_of, literals_of}
 use Rattle.aig_reader.specs.Lists.{nodes_of}

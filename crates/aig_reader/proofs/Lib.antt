@@ -10,3 +10,13 @@ pub mod Accepting
 pub mod FileCircuit
 pub mod ReadNames
 pub mod ReadLeaves
+pub mod Texts
+pub mod Positions
+pub mod NamedSections
+pub mod Starts
+pub mod Kept
+pub mod NameLines
+pub mod Tails
+pub mod KeptNames
+pub mod NameFaults
+pub mod SoFar

@@ -6,28 +6,24 @@ use Rattle.std.proofs.lemmas.List.Folds.{find-append}
 use Rattle.aig_circuit.specs.declared.node.AigNode.{AigNode}
 use Rattle.aig_circuit.specs.declared.node.AigNodeType.TheVariants.{False, Leaf}
 use Rattle.aig_circuit.specs.Node.{and_of}
-use Rattle.aig_grammar.specs.File.{GateLine, File}
-use Rattle.aig_grammar.specs.Circuit.{kind_by, kind_of, nodes_from}
-use Rattle.aig_reader.specs.Lists.{edge_from, with_gates, nodes_of}
+use Rattle.aig_format.specs.File.{GateLine}
+use Rattle.aig_reader.specs.Lists.{edge_from, kind_by, kind_from, node_from, nodes_in_row, nodes_of}
 use Rattle.aig_reader.specs.Gates.{gate_node_of, literals_of}
 
-abbrev node_at : File → ℕ → AigNode
-node_at f v = record { node_id = v; typ = kind_of f v }
-
 -- one more node
-nodes_push : (f : File) (n v : ℕ) → nodes_from f (suc n) v ≡ nodes_from f n v ++ node_at f (v + n) ∷ []
-nodes_push f zero v = let e : v ≡ v + 0 = omega arith in ap (λ (w : ℕ). node_at f w ∷ []) e
+nodes_push : (f : List GateLine) (n v : ℕ) → nodes_in_row f (suc n) v ≡ nodes_in_row f n v ++ node_from f (v + n) ∷ []
+nodes_push f zero v = let e : v ≡ v + 0 = omega arith in ap (λ (w : ℕ). node_from f w ∷ []) e
 nodes_push f (suc n) v =
     let e : v + 1 + n ≡ v + suc n = omega arith in
-    ap (λ (xs : List AigNode). node_at f v ∷ xs) (nodes_push f n (v + 1) ∙ ap (λ (w : ℕ). nodes_from f n (v + 1) ++ node_at f w ∷ []) e)
+    ap (λ (xs : List AigNode). node_from f v ∷ xs) (nodes_push f n (v + 1) ∙ ap (λ (w : ℕ). nodes_in_row f n (v + 1) ++ node_from f w ∷ []) e)
 
 -- a further leaf
-pub leaves_push : (i : ℕ) → nodes_from (with_gates []) (i + 1 + 1) 0 ≡ nodes_from (with_gates []) (i + 1) 0 ++ record { node_id = i + 1; typ = Leaf } ∷ []
+pub leaves_push : (i : ℕ) → nodes_in_row [] (i + 1 + 1) 0 ≡ nodes_in_row [] (i + 1) 0 ++ record { node_id = i + 1; typ = Leaf } ∷ []
 leaves_push i =
     let n : i + 1 + 1 ≡ suc (i + 1) = omega arith in
     let z : 0 + (i + 1) ≡ i + 1 = omega arith in
     let ne : i + 1 ≢ 0 = omega arith in
-    rw (n, nodes_push (with_gates []) (i + 1) 0, z, ne_eqb (i + 1) 0 ne) refl
+    rw (n, nodes_push [] (i + 1) 0, z, ne_eqb (i + 1) 0 ne) refl
 
 -- ---- a gate behind others
 
@@ -56,19 +52,19 @@ none_at (g ∷ gates) e even h = go (ltb g.lhs e) refl h (none_at gates e even)
     go false is all rest = absurd cc
 
 module _ (gates : List GateLine) (g : GateLine) where
-  same_kind : (n : ℕ) → g.lhs / 2 ≢ n → kind_of (with_gates (gates ++ g ∷ [])) n ≡ kind_of (with_gates gates) n
-  same_kind n ne = ap (λ (o : Option GateLine). cond (eqb n 0) False (kind_by (with_gates gates) o)) (find_other gates g n (ne_eqb (g.lhs / 2) n ne))
+  same_kind : (n : ℕ) → g.lhs / 2 ≢ n → kind_from (gates ++ g ∷ []) n ≡ kind_from gates n
+  same_kind n ne = ap (λ (o : Option GateLine). cond (eqb n 0) False (kind_by o)) (find_other gates g n (ne_eqb (g.lhs / 2) n ne))
 
   -- nodes behind that of the gate stay
-  same_behind : (n v : ℕ) → g.lhs / 2 < v → nodes_from (with_gates (gates ++ g ∷ [])) n v ≡ nodes_from (with_gates gates) n v
+  same_behind : (n v : ℕ) → g.lhs / 2 < v → nodes_in_row (gates ++ g ∷ []) n v ≡ nodes_in_row gates n v
   same_behind zero v lt = refl
   same_behind (suc n) v lt =
       let ne : g.lhs / 2 ≢ v = omega arith in
       rw (same_kind v ne, same_behind n (v + 1) (omega arith)) refl
 
   -- from a number on, the new gate takes its place
-  sets_gate : (n v k : ℕ) → k < n → v + k ≡ g.lhs / 2 → kind_of (with_gates (gates ++ g ∷ [])) (g.lhs / 2) ≡ and_of (edge_from g.rhs0) (edge_from g.rhs1)
-      → set (nodes_from (with_gates gates) n v) k (gate_node_of g) ≡ nodes_from (with_gates (gates ++ g ∷ [])) n v
+  sets_gate : (n v k : ℕ) → k < n → v + k ≡ g.lhs / 2 → kind_from (gates ++ g ∷ []) (g.lhs / 2) ≡ and_of (edge_from g.rhs0) (edge_from g.rhs1)
+      → set (nodes_in_row gates n v) k (gate_node_of g) ≡ nodes_in_row (gates ++ g ∷ []) n v
   sets_gate zero v k lt at is = absurd (omega arith)
   sets_gate (suc n) v zero lt at is =
       let here : v ≡ g.lhs / 2 = omega arith in

@@ -3,8 +3,9 @@ use Rattle.std.proofs.Common.{◌≡◌, ◌∙◌, ◌+◌, ◌++◌, ℕ, List
 use Rattle.std.proofs.lemmas.List.{length-map}
 use Rattle.std.specs.declared.alloc.Global.{Global}
 use Rattle.aig_circuit.specs.declared.node.AigLatch.{AigLatch}
-use Rattle.aig_front.specs.Fitting.{fitting_inputs_at, fitting_latches_at}
-use Rattle.aig_grammar.specs.File.{Kind, LatchLine}
+use Rattle.aig_parsing.specs.Fitting.{fitting_inputs_at, fitting_latches_at}
+use Rattle.aig_format.specs.declared.FileKind.{FileKind}
+use Rattle.aig_format.specs.File.{LatchLine}
 use Rattle.aig_lexer.specs.declared.header.Header.{Header}
 use Rattle.aig_lexer.specs.Header.{numbers_of}
 use Rattle.aig_lexer.specs.Takes.{Makes, Takes}
@@ -23,7 +24,7 @@ abbrev pub literals_with : List ℕ → List LatchLine → List ℕ
 literals_with inputs lines = inputs ++ map (λ (l : LatchLine). l.literal) lines
 
 -- the lines of the inputs and of the latches, which were read one behind the other, and the lists that were made of them
-pub record LeavesRead (header : Header) (kind : Kind) (before between after : Option (List ℕ)) (variables : Variables) (inputs : List ℕ) (latchs : List AigLatch) : Type 0 where
+pub record LeavesRead (header : Header) (kind : FileKind) (before between after : Option (List ℕ)) (variables : Variables) (inputs : List ℕ) (latchs : List AigLatch) : Type 0 where
   pub literals : List ℕ
   pub lines : List LatchLine
   pub inputs_are : inputs ≡ map variable_of literals
@@ -33,7 +34,7 @@ pub record LeavesRead (header : Header) (kind : Kind) (before between after : Op
   pub count : length (literals_with literals lines) ≡ header.inputs + header.latches
   pub defined : AreDefined header.greatest variables (literals_with literals lines)
 
-module _ (header : Header) (kind : Kind) (b m a : Option (List ℕ)) (u v w : Variables)
+module _ (header : Header) (kind : FileKind) (b m a : Option (List ℕ)) (u v w : Variables)
     (input_lines : Result (Vec ℕ Global) LineError) (inputs_result : Result (Vec ℕ Global) ReadError) (inputs : Vec ℕ Global)
     (latch_lines : Result (Vec AigLatch Global) LineError) (latchs_result : Result (Vec AigLatch Global) ReadError) (latchs : Vec AigLatch Global) where
   pub leaves_read :
@@ -62,8 +63,8 @@ module _ (header : Header) (kind : Kind) (b m a : Option (List ℕ)) (u v w : Va
         lines = l.0;
         inputs_are = i.1.0;
         latchs_are = l.1.0;
-        takes_inputs = subst (λ (k : Kind). Takes (fitting_inputs_at k ns) b m i.0) start i.2;
-        takes_latchs = subst (λ (k : Kind). Takes (fitting_latches_at k ns i.0) m a l.0) (same ∙ start) l.2;
+        takes_inputs = subst (λ (k : FileKind). Takes (fitting_inputs_at k ns) b m i.0) start i.2;
+        takes_latchs = subst (λ (k : FileKind). Takes (fitting_latches_at k ns i.0) m a l.0) (same ∙ start) l.2;
         count = omega (arith, i_length, both, mapped, l_all, l_count, latchs.ok.0);
         defined = l.1.1;
       }

@@ -1,11 +1,11 @@
 -- What reading the names gave.
 use Rattle.std.proofs.Common.{◌≡◌, ◌≢◌, ℕ, List, [], Option, Some, None, Result, Ok, Err, IfSome, IfOk, OnOk, refl, subst}
 use Rattle.std.specs.Io.KnownBytes.{Consumes}
-use Rattle.aig_front.specs.Fitting.{fitting_tail_at}
-use Rattle.aig_names.specs.declared.error.NameError.{NameError}
-use Rattle.aig_names.specs.declared.error.NameError.TheVariants as name
-use Rattle.aig_names.specs.Faults.{OnName}
-use Rattle.aig_names.specs.Names.{EndsWith, tail_of}
+use Rattle.aig_parsing.specs.Fitting.{fitting_tail_at}
+use Rattle.aig_reader.specs.declared.names.error.NameError.{NameError}
+use Rattle.aig_reader.specs.declared.names.error.NameError.TheVariants as name
+use Rattle.aig_reader.specs.NameFaults.{OnName}
+use Rattle.aig_reader.specs.Names.{EndsWith, tail_of}
 use Rattle.aig_reader.specs.declared.error.ReadError.{ReadError}
 use Rattle.aig_reader.specs.declared.error.ReadError.TheVariants as errors
 use Rattle.aig_reader.specs.Faults.{OnRefusal, name_error_of, result_by}

@@ -1,8 +1,9 @@
 -- What a fault tells.
 use Rattle.std.specs.Prelude.{ℕ, List, codes, Result, Ok, Err}
-use Rattle.aig_grammar.specs.File.{Kind, Text, Binary}
-use Rattle.aig_names.specs.declared.error.NameError.{NameError}
-use Rattle.aig_names.specs.declared.error.NameError.TheVariants as name
+use Rattle.aig_format.specs.declared.FileKind.{FileKind}
+use Rattle.aig_format.specs.declared.FileKind.TheVariants.{Text, Binary}
+use Rattle.aig_reader.specs.declared.names.error.NameError.{NameError}
+use Rattle.aig_reader.specs.declared.names.error.NameError.TheVariants as name
 use Rattle.aig_reader.specs.declared.error.Section.{Section}
 use Rattle.aig_reader.specs.declared.error.Section.TheVariants as sections
 use Rattle.aig_lexer.specs.declared.error.LexError.{LexError}
@@ -60,7 +61,7 @@ error_in section line.Syntax = errors.Syntax section
 error_in section line.Literal = errors.Literal section
 
 -- a fault in the gates of a file of this kind
-abbrev pub gate_error_in : Kind → LineError → ReadError
+abbrev pub gate_error_in : FileKind → LineError → ReadError
 gate_error_in Text e = error_in sections.Gates e
 gate_error_in Binary line.Memory = errors.Memory
 gate_error_in Binary line.Stream = errors.Stream

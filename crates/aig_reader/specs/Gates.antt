@@ -2,7 +2,7 @@
 use Rattle.std.specs.Prelude.{◌≡◌, ℕ, ◌/◌, List, [], ◌∷◌, ◌++◌, max, map}
 use Rattle.aig_circuit.specs.declared.node.AigNode.{AigNode}
 use Rattle.aig_circuit.specs.Node.{and_of}
-use Rattle.aig_grammar.specs.File.{GateLine}
+use Rattle.aig_format.specs.File.{GateLine}
 use Rattle.aig_reader.specs.declared.variables.Variables.{Variables}
 use Rattle.aig_reader.specs.Lists.{edge_from, nodes_of}
 use Rattle.aig_reader.specs.Variables.{AreDefined}

@@ -6,3 +6,7 @@ pub mod Entries
 pub mod Gates
 pub mod Properties
 pub mod Sections
+pub mod NameFaults
+pub mod Names
+pub mod NamedSections
+pub mod NameSteps

@@ -1,11 +1,15 @@
 -- The lists of a circuit, made of the lines of a file.
-use Rattle.std.specs.Prelude.{ℕ, ◌+◌, ◌/◌, ◌%◌, ◌==◌, List, []}
+use Rattle.std.specs.Prelude.{ℕ, ◌+◌, ◌/◌, ◌%◌, ◌==◌, if◌then◌else◌, List, map, find, Option, Some, None}
 use Rattle.aig_circuit.specs.declared.edge.AigEdge.{AigEdge}
+use Rattle.aig_circuit.specs.declared.node.AigNodeType.{AigNodeType}
+use Rattle.aig_circuit.specs.declared.node.AigNodeType.TheVariants.{False, Leaf}
 use Rattle.aig_circuit.specs.declared.node.AigNode.{AigNode}
 use Rattle.aig_circuit.specs.declared.node.AigLatch.{AigLatch}
 use Rattle.aig_circuit.specs.Edge.{edge_to}
-use Rattle.aig_grammar.specs.File.{Text, LatchLine, GateLine, File}
-use Rattle.aig_grammar.specs.Circuit.{initial_of, nodes_from}
+use Rattle.aig_circuit.specs.Node.{and_of}
+use Rattle.aig_format.specs.File.{LatchLine, GateLine}
+use Rattle.aig_format.specs.Numbering.{numbers_from}
+use Rattle.aig_format.specs.Circuit.{initial_of}
 
 -- a literal's variable
 abbrev pub variable_of : ℕ → ℕ
@@ -19,22 +23,23 @@ edge_from e = edge_to (e / 2) (e % 2 == 1)
 abbrev pub latch_from : LatchLine → AigLatch
 latch_from l = record { input = l.literal / 2; next = edge_from l.next; init = initial_of l }
 
--- a file of these gates alone
-abbrev pub with_gates : List GateLine → File
-with_gates gates = record {
-  kind = Text;
-  greatest = 0;
-  inputs = [];
-  latches = [];
-  outputs = [];
-  gates = gates;
-  bads = [];
-  constraints = [];
-  justice = [];
-  fairness = [];
-  names = [];
-}
+-- a gate is the and of its operands, put in order; a variable that no gate defines is a leaf
+abbrev pub kind_by : Option GateLine → AigNodeType
+kind_by (Some g) = and_of (edge_from g.rhs0) (edge_from g.rhs1)
+kind_by None = Leaf
 
--- the nodes of the variables 0 to the greatest, where these gates are defined
+-- what a variable is, where these gates are defined
+abbrev pub kind_from : List GateLine → ℕ → AigNodeType
+kind_from gates v = if v == 0 then False else kind_by (find (λ g. g.lhs / 2 == v) gates)
+
+-- the node of a variable, which has its number
+abbrev pub node_from : List GateLine → ℕ → AigNode
+node_from gates v = record { node_id = v; typ = kind_from gates v }
+
+-- the nodes of n variables in a row, from v on
+abbrev pub nodes_in_row : List GateLine → ℕ → ℕ → List AigNode
+nodes_in_row gates n v = map (node_from gates) (numbers_from n v)
+
+-- the nodes of the variables 0 to the greatest
 abbrev pub nodes_of : ℕ → List GateLine → List AigNode
-nodes_of greatest gates = nodes_from (with_gates gates) (greatest + 1) 0
+nodes_of greatest gates = nodes_in_row gates (greatest + 1) 0

@@ -1,7 +1,7 @@
 -- Outputs and properties.
 use Rattle.std.specs.Prelude.{◌≡◌, ℕ, List, map, slice_index, Option}
-use Rattle.aig_front.specs.Front.{both_at, numbers_at}
-use Rattle.aig_front.specs.Fitting.{literals_at, literal_sets_at}
+use Rattle.aig_parsing.specs.Front.{both_at, numbers_at}
+use Rattle.aig_parsing.specs.Fitting.{literals_at, literal_sets_at}
 use Rattle.aig_reader.specs.declared.properties.Properties.{Properties}
 use Rattle.aig_reader.specs.Lists.{edge_from}
 

@@ -1,7 +1,7 @@
 -- What the answer of a reading call tells of the bytes.
 use Rattle.std.specs.Prelude.{ℕ, List, ◌↔◌, Result, Ok, Err, IsOk, IsErrOf}
-use Rattle.aig_grammar.specs.File.{File}
-use Rattle.aig_grammar.specs.Fits.{Accepts, TooMany}
+use Rattle.aig_format.specs.File.{File}
+use Rattle.aig_format.specs.Fits.{Accepts, TooMany}
 use Rattle.aig_reader.specs.declared.error.ReadError.{ReadError}
 use Rattle.aig_reader.specs.declared.error.ReadError.TheVariants as errors
 

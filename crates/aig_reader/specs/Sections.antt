@@ -3,7 +3,7 @@ use Rattle.std.specs.Prelude.{◌≡◌, ℕ, List, map}
 use Rattle.std.specs.Ordering.{nat_cmp}
 use Rattle.std.specs.FinMap.{FinMap}
 use Rattle.aig_circuit.specs.Circuit.{Circuit}
-use Rattle.aig_front.specs.Front.{Parts}
+use Rattle.aig_parsing.specs.Front.{Parts}
 use Rattle.aig_reader.specs.declared.reader.Sections.{Sections}
 use Rattle.aig_reader.specs.Lists.{latch_from, nodes_of, variable_of}
 use Rattle.aig_reader.specs.Properties.{ArePropertiesOf}

@@ -1,7 +1,8 @@
 -- The variables that are defined so far, and what a test of a literal answers.
 use Rattle.std.specs.Prelude.{◌≡◌, ℕ, ◌+◌, ◌*◌, ◌/◌, ◌%◌, ◌<◌, ◌≤◌, ◌==◌, ◌⊎◌, Bool, true, false, List, length, slice_index_or, Result, Ok, Err}
 use Rattle.std.specs.List.{list_any}
-use Rattle.aig_grammar.specs.File.{Kind, Text, Binary}
+use Rattle.aig_format.specs.declared.FileKind.{FileKind}
+use Rattle.aig_format.specs.declared.FileKind.TheVariants.{Text, Binary}
 use Rattle.aig_reader.specs.declared.error.LineError.{LineError}
 use Rattle.aig_reader.specs.declared.error.LineError.TheVariants.{Literal, Memory}
 use Rattle.aig_reader.specs.declared.variables.Marks.{Marks}
@@ -10,7 +11,7 @@ use Rattle.aig_reader.specs.declared.variables.Variables.TheVariants.{Marked, Co
 use Rattle.aig_reader.specs.Faults.{OnLine}
 
 -- the kind of the file
-abbrev pub kind_by : Variables → Kind
+abbrev pub kind_by : Variables → FileKind
 kind_by (Marked marks) = Text
 kind_by (Counted count) = Binary
 

@@ -1,14 +1,13 @@
 //! Why a file is refused.
 
 ghost use Rattle.std.specs.Prelude.{◌≡◌, Some};
-ghost use Rattle.aig_lexer.specs.Header.{kind_of};
 ghost use Rattle.aig_reader.specs.Faults.{error_in, gate_error_in, header_error_of, line_error_of, name_error_of, result_by, section_name};
 ghost use Rattle.aig_reader.specs.declared.error.LineError.TheVariants as line;
 ghost use Rattle.aig_reader.specs.declared.error.ReadError.TheVariants as errors;
 
+use crate::names::NameError;
 use aig_base::StreamFault;
 use aig_lexer::{FileKind, LexError};
-use aig_names::NameError;
 use std::alloc::{AllocError, AllocFailed};
 use std::fmt;
 use thiserror::Error;
@@ -175,7 +174,7 @@ impl Section {
 
 /// What reading the gates of a file of this kind gave.
 pub fn gates_result(kind: FileKind, gates: Result<(), LineError>) -> Result<(), ReadError>
-    ensures { result ≡ result_by (gate_error_in (kind_of kind)) gates }
+    ensures { result ≡ result_by (gate_error_in kind) gates }
 {
     match (kind, gates) {
         (FileKind::Binary, Err(LineError::Syntax | LineError::Literal)) => Err(ReadError::Delta),

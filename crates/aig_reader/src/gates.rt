@@ -1,8 +1,9 @@
 //! Gates: in a text file a line each, in a binary file two differences each.
 
 ghost use Rattle.std.specs.Prelude.{◌≡◌, ℕ, ◌+◌, ◌/◌, ◌^◌, ◌<◌, ◌≤◌, ◌&&◌, nat_lt, [], ◌∷◌, ◌++◌, List, length, true, vec_len, IfOk, IsErrOf};
-ghost use Rattle.aig_front.specs.Fitting.{fitting_gates_at};
-ghost use Rattle.aig_grammar.specs.File.{Binary, GateLine};
+ghost use Rattle.aig_parsing.specs.Fitting.{fitting_gates_at};
+ghost use Rattle.aig_format.specs.declared.FileKind.TheVariants.{Binary};
+ghost use Rattle.aig_format.specs.File.{GateLine};
 ghost use Rattle.aig_lexer.specs.Faults.{OnShape};
 ghost use Rattle.aig_lexer.specs.Header.{numbers_of};
 ghost use Rattle.aig_lexer.specs.Takes.{Gives, Makes};

@@ -1,9 +1,9 @@
 //! The header line.
 
 ghost use Rattle.std.specs.Prelude.{◌≡◌, ◌+◌, ◌≤◌, ◌↔◌, true, IfOk, IfSome, IsErrOf};
-ghost use Rattle.aig_front.specs.Fitting.{fitting_header_at};
-ghost use Rattle.aig_front.specs.Front.{too_many_at};
-ghost use Rattle.aig_lexer.specs.Header.{kind_of, numbers_of};
+ghost use Rattle.aig_parsing.specs.Fitting.{fitting_header_at};
+ghost use Rattle.aig_parsing.specs.Front.{too_many_at};
+ghost use Rattle.aig_lexer.specs.Header.{numbers_of};
 ghost use Rattle.aig_lexer.specs.Takes.{Gives};
 ghost use Rattle.aig_reader.specs.Faults.{OnRefusal};
 ghost use Rattle.aig_reader.specs.Reading.{UnlessInterrupted};
@@ -13,7 +13,7 @@ use aig_lexer::{ByteFeed, Header, header_line};
 
 /// Reads the header line, which is good, and within the limit of `limit` variables, the false one counted.
 pub fn read_header<F: ByteFeed>(f: &mut F, limit: usize) -> Result<Header, ReadError>
-    ensures exact { Gives OnRefusal (λ h. (kind_of h.kind, numbers_of h)) (F.coming f.old) (F.coming f.new) result (fitting_header_at limit) }
+    ensures exact { Gives OnRefusal (λ h. (h.kind, numbers_of h)) (F.coming f.old) (F.coming f.new) result (fitting_header_at limit) }
     ensures too_many { IfSome (F.coming f.old) (λ bytes. UnlessInterrupted result (IsErrOf result ReadError.TooMany ↔ (too_many_at limit bytes ≡ true))) }
     ensures within { IfOk result (λ h. h.greatest + 1 ≤ limit) }
     ensures whole { IfOk result (λ h. h.greatest ≡ h.inputs + h.latches + h.gates) }

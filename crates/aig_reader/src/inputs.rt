@@ -1,7 +1,7 @@
 //! Inputs: in a text file a line each, in a binary file the first variables.
 
 ghost use Rattle.std.specs.Prelude.{◌≡◌, ℕ, ◌+◌, ◌^◌, ◌<◌, ◌≤◌, List, [], ◌∷◌, ◌++◌, map, true, vec_len, IfOk, IsErrOf};
-ghost use Rattle.aig_front.specs.Fitting.{fitting_inputs_at};
+ghost use Rattle.aig_parsing.specs.Fitting.{fitting_inputs_at};
 ghost use Rattle.aig_lexer.specs.Header.{numbers_of};
 ghost use Rattle.aig_lexer.specs.Takes.{Makes};
 ghost use Rattle.aig_reader.specs.Entries.{input_at};

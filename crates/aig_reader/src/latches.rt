@@ -1,9 +1,9 @@
 //! Latches, a line each.
 
 ghost use Rattle.std.specs.Prelude.{◌≡◌, ℕ, ◌+◌, ◌^◌, ◌<◌, ◌≤◌, List, Option, [], ◌∷◌, ◌++◌, map, length, true, vec_len, IfErr, IfOk, IsErrOf};
-ghost use Rattle.aig_front.specs.Fitting.{fitting_latches_at, is_reset};
-ghost use Rattle.aig_grammar.specs.Circuit.{initial_of};
-ghost use Rattle.aig_grammar.specs.File.{LatchLine};
+ghost use Rattle.aig_parsing.specs.Fitting.{fitting_latches_at, is_reset};
+ghost use Rattle.aig_format.specs.Circuit.{initial_of};
+ghost use Rattle.aig_format.specs.File.{LatchLine};
 ghost use Rattle.aig_lexer.specs.Header.{numbers_of};
 ghost use Rattle.aig_lexer.specs.Takes.{Makes};
 ghost use Rattle.aig_reader.specs.Entries.{latch_at};

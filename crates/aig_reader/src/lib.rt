@@ -8,6 +8,7 @@ mod header;
 mod inputs;
 mod justice;
 mod latches;
+mod names;
 mod nodes;
 mod properties;
 mod reader;

@@ -3,11 +3,11 @@
 ghost use Rattle.std.specs.Prelude.{◌≡◌, ℕ, ◌+◌, ◌^◌, ◌<◌, ◌≤◌, true, false, List, IfErr, IfOk, IfSome, IsErrOf, IsTrue, OnOk, vec_len};
 ghost use Rattle.std.specs.Io.KnownBytes.{Consumes, IsAtEnd};
 ghost use Rattle.aig_circuit.specs.View.{lists_circuit, names_of};
-ghost use Rattle.aig_front.specs.Fitting.{fitting_sections_at};
-ghost use Rattle.aig_grammar.specs.Circuit.{circuit_of};
-ghost use Rattle.aig_grammar.specs.File.{File};
-ghost use Rattle.aig_grammar.specs.Fits.{Accepts};
-ghost use Rattle.aig_lexer.specs.Header.{kind_of, numbers_of};
+ghost use Rattle.aig_parsing.specs.Fitting.{fitting_sections_at};
+ghost use Rattle.aig_format.specs.Circuit.{circuit_of};
+ghost use Rattle.aig_format.specs.File.{File};
+ghost use Rattle.aig_format.specs.Fits.{Accepts};
+ghost use Rattle.aig_lexer.specs.Header.{numbers_of};
 ghost use Rattle.aig_lexer.specs.Takes.{Makes};
 ghost use Rattle.aig_reader.specs.Faults.{IsSectionFault, OnRefusal};
 ghost use Rattle.aig_reader.specs.Reading.{ReadsExactly, UnlessInterrupted};
@@ -18,13 +18,13 @@ use crate::gates::read_gates;
 use crate::header::read_header;
 use crate::inputs::read_inputs;
 use crate::latches::read_latches;
+use crate::names::read_names;
 use crate::nodes::leaves;
 use crate::properties::{Properties, read_properties};
 use crate::variables::Variables;
 use aig_base::Source;
 use aig_circuit::{AigLatch, AigNode, CircuitLists};
 use aig_lexer::{Buffered, ByteFeed, Header, WINDOW_SIZE};
-use aig_names::read_names;
 use std::alloc::Global;
 use std::collections::HashMap;
 
@@ -119,7 +119,7 @@ fn read_sections<F: ByteFeed>(
 ) -> Result<Sections, ReadError>
     requires few { header.greatest < 2 ^ 31 }
     requires exact { header.greatest ≡ header.inputs + header.latches + header.gates }
-    ensures exact { Makes OnRefusal (AreSectionsOf header.greatest) (F.coming f.old) (F.coming f.new) result (fitting_sections_at (kind_of header.kind) (numbers_of header)) }
+    ensures exact { Makes OnRefusal (AreSectionsOf header.greatest) (F.coming f.old) (F.coming f.new) result (fitting_sections_at header.kind (numbers_of header)) }
     ensures inputs { IfOk result (λ sections. vec_len sections.inputs ≡ header.inputs) }
     ensures latchs { IfOk result (λ sections. vec_len sections.latchs ≡ header.latches) }
     ensures fault { IfErr result IsSectionFault }

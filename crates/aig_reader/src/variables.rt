@@ -1,9 +1,8 @@
 //! The variables of a file.
 
 ghost use Rattle.std.specs.Prelude.{◌≡◌, ℕ, ◌+◌, ◌/◌, ◌^◌, ◌<◌, ◌≤◌, List, [], ◌∷◌, ◌++◌, IfErr, IfOk, IsErrOf, OnOk, false, slice_index_or, true, vec_len};
-ghost use Rattle.aig_front.specs.Fitting.{defines};
+ghost use Rattle.aig_parsing.specs.Fitting.{defines};
 ghost use Rattle.aig_lexer.specs.Faults.{OnShape};
-ghost use Rattle.aig_lexer.specs.Header.{kind_of};
 ghost use Rattle.aig_lexer.specs.Takes.{Gives};
 ghost use Rattle.aig_reader.specs.Entries.{may_define, own_at};
 ghost use Rattle.aig_reader.specs.Variables.{AreDefined, AreMarks, HasRoom, IsLiteralFault, IsNext, IsOwn, Tested, kind_by};
@@ -68,7 +67,7 @@ impl Variables {
     /// The variables up to a greatest one in a file of this kind. None is defined.
     pub fn new(alloc: Global, kind: FileKind, greatest: u32) -> Self
         ensures defined { AreDefined greatest result [] }
-        ensures kind { kind_by result ≡ kind_of kind }
+        ensures kind { kind_by result ≡ kind }
         ensures room { HasRoom (greatest + 1) result greatest }
     {
         match kind {

@@ -10,7 +10,7 @@ use Rattle.aig_circuit.specs.declared.node.AigLatch.{AigLatch}
 use Rattle.aig_circuit.specs.Edge.{edge_to}
 use Rattle.aig_circuit.specs.Node.{kind_at, and_of}
 use Rattle.aig_circuit.specs.Circuit.{Circuit}
-use Rattle.aig_circuit.specs.Reencode.{nodes_in_order, renumbered_circuit, renumbered_edge, renumbered_kind, renumbered_latch}
+use Rattle.aig_circuit.specs.Renumber.{nodes_in_order, renumbered_circuit, renumbered_edge, renumbered_kind, renumbered_latch}
 use Rattle.aig_renumber.specs.Numbers.{IsEdgeIn, IsLatchIn, SpeaksOf}
 use Rattle.aig_renumber.proofs.Places.{map-agrees}
 use Rattle.aig_renumber.proofs.Names.{names_in_circuit}

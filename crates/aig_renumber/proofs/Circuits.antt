@@ -1,31 +1,50 @@
 -- A circuit under other numbers is a circuit, with the runs and values of the old one.
-use Rattle.std.proofs.Common.{◌≡◌, ◌≢◌, ◌↔◌, ℕ, ◌+◌, ◌<◌, Bool, Option, Some, None, List, [], ◌∷◌, ◌++◌, length, map, get_or, refl, sym, ap, subst, ◌∙◌}
-use Rattle.std.specs.Prelude.{All, AllPairs, Contains, IfSome, option_map}
+use Rattle.std.proofs.Common.{◌≡◌, ◌≢◌, ◌↔◌, ℕ, ◌+◌, ◌<◌, Bool, Option, Some, None, List, [], ◌∷◌, ◌++◌, length, map, get_or, refl, sym, ap, subst, ◌∙◌, arith, suc}
+use Rattle.std.specs.Prelude.{All, AllPairs, Contains, IfSome, option_map, option_to_list}
 use Rattle.std.specs.FinMap.{entries}
 use Rattle.std.proofs.lemmas.List.{length-map, map-append}
-use Rattle.std.proofs.lemmas.List.Elements.{All-map, All-weaker, All-contains}
+use Rattle.std.proofs.lemmas.List.Elements.{All-cons, All-map, All-nil, All-weaker, All-contains}
 use Rattle.aig_circuit.specs.declared.edge.AigEdge.{AigEdge}
 use Rattle.aig_circuit.specs.declared.node.AigNode.{AigNode}
 use Rattle.aig_circuit.specs.declared.node.AigNodeType.TheVariants.{Leaf}
 use Rattle.aig_circuit.specs.declared.node.AigLatch.{AigLatch}
 use Rattle.aig_circuit.specs.Tree.{edge_value}
 use Rattle.aig_circuit.specs.Circuit.{Circuit, IsCircuit, IsClosed, IsInRange, IsLatch, IsLeaf, latch_leaves}
+use Rattle.aig_circuit.specs.Edges.{initial_edges}
 use Rattle.aig_circuit.specs.Runs.{AreAsLong, HaveSameProperties, HaveSameValues, IsRun, IsStart, KeepsRuns, next_edges}
-use Rattle.aig_circuit.specs.Reencode.{nodes_in_order, renumbered_circuit, renumbered_edge, renumbered_latch}
+use Rattle.aig_circuit.specs.Renumber.{nodes_in_order, renumbered_circuit, renumbered_edge, renumbered_latch}
 use Rattle.aig_circuit.proofs.Trees.{kind_at-within}
 use Rattle.aig_renumber.specs.Numbers.{IsEdgeIn, IsLatchIn, SpeaksOf}
 use Rattle.aig_renumber.proofs.Places.{AllPairs-map_numbers, AllZip-map, All-from_map, Contains-map, Contains-map_back}
-use Rattle.aig_renumber.proofs.Values.{edge_value-renumbered}
-use Rattle.aig_renumber.proofs.Numbering.{Numbers, length-nodes_in_order, within_made, number-apart, AreNodes-made, IsOrdered-made, IsLeaf-number, IsLeaf-back, Renumbers-made}
+use Rattle.aig_circuit.proofs.Values.{edge_value-renumbered}
+use Rattle.aig_renumber.proofs.Numbering.{Merges, length-nodes_in_order, within_made, leaves-apart, AreNodes-made, IsOrdered-made, IsLeaf-number, IsLeaf-back, Renumbers-made}
 use Rattle.aig_renumber.proofs.Names.{names_in_circuit, named_back}
 
 pub latch_leaves-map : (number : ℕ → ℕ) (latchs : List AigLatch) → latch_leaves (map (renumbered_latch number) latchs) ≡ map number (latch_leaves latchs)
 latch_leaves-map number [] = refl
 latch_leaves-map number (l ∷ ls) = ap (λ ns. number l.input ∷ ns) (latch_leaves-map number ls)
 
-next_edges-map : (number : ℕ → ℕ) (latchs : List AigLatch) → next_edges (map (renumbered_latch number) latchs) ≡ map (renumbered_edge number) (next_edges latchs)
+pub next_edges-map : (number : ℕ → ℕ) (latchs : List AigLatch) → next_edges (map (renumbered_latch number) latchs) ≡ map (renumbered_edge number) (next_edges latchs)
 next_edges-map number [] = refl
 next_edges-map number (l ∷ ls) = ap (λ es. renumbered_edge number l.next ∷ es) (next_edges-map number ls)
+
+pub initial_edges-map : (number : ℕ → ℕ) (latchs : List AigLatch) → initial_edges (map (renumbered_latch number) latchs) ≡ map (renumbered_edge number) (initial_edges latchs)
+initial_edges-map number [] = refl
+initial_edges-map number (l ∷ ls) = by_init l.init (initial_edges-map number ls)
+  where
+    by_init : (o : Option AigEdge) → initial_edges (map (renumbered_latch number) ls) ≡ map (renumbered_edge number) (initial_edges ls)
+        → option_to_list (option_map (renumbered_edge number) o) ++ initial_edges (map (renumbered_latch number) ls) ≡ map (renumbered_edge number) (option_to_list o ++ initial_edges ls)
+    by_init (Some e) rest = ap (λ es. renumbered_edge number e ∷ es) rest
+    by_init None rest = rest
+
+-- what holds of every initial edge holds of those that are there
+All-initial_edges : (P : AigEdge → Type 0) (latchs : List AigLatch) → All (λ l. IfSome l.init P) latchs → All P (initial_edges latchs)
+All-initial_edges P [] all = All-nil P
+All-initial_edges P (l ∷ ls) all = by_init l.init (all 0 l (omega arith)) (All-initial_edges P ls (λ k d h. all (suc k) d (omega arith)))
+  where
+    by_init : (o : Option AigEdge) → IfSome o P → All P (initial_edges ls) → All P (option_to_list o ++ initial_edges ls)
+    by_init (Some e) p rest = All-cons P e (initial_edges ls) p rest
+    by_init None p rest = rest
 
 -- inputs and latch leaves, in order
 pub leaves-map : (number : ℕ → ℕ) (c : Circuit) → map number c.inputs ++ latch_leaves (map (renumbered_latch number) c.latchs) ≡ map number (c.inputs ++ latch_leaves c.latchs)
@@ -44,12 +63,12 @@ AreAsLong-renumbered number ns c count = record {
   fairness = length-map c.fairness (renumbered_edge number);
 }
 
-module _ (c : Circuit) (S : ℕ → Type 0) (ns : List ℕ) (number : ℕ → ℕ) (numbers : Numbers c.nodes S ns number) (is : IsCircuit c) (speaks : SpeaksOf S c) where
+module _ (c : Circuit) (S : ℕ → Type 0) (ns : List ℕ) (number : ℕ → ℕ) (merges : Merges c.nodes S ns number) (is : IsCircuit c) (speaks : SpeaksOf S c) where
   abbrev new : List AigNode
   new = nodes_in_order c.nodes number 0 ns
 
   in_range : (e : AigEdge) → IsEdgeIn S e → IsInRange new (renumbered_edge number e)
-  in_range e s = within_made c.nodes S ns number numbers e.node_id s
+  in_range e s = within_made c.nodes S ns number merges e.node_id s
 
   edges_in_range : (es : List AigEdge) → All (IsEdgeIn S) es → All (IsInRange new) (map (renumbered_edge number) es)
   edges_in_range es all = All-map (IsInRange new) (renumbered_edge number) es (All-weaker (IsEdgeIn S) (λ e. IsInRange new (renumbered_edge number e)) in_range es all)
@@ -59,10 +78,17 @@ module _ (c : Circuit) (S : ℕ → Type 0) (ns : List ℕ) (number : ℕ → �
   init_in_range None s = tt
 
   leaf : (n : ℕ) → S n → IsLeaf c.nodes n → IsLeaf new (number n)
-  leaf n s h = IsLeaf-number c.nodes S ns number numbers n s h
+  leaf n s h = IsLeaf-number c.nodes S ns number merges n s h
 
-  leaves_in_S : All S (latch_leaves c.latchs)
-  leaves_in_S = All-map S (λ (l : AigLatch). l.input) c.latchs (All-weaker (IsLatchIn S) (λ l. S l.input) (λ l h. h.leaf) c.latchs speaks.latchs)
+  -- a leaf of S
+  abbrev LeafIn : ℕ → Type 0
+  LeafIn n = S n × IsLeaf c.nodes n
+
+  inputs_in : All LeafIn c.inputs
+  inputs_in k d h = (speaks.inputs k d h, is.inputs k d h)
+
+  leaves_in : All LeafIn (latch_leaves c.latchs)
+  leaves_in = All-map LeafIn (λ (l : AigLatch). l.input) c.latchs (λ k d h. ((speaks.latchs k d h).leaf, (is.latchs k d h).leaf))
 
   latchs_are : All (IsLatch new) (map (renumbered_latch number) c.latchs)
   latchs_are = All-map (IsLatch new) (renumbered_latch number) c.latchs (λ k d h.
@@ -77,20 +103,17 @@ module _ (c : Circuit) (S : ℕ → Type 0) (ns : List ℕ) (number : ℕ → �
   leaves_apart : All (λ n. ¬ Contains (map number c.inputs) n) (map number (latch_leaves c.latchs))
   leaves_apart = All-map (λ n. ¬ Contains (map number c.inputs) n) number (latch_leaves c.latchs) (λ k d h has.
       let input = Contains-map_back number c.inputs (number (get_or (latch_leaves c.latchs) k d)) has in
-      let same = number-apart c.nodes S ns number numbers input.0 (get_or (latch_leaves c.latchs) k d) (All-contains S c.inputs input.0 speaks.inputs input.1) (leaves_in_S k d h) input.2 in
+      let same = leaves-apart c.nodes S ns number merges input.0 (get_or (latch_leaves c.latchs) k d) (All-contains LeafIn c.inputs input.0 inputs_in input.1) (leaves_in k d h) input.2 in
       is.apart k d h (subst (Contains c.inputs) same input.1))
-
-  names_in_S : All (λ (e : ℕ × List ℕ). S e.0) (entries c.names)
-  names_in_S = names_in_circuit S c.names speaks.named
 
   -- it is a circuit
   pub IsCircuit-renumbered : IsCircuit (renumbered_circuit number ns c)
   IsCircuit-renumbered = record {
-    nodes = AreNodes-made c.nodes S ns number numbers is.nodes;
+    nodes = AreNodes-made c.nodes S ns number merges is.nodes;
     inputs = All-map (IsLeaf new) number c.inputs (λ k d h. leaf (get_or c.inputs k d) (speaks.inputs k d h) (is.inputs k d h));
-    inputs_distinct = AllPairs-map_numbers S number c.inputs (number-apart c.nodes S ns number numbers) speaks.inputs is.inputs_distinct;
+    inputs_distinct = AllPairs-map_numbers LeafIn number c.inputs (leaves-apart c.nodes S ns number merges) inputs_in is.inputs_distinct;
     latchs = latchs_are;
-    latchs_distinct = subst (AllPairs (λ m n. m ≢ n)) (sym (latch_leaves-map number c.latchs)) (AllPairs-map_numbers S number (latch_leaves c.latchs) (number-apart c.nodes S ns number numbers) leaves_in_S is.latchs_distinct);
+    latchs_distinct = subst (AllPairs (λ m n. m ≢ n)) (sym (latch_leaves-map number c.latchs)) (AllPairs-map_numbers LeafIn number (latch_leaves c.latchs) (leaves-apart c.nodes S ns number merges) leaves_in is.latchs_distinct);
     apart = subst (All (λ n. ¬ Contains (map number c.inputs) n)) (sym (latch_leaves-map number c.latchs)) leaves_apart;
     outputs = edges_in_range c.outputs speaks.outputs;
     bads = edges_in_range c.bads speaks.bads;
@@ -98,22 +121,22 @@ module _ (c : Circuit) (S : ℕ → Type 0) (ns : List ℕ) (number : ℕ → �
     justice = All-map (All (IsInRange new)) (map (renumbered_edge number)) c.justice (λ k d h. edges_in_range (get_or c.justice k d) (speaks.justice k d h));
     fairness = edges_in_range c.fairness speaks.fairness;
     named = λ q has.
-        let old = named_back S number (entries c.names) q names_in_S has in
-        subst (λ n. n < length new) old.2 (within_made c.nodes S ns number numbers old.0 old.1);
+        let old = named_back S number (entries c.names) q (names_in_circuit S c.names speaks.named) has in
+        subst (λ n. n < length new) old.2 (within_made c.nodes S ns number merges old.0 old.1);
   }
 
   -- and closed, where the old one is
   pub IsClosed-renumbered : IsClosed c → IsClosed (renumbered_circuit number ns c)
   IsClosed-renumbered closed i h =
-      let old = IsLeaf-back c.nodes S ns number numbers i h in
+      let old = IsLeaf-back c.nodes S ns number merges i h in
       let there = Contains-map number (c.inputs ++ latch_leaves c.latchs) (get_or ns i 0) (closed (get_or ns i 0) old.1) in
       let moved = subst (λ l. Contains l (number (get_or ns i 0))) (sym (leaves-map number c)) there in
-      subst (Contains (map number c.inputs ++ latch_leaves (map (renumbered_latch number) c.latchs))) (numbers.place i old.0) moved
+      subst (Contains (map number c.inputs ++ latch_leaves (map (renumbered_latch number) c.latchs))) (merges.place i old.0) moved
 
   -- ---- values and runs
 
   value : (z : ℕ → Bool) (e : AigEdge) → IsEdgeIn S e → edge_value new z (renumbered_edge number e) ≡ edge_value c.nodes (λ n. z (number n)) e
-  value z e s = edge_value-renumbered c.nodes new S number is.nodes.ordered (IsOrdered-made c.nodes S ns number numbers) (Renumbers-made c.nodes S ns number numbers) (λ n. z (number n)) z (λ n s h. refl) e s
+  value z e s = edge_value-renumbered c.nodes new S number is.nodes.ordered (IsOrdered-made c.nodes S ns number merges) (Renumbers-made c.nodes S ns number merges) (λ n. z (number n)) z (λ n s h. refl) e s
 
   values : (z : ℕ → Bool) (es : List AigEdge) → All (IsEdgeIn S) es → HaveSameValues c.nodes (λ n. z (number n)) es new z (map (renumbered_edge number) es)
   values z es all = AllZip-map (renumbered_edge number) (λ e f. edge_value c.nodes (λ n. z (number n)) e ≡ edge_value new z f) es (λ k d h. sym (value z (get_or es k d) (all k d h)))
@@ -158,6 +181,10 @@ module _ (c : Circuit) (S : ℕ → Type 0) (ns : List ℕ) (number : ℕ → �
   next-renumbered z = subst (HaveSameValues c.nodes (λ n. z (number n)) (next_edges c.latchs) new z) (sym (next_edges-map number c.latchs))
       (values z (next_edges c.latchs) (All-map (IsEdgeIn S) (λ (l : AigLatch). l.next) c.latchs (All-weaker (IsLatchIn S) (λ l. IsEdgeIn S l.next) (λ l h. h.next) c.latchs speaks.latchs)))
 
+  pub initial-renumbered : (z : ℕ → Bool) → HaveSameValues c.nodes (λ n. z (number n)) (initial_edges c.latchs) new z (initial_edges (map (renumbered_latch number) c.latchs))
+  initial-renumbered z = subst (HaveSameValues c.nodes (λ n. z (number n)) (initial_edges c.latchs) new z) (sym (initial_edges-map number c.latchs))
+      (values z (initial_edges c.latchs) (All-initial_edges (IsEdgeIn S) c.latchs (All-weaker (IsLatchIn S) (λ l. IfSome l.init (IsEdgeIn S)) (λ l h. h.init) c.latchs speaks.latchs)))
+
   -- it has the runs of the old one, where S has every node
   pub KeepsRuns-renumbered : ((n : ℕ) → n < length c.nodes → S n) → KeepsRuns c (renumbered_circuit number ns c) number
   KeepsRuns-renumbered every = record {
@@ -165,7 +192,8 @@ module _ (c : Circuit) (S : ℕ → Type 0) (ns : List ℕ) (number : ℕ → �
     starts = starts-renumbered;
     properties = properties-renumbered;
     next = next-renumbered;
-    each = λ x. (λ m. x (get_or ns m 0), λ n h. ap x (numbers.back n (every n h)));
+    initial = initial-renumbered;
+    each = λ x. (λ m. x (get_or ns m 0), λ n h. ap x (merges.leaf_back n (every n (kind_at-within c.nodes n Leaf h)) h));
   }
 
 -- a circuit speaks of its nodes

@@ -1,9 +1,10 @@
 pub mod Places
-pub mod Values
 pub mod Numbering
 pub mod Names
+pub mod Kept
 pub mod Circuits
 pub mod Agreeing
 pub mod Order
+pub mod Same
 pub mod Placed
 pub mod Tables

@@ -1,21 +1,21 @@
 -- Names under other numbers.
 use Rattle.std.proofs.Common.{◌≡◌, ℕ, zero, suc, ◌<◌, Bool, true, false, cond, eqb, nat_cmp, Option, Some, None, List, [], ◌∷◌, length, map, get_or, refl, sym, ap, subst, ◌∙◌, arith, IsTrue, ◌++◌, nat_eq, String, Global, length-append, append_assoc, append-nil}
-use Rattle.std.specs.Prelude.{All, is_some, slice_index, string_bytes}
+use Rattle.std.specs.Prelude.{All, filter, is_some, slice_index, string_bytes}
 use Rattle.std.specs.List.{AllByRecursion, IsDistinct}
 use Rattle.std.specs.Map.{keys_of, lookup}
 use Rattle.std.specs.Ordering.{eq_by_cmp}
 use Rattle.std.proofs.lemmas.List.{get_or_append_left, get_or_at, map-id}
-use Rattle.std.proofs.lemmas.List.Elements.{All-map}
-use Rattle.std.specs.FinMap.{FinMap, find, contains_key, entries, from_entries, get-from_entries, get-entries, same_map, nat_cmp-IsAntisymmetric, insert, from_entries_push}
+use Rattle.std.proofs.lemmas.List.Elements.{All-filter, All-map, filter-append, filter_passes}
+use Rattle.std.specs.FinMap.{FinMap, find, contains_key, entries, from_entries, get-from_entries, get-entries, same_map, nat_cmp-IsAntisymmetric, insert, from_entries_push, retain_keys, get-retain_keys}
 use Rattle.std.proofs.lemmas.Cmp.{nat_cmp_total}
 use Rattle.std.proofs.lemmas.Bool.{eqb-true, eqb-false, eq-eqb, ne_eqb, false≢true}
 use Rattle.std.proofs.lemmas.Option.{none-some}
-use Rattle.std.proofs.lemmas.Map.Lookups.{map_keys}
+use Rattle.std.proofs.lemmas.Map.Lookups.{exact_unsigned, map_keys}
 use Rattle.aig_circuit.specs.View.{names_of}
 use Rattle.aig_base.proofs.Mapping.{same_test}
 use Rattle.aig_circuit.proofs.Names.{names_insert}
-use Rattle.aig_circuit.specs.Reencode.{renumbered_names}
-use Rattle.aig_renumber.specs.Numbers.{IsIndex, TellsApart}
+use Rattle.aig_circuit.specs.Renumber.{renumbered_names}
+use Rattle.aig_renumber.specs.Numbers.{IsIndex}
 use Rattle.aig_renumber.proofs.Places.{All-from_map, map-same}
 
 -- entries of names, by their bytes
@@ -135,12 +135,10 @@ numbers_there S es all = All-map (λ (e : ℕ × List ℕ). S e.0) (λ (entry : 
 
 module _ (S : ℕ → Type 0) (number : ℕ → ℕ) (apart : (m n : ℕ) → S m → S n → number m ≡ number n → m ≡ n) where
   -- one more name, under its new number
-  pub names-more : (done rest : List (ℕ × String Global)) (e : ℕ × String Global) → IsDistinct nat_eq (keys_of (done ++ e ∷ rest)) → All (λ (x : ℕ × String Global). S x.0) (done ++ e ∷ rest)
+  pub names-more : (done : List (ℕ × String Global)) (e : ℕ × String Global) → find nat_cmp e.0 (name_entries done) ≡ None → All (λ (x : ℕ × String Global). S x.0) done → S e.0
       → from_entries {R = nat_cmp} (map_keys number (name_entries (done ++ e ∷ []))) ≡ insert (from_entries (map_keys number (name_entries done))) (number e.0) (string_bytes e.1)
-  names-more done rest e distinct all =
-      let before : All (λ (x : ℕ × String Global). S x.0) done = λ k d h. subst (λ (x : ℕ × String Global). S x.0) (get_or_append_left done (e ∷ rest) d k h) (all k d (omega (arith, length-append done (e ∷ rest)))) in
-      let here : S e.0 = subst (λ (x : ℕ × String Global). S x.0) (get_or_at done e rest e (length done) refl) (all (length done) e (omega (arith, length-append done (e ∷ rest)))) in
-      let fresh = find-number S number apart (name_entries done) e.0 here (numbers_there S done before) ∙ not_before done rest e distinct in
+  names-more done e none before here =
+      let fresh = find-number S number apart (name_entries done) e.0 here (numbers_there S done before) ∙ none in
       let parts : map_keys number (name_entries (done ++ e ∷ [])) ≡ map_keys number (name_entries done) ++ (number e.0, string_bytes e.1) ∷ [] = pieces done in
       ap from_entries parts ∙ from_entries_push nat_cmp_total nat_cmp-IsAntisymmetric (map_keys number (name_entries done)) (number e.0) (string_bytes e.1) fresh
     where
@@ -159,32 +157,92 @@ module _ (S : ℕ → Type 0) (number : ℕ → ℕ) (apart : (m n : ℕ) → S 
 
 -- ---- the loop over a map's entries
 
+-- the entries whose number passes the test
+abbrev pub kept_entries : (ℕ → Bool) → List (ℕ × String Global) → List (ℕ × String Global)
+kept_entries test es = filter (λ (e : ℕ × String Global). test e.0) es
+
+-- a name is found among them where its number passes
+find-kept_entries : (test : ℕ → Bool) (es : List (ℕ × String Global)) (q : ℕ) → find nat_cmp q (name_entries (kept_entries test es)) ≡ cond (test q) (find nat_cmp q (name_entries es)) None
+find-kept_entries test [] q = both None (test q)
+  where
+    both : (o : Option (List ℕ)) (b : Bool) → o ≡ cond b o o
+    both o true = refl
+    both o false = refl
+find-kept_entries test (e ∷ es) q = by_tests (eqb q e.0) refl (test e.0) refl (test q) refl (find-kept_entries test es q)
+  where
+    by_tests : (same : Bool) → eqb q e.0 ≡ same → (here : Bool) → test e.0 ≡ here → (there : Bool) → test q ≡ there
+        → find nat_cmp q (name_entries (kept_entries test es)) ≡ cond (test q) (find nat_cmp q (name_entries es)) None
+        → find nat_cmp q (name_entries (cond (test e.0) (e ∷ kept_entries test es) (kept_entries test es))) ≡ cond (test q) (cond (eq_by_cmp nat_cmp q e.0) (Some (string_bytes e.1)) (find nat_cmp q (name_entries es))) None
+    by_tests true same true here true there more = rw (here, there, same_test q e.0, same) refl
+    by_tests true same true here false there more = absurd (false≢true (sym there ∙ ap test (eqb-true q e.0 same) ∙ here))
+    by_tests true same false here true there more = absurd (false≢true (sym here ∙ ap test (sym (eqb-true q e.0 same)) ∙ there))
+    by_tests true same false here false there more = rw here (more ∙ rw there refl)
+    by_tests false same true here there is more = rw (here, same_test q e.0, same) more
+    by_tests false same false here there is more = rw (here, same_test q e.0, same) more
+
+-- the names of these entries are the names that are retained
+retain_keys-names_of : (test : ℕ → Bool) (es : List (ℕ × String Global)) → retain_keys (names_of es) test ≡ names_of (kept_entries test es)
+retain_keys-names_of test es = same_map nat_cmp_total nat_cmp-IsAntisymmetric _ _ (λ q.
+    get-retain_keys (names_of es) test q (λ k e. let same : q ≡ k = exact_unsigned q k e in ap test (sym same))
+    ∙ ap (λ o. cond (test q) o None) (get-from_entries nat_cmp_total (name_entries es) q)
+    ∙ sym (find-kept_entries test es q)
+    ∙ sym (get-from_entries nat_cmp_total (name_entries (kept_entries test es)) q))
+
 -- what stands in the new map after some entries
-abbrev pub NamesSoFar : List ℕ → List (ℕ × String Global) → List (ℕ × String Global) → List (ℕ × String Global) → Type 0
-NamesSoFar numbers es rest made = (done : List (ℕ × String Global)) × (done ++ rest ≡ es) × (names_of made ≡ from_entries (map_keys (slice_index numbers) (name_entries done)))
+abbrev pub NamesSoFar : List ℕ → (ℕ → Bool) → List (ℕ × String Global) → List (ℕ × String Global) → List (ℕ × String Global) → Type 0
+NamesSoFar numbers test es rest made =
+    (done : List (ℕ × String Global)) × (done ++ rest ≡ es) × (names_of made ≡ from_entries (map_keys (slice_index numbers) (name_entries (kept_entries test done))))
 
-pub names-turn : (numbers : List ℕ) (es rest left made after : List (ℕ × String Global)) (id : ℕ) (name copy : String Global) → IsDistinct nat_eq (keys_of es) → All (λ (e : ℕ × String Global). IsIndex numbers e.0) es → TellsApart numbers
-    → NamesSoFar numbers es rest made → rest ≡ (id, name) ∷ left → string_bytes copy ≡ string_bytes name
-    → ((q : ℕ) → lookup (nat_eq q) after ≡ cond (nat_eq (slice_index numbers id) q) (Some copy) (lookup (nat_eq q) made)) → NamesSoFar numbers es left after
-names-turn numbers es rest left made after id name copy distinct there apart so_far step same updates =
-    let done = so_far.0 in
-    let split : done ++ (id, name) ∷ left ≡ es = ap (λ l. done ++ l) (sym step) ∙ so_far.1 in
-    let more = names-more (IsIndex numbers) (slice_index numbers) apart done left (id, name)
-    (subst (λ (l : List (ℕ × String Global)). IsDistinct nat_eq (keys_of l)) (sym split) distinct)
-    (subst (All (λ (e : ℕ × String Global). IsIndex numbers e.0)) (sym split) there)
-    in
-    let names = names_insert made after (slice_index numbers id) copy updates
-    ∙ ap (λ (bytes : List ℕ). insert (names_of made) (slice_index numbers id) bytes) same
-    ∙ ap (λ (m : FinMap nat_cmp (List ℕ)). insert m (slice_index numbers id) (string_bytes name)) so_far.2
-    ∙ sym more
-    in
-    (done ++ (id, name) ∷ [], append_assoc done ((id, name) ∷ []) left ∙ split, names)
+module _ (numbers : List ℕ) (test : ℕ → Bool) (es : List (ℕ × String Global)) where
+  -- it has a number, and is kept
+  abbrev IsKept : ℕ → Type 0
+  IsKept n = IsIndex numbers n × (test n ≡ true)
 
-pub names-end : (numbers : List ℕ) (es rest made : List (ℕ × String Global)) → All (λ (e : ℕ × String Global). IsIndex numbers e.0) es → TellsApart numbers → NamesSoFar numbers es rest made → rest ≡ [] → names_of made ≡ renumbered_names (slice_index numbers) (names_of es)
-names-end numbers es rest made there apart so_far none =
-    let all : so_far.0 ≡ es = sym (append-nil so_far.0) ∙ ap (λ l. so_far.0 ++ l) (sym none) ∙ so_far.1 in
-    so_far.2 ∙ ap (λ (l : List (ℕ × String Global)). from_entries (map_keys (slice_index numbers) (name_entries l))) all
-    ∙ names-all (IsIndex numbers) (slice_index numbers) apart es there
+  are_kept : (done : List (ℕ × String Global)) → All (λ (e : ℕ × String Global). IsIndex numbers e.0) done → All (λ (e : ℕ × String Global). IsKept e.0) (kept_entries test done)
+  are_kept done there k d h =
+      (All-filter (λ (e : ℕ × String Global). test e.0) (λ (e : ℕ × String Global). IsIndex numbers e.0) done there k d h, filter_passes (λ (e : ℕ × String Global). test e.0) done k d h)
+
+  -- an entry whose number fails the test adds nothing
+  pub names-pass : (rest left made : List (ℕ × String Global)) (id : ℕ) (name : String Global) → NamesSoFar numbers test es rest made → rest ≡ (id, name) ∷ left → test id ≡ false → NamesSoFar numbers test es left made
+  names-pass rest left made id name so_far step fails =
+      let done = so_far.0 in
+      let split : done ++ (id, name) ∷ left ≡ es = ap (λ l. done ++ l) (sym step) ∙ so_far.1 in
+      let same : kept_entries test (done ++ (id, name) ∷ []) ≡ kept_entries test done =
+      filter-append (λ (e : ℕ × String Global). test e.0) done ((id, name) ∷ []) ∙ ap (λ b. kept_entries test done ++ cond b ((id, name) ∷ []) []) fails ∙ append-nil (kept_entries test done)
+      in
+      (done ++ (id, name) ∷ [], append_assoc done ((id, name) ∷ []) left ∙ split, so_far.2 ∙ ap (λ l. from_entries (map_keys (slice_index numbers) (name_entries l))) (sym same))
+
+  module _ (there : All (λ (e : ℕ × String Global). IsIndex numbers e.0) es) (apart : (m n : ℕ) → IsKept m → IsKept n → slice_index numbers m ≡ slice_index numbers n → m ≡ n) where
+    pub names-turn : (rest left made after : List (ℕ × String Global)) (id : ℕ) (name copy : String Global) → IsDistinct nat_eq (keys_of es)
+        → NamesSoFar numbers test es rest made → rest ≡ (id, name) ∷ left → test id ≡ true → string_bytes copy ≡ string_bytes name
+        → ((q : ℕ) → lookup (nat_eq q) after ≡ cond (nat_eq (slice_index numbers id) q) (Some copy) (lookup (nat_eq q) made)) → NamesSoFar numbers test es left after
+    names-turn rest left made after id name copy distinct so_far step passes same updates =
+        let done = so_far.0 in
+        let entry : ℕ × String Global = (id, name) in
+        let split : done ++ entry ∷ left ≡ es = ap (λ l. done ++ l) (sym step) ∙ so_far.1 in
+        let all = subst (All (λ (e : ℕ × String Global). IsIndex numbers e.0)) (sym split) there in
+        let before : All (λ (x : ℕ × String Global). IsIndex numbers x.0) done = λ k d h. subst (λ (x : ℕ × String Global). IsIndex numbers x.0) (get_or_append_left done (entry ∷ left) d k h) (all k d (omega (arith, length-append done (entry ∷ left)))) in
+        let here : IsIndex numbers id = subst (λ (x : ℕ × String Global). IsIndex numbers x.0) (get_or_at done entry left entry (length done) refl) (all (length done) entry (omega (arith, length-append done (entry ∷ left)))) in
+        let new : find nat_cmp id (name_entries done) ≡ None = not_before done left entry (subst (λ (l : List (ℕ × String Global)). IsDistinct nat_eq (keys_of l)) (sym split) distinct) in
+        let fresh : find nat_cmp id (name_entries (kept_entries test done)) ≡ None = find-kept_entries test done id ∙ ap (λ b. cond b (find nat_cmp id (name_entries done)) None) passes ∙ new in
+        let more = names-more IsKept (slice_index numbers) apart (kept_entries test done) entry fresh (are_kept done before) (here, passes) in
+        let kept : kept_entries test (done ++ entry ∷ []) ≡ kept_entries test done ++ entry ∷ [] =
+        filter-append (λ (e : ℕ × String Global). test e.0) done (entry ∷ []) ∙ ap (λ b. kept_entries test done ++ cond b (entry ∷ []) []) passes
+        in
+        let names = names_insert made after (slice_index numbers id) copy updates
+        ∙ ap (λ (bytes : List ℕ). insert (names_of made) (slice_index numbers id) bytes) same
+        ∙ ap (λ (m : FinMap nat_cmp (List ℕ)). insert m (slice_index numbers id) (string_bytes name)) so_far.2
+        ∙ sym more
+        ∙ ap (λ l. from_entries (map_keys (slice_index numbers) (name_entries l))) (sym kept)
+        in
+        (done ++ entry ∷ [], append_assoc done (entry ∷ []) left ∙ split, names)
+
+    pub names-end : (rest made : List (ℕ × String Global)) → NamesSoFar numbers test es rest made → rest ≡ [] → names_of made ≡ renumbered_names (slice_index numbers) (retain_keys (names_of es) test)
+    names-end rest made so_far none =
+        let all : so_far.0 ≡ es = sym (append-nil so_far.0) ∙ ap (λ l. so_far.0 ++ l) (sym none) ∙ so_far.1 in
+        so_far.2 ∙ ap (λ (l : List (ℕ × String Global)). from_entries (map_keys (slice_index numbers) (name_entries (kept_entries test l)))) all
+        ∙ names-all IsKept (slice_index numbers) apart (kept_entries test es) (are_kept es there)
+        ∙ ap (renumbered_names (slice_index numbers)) (sym (retain_keys-names_of test es))
 
 -- what holds of the numbers with a name holds of those of the map's entries
 pub entries_there : (S : ℕ → Type 0) (es : List (ℕ × String Global)) → ((n : ℕ) → IsTrue (contains_key (names_of es) n) → S n) → All (λ (e : ℕ × String Global). S e.0) es

@@ -157,7 +157,7 @@ module _ (c : Circuit) (is : IsCircuit c) where
 
   module _ (closed : IsClosed c) where
     -- and each node's number is there
-    order-Contains : (n : ℕ) → n < length c.nodes → Contains (order_of c) n
+    pub order-Contains : (n : ℕ) → n < length c.nodes → Contains (order_of c) n
     order-Contains n h = let k = kind_at-there c.nodes n h in by_kind k.0 k.1
       where
         by_kind : (k : AigNodeType) → kind_at c.nodes n ≡ Some k → Contains (order_of c) n

@@ -1,10 +1,11 @@
 -- Lists without repetition, and the places of their entries.
-use Rattle.std.proofs.Common.{◌≡◌, ◌≢◌, ℕ, zero, suc, ◌+◌, ◌<◌, ◌≤◌, Bool, true, false, cond, eqb, List, [], ◌∷◌, length, map, get_or, refl, ap, subst, ◌∙◌, arith, add-one}
-use Rattle.std.specs.Prelude.{All, AllPairs, Contains}
+use Rattle.std.proofs.Common.{◌≡◌, ◌≢◌, ℕ, zero, suc, ◌+◌, ◌<◌, ◌≤◌, Bool, true, false, cond, eqb, List, [], ◌∷◌, length, map, get_or, refl, ap, subst, ◌∙◌, arith, add-one, inl, inr}
+use Rattle.std.specs.Prelude.{All, AllPairs, Contains, filter}
 use Rattle.std.specs.List.{AllZip}
-use Rattle.std.proofs.lemmas.Bool.{eqb-true, eqb-false, eq-eqb, ne_eqb}
+use Rattle.std.proofs.lemmas.Bool.{cases_lt, eqb-true, eqb-false, eq-eqb, ne_eqb}
 use Rattle.std.proofs.lemmas.List.{get_or-map, length-map}
-use Rattle.aig_circuit.specs.Reencode.{place_of}
+use Rattle.std.proofs.lemmas.List.Elements.{All-contains, All-filter, Contains-get_or, filter_passes}
+use Rattle.aig_circuit.specs.Renumber.{place_of}
 
 -- ---- the place of an entry
 
@@ -60,6 +61,41 @@ rising_from v (m ∷ ms) rises above (suc k) h =
 
 pub AllPairs-weaker : {X : Type 0} (R S : X → X → Type 0) (xs : List X) → ((x y : X) → R x y → S x y) → AllPairs R xs → AllPairs S xs
 AllPairs-weaker R S xs w p i j d h l = w (get_or xs i d) (get_or xs j d) (p i j d h l)
+
+-- ---- places in rising lists
+
+module _ (ns : List ℕ) (rises : AllPairs (λ m n. m < n) ns) where
+  pub rising-distinct : AllPairs (λ m n. m ≢ n) ns
+  rising-distinct = AllPairs-weaker (λ m n. m < n) (λ m n. m ≢ n) ns (λ m n lt same. absurd (omega arith)) rises
+
+  -- each number has its one place
+  pub rising-place : (i : ℕ) → i < length ns → place_of ns (get_or ns i 0) ≡ i
+  rising-place i h = place_of-get_or ns i rising-distinct h
+
+  -- places go as numbers do
+  pub places-rise : (m n : ℕ) → Contains ns m → Contains ns n → m < n → place_of ns m < place_of ns n
+  places-rise m n s t lt = elim (cases_lt (place_of ns m) (place_of ns n)) [
+    | inl low ↦ low
+    | inr high ↦ absurd (elim (cases_lt (place_of ns n) (place_of ns m)) [
+      | inl less ↦ let turned = rises (place_of ns n) (place_of ns m) 0 less (place_of-within ns m s) in omega (arith, get_or-place_of ns m s, get_or-place_of ns n t)
+      | inr more ↦ let same : place_of ns m ≡ place_of ns n = omega arith in omega (arith, get_or-place_of ns m s, get_or-place_of ns n t, ap (λ i. get_or ns i 0) same)
+    ])
+  ]
+
+-- ---- filters
+
+-- what passes the test was there
+pub filter-back : (test : ℕ → Bool) (ns : List ℕ) (n : ℕ) → Contains (filter test ns) n → Contains ns n × (test n ≡ true)
+filter-back test ns n has = (
+  All-contains (Contains ns) (filter test ns) n (All-filter test (Contains ns) ns (λ k d h. Contains-get_or ns k d h)) has,
+  All-contains (λ m. test m ≡ true) (filter test ns) n (filter_passes test ns) has,
+)
+
+-- where all pass, nothing is left out
+pub filter_all : (test : ℕ → Bool) (ns : List ℕ) → All (λ n. test n ≡ true) ns → filter test ns ≡ ns
+filter_all test [] all = refl
+filter_all test (n ∷ ns) all =
+    ap (λ b. cond b (n ∷ filter test ns) (filter test ns)) (all 0 n (omega arith)) ∙ ap (λ l. n ∷ l) (filter_all test ns (λ k d h. all (suc k) d (omega arith)))
 
 -- ---- maps
 

@@ -1,15 +1,18 @@
 -- The table of new numbers that re-encoding makes.
-use Rattle.std.proofs.Common.{◌≡◌, ℕ, ◌<◌, List, length, sym, ap, subst, ◌∙◌, arith}
-use Rattle.std.specs.Prelude.{slice_index}
-use Rattle.aig_circuit.specs.declared.node.AigNodeType.TheVariants.{And}
+use Rattle.std.proofs.Common.{◌≡◌, ℕ, ◌<◌, true, List, length, get_or, sym, ap, subst, ◌∙◌, arith}
+use Rattle.std.specs.Prelude.{All, filter, slice_index}
+use Rattle.std.proofs.lemmas.List.{get_or_default}
+use Rattle.aig_circuit.specs.declared.node.AigNodeType.TheVariants.{And, Leaf}
 use Rattle.aig_circuit.specs.Circuit.{Circuit, IsCircuit, IsClosed}
-use Rattle.aig_circuit.specs.Reencode.{new_number, order_of, reencoded, renumbered_circuit}
+use Rattle.aig_circuit.specs.Reencode.{new_number, order_of, reencoded}
+use Rattle.aig_circuit.specs.Renumber.{is_in, kept_circuit, only_kept, renumbered_circuit}
 use Rattle.aig_circuit.proofs.Trees.{kind_at-within}
-use Rattle.aig_renumber.specs.Numbers.{IsIndex, SpeaksOf, TellsApart}
 use Rattle.aig_renumber.proofs.Agreeing.{circuits-agree}
 use Rattle.aig_renumber.proofs.Circuits.{SpeaksOf-nodes}
-use Rattle.aig_renumber.proofs.Numbering.{number-apart}
-use Rattle.aig_renumber.proofs.Order.{Numbers-order, length-order}
+use Rattle.aig_renumber.proofs.Kept.{is_in-there}
+use Rattle.aig_renumber.proofs.Order.{Numbers-order, length-order, order-Contains}
+use Rattle.aig_renumber.proofs.Places.{filter_all}
+use Rattle.aig_renumber.proofs.Same.{retained-all}
 
 -- the table has for each number of the order its place
 pub record HasPlaces (order table : List ℕ) : Type 0 where
@@ -32,19 +35,25 @@ module _ (c : Circuit) (is : IsCircuit c) (closed : IsClosed c) (table : List �
       let numbers = Numbers-order c is closed in
       ap (slice_index table) (sym (numbers.back n h)) ∙ has.places (new_number c n) (numbers.within n h)
 
-  pub table-apart : TellsApart table
-  table-apart m n h l e =
-      let first : m < length c.nodes = omega (arith, table-count) in
-      let second : n < length c.nodes = omega (arith, table-count) in
-      number-apart c.nodes (λ n. n < length c.nodes) (order_of c) (new_number c) (Numbers-order c is closed) m n first second (sym (table-number m first) ∙ e ∙ table-number n second)
+  -- and each new number is a place in the order
+  pub table-within : All (λ n. n < length (order_of c)) table
+  table-within k d h =
+      let low : k < length c.nodes = omega (arith, table-count) in
+      subst (λ n. n < length (order_of c)) (sym (get_or_default table k d 0 h ∙ table-number k low)) ((Numbers-order c is closed).within k low)
 
-  pub table-speaks : SpeaksOf (IsIndex table) c
-  table-speaks = subst (λ (count : ℕ). SpeaksOf (λ n. n < count) c) (sym table-count) (SpeaksOf-nodes c is)
+  -- every input and every named node is kept
+  only_kept-order : only_kept (order_of c) c ≡ c
+  only_kept-order =
+      let kept : (n : ℕ) → n < length c.nodes → is_in (order_of c) n ≡ true = λ n h. is_in-there (order_of c) n (order-Contains c is closed n h) in
+      let inputs : filter (is_in (order_of c)) c.inputs ≡ c.inputs = filter_all (is_in (order_of c)) c.inputs (λ k d h. kept (get_or c.inputs k d) (kind_at-within c.nodes (get_or c.inputs k d) Leaf (is.inputs k d h))) in
+      let names = retained-all c.names (is_in (order_of c)) (λ n has. kept n (is.named n has)) in
+      λ i. record c { inputs = inputs i; names = names i }
 
   -- so the circuit under the table's numbers is the re-encoded one
-  pub table-reencodes : (order : List ℕ) → order ≡ order_of c → renumbered_circuit (slice_index table) order c ≡ reencoded c
+  pub table-reencodes : (order : List ℕ) → order ≡ order_of c → kept_circuit (slice_index table) order c ≡ reencoded c
   table-reencodes order e =
-      ap (λ (l : List ℕ). renumbered_circuit (slice_index table) l c) e
+      ap (λ (l : List ℕ). kept_circuit (slice_index table) l c) e
+      ∙ ap (renumbered_circuit (slice_index table) (order_of c)) only_kept-order
       ∙ circuits-agree (λ n. n < length c.nodes) (slice_index table) (new_number c) table-number c (order_of c) (SpeaksOf-nodes c is) (λ n a b at. (
         let within = kind_at-within c.nodes n (And a b) at in let low = is.nodes.ordered.first_before n a b at in omega arith,
         let within = kind_at-within c.nodes n (And a b) at in let low = is.nodes.ordered.second_before n a b at in omega arith,

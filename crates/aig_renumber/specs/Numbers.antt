@@ -10,9 +10,10 @@ use Rattle.aig_circuit.specs.Circuit.{Circuit}
 abbrev pub IsIndex : List ℕ → ℕ → Type 0
 IsIndex table n = n < length table
 
--- no two nodes have one number
-abbrev pub TellsApart : List ℕ → Type 0
-TellsApart table = (m n : ℕ) → IsIndex table m → IsIndex table n → slice_index table m ≡ slice_index table n → m ≡ n
+-- each new number is a place in the list of kept nodes, and each kept node has its place as its number
+pub record HavePlaces (numbers kept : List ℕ) : Type 0 where
+  pub within : All (λ i. i < length kept) numbers
+  pub places : (i : ℕ) → i < length kept → slice_index numbers (slice_index kept i) ≡ i
 
 -- the edge is to a node of S
 abbrev pub IsEdgeIn : (ℕ → Type 0) → AigEdge → Type 0

@@ -3,7 +3,7 @@
 ghost use Rattle.std.specs.Prelude.{◌≡◌};
 ghost use Rattle.aig_circuit.specs.Circuit.{Circuit, IsCircuit, IsClosed};
 ghost use Rattle.aig_circuit.specs.Runs.{AreAsLong, KeepsRuns};
-ghost use Rattle.aig_circuit.specs.Reencode.{IsPlaced, new_number, reencoded};
+ghost use Rattle.aig_circuit.specs.Reencode.{IsReencoded, new_number, reencoded};
 
 /// Law: the re-encoded circuit is a closed circuit with as many nodes and entries.
 pub fn reencoding_is_circuit()
@@ -14,7 +14,7 @@ pub fn reencoding_is_circuit()
 
 /// Law: in the re-encoded circuit inputs come first, and then the leaves of latches.
 pub fn reencoding_is_placed()
-    ensures { (c : Circuit) → IsCircuit c → IsClosed c → IsPlaced (reencoded c) }
+    ensures { (c : Circuit) → IsCircuit c → IsClosed c → IsReencoded (reencoded c) }
 {}
 
 /// Law: the re-encoded circuit has the runs, starts and values of the old one, under the new numbers.
@@ -24,6 +24,6 @@ pub fn reencoding_keeps_runs()
 
 /// Law: a placed circuit is its own re-encoding, and so is every circuit that was re-encoded.
 pub fn reencoding_twice()
-    ensures placed { (c : Circuit) → IsCircuit c → IsClosed c → IsPlaced c → reencoded c ≡ c }
+    ensures placed { (c : Circuit) → IsCircuit c → IsClosed c → IsReencoded c → reencoded c ≡ c }
     ensures twice { (c : Circuit) → IsCircuit c → IsClosed c → reencoded (reencoded c) ≡ reencoded c }
 {}

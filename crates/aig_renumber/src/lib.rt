@@ -7,6 +7,7 @@ mod lists;
 mod nodes;
 mod reencoding;
 
+pub use circuit::renumber;
 pub use laws::{
     reencoding_is_circuit, reencoding_is_placed, reencoding_keeps_runs, reencoding_twice,
 };

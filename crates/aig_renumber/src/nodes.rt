@@ -4,7 +4,7 @@ ghost use Rattle.std.specs.Prelude.{◌≡◌, ◌<◌, ℕ, Some, IfOk, All, le
 ghost use Rattle.aig_circuit.specs.declared.node.AigNodeType.TheVariants.{False};
 ghost use Rattle.aig_circuit.specs.Circuit.{AreNodes};
 ghost use Rattle.aig_circuit.specs.Node.{IfAnd};
-ghost use Rattle.aig_circuit.specs.Reencode.{nodes_in_order as nodes_of_order, renumbered_kind};
+ghost use Rattle.aig_circuit.specs.Renumber.{nodes_in_order as nodes_of_order, renumbered_kind};
 ghost use Rattle.aig_renumber.specs.Numbers.{IsIndex};
 
 use crate::lists::edge;

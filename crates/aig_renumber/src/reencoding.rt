@@ -3,9 +3,9 @@
 ghost use Rattle.std.specs.Prelude.{◌≡◌, ◌≢◌, ◌<◌, ◌++◌, ℕ, IfOk, All, AllPairs, length, filter_map, slice_index};
 ghost use Rattle.aig_circuit.specs.Circuit.{IsCircuit, IsClosed, latch_leaves};
 ghost use Rattle.aig_circuit.specs.Reencode.{gate_number, order_of, reencoded};
-ghost use Rattle.aig_circuit.specs.View.{lists_circuit, view_circuit};
+ghost use Rattle.aig_circuit.specs.View.{lists_circuit};
 
-use crate::circuit::renumbered;
+use crate::circuit::renumber;
 use aig_base::MemoryError;
 use aig_circuit::{AigLatch, AigNode, CircuitLists, CircuitView};
 use std::alloc::Global;
@@ -14,24 +14,24 @@ use std::alloc::Global;
 /// (AIGER format 20071012, "Binary encoding"; crate aig, `reencode`). Operands are put in order again, and lists and
 /// names follow. The one error is refused memory.
 pub fn reencode(alloc: Global, circuit: &CircuitView<'_>) -> Result<CircuitLists, MemoryError>
-    requires circuit { IsCircuit (view_circuit circuit.now) }
-    requires closed { IsClosed (view_circuit circuit.now) }
-    ensures { IfOk result (λ lists. lists_circuit lists ≡ reencoded (view_circuit circuit.now)) }
+    requires closed { IsClosed circuit.now }
+    ensures { IfOk result (λ lists. lists_circuit lists ≡ reencoded circuit.now) }
 {
     let order = new_order(alloc, circuit)?;
     let numbers = places(alloc, &order)?;
-    renumbered(alloc, circuit, &numbers, &order)
+    renumber(alloc, circuit, &numbers, &order)
 }
 
 /// The old numbers in their new order.
 fn new_order(alloc: Global, circuit: &CircuitView<'_>) -> Result<Vec<usize>, MemoryError>
-    ensures { IfOk result (λ order. order.items ≡ order_of (view_circuit circuit.now)) }
+    ensures order { IfOk result (λ order. order.items ≡ order_of circuit.now) }
+    ensures circuit { IsCircuit circuit.now }
 {
-    let mut order = Vec::with_capacity(alloc, circuit.nodes.len())?;
+    let mut order = Vec::with_capacity(alloc, circuit.nodes().len())?;
     order.push(0)?;
-    order.extend_from_slice(circuit.inputs)?;
-    push_leaves(&mut order, circuit.latchs)?;
-    push_gates(&mut order, circuit.nodes)?;
+    order.extend_from_slice(circuit.inputs())?;
+    push_leaves(&mut order, circuit.latchs())?;
+    push_gates(&mut order, circuit.nodes())?;
     Ok(order)
 }
 

@@ -9,12 +9,12 @@ use Rattle.aig_circuit.specs.declared.edge.AigEdge.{AigEdge}
 use Rattle.aig_circuit.specs.declared.node.AigNodeType.{AigNodeType}
 use Rattle.aig_circuit.specs.declared.node.AigNodeType.TheVariants.{False, Leaf, And}
 use Rattle.aig_circuit.specs.Node.{IsAnd}
-use Rattle.aig_grammar.specs.File.{GateLine, File, header_of}
-use Rattle.aig_grammar.specs.Spells.{magic}
-use Rattle.aig_grammar.specs.Circuit.{gate_line}
+use Rattle.aig_format.specs.File.{GateLine, File, header_of}
+use Rattle.aig_format.specs.Spells.{magic}
+use Rattle.aig_format.specs.Circuit.{gate_line}
 use Rattle.std.proofs.lemmas.List.{take_more}
 use Rattle.std.proofs.lemmas.Bool.Decides.{nat_tests}
-use Rattle.aig_grammar.specs.Written.{in_front, shortened, line_of, header_line_of}
+use Rattle.aig_format.specs.Written.{in_front, shortened, line_of, header_line_of}
 
 -- a 0 at the end is left out
 shortened-zero : (ns : List ℕ) → shortened (ns ++ 0 ∷ []) ≡ shortened ns

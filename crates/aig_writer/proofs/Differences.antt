@@ -3,7 +3,7 @@ use Rattle.std.proofs.Common.{◌≡◌, ℕ, zero, suc, ◌+◌, ◌-◌, ◌/�
 use Rattle.std.specs.Prelude.{nat_lt, slice_set}
 use Rattle.std.proofs.lemmas.Bool.Decides.{nat_tests}
 use Rattle.std.proofs.lemmas.List.{take_more_set}
-use Rattle.aig_grammar.specs.Written.{delta_of, groups_of}
+use Rattle.aig_format.specs.Written.{delta_of, groups_of}
 
 -- what is left of a difference behind so many groups is below this
 abbrev pub bound : ℕ → ℕ

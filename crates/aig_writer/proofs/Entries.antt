@@ -8,9 +8,10 @@ use Rattle.std.proofs.lemmas.List.Concat.{flat_map-append}
 use Rattle.std.proofs.lemmas.List.{get_or-map, length-map}
 use Rattle.aig_circuit.specs.declared.node.AigLatch.{AigLatch}
 use Rattle.aig_circuit.specs.Circuit.{Circuit, latch_leaves}
-use Rattle.aig_grammar.specs.File.{NameLine, Text}
-use Rattle.aig_grammar.specs.Written.{name_of}
-use Rattle.aig_grammar.specs.Circuit.{file_of, name_lines}
+use Rattle.aig_format.specs.declared.FileKind.TheVariants.{Text}
+use Rattle.aig_format.specs.File.{NameLine}
+use Rattle.aig_format.specs.Written.{name_of}
+use Rattle.aig_format.specs.Circuit.{file_of, name_lines}
 use Rattle.aig_writer.specs.Parts.{name_text}
 
 -- ---- the lines of names

@@ -9,11 +9,13 @@ use Rattle.aig_circuit.specs.declared.edge.AigEdge.{AigEdge}
 use Rattle.aig_circuit.specs.declared.node.AigNode.{AigNode}
 use Rattle.aig_circuit.specs.declared.node.AigLatch.{AigLatch}
 use Rattle.aig_circuit.specs.Edge.{literal_of}
-use Rattle.aig_grammar.specs.File.{Kind}
-use Rattle.aig_grammar.specs.Written.{line_of, lines_of, latch_of, gate_of}
-use Rattle.aig_grammar.specs.Circuit.{latch_line, gate_line}
+use Rattle.aig_format.specs.declared.FileKind.{FileKind}
+use Rattle.aig_format.specs.Written.{line_of, lines_of, latch_of, gate_of}
+use Rattle.aig_format.specs.Circuit.{latch_line, gate_line}
 use Rattle.aig_writer.specs.Literals.{IsSmallEdge}
-use Rattle.aig_writer.specs.Parts.{literal_sets}
+use Rattle.aig_writer.specs.Parts.{edges_of, literal_sets}
+use Rattle.aig_writer.specs.Numbering.{renumbered_node}
+use Rattle.aig_circuit.specs.Renumber.{renumbered_edge, renumbered_latch}
 
 abbrev pub input_line : ℕ → List ℕ
 input_line n = line_of (2 * n ∷ [])
@@ -21,7 +23,7 @@ input_line n = line_of (2 * n ∷ [])
 abbrev pub edge_line : AigEdge → List ℕ
 edge_line e = line_of (literal_of e ∷ [])
 
-abbrev pub latch_text : Kind → AigLatch → List ℕ
+abbrev pub latch_text : FileKind → AigLatch → List ℕ
 latch_text kind latch = latch_of kind (latch_line latch)
 
 abbrev pub size_line : Vec AigEdge Global → List ℕ
@@ -30,7 +32,7 @@ size_line set = line_of (length set.items ∷ [])
 abbrev pub set_lines : Vec AigEdge Global → List ℕ
 set_lines set = lines_of (map literal_of set.items)
 
-abbrev pub gate_text : Kind → AigNode → List ℕ
+abbrev pub gate_text : FileKind → AigNode → List ℕ
 gate_text kind node = flat_map (gate_of kind) (option_to_list (gate_line node))
 
 pub input_lines : (ns : List ℕ) → lines_of (map (λ n. 2 * n) ns) ≡ flat_map input_line ns
@@ -39,7 +41,7 @@ input_lines ns = flat_map-map (λ n. line_of (n ∷ [])) (λ n. 2 * n) ns
 pub edge_lines : (es : List AigEdge) → lines_of (map literal_of es) ≡ flat_map edge_line es
 edge_lines es = flat_map-map (λ n. line_of (n ∷ [])) literal_of es
 
-pub latch_texts : (kind : Kind) (latchs : List AigLatch) → flat_map (latch_of kind) (map latch_line latchs) ≡ flat_map (latch_text kind) latchs
+pub latch_texts : (kind : FileKind) (latchs : List AigLatch) → flat_map (latch_of kind) (map latch_line latchs) ≡ flat_map (latch_text kind) latchs
 latch_texts kind latchs = flat_map-map (latch_of kind) latch_line latchs
 
 pub len_is : (set : Vec AigEdge Global) → vec_len set ≡ length set.items
@@ -61,8 +63,34 @@ flat_map-filter_map f h (x ∷ xs) = by_option f (h x) (filter_map h xs) ∙ ap 
     by_option f None ys = refl
     by_option f (Some y) ys = ap (λ l. l ++ flat_map f ys) (sym (append-nil (f y)))
 
-pub gate_texts : (kind : Kind) (nodes : List AigNode) → flat_map (gate_of kind) (filter_map gate_line nodes) ≡ flat_map (gate_text kind) nodes
+pub gate_texts : (kind : FileKind) (nodes : List AigNode) → flat_map (gate_of kind) (filter_map gate_line nodes) ≡ flat_map (gate_text kind) nodes
 gate_texts kind nodes = flat_map-filter_map (gate_of kind) gate_line nodes
+
+-- ---- entries under other numbers
+
+pub numbered_inputs : (number : ℕ → ℕ) (ns : List ℕ) → lines_of (map (λ n. 2 * n) (map number ns)) ≡ flat_map (λ n. input_line (number n)) ns
+numbered_inputs number ns = input_lines (map number ns) ∙ flat_map-map input_line number ns
+
+pub numbered_edges : (number : ℕ → ℕ) (es : List AigEdge) → lines_of (map literal_of (map (renumbered_edge number) es)) ≡ flat_map (λ e. edge_line (renumbered_edge number e)) es
+numbered_edges number es = edge_lines (map (renumbered_edge number) es) ∙ flat_map-map edge_line (renumbered_edge number) es
+
+pub numbered_latches : (number : ℕ → ℕ) (kind : FileKind) (latchs : List AigLatch) → flat_map (latch_of kind) (map latch_line (map (renumbered_latch number) latchs)) ≡ flat_map (λ l. latch_text kind (renumbered_latch number l)) latchs
+numbered_latches number kind latchs = latch_texts kind (map (renumbered_latch number) latchs) ∙ flat_map-map (latch_text kind) (renumbered_latch number) latchs
+
+pub numbered_gates : (number : ℕ → ℕ) (kind : FileKind) (nodes : List AigNode) → flat_map (gate_of kind) (filter_map gate_line (map (renumbered_node number) nodes)) ≡ flat_map (λ node. gate_text kind (renumbered_node number node)) nodes
+numbered_gates number kind nodes = gate_texts kind (map (renumbered_node number) nodes) ∙ flat_map-map (gate_text kind) (renumbered_node number) nodes
+
+-- the lines of a set under other numbers
+abbrev pub numbered_set : (ℕ → ℕ) → Vec AigEdge Global → List ℕ
+numbered_set number set = lines_of (map literal_of (map (renumbered_edge number) set.items))
+
+pub numbered_sets : (number : ℕ → ℕ) (sets : List (Vec AigEdge Global)) → flat_map lines_of (map (map literal_of) (map (map (renumbered_edge number)) (edges_of sets))) ≡ flat_map (numbered_set number) sets
+numbered_sets number [] = refl
+numbered_sets number (set ∷ sets) = ap (λ l. numbered_set number set ++ l) (numbered_sets number sets)
+
+pub set_sizes : (sets : List (Vec AigEdge Global)) → lines_of (map length (edges_of sets)) ≡ flat_map size_line sets
+set_sizes [] = refl
+set_sizes (set ∷ sets) = ap (λ l. size_line set ++ l) (set_sizes sets)
 
 -- the sets' edges are small
 pub sets_small : (sets : List (Vec AigEdge Global)) → All (All IsSmallEdge) (map (λ (set : Vec AigEdge Global). set.items) sets) → All (λ (set : Vec AigEdge Global). All IsSmallEdge set.items) sets

@@ -6,3 +6,6 @@ pub mod Entries
 pub mod Texts
 pub mod Small
 mod Differences
+pub mod Printing
+pub mod Numbered
+mod Tables

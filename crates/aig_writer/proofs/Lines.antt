@@ -2,7 +2,7 @@
 use Rattle.std.proofs.Common.{◌≡◌, ℕ, ◌+◌, ◌-◌, ◌<◌, ◌≤◌, List, [], ◌∷◌, ◌++◌, length, take, drop, replicate, get_or, refl, sym, ap, ◌∙◌, arith}
 use Rattle.std.specs.Prelude.{decimal}
 use Rattle.std.proofs.lemmas.List.{drop_more, get_or-replicate, get_or-take, take-replicate, take-take}
-use Rattle.aig_grammar.specs.Written.{line_of}
+use Rattle.aig_format.specs.Written.{line_of}
 
 -- what stands behind a number of a line
 abbrev pub behind : List ℕ → List ℕ

@@ -1,12 +1,19 @@
 -- A circuit's node numbers are below the count of its nodes.
-use Rattle.std.proofs.Common.{◌≡◌, ℕ, ◌+◌, ◌*◌, ◌^◌, ◌<◌, ◌≤◌, Bool, true, false, cond, Option, Some, None, List, length, get_or, ap, ◌∙◌, arith}
-use Rattle.std.specs.Prelude.{All, IfSome, option_map, slice_get}
+use Rattle.std.proofs.Common.{inl, inr, subst, ◌≡◌, ℕ, ◌+◌, ◌*◌, ◌^◌, ◌<◌, ◌≤◌, Bool, true, false, cond, Option, Some, None, List, length, get_or, ap, ◌∙◌, arith}
+use Rattle.std.specs.Prelude.{nat_lt, All, IfSome, option_map, slice_get}
 use Rattle.std.proofs.lemmas.Option.{slice_get-get_or}
 use Rattle.std.proofs.lemmas.List.Elements.{All-weaker}
 use Rattle.aig_circuit.specs.declared.edge.AigEdge.{AigEdge}
 use Rattle.aig_circuit.specs.declared.node.AigNodeType.TheVariants.{Leaf, And}
 use Rattle.aig_circuit.specs.declared.node.AigNode.{AigNode}
 use Rattle.aig_circuit.specs.Circuit.{Circuit, IsCircuit, AreNodes, IsLeaf, IsInRange, IsLatch}
+use Rattle.std.proofs.lemmas.Bool.{cases_lt}
+use Rattle.std.proofs.lemmas.List.{get_or_past}
+use Rattle.aig_circuit.specs.declared.node.AigLatch.{AigLatch}
+use Rattle.aig_circuit.specs.Edge.{literal_of}
+use Rattle.aig_circuit.specs.Node.{and_of}
+use Rattle.aig_circuit.specs.Renumber.{renumbered_edge, renumbered_latch}
+use Rattle.aig_writer.specs.Numbering.{number_in}
 use Rattle.aig_circuit.proofs.Trees.{kind_at-within}
 use Rattle.aig_writer.specs.Literals.{FallsBelow, IsSmall, IsSmallEdge, IsSmallLatch, IsSmallNode, HasSmallNumbers}
 
@@ -58,3 +65,35 @@ HasSmallNumbers-from_circuit c is few =
       justice = All-weaker (All (IsInRange c.nodes)) (All IsSmallEdge) edges c.justice is.justice;
       fairness = edges c.fairness is.fairness;
     }
+
+-- ---- under other numbers
+
+module _ (table : List ℕ) (all : All IsSmall table) where
+  pub number_small : (n : ℕ) → IsSmall n → IsSmall (number_in table n)
+  number_small n small = elim (cases_lt n (length table)) [
+    | inl within ↦ all n n within
+    | inr past ↦ (let same = get_or_past table n n past in rw same small)
+  ]
+
+  pub edge_small : (e : AigEdge) → IsSmallEdge e → IsSmallEdge (renumbered_edge (number_in table) e)
+  edge_small e small = number_small e.node_id small
+
+  init_small_under : (o : Option AigEdge) → IfSome o IsSmallEdge → IfSome (option_map (renumbered_edge (number_in table)) o) IsSmallEdge
+  init_small_under (Some e) small = edge_small e small
+  init_small_under None small = small
+
+  pub latch_small : (l : AigLatch) → IsSmallLatch l → IsSmallLatch (renumbered_latch (number_in table) l)
+  latch_small l small = record { leaf = number_small l.input small.leaf; next = edge_small l.next small.next; init = init_small_under l.init small.init }
+
+  and_small : (x y : AigEdge) → IsSmallEdge x → IsSmallEdge y → (a b : AigEdge) → and_of x y ≡ And a b → IsSmallEdge a × IsSmallEdge b
+  and_small x y first second a b = by_order (nat_lt (literal_of y) (literal_of x))
+    where
+      by_order : (less : Bool) → cond less (And y x) (And x y) ≡ And a b → IsSmallEdge a × IsSmallEdge b
+      by_order true is = let e : y ≡ a = cc in let f : x ≡ b = cc in (subst IsSmallEdge e second, subst IsSmallEdge f first)
+      by_order false is = let e : x ≡ a = cc in let f : y ≡ b = cc in (subst IsSmallEdge e first, subst IsSmallEdge f second)
+
+  pub gate_small : (n : ℕ) (x y : AigEdge) → IsSmall n → IsSmallEdge x → IsSmallEdge y → IsSmallNode (record { node_id = number_in table n; typ = and_of (renumbered_edge (number_in table) x) (renumbered_edge (number_in table) y) })
+  gate_small n x y own first second = record {
+    own = number_small n own;
+    operands = and_small (renumbered_edge (number_in table) x) (renumbered_edge (number_in table) y) (edge_small x first) (edge_small y second);
+  }

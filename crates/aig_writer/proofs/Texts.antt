@@ -1,8 +1,8 @@
 -- The text of a file, section by section.
 use Rattle.std.proofs.Common.{◌≡◌, ℕ, List, [], ◌∷◌, ◌++◌, length, map, append_assoc}
 use Rattle.std.specs.List.{flat_map}
-use Rattle.aig_grammar.specs.File.{File}
-use Rattle.aig_grammar.specs.Written.{gate_of, header_line_of, inputs_of, latch_of, lines_of, name_of, spelling_of}
+use Rattle.aig_format.specs.File.{File}
+use Rattle.aig_format.specs.Written.{gate_of, header_line_of, inputs_of, latch_of, lines_of, name_of, spelling_of}
 use Rattle.aig_writer.specs.Parts.{properties_of}
 use Rattle.aig_writer.proofs.Putting.{then_texts}
 

@@ -1,3 +1,4 @@
 pub mod Literals
 pub mod Sinks
+pub mod Numbering
 pub mod Parts

@@ -4,12 +4,16 @@ use Rattle.std.specs.declared.alloc.Global.{Global}
 use Rattle.std.specs.List.{flat_map}
 use Rattle.aig_circuit.specs.declared.edge.AigEdge.{AigEdge}
 use Rattle.aig_circuit.specs.Edge.{literal_of}
-use Rattle.aig_grammar.specs.File.{File}
-use Rattle.aig_grammar.specs.Written.{lines_of, name_of}
+use Rattle.aig_format.specs.File.{File}
+use Rattle.aig_format.specs.Written.{lines_of, name_of}
+
+-- the edges of each set
+abbrev pub edges_of : List (Vec AigEdge Global) → List (List AigEdge)
+edges_of sets = map (λ set. set.items) sets
 
 -- the literals of each set of edges
 abbrev pub literal_sets : List (Vec AigEdge Global) → List (List ℕ)
-literal_sets sets = map (map literal_of) (map (λ set. set.items) sets)
+literal_sets sets = map (map literal_of) (edges_of sets)
 
 -- the line of a name, where there is one
 abbrev pub name_text : ℕ → ℕ → Option (List ℕ) → List ℕ

@@ -1,95 +1,107 @@
 //! Both forms of a circuit.
 
-ghost use Rattle.std.specs.Prelude.{◌≡◌, ◌++◌, All, OnOk, OnErr, false, IsTrue};
-ghost use Rattle.std.specs.Io.KnownBytes.{Appends};
-ghost use Rattle.aig_grammar.specs.File.{Text, Binary};
-ghost use Rattle.aig_grammar.specs.Kinds.{kind_of};
-ghost use Rattle.aig_grammar.specs.Written.{spelling_of};
-ghost use Rattle.aig_grammar.specs.Circuit.{file_of, text_of};
-ghost use Rattle.aig_writer.specs.Literals.{FallsBelow, HasSmallNumbers};
-ghost use Rattle.aig_writer.specs.Sinks.{AppendsBeginning, Stops, Writes};
-ghost use Rattle.aig_circuit.specs.View.{view_circuit};
+ghost use Rattle.std.specs.Prelude.{◌≡◌, ◌≤◌, ◌^◌, All, length};
+ghost use Rattle.aig_circuit.specs.Circuit.{IsCircuit, IsClosed};
+ghost use Rattle.aig_format.specs.declared.FileKind.TheVariants.{Text};
+ghost use Rattle.aig_format.specs.Written.{spelling_of};
+ghost use Rattle.aig_format.specs.Circuit.{binary_of, text_of};
+ghost use Rattle.aig_writer.specs.Literals.{HasSmallNumbers, IsSmall};
+ghost use Rattle.aig_writer.specs.Numbering.{FitsBinary, IsBinaryNumbering, number_in, numbered_file};
+ghost use Rattle.aig_writer.specs.Sinks.{BuffersOrStops, WritesOrStops};
 ghost use Rattle.aig_writer.specs.Parts.{properties_of};
 
-use crate::block::Block;
-use crate::header::header;
-use crate::names::names;
-use crate::sections::{edges, gates, inputs, latches, sets, sizes};
+use crate::buffer::OutputBuffer;
+use crate::header::write_header;
+use crate::names::write_names;
+use crate::sections::{
+    write_edges, write_gates, write_inputs, write_latches, write_set_sizes, write_sets,
+};
 use aig_base::{Sink, StreamFault};
 use aig_circuit::CircuitView;
-use aig_grammar::FileKind;
+use aig_format::FileKind;
 
-/// Adds the outputs and the properties.
-fn properties<W: Sink>(
-    block: &mut Block,
+/// Writes the outputs and the properties.
+fn write_properties<W: Sink>(
+    buffer: &mut OutputBuffer,
     w: &mut W,
+    numbers: &[usize],
     circuit: &CircuitView<'_>,
 ) -> Result<(), StreamFault>
-    requires { HasSmallNumbers (view_circuit circuit.now) }
-    ensures ok { OnOk result (Writes block.old (W.held w.old) block.new (W.held w.new) (properties_of (file_of Text (view_circuit circuit.now)))) }
-    ensures err { OnErr result (Stops (W.held w.old) (W.held w.new) (W.failed w.new) (block.old ++ properties_of (file_of Text (view_circuit circuit.now)))) }
+    requires table { All IsSmall numbers.now }
+    requires small { HasSmallNumbers circuit.now }
+    ensures { let text = properties_of (numbered_file (number_in numbers.now) Text circuit.now) in
+        BuffersOrStops W.held W.failed buffer.old w.old result text buffer.new w.new }
 {
-    edges(block, w, circuit.outputs)?;
-    edges(block, w, circuit.bads)?;
-    edges(block, w, circuit.constraints)?;
-    sizes(block, w, circuit.justice)?;
-    sets(block, w, circuit.justice)?;
-    edges(block, w, circuit.fairness)
+    write_edges(buffer, w, numbers, circuit.outputs())?;
+    write_edges(buffer, w, numbers, circuit.bads())?;
+    write_edges(buffer, w, numbers, circuit.constraints())?;
+    write_set_sizes(buffer, w, circuit.justice())?;
+    write_sets(buffer, w, numbers, circuit.justice())?;
+    write_edges(buffer, w, numbers, circuit.fairness())
 }
 
-/// Adds the form of this kind of a circuit.
-fn form<W: Sink>(
-    block: &mut Block,
+/// Writes the header and the sections of the form of this kind.
+fn write_sections<W: Sink>(
+    buffer: &mut OutputBuffer,
     w: &mut W,
     kind: FileKind,
+    numbers: &[usize],
     circuit: &CircuitView<'_>,
 ) -> Result<(), StreamFault>
-    requires small { HasSmallNumbers (view_circuit circuit.now) }
-    requires falls { kind ≡ FileKind.Binary → All FallsBelow circuit.now.nodes.now }
-    ensures ok { OnOk result (Writes block.old (W.held w.old) block.new (W.held w.new) (spelling_of (file_of (kind_of kind) (view_circuit circuit.now)))) }
-    ensures err { OnErr result (Stops (W.held w.old) (W.held w.new) (W.failed w.new) (block.old ++ spelling_of (file_of (kind_of kind) (view_circuit circuit.now)))) }
+    requires table { All IsSmall numbers.now }
+    requires few { length circuit.now.nodes ≤ 2 ^ 63 }
+    requires binary { kind ≡ FileKind.Binary → FitsBinary circuit.now numbers.now }
+    ensures writes { let text = spelling_of (numbered_file (number_in numbers.now) kind circuit.now) in
+        BuffersOrStops W.held W.failed buffer.old w.old result text buffer.new w.new }
+    ensures circuit { IsCircuit circuit.now }
 {
-    header(block, w, kind, circuit)?;
-    inputs(block, w, kind, circuit.inputs)?;
-    latches(block, w, kind, circuit.latchs)?;
-    properties(block, w, circuit)?;
-    gates(block, w, kind, circuit.nodes)?;
-    names(block, w, circuit)
+    write_header(buffer, w, kind, circuit)?;
+    write_inputs(buffer, w, kind, numbers, circuit.inputs())?;
+    write_latches(buffer, w, kind, numbers, circuit.latchs())?;
+    write_properties(buffer, w, numbers, circuit)?;
+    write_gates(buffer, w, kind, numbers, circuit.nodes())?;
+    write_names(buffer, w, circuit)
 }
 
-/// Writes the form of this kind of a circuit to a sink, through a block of 4,096 bytes and with no allocation.
-fn write<W: Sink>(w: &mut W, kind: FileKind, circuit: &CircuitView<'_>) -> Result<(), StreamFault>
-    requires small { HasSmallNumbers (view_circuit circuit.now) }
-    requires falls { kind ≡ FileKind.Binary → All FallsBelow circuit.now.nodes.now }
-    ensures ok { OnOk result (Appends (W.held w.old) (W.held w.new) (spelling_of (file_of (kind_of kind) (view_circuit circuit.now))) × (W.failed w.new ≡ false)) }
-    ensures err { OnErr result (AppendsBeginning (W.held w.old) (W.held w.new) (spelling_of (file_of (kind_of kind) (view_circuit circuit.now))) × IsTrue (W.failed w.new)) }
+/// Writes the form of this kind to a sink, through a buffer of 4,096 bytes and with no allocation.
+fn write_form<W: Sink>(
+    w: &mut W,
+    kind: FileKind,
+    numbers: &[usize],
+    circuit: &CircuitView<'_>,
+) -> Result<(), StreamFault>
+    requires table { All IsSmall numbers.now }
+    requires few { length circuit.now.nodes ≤ 2 ^ 63 }
+    requires binary { kind ≡ FileKind.Binary → FitsBinary circuit.now numbers.now }
+    ensures writes { let text = spelling_of (numbered_file (number_in numbers.now) kind circuit.now) in
+        WritesOrStops W.held W.failed w.old result text w.new }
+    ensures circuit { IsCircuit circuit.now }
 {
-    let mut block = Block::new();
-    form(&mut block, w, kind, circuit)?;
-    block.flush(w)
+    let mut buffer = OutputBuffer::new();
+    write_sections(&mut buffer, w, kind, numbers, circuit)?;
+    buffer.flush(w)
 }
 
-/// Writes the text form of a circuit to a sink (AIGER format 20071012 and AIGER 1.9), through a block of 4,096 bytes and with no allocation.
-/// Its names are those of inputs and latches. It fails where the sink fails.
-pub fn write_text<W: Sink>(w: &mut W, circuit: CircuitView<'_>) -> Result<(), StreamFault>
-    requires { HasSmallNumbers (view_circuit circuit) }
-    // All of the text was written, and the sink has not failed.
-    ensures ok { OnOk result (Appends (W.held w.old) (W.held w.new) (text_of (view_circuit circuit.entry)) × (W.failed w.new ≡ false)) }
-    // A beginning of the text was written, and the sink has failed.
-    ensures err { OnErr result (AppendsBeginning (W.held w.old) (W.held w.new) (text_of (view_circuit circuit.entry)) × IsTrue (W.failed w.new)) }
+/// Writes the text form of a circuit to a sink (AIGER format 20071012 and AIGER 1.9), through a buffer of 4,096 bytes and
+/// with no allocation. Its names are those of inputs and latches. It fails where the sink fails.
+pub fn write_text<W: Sink>(w: &mut W, circuit: &CircuitView<'_>) -> Result<(), StreamFault>
+    requires { length circuit.now.nodes ≤ 2 ^ 63 }
+    ensures { WritesOrStops W.held W.failed w.old result (text_of circuit.now) w.new }
 {
-    write(w, FileKind::Text, &circuit)
+    write_form(w, FileKind::Text, &[], circuit)
 }
 
-/// Writes the binary form of a circuit whose inputs, latches and gates are numbered in this order to a sink (AIGER format
-/// 20071012, "Binary encoding"), as `write_text` does.
-pub fn write_binary<W: Sink>(w: &mut W, circuit: CircuitView<'_>) -> Result<(), StreamFault>
-    requires small { HasSmallNumbers (view_circuit circuit) }
-    requires falls { All FallsBelow circuit.nodes.now }
-    // All of the bytes were written, and the sink has not failed.
-    ensures ok { OnOk result (Appends (W.held w.old) (W.held w.new) (spelling_of (file_of Binary (view_circuit circuit.entry))) × (W.failed w.new ≡ false)) }
-    // A beginning of the bytes was written, and the sink has failed.
-    ensures err { OnErr result (AppendsBeginning (W.held w.old) (W.held w.new) (spelling_of (file_of Binary (view_circuit circuit.entry))) × IsTrue (W.failed w.new)) }
+/// Writes the binary form of a closed circuit to a sink (AIGER format 20071012, "Binary encoding"), as `write_text` does.
+/// `numbers` are those of `binary_numbers`.
+pub fn write_binary<W: Sink>(
+    w: &mut W,
+    circuit: &CircuitView<'_>,
+    numbers: &[usize],
+) -> Result<(), StreamFault>
+    requires closed { IsClosed circuit.now }
+    requires few { length circuit.now.nodes ≤ 2 ^ 31 }
+    requires numbers { IsBinaryNumbering circuit.now numbers.now }
+    ensures { WritesOrStops W.held W.failed w.old result (binary_of circuit.now) w.new }
 {
-    write(w, FileKind::Binary, &circuit)
+    write_form(w, FileKind::Binary, numbers, circuit)
 }

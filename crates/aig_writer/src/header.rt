@@ -1,21 +1,20 @@
 //! The header of a file.
 
-ghost use Rattle.std.specs.Prelude.{◌≡◌, ◌≤◌, ◌++◌, length, take, filter_map, OnOk, OnErr};
-ghost use Rattle.aig_grammar.specs.File.{header_of};
-ghost use Rattle.aig_grammar.specs.Kinds.{kind_of};
-ghost use Rattle.aig_grammar.specs.Spells.{magic};
-ghost use Rattle.aig_grammar.specs.Written.{shortened, header_line_of};
-ghost use Rattle.aig_grammar.specs.Circuit.{file_of, gate_line};
-ghost use Rattle.aig_writer.specs.Sinks.{Stops, Writes};
-ghost use Rattle.aig_circuit.specs.View.{view_circuit};
+ghost use Rattle.std.specs.Prelude.{◌≡◌, ◌≤◌, length, take, filter_map};
+ghost use Rattle.aig_circuit.specs.Circuit.{IsCircuit};
+ghost use Rattle.aig_format.specs.File.{header_of};
+ghost use Rattle.aig_format.specs.Spells.{magic};
+ghost use Rattle.aig_format.specs.Written.{shortened, header_line_of};
+ghost use Rattle.aig_format.specs.Circuit.{file_of, gate_line};
+ghost use Rattle.aig_writer.specs.Sinks.{BuffersOrStops};
 
-use crate::block::Block;
+use crate::buffer::OutputBuffer;
 use aig_base::{Sink, StreamFault};
 use aig_circuit::{AigNode, CircuitView};
-use aig_grammar::FileKind;
+use aig_format::FileKind;
 
 /// How many numbers a header has at least: M I L O A.
-pub const FEWEST_NUMBERS: usize = 5;
+pub(crate) const FEWEST_NUMBERS: usize = 5;
 
 /// How many of the nodes are gates.
 fn gate_count(nodes: &[AigNode]) -> usize
@@ -31,24 +30,25 @@ fn gate_count(nodes: &[AigNode]) -> usize
 }
 
 /// The numbers of the header: M I L O A B C J F.
-pub fn header_numbers(circuit: &CircuitView<'_>) -> [usize; 9]
-    ensures { (kind : FileKind) → result ≡ header_of (file_of (kind_of kind) (view_circuit circuit.now)) }
+pub(crate) fn header_numbers(circuit: &CircuitView<'_>) -> [usize; 9]
+    ensures value { (kind : FileKind) → result ≡ header_of (file_of kind circuit.now) }
+    ensures circuit { IsCircuit circuit.now }
 {
     [
-        circuit.nodes.len().saturating_sub(1),
-        circuit.inputs.len(),
-        circuit.latchs.len(),
-        circuit.outputs.len(),
-        gate_count(circuit.nodes),
-        circuit.bads.len(),
-        circuit.constraints.len(),
-        circuit.justice.len(),
-        circuit.fairness.len(),
+        circuit.nodes().len().saturating_sub(1),
+        circuit.inputs().len(),
+        circuit.latchs().len(),
+        circuit.outputs().len(),
+        gate_count(circuit.nodes()),
+        circuit.bads().len(),
+        circuit.constraints().len(),
+        circuit.justice().len(),
+        circuit.fairness().len(),
     ]
 }
 
 /// How many of the numbers stand up to the last that is not 0.
-pub fn written_count(numbers: &[usize]) -> usize
+pub(crate) fn written_count(numbers: &[usize]) -> usize
     ensures within { result ≤ length numbers.now }
     ensures value { take result numbers.now ≡ shortened numbers.now }
 {
@@ -61,7 +61,7 @@ pub fn written_count(numbers: &[usize]) -> usize
 
 /// The word that a file begins with.
 fn magic_word(kind: FileKind) -> &'static [u8]
-    ensures { result.now ≡ magic (kind_of kind) }
+    ensures { result.now ≡ magic kind }
 {
     match kind {
         FileKind::Text => b"aag ",
@@ -69,18 +69,19 @@ fn magic_word(kind: FileKind) -> &'static [u8]
     }
 }
 
-/// Adds the header line.
-pub fn header<W: Sink>(
-    block: &mut Block,
+/// Writes the header line.
+pub(crate) fn write_header<W: Sink>(
+    buffer: &mut OutputBuffer,
     w: &mut W,
     kind: FileKind,
     circuit: &CircuitView<'_>,
 ) -> Result<(), StreamFault>
-    ensures ok { OnOk result (Writes block.old (W.held w.old) block.new (W.held w.new) (header_line_of (file_of (kind_of kind) (view_circuit circuit.now)))) }
-    ensures err { OnErr result (Stops (W.held w.old) (W.held w.new) (W.failed w.new) (block.old ++ header_line_of (file_of (kind_of kind) (view_circuit circuit.now)))) }
+    ensures writes { let text = header_line_of (file_of kind circuit.now) in
+        BuffersOrStops W.held W.failed buffer.old w.old result text buffer.new w.new }
+    ensures circuit { IsCircuit circuit.now }
 {
     let numbers = header_numbers(circuit);
     let written = FEWEST_NUMBERS + written_count(&numbers[FEWEST_NUMBERS..]);
-    block.bytes(w, magic_word(kind))?;
-    block.line(w, &numbers[..written])
+    buffer.write_bytes(w, magic_word(kind))?;
+    buffer.write_line(w, &numbers[..written])
 }

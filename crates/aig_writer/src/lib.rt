@@ -1,15 +1,17 @@
-//! The AIGER forms of a circuit, written to any sink.
+//! The AIGER forms of a circuit, written to any sink, and its text form, written to a formatter.
 #![tactic(auto)]
 
-mod block;
+mod buffer;
+mod display;
 mod form;
 mod header;
-pub mod literal;
+mod literal;
 mod names;
+mod numbering;
 mod put;
 mod sections;
 
-pub use block::Block;
+pub use buffer::OutputBuffer;
+pub use display::fmt_text;
 pub use form::{write_binary, write_text};
-pub use header::{FEWEST_NUMBERS, header_numbers, written_count};
-pub use sections::reset;
+pub use numbering::binary_numbers;

@@ -1,17 +1,17 @@
 //! The names of inputs and latches.
 
-ghost use Rattle.std.specs.Prelude.{◌≡◌, ◌++◌, ℕ, List, Option, option_map, OnOk, OnErr};
+ghost use Rattle.std.specs.Prelude.{◌≡◌, ℕ};
 ghost use Rattle.std.specs.List.{flat_map};
 ghost use Rattle.std.specs.FinMap.{get};
 ghost use Rattle.aig_circuit.specs.Circuit.{latch_leaves};
-ghost use Rattle.aig_grammar.specs.Written.{name_of};
-ghost use Rattle.aig_grammar.specs.File.{Text};
-ghost use Rattle.aig_grammar.specs.Circuit.{file_of, name_lines};
-ghost use Rattle.aig_writer.specs.Sinks.{Stops, Writes};
-ghost use Rattle.aig_circuit.specs.View.{names_of, view_circuit};
+ghost use Rattle.aig_format.specs.Written.{name_of};
+ghost use Rattle.aig_format.specs.declared.FileKind.TheVariants.{Text};
+ghost use Rattle.aig_format.specs.Circuit.{file_of, name_lines};
+ghost use Rattle.aig_writer.specs.Sinks.{BuffersOrStops};
+ghost use Rattle.aig_circuit.specs.View.{names_of};
 ghost use Rattle.aig_writer.specs.Parts.{name_text};
 
-use crate::block::Block;
+use crate::buffer::OutputBuffer;
 use aig_base::{Sink, StreamFault};
 use aig_circuit::{AigLatch, CircuitView};
 use std::collections::HashMap;
@@ -22,82 +22,84 @@ const INPUT: u8 = b'i';
 /// The letter of a latch's name.
 const LATCH: u8 = b'l';
 
-/// Adds a name line: the letter, the position, the name.
-fn name_line<W: Sink>(
-    block: &mut Block,
+/// Writes a name line: the letter, the position, the name.
+fn write_name_line<W: Sink>(
+    buffer: &mut OutputBuffer,
     w: &mut W,
     letter: u8,
     position: usize,
     name: &[u8],
 ) -> Result<(), StreamFault>
-    ensures ok { OnOk result (Writes block.old (W.held w.old) block.new (W.held w.new) (name_of (record { letter = letter; position = position; name = name.now }))) }
-    ensures err { OnErr result (Stops (W.held w.old) (W.held w.new) (W.failed w.new) (block.old ++ name_of (record { letter = letter; position = position; name = name.now }))) }
+    ensures { let text = name_of (record { letter = letter; position = position; name = name.now }) in
+        BuffersOrStops W.held W.failed buffer.old w.old result text buffer.new w.new }
 {
-    block.bytes(w, &[letter])?;
-    block.number(w, position, b' ')?;
-    block.bytes(w, name)?;
-    block.bytes(w, b"\n")
+    buffer.write_bytes(w, &[letter])?;
+    buffer.write_number(w, position, b' ')?;
+    buffer.write_bytes(w, name)?;
+    buffer.write_bytes(w, b"\n")
 }
 
-/// Adds the name line of a node, if the node has a name.
-fn node_name<W: Sink>(
-    block: &mut Block,
+/// Writes the name line of a node, if the node has a name.
+fn write_node_name<W: Sink>(
+    buffer: &mut OutputBuffer,
     w: &mut W,
     names: &HashMap<usize, String>,
     letter: u8,
     position: usize,
     node: usize,
 ) -> Result<(), StreamFault>
-    ensures ok { OnOk result (Writes block.old (W.held w.old) block.new (W.held w.new) (name_text letter position (get (names_of names.now.entries) node))) }
-    ensures err { OnErr result (Stops (W.held w.old) (W.held w.new) (W.failed w.new) (block.old ++ name_text letter position (get (names_of names.now.entries) node))) }
+    ensures { let text = name_text letter position (get (names_of names.now.entries) node) in
+        BuffersOrStops W.held W.failed buffer.old w.old result text buffer.new w.new }
 {
     match names.get(&node) {
-        Some(name) => name_line(block, w, letter, position, name.as_bytes()),
+        Some(name) => write_name_line(buffer, w, letter, position, name.as_bytes()),
         None => Ok(()),
     }
 }
 
-/// Adds the names of inputs, by position.
-fn input_names<W: Sink>(
-    block: &mut Block,
+/// Writes the names of inputs, by position.
+fn write_input_names<W: Sink>(
+    buffer: &mut OutputBuffer,
     w: &mut W,
     names: &HashMap<usize, String>,
     inputs: &[usize],
 ) -> Result<(), StreamFault>
-    ensures ok { OnOk result (Writes block.old (W.held w.old) block.new (W.held w.new) (flat_map name_of (name_lines INPUT 0 inputs.now (get (names_of names.now.entries))))) }
-    ensures err { OnErr result (Stops (W.held w.old) (W.held w.new) (W.failed w.new) (block.old ++ flat_map name_of (name_lines INPUT 0 inputs.now (get (names_of names.now.entries))))) }
+    ensures { let lines = name_lines INPUT 0 inputs.now (get (names_of names.now.entries)) in
+        let text = flat_map name_of lines in
+        BuffersOrStops W.held W.failed buffer.old w.old result text buffer.new w.new }
 {
     for (i, n) in inputs.iter().enumerate() {
-        node_name(block, w, names, INPUT, i, *n)?;
+        write_node_name(buffer, w, names, INPUT, i, *n)?;
     }
     Ok(())
 }
 
-/// Adds the names of latches, by position.
-fn latch_names<W: Sink>(
-    block: &mut Block,
+/// Writes the names of latches, by position.
+fn write_latch_names<W: Sink>(
+    buffer: &mut OutputBuffer,
     w: &mut W,
     names: &HashMap<usize, String>,
     latchs: &[AigLatch],
 ) -> Result<(), StreamFault>
-    ensures ok { OnOk result (Writes block.old (W.held w.old) block.new (W.held w.new) (flat_map name_of (name_lines LATCH 0 (latch_leaves latchs.now) (get (names_of names.now.entries))))) }
-    ensures err { OnErr result (Stops (W.held w.old) (W.held w.new) (W.failed w.new) (block.old ++ flat_map name_of (name_lines LATCH 0 (latch_leaves latchs.now) (get (names_of names.now.entries))))) }
+    ensures { let leaves = latch_leaves latchs.now in
+        let text = flat_map name_of (name_lines LATCH 0 leaves (get (names_of names.now.entries))) in
+        BuffersOrStops W.held W.failed buffer.old w.old result text buffer.new w.new }
 {
     for (i, latch) in latchs.iter().enumerate() {
-        node_name(block, w, names, LATCH, i, latch.input())?;
+        write_node_name(buffer, w, names, LATCH, i, latch.input())?;
     }
     Ok(())
 }
 
-/// Adds the names of inputs and latches.
-pub fn names<W: Sink>(
-    block: &mut Block,
+/// Writes the names of inputs and latches.
+pub(crate) fn write_names<W: Sink>(
+    buffer: &mut OutputBuffer,
     w: &mut W,
     circuit: &CircuitView<'_>,
 ) -> Result<(), StreamFault>
-    ensures ok { OnOk result (Writes block.old (W.held w.old) block.new (W.held w.new) (flat_map name_of (file_of Text (view_circuit circuit.now)).names)) }
-    ensures err { OnErr result (Stops (W.held w.old) (W.held w.new) (W.failed w.new) (block.old ++ flat_map name_of (file_of Text (view_circuit circuit.now)).names)) }
+    ensures { let text = flat_map name_of (file_of Text circuit.now).names in
+        BuffersOrStops W.held W.failed buffer.old w.old result text buffer.new w.new }
 {
-    input_names(block, w, circuit.names, circuit.inputs)?;
-    latch_names(block, w, circuit.names, circuit.latchs)
+    write_input_names(buffer, w, circuit.names(), circuit.inputs())?;
+    write_latch_names(buffer, w, circuit.names(), circuit.latchs())
 }

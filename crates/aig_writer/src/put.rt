@@ -1,16 +1,12 @@
 //! Pieces of bytes, put into a sink whole.
 
-ghost use Rattle.std.specs.Prelude.{◌≡◌, OnOk, OnErr, false};
-ghost use Rattle.std.specs.Io.KnownBytes.{Appends};
-ghost use Rattle.aig_writer.specs.Sinks.{Stops};
+ghost use Rattle.aig_writer.specs.Sinks.{WritesOrStops};
 
 use aig_base::{Sink, StreamFault};
 
-/// Puts all of a text, an empty one too.
+/// Puts all of a text into a sink, also an empty text.
 pub fn put_all<W: Sink>(w: &mut W, text: &[u8]) -> Result<(), StreamFault>
-    ensures ok { OnOk result (Appends (W.held w.old) (W.held w.new) text.now) }
-    ensures sound { OnOk result (W.failed w.new ≡ false) }
-    ensures err { OnErr result (Stops (W.held w.old) (W.held w.new) (W.failed w.new) text.now) }
+    ensures { WritesOrStops W.held W.failed w.old result text.now w.new }
 {
     let mut at = w.put(text)?;
     while at < text.len() {

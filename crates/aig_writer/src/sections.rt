@@ -1,141 +1,158 @@
-//! The sections of a file, behind its header.
+//! The sections of a file, behind its header. `numbers` is the table of the numbers under which nodes are written.
 
-ghost use Rattle.std.specs.Prelude.{◌≡◌, ◌-◌, ◌*◌, ◌^◌, ◌<◌, ◌≤◌, ◌++◌, ℕ, length, map, filter_map, option_to_list, All, OnOk, OnErr};
+ghost use Rattle.std.specs.Prelude.{◌≡◌, ◌-◌, ◌*◌, ◌^◌, ◌<◌, ◌≤◌, ◌++◌, ℕ, length, map, filter_map, option_to_list, All};
 ghost use Rattle.std.specs.List.{flat_map};
 ghost use Rattle.aig_circuit.specs.Edge.{literal_of};
-ghost use Rattle.aig_grammar.specs.Kinds.{kind_of};
-ghost use Rattle.aig_grammar.specs.Written.{delta_of, gate_of, inputs_of, latch_of, line_of, lines_of};
-ghost use Rattle.aig_grammar.specs.Circuit.{reset_of, latch_line, gate_line};
-ghost use Rattle.aig_writer.specs.Sinks.{Stops, Writes};
-ghost use Rattle.aig_writer.specs.Parts.{literal_sets};
+ghost use Rattle.aig_circuit.specs.Renumber.{renumbered_edge, renumbered_latch};
+ghost use Rattle.aig_format.specs.Written.{delta_of, gate_of, inputs_of, latch_of, lines_of};
+ghost use Rattle.aig_format.specs.Circuit.{latch_line, gate_line};
+ghost use Rattle.aig_writer.specs.Sinks.{BuffersOrStops};
+ghost use Rattle.aig_writer.specs.Parts.{edges_of};
+ghost use Rattle.aig_writer.specs.Numbering.{number_in, renumbered_node};
 ghost use Rattle.aig_writer.specs.Literals.{IsSmall, IsSmallEdge, IsSmallLatch, IsSmallNode, FallsBelow};
 
-use crate::block::Block;
-use crate::literal::literal;
+use crate::buffer::OutputBuffer;
+use crate::literal::{literal, reset_literal};
+use crate::numbering::{number_of, renumber_edge, renumber_latch};
 use aig_base::{Sink, StreamFault};
-use aig_circuit::{AigEdge, AigLatch, AigNode, AigNodeType};
-use aig_grammar::FileKind;
+use aig_circuit::{AigEdge, AigLatch, AigNode, AigNodeType, gate_node};
+use aig_format::FileKind;
 
-/// Adds a line for each input, its literal.
-fn input_lines<W: Sink>(block: &mut Block, w: &mut W, inputs: &[usize]) -> Result<(), StreamFault>
-    requires { All IsSmall inputs.now }
-    ensures ok { OnOk result (Writes block.old (W.held w.old) block.new (W.held w.new) (lines_of (map (λ n. 2 * n) inputs.now))) }
-    ensures err { OnErr result (Stops (W.held w.old) (W.held w.new) (W.failed w.new) (block.old ++ lines_of (map (λ n. 2 * n) inputs.now))) }
+/// Writes a line for each input, its literal.
+fn write_input_lines<W: Sink>(
+    buffer: &mut OutputBuffer,
+    w: &mut W,
+    numbers: &[usize],
+    inputs: &[usize],
+) -> Result<(), StreamFault>
+    requires table { All IsSmall numbers.now }
+    requires inputs { All IsSmall inputs.now }
+    ensures { let text = lines_of (map (λ n. 2 * n) (map (number_in numbers.now) inputs.now)) in
+        BuffersOrStops W.held W.failed buffer.old w.old result text buffer.new w.new }
 {
     for n in inputs {
-        block.line(w, &[2 * *n])?;
+        buffer.write_line(w, &[2 * number_of(numbers, *n)])?;
     }
     Ok(())
 }
 
-/// Adds the inputs: in a text file a line each, and in a binary file nothing.
-pub fn inputs<W: Sink>(
-    block: &mut Block,
+/// Writes the inputs: in a text file a line each, and in a binary file nothing.
+pub(crate) fn write_inputs<W: Sink>(
+    buffer: &mut OutputBuffer,
     w: &mut W,
     kind: FileKind,
+    numbers: &[usize],
     inputs: &[usize],
 ) -> Result<(), StreamFault>
-    requires { All IsSmall inputs.now }
-    ensures ok { OnOk result (Writes block.old (W.held w.old) block.new (W.held w.new) (inputs_of (kind_of kind) (map (λ n. 2 * n) inputs.now))) }
-    ensures err { OnErr result (Stops (W.held w.old) (W.held w.new) (W.failed w.new) (block.old ++ inputs_of (kind_of kind) (map (λ n. 2 * n) inputs.now))) }
+    requires table { All IsSmall numbers.now }
+    requires inputs { All IsSmall inputs.now }
+    ensures { let literals = map (λ n. 2 * n) (map (number_in numbers.now) inputs.now) in
+        let text = inputs_of kind literals in
+        BuffersOrStops W.held W.failed buffer.old w.old result text buffer.new w.new }
 {
     match kind {
-        FileKind::Text => input_lines(block, w, inputs),
+        FileKind::Text => write_input_lines(buffer, w, numbers, inputs),
         FileKind::Binary => Ok(()),
     }
 }
 
-/// The reset of a latch, where one is written: the literal of its initial edge if that is not 0, or its own literal where it has none.
-pub fn reset(latch: &AigLatch) -> Option<usize>
-    requires { IsSmallLatch latch.now }
-    ensures { result ≡ reset_of latch.now }
-{
-    match latch.init() {
-        None => Some(2 * latch.input()),
-        Some(init) => Some(literal(init)).filter(|reset| *reset != 0),
-    }
-}
-
-/// Adds a line for a latch: its literal, which a binary file leaves out, its next literal, and its reset if it is not 0.
-fn latch<W: Sink>(
-    block: &mut Block,
+/// Writes a line for a latch: its literal, which a binary file leaves out, its next literal, and its reset if it is not 0.
+fn write_latch<W: Sink>(
+    buffer: &mut OutputBuffer,
     w: &mut W,
     kind: FileKind,
     latch: &AigLatch,
 ) -> Result<(), StreamFault>
     requires { IsSmallLatch latch.now }
-    ensures ok { OnOk result (Writes block.old (W.held w.old) block.new (W.held w.new) (latch_of (kind_of kind) (latch_line latch.now))) }
-    ensures err { OnErr result (Stops (W.held w.old) (W.held w.new) (W.failed w.new) (block.old ++ latch_of (kind_of kind) (latch_line latch.now))) }
+    ensures { let text = latch_of kind (latch_line latch.now) in
+        BuffersOrStops W.held W.failed buffer.old w.old result text buffer.new w.new }
 {
     let own = 2 * latch.input();
     let next = literal(latch.next());
-    match (kind, reset(latch)) {
-        (FileKind::Text, None) => block.line(w, &[own, next]),
-        (FileKind::Text, Some(reset)) => block.line(w, &[own, next, reset]),
-        (FileKind::Binary, None) => block.line(w, &[next]),
-        (FileKind::Binary, Some(reset)) => block.line(w, &[next, reset]),
+    match (kind, reset_literal(latch)) {
+        (FileKind::Text, None) => buffer.write_line(w, &[own, next]),
+        (FileKind::Text, Some(reset)) => buffer.write_line(w, &[own, next, reset]),
+        (FileKind::Binary, None) => buffer.write_line(w, &[next]),
+        (FileKind::Binary, Some(reset)) => buffer.write_line(w, &[next, reset]),
     }
 }
 
-/// Adds a line for each latch.
-pub fn latches<W: Sink>(
-    block: &mut Block,
+/// Writes a line for each latch.
+pub(crate) fn write_latches<W: Sink>(
+    buffer: &mut OutputBuffer,
     w: &mut W,
     kind: FileKind,
+    numbers: &[usize],
     latchs: &[AigLatch],
 ) -> Result<(), StreamFault>
-    requires { All IsSmallLatch latchs.now }
-    ensures ok { OnOk result (Writes block.old (W.held w.old) block.new (W.held w.new) (flat_map (latch_of (kind_of kind)) (map latch_line latchs.now))) }
-    ensures err { OnErr result (Stops (W.held w.old) (W.held w.new) (W.failed w.new) (block.old ++ flat_map (latch_of (kind_of kind)) (map latch_line latchs.now))) }
+    requires table { All IsSmall numbers.now }
+    requires latches { All IsSmallLatch latchs.now }
+    ensures { let latches = map (renumbered_latch (number_in numbers.now)) latchs.now in
+        let text = flat_map (latch_of kind) (map latch_line latches) in
+        BuffersOrStops W.held W.failed buffer.old w.old result text buffer.new w.new }
 {
-    for l in latchs {
-        latch(block, w, kind, l)?;
+    for latch in latchs {
+        write_latch(buffer, w, kind, &renumber_latch(numbers, latch))?;
     }
     Ok(())
 }
 
-/// Adds a line for each edge, its literal.
-pub fn edges<W: Sink>(block: &mut Block, w: &mut W, edges: &[AigEdge]) -> Result<(), StreamFault>
-    requires { All IsSmallEdge edges.now }
-    ensures ok { OnOk result (Writes block.old (W.held w.old) block.new (W.held w.new) (lines_of (map literal_of edges.now))) }
-    ensures err { OnErr result (Stops (W.held w.old) (W.held w.new) (W.failed w.new) (block.old ++ lines_of (map literal_of edges.now))) }
+/// Writes a line for each edge, its literal.
+pub(crate) fn write_edges<W: Sink>(
+    buffer: &mut OutputBuffer,
+    w: &mut W,
+    numbers: &[usize],
+    edges: &[AigEdge],
+) -> Result<(), StreamFault>
+    requires table { All IsSmall numbers.now }
+    requires edges { All IsSmallEdge edges.now }
+    ensures { let written = map (renumbered_edge (number_in numbers.now)) edges.now in
+        let text = lines_of (map literal_of written) in
+        BuffersOrStops W.held W.failed buffer.old w.old result text buffer.new w.new }
 {
     for e in edges {
-        block.line(w, &[literal(*e)])?;
+        buffer.write_line(w, &[literal(renumber_edge(numbers, *e))])?;
     }
     Ok(())
 }
 
-/// Adds a line for each set, how many edges it has.
-pub fn sizes<W: Sink>(
-    block: &mut Block,
+/// Writes a line for each set, how many edges it has.
+pub(crate) fn write_set_sizes<W: Sink>(
+    buffer: &mut OutputBuffer,
     w: &mut W,
     sets: &[Vec<AigEdge>],
 ) -> Result<(), StreamFault>
-    ensures ok { OnOk result (Writes block.old (W.held w.old) block.new (W.held w.new) (lines_of (map length (literal_sets sets.now)))) }
-    ensures err { OnErr result (Stops (W.held w.old) (W.held w.new) (W.failed w.new) (block.old ++ lines_of (map length (literal_sets sets.now)))) }
+    ensures { let text = lines_of (map length (edges_of sets.now)) in
+        BuffersOrStops W.held W.failed buffer.old w.old result text buffer.new w.new }
 {
     for set in sets {
-        block.line(w, &[set.len()])?;
+        buffer.write_line(w, &[set.len()])?;
     }
     Ok(())
 }
 
-/// Adds the lines of each set of edges.
-pub fn sets<W: Sink>(block: &mut Block, w: &mut W, sets: &[Vec<AigEdge>]) -> Result<(), StreamFault>
-    requires { All (λ set. All IsSmallEdge set.items) sets.now }
-    ensures ok { OnOk result (Writes block.old (W.held w.old) block.new (W.held w.new) (flat_map lines_of (literal_sets sets.now))) }
-    ensures err { OnErr result (Stops (W.held w.old) (W.held w.new) (W.failed w.new) (block.old ++ flat_map lines_of (literal_sets sets.now))) }
+/// Writes the lines of each set of edges.
+pub(crate) fn write_sets<W: Sink>(
+    buffer: &mut OutputBuffer,
+    w: &mut W,
+    numbers: &[usize],
+    sets: &[Vec<AigEdge>],
+) -> Result<(), StreamFault>
+    requires table { All IsSmall numbers.now }
+    requires sets { All (λ set. All IsSmallEdge set.items) sets.now }
+    ensures { let written = map (map (renumbered_edge (number_in numbers.now))) (edges_of sets.now) in
+        let text = flat_map lines_of (map (map literal_of) written) in
+        BuffersOrStops W.held W.failed buffer.old w.old result text buffer.new w.new }
 {
     for set in sets {
-        edges(block, w, set)?;
+        write_edges(buffer, w, numbers, set)?;
     }
     Ok(())
 }
 
-/// Adds the two differences of a gate of a binary file.
-fn differences<W: Sink>(
-    block: &mut Block,
+/// Writes the two differences of a gate of a binary file.
+fn write_differences<W: Sink>(
+    buffer: &mut OutputBuffer,
     w: &mut W,
     lhs: usize,
     rhs0: usize,
@@ -144,50 +161,80 @@ fn differences<W: Sink>(
     requires small { lhs < 2 ^ 32 }
     requires first { rhs0 ≤ lhs }
     requires second { rhs1 ≤ rhs0 }
-    ensures ok { OnOk result (Writes block.old (W.held w.old) block.new (W.held w.new) (delta_of (lhs - rhs0) ++ delta_of (rhs0 - rhs1))) }
-    ensures err { OnErr result (Stops (W.held w.old) (W.held w.new) (W.failed w.new) (block.old ++ (delta_of (lhs - rhs0) ++ delta_of (rhs0 - rhs1)))) }
+    ensures { let text = delta_of (lhs - rhs0) ++ delta_of (rhs0 - rhs1) in
+        BuffersOrStops W.held W.failed buffer.old w.old result text buffer.new w.new }
 {
-    block.difference(w, lhs - rhs0)?;
-    block.difference(w, rhs0 - rhs1)
+    buffer.write_difference(w, lhs - rhs0)?;
+    buffer.write_difference(w, rhs0 - rhs1)
 }
 
-/// Adds a node that is a gate: in a text file a line of its literal, its second operand and its first, and in a binary
-/// file the differences between these.
-fn gate<W: Sink>(
-    block: &mut Block,
+/// Writes a gate: in a text file a line of its literal, its greater operand and its lesser, and in a binary file the
+/// differences between these.
+fn write_gate<W: Sink>(
+    buffer: &mut OutputBuffer,
     w: &mut W,
     kind: FileKind,
-    node: &AigNode,
+    gate: &AigNode,
 ) -> Result<(), StreamFault>
-    requires small { IsSmallNode node.now }
-    requires falls { kind ≡ FileKind.Binary → FallsBelow node.now }
-    ensures ok { OnOk result (Writes block.old (W.held w.old) block.new (W.held w.new) (flat_map (gate_of (kind_of kind)) (option_to_list (gate_line node.now)))) }
-    ensures err { OnErr result (Stops (W.held w.old) (W.held w.new) (W.failed w.new) (block.old ++ flat_map (gate_of (kind_of kind)) (option_to_list (gate_line node.now)))) }
+    requires small { IsSmallNode gate.now }
+    requires falls { kind ≡ FileKind.Binary → FallsBelow gate.now }
+    ensures { let text = flat_map (gate_of kind) (option_to_list (gate_line gate.now)) in
+        BuffersOrStops W.held W.failed buffer.old w.old result text buffer.new w.new }
 {
-    let AigNodeType::And(first, second) = *node.typ() else {
+    let AigNodeType::And(first, second) = *gate.typ() else {
         return Ok(());
     };
-    let (lhs, rhs0, rhs1) = (2 * node.node_id(), literal(second), literal(first));
+    let (lhs, rhs0, rhs1) = (2 * gate.node_id(), literal(second), literal(first));
     match kind {
-        FileKind::Text => block.line(w, &[lhs, rhs0, rhs1]),
-        FileKind::Binary => differences(block, w, lhs, rhs0, rhs1),
+        FileKind::Text => buffer.write_line(w, &[lhs, rhs0, rhs1]),
+        FileKind::Binary => write_differences(buffer, w, lhs, rhs0, rhs1),
     }
 }
 
-/// Adds each node that is a gate.
-pub fn gates<W: Sink>(
-    block: &mut Block,
+/// Writes a node if it is a gate.
+fn write_node<W: Sink>(
+    buffer: &mut OutputBuffer,
     w: &mut W,
     kind: FileKind,
+    numbers: &[usize],
+    node: &AigNode,
+) -> Result<(), StreamFault>
+    requires table { All IsSmall numbers.now }
+    requires small { IsSmallNode node.now }
+    requires falls { kind ≡ FileKind.Binary → FallsBelow (renumbered_node (number_in numbers.now) node.now) }
+    ensures { let written = renumbered_node (number_in numbers.now) node.now in
+        let text = flat_map (gate_of kind) (option_to_list (gate_line written)) in
+        BuffersOrStops W.held W.failed buffer.old w.old result text buffer.new w.new }
+{
+    match *node.typ() {
+        AigNodeType::And(first, second) => {
+            let own = number_of(numbers, node.node_id());
+            let first = renumber_edge(numbers, first);
+            let second = renumber_edge(numbers, second);
+            write_gate(buffer, w, kind, &gate_node(own, first, second))
+        }
+        _ => Ok(()),
+    }
+}
+
+/// Writes each node that is a gate.
+pub(crate) fn write_gates<W: Sink>(
+    buffer: &mut OutputBuffer,
+    w: &mut W,
+    kind: FileKind,
+    numbers: &[usize],
     nodes: &[AigNode],
 ) -> Result<(), StreamFault>
-    requires small { All IsSmallNode nodes.now }
-    requires falls { kind ≡ FileKind.Binary → All FallsBelow nodes.now }
-    ensures ok { OnOk result (Writes block.old (W.held w.old) block.new (W.held w.new) (flat_map (gate_of (kind_of kind)) (filter_map gate_line nodes.now))) }
-    ensures err { OnErr result (Stops (W.held w.old) (W.held w.new) (W.failed w.new) (block.old ++ flat_map (gate_of (kind_of kind)) (filter_map gate_line nodes.now))) }
+    requires table { All IsSmall numbers.now }
+    requires nodes { All IsSmallNode nodes.now }
+    requires falls { kind ≡ FileKind.Binary →
+        All (λ node. FallsBelow (renumbered_node (number_in numbers.now) node)) nodes.now }
+    ensures { let written = map (renumbered_node (number_in numbers.now)) nodes.now in
+        let text = flat_map (gate_of kind) (filter_map gate_line written) in
+        BuffersOrStops W.held W.failed buffer.old w.old result text buffer.new w.new }
 {
     for node in nodes {
-        gate(block, w, kind, node)?;
+        write_node(buffer, w, kind, numbers, node)?;
     }
     Ok(())
 }

@@ -10,6 +10,8 @@ pub enum Command {
     Text,
     /// Write the binary form of a file to another.
     Binary,
+    /// Print the text form of a file's circuit after structural hashing.
+    Strash,
     /// Print the clauses of a file's circuit that is unrolled by `k` steps, and whether to optimise them.
     Cnf { k: usize, optimize: bool },
 }
@@ -24,7 +26,7 @@ fn steps(word: &str) -> Option<usize> {
 
 /// The command that the words after the program's name give, or none where they are wrong.
 ///
-/// The word behind the command's name is FILE, and the word behind that of `binary` is OUT. No steps but 0 and no
+/// The word after the command's name is FILE, and of `binary` the word after that is OUT. No steps but 0 and no
 /// optimised clauses are offered yet. It takes no memory.
 pub fn parse(words: &[String]) -> Option<Command>
     ensures file { IfSome result (λ _. 2 ≤ length words.now) }
@@ -34,6 +36,7 @@ pub fn parse(words: &[String]) -> Option<Command>
     match words {
         [name, _] if name.as_str() == "text" => Some(Command::Text),
         [name, _, _] if name.as_str() == "binary" => Some(Command::Binary),
+        [name, _] if name.as_str() == "strash" => Some(Command::Strash),
         [name, _, k, raw] if name.as_str() == "cnf" && raw.as_str() == "raw" => {
             match steps(k.as_str()) {
                 Some(0) => Some(Command::Cnf {

@@ -14,7 +14,7 @@ use aig::{Aig, ReadError, WriteError};
 use aig_base::{FromRead, ToWrite};
 pub use command::{Command, parse};
 use std::fs::File;
-use std::io::{BufWriter, Write};
+use std::io::{ErrorKind, Write};
 use std::path::Path;
 use std::process::ExitCode;
 use std::rt::{Env, Files};
@@ -32,18 +32,15 @@ fn words(rt: &(impl Env + AllocGlobal)) -> io::Result<Vec<String>> {
     Ok(words)
 }
 
-/// Runs a command on a file, with standard output behind a buffer.
+/// Runs a command on a file, and prints to standard output.
 fn execute(rt: &(impl Files + Print + AllocGlobal), c: Command, file: &str) -> Result<(), ToolError>
     requires { IsOneStep c }
 {
     let Ok(file) = File::open(rt, file) else {
         return Err(ToolError::Read(ReadError::Open));
     };
-    let Ok(out) = BufWriter::new(rt.alloc(), io::writer(rt)) else {
-        return Err(ToolError::Memory);
-    };
     let mut source = FromRead::new(file);
-    let mut sink = ToWrite::new(out);
+    let mut sink = ToWrite::new(io::writer(rt));
     run(rt.alloc(), c, &mut source, &mut sink)?;
     match sink.into_inner().flush() {
         Ok(()) => Ok(()),
@@ -62,9 +59,14 @@ fn convert(
 }
 
 fn main(rt: HostRuntime) -> ExitCode {
-    let Ok(words) = words(&rt) else {
-        let _ = eprintln!(rt; "aigtool: {}", ToolError::Memory);
-        return ExitCode::FAILURE;
+    let words = match words(&rt) {
+        Ok(words) => words,
+        // Words that aren't UTF-8 give no command.
+        Err(error) if error.kind() == ErrorKind::InvalidData => Vec::new(rt.alloc()),
+        Err(_) => {
+            let _ = eprintln!(rt; "aigtool: {}", ToolError::Memory);
+            return ExitCode::FAILURE;
+        }
     };
     let Some(command) = parse(&words) else {
         let _ = eprintln!(rt; "{USAGE}");
@@ -73,7 +75,7 @@ fn main(rt: HostRuntime) -> ExitCode {
     let file = words[1].as_str();
     let done = match command {
         Command::Binary => convert(&rt, Path::new(file), Path::new(words[2].as_str())),
-        Command::Text | Command::Cnf { .. } => execute(&rt, command, file),
+        Command::Text | Command::Strash | Command::Cnf { .. } => execute(&rt, command, file),
     };
     match done {
         Ok(()) => ExitCode::SUCCESS,

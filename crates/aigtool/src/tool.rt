@@ -60,6 +60,7 @@ pub fn run<R: Source, W: Sink>(
     match c {
         Command::Text => Ok(circuit.write_text(w)?),
         Command::Binary => Ok(circuit.write_binary(w)?),
+        Command::Strash => Ok(circuit.strash()?.write_text(w)?),
         Command::Cnf { optimize, .. } => write_clauses(&circuit, optimize, w),
     }
 }

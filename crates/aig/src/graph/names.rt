@@ -11,7 +11,7 @@ impl Aig {
     pub fn get_symbol(&self, id: usize) -> Result<Option<String>, MemoryError>
         ensures { IfOk result (λ name. option_map string_bytes name ≡ get self.now.names id) }
     {
-        match self.symbols.get(&id) {
+        match self.lists.names.get(&id) {
             Some(name) => Ok(Some(name.clone()?)),
             None => Ok(None),
         }
@@ -24,7 +24,7 @@ impl Aig {
         ensures err { OnErr result (self.new ≡ self.old) }
     {
         let text = String::from_str(self.allocator(), name)?;
-        self.symbols.insert(id, text)?;
+        self.lists.names.insert(id, text)?;
         Ok(())
     }
 }

@@ -4,24 +4,11 @@ ghost use Rattle.std.specs.Prelude.{◌≡◌, ◌<◌, ◌++◌, ◌∷◌, [],
 ghost use Rattle.aig_circuit.specs.declared.node.AigLatch.{AigLatch};
 ghost use Rattle.aig_circuit.specs.Node.{Admits};
 ghost use Rattle.aig_circuit.specs.Circuit.{IsInRange};
-ghost use Rattle.aig.specs.Lists.{edges_of, with_edges};
+ghost use Rattle.aig_circuit.specs.PropLists.{edges_of, with_edges};
 
 use super::Aig;
 use aig_base::MemoryError;
-use aig_circuit::{AigEdge, AigLatch, AigNode};
-
-/// One of the four lists of property edges.
-#[derive(Clone, Copy, Debug, PartialEq, Eq)]
-pub enum PropList {
-    /// The outputs.
-    Outputs,
-    /// The bad state properties.
-    Bads,
-    /// The invariant constraints.
-    Constraints,
-    /// The fairness constraints.
-    Fairness,
-}
+use aig_circuit::{AigEdge, AigLatch, AigNode, PropList};
 
 impl Aig {
     /// Appends an edge to a list. Asks `has_edge`.
@@ -31,10 +18,10 @@ impl Aig {
         ensures err { OnErr result (self.new ≡ self.old) }
     {
         match list {
-            PropList::Outputs => self.outputs.push(e)?,
-            PropList::Bads => self.bads.push(e)?,
-            PropList::Constraints => self.constraints.push(e)?,
-            PropList::Fairness => self.fairness.push(e)?,
+            PropList::Outputs => self.lists.outputs.push(e)?,
+            PropList::Bads => self.lists.bads.push(e)?,
+            PropList::Constraints => self.lists.constraints.push(e)?,
+            PropList::Fairness => self.lists.fairness.push(e)?,
         }
         Ok(())
     }
@@ -46,10 +33,10 @@ impl Aig {
         ensures { self.new ≡ with_edges list self.old (slice_set (edges_of list self.old) i e) }
     {
         match list {
-            PropList::Outputs => self.outputs[i] = e,
-            PropList::Bads => self.bads[i] = e,
-            PropList::Constraints => self.constraints[i] = e,
-            PropList::Fairness => self.fairness[i] = e,
+            PropList::Outputs => self.lists.outputs[i] = e,
+            PropList::Bads => self.lists.bads[i] = e,
+            PropList::Constraints => self.lists.constraints[i] = e,
+            PropList::Fairness => self.lists.fairness[i] = e,
         }
     }
 
@@ -58,10 +45,10 @@ impl Aig {
         ensures { self.new ≡ with_edges list self.old [] }
     {
         match list {
-            PropList::Outputs => self.outputs.clear(),
-            PropList::Bads => self.bads.clear(),
-            PropList::Constraints => self.constraints.clear(),
-            PropList::Fairness => self.fairness.clear(),
+            PropList::Outputs => self.lists.outputs.clear(),
+            PropList::Bads => self.lists.bads.clear(),
+            PropList::Constraints => self.lists.constraints.clear(),
+            PropList::Fairness => self.lists.fairness.clear(),
         }
     }
 
@@ -71,7 +58,7 @@ impl Aig {
         ensures ok { OnOk result (self.new ≡ record self.old { justice = self.old.justice ++ set.items ∷ [] }) }
         ensures err { OnErr result (self.new ≡ self.old) }
     {
-        self.justice.push(set)?;
+        self.lists.justice.push(set)?;
         Ok(())
     }
 
@@ -79,7 +66,7 @@ impl Aig {
     pub fn clear_justice(&mut self)
         ensures { self.new ≡ record self.old { justice = [] } }
     {
-        self.justice.clear();
+        self.lists.justice.clear();
     }
 
     /// Replaces the next edge of latch `i`. Asks that `i` is below the number of latches, and `has_edge`.
@@ -88,8 +75,8 @@ impl Aig {
         requires edge { IsInRange self.old.nodes e }
         ensures { (latch : AigLatch) → slice_get self.old.latchs i ≡ Some latch → self.new ≡ record self.old { latchs = slice_set self.old.latchs i (record latch { next = e }) } }
     {
-        let latch = self.latchs[i];
-        self.latchs[i] = AigLatch::new(latch.input(), e, latch.init());
+        let latch = self.lists.latchs[i];
+        self.lists.latchs[i] = AigLatch::new(latch.input(), e, latch.init());
     }
 
     /// Replaces the initial edge of latch `i`, which may be none. Asks that `i` is below the number of latches, and
@@ -99,8 +86,8 @@ impl Aig {
         requires edge { IfSome e (IsInRange self.old.nodes) }
         ensures { (latch : AigLatch) → slice_get self.old.latchs i ≡ Some latch → self.new ≡ record self.old { latchs = slice_set self.old.latchs i (record latch { init = e }) } }
     {
-        let latch = self.latchs[i];
-        self.latchs[i] = AigLatch::new(latch.input(), latch.next(), e);
+        let latch = self.lists.latchs[i];
+        self.lists.latchs[i] = AigLatch::new(latch.input(), latch.next(), e);
     }
 
     /// Puts a node in place of node `i`. Asks `admits`.
@@ -108,6 +95,6 @@ impl Aig {
         requires { Admits self.old.nodes i node }
         ensures { self.new ≡ record self.old { nodes = slice_set self.old.nodes i node } }
     {
-        self.nodes[i] = node;
+        self.lists.nodes[i] = node;
     }
 }

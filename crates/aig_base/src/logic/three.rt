@@ -5,15 +5,25 @@ ghost use Rattle.std.specs.Prelude.{◌≡◌};
 use std::ops::{BitAnd, Not};
 
 /// False, true or unknown.
-#[derive(Clone, Copy, Debug, Default, PartialEq, Eq)]
+#[derive(Clone, Copy, Debug, PartialEq, Eq)]
 pub enum Lbool {
     /// False.
     FALSE,
     /// True.
     TRUE,
     /// Unknown.
-    #[default]
     NONE,
+}
+
+impl Default for Lbool {
+    ghost use Rattle.aig_base.specs.declared.logic.three.Lbool.TheVariants.{NONE};
+
+    ghost is_default = { λ value. value ≡ NONE };
+
+    /// Unknown.
+    fn default() -> Lbool {
+        Self::NONE
+    }
 }
 
 impl Lbool {

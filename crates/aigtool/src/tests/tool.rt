@@ -2,9 +2,9 @@
 
 ghost use Rattle.aigtool.specs.Commands.{IsOneStep};
 
-use super::{AND, BINARY_AND, LIMIT};
+use super::{AND, BINARY_AND};
 use crate::command::{Command, parse};
-use crate::tool::{ToolError, run};
+use crate::tool::{LIMIT, ToolError, run};
 use aig::{Aig, ReadError, WriteError};
 use aig_base::{Parts, Taker};
 use std::alloc::Global;
@@ -29,13 +29,15 @@ fn parsed(alloc: Global, words: &[&str]) -> Result<Option<Command>, Fail> {
 
 #[test]
 fn parses_words(rt: HostRuntime) -> Result<(), Fail> {
-    let rows: [(&[&str], Option<Command>); 11] = [
+    let rows: [(&[&str], Option<Command>); 13] = [
         (&[], None),
         (&["text"], None),
         (&["text", "and.aag"], Some(Command::Text)),
         (&["text", "and.aag", "more"], None),
         (&["binary", "and.aag"], None),
         (&["binary", "and.aag", "and.aig"], Some(Command::Binary)),
+        (&["strash", "and.aag"], Some(Command::Strash)),
+        (&["strash", "and.aag", "out.aag"], None),
         (&["cnf", "and.aag", "0", "raw"], Some(PLAIN)),
         (&["cnf", "and.aag", "000", "raw"], Some(PLAIN)),
         (&["cnf", "and.aag", "0", "Raw"], None),
@@ -107,6 +109,41 @@ fn prints_clauses(rt: HostRuntime) -> Result<(), Fail> {
     for (file, printed) in rows {
         prints(&rt, rt.alloc(), PLAIN, file, printed.as_bytes())?;
     }
+    Ok(())
+}
+
+#[test]
+fn prints_hashed_circuits(rt: HostRuntime) -> Result<(), Fail> {
+    let rows = [
+        (
+            "aag 6 2 0 2 4\n2\n4\n10\n12\n6 4 2\n8 4 2\n10 6 2\n12 8 2\n",
+            "aag 4 2 0 2 2\n2\n4\n8\n8\n6 4 2\n8 6 2\n",
+        ),
+        (
+            "aag 4 2 0 0 2\n2\n4\n6 4 2\n8 5 2\n",
+            "aag 4 2 0 0 2\n2\n4\n6 4 2\n8 5 2\n",
+        ),
+        (
+            "aag 5 2 0 1 3\n2\n4\n10\n6 4 2\n8 4 2\n10 8 7\n",
+            "aag 4 2 0 1 2\n2\n4\n8\n6 4 2\n8 7 6\n",
+        ),
+        (
+            "aag 7 2 0 2 5\n2\n4\n12\n14\n6 4 2\n8 5 2\n10 4 2\n12 8 6\n14 10 8\n",
+            "aag 5 2 0 2 3\n2\n4\n10\n10\n6 4 2\n8 5 2\n10 8 6\n",
+        ),
+        (
+            "aag 3 2 0 0 1\n2\n4\n6 4 2\n",
+            "aag 3 2 0 0 1\n2\n4\n6 4 2\n",
+        ),
+    ];
+    for (file, printed) in rows {
+        prints(&rt, rt.alloc(), Command::Strash, file, printed.as_bytes())?;
+    }
+    let (result, held) = ran(rt.alloc(), Command::Strash, BINARY_AND, 64)?;
+    assert_eq!(rt; result, Ok(()));
+    assert!(rt; held.as_slice() == AND.as_bytes());
+    let (failed, _) = ran(rt.alloc(), Command::Strash, BINARY_AND, 8)?;
+    assert_eq!(rt; failed, Err(ToolError::Write(WriteError::Stream)));
     Ok(())
 }
 

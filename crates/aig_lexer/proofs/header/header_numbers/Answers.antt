@@ -1,7 +1,7 @@
 use Rattle.std.proofs.Common.{◌∙◌, ◌+◌, ◌-◌, ◌∷◌, ◌++◌, [], ◌≤◌, ℕ, None, length, refl, ap, subst, arith}
 use Rattle.std.proofs.lemmas.Result.{err_from_is_err_and}
 use Rattle.std.proofs.lemmas.List.{length-append}
-use Rattle.aig_front.specs.Front.{number_at, padded}
+use Rattle.aig_parsing.specs.Front.{number_at, padded}
 use Rattle.aig_lexer.specs.Takes.{Takes, Misses}
 use Rattle.aig_lexer.specs.Words.{header_numbers_at}
 use Rattle.aig_lexer.proofs.Going.{goes_start, goes_call, goes_done, goes_wrong, goes_nowhere, goes_same}

@@ -1,5 +1,5 @@
-use Rattle.aig_front.specs.Front.{number_at}
-use Rattle.aig_front.proofs.Numbers.{number_ends}
+use Rattle.aig_parsing.specs.Front.{number_at}
+use Rattle.aig_parsing.proofs.Numbers.{number_ends}
 use Rattle.aig_lexer.proofs.Going.{goes_start, goes_end}
 use Rattle.aig_lexer.proofs.Words.{gives_behind}
 use Rattle.aig_lexer.proofs.lexer.number.Goals as goal

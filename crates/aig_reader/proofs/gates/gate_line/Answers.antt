@@ -1,10 +1,9 @@
 use Rattle.std.proofs.Common.{◌≡◌, ◌∙◌, ◌++◌, ◌+◌, ◌/◌, ◌&&◌, ℕ, length, ltb, ap, subst, vec_len, arith}
 use Rattle.std.specs.List.{list_all}
-use Rattle.aig_grammar.specs.File.{GateLine}
-use Rattle.aig_front.specs.Fitting.{gate_of}
+use Rattle.aig_format.specs.File.{GateLine}
+use Rattle.aig_parsing.specs.Fitting.{gate_of}
 use Rattle.aig_reader.specs.Entries.{may_define, operands_at}
 use Rattle.aig_reader.specs.Gates.{literals_of}
-use Rattle.aig_reader.specs.Lists.{with_gates}
 use Rattle.aig_reader.specs.Variables.{HasRoom, kind_by}
 use Rattle.aig_reader.proofs.Body.{nodes_length}
 use Rattle.aig_reader.proofs.GateLines.{gate_test, more_gates, next_above}
@@ -17,7 +16,7 @@ returns-then-not-is_next_gate-clause-exact g c = λ greatest leaves before h.
     let literals = leaves ++ literals_of before in
     let gate = gate_of (c.in_ok-lhs.lhs, (c.in_ok-rhs0.rhs0, c.in_ok-rhs0.rhs1)) in
     let first = c.in_ok-id.ensures.exact greatest literals h.defined in
-    let same : length c.args.nodes.now.items ≡ greatest + 1 = ap length h.placed ∙ nodes_length (with_gates before) (greatest + 1) 0 in
+    let same : length c.args.nodes.now.items ≡ greatest + 1 = ap length h.placed ∙ nodes_length before (greatest + 1) 0 in
     let size : vec_len c.args.nodes.now ≡ greatest + 1 = omega (arith, same, c.args.nodes.now.ok.0) in
     let own = c.in_ok-id.ensures.own (greatest + 1) (subst (λ (n : ℕ). HasRoom n c.args.variables.now 1) size c.requires.room) in
     misses_line kind 32 literals (operands_at kind) gate_of
@@ -37,7 +36,7 @@ returns-clause-exact g c = λ greatest leaves before h.
     let gate = gate_of (c.in_ok-lhs.lhs, (c.in_ok-rhs0.rhs0, c.in_ok-rhs0.rhs1)) in
     let first = c.in_ok-id.ensures.exact greatest literals h.defined in
     let next = c.is_next_gate.ensures in
-    let same : length c.args.nodes.now.items ≡ greatest + 1 = ap length h.placed ∙ nodes_length (with_gates before) (greatest + 1) 0 in
+    let same : length c.args.nodes.now.items ≡ greatest + 1 = ap length h.placed ∙ nodes_length before (greatest + 1) 0 in
     let size : vec_len c.args.nodes.now ≡ greatest + 1 = omega (arith, same, c.args.nodes.now.ok.0) in
     let own = c.in_ok-id.ensures.own (greatest + 1) (subst (λ (n : ℕ). HasRoom n c.args.variables.now 1) size c.requires.room) in (
       gate,

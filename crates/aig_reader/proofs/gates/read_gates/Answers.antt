@@ -1,7 +1,7 @@
 use Rattle.std.proofs.Common.{◌≡◌, ◌∙◌, ◌∷◌, ◌++◌, ◌+◌, [], ℕ, subst, vec_len, arith}
 use Rattle.std.proofs.lemmas.Result.{err_from_is_err_and}
-use Rattle.aig_front.specs.Fitting.{fitting_gates_at}
-use Rattle.aig_grammar.specs.File.{Kind}
+use Rattle.aig_parsing.specs.Fitting.{fitting_gates_at}
+use Rattle.aig_format.specs.declared.FileKind.{FileKind}
 use Rattle.aig_lexer.specs.Header.{numbers_of}
 use Rattle.aig_lexer.specs.Takes.{Takes, Misses}
 use Rattle.aig_lexer.proofs.Taking.{takes_same, misses_same}
@@ -32,7 +32,7 @@ returns-in_err-last-clause-exact g c = λ leaves length defined start.
     rw (p.1, p.2) (on_line-weaker e _ _
     (λ (k : Misses (gate_at kind greatest leaves h.0) now).
     misses_same (entries_at (gate_at kind greatest leaves) [] count) (fitting_gates_at kind ns leaves) _ (misses_more (gate_at kind greatest leaves) c.loop.counter count _ _ h.0 c.loop-test.true h.2 k) (λ bs. gates_is kind ns leaves bs length))
-    (subst (λ (k : Kind). OnLine e (Misses (gate_at k greatest leaves h.0) now)) c.loop.invariant.kind (c.in_err-last.ensures.exact greatest leaves h.0 h.1)))
+    (subst (λ (k : FileKind). OnLine e (Misses (gate_at k greatest leaves h.0) now)) c.loop.invariant.kind (c.in_err-last.ensures.exact greatest leaves h.0 h.1)))
 
 pub loop-preserved : goal.loop-preserved
 loop-preserved g c = record {
@@ -43,7 +43,7 @@ loop-preserved g c = record {
       let k = c.in_ok-last.ensures.exact greatest leaves h.0 h.1 in (
         h.0 ++ k.0 ∷ [],
         k.1,
-        takes_more (gate_at kind greatest leaves) c.loop.counter _ _ _ h.0 k.0 h.2 (subst (λ (d : Kind). Takes (gate_at d greatest leaves h.0) (g.F.ByteFeed.coming c.loop.f) (g.F.ByteFeed.coming c.gate_line.new.f) k.0) c.loop.invariant.kind k.2),
+        takes_more (gate_at kind greatest leaves) c.loop.counter _ _ _ h.0 k.0 h.2 (subst (λ (d : FileKind). Takes (gate_at d greatest leaves h.0) (g.F.ByteFeed.coming c.loop.f) (g.F.ByteFeed.coming c.gate_line.new.f) k.0) c.loop.invariant.kind k.2),
       );
   len = c.gate_line.ensures.len ∙ c.loop.invariant.len;
   room = room_more _ _ _ c.loop.counter c.loop.invariant.room c.in_ok-last.ensures.room;

@@ -1,8 +1,9 @@
 use Rattle.std.proofs.Common.{◌≡◌, ◌∙◌, ◌∷◌, ◌++◌, ◌+◌, [], ℕ, List, map, ap, sym, subst, append_assoc, arith}
 use Rattle.std.proofs.lemmas.Result.{err_from_is_err_and}
 use Rattle.std.proofs.lemmas.List.{map_push}
-use Rattle.aig_front.specs.Fitting.{fitting_latches_at}
-use Rattle.aig_grammar.specs.File.{Kind, LatchLine}
+use Rattle.aig_parsing.specs.Fitting.{fitting_latches_at}
+use Rattle.aig_format.specs.declared.FileKind.{FileKind}
+use Rattle.aig_format.specs.File.{LatchLine}
 use Rattle.aig_lexer.specs.Header.{numbers_of}
 use Rattle.aig_lexer.specs.Takes.{Takes, Misses}
 use Rattle.aig_lexer.proofs.Taking.{takes_same, misses_same}
@@ -44,7 +45,7 @@ returns-in_err-latch-clause-exact g c = λ inputs length defined.
     rw (p.1, p.2) (on_line-weaker e _ _
     (λ (k : Misses (latch_at kind greatest inputs h.0) now).
     misses_same (entries_at (latch_at kind greatest inputs) [] count) (fitting_latches_at kind ns inputs) _ (misses_more (latch_at kind greatest inputs) c.loop.counter count _ _ h.0 c.loop-test.true h.2 k) (λ bs. latches_is kind ns inputs bs length))
-    (subst (λ (k : Kind). OnLine e (Misses (latch_at k greatest inputs h.0) now)) c.loop.invariant.kind (c.in_err-latch.ensures.exact inputs h.0 h.1.1)))
+    (subst (λ (k : FileKind). OnLine e (Misses (latch_at k greatest inputs h.0) now)) c.loop.invariant.kind (c.in_err-latch.ensures.exact inputs h.0 h.1.1)))
 
 pub loop-preserved : goal.loop-preserved
 loop-preserved g c = record {
@@ -55,7 +56,7 @@ loop-preserved g c = record {
       let k = c.in_ok-latch.ensures.exact inputs h.0 h.1.1 in (
         h.0 ++ k.0 ∷ [],
         (made_push latch_from h.0 k.0 _ _ _ h.1.0 k.1.0 c.in_ok-push.ensures.items, defined_push greatest _ inputs h.0 k.0 k.1.1),
-        takes_more (latch_at kind greatest inputs) c.loop.counter _ _ _ h.0 k.0 h.2 (subst (λ (d : Kind). Takes (latch_at d greatest inputs h.0) (g.F.ByteFeed.coming c.loop.f) (g.F.ByteFeed.coming c.latch_line.new.f) k.0) c.loop.invariant.kind k.2),
+        takes_more (latch_at kind greatest inputs) c.loop.counter _ _ _ h.0 k.0 h.2 (subst (λ (d : FileKind). Takes (latch_at d greatest inputs h.0) (g.F.ByteFeed.coming c.loop.f) (g.F.ByteFeed.coming c.latch_line.new.f) k.0) c.loop.invariant.kind k.2),
       );
   count = c.in_ok-push.ensures.len ∙ ap (λ (n : ℕ). n + 1) c.loop.invariant.count;
   room = room_more _ _ _ c.loop.counter c.loop.invariant.room c.in_ok-latch.ensures.room;

@@ -1,6 +1,6 @@
 use Rattle.std.proofs.Common.{◌≡◌, ◌∙◌, sym, arith}
-use Rattle.aig_grammar.specs.Circuit.{circuit_of}
-use Rattle.aig_grammar.specs.Fits.{Accepts}
+use Rattle.aig_format.specs.Circuit.{circuit_of}
+use Rattle.aig_format.specs.Fits.{Accepts}
 use Rattle.aig_circuit.specs.View.{lists_circuit}
 use Rattle.aig_lexer.proofs.Ending.{ends_read, ends_whole}
 use Rattle.aig_reader.proofs.reader.read.Goals as goal

@@ -4,11 +4,11 @@ use Rattle.std.proofs.lemmas.Result.{err_from_is_err_and}
 use Rattle.aig_circuit.specs.Circuit.{latch_leaves}
 use Rattle.aig_circuit.specs.View.{names_of}
 use Rattle.aig_circuit.specs.declared.node.AigLatch.{AigLatch}
-use Rattle.aig_front.specs.Front.{file_from}
-use Rattle.aig_front.specs.Fitting.{fitting_header_at}
-use Rattle.aig_lexer.specs.Header.{kind_of, numbers_of}
+use Rattle.aig_parsing.specs.Front.{file_from}
+use Rattle.aig_parsing.specs.Fitting.{fitting_header_at}
+use Rattle.aig_lexer.specs.Header.{numbers_of}
 use Rattle.aig_lexer.proofs.Taking.{takes_both}
-use Rattle.aig_names.specs.Names.{kept_names, tail_of}
+use Rattle.aig_reader.specs.Names.{kept_names, tail_of}
 use Rattle.aig_reader.specs.Faults.{name_error_of}
 use Rattle.aig_reader.proofs.Accepting.{Body, refused_header, refused_section, refused_names, section_fault, sections_of, accepted, accepts}
 use Rattle.aig_reader.proofs.FileCircuit.{circuit_is, nodes_distinct}
@@ -26,14 +26,14 @@ returns-in_err-sections-clause-exact g c =
     let e = c.in_err-sections.field-0.0 in
     let header = c.in_ok-header.header in
     rw (p.1, p.2)
-    (refused_section _ header c.args.limit _ _ (kind_of header.kind, numbers_of header) e c.in_ok-header.ensures.exact c.in_err-sections.ensures.exact (section_fault e c.in_err-sections.ensures.fault) c.in_ok-header.ensures.too_many)
+    (refused_section _ header c.args.limit _ _ (header.kind, numbers_of header) e c.in_ok-header.ensures.exact c.in_err-sections.ensures.exact (section_fault e c.in_err-sections.ensures.fault) c.in_ok-header.ensures.too_many)
 
 pub read_names-names-requires-clause-distinct : goal.read_names-names-requires-clause-distinct
 read_names-names-requires-clause-distinct g c =
     let header = c.in_ok-header.header in
     let made = c.in_ok-sections.ensures.exact in
-    let body : Body = ((kind_of header.kind, numbers_of header), made.0) in
-    let taken = takes_both (fitting_header_at c.args.limit) sections_of _ _ _ (kind_of header.kind, numbers_of header) made.0 c.in_ok-header.ensures.exact made.2 in
+    let body : Body = ((header.kind, numbers_of header), made.0) in
+    let taken = takes_both (fitting_header_at c.args.limit) sections_of _ _ _ (header.kind, numbers_of header) made.0 c.in_ok-header.ensures.exact made.2 in
     let fits = accepted c.args.limit _ _ body taken [] [] (no_names_left (numbers_of header)) in
     rw (c.deref.ensures.value, c.deref-2.ensures.value, made.1.inputs, made.1.latchs) (nodes_distinct (file_from body []) c.args.limit fits.1)
 
@@ -43,8 +43,8 @@ returns-in_err-names-clause-exact g c =
     let e = c.in_err-names.field-0.0 in
     let header = c.in_ok-header.header in
     let made = c.in_ok-sections.ensures.exact in
-    let body : Body = ((kind_of header.kind, numbers_of header), made.0) in
-    let taken = takes_both (fitting_header_at c.args.limit) sections_of _ _ _ (kind_of header.kind, numbers_of header) made.0 c.in_ok-header.ensures.exact made.2 in
+    let body : Body = ((header.kind, numbers_of header), made.0) in
+    let taken = takes_both (fitting_header_at c.args.limit) sections_of _ _ _ (header.kind, numbers_of header) made.0 c.in_ok-header.ensures.exact made.2 in
     rw (p.1, p.2)
     (refused_names _ header c.args.limit _ _ body e taken
     (no_names_in _ _ _ (tail_of (numbers_of header)) c.read_names-names.result c.names_result.result c.names_result.ensures c.read_names-names.ensures.exact e c.in_err-names.was)
@@ -54,8 +54,8 @@ pub returns-clause-circuit : goal.returns-clause-circuit
 returns-clause-circuit g c =
     let header = c.in_ok-header.header in
     let made = c.in_ok-sections.ensures.exact in
-    let body : Body = ((kind_of header.kind, numbers_of header), made.0) in
-    let taken = takes_both (fitting_header_at c.args.limit) sections_of _ _ _ (kind_of header.kind, numbers_of header) made.0 c.in_ok-header.ensures.exact made.2 in
+    let body : Body = ((header.kind, numbers_of header), made.0) in
+    let taken = takes_both (fitting_header_at c.args.limit) sections_of _ _ _ (header.kind, numbers_of header) made.0 c.in_ok-header.ensures.exact made.2 in
     let names = names_in _ _ _ (tail_of (numbers_of header)) c.read_names-names.result c.names_result.result c.names_result.ensures c.read_names-names.ensures.exact c.in_ok-names.names c.in_ok-names.was in
     let fits = accepted c.args.limit _ _ body taken names.0 names.2 names.3 in
     let s = c.in_ok-sections.sections in
@@ -65,7 +65,7 @@ returns-clause-circuit g c =
       file_from body names.0,
       taken.taken ++ names.2,
       fits,
-      c.with_names.ensures ∙ circuit_is (kind_of header.kind) (numbers_of header) made.0 names.0 s map made.1 kept fits.1.exact,
+      c.with_names.ensures ∙ circuit_is header.kind (numbers_of header) made.0 names.0 s map c.args.limit made.1 kept fits.1,
       Consumes-trans _ _ _ taken.taken names.2 taken.consumed names.4,
     )
 
@@ -73,8 +73,8 @@ pub returns-clause-exact : goal.returns-clause-exact
 returns-clause-exact g c =
     let header = c.in_ok-header.header in
     let made = c.in_ok-sections.ensures.exact in
-    let body : Body = ((kind_of header.kind, numbers_of header), made.0) in
-    let taken = takes_both (fitting_header_at c.args.limit) sections_of _ _ _ (kind_of header.kind, numbers_of header) made.0 c.in_ok-header.ensures.exact made.2 in
+    let body : Body = ((header.kind, numbers_of header), made.0) in
+    let taken = takes_both (fitting_header_at c.args.limit) sections_of _ _ _ (header.kind, numbers_of header) made.0 c.in_ok-header.ensures.exact made.2 in
     let names = names_in _ _ _ (tail_of (numbers_of header)) c.read_names-names.result c.names_result.result c.names_result.ensures c.read_names-names.ensures.exact c.in_ok-names.names c.in_ok-names.was in
     let end = on_ok_in name_error_of _ c.read_names-names.result c.names_result.result c.in_ok-names.names c.names_result.ensures c.in_ok-names.was c.read_names-names.ensures.whole in
     accepts _ header c.args.limit _ _ (file_from body names.0) (taken.taken ++ names.2) _ (accepted c.args.limit _ _ body taken names.0 names.2 names.3) (Consumes-trans _ _ _ taken.taken names.2 taken.consumed names.4) end.1 c.in_ok-header.ensures.too_many

@@ -1,5 +1,7 @@
 use Rattle.std.proofs.Common.{◌≡◌, map, slice_index, take}
+use Rattle.std.specs.Prelude.{filter}
+use Rattle.aig_circuit.specs.Renumber.{is_in}
 use Rattle.aig_renumber.proofs.lists.inputs.Given as goal
 
 abbrev pub invariant-loop-input : goal.invariant-loop-input
-invariant-loop-input l = l.new.items ≡ map (slice_index l.numbers) (take l.input-index l.old)
+invariant-loop-input l = l.new.items ≡ map (slice_index l.numbers) (filter (is_in l.kept) (take l.input-index l.old))

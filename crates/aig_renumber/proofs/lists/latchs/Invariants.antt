@@ -1,5 +1,5 @@
 use Rattle.std.proofs.Common.{◌≡◌, map, slice_index, take}
-use Rattle.aig_circuit.specs.Reencode.{renumbered_latch}
+use Rattle.aig_circuit.specs.Renumber.{renumbered_latch}
 use Rattle.aig_renumber.proofs.lists.latchs.Given as goal
 
 abbrev pub invariant-loop-l : goal.invariant-loop-l

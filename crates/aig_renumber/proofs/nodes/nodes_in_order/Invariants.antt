@@ -1,5 +1,5 @@
 use Rattle.std.proofs.Common.{◌≡◌, slice_index, take}
-use Rattle.aig_circuit.specs.Reencode.{nodes_in_order}
+use Rattle.aig_circuit.specs.Renumber.{nodes_in_order}
 use Rattle.aig_renumber.proofs.nodes.nodes_in_order.Given as goal
 
 abbrev pub invariant-loop-i : goal.invariant-loop-i

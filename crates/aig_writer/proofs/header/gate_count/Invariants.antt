@@ -1,6 +1,6 @@
 use Rattle.std.proofs.Common.{◌≡◌, ◌≤◌, length, take}
 use Rattle.std.specs.Prelude.{filter_map}
-use Rattle.aig_grammar.specs.Circuit.{gate_line}
+use Rattle.aig_format.specs.Circuit.{gate_line}
 use Rattle.aig_writer.proofs.header.gate_count.Given as goal
 
 abbrev pub invariant-loop-node : goal.invariant-loop-node

@@ -1,5 +1,5 @@
 use Rattle.std.proofs.Common.{◌≡◌, ◌≤◌, length, take}
-use Rattle.aig_grammar.specs.Written.{shortened}
+use Rattle.aig_format.specs.Written.{shortened}
 use Rattle.aig_writer.proofs.header.written_count.Given as goal
 
 abbrev pub invariant-loop-count : goal.invariant-loop-count

@@ -1,14 +1,14 @@
-use Rattle.std.proofs.Common.{arith}
+use Rattle.std.proofs.Common.{arith, rules}
 use Rattle.std.proofs.lemmas.List.{length-drop, take_rest}
 use Rattle.std.proofs.Math.Seq.{take-add}
 use Rattle.std.proofs.KnownBytes.{Appends-trans}
-use Rattle.aig_writer.proofs.Putting.{on_err, Stops-kept}
+use Rattle.aig_writer.proofs.Putting.{Stops-kept, failed_put}
 use Rattle.aig_writer.proofs.put.put_all.Goals as goal
 
-pub returns-in_err-at-2-clause-err : goal.returns-in_err-at-2-clause-err
-returns-in_err-at-2-clause-err g c =
+pub returns-in_err-at-2 : goal.returns-in_err-at-2
+returns-in_err-at-2 g c =
     let put = c.in_err-at-2.ensures in
-    on_err _ (Stops-kept _ _ _ _ c.loop-at.at c.args.text.now c.loop-at.invariant.so_far put.kept put.tells)
+    failed_put (Stops-kept _ _ _ _ c.loop-at.at c.args.text.now c.loop-at.invariant.so_far put.kept put.tells) (search rules)
 
 pub loop-at-preserved : goal.loop-at-preserved
 loop-at-preserved g c =

@@ -6,4 +6,4 @@ use Rattle.aig.proofs.graph.Aig.ands_iter.Goals as goal
 
 pub returns-clause-bound : goal.returns-clause-bound
 returns-clause-bound c =
-    rw (c.gates_among.ensures, c.deref.ensures.value, length-filter) (omega (arith, count_by-le-length (λ (node : AigNode). is_gate node.typ) c.self.inside.nodes.items, c.self.inside.nodes.ok.0))
+    rw (c.gates_among.ensures, c.deref.ensures.value, length-filter) (omega (arith, count_by-le-length (λ (node : AigNode). is_gate node.typ) c.self.inside.lists.nodes.items, c.self.inside.lists.nodes.ok.0))

@@ -2,8 +2,10 @@ use Rattle.std.proofs.Common.{◌≡◌, ℕ, Option, Some, None, Result, Err, L
 use Rattle.std.specs.Prelude.{IsErrOf}
 use Rattle.std.proofs.lemmas.Result.{err_from_is_err_and}
 use Rattle.aig_circuit.specs.Circuit.{Circuit, IsCircuit}
-use Rattle.aig_machine.proofs.Circuits.{IsCircuit-of_file}
-use Rattle.aig_machine.proofs.FileNodes.{few_nodes}
+use Rattle.aig_format.proofs.Circuits.{IsCircuit-of_file}
+use Rattle.aig_format.proofs.Nodes.{few_nodes}
+use Rattle.aig_format.specs.Writable.{IsWritable}
+use Rattle.aig_format_laws.proofs.Writable.{IsWritable-of_file}
 use Rattle.aig_reader.specs.declared.error.ReadError.{ReadError}
 use Rattle.aig_reader.specs.declared.error.ReadError.TheVariants.{Memory, Stream, Header, TooMany, Syntax, Literal, Delta, Name, Open}
 use Rattle.aig_circuit.specs.declared.view.CircuitLists.{CircuitLists}
@@ -52,6 +54,12 @@ returns-clause-few g c =
     let read = c.in_ok-lists.ensures.circuit in
     let same = c.from_lists.ensures ∙ read.3 in
     subst (λ (circuit : Circuit). length circuit.nodes ≤ c.args.limit) (sym same) (few_nodes read.0 c.args.limit read.2.1)
+
+pub returns-clause-writable : goal.returns-clause-writable
+returns-clause-writable g c =
+    let read = c.in_ok-lists.ensures.circuit in
+    let same = c.from_lists.ensures ∙ read.3 in
+    subst IsWritable (sym same) (IsWritable-of_file read.0 c.args.limit read.1 c.requires.few read.2)
 
 pub returns-in_err-lists-clause-exact : goal.returns-in_err-lists-clause-exact
 returns-in_err-lists-clause-exact g c =

@@ -8,9 +8,9 @@ use Rattle.aig.proofs.graph.Aig.get_symbol.Goals as goal
 pub returns-in_ok-clone-in-Some : goal.returns-in_ok-clone-in-Some
 returns-in_ok-clone-in-Some c =
     ap Some c.in_ok-clone-in-Some.ensures.cases ∙ ap (option_map string_bytes) c.in-Some.ensures.value
-    ∙ sym (get_names c.self.inside.symbols.entries c.args.id) ∙ ap (λ (v : Circuit). get v.names c.args.id) c.self.view_is
+    ∙ sym (get_names c.self.inside.lists.names.entries c.args.id) ∙ ap (λ (v : Circuit). get v.names c.args.id) c.self.view_is
 
 pub returns-in-None : goal.returns-in-None
 returns-in-None c =
     ap (option_map string_bytes) c.in-None.ensures.value
-    ∙ sym (get_names c.self.inside.symbols.entries c.args.id) ∙ ap (λ (v : Circuit). get v.names c.args.id) c.self.view_is
+    ∙ sym (get_names c.self.inside.lists.names.entries c.args.id) ∙ ap (λ (v : Circuit). get v.names c.args.id) c.self.view_is

@@ -18,5 +18,5 @@ among_latches P inputs latchs r s first none second = (
 
 pub returns-else-input_has_line_feed : goal.returns-else-input_has_line_feed
 returns-else-input_has_line_feed c =
-    rw (← c.symbols-symbols.ensures, ← c.inputs.ensures, ← c.latchs.ensures)
+    rw (← c.symbols-symbols.ensures.value, ← c.inputs.ensures.value, ← c.latchs.ensures.value)
     (among_latches _ c.inputs.result.now c.latchs.result.now _ _ c.input_has_line_feed.ensures c.if-input_has_line_feed.false c.latch_has_line_feed.ensures)

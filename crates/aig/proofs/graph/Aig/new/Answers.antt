@@ -7,14 +7,16 @@ use Rattle.aig.proofs.graph.Aig.new.Goals as goal
 pub invariant_of-result : goal.invariant_of-result
 invariant_of-result c =
     let e : held_circuit (record {
-      nodes = c.push.new.self;
-      inputs = c.new.result;
-      latchs = c.new-2.result;
-      outputs = c.new-3.result;
-      bads = c.new-4.result;
-      constraints = c.new-5.result;
-      justice = c.new-6.result;
-      fairness = c.new-7.result;
-      symbols = c.new-8.result;
+      lists = record {
+        nodes = c.push.new.self;
+        inputs = c.new.result;
+        latchs = c.new-2.result;
+        outputs = c.new-3.result;
+        bads = c.new-4.result;
+        constraints = c.new-5.result;
+        justice = c.new-6.result;
+        fairness = c.new-7.result;
+        names = c.new-8.result;
+      };
     }) ≡ only_false = search rules in
     subst IsCircuit (sym e) IsCircuit-only_false

@@ -1,18 +1,22 @@
-use Rattle.std.proofs.Common.{subst, ◌∙◌}
+-- The items that the iterator gave are joined, and the circuit stays one.
+use Rattle.std.proofs.Common.{List, subst, ◌∙◌}
 use Rattle.std.proofs.lemmas.Result.{IfOk-weaker}
-use Rattle.aig_circuit.specs.Build.{JoinsByAnd}
+use Rattle.aig_circuit.specs.declared.edge.AigEdge.{AigEdge}
+use Rattle.aig_circuit.specs.Build.{FoldsOrAddsAll, JoinsByAnd}
 use Rattle.aig_circuit.specs.Circuit.{Circuit}
 use Rattle.aig_circuit.proofs.Circuits.{IsCircuit-grown}
+use Rattle.aig.proofs.Results.{IfOk_both}
 use Rattle.aig.proofs.graph.Aig.new_ands_node.Goals as goal
 
 pub invariant_of-self : goal.invariant_of-self
-invariant_of-self g c = IsCircuit-grown _ c.and_of_list.new.nodes.items c.self.invariant c.and_of_list.ensures.gates.grows
+invariant_of-self g c = IsCircuit-grown _ c.new_ands_node.new.nodes.items c.self.invariant c.new_ands_node.ensures.gates.grows
 
 pub returns-clause-joins : goal.returns-clause-joins
 returns-clause-joins g c =
     let items = c.in_ok-edges.ensures in
     let run = items.2 in
-    let new = c.and_of_list.new.nodes.items in
-    IfOk-weaker c.and_of_list.result _ _ (λ e joins.
-    let all = subst (λ es. JoinsByAnd c.self.inside.nodes.items new es e) (c.deref.ensures.value ∙ run.3) joins in
-    (items.0, items.1, (run.0, run.1, run.2, subst (λ (v : Circuit). JoinsByAnd v.nodes new run.0.items e) c.self.view_is all))) c.and_of_list.ensures.joins
+    let new = c.new_ands_node.new.nodes.items in
+    IfOk-weaker c.new_ands_node.result _ _ (λ e both.
+    let all = subst (λ (es : List AigEdge). FoldsOrAddsAll c.self.inside.lists.nodes.items es new e × JoinsByAnd c.self.inside.lists.nodes.items new es e) (c.deref.ensures.value ∙ run.3) both in
+    (items.0, items.1, (run.0, run.1, run.2, subst (λ (v : Circuit). FoldsOrAddsAll v.nodes run.0.items new e × JoinsByAnd v.nodes new run.0.items e) c.self.view_is all)))
+    (IfOk_both c.new_ands_node.result _ _ c.new_ands_node.ensures.rule c.new_ands_node.ensures.joins)

@@ -2,4 +2,4 @@ use Rattle.aig_circuit.proofs.Circuits.{IsCircuit-grown}
 use Rattle.aig.proofs.graph.Aig.new_or_node.Goals as goal
 
 pub invariant_of-self : goal.invariant_of-self
-invariant_of-self c = IsCircuit-grown _ c.or_of_edges.new.nodes.items c.self.invariant c.or_of_edges.ensures.gates.grows
+invariant_of-self c = IsCircuit-grown _ c.new_or_node.new.nodes.items c.self.invariant c.new_or_node.ensures.gates.grows

@@ -21,5 +21,5 @@ returns c = λ latch is.
     let there = subst (λ (v : Circuit). slice_get v.latchs c.args.i ≡ Some latch) (sym c.self.view_is) is in
     let old : c.index.result.now ≡ latch = c.index.ensures ∙ get_or_from_slice_get _ c.args.i latch _ there in
     let new : c.new.result ≡ record latch { init = c.args.e } = rw (c.new.ensures, c.input.ensures, c.next.ensures, old) in
-    ap (λ (l : AigLatch). record (held_circuit c.self.inside) { latchs = set c.self.inside.latchs.items c.args.i l }) new
+    ap (λ (l : AigLatch). record (held_circuit c.self.inside) { latchs = set c.self.inside.lists.latchs.items c.args.i l }) new
     ∙ ap (λ (v : Circuit). record v { latchs = set v.latchs c.args.i (record latch { init = c.args.e }) }) c.self.view_is

@@ -9,7 +9,7 @@ use Rattle.aig.proofs.graph.Aig.set_symbol.Goals as goal
 pub invariant_of-self-2 : goal.invariant_of-self-2
 invariant_of-self-2 c =
     let old = held_circuit c.self.inside in
-    let names = names_insert c.self.inside.symbols.entries c.insert.new.self.entries c.args.id c.in_ok-text.text c.in_ok-insert.ensures.updates.0 ∙ ap (insert old.names c.args.id) c.in_ok-text.ensures.ok in
+    let names = names_insert c.self.inside.lists.names.entries c.insert.new.self.entries c.args.id c.in_ok-text.text c.in_ok-insert.ensures.updates.0 ∙ ap (insert old.names c.args.id) c.in_ok-text.ensures.ok in
     let there = subst (λ (v : Circuit). c.args.id < length v.nodes) (sym c.self.view_is) c.requires in
     subst (λ (m : FinMap nat_cmp (List ℕ)). IsCircuit (record old { names = m })) (sym names)
     (IsCircuit-named old (insert old.names c.args.id c.args.name.now) c.self.invariant (named_insert old.names c.args.id c.args.name.now (length old.nodes) there c.self.invariant.named))
@@ -17,6 +17,6 @@ invariant_of-self-2 c =
 pub returns-clause-ok : goal.returns-clause-ok
 returns-clause-ok c =
     let old = held_circuit c.self.inside in
-    let names = names_insert c.self.inside.symbols.entries c.insert.new.self.entries c.args.id c.in_ok-text.text c.in_ok-insert.ensures.updates.0 ∙ ap (insert old.names c.args.id) c.in_ok-text.ensures.ok in
+    let names = names_insert c.self.inside.lists.names.entries c.insert.new.self.entries c.args.id c.in_ok-text.text c.in_ok-insert.ensures.updates.0 ∙ ap (insert old.names c.args.id) c.in_ok-text.ensures.ok in
     ap (λ (m : FinMap nat_cmp (List ℕ)). record old { names = m }) names
     ∙ ap (λ (v : Circuit). record v { names = insert v.names c.args.id c.args.name.now }) c.self.view_is

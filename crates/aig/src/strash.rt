@@ -1,0 +1,32 @@
+//! Structural hashing.
+
+ghost use Rattle.std.specs.Prelude.{◌≡◌, IfOk};
+ghost use Rattle.aig_circuit.specs.Runs.{KeepsRuns};
+ghost use Rattle.aig_strash.specs.Exchange.{image_of};
+ghost use Rattle.aig_strash.specs.Strash.{KeepsFirsts, MergesTrees, NumbersFirsts, strashed};
+
+use crate::graph::Aig;
+use aig_base::MemoryError;
+
+impl Aig {
+    /// Returns the circuit in which gates share one node exactly where their trees are equal up to the exchange of
+    /// operands, at every depth (crate aig, `strash`, which ends there in a stub).
+    ///
+    /// Kept are false, all leaves and the first gate of each kind, reached or not, in their old order. Lists follow,
+    /// and so do the names of kept nodes. Nothing is folded.
+    pub fn strash(&self) -> Result<Aig, MemoryError>
+        ensures exact { IfOk result (λ made. made ≡ strashed self.now) }
+        // The new number of a node is the count of kept nodes before its first, the least node with its tree.
+        ensures numbers { IfOk result (λ made. NumbersFirsts self.now.nodes (image_of self.now.nodes)) }
+        // Kept nodes have their kinds and their names.
+        ensures kept { IfOk result (λ made. KeepsFirsts self.now made (image_of self.now.nodes)) }
+        // Gates share a node exactly where their trees are equal up to exchange, and each has its image's tree.
+        ensures merges { IfOk result (λ made. MergesTrees self.now made (image_of self.now.nodes)) }
+        // Runs, starts and all values stay, both ways.
+        ensures runs { IfOk result (λ made. KeepsRuns self.now made (image_of self.now.nodes)) }
+        ensures twice { IfOk result (λ made. strashed made ≡ made) }
+    {
+        let lists = aig_strash::strash(&self.view())?;
+        Ok(Aig::from_lists(lists))
+    }
+}

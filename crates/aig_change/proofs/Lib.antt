@@ -1,0 +1,13 @@
+mod Lists
+mod Copies
+mod Values
+pub mod Merging
+pub mod Merged
+mod Grown
+mod Held
+mod FirstStep
+mod First
+mod Moving
+mod Compressing
+mod Constraining
+mod Examples

@@ -1,0 +1,18 @@
+use Rattle.std.proofs.Common.{◌∙◌, ap, sym}
+use Rattle.aig_circuit.specs.Edge.{edge_to}
+use Rattle.aig_circuit.proofs.Building.{AddsGates-then}
+use Rattle.aig_change.proofs.Constraining.{constrained_one}
+use Rattle.aig_change.proofs.starting.constrain.Goals as goal
+
+pub returns-in_ok-push-clause-gates : goal.returns-in_ok-push-clause-gates
+returns-in_ok-push-clause-gates c = AddsGates-then _ _ _ c.in_ok-equal.ensures.gates c.in_ok-implied.ensures.gates
+
+pub returns-in_err-push-clause-gates : goal.returns-in_err-push-clause-gates
+returns-in_err-push-clause-gates c = AddsGates-then _ _ _ c.in_ok-equal.ensures.gates c.in_ok-implied.ensures.gates
+
+pub returns-in_ok-push-clause-constrains : goal.returns-in_ok-push-clause-constrains
+returns-in_ok-push-clause-constrains c =
+    constrained_one c.args.nodes.now.items c.new_eq_node.new.nodes.items c.new_or_node.new.nodes.items c.args.first c.in_ok-equal.equal c.in_ok-implied.implied c.not.result c.from.result c.in-Some.start c.args.latch c.args.constraints.now.items c.push.new.self.items
+    c.requires.sound c.requires.first_edge c.requires.latch (sym c.init.ensures ∙ c.in-Some.is) (λ e. c.if-node_id-ne0.true (c.node_id.ensures ∙ e))
+    c.in_ok-equal.ensures.gates c.in_ok-equal.ensures.value (c.from.ensures ∙ ap (λ n. edge_to n _) c.input.ensures)
+    c.in_ok-implied.ensures.edge c.in_ok-implied.ensures.value c.not.ensures c.in_ok-push.ensures.items

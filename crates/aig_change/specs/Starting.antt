@@ -1,0 +1,34 @@
+-- Constraints that say in place of initial edges that aren't constant what those say.
+use Rattle.std.specs.Prelude.{◌≡◌, ◌≢◌, ◌==◌, ℕ, ◌++◌, ◌↔◌, Bool, true, false, not, Option, Some, None, IsTrue, IfSome, List, All, filter}
+use Rattle.std.specs.List.{AllZip}
+use Rattle.aig_circuit.specs.declared.edge.AigEdge.{AigEdge}
+use Rattle.aig_circuit.specs.declared.node.AigLatch.{AigLatch}
+use Rattle.aig_circuit.specs.declared.node.AigNode.{AigNode}
+use Rattle.aig_circuit.specs.Tree.{edge_value}
+use Rattle.aig_circuit.specs.Circuit.{IsInRange}
+
+-- an initial edge that isn't constant has the latch's value
+abbrev pub OpenBegins : List AigNode → (ℕ → Bool) → AigLatch → Type 0
+OpenBegins nodes x latch = IfSome latch.init (λ e. e.node_id ≢ 0 → edge_value nodes x e ≡ x latch.input)
+
+-- the initial edge is there and isn't constant
+abbrev pub is_variable : Option AigEdge → Bool
+is_variable (Some e) = not (e.node_id == 0)
+is_variable None = false
+
+-- the latches whose initial edges aren't constant
+abbrev pub variable_latchs : List AigLatch → List AigLatch
+variable_latchs latchs = filter (λ latch. is_variable latch.init) latchs
+
+-- the constraint holds exactly where the edge `first` implies that the latch has the value of its initial edge
+abbrev pub SaysStart : List AigNode → List AigNode → AigEdge → AigEdge → AigLatch → Type 0
+SaysStart old new first constraint latch = (x : ℕ → Bool) → IsTrue (edge_value new x constraint) ↔ (edge_value old x first ≡ true → OpenBegins old x latch)
+
+-- Constraints are appended, one for each latch whose initial edge isn't constant. They all hold exactly where the edge `first` implies that
+-- each of these latches has the value of its initial edge.
+pub record Constrains (old new : List AigNode) (first : AigEdge) (latchs : List AigLatch) (before after : List AigEdge) : Type 0 where
+  pub constrained : List AigEdge
+  pub appended : after ≡ before ++ constrained
+  pub there : All (IsInRange new) constrained
+  pub says : (x : ℕ → Bool) → All (λ e. IsTrue (edge_value new x e)) constrained ↔ (edge_value old x first ≡ true → All (OpenBegins old x) latchs)
+  pub each : AllZip (SaysStart old new first) constrained (variable_latchs latchs)

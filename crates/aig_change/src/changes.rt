@@ -1,0 +1,105 @@
+//! Circuits that are made by a change.
+
+ghost use Rattle.std.specs.Prelude.{◌≡◌, IfOk, IsOk, OnErr, All};
+ghost use Rattle.aig_circuit.specs.Circuit.{IsCircuit};
+ghost use Rattle.aig_circuit.specs.Edges.{HasPlainInit};
+ghost use Rattle.aig_circuit.specs.View.{lists_circuit};
+ghost use Rattle.aig_change.specs.Merge.{merged};
+ghost use Rattle.aig_change.specs.Changes.{CompressesBads, GatesStarts, MovesConstraints};
+
+use crate::behind;
+use crate::behind::push_within_capacity;
+use crate::joining::{inverses, join_first};
+use crate::starting::{are_plain, constrain_starts, make_plain};
+use aig_base::MemoryError;
+use aig_circuit::build::{new_and_node, new_ands_node, new_leaf_node};
+use aig_circuit::{AigEdge, AigLatch, CircuitLists, CircuitView};
+use std::mem;
+
+/// Appends the nodes of the other circuit but 0, and all its lists: its number `x > 0` becomes `x + num_nodes - 1`. No
+/// name of the other comes along (crate aig, `merge`). All growths are reserved before the first change, so that after an
+/// `Err`, which is refused memory, the circuit is as it was.
+pub fn merge(first: &mut CircuitLists, other: &CircuitView<'_>) -> Result<(), MemoryError>
+    requires { IsCircuit (lists_circuit first.old) }
+    ensures merged { IfOk result (λ _. lists_circuit first.new ≡ merged (lists_circuit first.old) other.now) }
+    ensures err { OnErr result (lists_circuit first.new ≡ lists_circuit first.old) }
+{
+    let count = first.nodes.len();
+    let size = other.nodes().len();
+    let mut justice = behind::sets(other.allocator(), count, size, other.justice())?;
+    behind::reserve(first, other)?;
+    first.justice.append(&mut justice)?;
+    behind::nodes(&mut first.nodes, other.nodes());
+    behind::inputs(&mut first.inputs, count, size, other.inputs());
+    behind::latchs(&mut first.latchs, count, size, other.latchs());
+    behind::edges(&mut first.outputs, count, size, other.outputs());
+    behind::edges(&mut first.bads, count, size, other.bads());
+    behind::edges(&mut first.constraints, count, size, other.constraints());
+    behind::edges(&mut first.fairness, count, size, other.fairness());
+    Ok(())
+}
+
+/// Returns the circuit with its constraints joined to the first bad and the first output edge, and none left (crate aig,
+/// `aig_move`). A latch is added that is true at a start and stays so while all constraints hold. The one error is
+/// refused memory.
+pub fn aig_move(circuit: &CircuitView<'_>) -> Result<CircuitLists, MemoryError>
+    ensures circuit { IfOk result (λ lists. IsCircuit (lists_circuit lists)) }
+    ensures moves { IfOk result (λ lists. MovesConstraints circuit.now (lists_circuit lists)) }
+{
+    let constraints = circuit.constraints();
+    let mut lists = circuit.to_lists()?;
+    let leaf = new_leaf_node(&mut lists.nodes)?;
+    let constraint = new_ands_node(&mut lists.nodes, constraints)?;
+    let next = new_and_node(&mut lists.nodes, AigEdge::from(leaf), constraint)?;
+    lists
+        .latchs
+        .push(AigLatch::new(leaf, next, Some(AigEdge::constant(true))))?;
+    join_first(&mut lists.nodes, &mut lists.bads, next)?;
+    join_first(&mut lists.nodes, &mut lists.outputs, next)?;
+    lists.constraints.clear();
+    Ok(lists)
+}
+
+/// Makes one bad edge of all, their or, and returns the old ones in order (crate aig, `compress_property`). After an
+/// `Err`, which is refused memory, the circuit is as it was.
+pub fn compress_property(lists: &mut CircuitLists) -> Result<Vec<AigEdge>, MemoryError>
+    requires { IsCircuit (lists_circuit lists.old) }
+    ensures circuit { IsCircuit (lists_circuit lists.new) }
+    ensures compresses { IfOk result (λ _. CompressesBads (lists_circuit lists.old) (lists_circuit lists.new)) }
+    ensures old { IfOk result (λ bads. bads.items ≡ (lists_circuit lists.old).bads) }
+    ensures err { OnErr result (lists_circuit lists.new ≡ lists_circuit lists.old) }
+{
+    let alloc = *lists.nodes.allocator();
+    let inverted = inverses(alloc, &lists.bads)?;
+    let mut bads = vec![in alloc; AigEdge::constant(false); 1]?;
+    bads[0] = !new_ands_node(&mut lists.nodes, &inverted)?;
+    Ok(mem::replace(&mut lists.bads, bads))
+}
+
+/// Says initial edges that aren't constant by constraints, with a latch more that is true at a start and false from then
+/// on (crate aig, `gate_init_to_constraint`). Where every initial edge is constant or none, nothing changes. After an
+/// `Err`, which is refused memory, the circuit is as it was.
+pub fn gate_init_to_constraint(lists: &mut CircuitLists) -> Result<(), MemoryError>
+    requires { IsCircuit (lists_circuit lists.old) }
+    ensures circuit { IsCircuit (lists_circuit lists.new) }
+    ensures starts { IfOk result (λ _. GatesStarts (lists_circuit lists.old) (lists_circuit lists.new)) }
+    // Where there is nothing to change no memory is taken.
+    ensures plain { All HasPlainInit (lists_circuit lists.old).latchs → IsOk result }
+    ensures err { OnErr result (lists_circuit lists.new ≡ lists_circuit lists.old) }
+{
+    if are_plain(&lists.latchs) {
+        return Ok(());
+    }
+    lists.latchs.reserve(1)?;
+    let leaf = constrain_starts(&mut lists.nodes, &mut lists.constraints, &lists.latchs)?;
+    make_plain(&mut lists.latchs);
+    push_within_capacity(
+        &mut lists.latchs,
+        AigLatch::new(
+            leaf,
+            AigEdge::constant(false),
+            Some(AigEdge::constant(true)),
+        ),
+    );
+    Ok(())
+}

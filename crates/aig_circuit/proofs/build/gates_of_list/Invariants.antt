@@ -1,9 +1,0 @@
-use Rattle.std.proofs.Common.{◌≡◌, ◌+◌, ◌∷◌, length, take}
-use Rattle.aig_circuit.proofs.Joining.{AndSoFar}
-use Rattle.aig_circuit.proofs.build.gates_of_list.Given as goal
-
-abbrev pub invariant-loop-fanin : goal.invariant-loop-fanin
-invariant-loop-fanin l = record {
-  joined : AndSoFar l.fn.nodes.items l.nodes.items (l.initial.all ∷ take l.fanin-index l.rest) l.all;
-  count : length l.nodes.items ≡ length l.fn.nodes.items + l.fanin-index;
-}

@@ -1,0 +1,17 @@
+use Rattle.std.proofs.Common.{◌≡◌, sym, ap, subst, ◌∙◌}
+use Rattle.std.specs.Prelude.{IfOk}
+use Rattle.aig_circuit.specs.declared.edge.AigEdge.{AigEdge}
+use Rattle.aig_circuit.specs.Edge.{inverse}
+use Rattle.aig_circuit.specs.Build.{Folds, FoldsOrAdds}
+use Rattle.aig_circuit.proofs.Joining.{inverse_twice}
+use Rattle.aig_circuit.proofs.build.new_imply_node.Goals as goal
+
+pub returns-clause-rule : goal.returns-clause-rule
+returns-clause-rule c =
+    let same : inverse c.not.result ≡ c.args.fanin0 = ap inverse c.not.ensures ∙ inverse_twice c.args.fanin0 in
+    subst (λ (a : AigEdge). IfOk c.new_or_node.result (λ e. FoldsOrAdds c.args.nodes.now.items c.new_or_node.new.nodes.items a (inverse c.args.fanin1) (inverse e))) same c.new_or_node.ensures.rule
+
+pub returns-clause-folds : goal.returns-clause-folds
+returns-clause-folds c =
+    let same : inverse c.not.result ≡ c.args.fanin0 = ap inverse c.not.ensures ∙ inverse_twice c.args.fanin0 in
+    λ f h. c.new_or_node.ensures.folds f (subst (λ (a : AigEdge). Folds a (inverse c.args.fanin1) f) (sym same) h)

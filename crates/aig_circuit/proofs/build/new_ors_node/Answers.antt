@@ -1,0 +1,15 @@
+use Rattle.std.proofs.Common.{◌≡◌, map, ◌∙◌}
+use Rattle.aig_circuit.specs.Edge.{inverse}
+use Rattle.aig_circuit.specs.Build.{JoinsByAnd}
+use Rattle.aig_circuit.proofs.Joining.{All-inverse, JoinsByOr-inverse}
+use Rattle.aig_circuit.proofs.build.new_ors_node.Goals as goal
+
+pub new_ands_node-requires-clause-edges : goal.new_ands_node-requires-clause-edges
+new_ands_node-requires-clause-edges c = rw (c.deref.ensures.value, c.in_ok-inverses.ensures) (All-inverse c.args.nodes.now.items c.args.fanins.now c.requires.edges)
+
+pub returns-clause-joins : goal.returns-clause-joins
+returns-clause-joins c =
+    let edges : c.deref.result.now ≡ map inverse c.args.fanins.now = c.deref.ensures.value ∙ c.in_ok-inverses.ensures in
+    let all : JoinsByAnd c.args.nodes.now.items c.new_ands_node.new.nodes.items (map inverse c.args.fanins.now) c.in_ok-new_ands_node.field-0 = rw edges at c.in_ok-new_ands_node.ensures.joins in
+    let any = JoinsByOr-inverse c.args.nodes.now.items c.new_ands_node.new.nodes.items c.args.fanins.now c.in_ok-new_ands_node.field-0 all in
+    rw c.not.ensures any

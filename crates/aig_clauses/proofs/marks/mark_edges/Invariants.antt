@@ -1,6 +1,0 @@
-use Rattle.std.proofs.Common.{take}
-use Rattle.aig_clauses.specs.Marks.{MarksToo}
-use Rattle.aig_clauses.proofs.marks.mark_edges.Given as goal
-
-abbrev pub invariant-loop-e : goal.invariant-loop-e
-invariant-loop-e l = MarksToo l.initial.marks l.marks (take l.e-index l.edges)

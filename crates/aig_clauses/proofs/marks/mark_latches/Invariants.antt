@@ -1,8 +1,0 @@
-use Rattle.std.proofs.Common.{take}
-use Rattle.std.specs.List.{flat_map}
-use Rattle.aig_clauses.specs.Cnf.{latch_edges}
-use Rattle.aig_clauses.specs.Marks.{MarksToo}
-use Rattle.aig_clauses.proofs.marks.mark_latches.Given as goal
-
-abbrev pub invariant-loop-latch : goal.invariant-loop-latch
-invariant-loop-latch l = MarksToo l.initial.marks l.marks (flat_map latch_edges (take l.latch-index l.latchs))

@@ -1,0 +1,47 @@
+use Rattle.std.proofs.Common.{List, Vec, Global, ◌++◌, subst, sym, ap, ◌∙◌, arith}
+use Rattle.std.specs.Prelude.{All}
+use Rattle.std.specs.List.{flat_map}
+use Rattle.std.proofs.lemmas.List.Folds.{flat_map-map}
+use Rattle.aig_circuit.specs.declared.edge.AigEdge.{AigEdge}
+use Rattle.aig_circuit.specs.declared.node.AigLatch.{AigLatch}
+use Rattle.aig_circuit.specs.Circuit.{IsInRange}
+use Rattle.aig_circuit.specs.Edges.{latch_edges}
+use Rattle.aig_circuit.specs.Marks.{MarksToo}
+use Rattle.aig_circuit.proofs.Marking.{MarksToo-then}
+use Rattle.aig_cnf.proofs.Needing.{sets_in_range}
+use Rattle.aig_cnf.proofs.marks.mark_roots.Goals as goal
+
+pub mark_sets-requires : goal.mark_sets-requires
+mark_sets-requires c k d h i e l =
+    let nodes = c.args.circuit.now.nodes in
+    let sets = c.justice.result.now in
+    let there = subst (All (All (IsInRange nodes))) (sym c.justice.ensures.value) c.requires.circuit.justice in
+    omega (arith, sets_in_range nodes sets there k d h i e l)
+
+pub returns : goal.returns
+returns c =
+    let v = c.args.circuit.now in
+    let items = λ (set : Vec AigEdge Global). set.items in
+    let whole = λ (set : List AigEdge). set in
+    let sets = flat_map whole v.justice in
+    let start = c.args.marks.now in
+    let one = c.mark_edges.new.marks in
+    let two = c.mark_edges-2.new.marks in
+    let three = c.mark_edges-3.new.marks in
+    let four = c.mark_sets.new.marks in
+    let five = c.mark_edges-4.new.marks in
+    let six = c.mark_latches.new.marks in
+    let marks_outputs = subst (MarksToo start one) c.outputs.ensures.value c.mark_edges.ensures in
+    let marks_bads = subst (MarksToo one two) c.bads.ensures.value c.mark_edges-2.ensures in
+    let marks_constraints = subst (MarksToo two three) c.constraints.ensures.value c.mark_edges-3.ensures in
+    let marks_sets = subst (MarksToo three four) (sym (flat_map-map whole items c.justice.result.now) ∙ ap (flat_map whole) c.justice.ensures.value) c.mark_sets.ensures in
+    let marks_fairness = subst (MarksToo four five) c.fairness.ensures.value c.mark_edges-4.ensures in
+    let marks_latches = subst (λ (latchs : List AigLatch). MarksToo five six (flat_map latch_edges latchs)) c.latchs.ensures.value c.mark_latches.ensures in
+    let bads = v.outputs ++ v.bads in
+    let constraints = bads ++ v.constraints in
+    let justice = constraints ++ sets in
+    let to_bads = MarksToo-then start one two v.outputs v.bads marks_outputs marks_bads in
+    let to_constraints = MarksToo-then start two three bads v.constraints to_bads marks_constraints in
+    let to_justice = MarksToo-then start three four constraints sets to_constraints marks_sets in
+    let to_fairness = MarksToo-then start four five justice v.fairness to_justice marks_fairness in
+    MarksToo-then start five six (justice ++ v.fairness) (flat_map latch_edges v.latchs) to_fairness marks_latches

@@ -1,0 +1,117 @@
+-- Marks that are set, and the marks of what is reached along operands.
+use Rattle.std.proofs.Common.{◌≡◌, ℕ, ◌+◌, ◌<◌, ◌≤◌, ◌⊎◌, ◌↔◌, Bool, true, List, [], ◌∷◌, ◌++◌, length, map, take, get_or, set, get_or-set_other, get_or-set_same, sym, ap, subst, ◌∙◌, arith, inl, inr}
+use Rattle.std.specs.Prelude.{Contains}
+use Rattle.std.proofs.lemmas.Bool.{cases_eq, cases_lt}
+use Rattle.std.proofs.lemmas.List.{map-append, take_more, take_all}
+use Rattle.std.proofs.lemmas.List.Elements.{Contains-append_left, Contains-push, Contains-push_cases}
+use Rattle.aig_circuit.specs.declared.edge.AigEdge.{AigEdge}
+use Rattle.aig_circuit.specs.declared.node.AigNodeType.TheVariants.{And}
+use Rattle.aig_circuit.specs.declared.node.AigNode.{AigNode}
+use Rattle.aig_circuit.specs.Node.{IsOrdered}
+use Rattle.aig_circuit.specs.Reach.{IsOperand, IsReached, root, step}
+use Rattle.aig_circuit.proofs.Trees.{kind_at-within}
+use Rattle.aig_cone.specs.Marks.{IsMarked, MarksAlso}
+
+-- a mark that is set, and the others as they were
+pub MarksAlso-set : (marks : List Bool) (i : ℕ) → i < length marks → MarksAlso marks (set marks i true) (λ n. n ≡ i)
+MarksAlso-set marks i h n = elim (cases_eq n i) [
+  | inl e ↦ (λ m. inr e, λ m. rw (e, get_or-set_same))
+  | inr ne ↦ (λ m. inl (rw get_or-set_other at m), λ m. elim m [ inl old ↦ rw get_or-set_other old | inr e ↦ absurd (ne e) ])
+]
+
+pub MarksAlso-then : (P Q : ℕ → Type 0) (a b c : List Bool) → MarksAlso a b P → MarksAlso b c Q → MarksAlso a c (λ n. P n ⊎ Q n)
+MarksAlso-then P Q a b c p q n = (
+  λ m. elim ((q n).0 m) [
+    | inl in_b ↦ elim ((p n).0 in_b) [ inl in_a ↦ inl in_a | inr h ↦ inr (inl h) ]
+    | inr h ↦ inr (inr h)
+  ],
+  λ m. elim m [
+    | inl in_a ↦ (q n).1 (inl ((p n).1 (inl in_a)))
+    | inr h ↦ elim h [ inl l ↦ (q n).1 (inl ((p n).1 (inr l))) | inr r ↦ (q n).1 (inr r) ]
+  ],
+)
+
+pub MarksAlso-same : (P Q : ℕ → Type 0) (a b : List Bool) → ((n : ℕ) → P n ↔ Q n) → MarksAlso a b P → MarksAlso a b Q
+MarksAlso-same P Q a b same p n = (
+  λ m. elim ((p n).0 m) [ inl old ↦ inl old | inr h ↦ inr ((same n).0 h) ],
+  λ m. elim m [ inl old ↦ (p n).1 (inl old) | inr h ↦ (p n).1 (inr ((same n).1 h)) ],
+)
+
+pub MarksAlso-none : (P : ℕ → Type 0) (a : List Bool) → ((n : ℕ) → ¬ P n) → MarksAlso a a P
+MarksAlso-none P a none n = (λ m. inl m, λ m. elim m [ inl old ↦ old | inr h ↦ absurd (none n h) ])
+
+-- all of a list
+pub take-whole : {X : Type 0} (xs : List X) (i : ℕ) → length xs ≤ i → take i xs ≡ xs
+take-whole xs i h = take_all i xs h
+
+-- a list with one number more
+pub Contains-one_more : (xs : List ℕ) (x n : ℕ) → (Contains xs n ⊎ (n ≡ x)) ↔ Contains (xs ++ x ∷ []) n
+Contains-one_more xs x n = (
+  λ m. elim m [ inl had ↦ Contains-append_left xs (x ∷ []) n had | inr e ↦ rw e (Contains-push xs x) ],
+  λ m. elim (Contains-push_cases xs x n m) [ inl had ↦ inl had | inr e ↦ inr (sym e) ],
+)
+
+pub Contains-more : (xs : List ℕ) (i d x : ℕ) → i < length xs → get_or xs i d ≡ x → (n : ℕ) → (Contains (take i xs) n ⊎ (n ≡ x)) ↔ Contains (take (i + 1) xs) n
+Contains-more xs i d x h is n =
+    let more : take (i + 1) xs ≡ take i xs ++ x ∷ [] = take_more xs i d h ∙ ap (λ y. take i xs ++ y ∷ []) is in
+    let one = Contains-one_more (take i xs) x n in
+    (λ m. subst (λ ys. Contains ys n) (sym more) (one.0 m), λ m. one.1 (subst (λ ys. Contains ys n) more m))
+
+-- the node of one edge more
+pub MarksAlso-more : (es : List AigEdge) (i : ℕ) (d : AigEdge) (a b : List Bool) → i < length es → (get_or es i d).node_id < length b
+    → MarksAlso a b (Contains (map (λ (e : AigEdge). e.node_id) (take i es))) → MarksAlso a (set b (get_or es i d).node_id true) (Contains (map (λ (e : AigEdge). e.node_id) (take (i + 1) es)))
+MarksAlso-more es i d a b h there so_far =
+    let node = λ (e : AigEdge). e.node_id in
+    let id = node (get_or es i d) in
+    let more : map node (take (i + 1) es) ≡ map node (take i es) ++ id ∷ [] = ap (map node) (take_more es i d h) ∙ map-append node (take i es) (get_or es i d ∷ []) in
+    subst (λ ns. MarksAlso a (set b id true) (Contains ns)) (sym more)
+    (MarksAlso-same (λ n. Contains (map node (take i es)) n ⊎ (n ≡ id)) (Contains (map node (take i es) ++ id ∷ [])) a (set b id true)
+    (λ n. Contains-one_more (map node (take i es)) id n)
+    (MarksAlso-then (Contains (map node (take i es))) (λ n. n ≡ id) a b (set b id true) so_far (MarksAlso-set b id there)))
+
+-- ---- along operands
+
+-- the roots are marked, and from node i on the operands of what is marked; nothing else is
+pub record MarkedDownTo (nodes : List AigNode) (roots : List ℕ) (marks : List Bool) (i : ℕ) : Type 0 where
+  pub only : (n : ℕ) → IsMarked marks n → IsReached (IsOperand nodes) roots n
+  pub roots_marked : (n : ℕ) → Contains roots n → IsMarked marks n
+  pub closed : (n m : ℕ) → i ≤ n → IsMarked marks n → IsOperand nodes n m → IsMarked marks m
+
+operand_below : (nodes : List AigNode) → IsOrdered nodes → (n m : ℕ) → IsOperand nodes n m → m < n
+operand_below nodes o n m (a, b, kind, inl is) = let low = o.first_before n a b kind in omega arith
+operand_below nodes o n m (a, b, kind, inr is) = let low = o.second_before n a b kind in omega arith
+
+gate_within : (nodes : List AigNode) (n m : ℕ) → IsOperand nodes n m → n < length nodes
+gate_within nodes n m (a, b, kind, which) = kind_at-within nodes n (And a b) kind
+
+pub MarkedDownTo-start : (nodes : List AigNode) (roots : List ℕ) (old new : List Bool) → ((n : ℕ) → ¬ IsMarked old n) → MarksAlso old new (Contains roots) → MarkedDownTo nodes roots new (length nodes)
+MarkedDownTo-start nodes roots old new none marked = record {
+  only = λ n m. elim ((marked n).0 m) [ inl was ↦ absurd (none n was) | inr h ↦ root h ];
+  roots_marked = λ n h. (marked n).1 (inr h);
+  closed = λ n m h is operand. let low = gate_within nodes n m operand in absurd (omega arith);
+}
+
+pub MarkedDownTo-step : (nodes : List AigNode) (roots : List ℕ) (old new : List Bool) (i : ℕ) → IsOrdered nodes → MarkedDownTo nodes roots old (i + 1) → MarksAlso old new (λ n. IsMarked old i × IsOperand nodes i n) → MarkedDownTo nodes roots new i
+MarkedDownTo-step nodes roots old new i o d marked = record {
+  only = λ n m. elim ((marked n).0 m) [ inl was ↦ d.only n was | inr p ↦ step (d.only i p.0) p.1 ];
+  roots_marked = λ n h. (marked n).1 (inl (d.roots_marked n h));
+  closed = λ n m h is operand. elim (cases_lt i n) [
+    | inl above ↦ elim ((marked n).0 is) [
+      | inl was ↦ (marked m).1 (inl (d.closed n m (omega arith) was operand))
+      | inr p ↦ absurd (omega (arith, operand_below nodes o i n p.1))
+    ]
+    | inr not_above ↦
+        (let same : n ≡ i = omega arith in
+        let here = subst (λ k. IsMarked new k) same is in
+        let operand_i = subst (λ k. IsOperand nodes k m) same operand in
+        elim ((marked i).0 here) [
+          | inl was ↦ (marked m).1 (inr (was, operand_i))
+          | inr p ↦ absurd (omega (arith, operand_below nodes o i i p.1))
+        ])
+  ];
+}
+
+-- all that is reached is marked in the end
+pub reached_is_marked : (nodes : List AigNode) (roots : List ℕ) (marks : List Bool) → MarkedDownTo nodes roots marks 0 → (n : ℕ) → IsReached (IsOperand nodes) roots n → IsMarked marks n
+reached_is_marked nodes roots marks d n (root h) = d.roots_marked n h
+reached_is_marked nodes roots marks d n (step {n = k} reached operand) = d.closed k n (omega arith) (reached_is_marked nodes roots marks d k reached) operand

@@ -1,0 +1,97 @@
+-- The marked numbers, and the map of the kept ones.
+use Rattle.std.proofs.Common.{◌≡◌, ◌≢◌, ℕ, zero, suc, ◌+◌, ◌<◌, ◌≤◌, ◌⊎◌, ◌↔◌, Bool, true, false, cond, nat_cmp, nat_eq, Some, List, [], ◌∷◌, ◌++◌, length, take, get_or, sym, ap, subst, ◌∙◌, arith, inl, inr}
+use Rattle.std.specs.Prelude.{slice_get}
+use Rattle.std.specs.Ordering.{eq_by_cmp}
+use Rattle.std.specs.FinMap.{FinMap, get, insert, get-insert}
+use Rattle.std.proofs.lemmas.Bool.{cases_eq, cases_lt, eq-eqb, false≢true, ne_eqb}
+use Rattle.std.proofs.lemmas.Cmp.{nat_cmp_total}
+use Rattle.std.proofs.lemmas.List.{get_or-take, length-take}
+use Rattle.std.proofs.lemmas.List.Elements.{Contains-append_left, Contains-get_or, Contains-push, Contains-push_cases}
+use Rattle.std.proofs.lemmas.List.Quantifiers.{all_pairs_push}
+use Rattle.std.proofs.lemmas.Option.{slice_get-get_or, slice_get_past}
+use Rattle.aig_base.proofs.Mapping.{same_test}
+use Rattle.aig_cone.specs.Marks.{AreMarked, IsMarked}
+
+-- a mark that is there
+pub marked_within : (marks : List Bool) (n : ℕ) → IsMarked marks n → n < length marks
+marked_within [] n h = absurd (false≢true h)
+marked_within (b ∷ bs) zero h = omega arith
+marked_within (b ∷ bs) (suc n) h = let rest = marked_within bs n h in omega arith
+
+-- of one mark more
+marked-more : (marks : List Bool) (i n : ℕ) → IsMarked (take (i + 1) marks) n ↔ (IsMarked (take i marks) n ⊎ ((n ≡ i) × IsMarked marks i))
+marked-more marks i n = (forth, back)
+  where
+    forth : IsMarked (take (i + 1) marks) n → IsMarked (take i marks) n ⊎ ((n ≡ i) × IsMarked marks i)
+    forth h =
+        let within = marked_within (take (i + 1) marks) n h in
+        let low : n < i + 1 = omega (arith, length-take (i + 1) marks) in
+        let here : IsMarked marks n = rw get_or-take at h in
+        elim (cases_lt n i) [
+          | inl less ↦ inl (rw get_or-take here)
+          | inr more ↦ (let same : n ≡ i = omega arith in inr (same, subst (IsMarked marks) same here))
+        ]
+
+    back : IsMarked (take i marks) n ⊎ ((n ≡ i) × IsMarked marks i) → IsMarked (take (i + 1) marks) n
+    back (inl h) =
+        let within = marked_within (take i marks) n h in
+        let less : n < i = omega (arith, length-take i marks) in
+        let low : n < i + 1 = omega arith in
+        let here : IsMarked marks n = rw get_or-take at h in
+        rw get_or-take here
+    back (inr (same, h)) =
+        let low : n < i + 1 = omega arith in
+        rw get_or-take (subst (IsMarked marks) (sym same) h)
+
+pub AreMarked-push : (marks : List Bool) (i : ℕ) (before after : List ℕ) → i < length marks → get_or marks i false ≡ true → after ≡ before ++ i ∷ [] → AreMarked (take i marks) before → AreMarked (take (i + 1) marks) after
+AreMarked-push marks i before after h is pushed are = subst (AreMarked (take (i + 1) marks)) (sym pushed) (record {
+  rising = all_pairs_push (λ m n. m < n) before i are.rising (λ k d low.
+      let marked = (are.exactly (get_or before k d)).0 (Contains-get_or before k d low) in
+      let within = marked_within (take i marks) (get_or before k d) marked in
+      omega (arith, length-take i marks));
+  exactly = λ n. (
+    λ has. (marked-more marks i n).1 (elim (Contains-push_cases before i n has) [ inl had ↦ inl ((are.exactly n).0 had) | inr e ↦ inr (sym e, is) ]),
+    λ marked. elim ((marked-more marks i n).0 marked) [
+      | inl was ↦ Contains-append_left before (i ∷ []) n ((are.exactly n).1 was)
+      | inr here ↦ rw here.0 (Contains-push before i)
+    ],
+  );
+})
+
+pub AreMarked-skip : (marks : List Bool) (i : ℕ) (before after : List ℕ) → i < length marks → get_or marks i false ≡ false → after ≡ before → AreMarked (take i marks) before → AreMarked (take (i + 1) marks) after
+AreMarked-skip marks i before after h isnt same are = subst (AreMarked (take (i + 1) marks)) (sym same) (record {
+  rising = are.rising;
+  exactly = λ n. (
+    λ has. (marked-more marks i n).1 (inl ((are.exactly n).0 has)),
+    λ marked. elim ((marked-more marks i n).0 marked) [ inl was ↦ (are.exactly n).1 was | inr here ↦ absurd (false≢true (sym isnt ∙ here.1)) ],
+  );
+})
+
+-- the map of one number more
+pub get-more : (kept : List ℕ) (i : ℕ) (m : FinMap nat_cmp ℕ) → i < length kept → ((n : ℕ) → get m n ≡ slice_get (take i kept) n) → (n : ℕ) → get (insert m i (get_or kept i 0)) n ≡ slice_get (take (i + 1) kept) n
+get-more kept i m h so_far n = get-insert nat_cmp_total m i (get_or kept i 0) n ∙ at (cases_eq n i)
+  where
+    long : length (take i kept) ≡ i
+    long = omega (arith, length-take i kept)
+
+    longer : length (take (i + 1) kept) ≡ i + 1
+    longer = omega (arith, length-take (i + 1) kept)
+
+    same_elsewhere : n ≢ i → (n < i) ⊎ (i ≤ n) → slice_get (take i kept) n ≡ slice_get (take (i + 1) kept) n
+    same_elsewhere ne (inl low) =
+        let less : n < i + 1 = omega arith in
+        slice_get-get_or (take i kept) n 0 (omega (arith, long))
+        ∙ ap Some (get_or-take i kept n 0 low ∙ sym (get_or-take (i + 1) kept n 0 less))
+        ∙ sym (slice_get-get_or (take (i + 1) kept) n 0 (omega (arith, longer)))
+    same_elsewhere ne (inr high) = slice_get_past (take i kept) n (omega (arith, long)) ∙ sym (slice_get_past (take (i + 1) kept) n (omega (arith, longer)))
+
+    at : (n ≡ i) ⊎ (n ≢ i) → cond (eq_by_cmp nat_cmp n i) (Some (get_or kept i 0)) (get m n) ≡ slice_get (take (i + 1) kept) n
+    at (inl e) =
+        let same : nat_eq n i ≡ true = eq-eqb n i e in
+        let last : slice_get (take (i + 1) kept) n ≡ Some (get_or (take (i + 1) kept) n 0) = slice_get-get_or (take (i + 1) kept) n 0 (omega (arith, longer)) in
+        let low : n < i + 1 = omega arith in
+        let value : get_or (take (i + 1) kept) n 0 ≡ get_or kept i 0 = get_or-take (i + 1) kept n 0 low ∙ ap (λ j. get_or kept j 0) e in
+        ap (λ b. cond b (Some (get_or kept i 0)) (get m n)) (same_test n i ∙ same) ∙ sym (last ∙ ap Some value)
+    at (inr ne) =
+        let differs : nat_eq n i ≡ false = ne_eqb n i ne in
+        ap (λ b. cond b (Some (get_or kept i 0)) (get m n)) (same_test n i ∙ differs) ∙ so_far n ∙ same_elsewhere ne (cases_lt n i)

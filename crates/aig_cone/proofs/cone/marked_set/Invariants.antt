@@ -1,0 +1,8 @@
+use Rattle.std.proofs.Common.{ℕ, ◌↔◌, take, IsTrue}
+use Rattle.std.specs.Prelude.{nat_eq}
+use Rattle.std.specs.HashSet as bag
+use Rattle.aig_cone.specs.Marks.{IsMarked}
+use Rattle.aig_cone.proofs.cone.marked_set.Given as goal
+
+abbrev pub invariant-loop-id : goal.invariant-loop-id
+invariant-loop-id l = (q : ℕ) → IsTrue (bag.contains nat_eq l.set q) ↔ IsMarked (take l.id l.marks) q

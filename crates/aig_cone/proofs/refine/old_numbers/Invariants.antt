@@ -1,0 +1,7 @@
+use Rattle.std.proofs.Common.{◌≡◌, ℕ, take}
+use Rattle.std.specs.Prelude.{slice_get}
+use Rattle.std.specs.FinMap.{get}
+use Rattle.aig_cone.proofs.refine.old_numbers.Given as goal
+
+abbrev pub invariant-loop-i : goal.invariant-loop-i
+invariant-loop-i l = (n : ℕ) → get l.map n ≡ slice_get (take l.i l.kept) n

@@ -1,0 +1,236 @@
+-- The numbers of variables.
+use Rattle.std.proofs.Common.{◌≡◌, ℕ, zero, suc, ◌+◌, ◌*◌, ◌/◌, ◌%◌, ◌<◌, ◌≤◌, Bool, true, false, cond, eqb, ◌||◌, List, [], ◌∷◌, ◌++◌, length, map, refl, sym, ap, subst, ◌∙◌, arith}
+use Rattle.std.specs.Prelude.{nat_eq, ◌==◌, find, slice_index, Some}
+use Rattle.std.specs.List.{AllByRecursion, IsDistinct, list_any, flat_map}
+use Rattle.std.proofs.lemmas.Bool.{eqb-true, eqb-false, ne_eqb, false≢true, true_from_ne_false, or_parts}
+use Rattle.std.proofs.lemmas.List.{length-map}
+use Rattle.std.proofs.lemmas.Map.Steps.{length-le_from_distinct_below}
+use Rattle.aig_circuit.specs.Renumber.{place_of}
+use Rattle.aig_format.specs.File.{LatchLine, GateLine, File, defined, used}
+use Rattle.aig_format.specs.Variables.{is_defined, is_known, IsKnown, gate_of_variable}
+use Rattle.aig_format.specs.Numbering.{numbers_from, variables_in_order, number_of}
+use Rattle.aig_format.specs.Fits.{IsDefinable, IsOrdered, Fits}
+use Rattle.aig_format.proofs.Entries.{rec_both, rec_map, rec_parts, rec_weaker}
+use Rattle.aig_format.proofs.Searches.{find_some}
+use Rattle.aig_format.proofs.Members.{has, has-numbers, index-place_of, length-numbers, place_of-numbers, place_of-one, place_of-within}
+
+-- ---- the numbers of a file without gaps
+
+pub number_of-place : (f : File) (v : ℕ) → number_of f v ≡ place_of (0 ∷ variables_in_order f) v
+unfolding number_of
+number_of-place f v = refl
+
+pub number_of-zero : (f : File) → number_of f 0 ≡ 0
+unfolding number_of
+number_of-zero f = refl
+
+order-exact : (f : File) → variables_in_order f ≡ numbers_from (length (defined f)) 1
+unfolding variables_in_order
+order-exact f = refl
+
+-- the list of a file that has no gaps
+pub order-is : (f : File) → f.greatest ≡ length (defined f) → variables_in_order f ≡ numbers_from f.greatest 1
+order-is f exact = order-exact f ∙ ap (λ n. numbers_from n 1) (sym exact)
+
+-- a variable other than 0 has its place among the others, and one more
+past_zero : (xs : List ℕ) (v : ℕ) → 1 ≤ v → place_of (0 ∷ xs) v ≡ place_of xs v + 1
+past_zero xs v h = let differs : eqb 0 v ≡ false = ne_eqb 0 v (λ e. omega (arith, e)) in ap (λ b. cond b 0 (place_of xs v + 1)) differs
+
+-- a variable of a file without gaps is its own number
+pub number_of-exact : (f : File) → f.greatest ≡ length (defined f) → (v : ℕ) → v ≤ f.greatest → number_of f v ≡ v
+number_of-exact f exact zero h = number_of-zero f
+number_of-exact f exact (suc v) h =
+    number_of-place f (suc v)
+    ∙ ap (λ xs. place_of (0 ∷ xs) (suc v)) (order-is f exact) ∙ past_zero (numbers_from f.greatest 1) (suc v) (omega arith)
+    ∙ place_of-numbers f.greatest 1 (suc v) (omega arith) (omega arith)
+
+pub length-order : (f : File) → length (variables_in_order f) ≡ length (defined f)
+length-order f = ap length (order-exact f) ∙ length-numbers (length (defined f)) 1
+
+-- ---- variables that are defined
+
+any_within : (greatest v : ℕ) (es : List ℕ) → AllByRecursion (IsDefinable greatest) es → list_any (λ e. e / 2 == v) es ≡ true → (1 ≤ v) × (v ≤ greatest)
+any_within greatest v [] all there = absurd (false≢true there)
+any_within greatest v (e ∷ es) all there = by_test (e / 2 == v) refl there (any_within greatest v es all.1)
+  where
+    by_test : (b : Bool) → (e / 2 == v) ≡ b → (b || list_any (λ e. e / 2 == v) es) ≡ true → (list_any (λ e. e / 2 == v) es ≡ true → (1 ≤ v) × (v ≤ greatest)) → (1 ≤ v) × (v ≤ greatest)
+    by_test true same there rest =
+        let is = eqb-true (e / 2) v same in let low = all.0.1 in let high = all.0.2 in
+        (omega (arith), omega (arith))
+    by_test false differs there rest = rest there
+
+-- a defined variable is within the file's, and 0 is none
+pub defined_within : (f : File) (limit : ℕ) → Fits f limit → (v : ℕ) → is_defined f v ≡ true → (1 ≤ v) × (v ≤ f.greatest)
+defined_within f limit fits v there = any_within f.greatest v (defined f) fits.definable there
+
+-- and so is what is 0 or defined
+pub known_within : (f : File) (limit : ℕ) → Fits f limit → (v : ℕ) → is_known f v ≡ true → v ≤ f.greatest
+known_within f limit fits zero known = omega arith
+known_within f limit fits (suc v) known =
+    let same : eqb (suc v) 0 ≡ false = ne_eqb (suc v) 0 (λ e. omega (arith, e)) in
+    (defined_within f limit fits (suc v) (ap (λ b. b || is_defined f (suc v)) (sym same) ∙ known)).1
+
+-- ---- as many distinct variables as there are from 1 on are all of them
+
+abbrev halves : List ℕ → List ℕ
+halves = map (λ (e : ℕ). e / 2)
+
+any_has : (P : ℕ → Type 0) (q : ℕ) (xs : List ℕ) → AllByRecursion P xs → list_any (λ (x : ℕ). q == x) xs ≡ true → P q
+any_has P q [] all h = absurd (false≢true h)
+any_has P q (x ∷ xs) all h = by_test (q == x) refl h (any_has P q xs all.1)
+  where
+    by_test : (b : Bool) → (q == x) ≡ b → (b || list_any (λ (y : ℕ). q == y) xs) ≡ true → (list_any (λ (y : ℕ). q == y) xs ≡ true → P q) → P q
+    by_test true same h rest = subst P (sym (eqb-true q x same)) all.0
+    by_test false differs h rest = rest h
+
+pub half_differs : (x y : ℕ) → x % 2 ≡ 0 → y % 2 ≡ 0 → nat_eq x y ≡ false → (x / 2 == y / 2) ≡ false
+half_differs x y hx hy h = let differ = eqb-false x y h in ne_eqb (x / 2) (y / 2) (λ e. differ (omega arith))
+
+halves_distinct : (xs : List ℕ) → AllByRecursion (λ (e : ℕ). e % 2 ≡ 0) xs → IsDistinct nat_eq xs → IsDistinct nat_eq (halves xs)
+unfolding IsDistinct
+halves_distinct [] even d = tt
+halves_distinct (x ∷ xs) even d = (
+  (rec_map (λ (y : ℕ). nat_eq (x / 2) y ≡ false) (λ (e : ℕ). e / 2) xs).1
+      (rec_weaker (λ (e : ℕ). (e % 2 ≡ 0) × (nat_eq x e ≡ false)) (λ (e : ℕ). nat_eq (x / 2) (e / 2) ≡ false) (λ e p. half_differs x e even.0 p.0 p.1) xs
+      (rec_both (λ (e : ℕ). e % 2 ≡ 0) (λ (e : ℕ). nat_eq x e ≡ false) xs even.1 d.0)),
+  halves_distinct xs even.1 d.1,
+)
+
+distinct_cons : (x : ℕ) (xs : List ℕ) → AllByRecursion (λ (y : ℕ). nat_eq x y ≡ false) xs → IsDistinct nat_eq xs → IsDistinct nat_eq (x ∷ xs)
+unfolding IsDistinct
+distinct_cons x xs h d = (h, d)
+
+-- what no entry's half is differs from all halves
+any_misses : (v : ℕ) (es : List ℕ) → list_any (λ e. e / 2 == v) es ≡ false → AllByRecursion (λ (x : ℕ). nat_eq v x ≡ false) (halves es)
+any_misses v [] h = tt
+any_misses v (e ∷ es) h =
+    let p = or_parts (e / 2 == v) (list_any (λ e. e / 2 == v) es) h in
+    (ne_eqb v (e / 2) (λ is. eqb-false (e / 2) v p.0 (sym is)), any_misses v es p.1)
+
+-- in a file without gaps each variable is defined
+pub all_defined : (f : File) (limit : ℕ) → Fits f limit → f.greatest ≡ length (defined f) → (v : ℕ) → 1 ≤ v → v ≤ f.greatest → is_defined f v ≡ true
+all_defined f limit fits m v low high = true_from_ne_false (is_defined f v) (λ no.
+    let Even = λ (e : ℕ). e % 2 ≡ 0 in
+    let Within = λ (x : ℕ). x < length (defined f) + 1 in
+    let even = rec_weaker (IsDefinable f.greatest) Even (λ e d. d.0) (defined f) fits.definable in
+    let within : AllByRecursion Within (halves (defined f)) =
+    (rec_map Within (λ (e : ℕ). e / 2) (defined f)).1 (rec_weaker (IsDefinable f.greatest) (λ (e : ℕ). e / 2 < length (defined f) + 1) (λ e d. let h = d.2 in omega arith) (defined f) fits.definable) in
+    let some : AllByRecursion (λ (x : ℕ). nat_eq 0 x ≡ false) (halves (defined f)) =
+    (rec_map (λ (x : ℕ). nat_eq 0 x ≡ false) (λ (e : ℕ). e / 2) (defined f)).1 (rec_weaker (IsDefinable f.greatest) (λ (e : ℕ). nat_eq 0 (e / 2) ≡ false) (λ e d. let h = d.1 in ne_eqb 0 (e / 2) (λ is. absurd (omega arith))) (defined f) fits.definable) in
+    let d1 = distinct_cons v (halves (defined f)) (any_misses v (defined f) no) (halves_distinct (defined f) even fits.distinct) in
+    let d0 = distinct_cons 0 (v ∷ halves (defined f)) (ne_eqb 0 v (λ is. absurd (omega arith)), some) d1 in
+    let zero_within : 0 < length (defined f) + 1 = omega arith in
+    let v_within : v < length (defined f) + 1 = omega arith in
+    let long = length-le_from_distinct_below (0 ∷ v ∷ halves (defined f)) (length (defined f) + 1) d0 (λ q is. any_has Within q (0 ∷ v ∷ halves (defined f)) (zero_within, (v_within, within)) is) in
+    let same = length-map (defined f) (λ (e : ℕ). e / 2) in
+    absurd (omega arith))
+
+-- in a file without gaps each variable up to the greatest is 0 or defined
+all_known : (f : File) (limit : ℕ) → Fits f limit → f.greatest ≡ length (defined f) → (v : ℕ) → v ≤ f.greatest → is_known f v ≡ true
+all_known f limit fits exact zero h = refl
+all_known f limit fits exact (suc v) h =
+    let same : eqb (suc v) 0 ≡ false = ne_eqb (suc v) 0 (λ e. omega (arith, e)) in
+    ap (λ b. b || is_defined f (suc v)) same ∙ all_defined f limit fits exact (suc v) (omega arith) h
+
+-- what is used is 0 or defined
+pub used_known : (f : File) (limit : ℕ) → Fits f limit → AllByRecursion (IsKnown f) (used f)
+used_known f limit fits = rec_weaker (λ e. e ≤ 2 * f.greatest + 1) (IsKnown f) (λ e h. all_known f limit fits fits.exact (e / 2) (omega arith)) (used f) fits.in_range
+
+-- ---- the numbers of a file that fits
+
+-- each defined variable has its place
+pub defined_numbered : (f : File) (limit : ℕ) → Fits f limit → (v : ℕ) → is_defined f v ≡ true → has (variables_in_order f) v ≡ true
+defined_numbered f limit fits v there =
+    let bounds = defined_within f limit fits v there in
+    ap (λ xs. has xs v) (order-is f fits.exact) ∙ has-numbers f.greatest 1 v bounds.0 (omega (arith, bounds.1))
+
+-- the list of 0 and the defined variables has what is 0 or defined
+pub known_numbered : (f : File) (limit : ℕ) → Fits f limit → (v : ℕ) → is_known f v ≡ true → has (0 ∷ variables_in_order f) v ≡ true
+known_numbered f limit fits zero known = refl
+known_numbered f limit fits (suc v) known =
+    let other : eqb 0 (suc v) ≡ false = ne_eqb 0 (suc v) (λ e. omega (arith, e)) in
+    let same : eqb (suc v) 0 ≡ false = ne_eqb (suc v) 0 (λ e. omega (arith, e)) in
+    ap (λ b. b || has (variables_in_order f) (suc v)) other ∙ defined_numbered f limit fits (suc v) (ap (λ b. b || is_defined f (suc v)) (sym same) ∙ known)
+
+-- the number of what is 0 or defined is within the count of nodes
+pub number_of-within : (f : File) (limit : ℕ) → Fits f limit → (v : ℕ) → is_known f v ≡ true → number_of f v < length (variables_in_order f) + 1
+number_of-within f limit fits v known = omega (arith, number_of-place f v, place_of-within (0 ∷ variables_in_order f) v (known_numbered f limit fits v known))
+
+-- what is 0 or defined has a number of its own
+pub number_of-one : (f : File) (limit : ℕ) → Fits f limit → (u v : ℕ) → is_known f u ≡ true → number_of f u ≡ number_of f v → u ≡ v
+number_of-one f limit fits u v known same =
+    place_of-one (0 ∷ variables_in_order f) u v (known_numbered f limit fits u known) (sym (number_of-place f u) ∙ same ∙ number_of-place f v)
+
+-- the variable of a number
+pub record NumberOf (f : File) (n : ℕ) : Type 0 where
+  pub variable : ℕ
+  pub known : is_known f variable ≡ true
+  pub is : number_of f variable ≡ n
+
+-- every number within the count of nodes is that of 0 or of one defined variable
+pub variable_of : (f : File) (limit : ℕ) → Fits f limit → (n : ℕ) → n < length (variables_in_order f) + 1 → NumberOf f n
+variable_of f limit fits n h =
+    let within : n ≤ f.greatest = omega (arith, length-order f, fits.exact) in
+    record { variable = n; known = all_known f limit fits fits.exact n within; is = number_of-exact f fits.exact n within }
+
+-- the variable of a number
+pub variable_at : File → ℕ → ℕ
+variable_at f n = slice_index (0 ∷ variables_in_order f) n
+
+pub variable_at-number : (f : File) (limit : ℕ) → Fits f limit → (v : ℕ) → is_known f v ≡ true → variable_at f (number_of f v) ≡ v
+unfolding variable_at
+variable_at-number f limit fits v known =
+    ap (slice_index (0 ∷ variables_in_order f)) (number_of-place f v) ∙ index-place_of (0 ∷ variables_in_order f) v (known_numbered f limit fits v known)
+
+-- ---- gates
+
+-- a gate's variable is defined
+gates_defined : (v : ℕ) (gs : List GateLine) (g : GateLine) → find (λ h. h.lhs / 2 == v) gs ≡ Some g → list_any (λ e. e / 2 == v) (map (λ (h : GateLine). h.lhs) gs) ≡ true
+gates_defined v [] g found = cc
+gates_defined v (h ∷ gs) g found = by_test (h.lhs / 2 == v) found (gates_defined v gs g)
+  where
+    by_test : (b : Bool) → cond b (Some h) (find (λ h. h.lhs / 2 == v) gs) ≡ Some g → (find (λ h. h.lhs / 2 == v) gs ≡ Some g → list_any (λ e. e / 2 == v) (map (λ (h : GateLine). h.lhs) gs) ≡ true) → (b || list_any (λ e. e / 2 == v) (map (λ (h : GateLine). h.lhs) gs)) ≡ true
+    by_test true found rest = refl
+    by_test false found rest = rest found
+
+any-right : (test : ℕ → Bool) (xs ys : List ℕ) → list_any test ys ≡ true → list_any test (xs ++ ys) ≡ true
+any-right test [] ys h = h
+any-right test (x ∷ xs) ys h = by_test (test x) (any-right test xs ys h)
+  where
+    by_test : (b : Bool) → list_any test (xs ++ ys) ≡ true → (b || list_any test (xs ++ ys)) ≡ true
+    by_test true rest = refl
+    by_test false rest = rest
+
+pub gate-defined : (f : File) (v : ℕ) (g : GateLine) → gate_of_variable f v ≡ Some g → is_defined f v ≡ true
+gate-defined f v g found =
+    any-right (λ e. e / 2 == v) (f.inputs ++ map (λ l. l.literal) f.latches) (map (λ g. g.lhs) f.gates) (gates_defined v f.gates g found)
+
+-- the operands of a file's gates are used
+operands_have : (P : ℕ → Type 0) (gs : List GateLine) → AllByRecursion P (flat_map (λ (g : GateLine). g.rhs0 ∷ g.rhs1 ∷ []) gs) → AllByRecursion (λ (g : GateLine). P g.rhs0 × P g.rhs1) gs
+operands_have P [] all = tt
+operands_have P (g ∷ gs) all = ((all.0, all.1.0), operands_have P gs all.1.1)
+
+used_operands : (P : ℕ → Type 0) (f : File) → AllByRecursion P (used f) → AllByRecursion (λ (g : GateLine). P g.rhs0 × P g.rhs1) f.gates
+used_operands P f all =
+    let operands = flat_map (λ (g : GateLine). g.rhs0 ∷ g.rhs1 ∷ []) f.gates in
+    let nexts = map (λ (l : LatchLine). l.next) f.latches in
+    let sets = flat_map (λ s. s) f.justice in
+    operands_have P f.gates (rec_parts P (nexts ++ f.outputs ++ f.bads ++ f.constraints ++ sets ++ f.fairness) operands all).1
+
+-- a gate's operands are 0 or defined
+pub operands_known : (f : File) (limit : ℕ) → Fits f limit → (v : ℕ) (g : GateLine) → gate_of_variable f v ≡ Some g → IsKnown f g.rhs0 × IsKnown f g.rhs1
+operands_known f limit fits v g found =
+    (find_some (λ (g : GateLine). IsKnown f g.rhs0 × IsKnown f g.rhs1) (λ h. h.lhs / 2 == v) f.gates g (used_operands (IsKnown f) f (used_known f limit fits)) found).1
+
+-- an operand's number is smaller than its gate's
+pub operands_before : (f : File) (limit : ℕ) → Fits f limit → (v : ℕ) (g : GateLine) → gate_of_variable f v ≡ Some g → (number_of f (g.rhs0 / 2) < number_of f v) × (number_of f (g.rhs1 / 2) < number_of f v)
+operands_before f limit fits v g found =
+    let high = (defined_within f limit fits v (gate-defined f v g found)).1 in
+    let s = find_some IsOrdered (λ h. h.lhs / 2 == v) f.gates g fits.ordered found in
+    let e = eqb-true (g.lhs / 2) v s.0 in
+    let own = number_of-exact f fits.exact v high in
+    let less0 : g.rhs0 / 2 < v = subst (λ m. g.rhs0 / 2 < m) e s.1.0 in
+    let less1 : g.rhs1 / 2 < v = subst (λ m. g.rhs1 / 2 < m) e s.1.1 in
+    let first = number_of-exact f fits.exact (g.rhs0 / 2) (omega (arith, high, less0)) in
+    let second = number_of-exact f fits.exact (g.rhs1 / 2) (omega (arith, high, less1)) in
+    (omega (arith, own, first, less0), omega (arith, own, second, less1))

@@ -1,0 +1,49 @@
+-- A file as a record. (AIGER format 20071012: "Header", "Input/Latch/Output/And section", "Symbol table"; AIGER 1.9: "Reset logic",
+-- "Properties".)
+use Rattle.std.specs.Prelude.{ℕ, List, [], ◌∷◌, ◌++◌, length, map, Option}
+use Rattle.std.specs.List.{flat_map}
+use Rattle.aig_format.specs.declared.FileKind.{FileKind}
+
+-- a latch: its literal, its next literal, and its reset if one is written
+pub record LatchLine : Type 0 where
+  pub literal : ℕ
+  pub next : ℕ
+  pub reset : Option ℕ
+
+-- a gate: the literal it defines, and its operands
+pub record GateLine : Type 0 where
+  pub lhs : ℕ
+  pub rhs0 : ℕ
+  pub rhs1 : ℕ
+
+-- a name: its letter, its position, its bytes
+pub record NameLine : Type 0 where
+  pub letter : ℕ
+  pub position : ℕ
+  pub name : List ℕ
+
+-- all that a file says
+pub record File : Type 0 where
+  pub kind : FileKind
+  pub greatest : ℕ
+  pub inputs : List ℕ
+  pub latches : List LatchLine
+  pub outputs : List ℕ
+  pub gates : List GateLine
+  pub bads : List ℕ
+  pub constraints : List ℕ
+  pub justice : List (List ℕ)
+  pub fairness : List ℕ
+  pub names : List NameLine
+
+-- the nine numbers of the header: M I L O A B C J F
+abbrev pub header_of : File → List ℕ
+header_of f = f.greatest ∷ length f.inputs ∷ length f.latches ∷ length f.outputs ∷ length f.gates ∷ length f.bads ∷ length f.constraints ∷ length f.justice ∷ length f.fairness ∷ []
+
+-- the literals that are defined: inputs, latches, gates
+abbrev pub defined : File → List ℕ
+defined f = f.inputs ++ map (λ l. l.literal) f.latches ++ map (λ g. g.lhs) f.gates
+
+-- the literals that are used
+abbrev pub used : File → List ℕ
+used f = map (λ l. l.next) f.latches ++ f.outputs ++ f.bads ++ f.constraints ++ flat_map (λ s. s) f.justice ++ f.fairness ++ flat_map (λ g. g.rhs0 ∷ g.rhs1 ∷ []) f.gates

@@ -1,0 +1,11 @@
+pub mod Text
+pub mod File
+pub mod Letters
+pub mod Variables
+pub mod Numbering
+pub mod Spells
+pub mod Fits
+pub mod Machine
+pub mod Written
+pub mod Circuit
+pub mod Writable

@@ -1,0 +1,16 @@
+pub mod Found
+pub mod Joining
+pub mod Leaves
+pub mod Closed
+pub mod Starts
+pub mod MachineRuns
+pub mod Spelled
+pub mod Writable
+pub mod Examples
+pub mod Gates
+pub mod Edges
+pub mod Nodes
+pub mod Names
+pub mod Written
+pub mod Placed
+pub mod Reencoded

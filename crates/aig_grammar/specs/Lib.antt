@@ -1,9 +1,0 @@
-pub mod Text
-pub mod File
-pub mod Spells
-pub mod Fits
-pub mod Machine
-pub mod Written
-pub mod Circuit
-pub mod Writable
-pub mod Kinds

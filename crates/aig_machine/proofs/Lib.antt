@@ -1,5 +1,0 @@
-pub mod Lines
-pub mod FileNodes
-pub mod Joining
-pub mod Examples
-pub mod Circuits

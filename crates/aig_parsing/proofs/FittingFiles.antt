@@ -1,0 +1,290 @@
+-- A file is read from the front, tested line by line, exactly where it fits: what is read is accepted, and what is accepted is read.
+use Rattle.std.proofs.Common.{◌≡◌, ℕ, zero, suc, ◌+◌, ◌<◌, ◌≤◌, false, ◌&&◌, List, [], ◌++◌, length, map, Some, refl, sym, ap, subst, ◌∙◌, arith}
+use Rattle.std.specs.Prelude.{slice_index, nat_eq}
+use Rattle.std.specs.List.{AllByRecursion, IsDistinct}
+use Rattle.std.proofs.lemmas.Bool.{ne_eqb}
+use Rattle.std.proofs.lemmas.Option.{same_Some}
+use Rattle.aig_format.specs.Text.{Ended}
+use Rattle.aig_format.specs.declared.FileKind.{FileKind}
+use Rattle.aig_format.specs.declared.FileKind.TheVariants.{Text, Binary}
+use Rattle.aig_format.specs.File.{LatchLine, GateLine, NameLine, File, header_of, defined}
+use Rattle.aig_format.specs.Spells.{Latch, Gate, Placed, places, Spells}
+use Rattle.aig_format.specs.Fits.{IsDefinable, HasReset, IsOrdered, Rises, Fits, Accepts}
+use Rattle.aig_parsing.specs.Front.{◌>>=◌, header_at, ended_at, tested_at, numbers_at, placed_gate_at, Parts, body_at, file_from, AllAfter}
+use Rattle.aig_parsing.specs.Fitting.{is_good, is_within, fitting_header_at, defines, has_next, tests_latch, tests_gate, latch_line_at, binary_latch_at, gate_line_at, fitting_inputs_at, fitting_latches_at, fitting_gates_at, fitting_sections_at, fitting_body_at, fitting_tail_at, fitting_at}
+use Rattle.aig_format.proofs.Entries.{rec_weaker, rec_both, rec_append}
+use Rattle.aig_parsing.proofs.Numbers.{bind_some}
+use Rattle.aig_parsing.proofs.Joined.{Reads, With, Reads-ended, Reads-tested}
+use Rattle.aig_parsing.proofs.Lines.{not_10}
+use Rattle.aig_parsing.proofs.Sections.{HeaderIs, Reads-header, SoMany, SetsOf, Reads-numbers}
+use Rattle.aig_parsing.proofs.Binary.{At, latch_key, gate_key}
+use Rattle.aig_parsing.proofs.Names.{tail_sound, tail_complete}
+use Rattle.aig_parsing.proofs.Files.{InputsPart, LatchesPart, GatesPart, Part_1, Part_2, Part_3, Part_4, Part_5, Part_6, Part_7, Part_8, IsBody, Reads-inputs, Reads-body, parts_of, body_from, spelled, body_read, split_places}
+use Rattle.aig_parsing.proofs.Checked.{Reads-checked, IsNew, distinct_after}
+use Rattle.aig_parsing.proofs.Entries.{after_weaker, IsAbove, rises_after}
+use Rattle.aig_parsing.proofs.Guards.{Defines, Decides-defines, IsLiteral, HasNext, Decides-next, LatchAfter, Decides-latch, GateAfter, Decides-gate, NameAfter, IsGood, IsWithin, Decides-good_within, defined_anew, defined_by_section, on_used, latches_by_line, gates_by_line, gates_in_range, names_by_line, length-defined}
+use Rattle.aig_parsing.proofs.FittingLines.{Reads-both_with, Reads-any, Reads-placed_with, Reads-latch_line, Reads-binary_latch, Reads-gate_line, is_below, Reads-binary_gate, AreLiterals, Reads-literals, AreSets, Reads-literal_sets}
+use Rattle.aig_parsing.proofs.FittingTail.{fitting_tail_sound, fitting_tail_complete}
+
+-- ---- what the tests of each section say
+
+abbrev pub InputsFit : FileKind → ℕ → List ℕ → Type 0
+InputsFit Text greatest inputs = AllAfter (Defines greatest) [] inputs
+InputsFit Binary greatest inputs = Unit {0}
+
+abbrev pub LatchesFit : FileKind → ℕ → List ℕ → List LatchLine → Type 0
+LatchesFit Text greatest inputs latches = AllAfter (LatchAfter greatest inputs) [] latches
+LatchesFit Binary greatest inputs latches = AllByRecursion (HasNext greatest) latches
+
+abbrev pub GatesFit : FileKind → ℕ → List ℕ → List GateLine → Type 0
+GatesFit Text greatest leaves gates = AllAfter (GateAfter greatest leaves) [] gates
+GatesFit Binary greatest leaves gates = AllByRecursion IsOrdered gates
+
+Reads-fitting_inputs : (kind : FileKind) (ns : List ℕ) → Reads (With (InputsFit kind (slice_index ns 0)) (InputsPart kind (slice_index ns 1))) (fitting_inputs_at kind ns)
+Reads-fitting_inputs Text ns =
+    let greatest = slice_index ns 0 in
+    let test = Decides-defines greatest in
+    Reads-checked (Ended 10) (Defines greatest) (ended_at 10) (defines greatest) (Reads-ended 10 not_10) (λ before e. (test before e).0) (λ before e. (test before e).1) (slice_index ns 1) []
+Reads-fitting_inputs Binary ns = Reads-any (InputsPart Binary (slice_index ns 1)) (fitting_inputs_at Binary ns) (Reads-inputs Binary ns)
+
+Reads-fitting_latches : (kind : FileKind) (ns inputs : List ℕ) → Reads (With (LatchesFit kind (slice_index ns 0) inputs) (LatchesPart kind (slice_index ns 1) (slice_index ns 2))) (fitting_latches_at kind ns inputs)
+Reads-fitting_latches Text ns inputs =
+    let greatest = slice_index ns 0 in
+    let test = Decides-latch greatest inputs in
+    Reads-checked (Latch Text) (LatchAfter greatest inputs) latch_line_at (tests_latch greatest inputs) Reads-latch_line (λ before l. (test before l).0) (λ before l. (test before l).1) (slice_index ns 2) []
+Reads-fitting_latches Binary ns inputs =
+    let greatest = slice_index ns 0 in
+    let test = Decides-next greatest in
+    Reads-placed_with latch_key (HasNext greatest) (Latch Binary) (λ v. tested_at (binary_latch_at v) (has_next greatest)) (slice_index ns 2) (1 + slice_index ns 1)
+    (λ v. Reads-tested (At latch_key (Latch Binary) v) (HasNext greatest) (binary_latch_at v) (has_next greatest) (Reads-binary_latch v) (λ l. (test l).0) (λ l. (test l).1))
+
+Reads-fitting_gates : (kind : FileKind) (ns leaves : List ℕ) → Reads (With (GatesFit kind (slice_index ns 0) leaves) (GatesPart kind (slice_index ns 1) (slice_index ns 2) (slice_index ns 4))) (fitting_gates_at kind ns leaves)
+Reads-fitting_gates Text ns leaves =
+    let greatest = slice_index ns 0 in
+    let test = Decides-gate greatest leaves in
+    Reads-checked (Gate Text) (GateAfter greatest leaves) gate_line_at (tests_gate greatest leaves) Reads-gate_line (λ before g. (test before g).0) (λ before g. (test before g).1) (slice_index ns 4) []
+Reads-fitting_gates Binary ns leaves =
+    Reads-placed_with gate_key IsOrdered (Gate Binary) (λ v. tested_at (placed_gate_at v) is_below) (slice_index ns 4) (1 + slice_index ns 1 + slice_index ns 2) Reads-binary_gate
+
+-- the facts on the sections by their numbers
+abbrev pub Fit_8 : FileKind → List ℕ → List ℕ → List ℕ × List GateLine → Type 0
+Fit_8 kind ns leaves x = AreLiterals (slice_index ns 0) x.0 × GatesFit kind (slice_index ns 0) leaves x.1
+
+abbrev pub Fit_7 : FileKind → List ℕ → List ℕ → List (List ℕ) × (List ℕ × List GateLine) → Type 0
+Fit_7 kind ns leaves x = AreSets (slice_index ns 0) x.0 × Fit_8 kind ns leaves x.1
+
+abbrev pub Fit_6 : FileKind → List ℕ → List ℕ → List ℕ × (List (List ℕ) × (List ℕ × List GateLine)) → Type 0
+Fit_6 kind ns leaves x = Unit {0} × Fit_7 kind ns leaves x.1
+
+abbrev pub Fit_5 : FileKind → List ℕ → List ℕ → List ℕ × (List ℕ × (List (List ℕ) × (List ℕ × List GateLine))) → Type 0
+Fit_5 kind ns leaves x = AreLiterals (slice_index ns 0) x.0 × Fit_6 kind ns leaves x.1
+
+abbrev pub Fit_4 : FileKind → List ℕ → List ℕ → List ℕ × (List ℕ × (List ℕ × (List (List ℕ) × (List ℕ × List GateLine)))) → Type 0
+Fit_4 kind ns leaves x = AreLiterals (slice_index ns 0) x.0 × Fit_5 kind ns leaves x.1
+
+abbrev pub Fit_3 : FileKind → List ℕ → List ℕ → List ℕ × (List ℕ × (List ℕ × (List ℕ × (List (List ℕ) × (List ℕ × List GateLine))))) → Type 0
+Fit_3 kind ns leaves x = AreLiterals (slice_index ns 0) x.0 × Fit_4 kind ns leaves x.1
+
+abbrev pub Fit_2 : FileKind → List ℕ → List ℕ → List LatchLine × (List ℕ × (List ℕ × (List ℕ × (List ℕ × (List (List ℕ) × (List ℕ × List GateLine)))))) → Type 0
+Fit_2 kind ns inputs x = LatchesFit kind (slice_index ns 0) inputs x.0 × Fit_3 kind ns (inputs ++ map latch_key x.0) x.1
+
+abbrev pub Fit_1 : FileKind → List ℕ → Parts → Type 0
+Fit_1 kind ns x = InputsFit kind (slice_index ns 0) x.0 × Fit_2 kind ns x.0 x.1
+
+Reads-fitting_sections : (kind : FileKind) (ns : List ℕ) → Reads (With (Fit_1 kind ns) (Part_1 kind ns)) (fitting_sections_at kind ns)
+Reads-fitting_sections kind ns =
+    let greatest = slice_index ns 0 in
+    Reads-both_with (InputsFit kind greatest) (Fit_2 kind ns) (InputsPart kind (slice_index ns 1)) (λ _. Part_2 kind ns) _ _ (Reads-fitting_inputs kind ns) (λ inputs.
+    Reads-both_with (LatchesFit kind greatest inputs) (λ latches. Fit_3 kind ns (inputs ++ map latch_key latches)) (LatchesPart kind (slice_index ns 1) (slice_index ns 2)) (λ _. Part_3 kind ns) _ _ (Reads-fitting_latches kind ns inputs) (λ latches.
+    let leaves = inputs ++ map latch_key latches in
+    Reads-both_with (AreLiterals greatest) (λ _. Fit_4 kind ns leaves) (SoMany (slice_index ns 3)) (λ _. Part_4 kind ns) _ _ (Reads-literals greatest (slice_index ns 3)) (λ _.
+    Reads-both_with (AreLiterals greatest) (λ _. Fit_5 kind ns leaves) (SoMany (slice_index ns 5)) (λ _. Part_5 kind ns) _ _ (Reads-literals greatest (slice_index ns 5)) (λ _.
+    Reads-both_with (AreLiterals greatest) (λ _. Fit_6 kind ns leaves) (SoMany (slice_index ns 6)) (λ _. Part_6 kind ns) _ _ (Reads-literals greatest (slice_index ns 6)) (λ _.
+    Reads-both_with (λ _. Unit {0}) (λ _. Fit_7 kind ns leaves) (SoMany (slice_index ns 7)) (Part_7 kind ns) _ _ (Reads-any (SoMany (slice_index ns 7)) (numbers_at (slice_index ns 7)) (Reads-numbers (slice_index ns 7))) (λ sizes.
+    Reads-both_with (AreSets greatest) (λ _. Fit_8 kind ns leaves) (SetsOf sizes) (λ _. Part_8 kind ns) _ _ (Reads-literal_sets greatest sizes) (λ _.
+    Reads-both_with (AreLiterals greatest) (λ _. GatesFit kind greatest leaves) (SoMany (slice_index ns 8)) (λ _. GatesPart kind (slice_index ns 1) (slice_index ns 2) (slice_index ns 4)) _ _ (Reads-literals greatest (slice_index ns 8)) (λ _.
+    Reads-fitting_gates kind ns leaves))))))))
+
+-- a good header within the limit
+abbrev pub HeaderFits : ℕ → FileKind × List ℕ → Type 0
+HeaderFits limit h = IsGood h.1 × IsWithin limit h.1
+
+abbrev pub BodyFits : ℕ → (FileKind × List ℕ) × Parts → Type 0
+BodyFits limit b = HeaderFits limit b.0 × Fit_1 b.0.0 b.0.1 b.1
+
+Reads-fitting_header : (limit : ℕ) → Reads (With (HeaderFits limit) HeaderIs) (fitting_header_at limit)
+Reads-fitting_header limit =
+    let test = Decides-good_within limit in
+    Reads-tested HeaderIs (HeaderFits limit) header_at (λ h. is_good h.1 && is_within limit h.1) Reads-header (λ h. (test h.1).0) (λ h. (test h.1).1)
+
+pub Reads-fitting_body : (limit : ℕ) → Reads (With (BodyFits limit) IsBody) (fitting_body_at limit)
+Reads-fitting_body limit =
+    Reads-both_with (HeaderFits limit) (λ h. Fit_1 h.0 h.1) HeaderIs (λ h. Part_1 h.0 h.1) (fitting_header_at limit) (λ h. fitting_sections_at h.0 h.1)
+    (Reads-fitting_header limit) (λ h. Reads-fitting_sections h.0 h.1)
+
+-- ---- literals in their places may be defined, are distinct, and rise
+
+places_definable : (greatest n v : ℕ) → 1 ≤ v → n + v ≤ greatest + 1 → AllByRecursion (IsDefinable greatest) (places n v)
+places_definable greatest zero v low high = tt
+places_definable greatest (suc n) v low high = ((omega arith, omega arith, omega arith), places_definable greatest n (v + 1) (omega arith) (omega arith))
+
+places_rise : (n v : ℕ) → Rises (places n v)
+places_rise zero v = tt
+places_rise (suc zero) v = tt
+places_rise (suc (suc n)) v = (omega arith, places_rise (suc n) (v + 1))
+
+rising_distinct : (xs : List ℕ) → Rises xs → IsDistinct nat_eq xs
+rising_distinct xs rises =
+    (distinct_after nat_eq xs).0 (after_weaker IsAbove (IsNew nat_eq)
+    (λ before x above. rec_weaker (λ y. y < x) (λ y. nat_eq y x ≡ false) (λ y lt. ne_eqb y x (λ e. omega arith)) before above)
+    xs [] ((rises_after xs).1 rises))
+
+-- ---- from the facts on lines to those on the file, and back
+
+-- what the tests on the lines of a file say
+pub record LinesFit (f : File) : Type 0 where
+  pub inputs : InputsFit f.kind f.greatest f.inputs
+  pub latches : LatchesFit f.kind f.greatest f.inputs f.latches
+  pub outputs : AreLiterals f.greatest f.outputs
+  pub bads : AreLiterals f.greatest f.bads
+  pub constraints : AreLiterals f.greatest f.constraints
+  pub justice : AreSets f.greatest f.justice
+  pub fairness : AreLiterals f.greatest f.fairness
+  pub gates : GatesFit f.kind f.greatest (f.inputs ++ map latch_key f.latches) f.gates
+  pub names : AllAfter (NameAfter (header_of f)) [] f.names
+
+-- what a file says of its inputs, latches and gates
+pub record VariablesFit (f : File) : Type 0 where
+  pub definable : AllByRecursion (IsDefinable f.greatest) (defined f)
+  pub distinct : IsDistinct nat_eq (defined f)
+  pub nexts : AllByRecursion (HasNext f.greatest) f.latches
+  pub rising : Rises (map gate_key f.gates)
+  pub ordered : AllByRecursion IsOrdered f.gates
+
+variables_fit : (kind : FileKind) (f : File) → Placed kind (defined f) → f.greatest ≡ length (defined f) → InputsFit kind f.greatest f.inputs → LatchesFit kind f.greatest f.inputs f.latches
+    → GatesFit kind f.greatest (f.inputs ++ map latch_key f.latches) f.gates → VariablesFit f
+variables_fit Text f placed exact i l g =
+    let latches = (latches_by_line f.greatest f.inputs f.latches).0 l in
+    let gates = (gates_by_line f.greatest (f.inputs ++ map latch_key f.latches) f.gates).0 g in
+    let anew = (defined_anew f.greatest (defined f)).0 ((defined_by_section (Defines f.greatest) f).1 (i, latches.0, gates.0)) in
+    record { definable = anew.0; distinct = anew.1; nexts = latches.1; rising = gates.1; ordered = gates.2 }
+variables_fit Binary f placed exact i l g =
+    let n = length (defined f) in
+    let behind = split_places (f.inputs ++ map latch_key f.latches) (map gate_key f.gates) n 1 placed in
+    record {
+      definable = subst (AllByRecursion (IsDefinable f.greatest)) (sym placed) (places_definable f.greatest n 1 (omega arith) (omega arith));
+      distinct = rising_distinct (defined f) (subst Rises (sym placed) (places_rise n 1));
+      nexts = l;
+      rising = subst Rises (sym behind.1) (places_rise (length (map gate_key f.gates)) (1 + length (f.inputs ++ map latch_key f.latches)));
+      ordered = g;
+    }
+
+abbrev pub SectionsFit : FileKind → File → Type 0
+SectionsFit kind f = InputsFit kind f.greatest f.inputs × LatchesFit kind f.greatest f.inputs f.latches × GatesFit kind f.greatest (f.inputs ++ map latch_key f.latches) f.gates
+
+sections_fit : (kind : FileKind) (f : File) → VariablesFit f → SectionsFit kind f
+sections_fit Text f v =
+    let anew = (defined_by_section (Defines f.greatest) f).0 ((defined_anew f.greatest (defined f)).1 (v.definable, v.distinct)) in (
+      anew.0,
+      (latches_by_line f.greatest f.inputs f.latches).1 (anew.1, v.nexts),
+      (gates_by_line f.greatest (f.inputs ++ map latch_key f.latches) f.gates).1 (anew.2, v.rising, v.ordered),
+    )
+sections_fit Binary f v = (tt, v.nexts, v.ordered)
+
+fits_from_lines : (f : File) (limit : ℕ) → IsGood (header_of f) → f.greatest + 1 ≤ limit → Placed f.kind (defined f) → LinesFit f → Fits f limit
+fits_from_lines f limit good within placed lines =
+    let greatest = f.greatest in
+    let exact : greatest ≡ length (defined f) = good ∙ sym (length-defined f) in
+    let v = variables_fit f.kind f placed exact lines.inputs lines.latches lines.gates in
+    let of_gates = (rec_append (IsDefinable greatest) (f.inputs ++ map latch_key f.latches) (map gate_key f.gates)).0 v.definable in
+    let names = (names_by_line f).0 lines.names in
+    record {
+      exact = exact;
+      within = within;
+      definable = v.definable;
+      distinct = v.distinct;
+      in_range = (on_used (IsLiteral greatest) f).1 (record {
+        latches = rec_weaker (HasNext greatest) (λ l. IsLiteral greatest l.next) (λ l h. h.0) f.latches v.nexts;
+        outputs = lines.outputs;
+        bads = lines.bads;
+        constraints = lines.constraints;
+        justice = lines.justice;
+        fairness = lines.fairness;
+        gates = gates_in_range greatest f.gates of_gates.1 v.ordered;
+      });
+      resets = rec_weaker (HasNext greatest) HasReset (λ l h. h.1) f.latches v.nexts;
+      rising = v.rising;
+      ordered = v.ordered;
+      named = names.0;
+      once = names.1;
+    }
+
+lines_from_fits : (f : File) (limit : ℕ) → Fits f limit → LinesFit f
+lines_from_fits f limit fits =
+    let greatest = f.greatest in
+    let used = (on_used (IsLiteral greatest) f).0 fits.in_range in
+    let sections = sections_fit f.kind f (record {
+      definable = fits.definable;
+      distinct = fits.distinct;
+      nexts = rec_both (λ l. IsLiteral greatest l.next) HasReset f.latches used.latches fits.resets;
+      rising = fits.rising;
+      ordered = fits.ordered;
+    }) in
+    record {
+      inputs = sections.0;
+      latches = sections.1;
+      outputs = used.outputs;
+      bads = used.bads;
+      constraints = used.constraints;
+      justice = used.justice;
+      fairness = used.fairness;
+      gates = sections.2;
+      names = (names_by_line f).1 (fits.named, fits.once);
+    }
+
+-- the facts on the parts of a file are those on its lines
+lines_from_body : (f : File) (limit : ℕ) → BodyFits limit (parts_of f) → AllAfter (NameAfter (header_of f)) [] f.names → LinesFit f
+lines_from_body f limit h names =
+    let s2 = h.1.1 in let s3 = s2.1 in let s4 = s3.1 in let s5 = s4.1 in let s7 = s5.1.1 in let s8 = s7.1 in
+    record { inputs = h.1.0; latches = s2.0; outputs = s3.0; bads = s4.0; constraints = s5.0; justice = s7.0; fairness = s8.0; gates = s8.1; names = names }
+
+body_from_lines : (f : File) (limit : ℕ) → IsGood (header_of f) → f.greatest + 1 ≤ limit → LinesFit f → BodyFits limit (parts_of f)
+body_from_lines f limit good within l = ((good, within), (l.inputs, (l.latches, (l.outputs, (l.bads, (l.constraints, (tt, (l.justice, (l.fairness, l.gates)))))))))
+
+-- ---- whole files
+
+-- what the tests said of the parts and the names that were read
+abbrev WholeFits : ℕ → List NameLine → (FileKind × List ℕ) × Parts → Type 0
+WholeFits limit names b = BodyFits limit b × AllAfter (NameAfter b.0.1) [] names
+
+whole_fits : (limit : ℕ) (bytes rest : List ℕ) (b : (FileKind × List ℕ) × Parts) (names : List NameLine) → body_at bytes ≡ Some (b, rest) → Spells (file_from b names) bytes → WholeFits limit names b → Fits (file_from b names) limit
+whole_fits limit bytes rest b names read spells whole =
+    let f = file_from b names in
+    let same : b ≡ parts_of f = ap (λ (x : ((FileKind × List ℕ) × Parts) × List ℕ). x.0) (same_Some _ _ (sym read ∙ body_read f bytes spells)) in
+    let w = subst (WholeFits limit names) same whole in
+    fits_from_lines f limit w.0.0.0 w.0.0.1 spells.placed (lines_from_body f limit w.0 w.1)
+
+pub fitting_sound : (limit : ℕ) (bytes : List ℕ) (f : File) → fitting_at limit bytes ≡ Some f → Accepts bytes limit f
+unfolding fitting_at
+fitting_sound limit bytes f h =
+    let b = bind_some (fitting_body_at limit bytes) (λ b. fitting_tail_at b.0.0.1 (suc (length b.1)) [] b.1 >>= λ names. Some (file_from b.0 names)) f h in
+    let rest = b.0.1 in
+    let c = bind_some (fitting_tail_at b.0.0.0.1 (suc (length rest)) [] rest) (λ names. Some (file_from b.0.0 names)) f b.2 in
+    let s = (Reads-fitting_body limit).sound bytes b.0 b.1 in
+    let t = fitting_tail_sound b.0.0.0.1 (suc (length rest)) [] rest c.0 c.1 in
+    let spells = spelled b.0.0 c.0 bytes s.0 rest s.1 s.2.1 (tail_sound (suc (length rest)) rest c.0 t.0) in
+    let read : body_at bytes ≡ Some (b.0.0, rest) = ap body_at s.1 ∙ Reads-body.complete b.0.0 s.0 rest s.2.1 in
+    subst (λ (g : File). Accepts bytes limit g) (same_Some _ _ c.2) (spells, whole_fits limit bytes rest b.0.0 c.0 read spells (s.2.0, t.1))
+
+pub fitting_complete : (limit : ℕ) (bytes : List ℕ) (f : File) → Accepts bytes limit f → fitting_at limit bytes ≡ Some f
+unfolding fitting_at
+fitting_complete limit bytes f h =
+    let w = h.0.sections in
+    let fits = h.1 in
+    let lines = lines_from_fits f limit fits in
+    let facts = body_from_lines f limit (fits.exact ∙ length-defined f) fits.within lines in
+    let one : fitting_body_at limit bytes ≡ Some (parts_of f, w.1) =
+    ap (fitting_body_at limit) w.2 ∙ (Reads-fitting_body limit).complete (parts_of f) w.0 w.1 (facts, body_from f w.0 w.3 h.0.placed) in
+    let tail : fitting_tail_at (header_of f) (suc (length w.1)) [] w.1 ≡ Some f.names =
+    fitting_tail_complete (header_of f) (suc (length w.1)) [] w.1 f.names (tail_complete f.names (suc (length w.1)) w.1 (omega arith) w.4, lines.names) in
+    rw (one, tail) refl

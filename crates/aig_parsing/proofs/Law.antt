@@ -1,0 +1,153 @@
+-- The written form of a file spells it.
+use Rattle.std.proofs.Common.{◌≡◌, ℕ, suc, ◌-◌, List, [], ◌∷◌, ◌++◌, length, map, replicate, refl, sym, ap, subst, ◌∙◌, append_assoc, append-nil, arith, inl, inr}
+use Rattle.std.specs.Prelude.{option_to_list, ◌==◌, decimal}
+use Rattle.std.specs.List.{AllByRecursion, flat_map}
+use Rattle.std.proofs.lemmas.Bool.{eqb-true}
+use Rattle.aig_format.specs.Text.{IsLine, Lines}
+use Rattle.aig_format.specs.declared.FileKind.{FileKind}
+use Rattle.aig_format.specs.declared.FileKind.TheVariants.{Text, Binary}
+use Rattle.aig_format.specs.File.{LatchLine, GateLine, NameLine, File}
+use Rattle.aig_format.specs.Spells.{magic, IsHeader, Inputs, Latch, Gate, Name, next_and_reset, Spells}
+use Rattle.aig_format.specs.Written.{line_of, lines_of, in_front, shortened, header_line_of, inputs_of, latch_of, gate_of, name_of, delta_of, spelling_of}
+use Rattle.aig_parsing.specs.Writable.{IsSmall, LatchSmall, GateSmall, NameSmall, SetSmall, CanWrite}
+use Rattle.aig_format.proofs.Entries.{chosen}
+use Rattle.aig_parsing.proofs.Printed.{number_written, line_written, delta_written, each_written}
+
+front_is : (n : ℕ) (xs ys : List ℕ) (k : ℕ) → ys ≡ xs ++ replicate k 0 → (j : ℕ) × (n ∷ ys ≡ in_front n xs ++ replicate j 0)
+front_is n [] ys k h =
+    elim (chosen (n == 0) [] (n ∷ []) (in_front n []) refl) [
+      | inl zeros ↦ (suc k, let e : n ≡ 0 = eqb-true n 0 zeros.0 in rw (e, h) refl)
+      | inr some ↦ (k, ap (λ (zs : List ℕ). n ∷ zs) h ∙ ap (λ (zs : List ℕ). zs ++ replicate k 0) some.1)
+    ]
+front_is n (x ∷ xs) ys k h = (k, ap (λ (zs : List ℕ). n ∷ zs) h)
+
+shortened_is : (ns : List ℕ) → (k : ℕ) × (ns ≡ shortened ns ++ replicate k 0)
+shortened_is [] = (0, refl)
+shortened_is (n ∷ ns) = let r = shortened_is ns in front_is n (shortened ns) ns r.0 r.1
+
+in_front_small : (n : ℕ) (xs : List ℕ) → IsSmall n → AllByRecursion IsSmall xs → AllByRecursion IsSmall (in_front n xs)
+in_front_small n [] h all =
+    elim (chosen (n == 0) [] (n ∷ []) (in_front n []) refl) [
+      | inl zeros ↦ subst (AllByRecursion IsSmall) zeros.1 tt
+      | inr some ↦ subst (AllByRecursion IsSmall) some.1 (h, tt)
+    ]
+in_front_small n (x ∷ xs) h all = (h, all)
+
+shortened_small : (ns : List ℕ) → AllByRecursion IsSmall ns → AllByRecursion IsSmall (shortened ns)
+shortened_small [] all = tt
+shortened_small (n ∷ ns) all = in_front_small n (shortened ns) all.0 (shortened_small ns all.1)
+
+-- the written line of the header
+header_written : (kind : FileKind) (m i l o a b c j f : ℕ) → AllByRecursion IsSmall (m ∷ i ∷ l ∷ o ∷ a ∷ b ∷ c ∷ j ∷ f ∷ [])
+    → IsHeader kind (m ∷ i ∷ l ∷ o ∷ a ∷ b ∷ c ∷ j ∷ f ∷ []) (magic kind ++ line_of (m ∷ i ∷ l ∷ o ∷ a ∷ shortened (b ∷ c ∷ j ∷ f ∷ [])))
+header_written kind m i l o a b c j f h =
+    let four = b ∷ c ∷ j ∷ f ∷ [] in
+    let s = shortened_is four in
+    let t = h.1.1.1.1 in (
+      m ∷ i ∷ l ∷ o ∷ a ∷ shortened four,
+      s.0,
+      ap (λ (zs : List ℕ). m ∷ i ∷ l ∷ o ∷ a ∷ zs) s.1,
+      omega arith,
+      refl,
+      (magic kind, line_of (m ∷ i ∷ l ∷ o ∷ a ∷ shortened four), refl, refl, line_written m (i ∷ l ∷ o ∷ a ∷ shortened four) h.0 (h.1.0, (h.1.1.0, (h.1.1.1.0, (t.0, shortened_small four t.1))))),
+    )
+
+lines_written : (ns : List ℕ) → AllByRecursion IsSmall ns → Lines ns (lines_of ns)
+lines_written ns all = each_written (λ n. IsLine (n ∷ [])) IsSmall (λ n. line_of (n ∷ [])) (λ n h. line_written n [] h tt) ns all
+
+latch_written : (kind : FileKind) (l : LatchLine) → LatchSmall l → Latch kind l (latch_of kind l)
+latch_written Text l h = line_written l.literal (next_and_reset l) h.0 (h.1, h.2)
+latch_written Binary l h = line_written l.next (option_to_list l.reset) h.1 h.2
+
+gate_written : (kind : FileKind) (g : GateLine) → GateSmall g → Gate kind g (gate_of kind g)
+gate_written Text g h = line_written g.lhs (g.rhs0 ∷ g.rhs1 ∷ []) h.0 (omega (arith, h.0, h.1), (omega (arith, h.0, h.1, h.2), tt))
+gate_written Binary g h =
+    let a = h.0 in let b = h.1 in let c = h.2 in
+    (g.lhs - g.rhs0, g.rhs0 - g.rhs1, omega arith, omega arith, (delta_of (g.lhs - g.rhs0), delta_of (g.rhs0 - g.rhs1), refl, delta_written (g.lhs - g.rhs0) (omega arith), delta_written (g.rhs0 - g.rhs1) (omega arith)))
+
+inputs_written : (kind : FileKind) (ns : List ℕ) → AllByRecursion IsSmall ns → Inputs kind ns (inputs_of kind ns)
+inputs_written Text ns all = lines_written ns all
+inputs_written Binary ns all = refl
+
+name_written : (n : NameLine) → NameSmall n → Name n (name_of n)
+name_written n h =
+    let d = decimal n.position in
+    let same : (d ++ 32 ∷ n.name) ++ 10 ∷ [] ≡ (d ++ 32 ∷ []) ++ (n.name ++ 10 ∷ []) = simp append_assoc in (
+      h.0,
+      h.2,
+      (
+        n.letter ∷ [],
+        (d ++ 32 ∷ []) ++ (n.name ++ 10 ∷ []),
+        ap (λ (xs : List ℕ). n.letter ∷ xs) same,
+        refl,
+        (d ++ 32 ∷ [], n.name ++ 10 ∷ [], refl, (d, 32 ∷ [], refl, number_written n.position h.1, refl), refl),
+      ),
+    )
+
+regrouped : (a b c d e f g h i j k : List ℕ) → a ++ b ++ c ++ d ++ e ++ f ++ g ++ h ++ i ++ j ++ k ≡ (a ++ (b ++ (c ++ (d ++ (e ++ (f ++ (g ++ (h ++ (i ++ j))))))))) ++ k
+regrouped a b c d e f g h i j k = simp append_assoc
+
+pub spelling_spells : (f : File) → CanWrite f → Spells f (spelling_of f)
+unfolding spelling_of
+spelling_spells f w =
+    let a = header_line_of f in let b = inputs_of f.kind f.inputs in let c = flat_map (latch_of f.kind) f.latches in let d = lines_of f.outputs in
+    let e = lines_of f.bads in let g = lines_of f.constraints in let h = lines_of (map length f.justice) in let i = flat_map lines_of f.justice in
+    let j = lines_of f.fairness in let k = flat_map (gate_of f.kind) f.gates in let l = flat_map name_of f.names in
+    record {
+      sections = (
+        a ++ (b ++ (c ++ (d ++ (e ++ (g ++ (h ++ (i ++ (j ++ k)))))))),
+        l,
+        regrouped a b c d e g h i j k l,
+        (
+          a,
+          b ++ (c ++ (d ++ (e ++ (g ++ (h ++ (i ++ (j ++ k))))))),
+          refl,
+          header_written f.kind _ _ _ _ _ _ _ _ _ w.header,
+          (
+            b,
+            c ++ (d ++ (e ++ (g ++ (h ++ (i ++ (j ++ k)))))),
+            refl,
+            inputs_written f.kind f.inputs w.inputs,
+            (
+              c,
+              d ++ (e ++ (g ++ (h ++ (i ++ (j ++ k))))),
+              refl,
+              each_written (Latch f.kind) LatchSmall (latch_of f.kind) (latch_written f.kind) f.latches w.latches,
+              (
+                d,
+                e ++ (g ++ (h ++ (i ++ (j ++ k)))),
+                refl,
+                lines_written f.outputs w.outputs,
+                (
+                  e,
+                  g ++ (h ++ (i ++ (j ++ k))),
+                  refl,
+                  lines_written f.bads w.bads,
+                  (
+                    g,
+                    h ++ (i ++ (j ++ k)),
+                    refl,
+                    lines_written f.constraints w.constraints,
+                    (
+                      h,
+                      i ++ (j ++ k),
+                      refl,
+                      lines_written (map length f.justice) w.sizes,
+                      (
+                        i,
+                        j ++ k,
+                        refl,
+                        each_written Lines SetSmall lines_of lines_written f.justice w.justice,
+                        (j, k, refl, lines_written f.fairness w.fairness, each_written (Gate f.kind) GateSmall (gate_of f.kind) (gate_written f.kind) f.gates w.gates),
+                      ),
+                    ),
+                  ),
+                ),
+              ),
+            ),
+          ),
+        ),
+        (l, [], sym (append-nil l), each_written Name NameSmall name_of name_written f.names w.names, tt),
+      );
+      placed = w.placed;
+    }

@@ -1,0 +1,268 @@
+-- Reading from the front: a value and the bytes after it, or nothing. Each reader is for one text of the grammar.
+-- (AIGER format 20071012: "Header", "Binary encoding", "Symbol table"; AIGER 1.9: "Reset logic", "Properties".)
+use Rattle.std.specs.Prelude.{ℕ, zero, suc, ◌+◌, ◌-◌, ◌*◌, ◌^◌, Bool, true, false, not, ◌&&◌, nat_lt, nat_le, ◌==◌, if◌then◌else◌, List, [], ◌∷◌, ◌++◌, length, replicate, slice_index, slice_get, Option, Some, None, option_map}
+use Rattle.aig_format.specs.declared.FileKind.{FileKind}
+use Rattle.aig_format.specs.declared.FileKind.TheVariants.{Text, Binary}
+use Rattle.aig_format.specs.File.{LatchLine, GateLine, NameLine, File}
+use Rattle.aig_format.specs.Letters.{letter_of_comment}
+use Rattle.aig_format.specs.Spells.{magic, is_letter, places}
+
+-- what follows a value, if there is one
+infixl 10 ◌>>=◌
+abbrev pub ◌>>=◌ : {A B : Type 0} → Option A → (A → Option B) → Option B
+(Some x) >>= f = f x
+None >>= f = None
+
+-- a decimal digit
+abbrev pub is_digit : ℕ → Bool
+is_digit b = nat_le 48 b && nat_le b 57
+
+-- digits that go on, with the value so far: the value, and the byte that ends them
+unfoldable pub digits_at : ℕ → List ℕ → Option ((ℕ × ℕ) × List ℕ)
+digits_at v [] = None
+digits_at v (b ∷ bs) =
+    if is_digit b then (if nat_lt (10 * v + (b - 48)) (2 ^ 32) then digits_at (10 * v + (b - 48)) bs else None) else Some ((v, b), bs)
+
+-- a number, and the byte that ends it
+unfoldable pub number_at : List ℕ → Option ((ℕ × ℕ) × List ℕ)
+number_at [] = None
+number_at (b ∷ bs) = if is_digit b then digits_at (b - 48) bs else None
+
+-- a number that this byte ends
+unfoldable pub ended_at : ℕ → List ℕ → Option (ℕ × List ℕ)
+ended_at end bytes = do
+  n ← number_at bytes
+  if n.0.1 == end then Some (n.0.0, n.1) else None
+
+-- one reader, and then another that may look at what the first gave
+abbrev pub both_at : {A B : Type 0} → (List ℕ → Option (A × List ℕ)) → (A → List ℕ → Option (B × List ℕ)) → List ℕ → Option ((A × B) × List ℕ)
+both_at p q bytes = do
+  x ← p bytes
+  y ← q x.0 x.1
+  Some ((x.0, y.0), y.1)
+
+-- a reader that also wants a test passed
+abbrev pub tested_at : {A : Type 0} → (List ℕ → Option (A × List ℕ)) → (A → Bool) → List ℕ → Option (A × List ℕ)
+tested_at p test bytes = do
+  x ← p bytes
+  if test x.0 then Some x else None
+
+-- a reader whose value is seen otherwise
+abbrev pub mapped_at : {A B : Type 0} → (A → B) → (List ℕ → Option (A × List ℕ)) → List ℕ → Option (B × List ℕ)
+mapped_at f p bytes = do
+  x ← p bytes
+  Some (f x.0, x.1)
+
+-- a reader n times
+abbrev pub times_at : {A : Type 0} → (List ℕ → Option (A × List ℕ)) → ℕ → List ℕ → Option (List A × List ℕ)
+times_at p zero bytes = Some ([], bytes)
+times_at p (suc n) bytes = do
+  x ← p bytes
+  xs ← times_at p n x.1
+  Some (x.0 ∷ xs.0, xs.1)
+
+-- a line of at most so many numbers
+unfoldable pub line_at : ℕ → List ℕ → Option (List ℕ × List ℕ)
+line_at zero bytes = None
+line_at (suc k) bytes = do
+  n ← number_at bytes
+  if n.0.1 == 10 then Some (n.0.0 ∷ [], n.1) else if n.0.1 == 32 then (line_at k n.1 >>= λ ns. Some (n.0.0 ∷ ns.0, ns.1)) else None
+
+-- what follows a text, if the bytes begin with it
+abbrev pub strip : List ℕ → List ℕ → Option (List ℕ)
+strip [] bytes = Some bytes
+strip (a ∷ text) [] = None
+strip (a ∷ text) (b ∷ bytes) = if a == b then strip text bytes else None
+
+-- the first of two that is there
+abbrev pub or_else : {A : Type 0} → Option A → Option A → Option A
+or_else (Some x) other = Some x
+or_else None other = other
+
+-- the kind's word
+unfoldable pub kind_at : List ℕ → Option (FileKind × List ℕ)
+kind_at bytes = or_else (option_map (λ rest. (Text, rest)) (strip (magic Text) bytes)) (option_map (λ rest. (Binary, rest)) (strip (magic Binary) bytes))
+
+-- nine numbers, with zeros for those that are not written
+abbrev pub padded : List ℕ → List ℕ
+padded ns = ns ++ replicate (9 - length ns) 0
+
+-- the header: its kind and its nine numbers
+abbrev pub header_at : List ℕ → Option ((FileKind × List ℕ) × List ℕ)
+header_at = both_at kind_at (λ kind. mapped_at padded (tested_at (line_at 9) (λ ns. nat_le 5 (length ns))))
+
+-- the latch of the numbers of a line
+abbrev pub latch_from : List ℕ → LatchLine
+latch_from ns = record { literal = slice_index ns 0; next = slice_index ns 1; reset = slice_get ns 2 }
+
+-- the gate of the numbers of a line
+abbrev pub gate_from : List ℕ → GateLine
+gate_from ns = record { lhs = slice_index ns 0; rhs0 = slice_index ns 1; rhs1 = slice_index ns 2 }
+
+-- lines of one number
+abbrev pub numbers_at : ℕ → List ℕ → Option (List ℕ × List ℕ)
+numbers_at = times_at (ended_at 10)
+
+-- a latch line of a text file: two or three numbers
+abbrev pub latch_at : List ℕ → Option (LatchLine × List ℕ)
+latch_at = mapped_at latch_from (tested_at (line_at 3) (λ ns. nat_le 2 (length ns)))
+
+-- a gate line of a text file: three numbers
+abbrev pub gate_at : List ℕ → Option (GateLine × List ℕ)
+gate_at = mapped_at gate_from (tested_at (line_at 3) (λ ns. length ns == 3))
+
+-- sets of these sizes
+unfoldable pub sets_at : List ℕ → List ℕ → Option (List (List ℕ) × List ℕ)
+sets_at [] bytes = Some ([], bytes)
+sets_at (n ∷ sizes) bytes = do
+  set ← numbers_at n bytes
+  sets ← sets_at sizes set.1
+  Some (set.0 ∷ sets.0, sets.1)
+
+-- a byte
+abbrev pub byte_at : List ℕ → Option (ℕ × List ℕ)
+byte_at [] = None
+byte_at (b ∷ bs) = Some (b, bs)
+
+-- the bytes before the first line feed
+unfoldable pub text_at : List ℕ → Option (List ℕ × List ℕ)
+text_at [] = None
+text_at (b ∷ bs) = if b == 10 then Some ([], bs) else (text_at bs >>= λ x. Some (b ∷ x.0, x.1))
+
+-- a name of these parts
+abbrev pub name_from : ℕ × (ℕ × List ℕ) → NameLine
+name_from x = record { letter = x.0; position = x.1.0; name = x.1.1 }
+
+-- a name line
+abbrev pub name_at : List ℕ → Option (NameLine × List ℕ)
+name_at = mapped_at name_from (both_at (tested_at byte_at is_letter) (λ _. both_at (ended_at 32) (λ _. text_at)))
+
+-- whether the bytes are a comment, or nothing
+abbrev pub is_comment : List ℕ → Bool
+is_comment [] = true
+is_comment (c ∷ []) = c == letter_of_comment
+is_comment (c ∷ b ∷ bs) = c == letter_of_comment && not (is_digit b)
+
+-- the names, with the comment behind them, up to the end; at most k names
+unfoldable pub tail_at : ℕ → List ℕ → Option (List NameLine)
+tail_at zero bytes = None
+tail_at (suc k) bytes = if is_comment bytes then Some [] else (name_at bytes >>= λ n. tail_at k n.1 >>= λ ns. Some (n.0 ∷ ns))
+
+-- ---- binary files
+
+-- groups of seven bits, at most k of them
+unfoldable pub groups_at : ℕ → List ℕ → Option (ℕ × List ℕ)
+groups_at zero bytes = None
+groups_at (suc k) [] = None
+groups_at (suc k) (b ∷ bs) = if nat_lt b 128 then Some (b, bs) else (groups_at k bs >>= λ x. Some ((b - 128) + 128 * x.0, x.1))
+
+-- a difference
+abbrev pub delta_at : List ℕ → Option (ℕ × List ℕ)
+delta_at = tested_at (groups_at 5) (λ d. nat_lt d (2 ^ 32))
+
+-- n entries, of the variables from v on
+abbrev pub placed_at : {A : Type 0} → (ℕ → List ℕ → Option (A × List ℕ)) → ℕ → ℕ → List ℕ → Option (List A × List ℕ)
+placed_at p zero v bytes = Some ([], bytes)
+placed_at p (suc n) v bytes = do
+  x ← p v bytes
+  xs ← placed_at p n (v + 1) x.1
+  Some (x.0 ∷ xs.0, xs.1)
+
+-- the latch of variable v in a binary file
+abbrev pub placed_latch : ℕ → List ℕ → LatchLine
+placed_latch v ns = record { literal = 2 * v; next = slice_index ns 0; reset = slice_get ns 1 }
+
+-- the gate of variable v in a binary file, by its two differences
+abbrev pub placed_gate : ℕ → ℕ × ℕ → GateLine
+placed_gate v d = record { lhs = 2 * v; rhs0 = 2 * v - d.0; rhs1 = 2 * v - d.0 - d.1 }
+
+-- neither difference passes the number that it is taken from
+abbrev pub fits_gate : ℕ → ℕ × ℕ → Bool
+fits_gate v d = nat_le d.0 (2 * v) && nat_le d.1 (2 * v - d.0)
+
+-- a latch line of a binary file, for variable v
+abbrev pub placed_latch_at : ℕ → List ℕ → Option (LatchLine × List ℕ)
+placed_latch_at v = mapped_at (placed_latch v) (line_at 2)
+
+-- a gate of a binary file, for variable v
+abbrev pub placed_gate_at : ℕ → List ℕ → Option (GateLine × List ℕ)
+placed_gate_at v = mapped_at (placed_gate v) (tested_at (both_at delta_at (λ _. delta_at)) (fits_gate v))
+
+-- ---- files of both kinds, by the header's numbers
+
+-- the inputs: in a binary file they have no bytes
+abbrev pub inputs_at : FileKind → List ℕ → List ℕ → Option (List ℕ × List ℕ)
+inputs_at Text ns = numbers_at (slice_index ns 1)
+inputs_at Binary ns = λ bytes. Some (places (slice_index ns 1) 1, bytes)
+
+-- the latches
+abbrev pub latches_at : FileKind → List ℕ → List ℕ → Option (List LatchLine × List ℕ)
+latches_at Text ns = times_at latch_at (slice_index ns 2)
+latches_at Binary ns = placed_at placed_latch_at (slice_index ns 2) (1 + slice_index ns 1)
+
+-- the gates
+abbrev pub gates_at : FileKind → List ℕ → List ℕ → Option (List GateLine × List ℕ)
+gates_at Text ns = times_at gate_at (slice_index ns 4)
+gates_at Binary ns = placed_at placed_gate_at (slice_index ns 4) (1 + slice_index ns 1 + slice_index ns 2)
+
+-- inputs, latches, outputs, bads, constraints, justice sizes, justice, fairness, gates
+abbrev pub Parts : Type 0
+Parts = List ℕ × (List LatchLine × (List ℕ × (List ℕ × (List ℕ × (List ℕ × (List (List ℕ) × (List ℕ × List GateLine)))))))
+
+-- the sections behind the header
+abbrev pub sections_at : FileKind → List ℕ → List ℕ → Option (Parts × List ℕ)
+sections_at kind ns =
+    both_at (inputs_at kind ns) (λ _. both_at (latches_at kind ns) (λ _. both_at (numbers_at (slice_index ns 3))
+    (λ _. both_at (numbers_at (slice_index ns 5)) (λ _. both_at (numbers_at (slice_index ns 6)) (λ _. both_at (numbers_at (slice_index ns 7))
+    (λ sizes. both_at (sets_at sizes) (λ _. both_at (numbers_at (slice_index ns 8)) (λ _. gates_at kind ns))))))))
+
+-- the header and the sections
+abbrev pub body_at : List ℕ → Option (((FileKind × List ℕ) × Parts) × List ℕ)
+body_at = both_at header_at (λ h. sections_at h.0 h.1)
+
+-- the file of a header, sections and names
+abbrev pub file_from : (FileKind × List ℕ) × Parts → List NameLine → File
+file_from b names = let x = b.1 in record {
+  kind = b.0.0;
+  greatest = slice_index b.0.1 0;
+  inputs = x.0;
+  latches = x.1.0;
+  outputs = x.1.1.0;
+  gates = x.1.1.1.1.1.1.1.1;
+  bads = x.1.1.1.0;
+  constraints = x.1.1.1.1.0;
+  justice = x.1.1.1.1.1.1.0;
+  fairness = x.1.1.1.1.1.1.1.0;
+  names = names;
+}
+
+-- the file that the bytes spell, if any
+unfoldable pub file_at : List ℕ → Option File
+file_at bytes = do
+  b ← body_at bytes
+  names ← tail_at (suc (length b.1)) b.1
+  Some (file_from b.0 names)
+
+-- whether the header line is good, and M + 1 passes the limit
+abbrev pub too_many_of : ℕ → Option ((FileKind × List ℕ) × List ℕ) → Bool
+too_many_of limit None = false
+too_many_of limit (Some h) = let ns = h.0.1 in slice_index ns 0 == slice_index ns 1 + slice_index ns 2 + slice_index ns 4 && nat_lt limit (slice_index ns 0 + 1)
+
+-- whether bytes begin with such a header line
+abbrev pub too_many_at : ℕ → List ℕ → Bool
+too_many_at limit bytes = too_many_of limit (header_at bytes)
+
+-- ---- entries with a test that looks at those before
+
+-- a reader n times, each entry tested beside the entries before it
+abbrev pub checked_at : {A : Type 0} → (List ℕ → Option (A × List ℕ)) → (List A → A → Bool) → List A → ℕ → List ℕ → Option (List A × List ℕ)
+checked_at p test before zero bytes = Some ([], bytes)
+checked_at p test before (suc n) bytes = do
+  x ← tested_at p (test before) bytes
+  xs ← checked_at p test (before ++ x.0 ∷ []) n x.1
+  Some (x.0 ∷ xs.0, xs.1)
+
+-- each entry meets the condition beside the entries before it
+abbrev pub AllAfter : {A : Type 0} → (List A → A → Type 0) → List A → List A → Type 0
+AllAfter F before [] = Unit {0}
+AllAfter F before (x ∷ xs) = F before x × AllAfter F (before ++ x ∷ []) xs

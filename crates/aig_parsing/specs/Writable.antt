@@ -1,0 +1,40 @@
+-- The files that have a written form. (AIGER format 20071012: "Header", "Symbol table".)
+use Rattle.std.specs.Prelude.{◌≡◌, ◌≢◌, ℕ, ◌^◌, ◌<◌, ◌≤◌, true, List, map, length, option_to_list}
+use Rattle.std.specs.List.{AllByRecursion}
+use Rattle.aig_format.specs.File.{LatchLine, GateLine, NameLine, File, header_of, defined}
+use Rattle.aig_format.specs.Spells.{is_letter, Placed}
+
+-- a number that a file may have
+abbrev pub IsSmall : ℕ → Type 0
+IsSmall n = n < 2 ^ 32
+
+-- a latch of such numbers
+abbrev pub LatchSmall : LatchLine → Type 0
+LatchSmall l = IsSmall l.literal × IsSmall l.next × AllByRecursion IsSmall (option_to_list l.reset)
+
+-- a gate of such numbers, with its operands in the order of the written form
+abbrev pub GateSmall : GateLine → Type 0
+GateSmall g = IsSmall g.lhs × (g.rhs0 ≤ g.lhs) × (g.rhs1 ≤ g.rhs0)
+
+-- a name with one of the seven letters, such a position, and no line feed
+abbrev pub NameSmall : NameLine → Type 0
+NameSmall n = (is_letter n.letter ≡ true) × IsSmall n.position × AllByRecursion (λ b. b ≢ 10) n.name
+
+-- a justice set of such numbers
+abbrev pub SetSmall : List ℕ → Type 0
+SetSmall s = AllByRecursion IsSmall s
+
+-- what can be written
+pub record CanWrite (f : File) : Type 0 where
+  pub header : AllByRecursion IsSmall (header_of f)
+  pub inputs : AllByRecursion IsSmall f.inputs
+  pub latches : AllByRecursion LatchSmall f.latches
+  pub outputs : AllByRecursion IsSmall f.outputs
+  pub bads : AllByRecursion IsSmall f.bads
+  pub constraints : AllByRecursion IsSmall f.constraints
+  pub sizes : AllByRecursion IsSmall (map length f.justice)
+  pub justice : AllByRecursion SetSmall f.justice
+  pub fairness : AllByRecursion IsSmall f.fairness
+  pub gates : AllByRecursion GateSmall f.gates
+  pub names : AllByRecursion NameSmall f.names
+  pub placed : Placed f.kind (defined f)

@@ -1,0 +1,34 @@
+//! Reading AIGER from the front, on lists, and the laws that join it to the grammar.
+#![tactic(auto)]
+
+ghost use Rattle.std.specs.Prelude.{◌≡◌, ◌↔◌, ℕ, List, Some, true};
+ghost use Rattle.aig_format.specs.File.{File};
+ghost use Rattle.aig_format.specs.Spells.{Spells};
+ghost use Rattle.aig_format.specs.Written.{spelling_of};
+ghost use Rattle.aig_format.specs.Fits.{TooMany, Accepts};
+ghost use Rattle.aig_parsing.specs.Front.{file_at, header_at, too_many_at};
+ghost use Rattle.aig_parsing.specs.Fitting.{fitting_at};
+ghost use Rattle.aig_parsing.specs.Writable.{CanWrite};
+
+/// What is read is spelled so, what is spelled so is read, and bytes spell one file at most.
+pub fn reads_exactly()
+    ensures sound { (bytes : List ℕ) (f : File) → file_at bytes ≡ Some f → Spells f bytes }
+    ensures complete { (f : File) (bytes : List ℕ) → Spells f bytes → file_at bytes ≡ Some f }
+    ensures one { (f g : File) (bytes : List ℕ) → Spells f bytes → Spells g bytes → f ≡ g }
+{}
+
+/// The written form of a file spells it.
+pub fn writes_spelled()
+    ensures { (f : File) → CanWrite f → Spells f (spelling_of f) }
+{}
+
+/// Whether a header line is good and passes the limit can be read from the front.
+pub fn tells_too_many()
+    ensures { (bytes : List ℕ) (limit : ℕ) → (too_many_at limit bytes ≡ true) ↔ TooMany bytes limit }
+{}
+
+/// What is read with each line tested beside those before it is accepted, and what is accepted is read.
+pub fn reads_fitting()
+    ensures sound { (limit : ℕ) (bytes : List ℕ) (f : File) → fitting_at limit bytes ≡ Some f → Accepts bytes limit f }
+    ensures complete { (limit : ℕ) (bytes : List ℕ) (f : File) → Accepts bytes limit f → fitting_at limit bytes ≡ Some f }
+{}

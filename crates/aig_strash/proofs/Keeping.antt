@@ -1,0 +1,69 @@
+-- Firsts and their numbers, and what the strashed circuit has of the kept nodes.
+use Rattle.std.proofs.Common.{◌≡◌, ℕ, ◌<◌, Bool, true, false, cond, Some, None, List, length, get_or, refl, sym, ap, ◌∙◌, nat_cmp}
+use Rattle.std.specs.FinMap.{FinMap, contains_key, entries, get, get-entries, get-from_entries, get-retain_keys, retain_keys}
+use Rattle.std.specs.Prelude.{IsTrue, is_some}
+use Rattle.std.proofs.lemmas.Cmp.{nat_cmp_total}
+use Rattle.std.proofs.lemmas.Map.Lookups.{exact_unsigned}
+use Rattle.std.proofs.lemmas.Bool.{false≢true}
+use Rattle.aig_circuit.specs.Circuit.{Circuit, IsCircuit}
+use Rattle.aig_circuit.specs.Renumber.{renumbered_kind}
+use Rattle.aig_circuit.proofs.Trees.{kind_at-there}
+use Rattle.aig_renumber.proofs.Kept.{is_in-back, is_in-there}
+use Rattle.aig_renumber.proofs.Names.{find-number, names_in_circuit}
+use Rattle.aig_renumber.proofs.Numbering.{kind_at-number, length-nodes_in_order}
+use Rattle.aig_strash.specs.Exchange.{first_of, image_of, kept_nodes}
+use Rattle.aig_strash.specs.Strash.{KeepsFirsts, NumbersFirsts, strashed}
+use Rattle.aig_strash.proofs.Alike.{Merges-kept}
+use Rattle.aig_strash.proofs.Firsts.{first-is, image-back, kept-from, kept-is, kept-within}
+use Rattle.aig_strash.proofs.Gates.{first-other}
+use Rattle.aig_strash.proofs.Numbered.{image-count}
+use Rattle.aig_strash.proofs.Strashing.{inputs-strashed, kept}
+
+module _ (c : Circuit) (is : IsCircuit c) where
+  pub NumbersFirsts-images : NumbersFirsts c.nodes (image_of c.nodes)
+  NumbersFirsts-images = record {
+    first = first-is c.nodes is.nodes;
+    others = λ n h other. let kind = kind_at-there c.nodes n h in first-other c.nodes is.nodes n kind.0 kind.1 other;
+    places = image-count c.nodes is.nodes;
+  }
+
+  -- kept nodes have numbers of their own
+  apart : (m n : ℕ) → kept c is m ≡ true → kept c is n ≡ true → image_of c.nodes m ≡ image_of c.nodes n → m ≡ n
+  apart m n is_m is_n same =
+      let there_m = is_in-back (kept_nodes c.nodes) m is_m in
+      let there_n = is_in-back (kept_nodes c.nodes) n is_n in
+      sym (image-back c.nodes is.nodes m (kept-within c.nodes is.nodes m there_m) ∙ kept-is c.nodes is.nodes m there_m)
+      ∙ ap (λ i. get_or (kept_nodes c.nodes) i 0) same
+      ∙ image-back c.nodes is.nodes n (kept-within c.nodes is.nodes n there_n) ∙ kept-is c.nodes is.nodes n there_n
+
+  abbrev names : FinMap nat_cmp (List ℕ)
+  names = retain_keys c.names (kept c is)
+
+  get-names : (n : ℕ) → get names n ≡ cond (kept c is n) (get c.names n) None
+  get-names n = get-retain_keys c.names (kept c is) n (λ k e. let same : n ≡ k = exact_unsigned n k e in ap (kept c is) (sym same))
+
+  named : (n : ℕ) → IsTrue (contains_key names n) → kept c is n ≡ true
+  named n has = by_test (kept c is n) (sym (ap is_some (get-names n)) ∙ has)
+    where
+      by_test : (b : Bool) → is_some (cond b (get c.names n) None) ≡ true → b ≡ true
+      by_test true h = refl
+      by_test false h = absurd (false≢true h)
+
+  -- a kept node's name stands under its new number
+  names-kept : (n : ℕ) → n < length c.nodes → first_of c.nodes n ≡ n → get (strashed c).names (image_of c.nodes n) ≡ get c.names n
+  names-kept n h first =
+      let here : kept c is n ≡ true = is_in-there (kept_nodes c.nodes) n (kept-from c.nodes is.nodes n h first) in
+      get-from_entries nat_cmp_total _ (image_of c.nodes n)
+      ∙ find-number (λ m. kept c is m ≡ true) (image_of c.nodes) apart (entries names) n here (names_in_circuit (λ m. kept c is m ≡ true) names named)
+      ∙ sym (get-entries names n) ∙ get-names n ∙ ap (λ b. cond b (get c.names n) None) here
+
+  pub KeepsFirsts-strashed : KeepsFirsts c (strashed c) (image_of c.nodes)
+  KeepsFirsts-strashed = record {
+    count = length-nodes_in_order c.nodes (image_of c.nodes) 0 (kept_nodes c.nodes);
+    kinds = λ n h.
+        let kind = kind_at-there c.nodes n h in
+        kind_at-number c.nodes (λ m. m < length c.nodes) (kept_nodes c.nodes) (image_of c.nodes) (Merges-kept c.nodes is.nodes) n kind.0 h kind.1
+        ∙ ap (λ o. Some (renumbered_kind (image_of c.nodes) o)) (sym kind.1);
+    inputs = inputs-strashed c is;
+    names = names-kept;
+  }

@@ -1,0 +1,11 @@
+//! Structural hashing of circuits.
+#![tactic(auto)]
+
+mod hashing;
+mod laws;
+
+pub use hashing::strash;
+pub use laws::{
+    strashing_is_circuit, strashing_keeps_firsts, strashing_keeps_runs, strashing_merges_trees,
+    strashing_numbers_firsts, strashing_twice,
+};

@@ -1,0 +1,37 @@
+use Rattle.std.proofs.Common.{◌≡◌, Result, Ok, Err, length, map, subst, sym, ap, ◌∙◌, arith}
+use Rattle.std.specs.Prelude.{OnOk}
+use Rattle.std.proofs.lemmas.List.{length-map}
+use Rattle.aig_circuit.specs.declared.node.AigLatch.{AigLatch}
+use Rattle.aig_circuit.specs.Circuit.{latch_leaves}
+use Rattle.aig_circuit.specs.Runs.{next_edges}
+use Rattle.aig_unroll.specs.Step.{HasLatchImages, CopiesAll, CopiesBelow, image_at}
+use Rattle.aig_unroll.proofs.Counted.{all_copies}
+use Rattle.aig_unroll.proofs.Table.{latch_images, marks_latches}
+use Rattle.aig_unroll.proofs.nodes.copy_step.Goals as goal
+
+OnOk-weaker : {T E : Type 0} (r : Result T E) (P Q : Type 0) → (P → Q) → OnOk r P → OnOk r Q
+OnOk-weaker (Ok x) P Q f p = f p
+OnOk-weaker (Err e) P Q f p = tt
+
+pub copy_nodes-requires-clause-latches : goal.copy_nodes-requires-clause-latches
+copy_nodes-requires-clause-latches c =
+    let from = c.args.from.now in
+    let current = c.args.latchs.now in
+    let unset : c.len.result ≡ length c.args.nodes.now.items = omega arith in
+    let has = subst (λ l. HasLatchImages l current (length l) c.len.result c.set_latch_images.new.images) c.latchs.ensures.value c.set_latch_images.ensures in
+    let same : length from.latchs ≡ length current = sym (length-map from.latchs (λ (l : AigLatch). l.input)) ∙ sym (ap length c.requires.leaves) ∙ length-map current (λ (l : AigLatch). l.input) in
+    marks_latches from c.latchs.ensures.circuit current (length c.args.nodes.now.items) c.set_latch_images.new.images same (subst (λ n. HasLatchImages from.latchs current (length from.latchs) n c.set_latch_images.new.images) unset has) c.requires.next
+
+pub returns-clause-copies : goal.returns-clause-copies
+returns-clause-copies c =
+    let from = c.args.from.now in
+    let current = c.args.latchs.now in
+    let old = c.args.nodes.now.items in
+    let new = c.copy_nodes.new.nodes.items in
+    let before = c.set_latch_images.new.images in
+    let images = c.copy_nodes.new.images in
+    let has = subst (λ l. HasLatchImages l current (length l) c.len.result c.set_latch_images.new.images) c.latchs.ensures.value c.set_latch_images.ensures in
+    let same : length from.latchs ≡ length current = sym (length-map from.latchs (λ (l : AigLatch). l.input)) ∙ sym (ap length c.requires.leaves) ∙ length-map current (λ (l : AigLatch). l.input) in
+    let placed : map (image_at before) (latch_leaves from.latchs) ≡ next_edges current = latch_images from c.latchs.ensures.circuit current c.len.result before same has in
+    OnOk-weaker c.copy_nodes.result (CopiesBelow from old new before images (length from.nodes)) (CopiesAll from current old new images)
+    (λ copies. all_copies from c.latchs.ensures.circuit current old new before images placed copies) c.copy_nodes.ensures.copies

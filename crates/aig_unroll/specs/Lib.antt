@@ -1,0 +1,3 @@
+pub mod Places
+pub mod Unroll
+pub mod Step

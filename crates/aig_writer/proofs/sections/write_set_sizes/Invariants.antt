@@ -1,0 +1,8 @@
+use Rattle.std.proofs.Common.{take}
+use Rattle.std.specs.List.{flat_map}
+use Rattle.aig_writer.specs.Sinks.{Buffers}
+use Rattle.aig_writer.proofs.Items.{len_is, size_line, set_sizes}
+use Rattle.aig_writer.proofs.sections.write_set_sizes.Given as goal
+
+abbrev pub invariant-loop-set : goal.invariant-loop-set
+invariant-loop-set g l = Buffers l.fn.buffer (g.W.Sink.held l.fn.w) l.buffer (g.W.Sink.held l.w) (flat_map size_line (take l.set-index l.sets))

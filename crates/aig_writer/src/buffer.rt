@@ -1,0 +1,139 @@
+//! A buffer of bytes in front of a sink.
+
+ghost use Rattle.std.specs.Prelude.{◌≡◌, ◌+◌, ◌^◌, ◌<◌, ◌≤◌, ◌++◌, ◌∷◌, [], List, ℕ, length, take, decimal, OnOk};
+ghost use Rattle.aig_format.specs.Written.{delta_of, line_of};
+ghost use Rattle.aig_writer.specs.Sinks.{BuffersOrStops, WritesOrStops};
+
+use crate::put::put_all;
+use aig_base::{Sink, StreamFault};
+use itoa::write_digits;
+use std::marker::Model;
+
+/// How many bytes a buffer has room for.
+const SIZE: usize = 4096;
+
+/// How many digits a number has at most.
+const DIGITS: usize = 20;
+
+/// Room for the longest line, of nine numbers with a byte behind each.
+const LINE: usize = 192;
+
+/// How many groups of seven bits a difference has at most.
+const GROUPS: usize = 5;
+
+/// Bytes that wait for a sink, in order, until 4,096 are there. A text that is written waits here, or goes to the sink
+/// behind what waited.
+#[derive(Drop)]
+pub struct OutputBuffer {
+    bytes: [u8; SIZE],
+    len: usize,
+}
+
+impl Model for OutputBuffer {
+    ghost Value = { List ℕ };
+
+    ghost view = { λ b. take b.len b.bytes };
+
+    ghost invariant = { λ b. b.len ≤ 4096 };
+}
+
+impl OutputBuffer {
+    /// A buffer in which nothing waits.
+    pub fn new() -> Self
+        ensures { result ≡ [] }
+    {
+        OutputBuffer {
+            bytes: [0; SIZE],
+            len: 0,
+        }
+    }
+
+    /// Puts what waits into the sink.
+    pub fn flush<W: Sink>(&mut self, w: &mut W) -> Result<(), StreamFault>
+        ensures writes { WritesOrStops W.held W.failed w.old result self.old w.new }
+        ensures empty { OnOk result (self.new ≡ []) }
+    {
+        put_all(w, &self.bytes[..self.len])?;
+        self.len = 0;
+        Ok(())
+    }
+
+    /// Appends a piece for which there is room.
+    fn push(&mut self, piece: &[u8])
+        requires { length self.old + length piece.now ≤ 4096 }
+        ensures { self.new ≡ self.old ++ piece.now }
+    {
+        let end = self.len + piece.len();
+        self.bytes[self.len..end].copy_from_slice(piece);
+        self.len = end;
+    }
+
+    /// Writes a piece for which there is no room before what waits is put.
+    #[cold]
+    fn flush_and_push<W: Sink>(&mut self, w: &mut W, piece: &[u8]) -> Result<(), StreamFault>
+        ensures { BuffersOrStops W.held W.failed self.old w.old result piece.now self.new w.new }
+    {
+        self.flush(w)?;
+        if piece.len() > SIZE {
+            return put_all(w, piece);
+        }
+        self.push(piece);
+        Ok(())
+    }
+
+    /// Writes a piece of text.
+    pub fn write_bytes<W: Sink>(&mut self, w: &mut W, piece: &[u8]) -> Result<(), StreamFault>
+        ensures { BuffersOrStops W.held W.failed self.old w.old result piece.now self.new w.new }
+    {
+        if piece.len() > SIZE - self.len {
+            return self.flush_and_push(w, piece);
+        }
+        self.push(piece);
+        Ok(())
+    }
+
+    /// Writes a number in decimal, and the byte `end` behind it.
+    pub fn write_number<W: Sink>(&mut self, w: &mut W, n: usize, end: u8) -> Result<(), StreamFault>
+        ensures { let text = decimal n ++ end ∷ [] in
+            BuffersOrStops W.held W.failed self.old w.old result text self.new w.new }
+    {
+        let mut digits = [end; DIGITS + 1];
+        let start = write_digits(n as u64, &mut digits, DIGITS);
+        self.write_bytes(w, &digits[start..])
+    }
+
+    /// Writes a line of numbers, one at least and nine at most, apart by one space each.
+    pub fn write_line<W: Sink>(&mut self, w: &mut W, numbers: &[usize]) -> Result<(), StreamFault>
+        requires some { 0 < length numbers.now }
+        requires few { length numbers.now ≤ 9 }
+        ensures { let text = line_of numbers.now in
+            BuffersOrStops W.held W.failed self.old w.old result text self.new w.new }
+    {
+        let mut text = [b' '; LINE];
+        text[LINE - 1] = b'\n';
+        let mut start = LINE;
+        for n in numbers.iter().rev() {
+            start = write_digits(*n as u64, &mut text, start - 1);
+        }
+        self.write_bytes(w, &text[start..])
+    }
+
+    /// Writes a binary difference, in groups of seven bits, the lowest first, in its shortest spelling (AIGER format
+    /// 20071012, "Binary encoding").
+    pub fn write_difference<W: Sink>(&mut self, w: &mut W, d: usize) -> Result<(), StreamFault>
+        requires { d < 2 ^ 32 }
+        ensures { let text = delta_of d in
+            BuffersOrStops W.held W.failed self.old w.old result text self.new w.new }
+    {
+        let mut groups = [0; GROUPS];
+        let mut count = 0;
+        let mut rest = d;
+        while rest >= 128 {
+            groups[count] = (rest % 128) as u8 + 128;
+            count += 1;
+            rest /= 128;
+        }
+        groups[count] = rest as u8;
+        self.write_bytes(w, &groups[..count + 1])
+    }
+}

@@ -1,0 +1,116 @@
+//! The sections of a file, behind its header.
+
+ghost use Rattle.std.specs.Prelude.{◌*◌, length, map, filter_map, option_to_list, All};
+ghost use Rattle.std.specs.List.{flat_map};
+ghost use Rattle.std.specs.Fmt.{WritesOnOk};
+ghost use Rattle.aig_circuit.specs.Edge.{literal_of};
+ghost use Rattle.aig_format.specs.declared.FileKind.TheVariants.{Text};
+ghost use Rattle.aig_format.specs.Written.{lines_of, latch_of, gate_of};
+ghost use Rattle.aig_format.specs.Circuit.{latch_line, gate_line};
+ghost use Rattle.aig_writer.specs.Parts.{literal_sets};
+ghost use Rattle.aig_writer.specs.Literals.{IsSmall, IsSmallEdge, IsSmallLatch, IsSmallNode};
+
+use crate::literal::{literal, reset_literal};
+use aig_circuit::{AigEdge, AigLatch, AigNode, AigNodeType};
+use std::fmt;
+use std::fmt::{Formatter, Write};
+
+/// Writes a line for each input, its literal.
+pub fn write_inputs<W: Write>(inputs: &[usize], f: &mut Formatter<W>) -> fmt::Result
+    requires { All IsSmall inputs.now }
+    ensures { let text = lines_of (map (λ n. 2 * n) inputs.now) in
+        WritesOnOk W.write_str_gives f.old result text f.new }
+{
+    for n in inputs {
+        writeln!(f, "{}", 2 * *n)?;
+    }
+    Ok(())
+}
+
+/// Writes a line for a latch: its literal, its next literal, and its reset if it is not 0.
+fn write_latch<W: Write>(latch: &AigLatch, f: &mut Formatter<W>) -> fmt::Result
+    requires { IsSmallLatch latch.now }
+    ensures { let text = latch_of Text (latch_line latch.now) in
+        WritesOnOk W.write_str_gives f.old result text f.new }
+{
+    let own = 2 * latch.input();
+    let next = literal(latch.next());
+    match reset_literal(latch) {
+        None => writeln!(f, "{own} {next}"),
+        Some(reset) => writeln!(f, "{own} {next} {reset}"),
+    }
+}
+
+/// Writes a line for each latch.
+pub fn write_latches<W: Write>(latchs: &[AigLatch], f: &mut Formatter<W>) -> fmt::Result
+    requires { All IsSmallLatch latchs.now }
+    ensures { let text = flat_map (latch_of Text) (map latch_line latchs.now) in
+        WritesOnOk W.write_str_gives f.old result text f.new }
+{
+    for latch in latchs {
+        write_latch(latch, f)?;
+    }
+    Ok(())
+}
+
+/// Writes a line for each edge, its literal.
+pub fn write_edges<W: Write>(edges: &[AigEdge], f: &mut Formatter<W>) -> fmt::Result
+    requires { All IsSmallEdge edges.now }
+    ensures { let text = lines_of (map literal_of edges.now) in
+        WritesOnOk W.write_str_gives f.old result text f.new }
+{
+    for e in edges {
+        writeln!(f, "{}", literal(*e))?;
+    }
+    Ok(())
+}
+
+/// Writes a line for each set, how many edges it has.
+pub fn write_set_sizes<W: Write>(sets: &[Vec<AigEdge>], f: &mut Formatter<W>) -> fmt::Result
+    ensures { let text = lines_of (map length (literal_sets sets.now)) in
+        WritesOnOk W.write_str_gives f.old result text f.new }
+{
+    for set in sets {
+        writeln!(f, "{}", set.len())?;
+    }
+    Ok(())
+}
+
+/// Writes the lines of each set of edges.
+pub fn write_sets<W: Write>(sets: &[Vec<AigEdge>], f: &mut Formatter<W>) -> fmt::Result
+    requires { All (λ set. All IsSmallEdge set.items) sets.now }
+    ensures { let text = flat_map lines_of (literal_sets sets.now) in
+        WritesOnOk W.write_str_gives f.old result text f.new }
+{
+    for set in sets {
+        write_edges(set, f)?;
+    }
+    Ok(())
+}
+
+/// Writes a line for a node that is a gate: its literal, its second operand, its first.
+fn write_gate<W: Write>(node: &AigNode, f: &mut Formatter<W>) -> fmt::Result
+    requires { IsSmallNode node.now }
+    ensures { let text = flat_map (gate_of Text) (option_to_list (gate_line node.now)) in
+        WritesOnOk W.write_str_gives f.old result text f.new }
+{
+    match node.typ() {
+        AigNodeType::And(first, second) => {
+            let own = 2 * node.node_id();
+            writeln!(f, "{own} {} {}", literal(*second), literal(*first))
+        }
+        _ => Ok(()),
+    }
+}
+
+/// Writes a line for each node that is a gate.
+pub fn write_gates<W: Write>(nodes: &[AigNode], f: &mut Formatter<W>) -> fmt::Result
+    requires { All IsSmallNode nodes.now }
+    ensures { let text = flat_map (gate_of Text) (filter_map gate_line nodes.now) in
+        WritesOnOk W.write_str_gives f.old result text f.new }
+{
+    for node in nodes {
+        write_gate(node, f)?;
+    }
+    Ok(())
+}
