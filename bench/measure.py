@@ -43,6 +43,14 @@ def check_clauses(out):
             sys.exit("the clauses are not as many as the header says")
 
 
+def check_hashed(file, out):
+    """Ends where the hashed circuit has more gates than the first, or fewer lines than its header says."""
+    with open(file, "rb") as a, open(out, "rb") as b:
+        before, after = (list(map(int, f.readline().split()[1:])) for f in (a, b))
+        if after[4] > before[4] or sum(1 for _ in b) != sum(after[1:]):
+            sys.exit("the hashed circuit is not as its header says")
+
+
 def check_same(file, out):
     """Ends where two files differ."""
     if not filecmp.cmp(file, out, shallow=False):
@@ -62,6 +70,7 @@ def measure(tool, gates, folder):
         ("binary of a text", text, ["binary", text, other], other, lambda: check_same(binary, other)),
         ("text of a binary", binary, ["text", binary], out, lambda: check_same(text, out)),
         ("binary of a binary", binary, ["binary", binary, other], other, lambda: check_same(binary, other)),
+        ("strash of a text", text, ["strash", text], out, lambda: check_hashed(text, out)),
         ("cnf of a text", text, ["cnf", text, "0", "raw"], out, lambda: check_clauses(out)),
     ]
     for name, file, words, written, check in commands:
