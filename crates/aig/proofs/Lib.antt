@@ -1,3 +1,4 @@
+pub mod Gates
 pub mod Results
 pub mod Refusing
 pub mod Texts

@@ -1,5 +1,5 @@
 -- The names of a circuit are text.
-use Rattle.std.proofs.Common.{◌≡◌, ℕ, Option, Some, None, List, String, Global, nat_eq, refl, sym, subst, ◌∙◌}
+use Rattle.std.proofs.Common.{◌≡◌, ℕ, Option, Some, None, List, String, Global, nat_eq, refl, subst, ◌∙◌}
 use Rattle.std.proofs.lemmas.Cmp.{nat_cmp_total}
 use Rattle.std.proofs.lemmas.Map.Lookups.{map_keys}
 use Rattle.std.specs.Prelude.{IfSome, IsUtf8, option_map, string_bytes}

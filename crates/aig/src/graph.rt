@@ -8,6 +8,7 @@ ghost use Rattle.aig_circuit.specs.Circuit.{BeginsWith, HasFreeLeaf, IsCircuit, 
 ghost use Rattle.aig_circuit.specs.Reach.{IsOperand, IsReached, MarksExactly};
 ghost use Rattle.aig_circuit.specs.View.{lists_circuit, names_of};
 ghost use Rattle.aig_format.specs.Writable.{AreTexts};
+ghost use Rattle.aig.specs.Gates.{IsGateOf};
 
 mod builders;
 mod names;
@@ -48,7 +49,7 @@ impl Model for Aig {
 
     ghost coded = { Prim.hlevel (codes, finite_map.code {R = nat_cmp} coded_ℕ (coded_list coded_ℕ)) };
 
-    ghost use Rattle.aig.specs.View.{held_circuit};
+ghost use Rattle.aig.specs.View.{held_circuit};
 
     ghost view = { held_circuit };
 
@@ -264,6 +265,8 @@ impl Aig {
     /// Its gates in rising number.
     pub fn ands_iter(&self) -> AndsIter<'_>
         ensures gates { result ≡ gates_of self.now.nodes }
+        // Each stands at its number, and its operands come before it, in order.
+        ensures items { All (IsGateOf self.now.nodes) result }
         ensures bound { length result < 2 ^ 64 }
     {
         gates_among(&self.lists.nodes)

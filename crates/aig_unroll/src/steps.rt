@@ -4,7 +4,7 @@ ghost use Rattle.std.specs.Prelude.{◌≡◌, ◌≤◌, ◌↔◌, IfOk, IsTru
 ghost use Rattle.aig_circuit.specs.Build.{Grows};
 ghost use Rattle.aig_circuit.specs.Circuit.{BeginsWith, IsCircuit};
 ghost use Rattle.aig_circuit.specs.View.{lists_circuit};
-ghost use Rattle.aig_unroll.specs.Places.{unrolled_size};
+ghost use Rattle.aig_unroll.specs.Places.{size_by_counts};
 ghost use Rattle.aig_unroll.specs.Step.{IsPrepared};
 ghost use Rattle.aig_unroll.specs.Unroll.{UnrollsBySteps, UnrollsOnce, UnrollsTo};
 
@@ -96,14 +96,11 @@ pub fn unroll_to(circuit: &CircuitView<'_>, k: usize) -> Result<CircuitLists, Me
     Ok(lists)
 }
 
-/// Returns whether `unrolled_size` of `k` steps more, the most nodes that `unroll_to` makes, is at most `limit`. Exact for
-/// every `k` and `limit`.
-pub fn is_within(circuit: &CircuitView<'_>, k: usize, limit: usize) -> bool
-    ensures { IsTrue result ↔ (unrolled_size circuit.now k ≤ limit) }
+/// Returns whether a circuit of so many nodes and latches has, with `k` steps more, at most `limit` nodes by the bound that
+/// `unroll_to` keeps. Exact for every `k` and `limit`.
+pub fn is_within(nodes: usize, latchs: usize, k: usize, limit: usize) -> bool
+    ensures { IsTrue result ↔ (size_by_counts nodes latchs k ≤ limit) }
 {
-    let size = circuit.nodes().len();
-    let added = size
-        .saturating_sub(1)
-        .saturating_sub(circuit.latchs().len());
-    size <= limit && (added == 0 || k <= (limit - size) / added)
+    let added = nodes.saturating_sub(1).saturating_sub(latchs);
+    nodes <= limit && (added == 0 || k <= (limit - nodes) / added)
 }

@@ -158,9 +158,14 @@ fn writes_files(rt: HostRuntime) -> Result<(), Fail> {
     let circuit = read(rt.alloc(), AND)?;
     let nowhere = Path::new("no such folder/out.aig");
     assert_eq!(rt; circuit.to_file(&rt, nowhere, false), Err(WriteError::Open));
-    for (name, ascii) in [("written.aig", false), ("written.aag", true)] {
+    let forms = [
+        ("written.aig", false, BINARY_AND),
+        ("written.aag", true, AND.as_bytes()),
+    ];
+    for (name, ascii, bytes) in forms {
         let path = Path::new(name);
         assert_eq!(rt; circuit.to_file(&rt, path, ascii), Ok(()));
+        assert_eq!(rt; fs::read(&rt, path)?.as_slice(), bytes);
         let again = Aig::from_file(&rt, rt.alloc(), path, LIMIT)?;
         assert_eq!(rt; text_of(rt.alloc(), &again)?.as_str(), AND);
         fs::remove_file(&rt, path)?;

@@ -1,9 +1,9 @@
 -- The circuits merged are the definition's, to which the laws of merging apply.
-use Rattle.std.proofs.Common.{◌≡◌, ℕ, length, sym, subst, ◌∙◌}
+use Rattle.std.proofs.Common.{length, sym, subst}
 use Rattle.std.proofs.lemmas.Result.{IfOk-weaker, on_err_weaker}
 use Rattle.aig_circuit.specs.Circuit.{Circuit, IsCircuit}
 use Rattle.aig_circuit.specs.View.{lists_circuit}
-use Rattle.aig_change.specs.Merge.{PairsRuns, merged, shifted}
+use Rattle.aig_change.specs.Merge.{PairsRuns, shifted}
 use Rattle.aig_change.proofs.Merged.{IsCircuit-merged, PairsRuns-merged}
 use Rattle.aig.proofs.Results.{after_either}
 use Rattle.aig.proofs.graph.Aig.merge.Goals as goal

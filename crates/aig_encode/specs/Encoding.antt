@@ -1,0 +1,55 @@
+-- What the answer of an encoding call tells of the bytes.
+use Rattle.std.specs.Prelude.{ℕ, ◌<◌, ◌≤◌, ◌↔◌, Bool, List, Option, Result, Ok, Err, IsOk, IsOkAnd, IsErrOf}
+use Rattle.std.specs.Io.KnownBytes.{Consumes}
+use Rattle.aig_format.specs.File.{File}
+use Rattle.aig_format.specs.Fits.{Accepts, TooMany}
+use Rattle.aig_format.specs.Circuit.{circuit_of}
+use Rattle.aig_reader.specs.declared.error.ReadError.TheVariants as read
+use Rattle.aig_unroll.specs.Places.{unrolled_size}
+use Rattle.aig_runs.specs.Encodes.{Encodes}
+use Rattle.aig_encode.specs.declared.encoding.Encoded.{Encoded}
+use Rattle.aig_encode.specs.declared.error.EncodeError.{EncodeError}
+use Rattle.aig_encode.specs.declared.error.EncodeError.TheVariants as errors
+
+-- ---- answers
+
+-- the file is encoded: its circuit, that circuit with k further steps, and the clauses of this
+abbrev pub IsEncoding : ℕ → Bool → File → Encoded → Type 0
+IsEncoding k optimize f e = Encodes f k optimize e.circuit e.unrolled e.clauses
+
+-- ---- bytes
+
+-- the bytes are this file, it fits, and the bound of its circuit with k further steps is within the limit
+abbrev pub IsWithin : List ℕ → ℕ → ℕ → File → Type 0
+IsWithin bytes limit k f = Accepts bytes limit f × (unrolled_size (circuit_of f) k ≤ limit)
+
+-- the bytes are this file, it fits, and the bound of its circuit with k further steps passes the limit
+abbrev pub IsBeyond : List ℕ → ℕ → ℕ → File → Type 0
+IsBeyond bytes limit k f = Accepts bytes limit f × (limit < unrolled_size (circuit_of f) k)
+
+-- The bytes that were taken are a file within the limit, and the answer is what is meant by that file.
+pub record IsOfFile {T : Type 0} (Means : File → T → Type 0) (limit k : ℕ) (old new : Option (List ℕ)) (answer : T) : Type 0 where
+  pub file : File
+  pub bytes : List ℕ
+  pub within : IsWithin bytes limit k file
+  pub means : Means file answer
+  pub taken : Consumes old new bytes
+
+-- Which bytes are accepted, and which are refused as too large.
+pub record AnswersExactly {T : Type 0} (Means : File → T → Type 0) (limit k : ℕ) (result : Result T EncodeError) (bytes : List ℕ) : Type 0 where
+  -- there is an answer where the bytes are a file within the limit, and it is what is meant by that file
+  pub accepted : (f : File) → IsWithin bytes limit k f → IsOkAnd result (Means f)
+  -- there is one only where they are
+  pub only : IsOk result → (f : File) × IsWithin bytes limit k f
+  -- TooMany exactly where the header line is good and passes the limit
+  pub too_many : IsErrOf result (errors.Read read.TooMany) ↔ TooMany bytes limit
+  -- TooLarge exactly where the bytes are a file whose further steps may pass the limit
+  pub too_large : IsErrOf result errors.TooLarge ↔ ((f : File) × IsBeyond bytes limit k f)
+
+-- the fact, unless memory or the stream failed
+abbrev pub UnlessInterrupted : {T : Type 0} → Result T EncodeError → Type 0 → Type 0
+UnlessInterrupted (Err errors.Memory) P = Unit {0}
+UnlessInterrupted (Err (errors.Read read.Memory)) P = Unit {0}
+UnlessInterrupted (Err (errors.Read read.Stream)) P = Unit {0}
+UnlessInterrupted (Err e) P = P
+UnlessInterrupted (Ok answer) P = P

@@ -1,0 +1,60 @@
+//! From bytes to clauses.
+
+ghost use Rattle.std.specs.Prelude.{◌≡◌, ◌^◌, ◌≤◌, false, IfOk, IfSome, IsErrOf, IsTrue, OnOk};
+ghost use Rattle.std.specs.Io.KnownBytes.{IsAtEnd};
+ghost use Rattle.aig_encode.specs.Encoding.{AnswersExactly, IsEncoding, IsOfFile, UnlessInterrupted};
+
+use crate::error::EncodeError;
+use aig::{Aig, ReadError};
+use aig_base::{DagCnf, Source};
+use std::alloc::Global;
+
+/// A circuit, the circuit unrolled, and the clauses of that.
+#[derive(Drop)]
+pub struct Encoded {
+    /// The circuit that was read.
+    pub circuit: Aig,
+    /// The circuit with further steps.
+    pub unrolled: Aig,
+    /// The clauses of the unrolled circuit.
+    pub clauses: DagCnf,
+}
+
+/// Reads a circuit from the bytes of an AIGER file, unrolls it by `k` steps, and makes the clauses of that.
+///
+/// `limit` is on the variables of the file, and on the nodes of the unrolled circuit: `TooLarge` is answered, before any step,
+/// exactly where `n + k * (n - 1 - l)` passes it, for the `n` nodes and `l` latches of the circuit that was read. Asks
+/// `1 <= limit <= 2^31`.
+pub fn encode<R: Source>(
+    alloc: Global,
+    r: &mut R,
+    limit: usize,
+    k: usize,
+    optimize: bool,
+) -> Result<Encoded, EncodeError>
+    requires some { 1 ≤ limit }
+    requires few { limit ≤ 2 ^ 31 }
+    // The bytes that were read are a file within the limit, and that file is encoded.
+    ensures answer { IfOk result (IsOfFile (IsEncoding k optimize) limit k (R.left r.old) (R.left r.new)) }
+    // Memory and stream aside, there is an answer exactly where the bytes are such a file, and TooMany and TooLarge
+    // come exactly where they apply.
+    ensures exact { IfSome (R.left r.old) (λ bytes.
+        UnlessInterrupted result (AnswersExactly (IsEncoding k optimize) limit k result bytes)) }
+    // An answer only where no read failed and the stream was read to its end.
+    ensures whole { OnOk result ((R.failed r.new ≡ false) × IsAtEnd (R.left r.new)) }
+    // Stream only where a read failed in this call.
+    ensures stream { IsErrOf result (EncodeError.Read ReadError.Stream) → IsTrue (R.failed r.new) }
+    ensures never_open { IsErrOf result (EncodeError.Read ReadError.Open) → ⊥ }
+{
+    let circuit = Aig::from_aiger(alloc, r, limit)?;
+    if !aig_unroll::is_within(circuit.num_nodes(), circuit.latchs().len(), k, limit) {
+        return Err(EncodeError::TooLarge);
+    }
+    let unrolled = circuit.unroll_to(k)?;
+    let clauses = unrolled.cnf(optimize)?;
+    Ok(Encoded {
+        circuit,
+        unrolled,
+        clauses,
+    })
+}

@@ -1,0 +1,65 @@
+-- From what unrolling and clauses promise: a satisfying assignment is a run of the circuit, and a run is a satisfying assignment.
+use Rattle.std.proofs.Common.{◌≡◌, ℕ, Bool, List, ◌∙◌}
+use Rattle.std.specs.Prelude.{All}
+use Rattle.std.proofs.lemmas.List.Elements.{All-weaker}
+use Rattle.aig_base.specs.declared.logic.literal.Lit.{Lit}
+use Rattle.aig_base.specs.Clauses.{Satisfies}
+use Rattle.aig_circuit.specs.declared.edge.AigEdge.{AigEdge}
+use Rattle.aig_circuit.specs.declared.node.AigLatch.{AigLatch}
+use Rattle.aig_circuit.specs.Circuit.{Circuit, IsCircuit}
+use Rattle.aig_circuit.specs.Tree.{edge_value, node_value}
+use Rattle.aig_circuit.specs.Runs.{next_edges}
+use Rattle.aig_renumber.proofs.Places.{All-from_map}
+use Rattle.aig_cnf.specs.Cnf.{FixesRoots, IsFixed, NodeValuesSatisfy, edge_in}
+use Rattle.aig_unroll.specs.Unroll.{ShowsSteps, UnrollsTo}
+use Rattle.aig_unroll.proofs.Lists.{zip_weaker}
+use Rattle.aig_runs.specs.Circuits.{AssignmentsAreRuns, RunsAreAssignments}
+use Rattle.aig_runs.proofs.Leaves.{are_node_values, values_read}
+use Rattle.aig_runs.proofs.Standing.{sets_other, stand_other}
+
+-- where the assignment satisfies, it gives each root its value, and so shows what the values show
+module _ (c u : Circuit) (k : ℕ) (lists : List (List (List Lit))) (v : ℕ → Bool) (x : ℕ → ℕ → Bool) (fixes : FixesRoots u lists) (holds : Satisfies v lists) where
+  abbrev IsSame : AigEdge → Type 0
+  IsSame e = edge_in v e ≡ edge_value u.nodes v e
+
+  same : (es : List AigEdge) → All (IsFixed u lists) es → All IsSame es
+  same es fixed = All-weaker (IsFixed u lists) IsSame (λ e is. is v holds) es fixed
+
+  shown : ShowsSteps c u k (edge_value u.nodes v) x → ShowsSteps c u k (edge_in v) x
+  shown s =
+      let new = edge_value u.nodes v in
+      let other = edge_in v in
+      let old = λ (t : ℕ). edge_value c.nodes (x t) in
+      let next = same (next_edges u.latchs) fixes.next in
+      record {
+        outputs = stand_other k old new other c.outputs u.outputs (same u.outputs fixes.outputs) s.outputs;
+        bads = stand_other k old new other c.bads u.bads (same u.bads fixes.bads) s.bads;
+        constraints = stand_other k old new other c.constraints u.constraints (same u.constraints fixes.constraints) s.constraints;
+        justice = sets_other k old new other c.justice u.justice (All-weaker (All (IsFixed u lists)) (All IsSame) same u.justice fixes.justice) s.justice;
+        fairness = stand_other k old new other c.fairness u.fairness (same u.fairness fixes.fairness) s.fairness;
+        state = zip_weaker (λ (old now : AigLatch). new now.next ≡ edge_value c.nodes (x k) old.next) (λ (old now : AigLatch). other now.next ≡ edge_value c.nodes (x k) old.next)
+            (λ (now : AigLatch). IsSame now.next) c.latchs u.latchs (λ old now p q. p ∙ q) (All-from_map (λ (latch : AigLatch). latch.next) IsSame u.latchs next) s.state;
+      }
+
+pub assignments_are_runs : (c u : Circuit) (k : ℕ) (lists : List (List (List Lit))) → UnrollsTo c k u → FixesRoots u lists → AssignmentsAreRuns c u k lists
+assignments_are_runs c u k lists unrolls fixes v holds =
+    let r = unrolls.run_of v in
+    record {
+      run = r.0;
+      is_run = r.1;
+      reads = r.2;
+      only = λ other is reads. unrolls.one_run v r.0 other r.1 is r.2 reads;
+      shows = shown c u k lists v r.0 fixes holds (unrolls.same v r.0 r.1 r.2);
+    }
+
+pub runs_are_assignments : (c u : Circuit) (k : ℕ) (lists : List (List (List Lit))) → IsCircuit c → UnrollsTo c k u → NodeValuesSatisfy u lists → RunsAreAssignments c u k lists
+runs_are_assignments c u k lists is unrolls satisfied run is_run =
+    let y = unrolls.values_of run is_run in
+    let reads = values_read c u k is unrolls y.0 run y.1 in
+    record {
+      values = node_value u.nodes y.0;
+      reads = reads;
+      only = λ other too. unrolls.one_value run (node_value u.nodes y.0) other reads too;
+      of_nodes = are_node_values c u k is unrolls y.0;
+      satisfies = satisfied y.0;
+    }

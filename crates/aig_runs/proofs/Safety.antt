@@ -1,0 +1,35 @@
+-- What it says of the machine that no query up to a step can be satisfied.
+use Rattle.std.proofs.Common.{◌↔◌, ℕ, ◌≤◌, Bool, List, sym, ◌∙◌, arith}
+use Rattle.std.specs.List.{list_any}
+use Rattle.std.proofs.lemmas.Bool.{false≢true}
+use Rattle.aig_base.specs.declared.logic.literal.Lit.{Lit}
+use Rattle.aig_circuit.specs.Circuit.{Circuit}
+use Rattle.aig_format.specs.File.{File}
+use Rattle.aig_format.specs.Machine.{IsRun, literal_value}
+use Rattle.aig_unroll.proofs.Others.{false_from}
+use Rattle.aig_runs.specs.Queries.{Asks, IsRefuted, IsSafeTo, IsWitness}
+use Rattle.aig_runs.proofs.Rows.{any_none}
+
+-- a run's first steps are a run
+run_cut : (f : File) (last t : ℕ) (run : ℕ → ℕ → Bool) → IsRun f last run → t ≤ last → IsRun f t run
+run_cut f last t run is h = record { steps = λ s l. is.steps s (omega arith); moves = λ s l. is.moves s (omega arith) }
+
+module _ (f : File) (n : ℕ) where
+  -- no run of the machine is a witness exactly where it is safe
+  safe_is : ((k : ℕ) → k ≤ n → ¬ ((run : ℕ → ℕ → Bool) × IsWitness f k run)) ↔ IsSafeTo f n
+  safe_is = (
+    λ none last t run is start low h constraints.
+        (any_none (literal_value (run t)) f.bads).0 (false_from (list_any (literal_value (run t)) f.bads) (λ bad.
+        none t h (run, record { is_run = run_cut f last t run is low; start = start; constraints = constraints; bad = bad }))),
+    λ safe k h w.
+        let b = w.1 in
+        false≢true (sym ((any_none (literal_value (w.0 k)) f.bads).1 (safe k k w.0 b.is_run b.start (omega arith) h b.constraints)) ∙ b.bad),
+  )
+
+  -- and so exactly where each query is refuted
+  pub refuted_queries_are_safe : (circuit : Circuit) (unrolled : ℕ → Circuit) (clauses : ℕ → List (List (List Lit))) (further : ℕ → List (List Lit)) → ((k : ℕ) → k ≤ n → Asks f k circuit (unrolled k) (clauses k) (further k))
+      → ((k : ℕ) → k ≤ n → IsRefuted (clauses k) (further k)) ↔ IsSafeTo f n
+  refuted_queries_are_safe circuit unrolled clauses further asks = (
+    λ refuted. safe_is.0 (λ k h w. refuted k h ((asks k h).satisfiable.1 w)),
+    λ safe k h s. safe_is.1 safe k h ((asks k h).satisfiable.0 s),
+  )

@@ -1,0 +1,4 @@
+pub mod Circuits
+pub mod Files
+pub mod Encodes
+pub mod Queries

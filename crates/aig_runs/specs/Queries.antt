@@ -1,0 +1,70 @@
+-- What a query asks: a run from a start on which every constraint holds and, at the last step, some bad literal. (AIGER 1.9, "Properties";
+-- bounded model checking.)
+use Rattle.std.specs.Prelude.{◌≡◌, ℕ, ◌*◌, ◌==◌, ◌≤◌, ◌↔◌, if◌then◌else◌, Bool, false, Option, Some, None, IsTrue, List, [], ◌∷◌, ◌++◌, length, map, drop}
+use Rattle.std.specs.List.{AllByRecursion, flat_map, list_any}
+use Rattle.aig_base.specs.declared.logic.literal.Lit.{Lit}
+use Rattle.aig_base.specs.Clauses.{Satisfies, are_true, lit_to}
+use Rattle.aig_circuit.specs.declared.edge.AigEdge.{AigEdge}
+use Rattle.aig_circuit.specs.declared.node.AigLatch.{AigLatch}
+use Rattle.aig_circuit.specs.Edge.{lit_of}
+use Rattle.aig_circuit.specs.Circuit.{Circuit}
+use Rattle.aig_format.specs.File.{File}
+use Rattle.aig_format.specs.Machine.{literal_value, IsRun, IsStart}
+use Rattle.aig_runs.specs.Files.{HasLeafValues}
+
+-- a run from a start with every constraint at the steps 0 to k, and some bad literal at step k
+pub record IsWitness (f : File) (k : ℕ) (run : ℕ → ℕ → Bool) : Type 0 where
+  pub is_run : IsRun f k run
+  pub start : IsStart f run
+  pub constraints : (t : ℕ) → t ≤ k → AllByRecursion (λ e. IsTrue (literal_value (run t) e)) f.constraints
+  pub bad : IsTrue (list_any (literal_value (run k)) f.bads)
+
+-- ---- the clauses
+
+-- the unit clause that a latch's leaf has the value of its constant initial edge, where it has one
+abbrev pub start_clauses : AigLatch → List (List Lit)
+start_clauses latch = by_init latch.input latch.init
+  where
+    by_init : ℕ → Option AigEdge → List (List Lit)
+    by_init n (Some e) = if e.node_id == 0 then (lit_to n e.compl ∷ []) ∷ [] else []
+    by_init n None = []
+
+-- for each edge the unit clause that it is true
+abbrev pub unit_clauses : List AigEdge → List (List Lit)
+unit_clauses es = map (λ e. lit_of e ∷ []) es
+
+-- the bad edges of step k, which are the last of the unrolled circuit's
+abbrev pub last_bads : Circuit → ℕ → Circuit → List AigEdge
+last_bads c k unrolled = drop (k * length c.bads) unrolled.bads
+
+-- the further clauses of a query, in order: constant initial values, each constraint at each step, and one clause of the bad edges of step k
+abbrev pub query_clauses : Circuit → ℕ → Circuit → List (List Lit)
+query_clauses c k unrolled =
+    flat_map start_clauses c.latchs ++ unit_clauses unrolled.constraints ++ map lit_of (last_bads c k unrolled) ∷ []
+
+-- ---- what they say
+
+-- the assignment satisfies the clauses and the further ones together
+pub record SatisfiesBoth (v : ℕ → Bool) (clauses : List (List (List Lit))) (further : List (List Lit)) : Type 0 where
+  pub clauses_hold : Satisfies v clauses
+  pub further_hold : IsTrue (are_true v further)
+
+-- The clauses and the further ones ask for the witnesses of the file's machine.
+pub record Asks (f : File) (k : ℕ) (circuit unrolled : Circuit) (clauses : List (List (List Lit))) (further : List (List Lit)) : Type 0 where
+  -- which further clauses there are, and in which order
+  pub exact : further ≡ query_clauses circuit k unrolled
+  -- some assignment satisfies both exactly where there is a witness
+  pub satisfiable : ((v : ℕ → Bool) × SatisfiesBoth v clauses further) ↔ ((run : ℕ → ℕ → Bool) × IsWitness f k run)
+  -- and the run with the leaf values of such an assignment is a witness
+  pub read_off : (v : ℕ → Bool) → SatisfiesBoth v clauses further → (run : ℕ → ℕ → Bool) → IsRun f k run → HasLeafValues f circuit unrolled k v run → IsWitness f k run
+
+-- no assignment satisfies both
+abbrev pub IsRefuted : List (List (List Lit)) → List (List Lit) → Type 0
+IsRefuted clauses further = ¬ ((v : ℕ → Bool) × SatisfiesBoth v clauses further)
+
+-- On every run from a start, each bad literal is false at each step up to n at which, and before which, every constraint holds.
+abbrev pub IsSafeTo : File → ℕ → Type 0
+IsSafeTo f n =
+    (last t : ℕ) (run : ℕ → ℕ → Bool) → IsRun f last run → IsStart f run → t ≤ last → t ≤ n
+    → ((s : ℕ) → s ≤ t → AllByRecursion (λ e. IsTrue (literal_value (run s) e)) f.constraints)
+    → AllByRecursion (λ e. literal_value (run t) e ≡ false) f.bads

@@ -1,0 +1,45 @@
+//! Laws of encoding, which rest on what unrolling and clauses promise.
+
+ghost use Rattle.std.specs.Prelude.{◌↔◌, ◌≤◌, ℕ, Bool, List};
+ghost use Rattle.aig_base.specs.declared.logic.literal.Lit.{Lit};
+ghost use Rattle.aig_circuit.specs.Circuit.{Circuit, IsCircuit};
+ghost use Rattle.aig_cnf.specs.Cnf.{FixesRoots, HasClauses, NodeValuesSatisfy};
+ghost use Rattle.aig_format.specs.File.{File};
+ghost use Rattle.aig_format.specs.Fits.{Fits};
+ghost use Rattle.aig_format.specs.Circuit.{circuit_of};
+ghost use Rattle.aig_unroll.specs.Unroll.{UnrollsTo};
+ghost use Rattle.aig_runs.specs.Circuits.{AssignmentsAreRuns, RunsAreAssignments};
+ghost use Rattle.aig_runs.specs.Encodes.{Encodes};
+ghost use Rattle.aig_runs.specs.Queries.{Asks, IsRefuted, IsSafeTo, query_clauses};
+
+/// Law: of every circuit, assignments that satisfy the clauses of its unrolled circuit are runs, and runs are assignments.
+pub fn clauses_are_circuit_runs()
+    ensures assignments { (c unrolled : Circuit) (k : ℕ) (clauses : List (List (List Lit)))
+        → UnrollsTo c k unrolled → FixesRoots unrolled clauses → AssignmentsAreRuns c unrolled k clauses }
+    ensures runs { (c unrolled : Circuit) (k : ℕ) (clauses : List (List (List Lit)))
+        → IsCircuit c → UnrollsTo c k unrolled → NodeValuesSatisfy unrolled clauses
+        → RunsAreAssignments c unrolled k clauses }
+{}
+
+/// Law: of every file that fits, the same holds of the runs of its machine.
+pub fn clauses_are_file_runs()
+    ensures { (f : File) (limit k : ℕ) (optimize : Bool) (unrolled : Circuit) (clauses : List (List (List Lit)))
+        → Fits f limit → UnrollsTo (circuit_of f) k unrolled → HasClauses unrolled optimize clauses
+        → FixesRoots unrolled clauses → NodeValuesSatisfy unrolled clauses
+        → Encodes f k optimize (circuit_of f) unrolled clauses }
+{}
+
+/// Law: the further clauses of an encoded file ask for the witnesses of its machine.
+pub fn queries_ask()
+    ensures { (f : File) (limit k : ℕ) (optimize : Bool) (circuit unrolled : Circuit) (clauses : List (List (List Lit)))
+        → Fits f limit → Encodes f k optimize circuit unrolled clauses
+        → Asks f k circuit unrolled clauses (query_clauses circuit k unrolled) }
+{}
+
+/// Law: the queries of all steps up to n are refuted exactly where no bad literal is reached up to step n.
+pub fn refuted_queries_are_safe()
+    ensures { (f : File) (n : ℕ) (circuit : Circuit) (unrolled : ℕ → Circuit)
+        (clauses : ℕ → List (List (List Lit))) (further : ℕ → List (List Lit))
+        → ((k : ℕ) → k ≤ n → Asks f k circuit (unrolled k) (clauses k) (further k))
+        → ((k : ℕ) → k ≤ n → IsRefuted (clauses k) (further k)) ↔ IsSafeTo f n }
+{}

@@ -1,0 +1,8 @@
+//! What the clauses of an unrolled circuit say of runs, and what further clauses ask for.
+#![tactic(auto)]
+
+mod laws;
+
+pub use laws::{
+    clauses_are_circuit_runs, clauses_are_file_runs, queries_ask, refuted_queries_are_safe,
+};

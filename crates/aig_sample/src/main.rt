@@ -1,0 +1,81 @@
+//! Reads an AIGER file, makes a property of its first output, and prints two steps of the hashed circuit.
+#![tactic(auto)]
+
+ghost use Rattle.std.specs.Prelude.{◌≡◌, ◌<◌, ◌&&◌, ◌||◌, ℕ, Bool, IfOk, length, not, slice_index_or};
+ghost use Rattle.aig_circuit.specs.Circuit.{IsInRange};
+ghost use Rattle.aig_circuit.specs.Tree.{edge_value};
+
+use aig::{Aig, AigEdge, PropList, ReadError, WriteError};
+use aig_base::{FromRead, MemoryError, Sink, Source, ToWrite};
+use std::alloc::Global;
+use std::fs::File;
+use std::io;
+use std::process::ExitCode;
+use std::rt::Files;
+use thiserror::Error;
+
+/// Why nothing is printed.
+#[derive(Clone, Copy, Debug, Error)]
+enum SampleError {
+    /// The file was refused.
+    #[error("{0}")]
+    Read(#[from] ReadError),
+    /// Memory ran out.
+    #[error("{0}")]
+    Memory(#[from] MemoryError),
+    /// The text wasn't written.
+    #[error("{0}")]
+    Write(#[from] WriteError),
+}
+
+/// Adds gates for: where `enable` holds, so does the first output.
+fn output_where(aig: &mut Aig, enable: AigEdge) -> Result<AigEdge, MemoryError>
+    requires some { 0 < length aig.old.outputs }
+    requires enable { IsInRange aig.old.nodes enable }
+    ensures edge { IfOk result (λ e. IsInRange aig.new.nodes e) }
+    ensures value { IfOk result (λ e. (x : ℕ → Bool) → edge_value aig.new.nodes x e
+        ≡ (not (edge_value aig.old.nodes x enable)
+        || (edge_value aig.old.nodes x (slice_index_or aig.old.outputs 0 enable)
+        && edge_value aig.old.nodes x enable))) }
+{
+    let output = aig.outputs()[0];
+    let both = aig.new_and_node(output, enable)?;
+    aig.new_imply_node(enable, both)
+}
+
+/// Adds the bad state that the first input holds and the first output does not.
+fn add_bad_state(aig: &mut Aig) -> Result<(), MemoryError> {
+    let Some(input) = aig.inputs().first() else {
+        return Ok(());
+    };
+    if aig.outputs().is_empty() {
+        return Ok(());
+    }
+    let enable = AigEdge::from(*input);
+    let holds = output_where(aig, enable)?;
+    aig.push_edge(PropList::Bads, !holds)
+}
+
+/// Reads a circuit from `r`, and writes two steps of it to `w`.
+fn show<R: Source, W: Sink>(alloc: Global, r: &mut R, w: &mut W) -> Result<(), SampleError> {
+    let mut circuit = Aig::from_aiger(alloc, r, 1 << 24)?;
+    add_bad_state(&mut circuit)?;
+    let steps = circuit.strash()?.unroll_to(1)?;
+    Ok(steps.write_text(w)?)
+}
+
+fn main(rt: HostRuntime) -> ExitCode {
+    let Ok(file) = File::open(&rt, "and.aag") else {
+        let _ = eprintln!(rt; "{}", ReadError::Open);
+        return ExitCode::FAILURE;
+    };
+    let mut source = FromRead::new(file);
+    let mut sink = ToWrite::new(io::writer(&rt));
+    match show(rt.alloc(), &mut source, &mut sink) {
+        Ok(()) => ExitCode::SUCCESS,
+        Err(fault) => {
+            let _ = eprintln!(rt; "{fault}");
+            ExitCode::FAILURE
+        }
+    }
+}
