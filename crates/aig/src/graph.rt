@@ -49,7 +49,7 @@ impl Model for Aig {
 
     ghost coded = { Prim.hlevel (codes, finite_map.code {R = nat_cmp} coded_ℕ (coded_list coded_ℕ)) };
 
-ghost use Rattle.aig.specs.View.{held_circuit};
+    ghost use Rattle.aig.specs.View.{held_circuit};
 
     ghost view = { held_circuit };
 

@@ -7,6 +7,7 @@ mod graph;
 mod others;
 mod strash;
 mod ternary;
+mod writable;
 
 pub use aig_circuit::{AigEdge, AigLatch, AigNode, AigNodeType, AndsIter, PropList};
 pub use aig_reader::{ReadError, Section};

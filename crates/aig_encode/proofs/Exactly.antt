@@ -110,9 +110,49 @@ module _ (X T : Type 0) (Means : File → T → Type 0) (limit k : ℕ) where
   pub answered : (x : X) (answer : T) (left new : Option (List ℕ)) → IsOfFile Means limit k left new answer → IsAtEnd new → Read limit (Ok x) left → Tells Means limit k (Ok answer) left
   answered x answer None new o end h = tt
   answered x answer (Some bytes) new o end h =
-      let within = subst (λ b. IsWithin b limit k o.file) (all_taken bytes o.bytes new o.taken end) o.within in record {
+      let within = subst (λ b. IsWithin limit k b o.file) (all_taken bytes o.bytes new o.taken end) o.within in record {
         accepted = λ f p. subst (λ g. Means g answer) (one_file o.file f bytes within.0.0 p.0.0) o.means;
         only = λ ok. (o.file, within);
         too_many = (λ e. absurd (no_refusal T EncodeError answer (errors.Read TooMany) e), λ many. absurd (no_refusal X ReadError x TooMany (h.too_many.1 many)));
         too_large = (λ e. absurd (no_refusal T EncodeError answer errors.TooLarge e), λ beyond. absurd (not_both o.file beyond.0 bytes limit k within.0 beyond.1.0 within.1 beyond.1.1));
       }
+
+-- ---- an answer that is made of another
+
+-- a refusal is the same one, whatever would have been answered
+same_error : (T U : Type 0) (e x : EncodeError) → IsErrOf {T = T} (Err e) x → IsErrOf {T = U} (Err e) x
+same_error T U e x is = let same : e ≡ x = cc in let error : EncodeError → Result U EncodeError = λ y. Err y in ap error same
+
+module _ (T U : Type 0) (Means : File → T → Type 0) (Also : File → U → Type 0) (limit k : ℕ) where
+  refused_alike : (e : EncodeError) (bytes : List ℕ) → AnswersExactly Means limit k (Err e) bytes → AnswersExactly Also limit k (Err e) bytes
+  refused_alike e bytes h = record {
+    accepted = λ f within. absurd (h.accepted f within);
+    only = λ ok. absurd (false≢true ok);
+    too_many = (λ is. h.too_many.0 (same_error U T e (errors.Read TooMany) is), λ many. same_error T U e (errors.Read TooMany) (h.too_many.1 many));
+    too_large = (λ is. h.too_large.0 (same_error U T e errors.TooLarge is), λ beyond. same_error T U e errors.TooLarge (h.too_large.1 beyond));
+  }
+
+  -- so it tells the same of the bytes
+  pub refused_again : (e : EncodeError) (left : Option (List ℕ)) → Tells Means limit k (Err e) left → Tells Also limit k (Err e) left
+  refused_again e None h = tt
+  refused_again errors.Memory (Some bytes) h = tt
+  refused_again errors.TooLarge (Some bytes) h = refused_alike errors.TooLarge bytes h
+  refused_again (errors.Read Memory) (Some bytes) h = tt
+  refused_again (errors.Read Stream) (Some bytes) h = tt
+  refused_again (errors.Read Header) (Some bytes) h = refused_alike (errors.Read Header) bytes h
+  refused_again (errors.Read TooMany) (Some bytes) h = refused_alike (errors.Read TooMany) bytes h
+  refused_again (errors.Read (Syntax s)) (Some bytes) h = refused_alike (errors.Read (Syntax s)) bytes h
+  refused_again (errors.Read (Literal s)) (Some bytes) h = refused_alike (errors.Read (Literal s)) bytes h
+  refused_again (errors.Read Delta) (Some bytes) h = refused_alike (errors.Read Delta) bytes h
+  refused_again (errors.Read Name) (Some bytes) h = refused_alike (errors.Read Name) bytes h
+  refused_again (errors.Read Open) (Some bytes) h = refused_alike (errors.Read Open) bytes h
+
+  -- what is made of an answer tells the same of the bytes
+  pub answered_again : (x : T) (y : U) (left : Option (List ℕ)) → ((f : File) (bytes : List ℕ) → IsWithin limit k bytes f → Means f x → Also f y) → Tells Means limit k (Ok x) left → Tells Also limit k (Ok y) left
+  answered_again x y None also h = tt
+  answered_again x y (Some bytes) also h = record {
+    accepted = λ f within. also f bytes within (h.accepted f within);
+    only = λ ok. h.only refl;
+    too_many = (λ e. absurd (no_refusal U EncodeError y (errors.Read TooMany) e), λ many. absurd (no_refusal T EncodeError x (errors.Read TooMany) (h.too_many.1 many)));
+    too_large = (λ e. absurd (no_refusal U EncodeError y errors.TooLarge e), λ beyond. absurd (no_refusal T EncodeError x errors.TooLarge (h.too_large.1 beyond)));
+  }

@@ -7,9 +7,11 @@ use Rattle.aig_format.specs.Circuit.{circuit_of}
 use Rattle.aig_reader.specs.declared.error.ReadError.TheVariants as read
 use Rattle.aig_unroll.specs.Places.{unrolled_size}
 use Rattle.aig_runs.specs.Encodes.{Encodes}
+use Rattle.aig_runs.specs.Queries.{Asks}
 use Rattle.aig_encode.specs.declared.encoding.Encoded.{Encoded}
 use Rattle.aig_encode.specs.declared.error.EncodeError.{EncodeError}
 use Rattle.aig_encode.specs.declared.error.EncodeError.TheVariants as errors
+use Rattle.aig_encode.specs.declared.further.Query.{Query}
 
 -- ---- answers
 
@@ -17,34 +19,51 @@ use Rattle.aig_encode.specs.declared.error.EncodeError.TheVariants as errors
 abbrev pub IsEncoding : ℕ → Bool → File → Encoded → Type 0
 IsEncoding k optimize f e = Encodes f k optimize e.circuit e.unrolled e.clauses
 
+-- the file is encoded, and the further clauses ask for a run from a start to a bad literal at step k
+abbrev pub IsQuery : ℕ → Bool → File → Query → Type 0
+IsQuery k optimize f q = IsEncoding k optimize f q.encoded × Asks f k q.encoded.circuit q.encoded.unrolled q.encoded.clauses q.extra
+
 -- ---- bytes
 
 -- the bytes are this file, it fits, and the bound of its circuit with k further steps is within the limit
-abbrev pub IsWithin : List ℕ → ℕ → ℕ → File → Type 0
-IsWithin bytes limit k f = Accepts bytes limit f × (unrolled_size (circuit_of f) k ≤ limit)
+abbrev pub IsWithin : ℕ → ℕ → List ℕ → File → Type 0
+IsWithin limit k bytes f = Accepts bytes limit f × (unrolled_size (circuit_of f) k ≤ limit)
 
 -- the bytes are this file, it fits, and the bound of its circuit with k further steps passes the limit
-abbrev pub IsBeyond : List ℕ → ℕ → ℕ → File → Type 0
-IsBeyond bytes limit k f = Accepts bytes limit f × (limit < unrolled_size (circuit_of f) k)
+abbrev pub IsBeyond : ℕ → ℕ → List ℕ → File → Type 0
+IsBeyond limit k bytes f = Accepts bytes limit f × (limit < unrolled_size (circuit_of f) k)
 
--- The bytes that were taken are a file within the limit, and the answer is what is meant by that file.
+-- the bytes that were taken are a file of which this holds
+abbrev pub TookFile : (List ℕ → File → Type 0) → Option (List ℕ) → Option (List ℕ) → Type 0
+TookFile Holds old new = (f : File) × (bytes : List ℕ) × Holds bytes f × Consumes old new bytes
+
+-- The bytes that were taken are a file within the limit, and the answer is what is meant for that file.
 pub record IsOfFile {T : Type 0} (Means : File → T → Type 0) (limit k : ℕ) (old new : Option (List ℕ)) (answer : T) : Type 0 where
   pub file : File
   pub bytes : List ℕ
-  pub within : IsWithin bytes limit k file
+  pub within : IsWithin limit k bytes file
   pub means : Means file answer
   pub taken : Consumes old new bytes
 
--- Which bytes are accepted, and which are refused as too large.
+-- Which bytes are answered, and which are refused as too large.
 pub record AnswersExactly {T : Type 0} (Means : File → T → Type 0) (limit k : ℕ) (result : Result T EncodeError) (bytes : List ℕ) : Type 0 where
-  -- there is an answer where the bytes are a file within the limit, and it is what is meant by that file
-  pub accepted : (f : File) → IsWithin bytes limit k f → IsOkAnd result (Means f)
+  -- where the bytes are a file within the limit there is an answer, and it is what is meant for that file
+  pub accepted : (f : File) → IsWithin limit k bytes f → IsOkAnd result (Means f)
   -- there is one only where they are
-  pub only : IsOk result → (f : File) × IsWithin bytes limit k f
+  pub only : IsOk result → (f : File) × IsWithin limit k bytes f
   -- TooMany exactly where the header line is good and passes the limit
   pub too_many : IsErrOf result (errors.Read read.TooMany) ↔ TooMany bytes limit
   -- TooLarge exactly where the bytes are a file whose further steps may pass the limit
-  pub too_large : IsErrOf result errors.TooLarge ↔ ((f : File) × IsBeyond bytes limit k f)
+  pub too_large : IsErrOf result errors.TooLarge ↔ ((f : File) × IsBeyond limit k bytes f)
+
+-- ---- refusals
+
+-- the bytes were not refused
+abbrev pub PassesReading : {T : Type 0} → Result T EncodeError → Type 0
+PassesReading (Ok answer) = Unit {0}
+PassesReading (Err (errors.Read e)) = ⊥
+PassesReading (Err errors.Memory) = Unit {0}
+PassesReading (Err errors.TooLarge) = Unit {0}
 
 -- the fact, unless memory or the stream failed
 abbrev pub UnlessInterrupted : {T : Type 0} → Result T EncodeError → Type 0 → Type 0

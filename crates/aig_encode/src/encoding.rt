@@ -1,8 +1,8 @@
 //! From bytes to clauses.
 
-ghost use Rattle.std.specs.Prelude.{◌≡◌, ◌^◌, ◌≤◌, false, IfOk, IfSome, IsErrOf, IsTrue, OnOk};
+ghost use Rattle.std.specs.Prelude.{◌≡◌, ◌^◌, ◌≤◌, false, IfOk, IfSome, IsErrOf, IsTrue};
 ghost use Rattle.std.specs.Io.KnownBytes.{IsAtEnd};
-ghost use Rattle.aig_encode.specs.Encoding.{AnswersExactly, IsEncoding, IsOfFile, UnlessInterrupted};
+ghost use Rattle.aig_encode.specs.Encoding.{AnswersExactly, IsBeyond, IsEncoding, IsOfFile, IsWithin, PassesReading, TookFile, UnlessInterrupted};
 
 use crate::error::EncodeError;
 use aig::{Aig, ReadError};
@@ -40,8 +40,11 @@ pub fn encode<R: Source>(
     // come exactly where they apply.
     ensures exact { IfSome (R.left r.old) (λ bytes.
         UnlessInterrupted result (AnswersExactly (IsEncoding k optimize) limit k result bytes)) }
-    // An answer only where no read failed and the stream was read to its end.
-    ensures whole { OnOk result ((R.failed r.new ≡ false) × IsAtEnd (R.left r.new)) }
+    // Memory comes only after a file within the limit was read, and TooLarge only after one beyond it.
+    ensures memory { IsErrOf result EncodeError.Memory → TookFile (IsWithin limit k) (R.left r.old) (R.left r.new) }
+    ensures large { IsErrOf result EncodeError.TooLarge → TookFile (IsBeyond limit k) (R.left r.old) (R.left r.new) }
+    // Unless the bytes were refused, no read failed and the stream was read to its end.
+    ensures whole { PassesReading result → (R.failed r.new ≡ false) × IsAtEnd (R.left r.new) }
     // Stream only where a read failed in this call.
     ensures stream { IsErrOf result (EncodeError.Read ReadError.Stream) → IsTrue (R.failed r.new) }
     ensures never_open { IsErrOf result (EncodeError.Read ReadError.Open) → ⊥ }

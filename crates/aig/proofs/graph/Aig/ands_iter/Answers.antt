@@ -15,4 +15,4 @@ pub returns-clause-items : goal.returns-clause-items
 returns-clause-items c =
     let nodes = c.self.inside.lists.nodes.items in
     rw (c.gates_among.ensures, c.deref.ensures.value)
-        (subst (λ (v : Circuit). All (IsGateOf v.nodes) (gates_of nodes)) c.self.view_is (All-gates_of nodes c.self.invariant.nodes))
+    (subst (λ (v : Circuit). All (IsGateOf v.nodes) (gates_of nodes)) c.self.view_is (All-gates_of nodes c.self.invariant.nodes))

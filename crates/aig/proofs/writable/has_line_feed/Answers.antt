@@ -1,6 +1,6 @@
 use Rattle.std.proofs.lemmas.Bool.{false≢true}
 use Rattle.aig_circuit.proofs.Names.{get_names}
-use Rattle.aig.proofs.aiger.has_line_feed.Goals as goal
+use Rattle.aig.proofs.writable.has_line_feed.Goals as goal
 
 pub returns-in-Some : goal.returns-in-Some
 returns-in-Some c = rw (get_names c.args.symbols.now.entries c.args.id, ← c.get.ensures.value, c.in-Some.is) (rw c.as_str.ensures.value at c.holds_line_feed.ensures)

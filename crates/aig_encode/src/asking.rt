@@ -1,0 +1,47 @@
+//! From bytes to the clauses of a query.
+
+ghost use Rattle.std.specs.Prelude.{◌≡◌, ◌^◌, ◌≤◌, false, IfOk, IfSome, IsErrOf, IsTrue};
+ghost use Rattle.std.specs.Io.KnownBytes.{IsAtEnd};
+ghost use Rattle.aig_encode.specs.Encoding.{AnswersExactly, IsBeyond, IsOfFile, IsQuery, IsWithin, PassesReading, TookFile, UnlessInterrupted};
+
+use crate::encoding::encode;
+use crate::error::EncodeError;
+use crate::further::{Query, further_clauses};
+use aig::ReadError;
+use aig_base::Source;
+use std::alloc::Global;
+
+/// Encodes a circuit as `encode` does, and asks by further clauses for a run from a start on which every constraint holds at
+/// each of the steps 0 to `k` and some bad state is reached at step `k`.
+///
+/// The further clauses are, in order: for each latch with a constant initial edge that its leaf has that value, for each
+/// constraint of each step that it holds, and one clause of all bad literals of step `k`, which is empty where there are
+/// none. Asks `1 <= limit <= 2^31`.
+pub fn query<R: Source>(
+    alloc: Global,
+    r: &mut R,
+    limit: usize,
+    k: usize,
+    optimize: bool,
+) -> Result<Query, EncodeError>
+    requires some { 1 ≤ limit }
+    requires few { limit ≤ 2 ^ 31 }
+    // The bytes that were read are a file within the limit, and that file is encoded and asked for.
+    ensures answer { IfOk result (IsOfFile (IsQuery k optimize) limit k (R.left r.old) (R.left r.new)) }
+    // Memory and stream aside, there is an answer exactly where the bytes are such a file, and TooMany and TooLarge
+    // come exactly where they apply.
+    ensures exact { IfSome (R.left r.old) (λ bytes.
+        UnlessInterrupted result (AnswersExactly (IsQuery k optimize) limit k result bytes)) }
+    // Memory comes only after a file within the limit was read, and TooLarge only after one beyond it.
+    ensures memory { IsErrOf result EncodeError.Memory → TookFile (IsWithin limit k) (R.left r.old) (R.left r.new) }
+    ensures large { IsErrOf result EncodeError.TooLarge → TookFile (IsBeyond limit k) (R.left r.old) (R.left r.new) }
+    // Unless the bytes were refused, no read failed and the stream was read to its end.
+    ensures whole { PassesReading result → (R.failed r.new ≡ false) × IsAtEnd (R.left r.new) }
+    // Stream only where a read failed in this call.
+    ensures stream { IsErrOf result (EncodeError.Read ReadError.Stream) → IsTrue (R.failed r.new) }
+    ensures never_open { IsErrOf result (EncodeError.Read ReadError.Open) → ⊥ }
+{
+    let encoded = encode(alloc, r, limit, k, optimize)?;
+    let extra = further_clauses(alloc, &encoded.circuit, k, &encoded.unrolled)?;
+    Ok(Query { encoded, extra })
+}
