@@ -9,15 +9,9 @@ use Rattle.aig_circuit.specs.declared.node.AigLatch.{AigLatch}
 use Rattle.aig_circuit.specs.Edge.{edge_to}
 use Rattle.aig_circuit.specs.Circuit.{Circuit, latch_leaves}
 use Rattle.aig_format.specs.Writable.{list_lengths}
-use Rattle.aig_circuit.specs.Edges.{HasVariableInit, HasPlainInit}
+use Rattle.aig_circuit.proofs.Lists.{All-from_no_Any}
 
 module _ {X : Type 0} (P : X → Type 0) where
-  -- what no element has, each is without
-  pub All-from_no_Any : (xs : List X) → ¬ Any P xs → All (λ x. ¬ P x) xs
-  All-from_no_Any xs none k d h has =
-      let found = Contains-get_or xs k d h in
-      none (found.0, get_or xs k d, found.1, found.2, has)
-
   Any-Contains : (xs : List X) (x : X) → Contains xs x → P x → Any P xs
   Any-Contains xs x found has = (found.0, x, found.1, found.2, has)
 
@@ -47,18 +41,6 @@ Any-latch_leaves P latchs = (
       Any-Contains (λ (latch : AigLatch). P latch.input) latchs (get_or latchs any.0 other) (Contains-get_or latchs any.0 other low) (subst P at any.4),
 )
 
--- an initial edge that isn't open is constant
-pub plain_start : (latch : AigLatch) → ¬ HasVariableInit latch → HasPlainInit latch
-plain_start latch closed = by_init latch.init closed
-  where
-    by_init : (o : Option AigEdge) → ¬ IsSomeAnd o (λ e. e.node_id ≢ 0) → IfSome o (λ e. e.node_id ≡ 0)
-    by_init None none = tt
-    by_init (Some e) none = by_test (nat_eq e.node_id 0) refl
-      where
-        by_test : (b : Bool) → nat_eq e.node_id 0 ≡ b → e.node_id ≡ 0
-        by_test true is = eqb-true e.node_id 0 is
-        by_test false is = absurd (none (eqb-false e.node_id 0 is))
-
 -- the lengths of a circuit's lists, one by one
 pub lists-numbers : (P : ℕ → Type 0) (c : Circuit) (i l o b k j f : ℕ) → i ≡ length c.inputs → l ≡ length c.latchs → o ≡ length c.outputs → b ≡ length c.bads → k ≡ length c.constraints → j ≡ length c.justice → f ≡ length c.fairness
     → All P (i ∷ l ∷ o ∷ b ∷ k ∷ j ∷ f ∷ []) ↔ All P (list_lengths c)
@@ -76,8 +58,3 @@ sets-items P sets = (
 -- no element where a test of some element failed
 pub none_where_false : {X : Type 0} (P : X → Type 0) (xs : List X) (r : Bool) → (IsTrue r ↔ Any P xs) → r ≡ false → All (λ x. ¬ P x) xs
 none_where_false P xs r told is = All-from_no_Any P xs (λ any. false≢true (sym is ∙ told.1 any))
-
--- every initial edge is constant where a test for open ones failed
-pub starts_plain : (xs latchs : List AigLatch) (r : Bool) → xs ≡ latchs → (IsTrue r ↔ Any HasVariableInit xs) → r ≡ false → All HasPlainInit latchs
-starts_plain xs latchs r same told is =
-    subst (All HasPlainInit) same (All-weaker (λ latch. ¬ HasVariableInit latch) HasPlainInit plain_start xs (none_where_false HasVariableInit xs r told is))

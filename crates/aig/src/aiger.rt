@@ -1,6 +1,6 @@
 //! Reading and writing AIGER.
 
-ghost use Rattle.std.specs.Prelude.{◌≡◌, ◌≢◌, ◌⊎◌, ◌<◌, ◌≤◌, ◌^◌, ℕ, List, Some, false, length, All, IfErr, IfOk, IfSome, IsErrOf, IsOk, IsTrue, OnOk, true, if◌then◌else◌};
+ghost use Rattle.std.specs.Prelude.{◌≡◌, ◌≢◌, ◌⊎◌, ◌<◌, ◌≤◌, ◌^◌, ℕ, List, Some, false, length, IfErr, IfOk, IfSome, IsErrOf, IsOk, IsTrue, OnOk, true, if◌then◌else◌};
 ghost use Rattle.std.specs.Io.KnownBytes.{Appends, Consumes, IsAtEnd};
 ghost use Rattle.aig_circuit.specs.Reencode.{reencoded};
 ghost use Rattle.aig_format.specs.Circuit.{binary_of, circuit_of, file_of, text_of, IsReadAgain};

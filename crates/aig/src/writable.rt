@@ -2,27 +2,18 @@
 
 ghost use Rattle.std.specs.Prelude.{◌↔◌, ◌<◌, ◌^◌, All, Any, Contains, IfErr, IsTrue, OnOk, length};
 ghost use Rattle.aig_circuit.specs.Circuit.{IsCircuit};
-ghost use Rattle.aig_circuit.specs.Edges.{HasVariableInit};
 ghost use Rattle.aig_circuit.specs.View.{names_of};
 ghost use Rattle.aig_format.specs.Writable.{HasLineFeed, IsSmall, named_nodes};
 ghost use Rattle.aig.specs.Writing.{IsRefusal, TellsOf};
 
 use crate::aiger::WriteError;
 use crate::graph::{Aig, MOST_NODES};
+use aig_circuit::starts::are_plain;
 use aig_circuit::{AigEdge, AigLatch};
 use std::collections::HashMap;
 
 /// The greatest number that a file can have.
 const GREATEST_NUMBER: usize = u32::MAX as usize;
-
-/// Whether some initial edge isn't constant.
-fn has_open_start(latchs: &[AigLatch]) -> bool
-    ensures { IsTrue result ↔ Any HasVariableInit latchs.now }
-{
-    latchs
-        .iter()
-        .any(|latch| latch.init().is_some_and(|e| !e.is_const()))
-}
 
 /// Whether a text holds a line feed.
 fn holds_line_feed(text: &str) -> bool
@@ -111,7 +102,7 @@ impl Aig {
     {
         if !self.is_closed() {
             Err(WriteError::FreeLeaf)
-        } else if has_open_start(self.latchs()) {
+        } else if !are_plain(self.latchs()) {
             Err(WriteError::InitialEdge)
         } else if self.names_hold_line_feed() {
             Err(WriteError::Name)

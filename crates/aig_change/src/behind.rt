@@ -1,6 +1,6 @@
 //! The entries of one circuit behind those of another.
 
-ghost use Rattle.std.specs.Prelude.{◌≡◌, ◌+◌, ◌<◌, ◌≤◌, ◌^◌, ◌++◌, ◌∷◌, [], ℕ, Some, IfOk, IfSome, OnErr, All, length, map, vec_len, vec_capacity};
+ghost use Rattle.std.specs.Prelude.{◌≡◌, ◌+◌, ◌<◌, ◌≤◌, ◌^◌, ◌++◌, Some, IfOk, All, length, map, vec_len, vec_capacity};
 ghost use Rattle.aig_circuit.specs.declared.node.AigNodeType.TheVariants.{False};
 ghost use Rattle.aig_circuit.specs.Circuit.{AreNodes};
 ghost use Rattle.aig_circuit.specs.Node.{IfAnd};
@@ -48,18 +48,6 @@ pub(crate) fn reserve(lists: &mut CircuitLists, other: &CircuitView<'_>) -> Resu
     Ok(())
 }
 
-/// Appends the entry, for which there is room.
-pub(crate) fn push_within_capacity<T: Copy>(all: &mut Vec<T>, entry: T)
-    requires room { vec_len all.old < vec_capacity all.old }
-    ensures items { all.new.items ≡ all.old.items ++ entry ∷ [] }
-    ensures len { vec_len all.new ≡ vec_len all.old + 1 }
-    ensures capacity { vec_capacity all.old ≤ vec_capacity all.new }
-{
-    if all.push(entry).is_err() {
-        unreachable!()
-    }
-}
-
 /// Appends inputs, for which there is room.
 pub(crate) fn inputs(all: &mut Vec<usize>, count: usize, size: usize, added: &[usize])
     requires bound { count + size < 2 ^ 64 }
@@ -68,7 +56,7 @@ pub(crate) fn inputs(all: &mut Vec<usize>, count: usize, size: usize, added: &[u
     ensures { all.new.items ≡ all.old.items ++ map (shifted count) added.now }
 {
     for input in added {
-        push_within_capacity(all, number(count, *input));
+        all.push_reserved(number(count, *input));
     }
 }
 
@@ -80,7 +68,7 @@ pub(crate) fn edges(all: &mut Vec<AigEdge>, count: usize, size: usize, added: &[
     ensures { all.new.items ≡ all.old.items ++ map (renumbered_edge (shifted count)) added.now }
 {
     for e in added {
-        push_within_capacity(all, edge(count, size, *e));
+        all.push_reserved(edge(count, size, *e));
     }
 }
 
@@ -126,7 +114,7 @@ pub(crate) fn latchs(all: &mut Vec<AigLatch>, count: usize, size: usize, added: 
     ensures { all.new.items ≡ all.old.items ++ map (renumbered_latch (shifted count)) added.now }
 {
     for l in added {
-        push_within_capacity(all, latch(count, size, *l));
+        all.push_reserved(latch(count, size, *l));
     }
 }
 
@@ -155,6 +143,6 @@ pub(crate) fn nodes(all: &mut Vec<AigNode>, added: &[AigNode])
 {
     let count = all.len();
     for i in 1..added.len() {
-        push_within_capacity(all, node(count, added.len(), count + i - 1, &added[i]));
+        all.push_reserved(node(count, added.len(), count + i - 1, &added[i]));
     }
 }

@@ -8,11 +8,11 @@ ghost use Rattle.aig_change.specs.Merge.{merged};
 ghost use Rattle.aig_change.specs.Changes.{CompressesBads, GatesStarts, MovesConstraints};
 
 use crate::behind;
-use crate::behind::push_within_capacity;
 use crate::joining::{inverses, join_first};
-use crate::starting::{are_plain, constrain_starts, make_plain};
+use crate::starting::{constrain_starts, make_plain};
 use aig_base::MemoryError;
 use aig_circuit::build::{new_and_node, new_ands_node, new_leaf_node};
+use aig_circuit::starts::are_plain;
 use aig_circuit::{AigEdge, AigLatch, CircuitLists, CircuitView};
 use std::mem;
 
@@ -93,13 +93,10 @@ pub fn gate_init_to_constraint(lists: &mut CircuitLists) -> Result<(), MemoryErr
     lists.latchs.reserve(1)?;
     let leaf = constrain_starts(&mut lists.nodes, &mut lists.constraints, &lists.latchs)?;
     make_plain(&mut lists.latchs);
-    push_within_capacity(
-        &mut lists.latchs,
-        AigLatch::new(
-            leaf,
-            AigEdge::constant(false),
-            Some(AigEdge::constant(true)),
-        ),
-    );
+    lists.latchs.push_reserved(AigLatch::new(
+        leaf,
+        AigEdge::constant(false),
+        Some(AigEdge::constant(true)),
+    ));
     Ok(())
 }

@@ -9,4 +9,3 @@ mod starting;
 
 pub use changes::{aig_move, compress_property, gate_init_to_constraint, merge};
 pub use laws::{merging_is_circuit, merging_pairs_runs, merging_with_false};
-pub use starting::are_plain;

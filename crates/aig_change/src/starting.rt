@@ -1,39 +1,16 @@
 //! Initial edges that aren't constant, and constraints in their place.
 
-ghost use Rattle.std.specs.Prelude.{◌≡◌, ◌↔◌, ◌∷◌, [], false, IsTrue, IfOk, OnErr, All, length, map, take};
+ghost use Rattle.std.specs.Prelude.{◌≡◌, ◌∷◌, [], false, IfOk, OnErr, All, length, map, take};
 ghost use Rattle.aig_circuit.specs.declared.node.AigNodeType.TheVariants.{Leaf};
 ghost use Rattle.aig_circuit.specs.Build.{AddsGates, with_node};
 ghost use Rattle.aig_circuit.specs.Edge.{edge_to};
 ghost use Rattle.aig_circuit.specs.Circuit.{AreNodes, IsInRange, IsLatch};
-ghost use Rattle.aig_circuit.specs.Edges.{HasPlainInit};
 ghost use Rattle.aig_change.specs.Changes.{with_constant_start};
 ghost use Rattle.aig_change.specs.Starting.{Constrains};
 
 use aig_base::MemoryError;
 use aig_circuit::build::{new_eq_node, new_leaf_node, new_or_node};
 use aig_circuit::{AigEdge, AigLatch, AigNode};
-
-/// Whether the latch has a constant initial edge or none.
-fn is_plain(latch: AigLatch) -> bool
-    ensures { IsTrue result ↔ HasPlainInit latch }
-{
-    match latch.init() {
-        Some(start) => start.node_id() == 0,
-        None => true,
-    }
-}
-
-/// Whether each latch has a constant initial edge or none.
-pub fn are_plain(latchs: &[AigLatch]) -> bool
-    ensures { IsTrue result ↔ All HasPlainInit latchs.now }
-{
-    for latch in latchs {
-        if !is_plain(*latch) {
-            return false;
-        }
-    }
-    true
-}
 
 /// The latch without its initial edge where that isn't constant.
 fn plain(latch: AigLatch) -> AigLatch

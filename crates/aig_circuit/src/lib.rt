@@ -10,6 +10,7 @@ pub mod leaves;
 pub mod marks;
 mod node;
 mod prop_list;
+pub mod starts;
 mod view;
 
 pub use ands::{AndsIter, gates_among};

@@ -1,8 +1,8 @@
 -- What is kept is closed under operands and next edges, and holds all that the lists of the circuit speak of.
-use Rattle.std.proofs.Common.{◌≡◌, ℕ, zero, suc, ◌<◌, ◌≤◌, ◌↔◌, Bool, true, false, cond, ◌||◌, Option, Some, None, List, [], ◌∷◌, ◌++◌, length, map, get_or, refl, sym, subst, ◌∙◌, arith, inl, inr}
+use Rattle.std.proofs.Common.{◌≡◌, ℕ, zero, suc, ◌<◌, ◌≤◌, ◌↔◌, Bool, true, false, cond, Option, Some, None, List, [], ◌∷◌, ◌++◌, length, map, get_or, refl, sym, subst, ◌∙◌, arith, inl, inr}
 use Rattle.std.specs.Prelude.{All, Contains, IfSome, option_to_list, ◌==◌}
-use Rattle.std.specs.List.{AllByRecursion, flat_map, list_any}
-use Rattle.std.proofs.lemmas.Bool.{cases_lt, eqb-true, false≢true}
+use Rattle.std.specs.List.{AllByRecursion, flat_map}
+use Rattle.std.proofs.lemmas.Bool.{cases_lt, eqb-true}
 use Rattle.std.proofs.lemmas.List.{map-append}
 use Rattle.std.proofs.lemmas.List.Elements.{All-append, All-contains, All-contains_itself, All-from_recursion, All-map, All-weaker, Contains-append_left, Contains-append_right, Contains-get_or, recursion_from_All}
 use Rattle.std.proofs.lemmas.Option.{same_Some}
@@ -17,24 +17,15 @@ use Rattle.aig_renumber.specs.Numbers.{IsEdgeIn, IsLatchIn}
 use Rattle.aig_renumber.proofs.Numbering.{Numbers}
 use Rattle.aig_renumber.proofs.Places.{Contains-map, get_or-place_of, place_of-within, places-rise, rising-place, rising_from}
 use Rattle.aig_circuit.specs.Reach.{IsBefore, IsInCone, IsReached, root, step}
-use Rattle.aig_cone.specs.Marks.{AreMarked, IsMarked}
+use Rattle.aig_circuit.specs.Marks.{IsMarked}
+use Rattle.aig_cone.specs.Marks.{AreMarked}
 use Rattle.aig_cone.specs.Refine.{AreKept, refining_roots, variable_nodes}
-use Rattle.aig_circuit.specs.Renumber.{is_in}
 use Rattle.aig_circuit.specs.Edges.{initial_edges, property_edges}
 
 -- what holds of the roots and goes on along steps holds of all that is reached
 pub reached_within : {Step : ℕ → ℕ → Type 0} {roots : List ℕ} (P : ℕ → Type 0) → ((n : ℕ) → Contains roots n → P n) → ((n m : ℕ) → P n → Step n m → P m) → (n : ℕ) → IsReached Step roots n → P n
 reached_within P at_roots along n (root {n = k} h) = at_roots k h
 reached_within P at_roots along n (step {n = k} {m = m} h s) = along k m (reached_within P at_roots along k h) s
-
--- a number that is found is there
-pub is_in-back : (ns : List ℕ) (n : ℕ) → is_in ns n ≡ true → Contains ns n
-is_in-back [] n h = absurd (false≢true h)
-is_in-back (m ∷ ns) n h = by_test (m == n) refl h (is_in-back ns n)
-  where
-    by_test : (b : Bool) → (m == n) ≡ b → (b || list_any (λ j. j == n) ns) ≡ true → (list_any (λ j. j == n) ns ≡ true → Contains ns n) → Contains (m ∷ ns) n
-    by_test true is h rest = (0, omega arith, eqb-true m n is)
-    by_test false is h rest = let r = rest h in let lt = r.1 in (suc r.0, omega arith, r.2)
 
 -- an entry of one of the lists is an entry of all
 flat_has : {X Y : Type 0} (f : X → List Y) (xs : List X) (P : Y → Type 0) → AllByRecursion P (flat_map f xs) → AllByRecursion (λ x. AllByRecursion P (f x)) xs

@@ -1,16 +1,16 @@
 -- Marks that are set, and the marks of what is reached along operands.
-use Rattle.std.proofs.Common.{◌≡◌, ℕ, ◌+◌, ◌<◌, ◌≤◌, ◌⊎◌, ◌↔◌, Bool, true, List, [], ◌∷◌, ◌++◌, length, map, take, get_or, set, get_or-set_other, get_or-set_same, sym, ap, subst, ◌∙◌, arith, inl, inr}
+use Rattle.std.proofs.Common.{◌≡◌, ℕ, ◌+◌, ◌<◌, ◌≤◌, ◌⊎◌, ◌↔◌, Bool, true, List, [], ◌∷◌, ◌++◌, length, take, get_or, set, get_or-set_other, get_or-set_same, sym, ap, subst, ◌∙◌, arith, inl, inr}
 use Rattle.std.specs.Prelude.{Contains}
 use Rattle.std.proofs.lemmas.Bool.{cases_eq, cases_lt}
-use Rattle.std.proofs.lemmas.List.{map-append, take_more, take_all}
+use Rattle.std.proofs.lemmas.List.{take_more}
 use Rattle.std.proofs.lemmas.List.Elements.{Contains-append_left, Contains-push, Contains-push_cases}
-use Rattle.aig_circuit.specs.declared.edge.AigEdge.{AigEdge}
 use Rattle.aig_circuit.specs.declared.node.AigNodeType.TheVariants.{And}
 use Rattle.aig_circuit.specs.declared.node.AigNode.{AigNode}
 use Rattle.aig_circuit.specs.Node.{IsOrdered}
 use Rattle.aig_circuit.specs.Reach.{IsOperand, IsReached, root, step}
 use Rattle.aig_circuit.proofs.Trees.{kind_at-within}
-use Rattle.aig_cone.specs.Marks.{IsMarked, MarksAlso}
+use Rattle.aig_circuit.specs.Marks.{IsMarked}
+use Rattle.aig_cone.specs.Marks.{MarksAlso}
 
 -- a mark that is set, and the others as they were
 pub MarksAlso-set : (marks : List Bool) (i : ℕ) → i < length marks → MarksAlso marks (set marks i true) (λ n. n ≡ i)
@@ -40,10 +40,6 @@ MarksAlso-same P Q a b same p n = (
 pub MarksAlso-none : (P : ℕ → Type 0) (a : List Bool) → ((n : ℕ) → ¬ P n) → MarksAlso a a P
 MarksAlso-none P a none n = (λ m. inl m, λ m. elim m [ inl old ↦ old | inr h ↦ absurd (none n h) ])
 
--- all of a list
-pub take-whole : {X : Type 0} (xs : List X) (i : ℕ) → length xs ≤ i → take i xs ≡ xs
-take-whole xs i h = take_all i xs h
-
 -- a list with one number more
 pub Contains-one_more : (xs : List ℕ) (x n : ℕ) → (Contains xs n ⊎ (n ≡ x)) ↔ Contains (xs ++ x ∷ []) n
 Contains-one_more xs x n = (
@@ -56,18 +52,6 @@ Contains-more xs i d x h is n =
     let more : take (i + 1) xs ≡ take i xs ++ x ∷ [] = take_more xs i d h ∙ ap (λ y. take i xs ++ y ∷ []) is in
     let one = Contains-one_more (take i xs) x n in
     (λ m. subst (λ ys. Contains ys n) (sym more) (one.0 m), λ m. one.1 (subst (λ ys. Contains ys n) more m))
-
--- the node of one edge more
-pub MarksAlso-more : (es : List AigEdge) (i : ℕ) (d : AigEdge) (a b : List Bool) → i < length es → (get_or es i d).node_id < length b
-    → MarksAlso a b (Contains (map (λ (e : AigEdge). e.node_id) (take i es))) → MarksAlso a (set b (get_or es i d).node_id true) (Contains (map (λ (e : AigEdge). e.node_id) (take (i + 1) es)))
-MarksAlso-more es i d a b h there so_far =
-    let node = λ (e : AigEdge). e.node_id in
-    let id = node (get_or es i d) in
-    let more : map node (take (i + 1) es) ≡ map node (take i es) ++ id ∷ [] = ap (map node) (take_more es i d h) ∙ map-append node (take i es) (get_or es i d ∷ []) in
-    subst (λ ns. MarksAlso a (set b id true) (Contains ns)) (sym more)
-    (MarksAlso-same (λ n. Contains (map node (take i es)) n ⊎ (n ≡ id)) (Contains (map node (take i es) ++ id ∷ [])) a (set b id true)
-    (λ n. Contains-one_more (map node (take i es)) id n)
-    (MarksAlso-then (Contains (map node (take i es))) (λ n. n ≡ id) a b (set b id true) so_far (MarksAlso-set b id there)))
 
 -- ---- along operands
 

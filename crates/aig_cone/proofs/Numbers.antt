@@ -10,7 +10,8 @@ use Rattle.std.proofs.lemmas.List.Elements.{Contains-append_left, Contains-get_o
 use Rattle.std.proofs.lemmas.List.Quantifiers.{all_pairs_push}
 use Rattle.std.proofs.lemmas.Option.{slice_get-get_or, slice_get_past}
 use Rattle.aig_base.proofs.Mapping.{same_test}
-use Rattle.aig_cone.specs.Marks.{AreMarked, IsMarked}
+use Rattle.aig_circuit.specs.Marks.{IsMarked}
+use Rattle.aig_cone.specs.Marks.{AreMarked}
 
 -- a mark that is there
 pub marked_within : (marks : List Bool) (n : ℕ) → IsMarked marks n → n < length marks

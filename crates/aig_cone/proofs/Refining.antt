@@ -17,6 +17,7 @@ use Rattle.aig_circuit.specs.Runs.{HaveSameValues, next_edges}
 use Rattle.aig_circuit.specs.Renumber.{nodes_in_order, place_of, renumbered_edge, renumbered_latch}
 use Rattle.aig_circuit.proofs.Trees.{kind_at-within}
 use Rattle.aig_renumber.specs.Numbers.{IsEdgeIn, IsLatchIn, SpeaksOf}
+use Rattle.aig_renumber.proofs.Kept.{is_in-back}
 use Rattle.aig_renumber.proofs.Circuits.{IsCircuit-renumbered, next_edges-map, runs-renumbered}
 use Rattle.aig_renumber.proofs.Numbering.{IsOrdered-made, Merges, Merges-numbers, Renumbers-made, length-nodes_in_order}
 use Rattle.aig_renumber.proofs.Places.{All-from_map, AllZip-map, filter-back}
@@ -24,7 +25,7 @@ use Rattle.aig_circuit.proofs.Values.{edge_value-renumbered}
 use Rattle.aig_cone.specs.Refine.{AreKept, CutsRuns, cut_to, refined}
 use Rattle.aig_circuit.specs.Renumber.{is_in, only_kept}
 use Rattle.aig_circuit.specs.Edges.{initial_edges}
-use Rattle.aig_cone.proofs.Keeping.{Numbers-kept, S, S-latchs, S-properties, S-starts, is_in-back}
+use Rattle.aig_cone.proofs.Keeping.{Numbers-kept, S, S-latchs, S-properties, S-starts}
 
 pub initial_edges-map : (number : ℕ → ℕ) (latchs : List AigLatch) → initial_edges (map (renumbered_latch number) latchs) ≡ map (renumbered_edge number) (initial_edges latchs)
 initial_edges-map number [] = refl

@@ -15,7 +15,8 @@ use Rattle.aig_circuit.specs.Node.{kind_at}
 use Rattle.aig_circuit.specs.Circuit.{Circuit, IsCircuit, IsLatch, latch_leaves}
 use Rattle.aig_circuit.specs.Reach.{IsBefore, IsInCone, IsNextState, IsOperand, IsReached, root, step}
 use Rattle.aig_circuit.proofs.Trees.{kind_at-within}
-use Rattle.aig_cone.specs.Marks.{AreNextStates, IsMarked, Visits}
+use Rattle.aig_circuit.specs.Marks.{IsMarked}
+use Rattle.aig_cone.specs.Marks.{AreNextStates, Visits}
 use Rattle.aig_cone.proofs.Marking.{MarksAlso-none, MarksAlso-same, MarksAlso-set, MarksAlso-then}
 
 -- ---- visits

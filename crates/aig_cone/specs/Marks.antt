@@ -1,11 +1,8 @@
 -- Marks of the nodes that are met, and the stack of those that are still to be followed.
-use Rattle.std.specs.Prelude.{◌≡◌, ℕ, ◌+◌, ◌<◌, ◌⊎◌, ◌↔◌, Bool, false, if◌then◌else◌, IsTrue, Option, Some, None, List, length, sum_by, AllPairs, Contains, slice_index_or}
+use Rattle.std.specs.Prelude.{◌≡◌, ℕ, ◌+◌, ◌<◌, ◌⊎◌, ◌↔◌, Bool, if◌then◌else◌, Option, Some, None, List, length, sum_by, AllPairs, Contains, slice_index_or}
 use Rattle.aig_circuit.specs.Circuit.{Circuit}
+use Rattle.aig_circuit.specs.Marks.{IsMarked}
 use Rattle.aig_circuit.specs.Reach.{IsNextState}
-
--- node n is marked
-abbrev pub IsMarked : List Bool → ℕ → Type 0
-IsMarked marks n = IsTrue (slice_index_or marks n false)
 
 -- the nodes of which P holds are marked too, and nothing else
 abbrev pub MarksAlso : List Bool → List Bool → (ℕ → Type 0) → Type 0

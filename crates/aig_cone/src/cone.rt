@@ -3,10 +3,12 @@
 ghost use Rattle.std.specs.Prelude.{◌≡◌, ◌<◌, ◌↔◌, ℕ, IfOk, All, Contains, length, map};
 ghost use Rattle.aig_circuit.specs.Circuit.{AreNodes, IsInRange};
 ghost use Rattle.aig_circuit.specs.Reach.{IsInCone, IsOperand, IsReached, MarksExactly};
-ghost use Rattle.aig_cone.specs.Marks.{IsMarked, MarksAlso};
+ghost use Rattle.aig_circuit.specs.Marks.{IsMarked};
+ghost use Rattle.aig_cone.specs.Marks.{MarksAlso};
 
 use crate::search::cone_marks;
 use aig_base::MemoryError;
+use aig_circuit::marks::mark_edges;
 use aig_circuit::{AigEdge, AigNode, AigNodeType, CircuitView};
 use std::alloc::Global;
 use std::collections::HashSet;
@@ -41,16 +43,6 @@ fn mark_cone(marks: &mut [bool], nodes: &[AigNode], logic: &[AigEdge])
     mark_edges(marks, logic);
     for id in (0..nodes.len()).rev() {
         mark_operands(marks, nodes, id);
-    }
-}
-
-/// Marks the nodes of edges.
-fn mark_edges(marks: &mut [bool], edges: &[AigEdge])
-    requires { All (λ e. e.node_id < length marks.old) edges.now }
-    ensures { MarksAlso marks.old marks.new (Contains (map (λ e. e.node_id) edges.now)) }
-{
-    for e in edges {
-        marks[e.node_id()] = true;
     }
 }
 

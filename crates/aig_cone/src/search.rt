@@ -3,7 +3,8 @@
 ghost use Rattle.std.specs.Prelude.{◌≡◌, ◌<◌, ◌↔◌, ℕ, None, Some, All, Contains, IfOk, OnOk, length, slice_index_or};
 ghost use Rattle.aig_circuit.specs.Circuit.{AreNodes, IsCircuit};
 ghost use Rattle.aig_circuit.specs.Reach.{IsBefore, IsInCone, IsOperand, IsReached};
-ghost use Rattle.aig_cone.specs.Marks.{AreNextStates, IsMarked, Visits};
+ghost use Rattle.aig_circuit.specs.Marks.{IsMarked};
+ghost use Rattle.aig_cone.specs.Marks.{AreNextStates, Visits};
 
 use aig_base::MemoryError;
 use aig_circuit::{AigNode, AigNodeType, CircuitView};

@@ -1,5 +1,5 @@
 -- Two functions that agree on every number of a circuit renumber it alike.
-use Rattle.std.proofs.Common.{◌≡◌, ℕ, ◌+◌, Option, Some, None, List, [], ◌∷◌, map, get_or, refl, ap, ◌∙◌}
+use Rattle.std.proofs.Common.{◌≡◌, ℕ, suc, ◌+◌, Option, Some, None, List, [], ◌∷◌, map, get_or, refl, ap, ◌∙◌, arith}
 use Rattle.std.specs.Prelude.{All, IfSome, option_map}
 use Rattle.std.specs.FinMap.{entries, from_entries}
 use Rattle.aig_circuit.specs.declared.edge.AigEdge.{AigEdge}
@@ -33,26 +33,26 @@ module _ (S : ℕ → Type 0) (f g : ℕ → ℕ) (agree : (n : ℕ) → S n →
       let d = init-agrees l.init s.init in
       λ i. record { input = a i; next = b i; init = d i }
 
-  -- operands of every gate are in S
-  module _ (nodes : List AigNode) (operands : (n : ℕ) (a b : AigEdge) → kind_at nodes n ≡ Some (And a b) → S a.node_id × S b.node_id) where
-    kind-agrees : (n : ℕ) (o : Option AigNodeType) → kind_at nodes n ≡ o → renumbered_kind f o ≡ renumbered_kind g o
-    kind-agrees n (Some (And a b)) is =
-        let s = operands n a b is in
+  -- the nodes that P holds of have their operands in S
+  module _ (nodes : List AigNode) (P : ℕ → Type 0) (operands : (n : ℕ) (a b : AigEdge) → P n → kind_at nodes n ≡ Some (And a b) → S a.node_id × S b.node_id) where
+    kind-agrees : (n : ℕ) → P n → (o : Option AigNodeType) → kind_at nodes n ≡ o → renumbered_kind f o ≡ renumbered_kind g o
+    kind-agrees n has (Some (And a b)) is =
+        let s = operands n a b has is in
         ap (λ e. and_of e (renumbered_edge f b)) (edge-agrees a s.0) ∙ ap (and_of (renumbered_edge g a)) (edge-agrees b s.1)
-    kind-agrees n (Some Leaf) is = refl
-    kind-agrees n (Some False) is = refl
-    kind-agrees n None is = refl
+    kind-agrees n has (Some Leaf) is = refl
+    kind-agrees n has (Some False) is = refl
+    kind-agrees n has None is = refl
 
-    nodes-agree : (v : ℕ) (ns : List ℕ) → nodes_in_order nodes f v ns ≡ nodes_in_order nodes g v ns
-    nodes-agree v [] = refl
-    nodes-agree v (n ∷ ns) =
-        ap (λ (k : AigNodeType). record { node_id = v; typ = k } ∷ nodes_in_order nodes f (v + 1) ns) (kind-agrees n (kind_at nodes n) refl)
-        ∙ ap (λ l. record { node_id = v; typ = renumbered_kind g (kind_at nodes n) } ∷ l) (nodes-agree (v + 1) ns)
+    nodes-agree : (v : ℕ) (ns : List ℕ) → All P ns → nodes_in_order nodes f v ns ≡ nodes_in_order nodes g v ns
+    nodes-agree v [] all = refl
+    nodes-agree v (n ∷ ns) all =
+        ap (λ (k : AigNodeType). record { node_id = v; typ = k } ∷ nodes_in_order nodes f (v + 1) ns) (kind-agrees n (all 0 n (omega arith)) (kind_at nodes n) refl)
+        ∙ ap (λ l. record { node_id = v; typ = renumbered_kind g (kind_at nodes n) } ∷ l) (nodes-agree (v + 1) ns (λ k d h. all (suc k) d (omega arith)))
 
-  -- the circuits are the same
-  pub circuits-agree : (c : Circuit) (ns : List ℕ) → SpeaksOf S c → ((n : ℕ) (a b : AigEdge) → kind_at c.nodes n ≡ Some (And a b) → S a.node_id × S b.node_id) → renumbered_circuit f ns c ≡ renumbered_circuit g ns c
-  circuits-agree c ns speaks operands =
-      let a = nodes-agree c.nodes operands 0 ns in
+  -- the circuits of nodes that P holds of are the same
+  pub kept-agree : (c : Circuit) (ns : List ℕ) (P : ℕ → Type 0) → All P ns → SpeaksOf S c → ((n : ℕ) (a b : AigEdge) → P n → kind_at c.nodes n ≡ Some (And a b) → S a.node_id × S b.node_id) → renumbered_circuit f ns c ≡ renumbered_circuit g ns c
+  kept-agree c ns P all speaks operands =
+      let a = nodes-agree c.nodes P operands 0 ns all in
       let b = map-agrees f g c.inputs (λ k d h. agree (get_or c.inputs k d) (speaks.inputs k d h)) in
       let l = map-agrees (renumbered_latch f) (renumbered_latch g) c.latchs (λ k d h. latch-agrees (get_or c.latchs k d) (speaks.latchs k d h)) in
       let o = edges-agree c.outputs speaks.outputs in
@@ -63,3 +63,7 @@ module _ (S : ℕ → Type 0) (f g : ℕ → ℕ) (agree : (n : ℕ) → S n →
       let named = map-agrees (λ (e : ℕ × List ℕ). (f e.0, e.1)) (λ (e : ℕ × List ℕ). (g e.0, e.1)) (entries c.names) (λ k d h. ap (λ n. (n, (get_or (entries c.names) k d).1)) (agree (get_or (entries c.names) k d).0 (names_in_circuit S c.names speaks.named k d h))) in
       let t = ap from_entries named in
       λ i. record { nodes = a i; inputs = b i; latchs = l i; outputs = o i; bads = p i; constraints = q i; justice = r i; fairness = s i; names = t i }
+
+  -- so they are where the operands of every gate are in S
+  pub circuits-agree : (c : Circuit) (ns : List ℕ) → SpeaksOf S c → ((n : ℕ) (a b : AigEdge) → kind_at c.nodes n ≡ Some (And a b) → S a.node_id × S b.node_id) → renumbered_circuit f ns c ≡ renumbered_circuit g ns c
+  circuits-agree c ns speaks operands = kept-agree c ns (λ n. Unit {0}) (λ k d h. tt) speaks (λ n a b h. operands n a b)

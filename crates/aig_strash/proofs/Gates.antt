@@ -1,5 +1,5 @@
 -- One more gate in the map: it is found by its operands' literals exactly where an earlier node has its tree.
-use Rattle.std.proofs.Common.{◌≡◌, ℕ, ◌+◌, ◌<◌, ◌≤◌, ◌^◌, Bool, true, false, Option, Some, None, IsSome, List, length, take, map, refl, sym, ap, subst, ◌∙◌, arith, inl, inr}
+use Rattle.std.proofs.Common.{◌≡◌, ℕ, ◌+◌, ◌*◌, ◌<◌, ◌≤◌, Bool, true, false, Option, Some, None, IsSome, List, length, take, map, refl, sym, ap, subst, ◌∙◌, arith, inl, inr}
 use Rattle.std.specs.Prelude.{unwrap_or, slice_index}
 use Rattle.std.proofs.lemmas.Bool.{and_parts, and_from, cases_lt, eqb-true, eq-eqb, false≢true}
 use Rattle.std.proofs.lemmas.List.{get_or-map, get_or-take, length-map, length-take}
@@ -14,10 +14,12 @@ use Rattle.aig_circuit.specs.Renumber.{renumbered_edge, renumbered_kind}
 use Rattle.aig_circuit.specs.Tree.{Tree, AndTree, tree_of}
 use Rattle.aig_circuit.proofs.Trees.{kind_at-there, tree_of-false, tree_of-leaf, tree_of-and}
 use Rattle.aig_strash.specs.Exchange.{HaveEqualTrees, IsGate, first_of, image_of, kept_before, node_numbers}
-use Rattle.aig_strash.specs.Numbering.{Gates, HasGates, HasSmallLiteral, Literals, PutsIfAbsent, are_same, gate_literals, number_of, operand_literals}
+use Rattle.aig_strash.specs.declared.numbers.Tables.{Tables}
+use Rattle.aig_strash.specs.Numbering.{HasGates, HasSmallLiteral, gate_literals, operand_literals}
+use Rattle.aig_strash.specs.Tables.{Gates, Literals, PutsIfAbsent, are_same, literal_limit, number_of, numbers_of}
 use Rattle.aig_strash.proofs.Equal.{Equal}
 use Rattle.aig_strash.proofs.Firsts.{first-0, first-is, first-leaf, first-within, image-same, numbers-count, numbers-length}
-use Rattle.aig_strash.proofs.Numbered.{equal-from_literals, image-before, image-kept, literals-from_equal}
+use Rattle.aig_strash.proofs.Numbered.{equal-from_literals, image-before, image-kept, kept_before-few, literals-from_equal}
 
 -- ---- literals
 
@@ -61,11 +63,15 @@ module _ (nodes : List AigNode) (are : AreNodes nodes) where
       get_or-map (image_of nodes) (take n (node_numbers nodes)) m 0 0 within
       ∙ ap (image_of nodes) (get_or-take n (node_numbers nodes) m 0 low ∙ omega (arith, numbers-count nodes are m 0 (omega (arith, numbers-length nodes are))))
 
-  -- an edge to an earlier node has a small literal
-  pub small-literal : (n : ℕ) (e : AigEdge) → n ≤ length nodes → e.node_id < n → kept_before nodes n < 2 ^ 63 → HasSmallLiteral (images_to n) e
-  small-literal n e h low small = record {
-    there = omega (arith, images-length n h);
-    small = (let below = image-before nodes are e.node_id n low h in omega (arith, images-at n e.node_id h low));
+  -- the tables have room for the literals of an edge to an earlier node
+  pub small-literal : (n : ℕ) (e : AigEdge) (tables : Tables) → n ≤ length nodes → e.node_id < n → numbers_of tables ≡ images_to n → 2 * length nodes ≤ literal_limit tables → HasSmallLiteral tables e
+  small-literal n e tables h low so_far limit = record {
+    there = omega (arith, ap length so_far, images-length n h);
+    small = (
+        let below = image-before nodes are e.node_id n low h in
+        let few = kept_before-few nodes are n h in
+        let at : slice_index (numbers_of tables) e.node_id ≡ image_of nodes e.node_id = ap (λ (l : List ℕ). slice_index l e.node_id) so_far ∙ images-at n e.node_id h low in
+        omega arith);
   }
 
   -- the literals that are made of the numbers so far are the gate's
@@ -97,7 +103,7 @@ module _ (nodes : List AigNode) (are : AreNodes nodes) where
     no_more = λ q there. let found = has.no_more q there in (found.0, omega (arith, found.1), found.2, found.3);
   }
 
-  module _ (n : ℕ) (h : n < length nodes) (gate : IsGate nodes n) (old new : Gates) (has : HasGates nodes n old) (found : ℕ) (puts : PutsIfAbsent old new (gate_literals nodes n) (kept_before nodes n) found) where
+  module _ (n : ℕ) (h : n < length nodes) (gate : IsGate nodes n) (old new : Gates) (has : HasGates nodes n old) (found : ℕ) (puts : PutsIfAbsent are_same old new (gate_literals nodes n) (kept_before nodes n) found) where
     by_found : (o : Option ℕ) → number_of old (gate_literals nodes n) ≡ o → unwrap_or o (kept_before nodes n) ≡ image_of nodes n
     by_found (Some v) is =
         let there = has.no_more (gate_literals nodes n) (subst IsSome (sym is) refl) in
@@ -117,7 +123,7 @@ module _ (nodes : List AigNode) (are : AreNodes nodes) where
     ]))
 
     pub number-gate : found ≡ image_of nodes n
-    number-gate = puts.number ∙ by_found (number_of old (gate_literals nodes n)) refl
+    number-gate = puts.value ∙ by_found (number_of old (gate_literals nodes n)) refl
 
     each-gate : (m : ℕ) → IsGate nodes m → (b : Bool) → are_same (gate_literals nodes n) (gate_literals nodes m) ≡ b → (m < n + 1) → number_of new (gate_literals nodes m) ≡ Some (image_of nodes m)
     each-gate m other true same low =
@@ -146,10 +152,10 @@ module _ (nodes : List AigNode) (are : AreNodes nodes) where
   -- so does what was made of the numbers so far
   pub step-gate : (n : ℕ) → n < length nodes → (a b : AigEdge) → kind_at nodes n ≡ Some (And a b) → (list : List ℕ) → list ≡ images_to n
       → (literals : Literals) → literals ≡ operand_literals (and_of (renumbered_edge (slice_index list) a) (renumbered_edge (slice_index list) b))
-      → (next : ℕ) → next ≡ kept_before nodes n → (old new : Gates) → HasGates nodes n old → (found : ℕ) → PutsIfAbsent old new literals next found
+      → (next : ℕ) → next ≡ kept_before nodes n → (old new : Gates) → HasGates nodes n old → (found : ℕ) → PutsIfAbsent are_same old new literals next found
       → (found ≡ image_of nodes n) × HasGates nodes (n + 1) new
   step-gate n h a b is list so_far literals made next count old new has found puts =
       let of_list = ap (λ (l : List ℕ). operand_literals (and_of (renumbered_edge (slice_index l) a) (renumbered_edge (slice_index l) b))) so_far in
       let same : literals ≡ gate_literals nodes n = made ∙ of_list ∙ literals-of_gate n a b (omega arith) is in
-      let at = subst (λ m. PutsIfAbsent old new (gate_literals nodes n) m found) count (subst (λ q. PutsIfAbsent old new q next found) same puts) in
+      let at = subst (λ m. PutsIfAbsent are_same old new (gate_literals nodes n) m found) count (subst (λ q. PutsIfAbsent are_same old new q next found) same puts) in
       (number-gate n h (a, b, is) old new has found at, gates-gate n h (a, b, is) old new has found at)

@@ -1,9 +1,10 @@
 -- The next node's number: that of an earlier gate with its operands, or else the count of the kept nodes.
 use Rattle.std.proofs.Common.{◌≡◌, ◌≢◌, ℕ, zero, suc, ◌+◌, ◌<◌, ◌≤◌, Bool, true, false, cond, eqb, List, [], ◌∷◌, ◌++◌, length, get_or, take, map, refl, sym, ap, subst, ◌∙◌, arith, add-one, inl, inr, ◌⊎◌}
-use Rattle.std.specs.Prelude.{filter}
+use Rattle.std.specs.Prelude.{filter, not}
 use Rattle.std.proofs.lemmas.Bool.{cases_lt, eqb-true, eq-eqb, false≢true}
-use Rattle.std.proofs.lemmas.List.{append-nil, map-append, take_more}
+use Rattle.std.proofs.lemmas.List.{append-nil, get_or-map, length-append, length-map, length-take, map-append, take_more}
 use Rattle.std.proofs.lemmas.List.Elements.{filter-append}
+use Rattle.std.proofs.lemmas.List.Filters.{length-filter_both}
 use Rattle.aig_circuit.specs.declared.edge.AigEdge.{AigEdge}
 use Rattle.aig_circuit.specs.declared.node.AigNodeType.TheVariants.{And}
 use Rattle.aig_circuit.specs.declared.node.AigNode.{AigNode}
@@ -14,7 +15,8 @@ use Rattle.aig_circuit.specs.Tree.{AndTree, tree_of}
 use Rattle.aig_circuit.proofs.Building.{and_of-cases}
 use Rattle.aig_circuit.proofs.Trees.{tree_of-and}
 use Rattle.aig_strash.specs.Exchange.{HaveEqualTrees, IsGate, first_of, image_of, is_kept, kept_before, node_numbers}
-use Rattle.aig_strash.specs.Numbering.{Literals, gate_literals, operand_literals}
+use Rattle.aig_strash.specs.Numbering.{gate_literals, operand_literals}
+use Rattle.aig_strash.specs.Tables.{Literals}
 use Rattle.aig_strash.proofs.Alike.{literals-same, nodes-alike, operands-there}
 use Rattle.aig_strash.proofs.Equal.{Equal, Pairs, equal-ands}
 use Rattle.aig_strash.proofs.Firsts.{first-is, first-twice, first-within, image-apart, image-same, numbers-count, numbers-length}
@@ -114,6 +116,12 @@ module _ (nodes : List AigNode) (are : AreNodes nodes) where
   pub image-kept : (n : ℕ) → n < length nodes → first_of nodes n ≡ n → image_of nodes n ≡ kept_before nodes n
   image-kept n h first = image-count n h ∙ ap (kept_before nodes) first
 
+  -- at most so many are kept
+  pub kept_before-few : (n : ℕ) → n ≤ length nodes → kept_before nodes n ≤ n
+  kept_before-few n h =
+      let both = length-filter_both (is_kept nodes) (λ m. not (is_kept nodes m)) (λ m. refl) (take n (node_numbers nodes)) in
+      omega (arith, both, length-take n (node_numbers nodes), numbers-length nodes are)
+
   -- earlier nodes have numbers below the count
   pub image-before : (m n : ℕ) → m < n → n ≤ length nodes → image_of nodes m < kept_before nodes n
   image-before m n h l =
@@ -175,3 +183,21 @@ module _ (nodes : List AigNode) (are : AreNodes nodes) where
   kept-same n h list number so_far is differs =
       let dropped = dropped-from_number n h (λ e. differs (is ∙ e ∙ ap length (sym so_far))) in
       so_far ∙ sym (kept-step n h false dropped ∙ append-nil (filter (is_kept nodes) (take n numbers)))
+
+  -- the count of the kept nodes so far, with the next one
+  pub count-more : (n : ℕ) → n < length nodes → image_of nodes n ≡ kept_before nodes n → kept_before nodes (n + 1) ≡ kept_before nodes n + 1
+  count-more n h is =
+      let step = ap length (kept-step n h true (kept-from_number n h is)) in
+      omega (arith, step, length-append (filter (is_kept nodes) (take n numbers)) (n ∷ []))
+
+  pub count-same : (n : ℕ) → n < length nodes → image_of nodes n ≢ kept_before nodes n → kept_before nodes (n + 1) ≡ kept_before nodes n
+  count-same n h differs =
+      ap length (kept-step n h false (dropped-from_number n h differs) ∙ append-nil (filter (is_kept nodes) (take n numbers)))
+
+  -- a number is that of its node
+  pub image-at : (list : List ℕ) → list ≡ map (image_of nodes) numbers → (n d : ℕ) → n < length list → (n < length nodes) × (get_or list n d ≡ image_of nodes n)
+  image-at list made n d h =
+      let within : n < length numbers = omega (arith, ap length made, length-map numbers (image_of nodes)) in (
+        omega (arith, numbers-length nodes are),
+        ap (λ (l : List ℕ). get_or l n d) made ∙ get_or-map (image_of nodes) numbers n 0 d within ∙ ap (image_of nodes) (omega (arith, numbers-count nodes are n 0 within)),
+      )

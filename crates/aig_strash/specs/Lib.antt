@@ -1,3 +1,4 @@
 pub mod Exchange
 pub mod Numbering
 pub mod Strash
+pub mod Tables

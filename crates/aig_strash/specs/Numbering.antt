@@ -1,8 +1,5 @@
 -- How far a pass over the nodes has numbered them, with the gates by the literals of their operands.
-use Rattle.std.specs.Prelude.{◌≡◌, ℕ, ◌+◌, ◌*◌, ◌<◌, ◌^◌, ◌&&◌, Bool, false, IsSome, Option, Some, nat_eq, List, length, slice_index, map, filter, take, unwrap_or}
-use Rattle.std.specs.HashMap.{get, HashMap}
-use Rattle.std.specs.declared.hash.FoldHasher.{FoldHasher}
-use Rattle.std.specs.declared.hash.BuildHasherDefault.{BuildHasherDefault}
+use Rattle.std.specs.Prelude.{◌≡◌, ℕ, ◌+◌, ◌*◌, ◌<◌, ◌≤◌, IsSome, Some, List, length, slice_index, map, take}
 use Rattle.aig_circuit.specs.declared.edge.AigEdge.{AigEdge}
 use Rattle.aig_circuit.specs.declared.node.AigNodeType.{AigNodeType}
 use Rattle.aig_circuit.specs.declared.node.AigNodeType.TheVariants.{False, Leaf, And}
@@ -10,35 +7,15 @@ use Rattle.aig_circuit.specs.declared.node.AigNode.{AigNode}
 use Rattle.aig_circuit.specs.Edge.{literal_of}
 use Rattle.aig_circuit.specs.Node.{kind_at}
 use Rattle.aig_circuit.specs.Renumber.{renumbered_kind}
-use Rattle.aig_strash.specs.Exchange.{IsGate, image_of, is_kept, node_numbers}
+use Rattle.aig_strash.specs.Exchange.{IsGate, image_of, kept_before, node_numbers}
+use Rattle.aig_strash.specs.Tables.{Gates, Literals, gates_of, literal_limit, number_of, numbers_of}
+use Rattle.aig_strash.specs.declared.numbers.Tables.{Tables}
 use Rattle.aig_strash.specs.declared.hashing.Numbering.{Numbering}
 
--- two literals
-abbrev pub Literals : Type 0
-Literals = ℕ × ℕ
-
--- new numbers of gates, by the literals of their operands
-abbrev pub Gates : Type 0
-Gates = HashMap Literals ℕ (BuildHasherDefault FoldHasher)
-
--- both literals are the same
-abbrev pub are_same : Literals → Literals → Bool
-are_same p q = nat_eq p.0 q.0 && nat_eq p.1 q.1
-
--- the number of the gate with these operands
-abbrev pub number_of : Gates → Literals → Option ℕ
-number_of gates literals = get are_same gates literals
-
--- `found` is the number that was there, or `next` where there was none; it is there now, and all others are as before
-pub record PutsIfAbsent (old new : Gates) (literals : Literals) (next found : ℕ) : Type 0 where
-  pub number : found ≡ unwrap_or (number_of old literals) next
-  pub here : number_of new literals ≡ Some found
-  pub others : (q : Literals) → are_same literals q ≡ false → number_of new q ≡ number_of old q
-
--- the edge's node has a number, whose literals are numbers of the machine
-pub record HasSmallLiteral (numbers : List ℕ) (edge : AigEdge) : Type 0 where
-  pub there : edge.node_id < length numbers
-  pub small : 2 * slice_index numbers edge.node_id + 1 < 2 ^ 64
+-- the edge's node has a number, and the tables have room for its literals
+pub record HasSmallLiteral (tables : Tables) (edge : AigEdge) : Type 0 where
+  pub there : edge.node_id < length (numbers_of tables)
+  pub small : 2 * slice_index (numbers_of tables) edge.node_id + 1 < literal_limit tables
 
 -- the literals of a gate's operands
 abbrev pub operand_literals : AigNodeType → Literals
@@ -55,8 +32,9 @@ pub record HasGates (nodes : List AigNode) (n : ℕ) (gates : Gates) : Type 0 wh
   pub each : (m : ℕ) → m < n → IsGate nodes m → number_of gates (gate_literals nodes m) ≡ Some (image_of nodes m)
   pub no_more : (q : Literals) → IsSome (number_of gates q) → (m : ℕ) × (m < n) × IsGate nodes m × (gate_literals nodes m ≡ q)
 
--- the first n nodes are numbered
+-- the first n nodes are numbered, and the tables have room for the literals of all
 pub record HasNumbered (nodes : List AigNode) (n : ℕ) (numbering : Numbering) : Type 0 where
-  pub numbers : numbering.numbers.items ≡ map (image_of nodes) (take n (node_numbers nodes))
-  pub kept : numbering.kept.items ≡ filter (is_kept nodes) (take n (node_numbers nodes))
-  pub gates : HasGates nodes n numbering.gates
+  pub numbers : numbers_of numbering.tables ≡ map (image_of nodes) (take n (node_numbers nodes))
+  pub count : numbering.count ≡ kept_before nodes n
+  pub gates : HasGates nodes n (gates_of numbering.tables)
+  pub limit : 2 * length nodes ≤ literal_limit numbering.tables

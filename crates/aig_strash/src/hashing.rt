@@ -8,14 +8,15 @@ ghost use Rattle.aig_circuit.specs.Node.{and_of};
 ghost use Rattle.aig_circuit.specs.Renumber.{renumbered_edge};
 ghost use Rattle.aig_circuit.specs.View.{lists_circuit};
 ghost use Rattle.aig_strash.specs.Exchange.{image_of, kept_nodes, node_numbers};
-ghost use Rattle.aig_strash.specs.Numbering.{HasGates, HasNumbered, HasSmallLiteral, PutsIfAbsent, operand_literals};
+ghost use Rattle.aig_strash.specs.Numbering.{HasGates, HasNumbered, HasSmallLiteral, operand_literals};
 ghost use Rattle.aig_strash.specs.Strash.{strashed};
+ghost use Rattle.aig_strash.specs.Tables.{gates_of, literal_limit, numbers_of};
 
+use crate::numbers::Tables;
 use aig_base::MemoryError;
 use aig_circuit::{AigEdge, AigNode, AigNodeType, CircuitLists, CircuitView};
 use aig_renumber::renumber;
 use std::alloc::Global;
-use std::collections::HashMap;
 
 /// Returns the circuit in which gates share one node exactly where their trees are equal up to exchange (crate aig,
 /// `strash`). Kept are false, all leaves and the first gate of each kind, reached or not, in their order; nothing is
@@ -34,39 +35,46 @@ fn number_nodes(alloc: Global, nodes: &[AigNode]) -> Result<(Vec<usize>, Vec<usi
     ensures numbers { IfOk result (λ tables. tables.0.items ≡ map (image_of nodes.now) (node_numbers nodes.now)) }
     ensures kept { IfOk result (λ tables. tables.1.items ≡ kept_nodes nodes.now) }
 {
-    let mut numbering = Numbering::with_capacity(alloc, nodes.len())?;
+    let mut numbering = Numbering::with_room(alloc, nodes)?;
     for n in 0..nodes.len() {
         numbering.number_node(nodes, n)?;
     }
-    let Numbering {
-        numbers,
-        kept,
-        gates: _,
-    } = numbering;
+    let Numbering { tables, count } = numbering;
+    let numbers = tables.into_numbers(alloc)?;
+    let kept = kept_among(alloc, &numbers, count)?;
     Ok((numbers, kept))
+}
+
+/// Returns the old numbers of the kept nodes, of which there are `count`: those whose new number is the next one.
+fn kept_among(alloc: Global, numbers: &[usize], count: usize) -> Result<Vec<usize>, MemoryError>
+    ensures { IfOk result (λ kept. (nodes : List AigNode) → AreNodes nodes
+        → numbers.now ≡ map (image_of nodes) (node_numbers nodes) → kept.items ≡ kept_nodes nodes) }
+{
+    let mut kept = Vec::with_capacity(alloc, count)?;
+    for (n, number) in numbers.iter().enumerate() {
+        if *number == kept.len() {
+            kept.push(n)?;
+        }
+    }
+    Ok(kept)
 }
 
 /// The nodes that were numbered so far.
 #[derive(Drop)]
 struct Numbering {
-    /// The new number of each node.
-    numbers: Vec<usize>,
-    /// The old numbers of the kept nodes.
-    kept: Vec<usize>,
-    /// The new number of each kept gate, by the literals of its operands under the new numbers.
-    gates: HashMap<(usize, usize), usize>,
+    /// The new numbers.
+    tables: Tables,
+    /// How many nodes are kept, which is the next new number.
+    count: usize,
 }
 
 impl Numbering {
-    /// Returns the numbering of no node so far, with room for as many as given, so that no table grows.
-    fn with_capacity(alloc: Global, nodes: usize) -> Result<Numbering, MemoryError>
-        ensures { IfOk result (λ new. (nodes : List AigNode) → HasNumbered nodes 0 new) }
+    /// Returns the numbering of no node so far, with room for these.
+    fn with_room(alloc: Global, nodes: &[AigNode]) -> Result<Numbering, MemoryError>
+        ensures { IfOk result (HasNumbered nodes.now 0) }
     {
-        Ok(Numbering {
-            numbers: Vec::with_capacity(alloc, nodes)?,
-            kept: Vec::with_capacity(alloc, nodes)?,
-            gates: HashMap::with_capacity(alloc, nodes)?,
-        })
+        let tables = Tables::with_room(alloc, nodes)?;
+        Ok(Numbering { tables, count: 0 })
     }
 
     /// Numbers node `n`, the next one, which is kept if its number is new.
@@ -77,10 +85,10 @@ impl Numbering {
         ensures { OnOk result (HasNumbered nodes.now (n + 1) self.new) }
     {
         let number = self.new_number(nodes, n)?;
-        if number == self.kept.len() {
-            self.kept.push(n)?;
+        self.tables.push(number)?;
+        if number == self.count {
+            self.count += 1;
         }
-        self.numbers.push(number)?;
         Ok(())
     }
 
@@ -91,47 +99,40 @@ impl Numbering {
         requires there { n < length nodes.now }
         requires so_far { HasNumbered nodes.now n self.old }
         ensures number { IfOk result (λ number. number ≡ image_of nodes.now n) }
-        ensures gates { OnOk result (HasGates nodes.now (n + 1) self.new.gates) }
-        ensures tables { self.new ≡ record self.old { gates = self.new.gates } }
+        ensures gates { OnOk result (HasGates nodes.now (n + 1) (gates_of self.new.tables)) }
+        ensures numbers { numbers_of self.new.tables ≡ numbers_of self.old.tables }
+        ensures limit { literal_limit self.new.tables ≡ literal_limit self.old.tables }
+        ensures count { self.new.count ≡ self.old.count }
     {
-        let next = self.kept.len();
         match *nodes[n].typ() {
             AigNodeType::And(fanin0, fanin1) => {
-                let literals = new_literals(&self.numbers, fanin0, fanin1);
-                number_at(&mut self.gates, literals, next)
+                let literals = new_literals(&self.tables, fanin0, fanin1);
+                self.tables.number_at(literals, self.count)
             }
-            AigNodeType::False | AigNodeType::Leaf => Ok(next),
+            AigNodeType::False | AigNodeType::Leaf => Ok(self.count),
         }
     }
 }
 
-/// Returns the number of the gate with operands of these literals, which is `next` from now on where there was none.
-fn number_at(
-    gates: &mut HashMap<(usize, usize), usize>,
-    literals: (usize, usize),
-    next: usize,
-) -> Result<usize, MemoryError>
-    ensures { IfOk result (PutsIfAbsent gates.old gates.new literals next) }
-{
-    Ok(*gates.entry(literals)?.or_insert(next))
-}
-
 /// Returns the literals of a gate's operands under the new numbers, in order.
-fn new_literals(numbers: &[usize], fanin0: AigEdge, fanin1: AigEdge) -> (usize, usize)
-    requires first { HasSmallLiteral numbers.now fanin0 }
-    requires second { HasSmallLiteral numbers.now fanin1 }
-    ensures { let image = renumbered_edge (slice_index numbers.now) in
+fn new_literals(tables: &Tables, fanin0: AigEdge, fanin1: AigEdge) -> (usize, usize)
+    requires first { HasSmallLiteral tables.now fanin0 }
+    requires second { HasSmallLiteral tables.now fanin1 }
+    ensures literals { let image = renumbered_edge (slice_index (numbers_of tables.now)) in
         result ≡ operand_literals (and_of (image fanin0) (image fanin1)) }
+    ensures first { result.0 < literal_limit tables.now }
+    ensures second { result.1 < literal_limit tables.now }
 {
-    let first = new_literal(numbers, fanin0);
-    let second = new_literal(numbers, fanin1);
+    let first = new_literal(tables, fanin0);
+    let second = new_literal(tables, fanin1);
     (first.min(second), first.max(second))
 }
 
 /// Returns the literal of an edge under the new numbers: twice its node's number, and one more where it is inverted.
-fn new_literal(numbers: &[usize], edge: AigEdge) -> usize
-    requires { HasSmallLiteral numbers.now edge }
-    ensures { result ≡ literal_of (renumbered_edge (slice_index numbers.now) edge) }
+fn new_literal(tables: &Tables, edge: AigEdge) -> usize
+    requires { HasSmallLiteral tables.now edge }
+    ensures literal { result ≡ literal_of (renumbered_edge (slice_index (numbers_of tables.now)) edge) }
+    ensures small { result < literal_limit tables.now }
 {
-    2 * numbers[edge.node_id()] + usize::from(edge.compl())
+    2 * tables.number(edge.node_id()) + usize::from(edge.compl())
 }

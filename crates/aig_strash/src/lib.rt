@@ -3,6 +3,7 @@
 
 mod hashing;
 mod laws;
+mod numbers;
 
 pub use hashing::strash;
 pub use laws::{

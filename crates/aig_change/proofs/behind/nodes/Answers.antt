@@ -5,8 +5,8 @@ use Rattle.aig_change.proofs.behind.nodes.Goals as goal
 pub loop-i-preserved : goal.loop-i-preserved
 loop-i-preserved c = record {
   items =
-      nodes-behind_turn c.args.all.now.items c.args.added.now c.requires.sound c.loop-i.i c.len-count.result c.loop-i.all.items c.push_within_capacity.new.all.items c.node.result _ c.loop-i.auto.i c.loop-i-test.true
-      (c.len-count.ensures ∙ c.args.all.now.ok.0) c.loop-i.invariant.items c.node.ensures c.push_within_capacity.ensures.items;
-  len = omega (arith, c.loop-i.invariant.len, c.push_within_capacity.ensures.len);
-  capacity = omega (arith, c.loop-i.invariant.capacity, c.push_within_capacity.ensures.capacity);
+      nodes-behind_turn c.args.all.now.items c.args.added.now c.requires.sound c.loop-i.i c.len-count.result c.loop-i.all.items c.push_reserved.new.self.items c.node.result _ c.loop-i.auto.i c.loop-i-test.true
+      (c.len-count.ensures ∙ c.args.all.now.ok.0) c.loop-i.invariant.items c.node.ensures c.push_reserved.ensures.items;
+  len = omega (arith, c.loop-i.invariant.len, c.push_reserved.ensures.len);
+  capacity = omega (arith, c.loop-i.invariant.capacity, c.push_reserved.ensures.capacity);
 }

@@ -1,7 +1,7 @@
 use Rattle.std.proofs.Common.{ℕ, ◌↔◌, take, IsTrue}
 use Rattle.std.specs.Prelude.{nat_eq}
 use Rattle.std.specs.HashSet as bag
-use Rattle.aig_cone.specs.Marks.{IsMarked}
+use Rattle.aig_circuit.specs.Marks.{IsMarked}
 use Rattle.aig_cone.proofs.cone.marked_set.Given as goal
 
 abbrev pub invariant-loop-id : goal.invariant-loop-id

@@ -2,7 +2,7 @@ use Rattle.std.proofs.Common.{ℕ, ◌<◌, ◌↔◌, List, length, subst, sym,
 use Rattle.std.specs.Prelude.{All}
 use Rattle.std.proofs.lemmas.Result.{IfOk-weaker}
 use Rattle.aig_circuit.specs.Reach.{IsInCone}
-use Rattle.aig_cone.specs.Marks.{IsMarked}
+use Rattle.aig_circuit.specs.Marks.{IsMarked}
 use Rattle.aig_cone.proofs.Keeping.{AreKept-marked, refining_roots_within}
 use Rattle.aig_cone.proofs.refine.kept_numbers.Goals as goal
 

@@ -1,6 +1,6 @@
 use Rattle.std.proofs.Common.{◌≡◌, ◌∙◌, ap, subst, take, length, replicate, None, List}
 use Rattle.aig_circuit.specs.declared.node.AigNode.{AigNode}
-use Rattle.aig_cone.proofs.Marking.{take-whole}
+use Rattle.std.proofs.lemmas.List.{take_all}
 use Rattle.aig_cone.proofs.Searching.{HoldNext, HoldNext-start, HoldNext-step, leaf_within, none_alone}
 use Rattle.aig_cone.proofs.search.next_states.Goals as goal
 
@@ -21,6 +21,6 @@ loop-latch-preserved c =
 
 pub returns : goal.returns
 returns c =
-    let whole : take c.loop-latch.latch-index c.latchs-latch-items.result.now ≡ c.args.circuit.now.latchs = take-whole c.latchs-latch-items.result.now c.loop-latch.latch-index c.loop-latch-test.false ∙ c.latchs-latch-items.ensures.value in
+    let whole : take c.loop-latch.latch-index c.latchs-latch-items.result.now ≡ c.args.circuit.now.latchs = take_all c.loop-latch.latch-index c.latchs-latch-items.result.now c.loop-latch-test.false ∙ c.latchs-latch-items.ensures.value in
     let all = subst (λ ls. HoldNext c.args.circuit.now.nodes ls c.loop-latch.table.items) whole c.loop-latch.invariant in
     record { count = all.count; exactly = all.exactly }

@@ -1,37 +1,45 @@
-use Rattle.std.proofs.Common.{◌≡◌, ◌+◌, ap, arith, subst, sym, ◌∙◌}
-use Rattle.std.specs.Prelude.{map, filter, take}
-use Rattle.aig_strash.specs.declared.hashing.Numbering.{Numbering}
-use Rattle.aig_strash.specs.Exchange.{image_of, is_kept, node_numbers}
+use Rattle.std.proofs.Common.{◌+◌, arith, subst, sym, ◌∙◌}
 use Rattle.aig_strash.specs.Numbering.{HasGates}
-use Rattle.aig_strash.proofs.Numbered.{images-more, kept-more, kept-same}
+use Rattle.aig_strash.specs.Tables.{numbers_of}
+use Rattle.aig_strash.proofs.Numbered.{count-more, count-same, image-before, images-more, kept_before-few}
 use Rattle.aig_strash.proofs.hashing.Numbering.number_node.Goals as goal
-use Rattle.aig_strash.proofs.hashing.Numbering.number_node.Goals.{then-number-len+in_ok-push, else-number-len}
 
-pub returns : goal.returns
-returns c =
+pub push-requires : goal.push-requires
+push-requires c =
+    let nodes = c.args.nodes.now in
+    let below = image-before nodes c.requires.nodes c.args.n (c.args.n + 1) (omega arith) (omega arith) in
+    let few = kept_before-few nodes c.requires.nodes (c.args.n + 1) (omega arith) in
+    omega (arith, c.in_ok-number.ensures.number, c.in_ok-number.ensures.limit, c.requires.so_far.limit)
+
+pub overflow_add-self : goal.overflow_add-self
+overflow_add-self c =
+    let few = kept_before-few c.args.nodes.now c.requires.nodes c.args.n (omega arith) in
+    omega (arith, c.in_ok-number.ensures.count, c.requires.so_far.count)
+
+pub returns-then-number-self : goal.returns-then-number-self
+returns-then-number-self c =
     let nodes = c.args.nodes.now in
     let n = c.args.n in
     let are = c.requires.nodes in
-    let before = c.requires.so_far in
-    let number = c.in_ok-number.number in
-    let is : number ≡ image_of nodes n = c.in_ok-number.ensures.number in
-    let made = c.new_number.new.self in
-    let tables = c.in_ok-number.ensures.tables in
-    let old_numbers : made.numbers.items ≡ map (image_of nodes) (take n (node_numbers nodes)) = ap (λ (s : Numbering). s.numbers.items) tables ∙ before.numbers in
-    let old_kept : made.kept.items ≡ filter (is_kept nodes) (take n (node_numbers nodes)) = ap (λ (s : Numbering). s.kept.items) tables ∙ before.kept in
-    elim c.if-number-len.branch [
-      | then-number-len+in_ok-push w ↦ (
-          let after = w.self-is in
-          record {
-            numbers = images-more nodes are n c.requires.there c.if-number-len.self.numbers.items _ number (ap (λ (s : Numbering). s.numbers.items) after ∙ old_numbers) is c.in_ok-push-2.ensures.items;
-            kept = ap (λ (s : Numbering). s.kept.items) after ∙ kept-more nodes are n c.requires.there made.kept.items _ number old_kept is (omega arith) w.in_ok-push.ensures.items;
-            gates = subst (HasGates nodes (n + 1)) (sym (ap (λ (s : Numbering). s.gates) after)) c.in_ok-number.ensures.gates;
-          })
-      | else-number-len w ↦ (
-          let after = w.self-is in
-          record {
-            numbers = images-more nodes are n c.requires.there c.if-number-len.self.numbers.items _ number (ap (λ (s : Numbering). s.numbers.items) after ∙ old_numbers) is c.in_ok-push-2.ensures.items;
-            kept = ap (λ (s : Numbering). s.kept.items) after ∙ kept-same nodes are n c.requires.there made.kept.items number old_kept is (λ e. w.if-number-len.false (omega arith));
-            gates = subst (HasGates nodes (n + 1)) (sym (ap (λ (s : Numbering). s.gates) after)) c.in_ok-number.ensures.gates;
-          })
-    ]
+    let made = c.in_ok-number.ensures in
+    let pushed = c.in_ok-push.ensures in
+    record {
+      numbers = images-more nodes are n c.requires.there (numbers_of c.new_number.new.self.tables) (numbers_of c.push.new.self) c.in_ok-number.number (made.numbers ∙ c.requires.so_far.numbers) made.number pushed.numbers;
+      count = omega (arith, made.count, c.requires.so_far.count, count-more nodes are n c.requires.there (omega (arith, made.number, made.count, c.requires.so_far.count)));
+      gates = subst (HasGates nodes (n + 1)) (sym pushed.gates) made.gates;
+      limit = omega (arith, pushed.limit, made.limit, c.requires.so_far.limit);
+    }
+
+pub returns-else-number-self : goal.returns-else-number-self
+returns-else-number-self c =
+    let nodes = c.args.nodes.now in
+    let n = c.args.n in
+    let are = c.requires.nodes in
+    let made = c.in_ok-number.ensures in
+    let pushed = c.in_ok-push.ensures in
+    record {
+      numbers = images-more nodes are n c.requires.there (numbers_of c.new_number.new.self.tables) (numbers_of c.push.new.self) c.in_ok-number.number (made.numbers ∙ c.requires.so_far.numbers) made.number pushed.numbers;
+      count = omega (arith, made.count, c.requires.so_far.count, count-same nodes are n c.requires.there (λ e. c.if-number-self.false (omega (arith, e, made.number, made.count, c.requires.so_far.count))));
+      gates = subst (HasGates nodes (n + 1)) (sym pushed.gates) made.gates;
+      limit = omega (arith, pushed.limit, made.limit, c.requires.so_far.limit);
+    }

@@ -1,0 +1,44 @@
+-- The tables of a pass that numbers nodes: new numbers, and those of gates by the literals of their operands.
+use Rattle.std.specs.Prelude.{◌≡◌, ℕ, ◌^◌, ◌&&◌, Bool, false, Option, Some, nat_eq, List, unwrap_or}
+use Rattle.std.specs.HashMap.{get, HashMap}
+use Rattle.std.specs.declared.hash.FoldHasher.{FoldHasher}
+use Rattle.std.specs.declared.hash.BuildHasherDefault.{BuildHasherDefault}
+use Rattle.aig_strash.specs.declared.numbers.Tables.{Tables}
+use Rattle.aig_strash.specs.declared.numbers.Tables.TheVariants.{Narrow, Wide}
+
+-- `found` is the value that was there, or `next` where there was none; it is there now, and all others are as before
+pub record PutsIfAbsent {K V : Type 0} (same : K → K → Bool) (old new : HashMap K V (BuildHasherDefault FoldHasher)) (key : K) (next found : V) : Type 0 where
+  pub value : found ≡ unwrap_or (get same old key) next
+  pub here : get same new key ≡ Some found
+  pub others : (q : K) → same key q ≡ false → get same new q ≡ get same old q
+
+-- two literals
+abbrev pub Literals : Type 0
+Literals = ℕ × ℕ
+
+-- new numbers of gates, by the literals of their operands
+abbrev pub Gates : Type 0
+Gates = HashMap Literals ℕ (BuildHasherDefault FoldHasher)
+
+-- both literals are the same
+abbrev pub are_same : Literals → Literals → Bool
+are_same p q = nat_eq p.0 q.0 && nat_eq p.1 q.1
+
+-- the number of the gate with these operands
+abbrev pub number_of : Gates → Literals → Option ℕ
+number_of gates literals = get are_same gates literals
+
+-- the new number of each node so far
+abbrev pub numbers_of : Tables → List ℕ
+numbers_of (Narrow numbers gates) = numbers.items
+numbers_of (Wide numbers gates) = numbers.items
+
+-- the new number of each kept gate so far
+abbrev pub gates_of : Tables → Gates
+gates_of (Narrow numbers gates) = gates
+gates_of (Wide numbers gates) = gates
+
+-- every literal that the tables have room for is below
+abbrev pub literal_limit : Tables → ℕ
+literal_limit (Narrow numbers gates) = 2 ^ 32
+literal_limit (Wide numbers gates) = 2 ^ 64

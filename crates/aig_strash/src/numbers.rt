@@ -1,0 +1,135 @@
+//! The tables of a pass that numbers nodes.
+
+ghost use Rattle.std.specs.Prelude.{◌≡◌, ◌+◌, ◌*◌, ◌<◌, ◌≤◌, ◌^◌, ◌++◌, ◌∷◌, [], IfOk, OnOk, length, slice_index};
+ghost use Rattle.std.specs.HashMap.{IsEmpty};
+ghost use Rattle.aig_strash.specs.Tables.{PutsIfAbsent, are_same, gates_of, literal_limit, numbers_of};
+
+use aig_base::MemoryError;
+use aig_circuit::AigNode;
+use std::alloc::Global;
+use std::collections::HashMap;
+use std::hash::Hash;
+
+/// The most nodes whose literals fit 32 bits.
+const MOST_NARROW: usize = 1 << 31;
+
+/// The new number of each node so far, and that of each kept gate by the literals of its operands under the new
+/// numbers. All of them take 32 bits each where every literal fits these.
+#[derive(Drop)]
+pub(crate) enum Tables {
+    Narrow {
+        numbers: Vec<u32>,
+        gates: HashMap<(u32, u32), u32>,
+    },
+    Wide {
+        numbers: Vec<usize>,
+        gates: HashMap<(usize, usize), usize>,
+    },
+}
+
+impl Tables {
+    /// Returns the tables of no node so far, with room for these, so that none grows.
+    pub(crate) fn with_room(alloc: Global, nodes: &[AigNode]) -> Result<Tables, MemoryError>
+        ensures numbers { IfOk result (λ new. numbers_of new ≡ []) }
+        ensures gates { IfOk result (λ new. IsEmpty (gates_of new)) }
+        ensures limit { IfOk result (λ new. 2 * length nodes.now ≤ literal_limit new) }
+    {
+        let count = nodes.len();
+        let gates = nodes.iter().filter(|node| node.is_and()).count();
+        if count <= MOST_NARROW {
+            Ok(Tables::Narrow {
+                numbers: Vec::with_capacity(alloc, count)?,
+                gates: HashMap::with_capacity(alloc, gates)?,
+            })
+        } else {
+            Ok(Tables::Wide {
+                numbers: Vec::with_capacity(alloc, count)?,
+                gates: HashMap::with_capacity(alloc, gates)?,
+            })
+        }
+    }
+
+    /// Returns the new number of node `n`.
+    pub(crate) fn number(&self, n: usize) -> usize
+        requires { n < length (numbers_of self.now) }
+        ensures value { result ≡ slice_index (numbers_of self.now) n }
+        ensures limit { literal_limit self.now ≤ 2 ^ 64 }
+    {
+        match self {
+            Tables::Narrow { numbers, gates: _ } => numbers[n] as usize,
+            Tables::Wide { numbers, gates: _ } => numbers[n],
+        }
+    }
+
+    /// Appends the number of the next node.
+    pub(crate) fn push(&mut self, number: usize) -> Result<(), MemoryError>
+        requires { number < literal_limit self.old }
+        ensures numbers { OnOk result (numbers_of self.new ≡ numbers_of self.old ++ number ∷ []) }
+        ensures gates { gates_of self.new ≡ gates_of self.old }
+        ensures limit { literal_limit self.new ≡ literal_limit self.old }
+    {
+        match self {
+            Tables::Narrow { numbers, gates: _ } => numbers.push(number as u32)?,
+            Tables::Wide { numbers, gates: _ } => numbers.push(number)?,
+        }
+        Ok(())
+    }
+
+    /// Returns the number of the gate with operands of these literals, which is `next` from now on where there was
+    /// none.
+    pub(crate) fn number_at(
+        &mut self,
+        literals: (usize, usize),
+        next: usize,
+    ) -> Result<usize, MemoryError>
+        requires first { literals.0 < literal_limit self.old }
+        requires second { literals.1 < literal_limit self.old }
+        requires next { next < literal_limit self.old }
+        ensures gates { IfOk result (PutsIfAbsent are_same (gates_of self.old) (gates_of self.new) literals next) }
+        ensures numbers { numbers_of self.new ≡ numbers_of self.old }
+        ensures limit { literal_limit self.new ≡ literal_limit self.old }
+    {
+        match self {
+            Tables::Narrow { numbers: _, gates } => {
+                let number = value_at(gates, (literals.0 as u32, literals.1 as u32), next as u32)?;
+                Ok(number as usize)
+            }
+            Tables::Wide { numbers: _, gates } => value_at(gates, literals, next),
+        }
+    }
+
+    /// Returns the new numbers of all nodes. The gates are let go first.
+    pub(crate) fn into_numbers(self, alloc: Global) -> Result<Vec<usize>, MemoryError>
+        ensures { IfOk result (λ numbers. numbers.items ≡ numbers_of self) }
+    {
+        match self {
+            Tables::Narrow { numbers, gates } => {
+                drop(gates);
+                widened(alloc, &numbers)
+            }
+            Tables::Wide { numbers, gates: _ } => Ok(numbers),
+        }
+    }
+}
+
+/// Returns the value at the key, which is `next` from now on where there was none.
+fn value_at<K: Copy + Drop + Eq + Hash, V: Copy + Drop>(
+    map: &mut HashMap<K, V>,
+    key: K,
+    next: V,
+) -> Result<V, MemoryError>
+    ensures { IfOk result (PutsIfAbsent K.eq map.old map.new key next) }
+{
+    Ok(*map.entry(key)?.or_insert(next))
+}
+
+/// Returns the numbers in 64 bits each.
+fn widened(alloc: Global, numbers: &[u32]) -> Result<Vec<usize>, MemoryError>
+    ensures { IfOk result (λ wide. wide.items ≡ numbers.now) }
+{
+    let mut wide = Vec::with_capacity(alloc, numbers.len())?;
+    for number in numbers {
+        wide.push(*number as usize)?;
+    }
+    Ok(wide)
+}
