@@ -3,10 +3,12 @@
 
 TOOL is the built program, crates/aigtool/out/aigtool after `rt run` in crates/aigtool. For each count of gates and each
 command it prints the seconds of processor time and the peak memory of the best of five runs, and the bytes a second that
-it reads and writes together, next to `cat` of the text file.
+it reads and writes together, next to `cat` of the text file. In the end it prints the same of the clauses of 200,000 gates
+with 20 further steps.
 """
 import filecmp
 import os
+import random
 import subprocess
 import sys
 import tempfile
@@ -57,27 +59,67 @@ def check_same(file, out):
         sys.exit(f"{out} is not as {file}")
 
 
-def measure(tool, gates, folder):
-    """Prints the rows of one count of gates."""
-    text, binary, out, other = (os.path.join(folder, name) for name in ["made.aag", "made.aig", "out", "other"])
-    with open(text, "wb") as made:
+def check_counts(file, out):
+    """Ends where two files have other headers, or other counts of lines."""
+    with open(file, "rb") as a, open(out, "rb") as b:
+        if a.readline() != b.readline() or sum(1 for _ in a) != sum(1 for _ in b):
+            sys.exit(f"{out} has not the counts of {file}")
+
+
+def shuffle_gates(file, out, gates):
+    """Puts the gates of a text, which are its last lines, in any order."""
+    with open(file, "rb") as lines:
+        lines = lines.readlines()
+    last = lines[-gates:]
+    random.Random(1).shuffle(last)
+    with open(out, "wb") as made:
+        made.writelines(lines[:-gates] + last)
+
+
+def make_text(file, gates):
+    """Makes a text of so many random gates."""
+    with open(file, "wb") as made:
         maker = [sys.executable, os.path.join(HERE, "make_aag.py"), "1", "1000", "1000", str(gates)]
         subprocess.run(maker, stdout=made, check=True)
+
+
+def measure_command(tool, gates, name, file, words, out, written, cat):
+    """Prints the row of one command, which writes a file."""
+    seconds, peak = best([tool, *words], out)
+    read, made = os.path.getsize(file) / 1e6, os.path.getsize(written) / 1e6
+    row([str(gates), name, f"{read:.1f} MB", f"{made:.1f} MB", f"{seconds:.3f} s", f"{peak / 1024:.1f} MiB", f"{(read + made) / seconds:.0f} MB", f"{cat:.3f} s"])
+
+
+def measure(tool, gates, folder):
+    """Prints the rows of one count of gates."""
+    names = ["made.aag", "made.aig", "shuffled.aag", "out", "other"]
+    text, binary, shuffled, out, other = (os.path.join(folder, name) for name in names)
+    make_text(text, gates)
+    shuffle_gates(text, shuffled, gates)
     cat, _ = best(["cat", text], out)
     subprocess.run([tool, "binary", text, binary], check=True)
     commands = [
         ("text of a text", text, ["text", text], out, lambda: check_same(text, out)),
+        ("text of shuffled gates", shuffled, ["text", shuffled], out, lambda: check_counts(shuffled, out)),
         ("binary of a text", text, ["binary", text, other], other, lambda: check_same(binary, other)),
         ("text of a binary", binary, ["text", binary], out, lambda: check_same(text, out)),
         ("binary of a binary", binary, ["binary", binary, other], other, lambda: check_same(binary, other)),
         ("strash of a text", text, ["strash", text], out, lambda: check_hashed(text, out)),
-        ("cnf of a text", text, ["cnf", text, "0", "raw"], out, lambda: check_clauses(out)),
+        ("cnf of a text", text, ["cnf", text, "0"], out, lambda: check_clauses(out)),
+        ("cnf of a text, raw", text, ["cnf", text, "0", "raw"], out, lambda: check_clauses(out)),
     ]
     for name, file, words, written, check in commands:
-        seconds, peak = best([tool, *words], out)
+        measure_command(tool, gates, name, file, words, out, written, cat)
         check()
-        read, made = os.path.getsize(file) / 1e6, os.path.getsize(written) / 1e6
-        row([str(gates), name, f"{read:.1f} MB", f"{made:.1f} MB", f"{seconds:.3f} s", f"{peak / 1024:.1f} MiB", f"{(read + made) / seconds:.0f} MB", f"{cat:.3f} s"])
+
+
+def measure_steps(tool, gates, k, folder):
+    """Prints the row of the clauses with k further steps."""
+    text, out = (os.path.join(folder, name) for name in ["made.aag", "out"])
+    make_text(text, gates)
+    cat, _ = best(["cat", text], out)
+    measure_command(tool, gates, f"cnf of a text, {k} steps", text, ["cnf", text, str(k)], out, out, cat)
+    check_clauses(out)
 
 
 def main():
@@ -87,6 +129,8 @@ def main():
     for gates in counts:
         with tempfile.TemporaryDirectory() as folder:
             measure(tool, gates, folder)
+    with tempfile.TemporaryDirectory() as folder:
+        measure_steps(tool, 200_000, 20, folder)
 
 
 main()

@@ -223,6 +223,9 @@ impl Aig {
 impl fmt::Display for Aig {
     ghost output = { λ aig. Some (text_of aig) };
 
+    // The options of the placeholder change nothing.
+    ghost styled_output = { λ aig _. Some (text_of aig) };
+
     fn fmt<W: fmt::Write>(&self, f: &mut fmt::Formatter<W>) -> fmt::Result {
         match self.refusal() {
             Ok(()) => aig_writer::fmt_text(&self.view(), f),

@@ -1,6 +1,6 @@
 //! Edges of an And-Inverter Graph (crate aig).
 
-ghost use Rattle.std.specs.Prelude.{◌≡◌, ◌↔◌, ◌<◌, ◌^◌, IsTrue, Bool, true, false, not, IfSome, IsSome};
+ghost use Rattle.std.specs.Prelude.{◌≡◌, ◌↔◌, ◌<◌, ◌^◌, IsTrue, false, not, IfSome, IsSome};
 ghost use Rattle.std.specs.Ordering.{nat_cmp};
 ghost use Rattle.aig_base.specs.Clauses.{number_of_lit};
 ghost use Rattle.aig_circuit.specs.Edge.{edge_from_lit, edge_to, inverse, inverted_if, lit_of, literal_of};

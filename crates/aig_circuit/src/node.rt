@@ -1,7 +1,6 @@
 //! Nodes and latches of an And-Inverter Graph (crate aig).
 
-ghost use Rattle.std.specs.Prelude.{◌≡◌, ◌↔◌, ◌≤◌, IsTrue, Bool, true, false, Option, Some, IsSome};
-ghost use Rattle.aig_circuit.specs.Edge.{literal_of};
+ghost use Rattle.std.specs.Prelude.{◌≡◌, ◌↔◌, IsTrue, Option};
 ghost use Rattle.aig_circuit.specs.Node.{IsAnd, IfAnd, MapsKind, and_of};
 
 use crate::edge::AigEdge;

@@ -1,6 +1,6 @@
 //! The clauses of a circuit (Tseitin encoding).
 
-ghost use Rattle.std.specs.Prelude.{◌≡◌, ◌+◌, ◌<◌, ◌≤◌, ◌^◌, ◌++◌, ◌∷◌, [], false, All, IfOk, OnOk, List, length};
+ghost use Rattle.std.specs.Prelude.{◌≡◌, ◌+◌, ◌<◌, ◌≤◌, ◌^◌, ◌++◌, ◌∷◌, [], All, IfOk, OnOk, List, length};
 ghost use Rattle.aig_base.specs.declared.logic.literal.Lit.{Lit};
 ghost use Rattle.aig_circuit.specs.Circuit.{AreNodes};
 ghost use Rattle.aig_cnf.specs.Cnf.{clauses_of, edges_of_form, FixesRoots, HasClauses, NodeValuesSatisfy};

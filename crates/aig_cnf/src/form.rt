@@ -1,6 +1,6 @@
 //! The forms of gates.
 
-ghost use Rattle.std.specs.Prelude.{◌≡◌, ◌≢◌, ◌<◌, ◌↔◌, IsTrue, length, MatchOption};
+ghost use Rattle.std.specs.Prelude.{◌<◌, ◌↔◌, IsTrue, length, MatchOption};
 ghost use Rattle.aig_circuit.specs.Circuit.{IsInRange};
 ghost use Rattle.aig_circuit.specs.Node.{IsOrdered};
 ghost use Rattle.aig_cnf.specs.Cnf.{Chooses, HasForm, Inner};

@@ -60,7 +60,7 @@ fn push_any(alloc: Global, extra: &mut LitVvec, edges: &[AigEdge]) -> Result<(),
 /// Returns the clauses that ask for a run from a start of the circuit on which every constraint holds at each of the steps 0
 /// to `k` and some bad edge at step `k`, over the nodes of the circuit unrolled by `k` steps. The one error is refused
 /// memory.
-pub fn further_clauses(
+pub(crate) fn further_clauses(
     alloc: Global,
     circuit: &Aig,
     k: usize,

@@ -1,5 +1,5 @@
 -- The circuit of a file that fits is a circuit.
-use Rattle.std.proofs.Common.{◌≡◌, ◌≢◌, ℕ, zero, suc, ◌/◌, ◌%◌, ◌<◌, ◌≤◌, Bool, true, false, cond, ◌||◌, List, [], ◌∷◌, ◌++◌, length, map, Option, Some, None, nat_cmp, refl, sym, ap, subst, ◌∙◌, arith}
+use Rattle.std.proofs.Common.{◌≡◌, ◌≢◌, ℕ, ◌/◌, ◌%◌, ◌<◌, ◌≤◌, Bool, true, false, cond, ◌||◌, List, [], ◌∷◌, ◌++◌, length, map, Option, Some, None, nat_cmp, refl, sym, ap, subst, ◌∙◌, arith}
 use Rattle.std.specs.Prelude.{nat_eq, nat_lt, ◌==◌, All, AllPairs, Contains, IfSome, IsTrue, is_some, slice_index, unwrap_or, filter_map}
 use Rattle.std.specs.List.{AllByRecursion, IsDistinct, list_any, flat_map, cons_option}
 use Rattle.std.specs.FinMap.{contains_key, find as find_key, get-from_entries}
@@ -20,6 +20,7 @@ use Rattle.aig_format.specs.Fits.{Fits, IsDefinable, IsNameOf}
 use Rattle.aig_format.specs.Circuit.{edge_of, kind_of, kind_by, initial_of, latch_of, named_node, circuit_of}
 use Rattle.aig_format.proofs.Entries.{rec_map, rec_weaker, rec_both, rec_parts, rec_unmap}
 use Rattle.aig_format.proofs.Searches.{find_none}
+use Rattle.aig_format.proofs.Members.{rec_at}
 use Rattle.aig_format.proofs.Numbers.{half_differs, number_of-one}
 use Rattle.aig_format.proofs.Nodes.{nodes_of, length-nodes, kind_at-number, AreNodes-of_file, HasNode, known_has_node, used_have_nodes}
 
@@ -97,7 +98,7 @@ abbrev leaf_literals : File → List ℕ
 leaf_literals f = f.inputs ++ map (λ (l : LatchLine). l.literal) f.latches
 
 -- the numbers of the literals' variables
-abbrev numbers : File → List ℕ → List ℕ
+abbrev pub numbers : File → List ℕ → List ℕ
 numbers f = map (λ e. number_of f (e / 2))
 
 definable_and_known : (f : File) (limit : ℕ) → Fits f limit → AllByRecursion (λ e. IsDefinable f.greatest e × IsKnown f e) (leaf_literals f)
@@ -139,12 +140,12 @@ numbers_distinct f limit fits (x ∷ xs) all d = (
 )
 
 -- the numbers of inputs and of latches are distinct, and differ from one another
-leaves_distinct : (f : File) (limit : ℕ) → Fits f limit → IsDistinct nat_eq (numbers f f.inputs ++ numbers f (map (λ (l : LatchLine). l.literal) f.latches))
+pub leaves_distinct : (f : File) (limit : ℕ) → Fits f limit → IsDistinct nat_eq (numbers f f.inputs ++ numbers f (map (λ (l : LatchLine). l.literal) f.latches))
 leaves_distinct f limit fits =
     subst (IsDistinct nat_eq) (map-append (λ e. number_of f (e / 2)) f.inputs (map (λ (l : LatchLine). l.literal) f.latches))
     (numbers_distinct f limit fits (leaf_literals f) (definable_and_known f limit fits) (distinct_front (leaf_literals f) (map (λ (g : GateLine). g.lhs) f.gates) fits.distinct))
 
-distinct_pairs : (xs : List ℕ) → IsDistinct nat_eq xs → AllPairs (λ x y. x ≢ y) xs
+pub distinct_pairs : (xs : List ℕ) → IsDistinct nat_eq xs → AllPairs (λ x y. x ≢ y) xs
 distinct_pairs = AllPairs-from_IsDistinct Decides-eqb
 
 -- what differs from every entry is none of them
@@ -219,12 +220,6 @@ key_has P (e ∷ es) q all has = at (eq_by_cmp nat_cmp q e.0) refl (key_has P es
     at true is rest = let same : e.0 ≡ q = grind (arith, nat_tests) in subst P same all.0
     at false is rest = rest (subst (λ b. IsTrue (is_some (cond b (Some e.1) (find_key nat_cmp q es)))) is has)
 
--- the literal at a place is one of the list's
-literal_at : (P : ℕ → Type 0) (es : List ℕ) (i : ℕ) → i < length es → AllByRecursion P es → P (slice_index es i)
-literal_at P [] i h all = absurd (omega arith)
-literal_at P (e ∷ es) zero h all = all.0
-literal_at P (e ∷ es) (suc i) h all = literal_at P es i (omega arith) all.1
-
 -- a name of an input or a latch names a node
 named_there : (f : File) (limit : ℕ) → Fits f limit → (n : NameLine) → IsNameOf f n → IfSome (named_node f n) (λ e. e.0 < length (nodes_of f))
 named_there f limit fits n h = by_letter (n.letter == 105) (n.letter == 108) _ h.0
@@ -234,7 +229,7 @@ named_there f limit fits n h = by_letter (n.letter == 105) (n.letter == 108) _ h
 
     -- the literal at a place of the inputs or of the latches has a node
     at_place : (es : List ℕ) → n.position < length es → AllByRecursion (IsLeafLiteral f) es → number_of f (slice_index es n.position / 2) < length (nodes_of f)
-    at_place es low all = known_has_node f limit fits (slice_index es n.position) (literal_at (IsLeafLiteral f) es n.position low all).0.1
+    at_place es low all = known_has_node f limit fits (slice_index es n.position) (rec_at (IsLeafLiteral f) es n.position low all).0.1
 
     by_letter : (i l : Bool) (others : ℕ) → n.position < cond i (length f.inputs) (cond l (length f.latches) others)
         → IfSome (cond i (Some (number_of f (slice_index f.inputs n.position / 2), n.name)) (cond l (Some (number_of f (slice_index literals n.position / 2), n.name)) None)) (λ (e : ℕ × List ℕ). e.0 < length (nodes_of f))
@@ -256,7 +251,7 @@ files_named f limit fits n has =
     let entries = filter_map (named_node f) f.names in
     key_has (λ k. k < length (nodes_of f)) entries n (entries_there f limit fits f.names fits.named) (subst (λ o. IsTrue (is_some o)) (get-from_entries nat_cmp_total entries n) has)
 
-leaves_of_latches : (f : File) (latches : List LatchLine) → latch_leaves (map (latch_of f) latches) ≡ numbers f (map (λ (l : LatchLine). l.literal) latches)
+pub leaves_of_latches : (f : File) (latches : List LatchLine) → latch_leaves (map (latch_of f) latches) ≡ numbers f (map (λ (l : LatchLine). l.literal) latches)
 leaves_of_latches f [] = refl
 leaves_of_latches f (l ∷ latches) = ap (λ (ns : List ℕ). number_of f (l.literal / 2) ∷ ns) (leaves_of_latches f latches)
 

@@ -1,7 +1,12 @@
 pub mod Entries
 pub mod Examples
+pub mod Gaps
 pub mod Members
 pub mod Searches
+pub mod Older
+pub mod Levels
+pub mod Orders
 pub mod Numbers
+pub mod Found
 pub mod Nodes
 pub mod Circuits

@@ -14,14 +14,14 @@ use Rattle.aig_circuit.specs.Node.{kind_at, and_of, IsOrdered as AreOrdered}
 use Rattle.aig_circuit.specs.Circuit.{AreNodes}
 use Rattle.aig_circuit.specs.Renumber.{place_of}
 use Rattle.aig_circuit.proofs.Trees.{kind_at-within}
-use Rattle.aig_format.specs.File.{GateLine, File, defined, used}
+use Rattle.aig_format.specs.File.{GateLine, File, used}
 use Rattle.aig_format.specs.Variables.{is_known, IsKnown, gate_of_variable}
 use Rattle.aig_format.specs.Numbering.{variables_in_order, number_of}
 use Rattle.aig_format.specs.Fits.{Fits}
 use Rattle.aig_format.specs.Circuit.{edge_of, kind_by, kind_of, nodes_from, circuit_of}
 use Rattle.aig_format.proofs.Entries.{rec_weaker}
 use Rattle.aig_format.proofs.Members.{has}
-use Rattle.aig_format.proofs.Numbers.{known_numbered, length-order, number_of-place, number_of-within, number_of-zero, operands_before, used_known, variable_of}
+use Rattle.aig_format.proofs.Numbers.{few_numbered, known_numbered, number_of-place, number_of-within, number_of-zero, operands_before, used_known, variable_of}
 
 -- the nodes of the file's circuit
 abbrev pub nodes_of : File → List AigNode
@@ -153,12 +153,6 @@ known_has_node f limit fits e known = omega (arith, length-nodes f, number_of-wi
 pub used_have_nodes : (f : File) (limit : ℕ) → Fits f limit → AllByRecursion (HasNode f) (used f)
 used_have_nodes f limit fits = rec_weaker (IsKnown f) (HasNode f) (known_has_node f limit fits) (used f) (used_known f limit fits)
 
--- ---- how many there are
-
--- one for 0, and one for each defined variable
-pub count-nodes : (f : File) → length (nodes_of f) ≡ length (defined f) + 1
-count-nodes f = omega (arith, length-nodes f, length-order f)
-
 -- the limit of a file that fits is on its circuit's nodes
 pub few_nodes : (f : File) (limit : ℕ) → Fits f limit → length (nodes_of f) ≤ limit
-few_nodes f limit fits = omega (arith, count-nodes f, fits.exact, fits.within)
+few_nodes f limit fits = omega (arith, length-nodes f, few_numbered f limit fits, fits.within)

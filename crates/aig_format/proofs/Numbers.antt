@@ -1,20 +1,26 @@
--- The numbers of variables.
-use Rattle.std.proofs.Common.{◌≡◌, ℕ, zero, suc, ◌+◌, ◌*◌, ◌/◌, ◌%◌, ◌<◌, ◌≤◌, Bool, true, false, cond, eqb, ◌||◌, List, [], ◌∷◌, ◌++◌, length, map, refl, sym, ap, subst, ◌∙◌, arith}
+-- The numbers of variables: by the older rules the variables themselves, else by level.
+use Rattle.std.proofs.Common.{◌≡◌, ℕ, zero, suc, ◌+◌, ◌*◌, ◌/◌, ◌%◌, ◌<◌, ◌≤◌, Bool, true, false, cond, eqb, ◌||◌, List, [], ◌∷◌, ◌++◌, length, map, refl, sym, ap, subst, ◌∙◌, arith, inl, inr}
 use Rattle.std.specs.Prelude.{nat_eq, ◌==◌, find, slice_index, Some}
 use Rattle.std.specs.List.{AllByRecursion, IsDistinct, list_any, flat_map}
-use Rattle.std.proofs.lemmas.Bool.{eqb-true, eqb-false, ne_eqb, false≢true, true_from_ne_false, or_parts}
+use Rattle.std.proofs.lemmas.Bool.{cond-true, cond-false, eqb-true, eqb-false, ne_eqb, false≢true, true_from_ne_false, or_parts, or_right}
 use Rattle.std.proofs.lemmas.List.{length-map}
+use Rattle.std.proofs.lemmas.Map.Keys.{IsDistinct-cons}
 use Rattle.std.proofs.lemmas.Map.Steps.{length-le_from_distinct_below}
 use Rattle.aig_circuit.specs.Renumber.{place_of}
 use Rattle.aig_format.specs.File.{LatchLine, GateLine, File, defined, used}
 use Rattle.aig_format.specs.Variables.{is_defined, is_known, IsKnown, gate_of_variable}
-use Rattle.aig_format.specs.Numbering.{numbers_from, variables_in_order, number_of}
-use Rattle.aig_format.specs.Fits.{IsDefinable, IsOrdered, Fits}
+use Rattle.aig_format.specs.Levels.{level_of}
+use Rattle.aig_format.specs.Numbering.{is_older, numbers_from, variables_by_level, variables_in_order, number_of}
+use Rattle.aig_format.specs.declared.FileKind.TheVariants.{Text, Binary}
+use Rattle.aig_format.specs.Fits.{IsDefinable, IsOrdered, Fits, FitsNewer, FitsOlder}
 use Rattle.aig_format.proofs.Entries.{rec_both, rec_map, rec_parts, rec_weaker}
 use Rattle.aig_format.proofs.Searches.{find_some}
-use Rattle.aig_format.proofs.Members.{has, has-numbers, index-place_of, length-numbers, place_of-numbers, place_of-one, place_of-within}
+use Rattle.aig_format.proofs.Members.{has, has-numbers, index-place_of, place_of-index, place_of-numbers, place_of-one, place_of-within, distinct-numbers, rec_at, rec_numbers}
+use Rattle.aig_format.proofs.Older.{newer_only, older-told}
+use Rattle.aig_format.proofs.Levels.{level_of-gate, levelled, levels-ordered}
+use Rattle.aig_format.proofs.Orders.{defined-by_level, distinct-by_level, has-by_level, place_of-by_level, place_of-in_level, some-by_level}
 
--- ---- the numbers of a file without gaps
+-- ---- the order
 
 pub number_of-place : (f : File) (v : ℕ) → number_of f v ≡ place_of (0 ∷ variables_in_order f) v
 unfolding number_of
@@ -24,32 +30,51 @@ pub number_of-zero : (f : File) → number_of f 0 ≡ 0
 unfolding number_of
 number_of-zero f = refl
 
-order-exact : (f : File) → variables_in_order f ≡ numbers_from (length (defined f)) 1
+-- by the older rules
+pub order-older : (f : File) → is_older f ≡ true → variables_in_order f ≡ numbers_from (length (defined f)) 1
 unfolding variables_in_order
-order-exact f = refl
+order-older f older = cond-true (is_older f) (numbers_from (length (defined f)) 1) (variables_by_level f) older
 
--- the list of a file that has no gaps
-pub order-is : (f : File) → f.greatest ≡ length (defined f) → variables_in_order f ≡ numbers_from f.greatest 1
-order-is f exact = order-exact f ∙ ap (λ n. numbers_from n 1) (sym exact)
+-- else
+pub order-newer : (f : File) → is_older f ≡ false → variables_in_order f ≡ variables_by_level f
+unfolding variables_in_order
+order-newer f newer = cond-false (is_older f) (numbers_from (length (defined f)) 1) (variables_by_level f) newer
 
 -- a variable other than 0 has its place among the others, and one more
 past_zero : (xs : List ℕ) (v : ℕ) → 1 ≤ v → place_of (0 ∷ xs) v ≡ place_of xs v + 1
 past_zero xs v h = let differs : eqb 0 v ≡ false = ne_eqb 0 v (λ e. omega (arith, e)) in ap (λ b. cond b 0 (place_of xs v + 1)) differs
 
--- a variable of a file without gaps is its own number
-pub number_of-exact : (f : File) → f.greatest ≡ length (defined f) → (v : ℕ) → v ≤ f.greatest → number_of f v ≡ v
-number_of-exact f exact zero h = number_of-zero f
-number_of-exact f exact (suc v) h =
-    number_of-place f (suc v)
-    ∙ ap (λ xs. place_of (0 ∷ xs) (suc v)) (order-is f exact) ∙ past_zero (numbers_from f.greatest 1) (suc v) (omega arith)
-    ∙ place_of-numbers f.greatest 1 (suc v) (omega arith) (omega arith)
+number_of-some : (f : File) (v : ℕ) → 1 ≤ v → number_of f v ≡ place_of (variables_in_order f) v + 1
+number_of-some f v h = number_of-place f v ∙ past_zero (variables_in_order f) v h
 
-pub length-order : (f : File) → length (variables_in_order f) ≡ length (defined f)
-length-order f = ap length (order-exact f) ∙ length-numbers (length (defined f)) 1
+-- by the older rules a variable is its own number
+pub number_of-older : (f : File) → is_older f ≡ true → (v : ℕ) → v ≤ f.greatest → number_of f v ≡ v
+number_of-older f older zero h = number_of-zero f
+number_of-older f older (suc v) h =
+    let m = (older-told f older).exact in
+    number_of-some f (suc v) (omega arith) ∙ ap (λ xs. place_of xs (suc v) + 1) (order-older f older) ∙ place_of-numbers (length (defined f)) 1 (suc v) (omega arith) (omega arith)
+
+-- each variable in the order is from 1 on
+order-some : (f : File) → AllByRecursion (λ v. 1 ≤ v) (variables_in_order f)
+order-some f = by_test (is_older f) refl
+  where
+    by_test : (b : Bool) → is_older f ≡ b → AllByRecursion (λ v. 1 ≤ v) (variables_in_order f)
+    by_test true is = subst (AllByRecursion (λ v. 1 ≤ v)) (sym (order-older f is)) (rec_numbers (length (defined f)) 1 1 (omega arith))
+    by_test false is = subst (AllByRecursion (λ v. 1 ≤ v)) (sym (order-newer f is)) (some-by_level f)
+
+-- and none is there twice
+order-distinct : (f : File) → IsDistinct nat_eq (0 ∷ variables_in_order f)
+order-distinct f =
+    IsDistinct-cons nat_eq 0 (variables_in_order f) (rec_weaker (λ v. 1 ≤ v) (λ v. nat_eq 0 v ≡ false) (λ v h. ne_eqb 0 v (λ e. omega (arith, e))) (variables_in_order f) (order-some f))
+    (by_test (is_older f) refl)
+  where
+    by_test : (b : Bool) → is_older f ≡ b → IsDistinct nat_eq (variables_in_order f)
+    by_test true is = subst (IsDistinct nat_eq) (sym (order-older f is)) (distinct-numbers (length (defined f)) 1)
+    by_test false is = subst (IsDistinct nat_eq) (sym (order-newer f is)) (distinct-by_level f)
 
 -- ---- variables that are defined
 
-any_within : (greatest v : ℕ) (es : List ℕ) → AllByRecursion (IsDefinable greatest) es → list_any (λ e. e / 2 == v) es ≡ true → (1 ≤ v) × (v ≤ greatest)
+pub any_within : (greatest v : ℕ) (es : List ℕ) → AllByRecursion (IsDefinable greatest) es → list_any (λ e. e / 2 == v) es ≡ true → (1 ≤ v) × (v ≤ greatest)
 any_within greatest v [] all there = absurd (false≢true there)
 any_within greatest v (e ∷ es) all there = by_test (e / 2 == v) refl there (any_within greatest v es all.1)
   where
@@ -96,10 +121,6 @@ halves_distinct (x ∷ xs) even d = (
   halves_distinct xs even.1 d.1,
 )
 
-distinct_cons : (x : ℕ) (xs : List ℕ) → AllByRecursion (λ (y : ℕ). nat_eq x y ≡ false) xs → IsDistinct nat_eq xs → IsDistinct nat_eq (x ∷ xs)
-unfolding IsDistinct
-distinct_cons x xs h d = (h, d)
-
 -- what no entry's half is differs from all halves
 any_misses : (v : ℕ) (es : List ℕ) → list_any (λ e. e / 2 == v) es ≡ false → AllByRecursion (λ (x : ℕ). nat_eq v x ≡ false) (halves es)
 any_misses v [] h = tt
@@ -117,8 +138,8 @@ all_defined f limit fits m v low high = true_from_ne_false (is_defined f v) (λ 
     (rec_map Within (λ (e : ℕ). e / 2) (defined f)).1 (rec_weaker (IsDefinable f.greatest) (λ (e : ℕ). e / 2 < length (defined f) + 1) (λ e d. let h = d.2 in omega arith) (defined f) fits.definable) in
     let some : AllByRecursion (λ (x : ℕ). nat_eq 0 x ≡ false) (halves (defined f)) =
     (rec_map (λ (x : ℕ). nat_eq 0 x ≡ false) (λ (e : ℕ). e / 2) (defined f)).1 (rec_weaker (IsDefinable f.greatest) (λ (e : ℕ). nat_eq 0 (e / 2) ≡ false) (λ e d. let h = d.1 in ne_eqb 0 (e / 2) (λ is. absurd (omega arith))) (defined f) fits.definable) in
-    let d1 = distinct_cons v (halves (defined f)) (any_misses v (defined f) no) (halves_distinct (defined f) even fits.distinct) in
-    let d0 = distinct_cons 0 (v ∷ halves (defined f)) (ne_eqb 0 v (λ is. absurd (omega arith)), some) d1 in
+    let d1 = IsDistinct-cons nat_eq v (halves (defined f)) (any_misses v (defined f) no) (halves_distinct (defined f) even fits.distinct) in
+    let d0 = IsDistinct-cons nat_eq 0 (v ∷ halves (defined f)) (ne_eqb 0 v (λ is. absurd (omega arith)), some) d1 in
     let zero_within : 0 < length (defined f) + 1 = omega arith in
     let v_within : v < length (defined f) + 1 = omega arith in
     let long = length-le_from_distinct_below (0 ∷ v ∷ halves (defined f)) (length (defined f) + 1) d0 (λ q is. any_has Within q (0 ∷ v ∷ halves (defined f)) (zero_within, (v_within, within)) is) in
@@ -134,15 +155,47 @@ all_known f limit fits exact (suc v) h =
 
 -- what is used is 0 or defined
 pub used_known : (f : File) (limit : ℕ) → Fits f limit → AllByRecursion (IsKnown f) (used f)
-used_known f limit fits = rec_weaker (λ e. e ≤ 2 * f.greatest + 1) (IsKnown f) (λ e h. all_known f limit fits fits.exact (e / 2) (omega arith)) (used f) fits.in_range
+used_known f limit fits = by_test (is_older f) refl
+  where
+    by_test : (b : Bool) → is_older f ≡ b → AllByRecursion (IsKnown f) (used f)
+    by_test true is = rec_weaker (λ e. e ≤ 2 * f.greatest + 1) (IsKnown f) (λ e h. all_known f limit fits (older-told f is).exact (e / 2) (omega arith)) (used f) fits.in_range
+    by_test false is = (newer_only f is fits.rules).known
 
 -- ---- the numbers of a file that fits
 
 -- each defined variable has its place
 pub defined_numbered : (f : File) (limit : ℕ) → Fits f limit → (v : ℕ) → is_defined f v ≡ true → has (variables_in_order f) v ≡ true
-defined_numbered f limit fits v there =
-    let bounds = defined_within f limit fits v there in
-    ap (λ xs. has xs v) (order-is f fits.exact) ∙ has-numbers f.greatest 1 v bounds.0 (omega (arith, bounds.1))
+defined_numbered f limit fits v there = by_test (is_older f) refl
+  where
+    bounds : (1 ≤ v) × (v ≤ f.greatest)
+    bounds = defined_within f limit fits v there
+
+    by_test : (b : Bool) → is_older f ≡ b → has (variables_in_order f) v ≡ true
+    by_test true is =
+        let m = (older-told f is).exact in
+        ap (λ xs. has xs v) (order-older f is) ∙ has-numbers (length (defined f)) 1 v bounds.0 (omega (arith, bounds.1))
+    by_test false is =
+        let level = levelled f (newer_only f is fits.rules).levels v in
+        ap (λ xs. has xs v) (order-newer f is) ∙ has-by_level f v level.0 there bounds.0 bounds.1 level.1
+
+rows_within : (n w : ℕ) → AllByRecursion (λ v. (w ≤ v) × (v < w + n)) (numbers_from n w)
+rows_within zero w = tt
+rows_within (suc n) w = (
+  (omega arith, omega arith),
+  rec_weaker (λ v. (w + 1 ≤ v) × (v < w + 1 + n)) (λ v. (w ≤ v) × (v < w + suc n)) (λ v h. let low = h.0 in let high = h.1 in (omega arith, omega arith)) (numbers_from n (w + 1)) (rows_within n (w + 1)),
+)
+
+-- what has a place is defined
+order_defined : (f : File) (limit : ℕ) → Fits f limit → AllByRecursion (λ v. is_defined f v ≡ true) (variables_in_order f)
+order_defined f limit fits = by_test (is_older f) refl
+  where
+    by_test : (b : Bool) → is_older f ≡ b → AllByRecursion (λ v. is_defined f v ≡ true) (variables_in_order f)
+    by_test true is =
+        let m = (older-told f is).exact in
+        let count = length (defined f) in
+        subst (AllByRecursion (λ v. is_defined f v ≡ true)) (sym (order-older f is))
+        (rec_weaker (λ v. (1 ≤ v) × (v < 1 + count)) (λ v. is_defined f v ≡ true) (λ v h. all_defined f limit fits m v h.0 (let high = h.1 in omega arith)) (numbers_from count 1) (rows_within count 1))
+    by_test false is = subst (AllByRecursion (λ v. is_defined f v ≡ true)) (sym (order-newer f is)) (defined-by_level f)
 
 -- the list of 0 and the defined variables has what is 0 or defined
 pub known_numbered : (f : File) (limit : ℕ) → Fits f limit → (v : ℕ) → is_known f v ≡ true → has (0 ∷ variables_in_order f) v ≡ true
@@ -169,9 +222,24 @@ pub record NumberOf (f : File) (n : ℕ) : Type 0 where
 
 -- every number within the count of nodes is that of 0 or of one defined variable
 pub variable_of : (f : File) (limit : ℕ) → Fits f limit → (n : ℕ) → n < length (variables_in_order f) + 1 → NumberOf f n
-variable_of f limit fits n h =
-    let within : n ≤ f.greatest = omega (arith, length-order f, fits.exact) in
-    record { variable = n; known = all_known f limit fits fits.exact n within; is = number_of-exact f fits.exact n within }
+variable_of f limit fits zero h = record { variable = 0; known = refl; is = number_of-zero f }
+variable_of f limit fits (suc n) h =
+    let v = slice_index (variables_in_order f) n in
+    record {
+      variable = v;
+      known = or_right (v == 0) (is_defined f v) (rec_at (λ v. is_defined f v ≡ true) (variables_in_order f) n (omega arith) (order_defined f limit fits));
+      is = number_of-place f v ∙ place_of-index (0 ∷ variables_in_order f) (suc n) (order-distinct f) (omega arith);
+    }
+
+-- no more variables are numbered than the greatest
+pub few_numbered : (f : File) (limit : ℕ) → Fits f limit → length (variables_in_order f) ≤ f.greatest
+few_numbered f limit fits =
+    let order = variables_in_order f in
+    let within : AllByRecursion (λ v. v < f.greatest + 1) order =
+    rec_weaker (λ v. is_defined f v ≡ true) (λ v. v < f.greatest + 1) (λ v there. let h = (defined_within f limit fits v there).1 in omega arith) order (order_defined f limit fits) in
+    let zero_within : 0 < f.greatest + 1 = omega arith in
+    let long = length-le_from_distinct_below (0 ∷ order) (f.greatest + 1) (order-distinct f) (λ q is. any_has (λ v. v < f.greatest + 1) q (0 ∷ order) (zero_within, within) is) in
+    omega arith
 
 -- the variable of a number
 pub variable_at : File → ℕ → ℕ
@@ -222,15 +290,61 @@ pub operands_known : (f : File) (limit : ℕ) → Fits f limit → (v : ℕ) (g 
 operands_known f limit fits v g found =
     (find_some (λ (g : GateLine). IsKnown f g.rhs0 × IsKnown f g.rhs1) (λ h. h.lhs / 2 == v) f.gates g (used_operands (IsKnown f) f (used_known f limit fits)) found).1
 
+-- of two variables that are 0 or defined, the one of the lesser level has the smaller number
+pub number_of-by_level : (f : File) (limit : ℕ) → Fits f limit → is_older f ≡ false → (u v j k : ℕ) → is_known f u ≡ true → 1 ≤ v → level_of f u ≡ Some j → level_of f v ≡ Some k → j < k → number_of f u < number_of f v
+number_of-by_level f limit fits is zero v j k known one ju kv less = omega (arith, number_of-zero f, number_of-some f v one)
+number_of-by_level f limit fits is (suc u) v j k known one ju kv less =
+    let same : eqb (suc u) 0 ≡ false = ne_eqb (suc u) 0 (λ e. omega (arith, e)) in
+    let there : is_defined f (suc u) ≡ true = ap (λ b. b || is_defined f (suc u)) (sym same) ∙ known in
+    let bounds = defined_within f limit fits (suc u) there in
+    let before = place_of-by_level f (suc u) v j k there bounds.0 bounds.1 ju kv less in
+    let in_order = subst (λ xs. place_of xs (suc u) < place_of xs v) (sym (order-newer f is)) before in
+    omega (arith, number_of-some f (suc u) (omega arith), number_of-some f v one, in_order)
+
 -- an operand's number is smaller than its gate's
 pub operands_before : (f : File) (limit : ℕ) → Fits f limit → (v : ℕ) (g : GateLine) → gate_of_variable f v ≡ Some g → (number_of f (g.rhs0 / 2) < number_of f v) × (number_of f (g.rhs1 / 2) < number_of f v)
-operands_before f limit fits v g found =
-    let high = (defined_within f limit fits v (gate-defined f v g found)).1 in
-    let s = find_some IsOrdered (λ h. h.lhs / 2 == v) f.gates g fits.ordered found in
-    let e = eqb-true (g.lhs / 2) v s.0 in
-    let own = number_of-exact f fits.exact v high in
-    let less0 : g.rhs0 / 2 < v = subst (λ m. g.rhs0 / 2 < m) e s.1.0 in
-    let less1 : g.rhs1 / 2 < v = subst (λ m. g.rhs1 / 2 < m) e s.1.1 in
-    let first = number_of-exact f fits.exact (g.rhs0 / 2) (omega (arith, high, less0)) in
-    let second = number_of-exact f fits.exact (g.rhs1 / 2) (omega (arith, high, less1)) in
-    (omega (arith, own, first, less0), omega (arith, own, second, less1))
+operands_before f limit fits v g found = by_test (is_older f) refl
+  where
+    bounds : (1 ≤ v) × (v ≤ f.greatest)
+    bounds = defined_within f limit fits v (gate-defined f v g found)
+
+    by_test : (b : Bool) → is_older f ≡ b → (number_of f (g.rhs0 / 2) < number_of f v) × (number_of f (g.rhs1 / 2) < number_of f v)
+    by_test true is =
+        let s = find_some IsOrdered (λ h. h.lhs / 2 == v) f.gates g (older-told f is).ordered found in
+        let e = eqb-true (g.lhs / 2) v s.0 in
+        let own = number_of-older f is v bounds.1 in
+        let less0 : g.rhs0 / 2 < v = subst (λ m. g.rhs0 / 2 < m) e s.1.0 in
+        let less1 : g.rhs1 / 2 < v = subst (λ m. g.rhs1 / 2 < m) e s.1.1 in
+        let first = number_of-older f is (g.rhs0 / 2) (omega (arith, bounds.1, less0)) in
+        let second = number_of-older f is (g.rhs1 / 2) (omega (arith, bounds.1, less1)) in
+        (omega (arith, own, first, less0), omega (arith, own, second, less1))
+    by_test false is =
+        let level = levelled f (newer_only f is fits.rules).levels v in
+        let s = level_of-gate f v level.0 g found level.1 in
+        let known = operands_known f limit fits v g found in
+        let above = s.above in (
+          number_of-by_level f limit fits is (g.rhs0 / 2) v s.first level.0 known.0 bounds.0 s.first_is level.1 (omega arith),
+          number_of-by_level f limit fits is (g.rhs1 / 2) v s.second level.0 known.1 bounds.0 s.second_is level.1 (omega arith),
+        )
+
+-- within a level the smaller variable has the smaller number
+pub number_of-in_level : (f : File) (limit : ℕ) → Fits f limit → is_older f ≡ false → (u v k : ℕ) → is_defined f u ≡ true → is_defined f v ≡ true → level_of f u ≡ Some k → level_of f v ≡ Some k → u < v → number_of f u < number_of f v
+number_of-in_level f limit fits is u v k first second ku kv less =
+    let low = (defined_within f limit fits u first).0 in
+    let high = (defined_within f limit fits v second).1 in
+    let before = place_of-in_level f u v k first second low less high ku kv in
+    let in_order = subst (λ xs. place_of xs u < place_of xs v) (sym (order-newer f is)) before in
+    omega (arith, number_of-some f u low, number_of-some f v (omega arith), in_order)
+
+-- ---- the rules by kind
+
+-- a text file keeps the newer rules also where it keeps the older ones
+pub text_rules : (f : File) (limit : ℕ) → Fits f limit → f.kind ≡ Text → FitsNewer f
+text_rules f limit fits is = elim fits.rules [
+  | inl older ↦ (let exact = older.exact in record { text = is; enough = omega arith; known = used_known f limit fits; levels = levels-ordered f older.ordered })
+  | inr newer ↦ newer
+]
+
+-- a binary file keeps the older ones
+pub binary_rules : (f : File) (limit : ℕ) → Fits f limit → f.kind ≡ Binary → FitsOlder f
+binary_rules f limit fits is = elim fits.rules [ inl older ↦ older | inr newer ↦ (let text = newer.text in absurd cc) ]

@@ -4,7 +4,10 @@ use Rattle.std.specs.Prelude.{◌≡◌, ℕ, ◌+◌, ◌*◌, ◌/◌, ◌%◌
 use Rattle.std.specs.List.{AllByRecursion, IsDistinct}
 use Rattle.aig_format.specs.Text.{◌then◌}
 use Rattle.aig_format.specs.declared.FileKind.{FileKind}
+use Rattle.aig_format.specs.declared.FileKind.TheVariants.{Text, Binary}
 use Rattle.aig_format.specs.File.{LatchLine, GateLine, NameLine, File, defined, header_of, used}
+use Rattle.aig_format.specs.Variables.{IsKnown}
+use Rattle.aig_format.specs.Levels.{HasLevel}
 use Rattle.aig_format.specs.Letters.{count_of, letter_of_inputs, letter_of_latches}
 use Rattle.aig_format.specs.Spells.{IsHeader, Spells}
 
@@ -34,23 +37,44 @@ IsNameOf f n = (n.position < count_of (header_of f) n.letter) × ((n.letter ≡ 
 abbrev pub same_place : NameLine → NameLine → Bool
 same_place a b = (a.letter == b.letter) && (a.position == b.position)
 
+-- the older rules: no variable is missing, and the gates rise, each above its operands
+pub record FitsOlder (f : File) : Type 0 where
+  pub exact : f.greatest ≡ length (defined f)
+  pub rising : Rises (map (λ g. g.lhs) f.gates)
+  pub ordered : AllByRecursion IsOrdered f.gates
+
+-- the newer rules, for text files: variables may be missing and gates stand in any order, but what is used is 0 or defined, and no gate
+-- stands on itself
+pub record FitsNewer (f : File) : Type 0 where
+  pub text : f.kind ≡ Text
+  pub enough : length (defined f) ≤ f.greatest
+  pub known : AllByRecursion (IsKnown f) (used f)
+  pub levels : AllByRecursion (HasLevel f) f.gates
+
 -- the numbers and names of a file allow its reading within the limit
 pub record Fits (f : File) (limit : ℕ) : Type 0 where
-  pub exact : f.greatest ≡ length (defined f)
   pub within : f.greatest + 1 ≤ limit
   pub definable : AllByRecursion (IsDefinable f.greatest) (defined f)
   pub distinct : IsDistinct nat_eq (defined f)
   pub in_range : AllByRecursion (λ e. e ≤ 2 * f.greatest + 1) (used f)
   pub resets : AllByRecursion HasReset f.latches
-  pub rising : Rises (map (λ g. g.lhs) f.gates)
-  pub ordered : AllByRecursion IsOrdered f.gates
+  pub rules : FitsOlder f ⊎ FitsNewer f
   pub named : AllByRecursion (IsNameOf f) f.names
   pub once : IsDistinct same_place f.names
 
--- the header line is good: it stands at the front of the bytes, and M = I + L + A
+-- how many variables a header defines: I + L + A
+abbrev pub count_defined : List ℕ → ℕ
+count_defined numbers = slice_index numbers 1 + slice_index numbers 2 + slice_index numbers 4
+
+-- a text file may leave variables out, so M >= I + L + A; in a binary file M = I + L + A
+abbrev pub HasEnough : FileKind → List ℕ → Type 0
+HasEnough Text numbers = count_defined numbers ≤ slice_index numbers 0
+HasEnough Binary numbers = slice_index numbers 0 ≡ count_defined numbers
+
+-- the header line is good: it stands at the front of the bytes, and its greatest variable is great enough for all that are defined
 pub record HasGoodHeader (bytes : List ℕ) (kind : FileKind) (numbers : List ℕ) : Type 0 where
   pub line : (IsHeader kind numbers then λ _. Unit {0}) bytes
-  pub exact : slice_index numbers 0 ≡ slice_index numbers 1 + slice_index numbers 2 + slice_index numbers 4
+  pub enough : HasEnough kind numbers
 
 -- the header line is good, and M + 1 passes the limit
 abbrev pub TooMany : List ℕ → ℕ → Type 0

@@ -2,6 +2,7 @@ pub mod Text
 pub mod File
 pub mod Letters
 pub mod Variables
+pub mod Levels
 pub mod Numbering
 pub mod Spells
 pub mod Fits

@@ -25,7 +25,7 @@ use Rattle.aig_format.proofs.Numbers.{number_of-zero, operands_before, operands_
 use Rattle.aig_format.proofs.Nodes.{nodes_of, kind_at-number, VariableCase, at_zero, at_gate, at_leaf, variable_case, nodes-ordered}
 use Rattle.aig_format.proofs.Circuits.{defined_known, differ_from, gates_definable, kind_missed, leaf_missed, used_by_section}
 use Rattle.aig_format_laws.specs.Nodes.{HasNodeValues, values_over}
-use Rattle.aig_format_laws.proofs.Found.{found_all}
+use Rattle.aig_format.proofs.Found.{found_all}
 
 by_parity : (r : ℕ) → r < 2 → (b : Bool) → inverted_if (r == 1) b ≡ (if r == 0 then b else not b)
 by_parity zero h b = refl

@@ -1,4 +1,3 @@
-pub mod Found
 pub mod Joining
 pub mod Leaves
 pub mod Closed

@@ -22,7 +22,7 @@ use Rattle.aig_format.proofs.Circuits.{differ_from, differs_half, distinct_front
 use Rattle.aig_circuit.proofs.Trees.{by_smaller}
 use Rattle.aig_format_laws.specs.MachineRuns.{AgreeOnInputs, AgreeOnKnown}
 use Rattle.aig_format_laws.specs.Nodes.{values_over}
-use Rattle.aig_format_laws.proofs.Found.{found_all}
+use Rattle.aig_format.proofs.Found.{found_all}
 use Rattle.aig_format_laws.proofs.Joining.{back_run, input_values, inputs_definable, inputs_known, latch_values, latches_definable, latches_known, nexts_known}
 use Rattle.aig_format_laws.proofs.Leaves.{leaf_is}
 

@@ -8,6 +8,7 @@ use Rattle.std.proofs.lemmas.Cmp.{nat_cmp_total}
 use Rattle.std.proofs.lemmas.Map.Lookups.{exact_unsigned}
 use Rattle.std.proofs.lemmas.Bool.{eq-eqb, ne_eqb, eqb-true}
 use Rattle.std.proofs.lemmas.Bool.Decides.{nat_tests}
+use Rattle.aig_format.proofs.Members.{distinct_append}
 use Rattle.aig_format.specs.File.{File, NameLine}
 use Rattle.aig_format.specs.Letters.{letter_of_inputs, letter_of_latches}
 use Rattle.aig_format.specs.Fits.{same_place}
@@ -56,15 +57,6 @@ names_once letter p (n ∷ ns) name =
         → IsDistinct same_place (name_lines letter (p + 1) ns name) → IsDistinct same_place (option_to_list (option_map (line_named letter p) o) ++ name_lines letter (p + 1) ns name)
     by_name None new rest = rest
     by_name (Some bytes) new rest = (new bytes, rest)
-
-pub distinct_append : {A : Type 0} (eq : A → A → Bool) (xs ys : List A) → IsDistinct eq xs → IsDistinct eq ys → AllByRecursion (λ x. AllByRecursion (λ y. eq x y ≡ false) ys) xs → IsDistinct eq (xs ++ ys)
-unfolding IsDistinct
-distinct_append eq [] ys d e all = e
-distinct_append {A} eq (x ∷ xs) ys d e all = (both xs d.0 all.0, distinct_append eq xs ys d.1 e all.1)
-  where
-    both : (zs : List A) → AllByRecursion (λ y. eq x y ≡ false) zs → AllByRecursion (λ y. eq x y ≡ false) ys → AllByRecursion (λ y. eq x y ≡ false) (zs ++ ys)
-    both [] h k = k
-    both (z ∷ zs) h k = (h.0, both zs h.1 k)
 
 -- names of inputs and names of latches
 pub names_distinct : (ns ms : List ℕ) (name : ℕ → Option (List ℕ)) → IsDistinct same_place (name_lines letter_of_inputs 0 ns name ++ name_lines letter_of_latches 0 ms name)

@@ -1,7 +1,6 @@
 -- The nodes of a written file's circuit are those of the circuit.
-use Rattle.std.proofs.Common.{◌≡◌, ℕ, zero, suc, ◌+◌, ◌-◌, ◌*◌, ◌/◌, ◌≤◌, Bool, false, cond, Some, None, List, [], ◌∷◌, length, refl, sym, ap, subst, ◌∙◌, arith, inl, inr}
+use Rattle.std.proofs.Common.{◌≡◌, ℕ, zero, suc, ◌+◌, ◌*◌, ◌/◌, ◌≤◌, true, false, cond, Some, None, List, [], ◌∷◌, length, refl, sym, ap, subst, ◌∙◌, arith, inl, inr}
 use Rattle.std.specs.Prelude.{◌==◌, find}
-use Rattle.std.specs.List.{AllByRecursion}
 use Rattle.std.proofs.lemmas.Bool.{ne_eqb}
 use Rattle.std.proofs.lemmas.Option.{same_Some}
 use Rattle.aig_circuit.specs.declared.edge.AigEdge.{AigEdge}
@@ -17,17 +16,15 @@ use Rattle.aig_format.specs.declared.FileKind.{FileKind}
 use Rattle.aig_format.specs.File.{GateLine, defined}
 use Rattle.aig_format.specs.Circuit.{edge_of, file_of, kind_by, kind_of, nodes_from}
 use Rattle.aig_format.specs.Variables.{gate_of_variable}
-use Rattle.aig_format.specs.Numbering.{numbers_from, variables_in_order}
-use Rattle.aig_format.proofs.Numbers.{order-is}
+use Rattle.aig_format.specs.Numbering.{is_older, numbers_from, variables_in_order}
+use Rattle.aig_format.proofs.Searches.{find_none}
+use Rattle.aig_format.proofs.Older.{older-told}
+use Rattle.aig_format.proofs.Numbers.{order-older}
 use Rattle.aig_format_laws.proofs.Edges.{edge_again, literals_differ}
 use Rattle.aig_format_laws.proofs.Gates.{AreNumbered, find_line, line_for, lines_all, lines_for, numbered_next}
 
 pub numbered : (nodes : List AigNode) → AreNodes nodes → AreNumbered 0 nodes
 numbered nodes are = λ i node h. omega (arith, are.numbered i node h)
-
-find_nothing : {X : Type 0} (test : X → Bool) (xs : List X) → AllByRecursion (λ x. test x ≡ false) xs → find test xs ≡ None
-find_nothing test [] all = refl
-find_nothing test (x ∷ xs) all = rw all.0 (find_nothing test xs all.1)
 
 -- operands that are in order stay so
 ordered_again : (a b : AigEdge) → literal_of a ≤ literal_of b → and_of b a ≡ And a b
@@ -36,7 +33,7 @@ ordered_again a b h = elim (and_of-cases b a) [
   | inr p ↦ (let same : a ≡ b = literals_differ a b (omega arith) in p.0 ∙ ap (λ e. And e a) (sym same) ∙ ap (And a) same)
 ]
 
-module _ (kind : FileKind) (c : Circuit) (are : AreNodes c.nodes) (exact : length c.nodes - 1 ≡ length (defined (file_of kind c))) where
+module _ (kind : FileKind) (c : Circuit) (are : AreNodes c.nodes) (older : is_older (file_of kind c) ≡ true) where
   not_zero : (m : ℕ) → kind_of (file_of kind c) (suc m) ≡ kind_by (file_of kind c) (gate_of_variable (file_of kind c) (suc m))
   not_zero m = ap (λ b. cond b False (kind_by (file_of kind c) (gate_of_variable (file_of kind c) (suc m)))) (ne_eqb (suc m) 0 (λ e. absurd (omega arith)))
 
@@ -52,12 +49,12 @@ module _ (kind : FileKind) (c : Circuit) (are : AreNodes c.nodes) (exact : lengt
       let second = are.ordered.second_before (suc m) a b h in
       not_zero m
       ∙ ap (kind_by (file_of kind c)) found
-      ∙ ap (λ x. and_of x (edge_of (file_of kind c) (literal_of a))) (edge_again (file_of kind c) exact b (omega arith))
-      ∙ ap (and_of b) (edge_again (file_of kind c) exact a (omega arith))
+      ∙ ap (λ x. and_of x (edge_of (file_of kind c) (literal_of a))) (edge_again (file_of kind c) older b (omega arith))
+      ∙ ap (and_of b) (edge_again (file_of kind c) older a (omega arith))
       ∙ ordered_again a b (are.ordered.in_order (suc m) a b h)
   kind_again (suc m) Leaf h =
       let none : gate_of_variable (file_of kind c) (suc m) ≡ None =
-      find_nothing (λ (g : GateLine). g.lhs / 2 == suc m) (lines_for c.nodes)
+      find_none (λ (g : GateLine). g.lhs / 2 == suc m) (lines_for c.nodes)
       (lines_all (λ (g : GateLine). (g.lhs / 2 == suc m) ≡ false) 0 c.nodes (numbered c.nodes are) (λ i a b is. ne_eqb (2 * (0 + i) / 2) (suc m) (λ e.
       let same : i ≡ suc m = omega arith in
       let both : Leaf ≡ And a b = same_Some _ _ (sym h ∙ ap (kind_at c.nodes) (sym same) ∙ is) in
@@ -77,7 +74,8 @@ module _ (kind : FileKind) (c : Circuit) (are : AreNodes c.nodes) (exact : lengt
   pub nodes_again : nodes_from (file_of kind c) 0 (0 ∷ variables_in_order (file_of kind c)) ≡ c.nodes
   nodes_again =
       let there = kind_at-within c.nodes 0 False are.false_first in
-      let count : suc (length c.nodes - 1) ≡ length c.nodes = omega arith in
-      ap (λ vs. nodes_from (file_of kind c) 0 (0 ∷ vs)) (order-is (file_of kind c) exact)
+      let exact = (older-told (file_of kind c) older).exact in
+      let count : suc (length (defined (file_of kind c))) ≡ length c.nodes = omega arith in
+      ap (λ vs. nodes_from (file_of kind c) 0 (0 ∷ vs)) (order-older (file_of kind c) older)
       ∙ ap (λ n. nodes_from (file_of kind c) 0 (numbers_from n 0)) count
       ∙ nodes_in_row 0 c.nodes (numbered c.nodes are) (λ i k h. let e : i ≡ 0 + i = omega arith in subst (λ n. kind_of (file_of kind c) n ≡ k) e (kind_again i k h))

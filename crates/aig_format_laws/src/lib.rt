@@ -1,8 +1,10 @@
-//! Laws of AIGER files: what a file's circuit is, and that what is written is read again.
+//! Laws of AIGER files: how variables are numbered, what a file's circuit is, and that what is written is read again.
 #![tactic(auto)]
 
+mod numbering;
 mod reading;
 mod writing;
 
+pub use numbering::{files_keep_rules, levels_stand_on_operands, numbers_follow_levels};
 pub use reading::{files_are_circuits, inputs_determine_runs, joins_runs};
 pub use writing::{binary_is_read, written_is_read};

@@ -1,6 +1,5 @@
 //! Laws of the written forms of a circuit.
 
-ghost use Rattle.std.specs.Prelude.{ℕ};
 ghost use Rattle.aig_circuit.specs.Circuit.{Circuit, IsCircuit};
 ghost use Rattle.aig_circuit.specs.Reencode.{reencoded};
 ghost use Rattle.aig_format.specs.declared.FileKind.{FileKind};

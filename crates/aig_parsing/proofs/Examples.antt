@@ -1,17 +1,16 @@
 -- Small files, computed: they are read and so accepted; and bytes that are none.
 use lib.Utf8.{encode}
-use Rattle.std.proofs.Common.{◌≡◌, ℕ, true, List, [], ◌∷◌, ◌++◌, Option, Some, None, refl}
+use Rattle.std.proofs.Common.{◌≡◌, ℕ, true, false, List, [], ◌∷◌, ◌++◌, Option, Some, None, refl}
 use Rattle.std.specs.Prelude.{codes}
 use Rattle.std.specs.List.{AllByRecursion}
 use Rattle.std.specs.Str.{is_utf8, chars}
 use Rattle.aig_format.specs.declared.FileKind.TheVariants.{Text, Binary}
 use Rattle.aig_format.specs.File.{NameLine, File}
-use Rattle.aig_format.specs.Spells.{Spells}
 use Rattle.aig_format.specs.Fits.{Accepts}
 use Rattle.aig_format.proofs.Examples.{and_file, and_text}
+use Rattle.aig_format.proofs.Gaps.{doubled, falling, gapped, mixed, short}
 use Rattle.aig_parsing.specs.Front.{number_at, digits_at, ended_at, line_at, kind_at, text_at, groups_at, sets_at, tail_at, file_at, too_many_at}
 use Rattle.aig_parsing.specs.Fitting.{next_at, literal_sets_at, fitting_tail_at, fitting_at}
-use Rattle.aig_parsing.proofs.Files.{file_sound}
 use Rattle.aig_parsing.proofs.FittingFiles.{fitting_sound}
 
 -- the limit of the rows
@@ -171,31 +170,42 @@ pub zeros-read : IsRead (codes "aag 1 01 0 0 0\n02\n") (of_inputs 1 (2 ∷ []))
 unfolding steps
 zeros-read = refl
 
--- no bytes, a carriage return, a number past 4,294,967,295, a variable that nothing defines, a sum past 32 bits, two spaces, four numbers, ten
-pub no_headers : AreRefused ([] ∷ codes "aag 0 0 0 0 0\r\n" ∷ codes "aag 4294967296 0 0 0 0\n" ∷ codes "aag 2 1 0 0 0\n2\n" ∷ codes "aag 0 4294967295 1 0 0\n"
-    ∷ codes "aag  0 0 0 0 0\n" ∷ codes "aag 0 0 0 0\n" ∷ codes "aag 0 0 0 0 0 0 0 0 0 0\n" ∷ [])
+-- no bytes, a carriage return, a number past 4,294,967,295, a sum past 32 bits, two spaces, four numbers, ten; fewer variables than are
+-- defined, and in a binary file one that nothing defines
+pub no_headers : AreRefused ([] ∷ codes "aag 0 0 0 0 0\r\n" ∷ codes "aag 4294967296 0 0 0 0\n" ∷ codes "aag 0 4294967295 1 0 0\n"
+    ∷ codes "aag  0 0 0 0 0\n" ∷ codes "aag 0 0 0 0\n" ∷ codes "aag 0 0 0 0 0 0 0 0 0 0\n" ∷ codes "aag 1 2 0 0 0\n2\n4\n" ∷ codes "aig 2 1 0 0 0\n" ∷ [])
 unfolding steps
-no_headers = (refl, (refl, (refl, (refl, (refl, (refl, (refl, (refl, tt))))))))
+no_headers = (refl, (refl, (refl, (refl, (refl, (refl, (refl, (refl, (refl, tt)))))))))
 
 -- without a line feed at the end, with a space before it, too large a number; an odd literal, one past the greatest, one twice
 pub no_inputs : AreRefused (codes "aag 1 1 0 0 0\n2" ∷ codes "aag 1 1 0 0 0\n2 \n" ∷ codes "aag 1 1 0 0 0\n4294967296\n" ∷ codes "aag 1 1 0 0 0\n3\n" ∷ codes "aag 1 1 0 0 0\n4\n" ∷ codes "aag 2 2 0 0 0\n2\n2\n" ∷ [])
 unfolding steps
 no_inputs = (refl, (refl, (refl, (refl, (refl, (refl, tt))))))
 
--- a gap, a gate as its own operand, and gates that fall
-pub no_gates : AreRefused (codes "aag 3 1 0 0 1\n2\n6 2 2\n" ∷ codes "aag 2 1 0 0 1\n2\n4 4 2\n" ∷ codes "aag 3 1 0 0 2\n2\n6 2 2\n4 2 2\n" ∷ [])
+-- a gate as its own operand, two gates on one another, an operand past the greatest, an operand and an output that nothing defines
+pub no_gates : AreRefused (codes "aag 2 1 0 0 1\n2\n4 4 2\n" ∷ codes "aag 2 0 0 1 2\n2\n2 4 4\n4 2 2\n" ∷ codes "aag 2 1 0 0 1\n2\n4 6 2\n"
+    ∷ codes "aag 3 1 0 0 1\n2\n6 4 2\n" ∷ codes "aag 3 1 0 1 1\n2\n4\n6 2 2\n" ∷ [])
 unfolding steps
-no_gates = (refl, (refl, (refl, tt)))
+no_gates = (refl, (refl, (refl, (refl, (refl, tt)))))
+
+-- ---- variables that are missing, and gates in any order
+
+-- an input above a gate, gates that are moved, a gap below a gate and one at the end, and gates that fall
+pub gaps-read : IsRead (codes "aag 3 1 0 1 1\n6\n4\n4 6 6\n") doubled × IsRead (codes "aag 7 2 1 2 4\n2\n4\n6 8\n6\n7\n8 4 10\n10 13 15\n12 2 6\n14 3 7\n") mixed
+    × IsRead (codes "aag 3 1 0 0 1\n2\n6 2 2\n") gapped × IsRead (codes "aag 2 1 0 0 0\n2\n") short × IsRead (codes "aag 3 1 0 0 2\n2\n6 2 2\n4 2 2\n") falling
+unfolding steps
+gaps-read = (refl, refl, refl, refl, refl)
+
+-- the limit is on the greatest variable, however few are defined
+pub gap-limited : (fitting_at 4 (codes "aag 3 1 0 0 1\n2\n6 2 2\n") ≡ Some gapped) × (fitting_at 3 (codes "aag 3 1 0 0 1\n2\n6 2 2\n") ≡ None)
+    × (too_many_at 3 (codes "aag 3 1 0 0 1\n2\n6 2 2\n") ≡ true) × (too_many_at 3 (codes "aig 3 1 0 0 1\n2\n6 2 2\n") ≡ false)
+unfolding steps
+gap-limited = (refl, refl, refl, refl)
 
 -- counts past what the file holds
 pub no_large_counts : AreRefused (codes "aag 0 0 0 4294967295 0\n0\n" ∷ codes "aag 0 0 0 0 0 0 0 2\n4294967295\n4294967295\n0\n" ∷ [])
 unfolding steps
 no_large_counts = (refl, (refl, tt))
-
--- the gap is no matter of spelling
-pub gap-spelled : Spells (of_inputs 2 (2 ∷ [])) (codes "aag 2 1 0 0 0\n2\n")
-unfolding steps
-gap-spelled = file_sound _ _ refl
 
 -- good headers past the limit, of both kinds
 pub too_many-told : (too_many_at 100 (codes "aag 4000 4000 0 0 0\n") ≡ true) × (too_many_at limit (codes "aig 4294967295 4294967295 0 0 0\n") ≡ true)

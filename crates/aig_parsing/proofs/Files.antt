@@ -123,19 +123,19 @@ nine : (ns : List ℕ) → length ns ≡ 9 → ns ≡ slice_index ns 0 ∷ slice
 nine (a ∷ b ∷ c ∷ d ∷ e ∷ f ∷ g ∷ h ∷ i ∷ []) len = refl
 nine _ len = absurd (omega arith)
 
-inputs_text : (kind : FileKind) (n : ℕ) (xs bytes : List ℕ) → InputsPart kind n xs bytes → (length xs ≡ n) × Inputs kind xs bytes
+pub inputs_text : (kind : FileKind) (n : ℕ) (xs bytes : List ℕ) → InputsPart kind n xs bytes → (length xs ≡ n) × Inputs kind xs bytes
 inputs_text Text n xs bytes h = h
 inputs_text Binary n xs bytes h = (ap length h.0 ∙ length-places n 1, h.1)
 
-latches_text : (kind : FileKind) (i n : ℕ) (ls : List LatchLine) (bytes : List ℕ) → LatchesPart kind i n ls bytes → (length ls ≡ n) × Each (Latch kind) ls bytes
+pub latches_text : (kind : FileKind) (i n : ℕ) (ls : List LatchLine) (bytes : List ℕ) → LatchesPart kind i n ls bytes → (length ls ≡ n) × Each (Latch kind) ls bytes
 latches_text Text i n ls bytes h = h
 latches_text Binary i n ls bytes h = (sym (length-map ls latch_key) ∙ ap length h.0 ∙ length-places n (1 + i), h.1)
 
-gates_text : (kind : FileKind) (i l n : ℕ) (gs : List GateLine) (bytes : List ℕ) → GatesPart kind i l n gs bytes → (length gs ≡ n) × Each (Gate kind) gs bytes
+pub gates_text : (kind : FileKind) (i l n : ℕ) (gs : List GateLine) (bytes : List ℕ) → GatesPart kind i l n gs bytes → (length gs ≡ n) × Each (Gate kind) gs bytes
 gates_text Text i l n gs bytes h = h
 gates_text Binary i l n gs bytes h = (sym (length-map gs gate_key) ∙ ap length h.0 ∙ length-places n (1 + i + l), h.1)
 
-placed_all : (kind : FileKind) (i l a : ℕ) (xs : List ℕ) (ls : List LatchLine) (gs : List GateLine) (b0 b1 b2 : List ℕ)
+pub placed_all : (kind : FileKind) (i l a : ℕ) (xs : List ℕ) (ls : List LatchLine) (gs : List GateLine) (b0 b1 b2 : List ℕ)
     → InputsPart kind i xs b0 → LatchesPart kind i l ls b1 → GatesPart kind i l a gs b2 → Placed kind (xs ++ map latch_key ls ++ map gate_key gs)
 placed_all Text i l a xs ls gs b0 b1 b2 p q r = tt
 placed_all Binary i l a xs ls gs b0 b1 b2 p q r =

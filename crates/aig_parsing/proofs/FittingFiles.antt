@@ -1,5 +1,5 @@
 -- A file is read from the front, tested line by line, exactly where it fits: what is read is accepted, and what is accepted is read.
-use Rattle.std.proofs.Common.{◌≡◌, ℕ, zero, suc, ◌+◌, ◌<◌, ◌≤◌, false, ◌&&◌, List, [], ◌++◌, length, map, Some, refl, sym, ap, subst, ◌∙◌, arith}
+use Rattle.std.proofs.Common.{◌≡◌, ℕ, zero, suc, ◌+◌, ◌<◌, ◌≤◌, false, ◌&&◌, ◌↔◌, ◌⊎◌, List, [], ◌++◌, length, map, Some, refl, sym, ap, subst, ◌∙◌, arith, inl, inr}
 use Rattle.std.specs.Prelude.{slice_index, nat_eq}
 use Rattle.std.specs.List.{AllByRecursion, IsDistinct}
 use Rattle.std.proofs.lemmas.Bool.{ne_eqb}
@@ -9,20 +9,20 @@ use Rattle.aig_format.specs.declared.FileKind.{FileKind}
 use Rattle.aig_format.specs.declared.FileKind.TheVariants.{Text, Binary}
 use Rattle.aig_format.specs.File.{LatchLine, GateLine, NameLine, File, header_of, defined}
 use Rattle.aig_format.specs.Spells.{Latch, Gate, Placed, places, Spells}
-use Rattle.aig_format.specs.Fits.{IsDefinable, HasReset, IsOrdered, Rises, Fits, Accepts}
-use Rattle.aig_parsing.specs.Front.{◌>>=◌, header_at, ended_at, tested_at, numbers_at, placed_gate_at, Parts, body_at, file_from, AllAfter}
-use Rattle.aig_parsing.specs.Fitting.{is_good, is_within, fitting_header_at, defines, has_next, tests_latch, tests_gate, latch_line_at, binary_latch_at, gate_line_at, fitting_inputs_at, fitting_latches_at, fitting_gates_at, fitting_sections_at, fitting_body_at, fitting_tail_at, fitting_at}
+use Rattle.aig_format.specs.Fits.{IsDefinable, HasReset, IsOrdered, Rises, FitsOlder, FitsNewer, Fits, HasEnough, Accepts}
+use Rattle.aig_parsing.specs.Front.{◌>>=◌, header_at, is_good, ended_at, tested_at, numbers_at, placed_gate_at, Parts, body_at, file_from, AllAfter}
+use Rattle.aig_parsing.specs.Fitting.{is_within, keeps_rules, section_lines_at, fitting_header_at, defines, has_next, tests_latch, tests_gate, latch_line_at, binary_latch_at, gate_line_at, fitting_inputs_at, fitting_latches_at, fitting_gates_at, fitting_sections_at, fitting_body_at, fitting_tail_at, fitting_at}
 use Rattle.aig_format.proofs.Entries.{rec_weaker, rec_both, rec_append}
 use Rattle.aig_parsing.proofs.Numbers.{bind_some}
 use Rattle.aig_parsing.proofs.Joined.{Reads, With, Reads-ended, Reads-tested}
 use Rattle.aig_parsing.proofs.Lines.{not_10}
-use Rattle.aig_parsing.proofs.Sections.{HeaderIs, Reads-header, SoMany, SetsOf, Reads-numbers}
+use Rattle.aig_parsing.proofs.Sections.{HeaderIs, Reads-header, Reads-same, SoMany, SetsOf, Reads-numbers}
 use Rattle.aig_parsing.proofs.Binary.{At, latch_key, gate_key}
 use Rattle.aig_parsing.proofs.Names.{tail_sound, tail_complete}
 use Rattle.aig_parsing.proofs.Files.{InputsPart, LatchesPart, GatesPart, Part_1, Part_2, Part_3, Part_4, Part_5, Part_6, Part_7, Part_8, IsBody, Reads-inputs, Reads-body, parts_of, body_from, spelled, body_read, split_places}
 use Rattle.aig_parsing.proofs.Checked.{Reads-checked, IsNew, distinct_after}
 use Rattle.aig_parsing.proofs.Entries.{after_weaker, IsAbove, rises_after}
-use Rattle.aig_parsing.proofs.Guards.{Defines, Decides-defines, IsLiteral, HasNext, Decides-next, LatchAfter, Decides-latch, GateAfter, Decides-gate, NameAfter, IsGood, IsWithin, Decides-good_within, defined_anew, defined_by_section, on_used, latches_by_line, gates_by_line, gates_in_range, names_by_line, length-defined}
+use Rattle.aig_parsing.proofs.Guards.{Defines, Decides-defines, IsLiteral, HasNext, Decides-next, LatchAfter, Decides-latch, GateAfter, Decides-gate, NameAfter, IsWithin, HasOperands, KeepsRules, Decides-rules, Decides-good_within, defined_anew, defined_by_section, on_used, latches_by_line, gates_by_line, gates_in_range, names_by_line, length-defined}
 use Rattle.aig_parsing.proofs.FittingLines.{Reads-both_with, Reads-any, Reads-placed_with, Reads-latch_line, Reads-binary_latch, Reads-gate_line, is_below, Reads-binary_gate, AreLiterals, Reads-literals, AreSets, Reads-literal_sets}
 use Rattle.aig_parsing.proofs.FittingTail.{fitting_tail_sound, fitting_tail_complete}
 
@@ -91,8 +91,8 @@ Fit_2 kind ns inputs x = LatchesFit kind (slice_index ns 0) inputs x.0 × Fit_3 
 abbrev pub Fit_1 : FileKind → List ℕ → Parts → Type 0
 Fit_1 kind ns x = InputsFit kind (slice_index ns 0) x.0 × Fit_2 kind ns x.0 x.1
 
-Reads-fitting_sections : (kind : FileKind) (ns : List ℕ) → Reads (With (Fit_1 kind ns) (Part_1 kind ns)) (fitting_sections_at kind ns)
-Reads-fitting_sections kind ns =
+pub Reads-section_lines : (kind : FileKind) (ns : List ℕ) → Reads (With (Fit_1 kind ns) (Part_1 kind ns)) (section_lines_at kind ns)
+Reads-section_lines kind ns =
     let greatest = slice_index ns 0 in
     Reads-both_with (InputsFit kind greatest) (Fit_2 kind ns) (InputsPart kind (slice_index ns 1)) (λ _. Part_2 kind ns) _ _ (Reads-fitting_inputs kind ns) (λ inputs.
     Reads-both_with (LatchesFit kind greatest inputs) (λ latches. Fit_3 kind ns (inputs ++ map latch_key latches)) (LatchesPart kind (slice_index ns 1) (slice_index ns 2)) (λ _. Part_3 kind ns) _ _ (Reads-fitting_latches kind ns inputs) (λ latches.
@@ -105,21 +105,34 @@ Reads-fitting_sections kind ns =
     Reads-both_with (AreLiterals greatest) (λ _. GatesFit kind greatest leaves) (SoMany (slice_index ns 8)) (λ _. GatesPart kind (slice_index ns 1) (slice_index ns 2) (slice_index ns 4)) _ _ (Reads-literals greatest (slice_index ns 8)) (λ _.
     Reads-fitting_gates kind ns leaves))))))))
 
+-- the lines of the sections pass their tests, and the gates that behind them
+abbrev pub SectionsFit : FileKind → List ℕ → Parts → Type 0
+SectionsFit kind ns x = KeepsRules kind (file_from ((kind, ns), x) []) × Fit_1 kind ns x
+
+Reads-fitting_sections : (kind : FileKind) (ns : List ℕ) → Reads (With (SectionsFit kind ns) (Part_1 kind ns)) (fitting_sections_at kind ns)
+Reads-fitting_sections kind ns =
+    let file = λ (x : Parts). file_from ((kind, ns), x) [] in
+    let Keeps : Parts → Type 0 = λ x. KeepsRules kind (file x) in
+    let Lines : Parts → List ℕ → Type 0 = With (Fit_1 kind ns) (Part_1 kind ns) in
+    Reads-same (With Keeps Lines) (With (SectionsFit kind ns) (Part_1 kind ns)) (fitting_sections_at kind ns)
+    (Reads-tested Lines Keeps (section_lines_at kind ns) (λ x. keeps_rules kind (file x)) (Reads-section_lines kind ns) (λ x. (Decides-rules kind (file x)).0) (λ x. (Decides-rules kind (file x)).1))
+    (λ x bytes h. ((h.0, h.1.0), h.1.1)) (λ x bytes h. (h.0.0, (h.0.1, h.1)))
+
 -- a good header within the limit
 abbrev pub HeaderFits : ℕ → FileKind × List ℕ → Type 0
-HeaderFits limit h = IsGood h.1 × IsWithin limit h.1
+HeaderFits limit h = HasEnough h.0 h.1 × IsWithin limit h.1
 
 abbrev pub BodyFits : ℕ → (FileKind × List ℕ) × Parts → Type 0
-BodyFits limit b = HeaderFits limit b.0 × Fit_1 b.0.0 b.0.1 b.1
+BodyFits limit b = HeaderFits limit b.0 × SectionsFit b.0.0 b.0.1 b.1
 
 Reads-fitting_header : (limit : ℕ) → Reads (With (HeaderFits limit) HeaderIs) (fitting_header_at limit)
 Reads-fitting_header limit =
     let test = Decides-good_within limit in
-    Reads-tested HeaderIs (HeaderFits limit) header_at (λ h. is_good h.1 && is_within limit h.1) Reads-header (λ h. (test h.1).0) (λ h. (test h.1).1)
+    Reads-tested HeaderIs (HeaderFits limit) header_at (λ h. is_good h.0 h.1 && is_within limit h.1) Reads-header (λ h. (test h.0 h.1).0) (λ h. (test h.0 h.1).1)
 
 pub Reads-fitting_body : (limit : ℕ) → Reads (With (BodyFits limit) IsBody) (fitting_body_at limit)
 Reads-fitting_body limit =
-    Reads-both_with (HeaderFits limit) (λ h. Fit_1 h.0 h.1) HeaderIs (λ h. Part_1 h.0 h.1) (fitting_header_at limit) (λ h. fitting_sections_at h.0 h.1)
+    Reads-both_with (HeaderFits limit) (λ h. SectionsFit h.0 h.1) HeaderIs (λ h. Part_1 h.0 h.1) (fitting_header_at limit) (λ h. fitting_sections_at h.0 h.1)
     (Reads-fitting_header limit) (λ h. Reads-fitting_sections h.0 h.1)
 
 -- ---- literals in their places may be defined, are distinct, and rise
@@ -151,6 +164,7 @@ pub record LinesFit (f : File) : Type 0 where
   pub justice : AreSets f.greatest f.justice
   pub fairness : AreLiterals f.greatest f.fairness
   pub gates : GatesFit f.kind f.greatest (f.inputs ++ map latch_key f.latches) f.gates
+  pub rules : KeepsRules f.kind f
   pub names : AllAfter (NameAfter (header_of f)) [] f.names
 
 -- what a file says of its inputs, latches and gates
@@ -158,48 +172,70 @@ pub record VariablesFit (f : File) : Type 0 where
   pub definable : AllByRecursion (IsDefinable f.greatest) (defined f)
   pub distinct : IsDistinct nat_eq (defined f)
   pub nexts : AllByRecursion (HasNext f.greatest) f.latches
-  pub rising : Rises (map gate_key f.gates)
-  pub ordered : AllByRecursion IsOrdered f.gates
+  pub operands : AllByRecursion (HasOperands f.greatest) f.gates
 
-variables_fit : (kind : FileKind) (f : File) → Placed kind (defined f) → f.greatest ≡ length (defined f) → InputsFit kind f.greatest f.inputs → LatchesFit kind f.greatest f.inputs f.latches
+-- in a binary file no variable is missing
+exact_from : (f : File) → HasEnough Binary (header_of f) → f.greatest ≡ length (defined f)
+exact_from f enough = enough ∙ sym (length-defined f)
+
+pub variables_fit : (kind : FileKind) (f : File) → Placed kind (defined f) → HasEnough kind (header_of f) → InputsFit kind f.greatest f.inputs → LatchesFit kind f.greatest f.inputs f.latches
     → GatesFit kind f.greatest (f.inputs ++ map latch_key f.latches) f.gates → VariablesFit f
-variables_fit Text f placed exact i l g =
+variables_fit Text f placed enough i l g =
     let latches = (latches_by_line f.greatest f.inputs f.latches).0 l in
     let gates = (gates_by_line f.greatest (f.inputs ++ map latch_key f.latches) f.gates).0 g in
     let anew = (defined_anew f.greatest (defined f)).0 ((defined_by_section (Defines f.greatest) f).1 (i, latches.0, gates.0)) in
-    record { definable = anew.0; distinct = anew.1; nexts = latches.1; rising = gates.1; ordered = gates.2 }
-variables_fit Binary f placed exact i l g =
+    record { definable = anew.0; distinct = anew.1; nexts = latches.1; operands = gates.1 }
+variables_fit Binary f placed enough i l g =
     let n = length (defined f) in
-    let behind = split_places (f.inputs ++ map latch_key f.latches) (map gate_key f.gates) n 1 placed in
+    let exact = exact_from f enough in
+    let definable = subst (AllByRecursion (IsDefinable f.greatest)) (sym placed) (places_definable f.greatest n 1 (omega arith) (omega arith)) in
     record {
-      definable = subst (AllByRecursion (IsDefinable f.greatest)) (sym placed) (places_definable f.greatest n 1 (omega arith) (omega arith));
+      definable = definable;
       distinct = rising_distinct (defined f) (subst Rises (sym placed) (places_rise n 1));
       nexts = l;
-      rising = subst Rises (sym behind.1) (places_rise (length (map gate_key f.gates)) (1 + length (f.inputs ++ map latch_key f.latches)));
-      ordered = g;
+      operands = gates_in_range f.greatest f.gates ((rec_append (IsDefinable f.greatest) (f.inputs ++ map latch_key f.latches) (map gate_key f.gates)).0 definable).1 g;
     }
 
-abbrev pub SectionsFit : FileKind → File → Type 0
-SectionsFit kind f = InputsFit kind f.greatest f.inputs × LatchesFit kind f.greatest f.inputs f.latches × GatesFit kind f.greatest (f.inputs ++ map latch_key f.latches) f.gates
+-- the rules of a file by the test behind its gates; in a binary file the gates rise by their places
+pub rules_fit : (kind : FileKind) (f : File) → f.kind ≡ kind → Placed kind (defined f) → HasEnough kind (header_of f) → GatesFit kind f.greatest (f.inputs ++ map latch_key f.latches) f.gates
+    → KeepsRules kind f → FitsOlder f ⊎ FitsNewer f
+rules_fit Text f is placed enough g (inl older) = inl older
+rules_fit Text f is placed enough g (inr newer) = inr (record { text = is; enough = omega (arith, enough, length-defined f); known = newer.0; levels = newer.1 })
+rules_fit Binary f is placed enough g rules =
+    let leaves = f.inputs ++ map latch_key f.latches in
+    let behind = split_places leaves (map gate_key f.gates) (length (defined f)) 1 placed in
+    inl (record { exact = exact_from f enough; rising = subst Rises (sym behind.1) (places_rise (length (map gate_key f.gates)) (1 + length leaves)); ordered = g })
 
-sections_fit : (kind : FileKind) (f : File) → VariablesFit f → SectionsFit kind f
-sections_fit Text f v =
+-- what the tests say of a file's inputs, latches and gates
+abbrev pub VariablesPass : FileKind → File → Type 0
+VariablesPass kind f = InputsFit kind f.greatest f.inputs × LatchesFit kind f.greatest f.inputs f.latches × GatesFit kind f.greatest (f.inputs ++ map latch_key f.latches) f.gates
+
+-- in a binary file the older rules hold
+pub older_in_binary : (f : File) → f.kind ≡ Binary → FitsOlder f ⊎ FitsNewer f → FitsOlder f
+older_in_binary f is (inl older) = older
+older_in_binary f is (inr newer) = let text = newer.text in absurd cc
+
+variables_pass : (kind : FileKind) (f : File) → f.kind ≡ kind → FitsOlder f ⊎ FitsNewer f → VariablesFit f → VariablesPass kind f
+variables_pass Text f is rules v =
     let anew = (defined_by_section (Defines f.greatest) f).0 ((defined_anew f.greatest (defined f)).1 (v.definable, v.distinct)) in (
       anew.0,
       (latches_by_line f.greatest f.inputs f.latches).1 (anew.1, v.nexts),
-      (gates_by_line f.greatest (f.inputs ++ map latch_key f.latches) f.gates).1 (anew.2, v.rising, v.ordered),
+      (gates_by_line f.greatest (f.inputs ++ map latch_key f.latches) f.gates).1 (anew.2, v.operands),
     )
-sections_fit Binary f v = (tt, v.nexts, v.ordered)
+variables_pass Binary f is rules v = (tt, v.nexts, (older_in_binary f is rules).ordered)
 
-fits_from_lines : (f : File) (limit : ℕ) → IsGood (header_of f) → f.greatest + 1 ≤ limit → Placed f.kind (defined f) → LinesFit f → Fits f limit
-fits_from_lines f limit good within placed lines =
+-- a file's header has enough, and its gates keep the rules
+rules_pass : (kind : FileKind) (f : File) → f.kind ≡ kind → FitsOlder f ⊎ FitsNewer f → HasEnough kind (header_of f) × KeepsRules kind f
+rules_pass Text f is (inl older) = let exact = older.exact in (omega (arith, length-defined f), inl older)
+rules_pass Text f is (inr newer) = let enough = newer.enough in (omega (arith, length-defined f), inr (newer.known, newer.levels))
+rules_pass Binary f is rules = ((older_in_binary f is rules).exact ∙ length-defined f, tt)
+
+fits_from_lines : (f : File) (limit : ℕ) → HasEnough f.kind (header_of f) → f.greatest + 1 ≤ limit → Placed f.kind (defined f) → LinesFit f → Fits f limit
+fits_from_lines f limit enough within placed lines =
     let greatest = f.greatest in
-    let exact : greatest ≡ length (defined f) = good ∙ sym (length-defined f) in
-    let v = variables_fit f.kind f placed exact lines.inputs lines.latches lines.gates in
-    let of_gates = (rec_append (IsDefinable greatest) (f.inputs ++ map latch_key f.latches) (map gate_key f.gates)).0 v.definable in
+    let v = variables_fit f.kind f placed enough lines.inputs lines.latches lines.gates in
     let names = (names_by_line f).0 lines.names in
     record {
-      exact = exact;
       within = within;
       definable = v.definable;
       distinct = v.distinct;
@@ -210,11 +246,10 @@ fits_from_lines f limit good within placed lines =
         constraints = lines.constraints;
         justice = lines.justice;
         fairness = lines.fairness;
-        gates = gates_in_range greatest f.gates of_gates.1 v.ordered;
+        gates = v.operands;
       });
       resets = rec_weaker (HasNext greatest) HasReset (λ l h. h.1) f.latches v.nexts;
-      rising = v.rising;
-      ordered = v.ordered;
+      rules = rules_fit f.kind f refl placed enough lines.gates lines.rules;
       named = names.0;
       once = names.1;
     }
@@ -223,12 +258,11 @@ lines_from_fits : (f : File) (limit : ℕ) → Fits f limit → LinesFit f
 lines_from_fits f limit fits =
     let greatest = f.greatest in
     let used = (on_used (IsLiteral greatest) f).0 fits.in_range in
-    let sections = sections_fit f.kind f (record {
+    let sections = variables_pass f.kind f refl fits.rules (record {
       definable = fits.definable;
       distinct = fits.distinct;
       nexts = rec_both (λ l. IsLiteral greatest l.next) HasReset f.latches used.latches fits.resets;
-      rising = fits.rising;
-      ordered = fits.ordered;
+      operands = used.gates;
     }) in
     record {
       inputs = sections.0;
@@ -239,17 +273,38 @@ lines_from_fits f limit fits =
       justice = used.justice;
       fairness = used.fairness;
       gates = sections.2;
+      rules = (rules_pass f.kind f refl fits.rules).1;
       names = (names_by_line f).1 (fits.named, fits.once);
     }
+
+-- the rules don't look at names
+rules_named : (kind : FileKind) (f : File) → KeepsRules kind (file_from (parts_of f) []) ↔ KeepsRules kind f
+rules_named Text f = (
+  λ rules. elim rules [ inl older ↦ inl (record { exact = older.exact; rising = older.rising; ordered = older.ordered }) | inr newer ↦ inr newer ],
+  λ rules. elim rules [ inl older ↦ inl (record { exact = older.exact; rising = older.rising; ordered = older.ordered }) | inr newer ↦ inr newer ],
+)
+rules_named Binary f = (λ rules. tt, λ rules. tt)
 
 -- the facts on the parts of a file are those on its lines
 lines_from_body : (f : File) (limit : ℕ) → BodyFits limit (parts_of f) → AllAfter (NameAfter (header_of f)) [] f.names → LinesFit f
 lines_from_body f limit h names =
-    let s2 = h.1.1 in let s3 = s2.1 in let s4 = s3.1 in let s5 = s4.1 in let s7 = s5.1.1 in let s8 = s7.1 in
-    record { inputs = h.1.0; latches = s2.0; outputs = s3.0; bads = s4.0; constraints = s5.0; justice = s7.0; fairness = s8.0; gates = s8.1; names = names }
+    let s1 = h.1.1 in let s2 = s1.1 in let s3 = s2.1 in let s4 = s3.1 in let s5 = s4.1 in let s7 = s5.1.1 in let s8 = s7.1 in
+    record {
+      inputs = s1.0;
+      latches = s2.0;
+      outputs = s3.0;
+      bads = s4.0;
+      constraints = s5.0;
+      justice = s7.0;
+      fairness = s8.0;
+      gates = s8.1;
+      rules = (rules_named f.kind f).0 h.1.0;
+      names = names;
+    }
 
-body_from_lines : (f : File) (limit : ℕ) → IsGood (header_of f) → f.greatest + 1 ≤ limit → LinesFit f → BodyFits limit (parts_of f)
-body_from_lines f limit good within l = ((good, within), (l.inputs, (l.latches, (l.outputs, (l.bads, (l.constraints, (tt, (l.justice, (l.fairness, l.gates)))))))))
+body_from_lines : (f : File) (limit : ℕ) → HasEnough f.kind (header_of f) → f.greatest + 1 ≤ limit → LinesFit f → BodyFits limit (parts_of f)
+body_from_lines f limit enough within l =
+    ((enough, within), ((rules_named f.kind f).1 l.rules, (l.inputs, (l.latches, (l.outputs, (l.bads, (l.constraints, (tt, (l.justice, (l.fairness, l.gates))))))))))
 
 -- ---- whole files
 
@@ -282,7 +337,7 @@ fitting_complete limit bytes f h =
     let w = h.0.sections in
     let fits = h.1 in
     let lines = lines_from_fits f limit fits in
-    let facts = body_from_lines f limit (fits.exact ∙ length-defined f) fits.within lines in
+    let facts = body_from_lines f limit (rules_pass f.kind f refl fits.rules).0 fits.within lines in
     let one : fitting_body_at limit bytes ≡ Some (parts_of f, w.1) =
     ap (fitting_body_at limit) w.2 ∙ (Reads-fitting_body limit).complete (parts_of f) w.0 w.1 (facts, body_from f w.0 w.3 h.0.placed) in
     let tail : fitting_tail_at (header_of f) (suc (length w.1)) [] w.1 ≡ Some f.names =

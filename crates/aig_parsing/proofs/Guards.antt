@@ -1,6 +1,6 @@
 -- What the tests of a reader say of each line, and how these facts make up those on a whole file.
 use Rattle.std.proofs.Common.{◌≡◌, ◌↔◌, ℕ, ◌+◌, ◌*◌, ◌/◌, ◌%◌, ◌<◌, ◌≤◌, Bool, true, false, not, ◌&&◌, ◌||◌, leb, List, [], ◌∷◌, ◌++◌, length, map, Option, Some, None, refl, arith}
-use Rattle.std.specs.Prelude.{nat_eq, nat_lt, nat_le, ◌==◌, ◌⊎◌, IfSome, IsUtf8, slice_index}
+use Rattle.std.specs.Prelude.{nat_eq, nat_lt, nat_le, ◌==◌, ◌⊎◌, IfSome, IsTrue, IsUtf8, slice_index}
 use Rattle.std.specs.Str.{is_utf8}
 use Rattle.std.specs.Bool.{Decides}
 use Rattle.std.specs.List.{AllByRecursion, IsDistinct, list_any, list_all, flat_map}
@@ -10,14 +10,20 @@ use Rattle.std.proofs.lemmas.Str.{IsUtf8-from_is_utf8, is_utf8-from_IsUtf8}
 use Rattle.std.proofs.lemmas.List.Elements.{All-from_recursion, recursion_from_All}
 use Rattle.std.proofs.lemmas.List.{length-append, length-map}
 use Rattle.aig_format.specs.File.{LatchLine, GateLine, NameLine, File, header_of, defined, used}
-use Rattle.aig_format.specs.Fits.{IsDefinable, HasReset, IsOrdered, Rises, IsNameOf, same_place}
-use Rattle.aig_parsing.specs.Front.{AllAfter}
+use Rattle.aig_format.specs.Variables.{is_known, IsKnown}
+use Rattle.aig_format.specs.Levels.{has_level, HasLevel}
+use Rattle.aig_format.specs.Numbering.{is_older}
+use Rattle.aig_format.specs.declared.FileKind.{FileKind}
+use Rattle.aig_format.specs.declared.FileKind.TheVariants.{Text, Binary}
+use Rattle.aig_format.specs.Fits.{IsDefinable, HasReset, IsOrdered, IsNameOf, same_place, FitsOlder, HasEnough, count_defined}
+use Rattle.aig_parsing.specs.Front.{AllAfter, is_good}
 use Rattle.aig_parsing.proofs.Checked.{IsNew, distinct_after}
 use Rattle.aig_format.specs.Letters.{count_of, is_kept}
-use Rattle.aig_parsing.specs.Fitting.{is_definable, defines, is_literal, is_reset, has_next, tests_latch, tests_gate, tests_name, is_good, is_within}
+use Rattle.aig_parsing.specs.Fitting.{is_definable, defines, is_literal, is_reset, has_next, tests_latch, tests_gate, tests_name, is_within, uses_known, keeps_rules}
 use Rattle.aig_parsing.proofs.Binary.{latch_key, gate_key}
 use Rattle.aig_format.proofs.Entries.{rec_weaker, rec_both, rec_append, rec_map, rec_flat_map}
-use Rattle.aig_parsing.proofs.Entries.{after_weaker, after_both, after_each, after_append, section_keys, IsAbove, rises_after}
+use Rattle.aig_format.proofs.Older.{older-told, older-tested}
+use Rattle.aig_parsing.proofs.Entries.{after_weaker, after_both, after_each, after_append, section_keys}
 
 -- ---- from tests to facts, and back
 
@@ -76,23 +82,41 @@ Decides-latch greatest inputs before l =
     Decides-and (defines greatest (inputs ++ map latch_key before) l.literal) (has_next greatest l)
     (Decides-defines greatest (inputs ++ map latch_key before) l.literal) (Decides-next greatest l)
 
--- a gate defines a new literal above those of the gates before it, and its operands' variables are smaller than its own
+-- a gate's operands may be used
+abbrev pub HasOperands : ℕ → GateLine → Type 0
+HasOperands greatest g = IsLiteral greatest g.rhs0 × IsLiteral greatest g.rhs1
+
+-- a gate defines a new literal, and its operands may be used
 abbrev pub GateAfter : ℕ → List ℕ → List GateLine → GateLine → Type 0
-GateAfter greatest leaves before g = Defines greatest (leaves ++ map gate_key before) g.lhs × IsAbove (map gate_key before) g.lhs × IsOrdered g
+GateAfter greatest leaves before g = Defines greatest (leaves ++ map gate_key before) g.lhs × HasOperands greatest g
 
 pub Decides-gate : (greatest : ℕ) (leaves : List ℕ) (before : List GateLine) (g : GateLine) → Decides (tests_gate greatest leaves before g) (GateAfter greatest leaves before g)
 Decides-gate greatest leaves before g =
     let is_defined = defines greatest (leaves ++ map gate_key before) g.lhs in
-    let is_above = list_all (λ e. nat_lt e g.lhs) (map gate_key before) in
-    let is_first = nat_lt (g.rhs0 / 2) (g.lhs / 2) in
-    let is_second = nat_lt (g.rhs1 / 2) (g.lhs / 2) in
-    Decides-like (is_defined && is_above && is_first && is_second) (λ h. (h.0.0.0, h.0.0.1, (h.0.1, h.1))) (λ h. (((h.0, h.1), h.2.0), h.2.1))
-    (Decides-and (is_defined && is_above && is_first) is_second
-    (Decides-and (is_defined && is_above) is_first
-    (Decides-and is_defined is_above (Decides-defines greatest (leaves ++ map gate_key before) g.lhs)
-    (Decides-list_all (λ e. nat_lt e g.lhs) (λ e. e < g.lhs) (λ e. Decides-ltb e g.lhs) (map gate_key before)))
-    (Decides-ltb (g.rhs0 / 2) (g.lhs / 2)))
-    (Decides-ltb (g.rhs1 / 2) (g.lhs / 2)))
+    let is_first = is_literal greatest g.rhs0 in
+    let is_second = is_literal greatest g.rhs1 in
+    Decides-like (is_defined && is_first && is_second) (λ h. (h.0.0, (h.0.1, h.1))) (λ h. ((h.0, h.1.0), h.1.1))
+    (Decides-and (is_defined && is_first) is_second
+    (Decides-and is_defined is_first (Decides-defines greatest (leaves ++ map gate_key before) g.lhs) (Decides-literal greatest g.rhs0))
+    (Decides-literal greatest g.rhs1))
+
+-- in a text file the older rules hold, or what is used is known and the gates have levels
+abbrev pub KeepsRules : FileKind → File → Type 0
+KeepsRules Text f = FitsOlder f ⊎ (AllByRecursion (IsKnown f) (used f) × AllByRecursion (HasLevel f) f.gates)
+KeepsRules Binary f = Unit {0}
+
+Decides-test : (b : Bool) → Decides b (IsTrue b)
+Decides-test b = (λ h. h, λ h. h)
+
+Decides-newer : (f : File) → Decides (uses_known f && list_all (has_level f) f.gates) (AllByRecursion (IsKnown f) (used f) × AllByRecursion (HasLevel f) f.gates)
+Decides-newer f =
+    Decides-and (uses_known f) (list_all (has_level f) f.gates)
+    (Decides-list_all (λ e. is_known f (e / 2)) (IsKnown f) (λ e. Decides-test (is_known f (e / 2))) (used f))
+    (Decides-list_all (has_level f) (HasLevel f) (λ g. Decides-test (has_level f g)) f.gates)
+
+pub Decides-rules : (kind : FileKind) (f : File) → Decides (keeps_rules kind f) (KeepsRules kind f)
+Decides-rules Text f = Decides-or (is_older f) (uses_known f && list_all (has_level f) f.gates) (older-told f, older-tested f) (Decides-newer f)
+Decides-rules Binary f = (λ _. tt, λ _. refl)
 
 -- a name of an input or a latch
 abbrev pub IsKept : ℕ → Type 0
@@ -122,19 +146,16 @@ Decides-name ns before n =
     (Decides-or (n.letter == 105) (n.letter == 108) (Decides-eqb n.letter 105) (Decides-eqb n.letter 108))
     (Decides-utf8 n.name)))
 
--- M = I + L + A
-abbrev pub IsGood : List ℕ → Type 0
-IsGood ns = slice_index ns 0 ≡ slice_index ns 1 + slice_index ns 2 + slice_index ns 4
-
 -- M + 1 is within the limit
 abbrev pub IsWithin : ℕ → List ℕ → Type 0
 IsWithin limit ns = slice_index ns 0 + 1 ≤ limit
 
-Decides-good : (ns : List ℕ) → Decides (is_good ns) (IsGood ns)
-Decides-good ns = Decides-eqb (slice_index ns 0) (slice_index ns 1 + slice_index ns 2 + slice_index ns 4)
+pub Decides-good : (kind : FileKind) (ns : List ℕ) → Decides (is_good kind ns) (HasEnough kind ns)
+Decides-good Text ns = Decides-leb (count_defined ns) (slice_index ns 0)
+Decides-good Binary ns = Decides-eqb (slice_index ns 0) (count_defined ns)
 
-pub Decides-good_within : (limit : ℕ) (ns : List ℕ) → Decides (is_good ns && is_within limit ns) (IsGood ns × IsWithin limit ns)
-Decides-good_within limit ns = Decides-and (is_good ns) (is_within limit ns) (Decides-good ns) (Decides-leb (slice_index ns 0 + 1) limit)
+pub Decides-good_within : (limit : ℕ) (kind : FileKind) (ns : List ℕ) → Decides (is_good kind ns && is_within limit ns) (HasEnough kind ns × IsWithin limit ns)
+Decides-good_within limit kind ns = Decides-and (is_good kind ns) (is_within limit ns) (Decides-good kind ns) (Decides-leb (slice_index ns 0 + 1) limit)
 
 -- ---- from the facts on lines to the facts on a file, and back
 
@@ -217,7 +238,7 @@ on_used P f =
     )
 
 -- a gate's operands may be used, since their variables are smaller than its own
-pub operands_in_range : (greatest : ℕ) (g : GateLine) → IsDefinable greatest g.lhs → IsOrdered g → IsLiteral greatest g.rhs0 × IsLiteral greatest g.rhs1
+pub operands_in_range : (greatest : ℕ) (g : GateLine) → IsDefinable greatest g.lhs → IsOrdered g → HasOperands greatest g
 operands_in_range greatest g d o = let high = d.2 in let first = o.0 in let second = o.1 in (omega arith, omega arith)
 
 -- the facts on latches by lines, and on them all
@@ -237,31 +258,22 @@ latches_by_line greatest inputs latches =
 
 -- the facts on gates by lines, and on them all
 pub gates_by_line : (greatest : ℕ) (leaves : List ℕ) (gates : List GateLine)
-    → AllAfter (GateAfter greatest leaves) [] gates ↔ (AllAfter (λ b g. Defines greatest (leaves ++ map gate_key b) g.lhs) [] gates
-    × Rises (map gate_key gates) × AllByRecursion IsOrdered gates)
+    → AllAfter (GateAfter greatest leaves) [] gates ↔ (AllAfter (λ b g. Defines greatest (leaves ++ map gate_key b) g.lhs) [] gates × AllByRecursion (HasOperands greatest) gates)
 gates_by_line greatest leaves gates =
     let Anew : List GateLine → GateLine → Type 0 = λ b g. Defines greatest (leaves ++ map gate_key b) g.lhs in
-    let Above : List GateLine → GateLine → Type 0 = λ b g. IsAbove (map gate_key b) g.lhs in
-    let Two : List GateLine → GateLine → Type 0 = λ b g. Above b g × IsOrdered g in
-    let above = section_keys IsAbove gate_key [] gates in
-    let rises = rises_after (map gate_key gates) in
-    let ordered = after_each IsOrdered gates [] in (
+    let operands = after_each (HasOperands greatest) gates [] in (
       λ all. (
         after_weaker (GateAfter greatest leaves) Anew (λ b g h. h.0) gates [] all,
-        rises.0 (above.0 (after_weaker (GateAfter greatest leaves) Above (λ b g h. h.1) gates [] all)),
-        ordered.0 (after_weaker (GateAfter greatest leaves) (λ _. IsOrdered) (λ b g h. h.2) gates [] all),
+        operands.0 (after_weaker (GateAfter greatest leaves) (λ _. HasOperands greatest) (λ b g h. h.1) gates [] all),
       ),
-      λ h.
-          after_weaker (λ b g. Anew b g × Two b g) (GateAfter greatest leaves) (λ b g k. (k.0, k.1.0, k.1.1)) gates []
-          (after_both Anew Two gates [] h.0 (after_both Above (λ _. IsOrdered) gates [] (above.1 (rises.1 h.1)) (ordered.1 h.2))),
+      λ h. after_both Anew (λ _. HasOperands greatest) gates [] h.0 (operands.1 h.1),
     )
 
 -- the operands of gates in order are in range
-pub gates_in_range : (greatest : ℕ) (gates : List GateLine) → AllByRecursion (IsDefinable greatest) (map gate_key gates) → AllByRecursion IsOrdered gates
-    → AllByRecursion (λ g. IsLiteral greatest g.rhs0 × IsLiteral greatest g.rhs1) gates
+pub gates_in_range : (greatest : ℕ) (gates : List GateLine) → AllByRecursion (IsDefinable greatest) (map gate_key gates) → AllByRecursion IsOrdered gates → AllByRecursion (HasOperands greatest) gates
 gates_in_range greatest gates d o =
     let Definable : GateLine → Type 0 = λ g. IsDefinable greatest g.lhs in
-    rec_weaker (λ g. Definable g × IsOrdered g) (λ g. IsLiteral greatest g.rhs0 × IsLiteral greatest g.rhs1) (λ g h. operands_in_range greatest g h.0 h.1) gates
+    rec_weaker (λ g. Definable g × IsOrdered g) (HasOperands greatest) (λ g h. operands_in_range greatest g h.0 h.1) gates
     (rec_both Definable IsOrdered gates ((rec_map (IsDefinable greatest) gate_key gates).0 d) o)
 
 pub length-defined : (f : File) → length (defined f) ≡ length f.inputs + length f.latches + length f.gates

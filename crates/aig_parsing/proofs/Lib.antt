@@ -14,4 +14,5 @@ pub mod Guards
 pub mod FittingLines
 pub mod FittingTail
 pub mod FittingFiles
+pub mod SectionFacts
 pub mod Examples

@@ -1,21 +1,21 @@
--- Reading a file from the front, each line tested beside those before it: what is read so is a file that fits the limit.
+-- Reading a file from the front, each line tested beside those before it, and the gates all together: what is read so is a file that fits
+-- the limit.
 -- (AIGER format 20071012: "Header", "Binary encoding", "Symbol table"; AIGER 1.9: "Reset logic", "Properties".)
 use Rattle.std.specs.Prelude.{ℕ, zero, suc, ◌+◌, ◌*◌, ◌/◌, ◌%◌, Bool, true, not, ◌&&◌, ◌||◌, nat_lt, nat_le, ◌==◌, if◌then◌else◌, List, [], ◌∷◌, ◌++◌, length, map, slice_index, Option, Some, None}
 use Rattle.std.specs.Str.{is_utf8}
 use Rattle.std.specs.List.{list_any, list_all}
 use Rattle.aig_format.specs.declared.FileKind.{FileKind}
 use Rattle.aig_format.specs.declared.FileKind.TheVariants.{Text, Binary}
-use Rattle.aig_format.specs.File.{LatchLine, GateLine, NameLine, File}
+use Rattle.aig_format.specs.File.{LatchLine, GateLine, NameLine, File, used}
+use Rattle.aig_format.specs.Variables.{is_known}
+use Rattle.aig_format.specs.Levels.{has_level}
+use Rattle.aig_format.specs.Numbering.{is_older}
 use Rattle.aig_format.specs.Letters.{count_of, is_kept}
 use Rattle.aig_format.specs.Spells.{places}
 use Rattle.aig_format.specs.Fits.{same_place}
-use Rattle.aig_parsing.specs.Front.{◌>>=◌, Parts, both_at, checked_at, ended_at, file_from, header_at, is_comment, mapped_at, name_at, number_at, numbers_at, placed_at, placed_gate_at, tested_at, times_at}
+use Rattle.aig_parsing.specs.Front.{◌>>=◌, Parts, both_at, checked_at, ended_at, file_from, header_at, is_comment, is_good, mapped_at, name_at, number_at, numbers_at, placed_at, placed_gate_at, tested_at, times_at}
 
 -- ---- the header
-
--- M = I + L + A
-abbrev pub is_good : List ℕ → Bool
-is_good ns = slice_index ns 0 == slice_index ns 1 + slice_index ns 2 + slice_index ns 4
 
 -- M + 1 is within the limit
 abbrev pub is_within : ℕ → List ℕ → Bool
@@ -23,7 +23,7 @@ is_within limit ns = nat_le (slice_index ns 0 + 1) limit
 
 -- a header line that is good and within the limit
 abbrev pub fitting_header_at : ℕ → List ℕ → Option ((FileKind × List ℕ) × List ℕ)
-fitting_header_at limit = tested_at header_at (λ h. is_good h.1 && is_within limit h.1)
+fitting_header_at limit = tested_at header_at (λ h. is_good h.0 h.1 && is_within limit h.1)
 
 -- ---- tests of a line beside those before it
 
@@ -52,11 +52,10 @@ has_next greatest l = is_literal greatest l.next && is_reset l.literal l.reset
 abbrev pub tests_latch : ℕ → List ℕ → List LatchLine → LatchLine → Bool
 tests_latch greatest inputs before l = defines greatest (inputs ++ map (λ m. m.literal) before) l.literal && has_next greatest l
 
--- a gate defines a new literal above those of the gates before it, and its operands' variables are smaller than its own
+-- a gate defines a new literal, and its operands may be used
 abbrev pub tests_gate : ℕ → List ℕ → List GateLine → GateLine → Bool
 tests_gate greatest leaves before g =
-    defines greatest (leaves ++ map (λ h. h.lhs) before) g.lhs && list_all (λ e. nat_lt e g.lhs) (map (λ h. h.lhs) before)
-    && nat_lt (g.rhs0 / 2) (g.lhs / 2) && nat_lt (g.rhs1 / 2) (g.lhs / 2)
+    defines greatest (leaves ++ map (λ h. h.lhs) before) g.lhs && is_literal greatest g.rhs0 && is_literal greatest g.rhs1
 
 -- a name stands below its section's count, none of those before it is for its place, and it is UTF-8 if it is kept
 abbrev pub tests_name : List ℕ → List NameLine → NameLine → Bool
@@ -127,14 +126,30 @@ abbrev pub fitting_gates_at : FileKind → List ℕ → List ℕ → List ℕ �
 fitting_gates_at Text ns leaves = checked_at gate_line_at (tests_gate (slice_index ns 0) leaves) [] (slice_index ns 4)
 fitting_gates_at Binary ns leaves = placed_at (λ v. tested_at (placed_gate_at v) (λ g. nat_lt g.rhs0 g.lhs)) (slice_index ns 4) (1 + slice_index ns 1 + slice_index ns 2)
 
--- the sections behind the header
-abbrev pub fitting_sections_at : FileKind → List ℕ → List ℕ → Option (Parts × List ℕ)
-fitting_sections_at kind ns =
+-- the lines of the sections behind the header
+abbrev pub section_lines_at : FileKind → List ℕ → List ℕ → Option (Parts × List ℕ)
+section_lines_at kind ns =
     let greatest = slice_index ns 0 in
     both_at (fitting_inputs_at kind ns) (λ inputs. both_at (fitting_latches_at kind ns inputs) (λ latches. both_at (literals_at greatest (slice_index ns 3))
     (λ _. both_at (literals_at greatest (slice_index ns 5)) (λ _. both_at (literals_at greatest (slice_index ns 6)) (λ _. both_at (numbers_at (slice_index ns 7))
     (λ sizes. both_at (literal_sets_at greatest sizes) (λ _. both_at (literals_at greatest (slice_index ns 8))
     (λ _. fitting_gates_at kind ns (inputs ++ map (λ l. l.literal) latches)))))))))
+
+-- ---- the test behind the last gate
+
+-- what is used is 0 or defined
+abbrev pub uses_known : File → Bool
+uses_known f = list_all (λ e. is_known f (e / 2)) (used f)
+
+-- in a text file no variable is missing and the gates are in order, or else what is used is 0 or defined and no gate stands on itself;
+-- a binary file is in order by its lines
+abbrev pub keeps_rules : FileKind → File → Bool
+keeps_rules Text f = is_older f || (uses_known f && list_all (has_level f) f.gates)
+keeps_rules Binary f = true
+
+-- the sections behind the header
+abbrev pub fitting_sections_at : FileKind → List ℕ → List ℕ → Option (Parts × List ℕ)
+fitting_sections_at kind ns = tested_at (section_lines_at kind ns) (λ x. keeps_rules kind (file_from ((kind, ns), x) []))
 
 -- the header within the limit, and the sections
 abbrev pub fitting_body_at : ℕ → List ℕ → Option (((FileKind × List ℕ) × Parts) × List ℕ)

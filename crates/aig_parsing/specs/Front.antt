@@ -6,6 +6,7 @@ use Rattle.aig_format.specs.declared.FileKind.TheVariants.{Text, Binary}
 use Rattle.aig_format.specs.File.{LatchLine, GateLine, NameLine, File}
 use Rattle.aig_format.specs.Letters.{letter_of_comment}
 use Rattle.aig_format.specs.Spells.{magic, is_letter, places}
+use Rattle.aig_format.specs.Fits.{count_defined}
 
 -- what follows a value, if there is one
 infixl 10 ◌>>=◌
@@ -243,10 +244,15 @@ file_at bytes = do
   names ← tail_at (suc (length b.1)) b.1
   Some (file_from b.0 names)
 
+-- M >= I + L + A in a text file, M = I + L + A in a binary one
+abbrev pub is_good : FileKind → List ℕ → Bool
+is_good Text ns = nat_le (count_defined ns) (slice_index ns 0)
+is_good Binary ns = slice_index ns 0 == count_defined ns
+
 -- whether the header line is good, and M + 1 passes the limit
 abbrev pub too_many_of : ℕ → Option ((FileKind × List ℕ) × List ℕ) → Bool
 too_many_of limit None = false
-too_many_of limit (Some h) = let ns = h.0.1 in slice_index ns 0 == slice_index ns 1 + slice_index ns 2 + slice_index ns 4 && nat_lt limit (slice_index ns 0 + 1)
+too_many_of limit (Some h) = is_good h.0.0 h.0.1 && nat_lt limit (slice_index h.0.1 0 + 1)
 
 -- whether bytes begin with such a header line
 abbrev pub too_many_at : ℕ → List ℕ → Bool

@@ -6,7 +6,7 @@ ghost use Rattle.aig_format.specs.File.{File};
 ghost use Rattle.aig_format.specs.Spells.{Spells};
 ghost use Rattle.aig_format.specs.Written.{spelling_of};
 ghost use Rattle.aig_format.specs.Fits.{TooMany, Accepts};
-ghost use Rattle.aig_parsing.specs.Front.{file_at, header_at, too_many_at};
+ghost use Rattle.aig_parsing.specs.Front.{file_at, too_many_at};
 ghost use Rattle.aig_parsing.specs.Fitting.{fitting_at};
 ghost use Rattle.aig_parsing.specs.Writable.{CanWrite};
 

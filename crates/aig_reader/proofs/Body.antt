@@ -1,19 +1,18 @@
 -- The sections behind the header line.
-use Rattle.std.proofs.Common.{◌≡◌, ◌+◌, ℕ, zero, suc, ◌++◌, List, map, length, slice_index, Option, Some, None, Result, Ok, Err, refl, sym, ap, subst, ◌∙◌, append_assoc}
+use Rattle.std.proofs.Common.{◌≡◌, ℕ, ◌++◌, List, map, slice_index, Option, Some, None, Result, Ok, Err, refl, sym, ap, subst, ◌∙◌, append_assoc}
 use Rattle.std.proofs.KnownBytes.{Consumes-trans}
 use Rattle.std.proofs.lemmas.Option.{same_Some}
 use Rattle.aig_format.specs.declared.FileKind.{FileKind}
 use Rattle.aig_format.specs.declared.FileKind.TheVariants.{Text, Binary}
 use Rattle.aig_format.specs.File.{LatchLine, GateLine}
 use Rattle.aig_parsing.specs.Front.{◌>>=◌, both_at, numbers_at}
-use Rattle.aig_parsing.specs.Fitting.{fitting_gates_at, fitting_inputs_at, fitting_latches_at, fitting_sections_at, literal_sets_at, literals_at}
+use Rattle.aig_parsing.specs.Fitting.{fitting_gates_at, fitting_inputs_at, fitting_latches_at, section_lines_at, literal_sets_at, literals_at}
 use Rattle.aig_parsing.proofs.Numbers.{bind_some}
 use Rattle.aig_reader.specs.declared.error.Section.{Section}
 use Rattle.aig_reader.specs.declared.error.LineError.{LineError}
 use Rattle.aig_reader.specs.declared.error.LineError.TheVariants.{Memory, Stream, Syntax, Literal}
 use Rattle.aig_reader.specs.declared.error.ReadError.{ReadError}
 use Rattle.aig_reader.specs.declared.error.ReadError.TheVariants as errors
-use Rattle.aig_reader.specs.Lists.{nodes_in_row}
 use Rattle.aig_reader.specs.Faults.{OnLine, OnRefusal, error_in, gate_error_in, result_by}
 use Rattle.aig_reader.specs.Properties.{PropertyParts, properties_at}
 use Rattle.aig_lexer.specs.Takes.{Takes, Misses, Made, Makes}
@@ -237,33 +236,33 @@ module _ (kind : FileKind) (ns : List ℕ) where
       (λ _. both_at (literals ns 5) (λ _. both_at (literals ns 6) (λ _. both_at (numbers_at (slice_index ns 7)) (λ sizes. both_at (literal_sets_at (slice_index ns 0) sizes) (λ _. both_at (literals ns 8) (λ _. r)))))) r
       (joins (joins (joins (joins pairs)))) (λ _. bads)
 
-  pub misses_inputs : (b : Option (List ℕ)) → Misses (fitting_inputs_at kind ns) b → Misses (fitting_sections_at kind ns) b
+  pub misses_inputs : (b : Option (List ℕ)) → Misses (fitting_inputs_at kind ns) b → Misses (section_lines_at kind ns) b
   misses_inputs b h = misses_either (fitting_inputs_at kind ns) behind_inputs b h
 
   module _ (b i : Option (List ℕ)) (inputs : List ℕ) (hi : Takes (fitting_inputs_at kind ns) b i inputs) where
-    after_inputs : Misses (behind_inputs inputs) i → Misses (fitting_sections_at kind ns) b
+    after_inputs : Misses (behind_inputs inputs) i → Misses (section_lines_at kind ns) b
     after_inputs h = misses_both (fitting_inputs_at kind ns) behind_inputs b i inputs hi h
 
-    pub misses_latches : Misses (fitting_latches_at kind ns inputs) i → Misses (fitting_sections_at kind ns) b
+    pub misses_latches : Misses (fitting_latches_at kind ns inputs) i → Misses (section_lines_at kind ns) b
     misses_latches h = after_inputs (misses_either (fitting_latches_at kind ns inputs) (behind_latches inputs) i h)
 
     module _ (l : Option (List ℕ)) (latches : List LatchLine) (hl : Takes (fitting_latches_at kind ns inputs) i l latches) where
-      after_latches : Misses (behind_latches inputs latches) l → Misses (fitting_sections_at kind ns) b
+      after_latches : Misses (behind_latches inputs latches) l → Misses (section_lines_at kind ns) b
       after_latches h = after_inputs (misses_both (fitting_latches_at kind ns inputs) (behind_latches inputs) i l latches hl h)
 
-      pub misses_properties : Misses (properties_at ns) l → Misses (fitting_sections_at kind ns) b
+      pub misses_properties : Misses (properties_at ns) l → Misses (section_lines_at kind ns) b
       misses_properties h = after_latches (misses_where (properties_at ns) (behind_latches inputs latches) l h (continues_gates inputs latches).stops)
 
       module _ (p : Option (List ℕ)) (x : PropertyParts) (hp : Takes (properties_at ns) l p x) where
         on_gates : (rest : List ℕ) → behind_latches inputs latches (hp.taken ++ rest) ≡ (gates inputs latches rest >>= λ g. Some (with_gates x g.0, g.1))
         on_gates rest = (continues_gates inputs latches).goes (hp.taken ++ rest) rest x (hp.reads rest)
 
-        pub misses_gates : Misses (gates inputs latches) p → Misses (fitting_sections_at kind ns) b
+        pub misses_gates : Misses (gates inputs latches) p → Misses (section_lines_at kind ns) b
         misses_gates h =
             after_latches (known_rest l p hp.taken (λ bs. behind_latches inputs latches bs ≡ None) (λ bs. gates inputs latches bs ≡ None) hp.consumed h
             (λ rest none. on_gates rest ∙ ap (λ (o : Option (List GateLine × List ℕ)). o >>= λ g. Some (with_gates x g.0, g.1)) none))
 
-        pub takes_sections : (a : Option (List ℕ)) (gs : List GateLine) → Takes (gates inputs latches) p a gs → Takes (fitting_sections_at kind ns) b a (inputs, (latches, with_gates x gs))
+        pub takes_sections : (a : Option (List ℕ)) (gs : List GateLine) → Takes (gates inputs latches) p a gs → Takes (section_lines_at kind ns) b a (inputs, (latches, with_gates x gs))
         takes_sections a gs h =
             takes_both (fitting_inputs_at kind ns) behind_inputs b i a inputs (latches, with_gates x gs) hi
             (takes_both (fitting_latches_at kind ns inputs) (behind_latches inputs) i l a latches (with_gates x gs) hl
@@ -272,7 +271,3 @@ module _ (kind : FileKind) (ns : List ℕ) where
               reads = λ rest. ap (λ (bs : List ℕ). behind_latches inputs latches bs) (append_assoc hp.taken h.taken rest) ∙ on_gates (h.taken ++ rest) ∙ ap (λ (o : Option (List GateLine × List ℕ)). o >>= λ g. Some (with_gates x g.0, g.1)) (h.reads rest);
               consumed = Consumes-trans l p a hp.taken h.taken hp.consumed h.consumed;
             }))
-
-pub nodes_length : (gates : List GateLine) (n v : ℕ) → length (nodes_in_row gates n v) ≡ n
-nodes_length gates zero v = refl
-nodes_length gates (suc n) v = ap suc (nodes_length gates n (v + 1))

@@ -1,9 +1,6 @@
 -- The entries of both kinds of file, as the sections that they make.
-use Rattle.std.proofs.Common.{◌≡◌, ℕ, zero, suc, ◌+◌, ◌-◌, ◌*◌, ◌/◌, Bool, true, false, ◌&&◌, cond, ltb, List, [], ◌∷◌, ◌++◌, Option, Some, None, refl, sym, ap, ◌∙◌, length, length-append, map, slice_index, arith}
-use Rattle.std.specs.List.{list_all}
-use Rattle.std.proofs.lemmas.Bool.Decides.{nat_tests}
-use Rattle.std.proofs.lemmas.Option.{same_Some}
-use Rattle.std.proofs.lemmas.List.{length-map, map_push}
+use Rattle.std.proofs.Common.{◌≡◌, ℕ, zero, suc, ◌+◌, ◌-◌, ◌*◌, Bool, true, ◌&&◌, cond, ltb, List, [], ◌∷◌, ◌++◌, Option, Some, None, refl, ap, ◌∙◌, length, length-append, map, slice_index, arith}
+use Rattle.std.proofs.lemmas.List.{length-map}
 use Rattle.aig_format.specs.declared.FileKind.{FileKind}
 use Rattle.aig_format.specs.declared.FileKind.TheVariants.{Text, Binary}
 use Rattle.aig_format.specs.File.{LatchLine, GateLine}
@@ -71,57 +68,26 @@ latches_is Binary ns inputs bs h =
 
 -- ---- gates
 
--- operands by differences are below the gate exactly where the first is
-below_tests : (v d e : ℕ) → ltb ((2 * v - d) / 2) (2 * v / 2) && ltb ((2 * v - d - e) / 2) (2 * v / 2) ≡ ltb (2 * v - d) (2 * v)
-below_tests v d e = grind (arith, nat_tests)
-
-all_push : (v e : ℕ) (xs : List ℕ) → list_all (λ d. ltb d (2 * v)) xs ≡ true → e ≡ 2 * v → list_all (λ d. ltb d (2 * (v + 1))) (xs ++ e ∷ []) ≡ true
-all_push v e [] h is = grind (arith, nat_tests)
-all_push v e (x ∷ xs) h is = go (ltb x (2 * v)) refl h (all_push v e xs)
-  where
-    go : (t : Bool) → ltb x (2 * v) ≡ t → t && list_all (λ d. ltb d (2 * v)) xs ≡ true → (list_all (λ d. ltb d (2 * v)) xs ≡ true → e ≡ 2 * v → list_all (λ d. ltb d (2 * (v + 1))) (xs ++ e ∷ []) ≡ true)
-        → ltb x (2 * (v + 1)) && list_all (λ d. ltb d (2 * (v + 1))) (xs ++ e ∷ []) ≡ true
-    go true k all rest = rw (rest all is) (grind (arith, nat_tests))
-    go false k all rest = absurd cc
-
--- what was mapped and tested was read
-mapped_tested : {A B : Type 0} (f : A → B) (test : B → Bool) (o : Option (A × List ℕ)) (x : B) (rest : List ℕ) → ((o >>= seen f) >>= passing test) ≡ Some (x, rest) → (d : A) × (f d ≡ x)
-mapped_tested f test None x rest h = absurd cc
-mapped_tested {A} {B} f test (Some y) x rest h = go (test (f y.0)) h
-  where
-    go : (t : Bool) → cond {A = Option (B × List ℕ)} t (Some (f y.0, y.1)) None ≡ Some (x, rest) → (d : A) × (f d ≡ x)
-    go true k = (y.0, ap (λ (z : B × List ℕ). z.0) (same_Some _ _ k))
-    go false k = absurd cc
-
 module _ (greatest : ℕ) (leaves : List ℕ) where
   abbrev defined : List GateLine → List ℕ
   defined front = leaves ++ literals_of front
 
-  -- all gates before are below the gate of variable v
-  abbrev AreBelow : ℕ → List GateLine → Type 0
-  AreBelow v front = list_all (λ d. ltb d (2 * v)) (literals_of front) ≡ true
-
-  -- a gate of variable v
-  abbrev gate_by : ℕ → List GateLine → List ℕ → Option (GateLine × List ℕ)
-  gate_by v front =
-      tested_at (mapped_at gate_of (both_at (λ bytes. Some (2 * v, bytes)) (operands_at Binary)))
-      (λ g. true && list_all (λ e. ltb e g.lhs) (literals_of front) && ltb (g.rhs0 / 2) (g.lhs / 2) && ltb (g.rhs1 / 2) (g.lhs / 2))
-
   abbrev first_below : GateLine → Bool
   first_below g = ltb g.rhs0 g.lhs
 
-  abbrev all_below : List GateLine → GateLine → Bool
-  all_below front g = true && list_all (λ e. ltb e g.lhs) (literals_of front) && ltb (g.rhs0 / 2) (g.lhs / 2) && ltb (g.rhs1 / 2) (g.lhs / 2)
+  -- a gate of variable v
+  abbrev gate_by : ℕ → List ℕ → Option (GateLine × List ℕ)
+  gate_by v = tested_at (mapped_at gate_of (both_at (λ bytes. Some (2 * v, bytes)) (operands_at Binary))) first_below
 
   abbrev operands_of : ℕ → ℕ × ℕ → ℕ × ℕ
   operands_of lhs d = (lhs - d.0, lhs - d.0 - d.1)
 
-  gate_here : (v : ℕ) (front : List GateLine) (bs : List ℕ) → AreBelow v front → gate_by v front bs ≡ tested_at (placed_gate_at v) first_below bs
-  gate_here v front bs all = go (tested_at (both_at delta_at (λ _. delta_at)) (fits_gate v) bs)
+  gate_here : (v : ℕ) (bs : List ℕ) → gate_by v bs ≡ tested_at (placed_gate_at v) first_below bs
+  gate_here v bs = go (tested_at (both_at delta_at (λ _. delta_at)) (fits_gate v) bs)
     where
-      go : (o : Option ((ℕ × ℕ) × List ℕ)) → ((((o >>= seen (operands_of (2 * v))) >>= beside (2 * v)) >>= seen gate_of) >>= passing (all_below front)) ≡ ((o >>= seen (placed_gate v)) >>= passing first_below)
+      go : (o : Option ((ℕ × ℕ) × List ℕ)) → ((((o >>= seen (operands_of (2 * v))) >>= beside (2 * v)) >>= seen gate_of) >>= passing first_below) ≡ ((o >>= seen (placed_gate v)) >>= passing first_below)
       go None = refl
-      go (Some d) = ap (λ (t : Bool). cond t (Some (placed_gate v d.0, d.1)) None) (rw all (below_tests v d.0.0 d.0.1))
+      go (Some d) = refl
 
   gate_place : (base : ℕ) → length leaves + 1 ≡ base → (front : List GateLine) → length (defined front) + 1 ≡ base + length front
   gate_place base h front =
@@ -129,18 +95,8 @@ module _ (greatest : ℕ) (leaves : List ℕ) where
       let mapped = length-map front (λ (g : GateLine). g.lhs) in
       omega (arith, both, mapped, h)
 
-  gate_agrees : (base : ℕ) → length leaves + 1 ≡ base → (front : List GateLine) → AreBelow (base + length front) front → (bs : List ℕ) → gate_at Binary greatest leaves front bs ≡ tested_at (placed_gate_at (base + length front)) first_below bs
-  gate_agrees base h front all bs = ap (λ (v : ℕ). gate_by v front bs) (gate_place base h front) ∙ gate_here (base + length front) front bs all
-
-  gate_lasts : (base : ℕ) (front : List GateLine) → AreBelow (base + length front) front → (bs rest : List ℕ) (x : GateLine) → tested_at (placed_gate_at (base + length front)) first_below bs ≡ Some (x, rest) → AreBelow (base + length (front ++ x ∷ [])) (front ++ x ∷ [])
-  gate_lasts base front all bs rest x is =
-      let v = base + length front in
-      let d = mapped_tested (placed_gate v) first_below (tested_at (both_at delta_at (λ _. delta_at)) (fits_gate v) bs) x rest is in
-      let lhs : x.lhs ≡ 2 * v = sym (ap (λ (g : GateLine). g.lhs) d.1) in
-      let l = length_push front x in
-      let place : v + 1 ≡ base + length (front ++ x ∷ []) = omega (arith, l) in
-      let pushed : literals_of (front ++ x ∷ []) ≡ literals_of front ++ x.lhs ∷ [] = map_push (λ (g : GateLine). g.lhs) front x in
-      rw (pushed, ← place) (all_push v x.lhs (literals_of front) all lhs)
+  gate_agrees : (base : ℕ) → length leaves + 1 ≡ base → (front : List GateLine) (bs : List ℕ) → gate_at Binary greatest leaves front bs ≡ tested_at (placed_gate_at (base + length front)) first_below bs
+  gate_agrees base h front bs = ap (λ (v : ℕ). gate_by v bs) (gate_place base h front) ∙ gate_here (base + length front) bs
 
 pub gates_is : (kind : FileKind) (ns leaves bs : List ℕ) → length leaves ≡ slice_index ns 1 + slice_index ns 2 → entries_at (gate_at kind (slice_index ns 0) leaves) [] (slice_index ns 4) bs ≡ fitting_gates_at kind ns leaves bs
 gates_is Text ns leaves bs h = checked_is_entries gate_line_at (tests_gate (slice_index ns 0) leaves) [] (slice_index ns 4) bs
@@ -150,5 +106,5 @@ gates_is Binary ns leaves bs h =
     let base = 1 + slice_index ns 1 + slice_index ns 2 in
     let start : length leaves + 1 ≡ base = omega (arith, h) in
     let here : base + 0 ≡ base = omega arith in
-    placed_is_entries (gate_at Binary greatest leaves) line base (λ front. AreBelow greatest leaves (base + length front) front) (gate_agrees greatest leaves base start) (gate_lasts greatest leaves base) (slice_index ns 4) [] bs refl
+    placed_is_entries (gate_at Binary greatest leaves) line base (λ _. Unit {0}) (λ front i. gate_agrees greatest leaves base start front) (λ front i bs rest x is. tt) (slice_index ns 4) [] bs tt
     ∙ ap (λ (v : ℕ). placed_at line (slice_index ns 4) v bs) here

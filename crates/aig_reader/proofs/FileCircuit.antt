@@ -1,13 +1,10 @@
 -- The circuit of the file that was read.
-use Rattle.std.proofs.Common.{◌≡◌, ◌≢◌, ℕ, zero, suc, ◌+◌, ◌*◌, ◌/◌, ◌%◌, ◌≤◌, false, cond, eqb, List, [], ◌∷◌, ◌++◌, map, slice_index, Option, Some, None, refl, sym, ap, ◌∙◌, arith}
-use Rattle.std.specs.Prelude.{filter_map, AllPairs, nat_eq, ◌==◌}
+use Rattle.std.proofs.Common.{◌≡◌, ◌≢◌, ℕ, zero, suc, ◌+◌, ◌*◌, ◌/◌, ◌%◌, ◌≤◌, true, cond, List, [], ◌∷◌, ◌++◌, map, slice_index, Option, Some, None, refl, sym, ap, ◌∙◌, arith}
+use Rattle.std.specs.Prelude.{filter_map, AllPairs, ◌==◌}
 use Rattle.std.specs.Ordering.{nat_cmp}
-use Rattle.std.specs.FinMap.{FinMap}
-use Rattle.std.specs.List.{AllByRecursion, IsDistinct, flat_map}
-use Rattle.std.proofs.lemmas.Bool.Decides.{Decides-eqb, nat_tests}
-use Rattle.std.proofs.lemmas.List.{map-append}
-use Rattle.std.proofs.lemmas.Map.Made.{AllPairs-from_IsDistinct}
-use Rattle.aig_circuit.specs.Circuit.{latch_leaves}
+use Rattle.std.specs.FinMap.{FinMap, from_entries}
+use Rattle.std.specs.List.{AllByRecursion, flat_map}
+use Rattle.aig_circuit.specs.Circuit.{Circuit, latch_leaves}
 use Rattle.aig_circuit.specs.declared.node.AigNodeType.{AigNodeType}
 use Rattle.aig_circuit.specs.declared.node.AigNodeType.TheVariants.{False}
 use Rattle.aig_circuit.specs.declared.edge.AigEdge.{AigEdge}
@@ -21,46 +18,38 @@ use Rattle.aig_format.specs.Circuit.{circuit_of, edge_of, initial_of, kind_of, l
 use Rattle.aig_format.specs.declared.FileKind.{FileKind}
 use Rattle.aig_format.specs.File.{LatchLine, GateLine, NameLine, File, defined, used}
 use Rattle.aig_format.specs.Fits.{Fits, IsDefinable}
-use Rattle.aig_format.specs.Numbering.{number_of, numbers_from}
+use Rattle.aig_format.specs.Numbering.{is_older, number_of, numbers_from, variables_in_order}
 use Rattle.aig_format.specs.Variables.{gate_of_variable}
-use Rattle.aig_format.proofs.Circuits.{UsedHave, used_by_section}
-use Rattle.aig_format.proofs.Entries.{rec_both, rec_parts, rec_unmap, rec_weaker}
-use Rattle.aig_format.proofs.Numbers.{known_within, number_of-exact, operands_known, order-is}
-use Rattle.aig_reader.specs.Lists.{edge_from, kind_by, kind_from, latch_from, nodes_in_row, nodes_of, variable_of}
+use Rattle.aig_format.proofs.Circuits.{UsedHave, distinct_pairs, leaves_distinct, leaves_of_latches, numbers, used_by_section}
+use Rattle.aig_format.proofs.Entries.{rec_both, rec_flat_map, rec_parts, rec_unmap, rec_weaker}
+use Rattle.aig_format.proofs.Numbers.{number_of-older, number_of-zero, order-older}
+use Rattle.aig_format.proofs.Older.{older-told}
+use Rattle.aig_format.proofs.Searches.{find_some}
+use Rattle.aig_ordering.specs.Lists.{edge_from, kind_by, kind_from, latch_from, nodes_in_row, nodes_of, variable_of}
 use Rattle.aig_reader.specs.Names.{kept_name, kept_names}
-use Rattle.aig_reader.specs.declared.reader.Sections.{Sections}
-use Rattle.aig_reader.specs.Sections.{AreSectionsOf, circuit_with}
-
--- the node at a place
-input_is : (literals : List ℕ) (n : ℕ) → slice_index (map variable_of literals) n ≡ slice_index literals n / 2
-input_is [] n = refl
-input_is (e ∷ literals) zero = refl
-input_is (e ∷ literals) (suc n) = input_is literals n
-
-leaf_is : (lines : List LatchLine) (n : ℕ) → slice_index (latch_leaves (map latch_from lines)) n ≡ slice_index (map (λ l. l.literal) lines) n / 2
-leaf_is [] n = refl
-leaf_is (l ∷ lines) zero = refl
-leaf_is (l ∷ lines) (suc n) = leaf_is lines n
+use Rattle.aig_reader.specs.declared.sections.Sections.{Sections}
+use Rattle.aig_reader.specs.Numbered.{IsCircuitOf}
+use Rattle.aig_reader.specs.Sections.{AreSectionsOf, HasGoodLines, circuit_with}
 
 same_kept : (h k : NameLine → Option (ℕ × List ℕ)) → ((n : NameLine) → h n ≡ k n) → (names : List NameLine) → filter_map h names ≡ filter_map k names
 same_kept h k same [] = refl
 same_kept h k same (n ∷ names) = rw (same n, same_kept h k same names) refl
 
--- ---- in a file without gaps each variable is its own number
+-- ---- by the older rules each variable is its own number
 
-module _ (f : File) (limit : ℕ) (fits : Fits f limit) where
+module _ (f : File) (good : HasGoodLines f) (older : is_older f ≡ true) where
   -- the literal's variable is no greater than the greatest
   abbrev IsWithin : ℕ → Type 0
   IsWithin e = e / 2 ≤ f.greatest
 
   used_within : AllByRecursion IsWithin (used f)
-  used_within = rec_weaker (λ e. e ≤ 2 * f.greatest + 1) IsWithin (λ e h. omega arith) (used f) fits.in_range
+  used_within = rec_weaker (λ e. e ≤ 2 * f.greatest + 1) IsWithin (λ e h. omega arith) (used f) good.in_range
 
   sections_within : UsedHave IsWithin f
   sections_within = used_by_section IsWithin f used_within
 
   defined_within : AllByRecursion IsWithin (defined f)
-  defined_within = rec_weaker (IsDefinable f.greatest) IsWithin (λ e d. let h = d.2 in omega arith) (defined f) fits.definable
+  defined_within = rec_weaker (IsDefinable f.greatest) IsWithin (λ e d. let h = d.2 in omega arith) (defined f) good.definable
 
   leaves_within : AllByRecursion IsWithin f.inputs × AllByRecursion IsWithin (map (λ (l : LatchLine). l.literal) f.latches)
   leaves_within =
@@ -68,7 +57,7 @@ module _ (f : File) (limit : ℕ) (fits : Fits f limit) where
       rec_parts IsWithin f.inputs literals (rec_parts IsWithin (f.inputs ++ literals) (map (λ (g : GateLine). g.lhs) f.gates) defined_within).0
 
   number_is : (e : ℕ) → IsWithin e → variable_of e ≡ number_of f (e / 2)
-  number_is e h = sym (number_of-exact f fits.exact (e / 2) h)
+  number_is e h = sym (number_of-older f older (e / 2) h)
 
   edge_is : (e : ℕ) → IsWithin e → edge_from e ≡ edge_of f e
   edge_is e h = ap (λ n. edge_to n (e % 2 == 1)) (number_is e h)
@@ -103,7 +92,9 @@ module _ (f : File) (limit : ℕ) (fits : Fits f limit) where
   -- the gate of a variable has operands within the file
   operands_within : (v : ℕ) (g : GateLine) → gate_of_variable f v ≡ Some g → IsWithin g.rhs0 × IsWithin g.rhs1
   operands_within v g found =
-      let known = operands_known f limit fits v g found in (known_within f limit fits (g.rhs0 / 2) known.0, known_within f limit fits (g.rhs1 / 2) known.1)
+      let operands = (rec_flat_map IsWithin (λ (g : GateLine). g.rhs0 ∷ g.rhs1 ∷ []) f.gates).0 (rec_parts IsWithin _ (flat_map (λ (g : GateLine). g.rhs0 ∷ g.rhs1 ∷ []) f.gates) used_within).1 in
+      let both = (find_some (λ (g : GateLine). AllByRecursion IsWithin (g.rhs0 ∷ g.rhs1 ∷ [])) (λ (g : GateLine). g.lhs / 2 == v) f.gates g operands found).1 in
+      (both.0, both.1.0)
 
   kind_is : (v : ℕ) → kind_from f.gates v ≡ kind_of f v
   kind_is v = ap (λ (k : AigNodeType). cond (v == 0) False k) (by_gate (gate_of_variable f v) refl)
@@ -122,94 +113,52 @@ module _ (f : File) (limit : ℕ) (fits : Fits f limit) where
   nodes_same : nodes_of f.greatest f.gates ≡ (circuit_of f).nodes
   nodes_same =
       let n : f.greatest + 1 ≡ suc f.greatest = omega arith in
-      ap (λ k. nodes_in_row f.gates k 0) n ∙ nodes_are (suc f.greatest) 0 ∙ ap (λ vs. nodes_from f 0 (0 ∷ vs)) (sym (order-is f fits.exact))
+      let exact = (older-told f older).exact in
+      ap (λ k. nodes_in_row f.gates k 0) n ∙ nodes_are (suc f.greatest) 0 ∙ ap (λ vs. nodes_from f 0 (0 ∷ vs)) (ap (λ n. numbers_from n 1) exact ∙ sym (order-older f older))
 
-  -- ---- names
+  -- the sections by variable are the file's circuit
+  pub older_circuit : (sections : Sections) → AreSectionsOf sections f → sections.nodes.items ≡ nodes_of f.greatest f.gates → IsCircuitOf f sections
+  older_circuit sections h nodes = λ names.
+      let p = h.properties in
+      let used = sections_within in
+      rw (nodes, h.inputs, h.latchs, p.outputs, p.bads, p.constraints, p.justice, p.fairness, nodes_same, numbers_are f.inputs leaves_within.0, latches_are f.latches latches_within, edges_are f.outputs used.outputs, edges_are f.bads used.bads, edges_are f.constraints used.constraints, sets_are f.justice used.justice, edges_are f.fairness used.fairness) refl
 
-  at_place : (es : List ℕ) (n : ℕ) → AllByRecursion IsWithin es → slice_index es n / 2 ≤ f.greatest
-  at_place [] n all = omega arith
-  at_place (e ∷ es) zero all = all.0
-  at_place (e ∷ es) (suc n) all = at_place es n all.1
+-- ---- the circuit with names
 
-  name_is : (n : NameLine) → kept_name (map variable_of f.inputs) (latch_leaves (map latch_from f.latches)) n ≡ named_node f n
-  name_is n =
-      let literals = map (λ (l : LatchLine). l.literal) f.latches in
-      let input : slice_index (map variable_of f.inputs) n.position ≡ number_of f (slice_index f.inputs n.position / 2) =
-      input_is f.inputs n.position ∙ number_is (slice_index f.inputs n.position) (at_place f.inputs n.position leaves_within.0) in
-      let leaf : slice_index (latch_leaves (map latch_from f.latches)) n.position ≡ number_of f (slice_index literals n.position / 2) =
-      leaf_is f.latches n.position ∙ number_is (slice_index literals n.position) (at_place literals n.position leaves_within.1) in
-      rw (input, leaf) refl
+module _ (f : File) where
+  input_is : (es : List ℕ) (n : ℕ) → slice_index (numbers f es) n ≡ number_of f (slice_index es n / 2)
+  input_is [] n = sym (number_of-zero f)
+  input_is (e ∷ es) zero = refl
+  input_is (e ∷ es) (suc n) = input_is es n
 
-  names_kept : (names : List NameLine) → filter_map (kept_name (map variable_of f.inputs) (latch_leaves (map latch_from f.latches))) names ≡ filter_map (named_node f) names
-  names_kept = same_kept (kept_name (map variable_of f.inputs) (latch_leaves (map latch_from f.latches))) (named_node f) name_is
+  name_is : (n : NameLine) → kept_name (numbers f f.inputs) (numbers f (map (λ (l : LatchLine). l.literal) f.latches)) n ≡ named_node f n
+  name_is n = rw (input_is f.inputs n.position, input_is (map (λ (l : LatchLine). l.literal) f.latches) n.position) refl
+
+  module _ (sections : Sections) (is : IsCircuitOf f sections) where
+    pub inputs_is : sections.inputs.items ≡ numbers f f.inputs
+    inputs_is = ap (λ (c : Circuit). c.inputs) (is (circuit_of f).names)
+
+    pub latchs_is : sections.latchs.items ≡ map (latch_of f) f.latches
+    latchs_is = ap (λ (c : Circuit). c.latchs) (is (circuit_of f).names)
+
+    leaves_is : latch_leaves sections.latchs.items ≡ numbers f (map (λ (l : LatchLine). l.literal) f.latches)
+    leaves_is = ap latch_leaves latchs_is ∙ leaves_of_latches f f.latches
+
+    names_is : (lines : List NameLine) → kept_names sections.inputs.items (latch_leaves sections.latchs.items) lines ≡ from_entries (filter_map (named_node f) lines)
+    names_is lines = rw (inputs_is, leaves_is) (ap (λ (es : List (ℕ × List ℕ)). from_entries es) (same_kept (kept_name (numbers f f.inputs) (numbers f (map (λ (l : LatchLine). l.literal) f.latches))) (named_node f) name_is lines))
+
+    -- the nodes of inputs and latches are distinct
+    pub nodes_distinct : (limit : ℕ) → Fits f limit → AllPairs (λ m n. m ≢ n) (sections.inputs.items ++ latch_leaves sections.latchs.items)
+    nodes_distinct limit fits = rw (inputs_is, leaves_is) (distinct_pairs _ (leaves_distinct f limit fits))
+
+-- a file's circuit has its names alone from the names
+circuit_named : (b : (FileKind × List ℕ) × Parts) (lines : List NameLine) → circuit_of (file_from b lines) ≡ record (circuit_of (file_from b [])) { names = from_entries (filter_map (named_node (file_from b [])) lines) }
+unfolding number_of variables_in_order
+circuit_named b lines = refl
 
 -- the sections with the names that are kept are the file's circuit
-pub circuit_is : (kind : FileKind) (ns : List ℕ) (x : Parts) (lines : List NameLine) (sections : Sections) (names : FinMap nat_cmp (List ℕ)) (limit : ℕ) → AreSectionsOf (slice_index ns 0) sections x
-    → names ≡ kept_names sections.inputs.items (latch_leaves sections.latchs.items) lines → Fits (file_from ((kind, ns), x) lines) limit
-    → circuit_with sections names ≡ circuit_of (file_from ((kind, ns), x) lines)
-circuit_is kind ns x lines sections names limit h kept fits =
-    let f = file_from ((kind, ns), x) lines in
-    let p = h.properties in
-    let used = sections_within f limit fits in
-    rw (
-      kept,
-      h.nodes,
-      h.inputs,
-      h.latchs,
-      p.outputs,
-      p.bads,
-      p.constraints,
-      p.justice,
-      p.fairness,
-      names_kept f limit fits lines,
-      nodes_same f limit fits,
-      numbers_are f limit fits f.inputs (leaves_within f limit fits).0,
-      latches_are f limit fits f.latches (latches_within f limit fits),
-      edges_are f limit fits f.outputs used.outputs,
-      edges_are f limit fits f.bads used.bads,
-      edges_are f limit fits f.constraints used.constraints,
-      sets_are f limit fits f.justice used.justice,
-      edges_are f limit fits f.fairness used.fairness,
-    ) refl
-
--- ---- the nodes of inputs and latches are distinct
-
-front_all : {A : Type 0} (P : A → Type 0) (xs ys : List A) → AllByRecursion P (xs ++ ys) → AllByRecursion P xs
-front_all P [] ys h = tt
-front_all P (x ∷ xs) ys h = (h.0, front_all P xs ys h.1)
-
-front_distinct : (xs ys : List ℕ) → IsDistinct nat_eq (xs ++ ys) → IsDistinct nat_eq xs
-unfolding IsDistinct
-front_distinct [] ys h = tt
-front_distinct (x ∷ xs) ys h = (front_all (λ y. nat_eq x y ≡ false) xs ys h.0, front_distinct xs ys h.1)
-
-abbrev IsEven : ℕ → Type 0
-IsEven e = e % 2 ≡ 0
-
-half_apart : (x y : ℕ) → IsEven x → IsEven y → eqb x y ≡ false → eqb (x / 2) (y / 2) ≡ false
-half_apart x y hx hy ne = grind (arith, nat_tests)
-
-halves_apart : (x : ℕ) (xs : List ℕ) → IsEven x → AllByRecursion IsEven xs → AllByRecursion (λ y. nat_eq x y ≡ false) xs → AllByRecursion (λ y. nat_eq (x / 2) y ≡ false) (map variable_of xs)
-halves_apart x [] even all h = tt
-halves_apart x (y ∷ xs) even all h = (half_apart x y even all.0 h.0, halves_apart x xs even all.1 h.1)
-
-halves_distinct : (xs : List ℕ) → AllByRecursion IsEven xs → IsDistinct nat_eq xs → IsDistinct nat_eq (map variable_of xs)
-unfolding IsDistinct
-halves_distinct [] all h = tt
-halves_distinct (x ∷ xs) all h = (halves_apart x xs all.0 all.1 h.0, halves_distinct xs all.1 h.1)
-
-all_even : (greatest : ℕ) (xs : List ℕ) → AllByRecursion (IsDefinable greatest) xs → AllByRecursion IsEven xs
-all_even greatest [] h = tt
-all_even greatest (x ∷ xs) h = (h.0.0, all_even greatest xs h.1)
-
-leaves_are : (lines : List LatchLine) → latch_leaves (map latch_from lines) ≡ map variable_of (map (λ l. l.literal) lines)
-leaves_are [] = refl
-leaves_are (l ∷ lines) = ap (λ (ns : List ℕ). l.literal / 2 ∷ ns) (leaves_are lines)
-
-pub nodes_distinct : (f : File) (limit : ℕ) → Fits f limit → AllPairs (λ m n. m ≢ n) (map variable_of f.inputs ++ latch_leaves (map latch_from f.latches))
-nodes_distinct f limit fits =
-    let literals = f.inputs ++ map (λ (l : LatchLine). l.literal) f.latches in
-    let gates = map (λ (g : GateLine). g.lhs) f.gates in
-    let even = all_even f.greatest literals (front_all (IsDefinable f.greatest) literals gates fits.definable) in
-    let distinct = halves_distinct literals even (front_distinct literals gates fits.distinct) in
-    rw (leaves_are f.latches, ← map-append variable_of f.inputs (map (λ (l : LatchLine). l.literal) f.latches)) (AllPairs-from_IsDistinct Decides-eqb (map variable_of literals) distinct)
+pub circuit_is : (b : (FileKind × List ℕ) × Parts) (lines : List NameLine) (sections : Sections) (names : FinMap nat_cmp (List ℕ)) → IsCircuitOf (file_from b []) sections
+    → names ≡ kept_names sections.inputs.items (latch_leaves sections.latchs.items) lines → circuit_with sections names ≡ circuit_of (file_from b lines)
+circuit_is b lines sections names is kept =
+    let f = file_from b [] in
+    is names ∙ ap (λ (ns : FinMap nat_cmp (List ℕ)). let c : Circuit = record (circuit_of f) { names = ns } in c) (kept ∙ names_is f sections is lines) ∙ sym (circuit_named b lines)

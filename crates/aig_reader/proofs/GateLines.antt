@@ -1,57 +1,86 @@
 -- A gate behind others.
-use Rattle.std.proofs.Common.{◌≡◌, ℕ, ◌+◌, ◌*◌, ◌/◌, ◌%◌, ◌<◌, ◌≤◌, Bool, true, false, ◌&&◌, ltb, List, [], ◌∷◌, ◌++◌, set, refl, sym, ap, subst, ◌∙◌, append_assoc, arith}
+use Rattle.std.proofs.Common.{◌≡◌, ◌≢◌, ℕ, ◌+◌, ◌/◌, ◌<◌, ◌≤◌, Bool, true, false, ◌&&◌, ltb, List, [], ◌∷◌, ◌++◌, set, refl, sym, ap, subst, ◌∙◌, append_assoc, arith}
 use Rattle.std.specs.List.{list_all}
-use Rattle.std.proofs.lemmas.Bool.Decides.{nat_tests}
-use Rattle.std.proofs.lemmas.Bool.{lt-ltb, ltb-true}
+use Rattle.std.proofs.lemmas.Bool.{lt-ltb}
 use Rattle.std.proofs.lemmas.List.{map_push}
+use Rattle.std.proofs.lemmas.List.Folds.{list_all-append}
 use Rattle.aig_circuit.specs.declared.node.AigNode.{AigNode}
+use Rattle.aig_format.specs.declared.FileKind.{FileKind}
+use Rattle.aig_format.specs.declared.FileKind.TheVariants.{Text, Binary}
 use Rattle.aig_format.specs.File.{GateLine}
+use Rattle.aig_format.specs.Numbering.{are_in_order, is_ordered, rises}
+use Rattle.aig_format.proofs.Entries.{rec_parts}
+use Rattle.aig_ordering.specs.Lists.{nodes_of}
+use Rattle.aig_parsing.specs.Fitting.{defines, is_literal}
 use Rattle.aig_reader.specs.declared.variables.Variables.{Variables}
-use Rattle.aig_reader.specs.Gates.{AreGates, gate_node_of, greatest_of, literals_of}
-use Rattle.aig_reader.specs.Lists.{nodes_of}
-use Rattle.aig_reader.specs.Variables.{AreDefined, IsOwn}
+use Rattle.aig_reader.specs.declared.gates.GateOrder.{GateOrder}
+use Rattle.aig_reader.specs.Entries.{may_define, may_stand, may_use}
+use Rattle.aig_reader.specs.Gates.{AreGates, IsOrderOf, gate_node_of, last_or, literals_of}
+use Rattle.aig_reader.specs.Variables.{AreDefined, IsNewAmong}
 use Rattle.aig_reader.proofs.PlacedNodes.{places_gate}
 
--- above all of them is above the greatest
-above : (xs : List ℕ) (x : ℕ) → 0 < x → list_all (λ e. ltb e x) xs ≡ ltb (greatest_of xs) x
-above [] x some = sym (lt-ltb 0 x some)
-above (y ∷ xs) x some = let rest = above xs x some in grind (arith, nat_tests, rest)
+-- ---- the order of gates
 
-greatest_push : (xs : List ℕ) (x : ℕ) → greatest_of xs < x → x ≡ greatest_of (xs ++ x ∷ [])
-greatest_push [] x lt = omega arith
-greatest_push (y ∷ xs) x lt = let rest = greatest_push xs x (omega arith) in omega arith
+pub and_assoc : (a b c : Bool) → (a && (b && c)) ≡ (a && b) && c
+and_assoc true b c = refl
+and_assoc false b c = refl
 
--- the test of a gate whose literal may be defined
-pub gate_test : (greatest : ℕ) (before : List GateLine) (g : GateLine) (last : ℕ) (may t : Bool) → last ≡ greatest_of (literals_of before) → may ≡ true → IsOwn (greatest + 1) g.lhs
-    → t ≡ ltb last g.lhs && ltb (g.rhs0 / 2) (g.lhs / 2) && ltb (g.rhs1 / 2) (g.lhs / 2)
-    → may && list_all (λ e. ltb e g.lhs) (literals_of before) && ltb (g.rhs0 / 2) (g.lhs / 2) && ltb (g.rhs1 / 2) (g.lhs / 2) ≡ t
-gate_test greatest before g last may t latest is d next =
-    let two = d.1 in
-    let some : 0 < g.lhs = omega (arith, two) in
-    rw (is, above (literals_of before) g.lhs some, ← latest) (sym next)
+last_push : (n x : ℕ) (xs : List ℕ) → last_or n (xs ++ x ∷ []) ≡ x
+last_push n x [] = refl
+last_push n x (y ∷ ys) = last_push y x ys
 
--- a gate that is next is above the last one
-pub next_above : (last e : ℕ) (b c t : Bool) → t ≡ ltb last e && b && c → t ≡ true → last < e
-next_above last e b c t is h = go (ltb last e) refl (sym is ∙ h)
-  where
-    go : (a : Bool) → ltb last e ≡ a → a && b && c ≡ true → last < e
-    go true k h = ltb-true _ _ k
-    go false k h = absurd cc
+and_true : (a : Bool) → (a && true) ≡ a
+and_true true = refl
+and_true false = refl
 
--- one more gate
-pub more_gates : (greatest : ℕ) (leaves : List ℕ) (before : List GateLine) (variables : Variables) (nodes : List AigNode) (last : ℕ) (g : GateLine) → nodes ≡ nodes_of greatest before
-    → last ≡ greatest_of (literals_of before) → IsOwn (greatest + 1) g.lhs → last < g.lhs → AreDefined greatest variables ((leaves ++ literals_of before) ++ g.lhs ∷ [])
-    → AreGates greatest leaves (before ++ g ∷ []) variables (set nodes (g.lhs / 2) (gate_node_of g)) g.lhs
-more_gates greatest leaves before variables nodes last g placed latest d lt defined =
-    let two = d.1 in
-    let some : 0 < g.lhs = omega (arith, two) in
-    let lower : greatest_of (literals_of before) < g.lhs = omega (arith, latest, lt) in
-    let even : g.lhs % 2 ≡ 0 = d.0 in
-    let below : g.lhs / 2 < greatest + 1 = d.2 in
-    let high : g.lhs ≤ 2 * greatest = omega (arith, even, below) in
+-- numbers rise with one more where it is above the last
+rises_behind : (n x : ℕ) (xs : List ℕ) → rises (n ∷ (xs ++ x ∷ [])) ≡ rises (n ∷ xs) && ltb (last_or n xs) x
+rises_behind n x [] = and_true (ltb n x)
+rises_behind n x (y ∷ ys) = ap (λ (b : Bool). ltb n y && b) (rises_behind y x ys) ∙ and_assoc (ltb n y) (rises (y ∷ ys)) (ltb (last_or y ys) x)
+
+rises_push : (x : ℕ) (xs : List ℕ) → 0 < x → rises (xs ++ x ∷ []) ≡ rises xs && ltb (last_or 0 xs) x
+rises_push x [] some = sym (lt-ltb 0 x some)
+rises_push x (y ∷ ys) some = rises_behind y x ys
+
+four : (a b c d : Bool) → ((a && c) && (b && d)) ≡ (a && b) && (c && d)
+four true b true d = refl
+four true true false d = refl
+four true false false d = refl
+four false b c d = refl
+
+-- gates are in order with one more where it is next
+pub order_push : (gates : List GateLine) (g : GateLine) → 0 < g.lhs → are_in_order (gates ++ g ∷ []) ≡ are_in_order gates && (ltb (last_or 0 (literals_of gates)) g.lhs && is_ordered g)
+order_push gates g some =
+    let lefts = literals_of gates in
+    let all = list_all is_ordered gates in
+    ap (λ (ls : List ℕ). rises ls && list_all is_ordered (gates ++ g ∷ [])) (map_push (λ (h : GateLine). h.lhs) gates g)
+    ∙ ap (λ (b : Bool). b && list_all is_ordered (gates ++ g ∷ [])) (rises_push g.lhs lefts some)
+    ∙ ap (λ (b : Bool). (rises lefts && ltb (last_or 0 lefts) g.lhs) && b) (list_all-append is_ordered gates (g ∷ []) ∙ ap (λ (b : Bool). all && b) (and_true (is_ordered g)))
+    ∙ four (rises lefts) all (ltb (last_or 0 lefts) g.lhs) (is_ordered g)
+
+pub is_order_push : (gates : List GateLine) (order new : GateOrder) (g : GateLine) → IsOrderOf gates order → 2 ≤ g.lhs → new.last ≡ g.lhs → new.kept ≡ order.kept && (ltb order.last g.lhs && is_ordered g) → IsOrderOf (gates ++ g ∷ []) new
+is_order_push gates order new g h some last kept =
+    record {
+      last = last ∙ sym (ap (last_or 0) (map_push (λ (h : GateLine). h.lhs) gates g) ∙ last_push 0 g.lhs (literals_of gates));
+      kept = kept ∙ ap (λ (b : Bool). b && (ltb order.last g.lhs && is_ordered g)) h.kept ∙ ap (λ (n : ℕ). are_in_order gates && (ltb n g.lhs && is_ordered g)) h.last ∙ sym (order_push gates g (omega arith));
+    }
+
+-- ---- tests
+
+-- a gate may stand behind others where it may be defined and its operands may be used
+pub may_stand-both : (kind : FileKind) (greatest : ℕ) (before : List ℕ) (g : GateLine) → may_stand kind greatest before g ≡ may_define kind greatest before g.lhs && may_use kind greatest g
+may_stand-both Text greatest before g = sym (and_assoc (defines greatest before g.lhs) (is_literal greatest g.rhs0) (is_literal greatest g.rhs1))
+may_stand-both Binary greatest before g = refl
+
+-- ---- one more gate
+
+pub more_gates : (greatest : ℕ) (leaves : List ℕ) (before : List GateLine) (variables : Variables) (nodes : List AigNode) (order : GateOrder) (g : GateLine) → nodes ≡ nodes_of greatest before
+    → 2 ≤ g.lhs → g.lhs / 2 < greatest + 1 → IsNewAmong (leaves ++ literals_of before) g.lhs → AreDefined greatest variables ((leaves ++ literals_of before) ++ g.lhs ∷ []) → IsOrderOf (before ++ g ∷ []) order
+    → AreGates greatest leaves (before ++ g ∷ []) variables (set nodes (g.lhs / 2) (gate_node_of g)) order
+more_gates greatest leaves before variables nodes order g placed some high new defined in_order =
     let push : literals_of (before ++ g ∷ []) ≡ literals_of before ++ g.lhs ∷ [] = map_push (λ (h : GateLine). h.lhs) before g in
     record {
       defined = subst (λ (es : List ℕ). AreDefined greatest variables es) (append_assoc leaves (literals_of before) (g.lhs ∷ []) ∙ ap (λ (es : List ℕ). leaves ++ es) (sym push)) defined;
-      placed = ap (λ (ns : List AigNode). set ns (g.lhs / 2) (gate_node_of g)) placed ∙ places_gate greatest before g even two high (above (literals_of before) g.lhs some ∙ lt-ltb _ _ lower);
-      latest = greatest_push (literals_of before) g.lhs lower ∙ ap greatest_of (sym push);
+      placed = ap (λ (ns : List AigNode). set ns (g.lhs / 2) (gate_node_of g)) placed ∙ places_gate greatest before g some high (rec_parts (λ d. d / 2 ≢ g.lhs / 2) leaves (literals_of before) new).1;
+      in_order = in_order;
     }

@@ -4,10 +4,14 @@ pub mod Entries
 pub mod BothKinds
 pub mod OwnLines
 pub mod Rooms
+pub mod Defined
 pub mod GateLines
+pub mod ByLevel
+pub mod Numbered
 pub mod Body
 pub mod Accepting
 pub mod FileCircuit
+pub mod Steps
 pub mod ReadNames
 pub mod ReadLeaves
 pub mod Texts

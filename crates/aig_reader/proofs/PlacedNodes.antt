@@ -1,14 +1,16 @@
 -- The nodes of a file, as its gates are read.
-use Rattle.std.proofs.Common.{◌≡◌, ◌≢◌, ℕ, zero, suc, ◌+◌, ◌*◌, ◌/◌, ◌%◌, ◌<◌, ◌≤◌, Bool, true, false, ◌&&◌, cond, eqb, ltb, List, [], ◌∷◌, ◌++◌, set, find, Option, Some, None, refl, ap, ◌∙◌, arith}
-use Rattle.std.specs.List.{list_all}
-use Rattle.std.proofs.lemmas.Bool.{ne_eqb, eq-eqb, ltb-true}
+use Rattle.std.proofs.Common.{◌≡◌, ◌≢◌, ℕ, zero, suc, ◌+◌, ◌/◌, ◌<◌, ◌≤◌, Bool, true, false, cond, eqb, List, [], ◌∷◌, ◌++◌, set, find, Option, Some, None, refl, ap, ◌∙◌, arith}
+use Rattle.std.proofs.lemmas.Bool.{ne_eqb, eq-eqb}
 use Rattle.std.proofs.lemmas.List.Folds.{find-append}
 use Rattle.aig_circuit.specs.declared.node.AigNode.{AigNode}
 use Rattle.aig_circuit.specs.declared.node.AigNodeType.TheVariants.{False, Leaf}
 use Rattle.aig_circuit.specs.Node.{and_of}
 use Rattle.aig_format.specs.File.{GateLine}
-use Rattle.aig_reader.specs.Lists.{edge_from, kind_by, kind_from, node_from, nodes_in_row, nodes_of}
+use Rattle.aig_format.proofs.Entries.{rec_unmap, rec_weaker}
+use Rattle.aig_format.proofs.Searches.{find_none}
+use Rattle.aig_ordering.specs.Lists.{edge_from, kind_by, kind_from, node_from, nodes_in_row, nodes_of}
 use Rattle.aig_reader.specs.Gates.{gate_node_of, literals_of}
+use Rattle.aig_reader.specs.Variables.{IsNewAmong}
 
 -- one more node
 nodes_push : (f : List GateLine) (n v : ℕ) → nodes_in_row f (suc n) v ≡ nodes_in_row f n v ++ node_from f (v + n) ∷ []
@@ -38,18 +40,11 @@ find_other (x ∷ gates) g n h = ap (λ (o : Option GateLine). cond (is_at n x) 
 find_new : (gates : List GateLine) (g : GateLine) (n : ℕ) → find (is_at n) gates ≡ None → is_at n g ≡ true → find (is_at n) (gates ++ g ∷ []) ≡ Some g
 find_new gates g n h k = rw (find-append, h, k) refl
 
--- a smaller literal is that of another variable
-below_even : (d e : ℕ) → d < e → e % 2 ≡ 0 → d / 2 ≢ e / 2
-below_even d e lt even = omega arith
-
-none_at : (gates : List GateLine) (e : ℕ) → e % 2 ≡ 0 → list_all (λ d. ltb d e) (literals_of gates) ≡ true → find (is_at (e / 2)) gates ≡ None
-none_at [] e even h = refl
-none_at (g ∷ gates) e even h = go (ltb g.lhs e) refl h (none_at gates e even)
-  where
-    go : (t : Bool) → ltb g.lhs e ≡ t → t && list_all (λ d. ltb d e) (literals_of gates) ≡ true → (list_all (λ d. ltb d e) (literals_of gates) ≡ true → find (is_at (e / 2)) gates ≡ None)
-        → find (is_at (e / 2)) (g ∷ gates) ≡ None
-    go true is all rest = rw (ne_eqb (g.lhs / 2) (e / 2) (below_even g.lhs e (ltb-true _ _ is) even)) (rest all)
-    go false is all rest = absurd cc
+-- no gate has a variable that is new among their literals
+none_at : (gates : List GateLine) (e : ℕ) → IsNewAmong (literals_of gates) e → find (is_at (e / 2)) gates ≡ None
+none_at gates e h =
+    find_none (is_at (e / 2)) gates
+    (rec_weaker (λ (g : GateLine). g.lhs / 2 ≢ e / 2) (λ g. is_at (e / 2) g ≡ false) (λ g ne. ne_eqb (g.lhs / 2) (e / 2) ne) gates (rec_unmap (λ d. d / 2 ≢ e / 2) (λ (g : GateLine). g.lhs) gates h))
 
 module _ (gates : List GateLine) (g : GateLine) where
   same_kind : (n : ℕ) → g.lhs / 2 ≢ n → kind_from (gates ++ g ∷ []) n ≡ kind_from gates n
@@ -73,10 +68,10 @@ module _ (gates : List GateLine) (g : GateLine) where
       let ne : g.lhs / 2 ≢ v = omega arith in
       rw (same_kind v ne, sets_gate n (v + 1) k (omega arith) (omega arith) is) refl
 
--- a gate above those before it takes the place of a leaf
-pub places_gate : (greatest : ℕ) (gates : List GateLine) (g : GateLine) → g.lhs % 2 ≡ 0 → 2 ≤ g.lhs → g.lhs ≤ 2 * greatest → list_all (λ d. ltb d g.lhs) (literals_of gates) ≡ true
+-- a gate whose variable is new takes the place of a leaf
+pub places_gate : (greatest : ℕ) (gates : List GateLine) (g : GateLine) → 2 ≤ g.lhs → g.lhs / 2 < greatest + 1 → IsNewAmong (literals_of gates) g.lhs
     → set (nodes_of greatest gates) (g.lhs / 2) (gate_node_of g) ≡ nodes_of greatest (gates ++ g ∷ [])
-places_gate greatest gates g even some high above =
-    let found = find_new gates g (g.lhs / 2) (none_at gates g.lhs even above) (eq-eqb (g.lhs / 2) (g.lhs / 2) refl) in
+places_gate greatest gates g some high new =
+    let found = find_new gates g (g.lhs / 2) (none_at gates g.lhs new) (eq-eqb (g.lhs / 2) (g.lhs / 2) refl) in
     let positive : g.lhs / 2 ≢ 0 = omega arith in
-    sets_gate gates g (greatest + 1) 0 (g.lhs / 2) (omega arith) (omega arith) (rw (ne_eqb (g.lhs / 2) 0 positive, found) refl)
+    sets_gate gates g (greatest + 1) 0 (g.lhs / 2) high (omega arith) (rw (ne_eqb (g.lhs / 2) 0 positive, found) refl)

@@ -14,7 +14,7 @@ use Rattle.aig_reader.specs.declared.error.ReadError.{ReadError}
 use Rattle.aig_reader.specs.declared.error.Section.TheVariants.{Inputs, Latches}
 use Rattle.aig_reader.specs.declared.variables.Variables.{Variables}
 use Rattle.aig_reader.specs.Faults.{OnLine, error_in, result_by}
-use Rattle.aig_reader.specs.Lists.{variable_of, latch_from}
+use Rattle.aig_ordering.specs.Lists.{variable_of, latch_from}
 use Rattle.aig_reader.specs.Variables.{AreDefined, kind_by}
 use Rattle.aig_reader.proofs.Body.{in_section, made_in}
 use Rattle.aig_reader.proofs.ReadNames.{if_ok_in}

@@ -4,7 +4,7 @@ use Rattle.aig_reader.specs.declared.variables.Variables.{Variables}
 use Rattle.aig_reader.specs.declared.variables.Variables.TheVariants.{Marked, Counted}
 use Rattle.aig_reader.specs.Variables.{HasRoom}
 
-room_weaker : (v : Variables) (size j k : ℕ) → j ≤ k → HasRoom size v k → HasRoom size v j
+pub room_weaker : (v : Variables) (size j k : ℕ) → j ≤ k → HasRoom size v k → HasRoom size v j
 room_weaker (Marked marks) size j k le h = h
 room_weaker (Counted count) size j k le h = omega (arith, le, h)
 

@@ -1,11 +1,10 @@
 -- Readers of the entries that define a variable, in files of both kinds, each beside the entries before it.
-use Rattle.std.specs.Prelude.{ℕ, ◌+◌, ◌-◌, ◌*◌, ◌/◌, ◌&&◌, Bool, true, nat_lt, nat_le, List, ◌++◌, length, map, Option, Some}
-use Rattle.std.specs.List.{list_all}
+use Rattle.std.specs.Prelude.{ℕ, ◌+◌, ◌-◌, ◌*◌, ◌&&◌, Bool, true, nat_lt, nat_le, List, ◌++◌, length, map, Option, Some}
 use Rattle.aig_format.specs.declared.FileKind.{FileKind}
 use Rattle.aig_format.specs.declared.FileKind.TheVariants.{Text, Binary}
 use Rattle.aig_format.specs.File.{LatchLine, GateLine}
 use Rattle.aig_parsing.specs.Front.{both_at, delta_at, ended_at, mapped_at, tested_at}
-use Rattle.aig_parsing.specs.Fitting.{defines, gate_of, has_next, latch_of, next_at, pair_at}
+use Rattle.aig_parsing.specs.Fitting.{defines, gate_of, has_next, is_literal, latch_of, next_at, pair_at}
 
 -- the literal that an entry defines: in a text file it is written, in a binary file it is that of the next variable
 abbrev pub own_at : FileKind → ℕ → List ℕ → List ℕ → Option (ℕ × List ℕ)
@@ -32,9 +31,19 @@ abbrev pub operands_at : FileKind → ℕ → List ℕ → Option ((ℕ × ℕ) 
 operands_at Text lhs = pair_at
 operands_at Binary lhs = mapped_at (λ d. (lhs - d.0, lhs - d.0 - d.1)) (tested_at (both_at delta_at (λ _. delta_at)) (λ d. nat_le d.0 lhs && nat_le d.1 (lhs - d.0)))
 
+-- whether a gate's operands may be used: in a text file each literal up to the greatest variable's, in a binary file where the first is
+-- below the gate
+abbrev pub may_use : FileKind → ℕ → GateLine → Bool
+may_use Text greatest g = is_literal greatest g.rhs0 && is_literal greatest g.rhs1
+may_use Binary greatest g = nat_lt g.rhs0 g.lhs
+
+-- whether a gate may stand behind these literals
+abbrev pub may_stand : FileKind → ℕ → List ℕ → GateLine → Bool
+may_stand Text greatest before g = defines greatest before g.lhs && is_literal greatest g.rhs0 && is_literal greatest g.rhs1
+may_stand Binary greatest before g = nat_lt g.rhs0 g.lhs
+
 -- a gate, behind these leaves and gates
 abbrev pub gate_at : FileKind → ℕ → List ℕ → List GateLine → List ℕ → Option (GateLine × List ℕ)
 gate_at kind greatest leaves before =
     let literals = leaves ++ map (λ h. h.lhs) before in
-    tested_at (mapped_at gate_of (both_at (own_at kind 32 literals) (operands_at kind)))
-    (λ g. may_define kind greatest literals g.lhs && list_all (λ e. nat_lt e g.lhs) (map (λ h. h.lhs) before) && nat_lt (g.rhs0 / 2) (g.lhs / 2) && nat_lt (g.rhs1 / 2) (g.lhs / 2))
+    tested_at (mapped_at gate_of (both_at (own_at kind 32 literals) (operands_at kind))) (may_stand kind greatest literals)

@@ -2,6 +2,8 @@
 use Rattle.std.specs.Prelude.{ℕ, List, codes, Result, Ok, Err}
 use Rattle.aig_format.specs.declared.FileKind.{FileKind}
 use Rattle.aig_format.specs.declared.FileKind.TheVariants.{Text, Binary}
+use Rattle.aig_ordering.specs.declared.error.OrderError.{OrderError}
+use Rattle.aig_ordering.specs.declared.error.OrderError.TheVariants as order
 use Rattle.aig_reader.specs.declared.names.error.NameError.{NameError}
 use Rattle.aig_reader.specs.declared.names.error.NameError.TheVariants as name
 use Rattle.aig_reader.specs.declared.error.Section.{Section}
@@ -68,6 +70,11 @@ gate_error_in Binary line.Stream = errors.Stream
 gate_error_in Binary line.Syntax = errors.Delta
 gate_error_in Binary line.Literal = errors.Delta
 
+-- a variable of this section that has no number
+abbrev pub order_error_in : Section → OrderError → ReadError
+order_error_in section order.Memory = errors.Memory
+order_error_in section order.Variable = errors.Literal section
+
 -- an answer whose fault is seen otherwise
 abbrev pub result_by : {T E : Type 0} → (E → ReadError) → Result T E → Result T ReadError
 result_by fault (Ok x) = Ok x
@@ -81,3 +88,9 @@ IsSectionFault (errors.Syntax section) = Unit {0}
 IsSectionFault (errors.Literal section) = Unit {0}
 IsSectionFault errors.Delta = Unit {0}
 IsSectionFault e = ⊥
+
+-- memory, or a literal of a variable that has no number
+abbrev pub IsNumberFault : ReadError → Type 0
+IsNumberFault errors.Memory = Unit {0}
+IsNumberFault (errors.Literal section) = Unit {0}
+IsNumberFault e = ⊥

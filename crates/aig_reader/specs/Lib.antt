@@ -1,11 +1,11 @@
 pub mod Faults
 pub mod Reading
 pub mod Variables
-pub mod Lists
 pub mod Entries
 pub mod Gates
 pub mod Properties
 pub mod Sections
+pub mod Numbered
 pub mod NameFaults
 pub mod Names
 pub mod NamedSections

@@ -1,9 +1,10 @@
 -- Outputs and properties.
-use Rattle.std.specs.Prelude.{◌≡◌, ℕ, List, map, slice_index, Option}
+use Rattle.std.specs.Prelude.{◌≡◌, ℕ, List, length, map, slice_index, Option}
+use Rattle.aig_format.specs.File.{File}
 use Rattle.aig_parsing.specs.Front.{both_at, numbers_at}
 use Rattle.aig_parsing.specs.Fitting.{literals_at, literal_sets_at}
 use Rattle.aig_reader.specs.declared.properties.Properties.{Properties}
-use Rattle.aig_reader.specs.Lists.{edge_from}
+use Rattle.aig_ordering.specs.Lists.{edge_from}
 
 -- the literals of outputs, bads, constraints, the sizes of the justice sets, these sets, and fairness
 abbrev pub PropertyParts : Type 0
@@ -15,6 +16,10 @@ properties_at ns =
     let greatest = slice_index ns 0 in
     both_at (literals_at greatest (slice_index ns 3)) (λ _. both_at (literals_at greatest (slice_index ns 5)) (λ _. both_at (literals_at greatest (slice_index ns 6))
     (λ _. both_at (numbers_at (slice_index ns 7)) (λ sizes. both_at (literal_sets_at greatest sizes) (λ _. literals_at greatest (slice_index ns 8))))))
+
+-- those of a file
+abbrev pub property_parts : File → PropertyParts
+property_parts f = (f.outputs, (f.bads, (f.constraints, (map length f.justice, (f.justice, f.fairness)))))
 
 -- the edges were made of these literals
 pub record ArePropertiesOf (properties : Properties) (x : PropertyParts) : Type 0 where

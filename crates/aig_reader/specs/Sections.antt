@@ -1,19 +1,49 @@
--- The sections of a file.
-use Rattle.std.specs.Prelude.{◌≡◌, ℕ, List, map}
+-- The sections of a file, with each variable as its own number.
+use Rattle.std.specs.Prelude.{◌≡◌, ℕ, ◌+◌, ◌*◌, ◌≤◌, true, List, [], map, nat_eq}
+use Rattle.std.specs.List.{AllByRecursion, IsDistinct}
 use Rattle.std.specs.Ordering.{nat_cmp}
 use Rattle.std.specs.FinMap.{FinMap}
 use Rattle.aig_circuit.specs.Circuit.{Circuit}
-use Rattle.aig_parsing.specs.Front.{Parts}
-use Rattle.aig_reader.specs.declared.reader.Sections.{Sections}
-use Rattle.aig_reader.specs.Lists.{latch_from, nodes_of, variable_of}
-use Rattle.aig_reader.specs.Properties.{ArePropertiesOf}
+use Rattle.aig_format.specs.declared.FileKind.TheVariants.{Binary}
+use Rattle.aig_format.specs.File.{File, defined, used}
+use Rattle.aig_format.specs.Fits.{IsDefinable}
+use Rattle.aig_format.specs.Numbering.{is_older}
+use Rattle.aig_parsing.specs.Front.{Parts, file_from}
+use Rattle.aig_lexer.specs.declared.header.Header.{Header}
+use Rattle.aig_lexer.specs.Header.{numbers_of}
+use Rattle.aig_ordering.specs.Lists.{latch_from, variable_of}
+use Rattle.aig_ordering.specs.Tables.{AreNodesOf}
+use Rattle.aig_reader.specs.declared.lines.Lines.{Lines}
+use Rattle.aig_reader.specs.declared.sections.Sections.{Sections}
+use Rattle.aig_reader.specs.Properties.{ArePropertiesOf, property_parts}
+use Rattle.aig_reader.specs.Variables.{AreDefined, kind_by}
 
--- the lists were made of the lines of these sections, up to the greatest variable
-pub record AreSectionsOf (greatest : ℕ) (sections : Sections) (x : Parts) : Type 0 where
-  pub inputs : sections.inputs.items ≡ map variable_of x.0
-  pub latchs : sections.latchs.items ≡ map latch_from x.1.0
-  pub properties : ArePropertiesOf sections.properties (x.1.1.0, (x.1.1.1.0, (x.1.1.1.1.0, (x.1.1.1.1.1.0, (x.1.1.1.1.1.1.0, x.1.1.1.1.1.1.1.0)))))
-  pub nodes : sections.nodes.items ≡ nodes_of greatest x.1.1.1.1.1.1.1.1
+-- the file of a header and these sections, with no names
+abbrev pub file_by : Header → Parts → File
+file_by header x = file_from ((header.kind, numbers_of header), x) []
+
+-- the lists were made of the lines of the file's sections
+pub record AreSectionsOf (sections : Sections) (f : File) : Type 0 where
+  pub inputs : sections.inputs.items ≡ map variable_of f.inputs
+  pub latchs : sections.latchs.items ≡ map latch_from f.latches
+  pub properties : ArePropertiesOf sections.properties (property_parts f)
+
+-- what the lines of sections tell of their file: literals are defined once and are those of its variables, and binary files keep the older
+-- rules
+pub record HasGoodLines (f : File) : Type 0 where
+  pub definable : AllByRecursion (IsDefinable f.greatest) (defined f)
+  pub distinct : IsDistinct nat_eq (defined f)
+  pub in_range : AllByRecursion (λ e. e ≤ 2 * f.greatest + 1) (used f)
+  pub binary : f.kind ≡ Binary → is_older f ≡ true
+
+-- the lines of the file's sections were read: lists and nodes by variable, what is defined, and whether the file keeps the older rules
+pub record AreLinesOf (f : File) (lines : Lines) : Type 0 where
+  pub good : HasGoodLines f
+  pub sections : AreSectionsOf lines.sections f
+  pub nodes : AreNodesOf f lines.sections.nodes.items
+  pub defined : AreDefined f.greatest lines.variables (defined f)
+  pub kind : kind_by lines.variables ≡ f.kind
+  pub older : lines.is_older ≡ is_older f
 
 -- the circuit of these sections, with these names
 abbrev pub circuit_with : Sections → FinMap nat_cmp (List ℕ) → Circuit

@@ -1,6 +1,7 @@
 -- The variables that are defined so far, and what a test of a literal answers.
-use Rattle.std.specs.Prelude.{◌≡◌, ℕ, ◌+◌, ◌*◌, ◌/◌, ◌%◌, ◌<◌, ◌≤◌, ◌==◌, ◌⊎◌, Bool, true, false, List, length, slice_index_or, Result, Ok, Err}
-use Rattle.std.specs.List.{list_any}
+use Rattle.std.specs.Prelude.{◌≡◌, ◌≢◌, ℕ, ◌+◌, ◌*◌, ◌/◌, ◌%◌, ◌<◌, ◌≤◌, ◌==◌, ◌⊎◌, Bool, true, false, List, length, slice_index_or, Result, Ok, Err}
+use Rattle.std.specs.List.{AllByRecursion, list_any}
+use Rattle.aig_format.specs.Fits.{IsDefinable}
 use Rattle.aig_format.specs.declared.FileKind.{FileKind}
 use Rattle.aig_format.specs.declared.FileKind.TheVariants.{Text, Binary}
 use Rattle.aig_reader.specs.declared.error.LineError.{LineError}
@@ -15,15 +16,21 @@ abbrev pub kind_by : Variables → FileKind
 kind_by (Marked marks) = Text
 kind_by (Counted count) = Binary
 
--- the marks of the variables up to the greatest tell which of them these literals define
+-- these literals may be defined, and the marks of the variables up to the greatest tell which of them they define
 pub record AreMarks (greatest : ℕ) (marks : Marks) (literals : List ℕ) : Type 0 where
   pub top : marks.greatest ≡ greatest
+  pub definable : AllByRecursion (IsDefinable greatest) literals
   pub marked : (v : ℕ) → v ≤ greatest → slice_index_or marks.marked.items v false ≡ list_any (λ e. e == 2 * v) literals
+
+-- there are so many even literals, and no variable of theirs is above the count
+pub record AreCounted (count : ℕ) (literals : List ℕ) : Type 0 where
+  pub all : length literals ≡ count
+  pub below : AllByRecursion (IsDefinable count) literals
 
 -- these literals are defined; in a binary file their count tells which they are
 abbrev pub AreDefined : ℕ → Variables → List ℕ → Type 0
 AreDefined greatest (Marked marks) literals = AreMarks greatest marks literals
-AreDefined greatest (Counted count) literals = length literals ≡ count
+AreDefined greatest (Counted count) literals = AreCounted count literals
 
 -- there are `size` variables, the false one counted, and in a binary file k more of them can be defined
 abbrev pub HasRoom : ℕ → Variables → ℕ → Type 0
@@ -38,6 +45,10 @@ IsNext (Counted count) e = e ≡ 2 * (count + 1)
 -- an even literal of one of `size` variables, but not of the false one
 abbrev pub IsOwn : ℕ → ℕ → Type 0
 IsOwn size e = (e % 2 ≡ 0) × (2 ≤ e) × (e / 2 < size)
+
+-- the literal's variable is that of none of these literals
+abbrev pub IsNewAmong : List ℕ → ℕ → Type 0
+IsNewAmong before e = AllByRecursion (λ d. d / 2 ≢ e / 2) before
 
 -- a value where the test is passed, and else a fault, unless memory failed
 abbrev pub Tested : {X : Type 0} → Bool → (X → Type 0) → Result X LineError → Type 0

@@ -5,7 +5,7 @@ ghost use Rattle.aig_parsing.specs.Fitting.{is_literal, literals_at};
 ghost use Rattle.aig_parsing.specs.Front.{ended_at, tested_at};
 ghost use Rattle.aig_lexer.specs.Takes.{Makes};
 ghost use Rattle.aig_reader.specs.Faults.{OnLine};
-ghost use Rattle.aig_reader.specs.Lists.{edge_from};
+ghost use Rattle.aig_ordering.specs.Lists.{edge_from};
 ghost use Rattle.aig_reader.specs.Variables.{Tested};
 
 use crate::error::LineError;

@@ -1,13 +1,14 @@
 //! Why a file is refused.
 
 ghost use Rattle.std.specs.Prelude.{◌≡◌, Some};
-ghost use Rattle.aig_reader.specs.Faults.{error_in, gate_error_in, header_error_of, line_error_of, name_error_of, result_by, section_name};
+ghost use Rattle.aig_reader.specs.Faults.{error_in, gate_error_in, header_error_of, line_error_of, name_error_of, order_error_in, result_by, section_name};
 ghost use Rattle.aig_reader.specs.declared.error.LineError.TheVariants as line;
 ghost use Rattle.aig_reader.specs.declared.error.ReadError.TheVariants as errors;
 
 use crate::names::NameError;
 use aig_base::StreamFault;
 use aig_lexer::{FileKind, LexError};
+use aig_ordering::OrderError;
 use std::alloc::{AllocError, AllocFailed};
 use std::fmt;
 use thiserror::Error;
@@ -170,10 +171,21 @@ impl Section {
             Err(fault) => Err(self.fault_of(fault)),
         }
     }
+
+    /// What a list of this section gave under the numbers of its variables.
+    pub(crate) fn numbered<T>(self, lists: Result<T, OrderError>) -> Result<T, ReadError>
+        ensures { result ≡ result_by (order_error_in self) lists }
+    {
+        match lists {
+            Ok(value) => Ok(value),
+            Err(OrderError::Memory) => Err(ReadError::Memory),
+            Err(OrderError::Variable) => Err(ReadError::Literal(self)),
+        }
+    }
 }
 
 /// What reading the gates of a file of this kind gave.
-pub fn gates_result(kind: FileKind, gates: Result<(), LineError>) -> Result<(), ReadError>
+pub fn gates_result<T>(kind: FileKind, gates: Result<T, LineError>) -> Result<T, ReadError>
     ensures { result ≡ result_by (gate_error_in kind) gates }
 {
     match (kind, gates) {

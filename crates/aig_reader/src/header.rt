@@ -2,28 +2,41 @@
 
 ghost use Rattle.std.specs.Prelude.{◌≡◌, ◌+◌, ◌≤◌, ◌↔◌, true, IfOk, IfSome, IsErrOf};
 ghost use Rattle.aig_parsing.specs.Fitting.{fitting_header_at};
-ghost use Rattle.aig_parsing.specs.Front.{too_many_at};
+ghost use Rattle.aig_parsing.specs.Front.{is_good, too_many_at};
 ghost use Rattle.aig_lexer.specs.Header.{numbers_of};
 ghost use Rattle.aig_lexer.specs.Takes.{Gives};
 ghost use Rattle.aig_reader.specs.Faults.{OnRefusal};
 ghost use Rattle.aig_reader.specs.Reading.{UnlessInterrupted};
 
 use crate::error::{ReadError, in_header};
-use aig_lexer::{ByteFeed, Header, header_line};
+use aig_lexer::{ByteFeed, FileKind, Header, header_line};
+
+/// Whether the greatest variable is great enough for all that are defined: a text file may leave variables out, a binary
+/// file has none but those.
+fn has_enough(header: Header) -> bool
+    ensures good { result ≡ is_good header.kind (numbers_of header) }
+    ensures enough { result ≡ true → header.inputs + header.latches + header.gates ≤ header.greatest }
+{
+    let defined = header.inputs as u64 + header.latches as u64 + header.gates as u64;
+    match header.kind {
+        FileKind::Text => defined <= header.greatest as u64,
+        FileKind::Binary => header.greatest as u64 == defined,
+    }
+}
 
 /// Reads the header line, which is good, and within the limit of `limit` variables, the false one counted.
 pub fn read_header<F: ByteFeed>(f: &mut F, limit: usize) -> Result<Header, ReadError>
     ensures exact { Gives OnRefusal (λ h. (h.kind, numbers_of h)) (F.coming f.old) (F.coming f.new) result (fitting_header_at limit) }
     ensures too_many { IfSome (F.coming f.old) (λ bytes. UnlessInterrupted result (IsErrOf result ReadError.TooMany ↔ (too_many_at limit bytes ≡ true))) }
     ensures within { IfOk result (λ h. h.greatest + 1 ≤ limit) }
-    ensures whole { IfOk result (λ h. h.greatest ≡ h.inputs + h.latches + h.gates) }
+    ensures good { IfOk result (λ h. is_good h.kind (numbers_of h) ≡ true) }
+    ensures enough { IfOk result (λ h. h.inputs + h.latches + h.gates ≤ h.greatest) }
     ensures stream { IsErrOf result ReadError.Stream → F.failed f.new ≡ true }
     ensures never_open { IsErrOf result ReadError.Open → ⊥ }
     ensures same { F.behind f.new ≡ F.behind f.old }
 {
     let header = header_line(f).map_err(in_header)?;
-    let defined = header.inputs as u64 + header.latches as u64 + header.gates as u64;
-    if header.greatest as u64 != defined {
+    if !has_enough(header) {
         return Err(ReadError::Header);
     }
     if header.greatest as usize >= limit {

@@ -6,7 +6,7 @@ ghost use Rattle.aig_lexer.specs.Header.{numbers_of};
 ghost use Rattle.aig_lexer.specs.Takes.{Makes};
 ghost use Rattle.aig_reader.specs.Entries.{input_at};
 ghost use Rattle.aig_reader.specs.Faults.{OnLine};
-ghost use Rattle.aig_reader.specs.Lists.{variable_of};
+ghost use Rattle.aig_ordering.specs.Lists.{variable_of};
 ghost use Rattle.aig_reader.specs.Variables.{AreDefined, HasRoom, kind_by};
 
 use crate::error::LineError;

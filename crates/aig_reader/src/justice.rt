@@ -5,7 +5,7 @@ ghost use Rattle.aig_parsing.specs.Fitting.{literal_sets_at};
 ghost use Rattle.aig_parsing.specs.Front.{numbers_at};
 ghost use Rattle.aig_lexer.specs.Takes.{Makes};
 ghost use Rattle.aig_reader.specs.Faults.{OnLine};
-ghost use Rattle.aig_reader.specs.Lists.{edge_from};
+ghost use Rattle.aig_ordering.specs.Lists.{edge_from};
 
 use crate::edges::read_edges;
 use crate::error::LineError;

@@ -8,7 +8,7 @@ ghost use Rattle.aig_lexer.specs.Header.{numbers_of};
 ghost use Rattle.aig_lexer.specs.Takes.{Makes};
 ghost use Rattle.aig_reader.specs.Entries.{latch_at};
 ghost use Rattle.aig_reader.specs.Faults.{OnLine};
-ghost use Rattle.aig_reader.specs.Lists.{latch_from};
+ghost use Rattle.aig_ordering.specs.Lists.{latch_from};
 ghost use Rattle.aig_reader.specs.Variables.{AreDefined, HasRoom, Tested, kind_by};
 
 use crate::edges::edge_within;

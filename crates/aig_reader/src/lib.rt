@@ -8,10 +8,13 @@ mod header;
 mod inputs;
 mod justice;
 mod latches;
+mod lines;
 mod names;
 mod nodes;
+mod numbering;
 mod properties;
 mod reader;
+mod sections;
 mod variables;
 
 pub use error::{ReadError, Section};

@@ -1,7 +1,7 @@
 //! The nodes of a circuit.
 
 ghost use Rattle.std.specs.Prelude.{◌≡◌, ◌^◌, ◌<◌, [], IfOk};
-ghost use Rattle.aig_reader.specs.Lists.{nodes_of};
+ghost use Rattle.aig_ordering.specs.Lists.{nodes_of};
 
 use aig_circuit::{AigNode, false_node, leaf_node};
 use std::alloc::{AllocError, Global};

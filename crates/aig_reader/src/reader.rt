@@ -2,8 +2,9 @@
 
 ghost use Rattle.std.specs.Prelude.{◌≡◌, ℕ, ◌+◌, ◌^◌, ◌<◌, ◌≤◌, true, false, List, IfErr, IfOk, IfSome, IsErrOf, IsTrue, OnOk, vec_len};
 ghost use Rattle.std.specs.Io.KnownBytes.{Consumes, IsAtEnd};
-ghost use Rattle.aig_circuit.specs.View.{lists_circuit, names_of};
+ghost use Rattle.aig_circuit.specs.View.{lists_circuit};
 ghost use Rattle.aig_parsing.specs.Fitting.{fitting_sections_at};
+ghost use Rattle.aig_parsing.specs.Front.{is_good};
 ghost use Rattle.aig_format.specs.Circuit.{circuit_of};
 ghost use Rattle.aig_format.specs.File.{File};
 ghost use Rattle.aig_format.specs.Fits.{Accepts};
@@ -11,35 +12,18 @@ ghost use Rattle.aig_lexer.specs.Header.{numbers_of};
 ghost use Rattle.aig_lexer.specs.Takes.{Makes};
 ghost use Rattle.aig_reader.specs.Faults.{IsSectionFault, OnRefusal};
 ghost use Rattle.aig_reader.specs.Reading.{ReadsExactly, UnlessInterrupted};
-ghost use Rattle.aig_reader.specs.Sections.{AreSectionsOf, circuit_with};
+ghost use Rattle.aig_reader.specs.Numbered.{IsCircuitOf};
+ghost use Rattle.aig_reader.specs.Sections.{file_by};
 
-use crate::error::{ReadError, Section, gates_result, names_result};
-use crate::gates::read_gates;
+use crate::error::{ReadError, names_result};
 use crate::header::read_header;
-use crate::inputs::read_inputs;
-use crate::latches::read_latches;
+use crate::lines::read_lines;
 use crate::names::read_names;
-use crate::nodes::leaves;
-use crate::properties::{Properties, read_properties};
-use crate::variables::Variables;
+use crate::sections::Sections;
 use aig_base::Source;
-use aig_circuit::{AigLatch, AigNode, CircuitLists};
+use aig_circuit::CircuitLists;
 use aig_lexer::{Buffered, ByteFeed, Header, WINDOW_SIZE};
 use std::alloc::Global;
-use std::collections::HashMap;
-
-/// What the sections of a file give: node 0 is false, and node v is that of variable v.
-#[derive(Drop)]
-pub struct Sections {
-    /// The nodes, one for each variable.
-    pub nodes: Vec<AigNode>,
-    /// The numbers of the inputs, in the file's order.
-    pub inputs: Vec<usize>,
-    /// The latches, in the file's order.
-    pub latchs: Vec<AigLatch>,
-    /// The property lists.
-    pub properties: Properties,
-}
 
 /// Reads a file in the AIGER format, text or binary (AIGER format 20071012, with the resets and properties of AIGER 1.9).
 /// `limit` is how many variables there may be, the false one counted. Reads through a buffer of 4,096 bytes, up to the end
@@ -79,66 +63,22 @@ fn read_file<F: ByteFeed>(alloc: Global, f: &mut F, limit: usize) -> Result<Circ
     Ok(sections.with_names(names))
 }
 
-impl Sections {
-    /// The lists of the circuit, with these names.
-    fn with_names(self, names: HashMap<usize, String>) -> CircuitLists
-        ensures { lists_circuit result ≡ circuit_with self (names_of names.entries) }
-    {
-        let Sections {
-            nodes,
-            inputs,
-            latchs,
-            properties,
-        } = self;
-        let Properties {
-            outputs,
-            bads,
-            constraints,
-            justice,
-            fairness,
-        } = properties;
-        CircuitLists {
-            nodes,
-            inputs,
-            latchs,
-            outputs,
-            bads,
-            constraints,
-            justice,
-            fairness,
-            names,
-        }
-    }
-}
-
-/// Reads the sections behind the header line.
+/// Reads the sections behind the header line, and numbers their nodes.
 fn read_sections<F: ByteFeed>(
     alloc: Global,
     f: &mut F,
     header: Header,
 ) -> Result<Sections, ReadError>
     requires few { header.greatest < 2 ^ 31 }
-    requires exact { header.greatest ≡ header.inputs + header.latches + header.gates }
-    ensures exact { Makes OnRefusal (AreSectionsOf header.greatest) (F.coming f.old) (F.coming f.new) result (fitting_sections_at header.kind (numbers_of header)) }
+    requires good { is_good header.kind (numbers_of header) ≡ true }
+    requires enough { header.inputs + header.latches + header.gates ≤ header.greatest }
+    ensures exact { Makes OnRefusal (λ sections x. IsCircuitOf (file_by header x) sections) (F.coming f.old) (F.coming f.new) result (fitting_sections_at header.kind (numbers_of header)) }
     ensures inputs { IfOk result (λ sections. vec_len sections.inputs ≡ header.inputs) }
     ensures latchs { IfOk result (λ sections. vec_len sections.latchs ≡ header.latches) }
     ensures fault { IfErr result IsSectionFault }
     ensures stream { IsErrOf result ReadError.Stream → F.failed f.new ≡ true }
     ensures same { F.behind f.new ≡ F.behind f.old }
 {
-    let mut variables = Variables::new(alloc, header.kind, header.greatest);
-    let mut nodes = leaves(alloc, header.greatest)?;
-    let inputs = read_inputs(alloc, f, header, &mut variables);
-    let inputs = Section::Inputs.result_of(inputs)?;
-    let latchs = read_latches(alloc, f, header, &mut variables);
-    let latchs = Section::Latches.result_of(latchs)?;
-    let properties = read_properties(alloc, f, header)?;
-    let gates = read_gates(f, header, &mut variables, &mut nodes);
-    gates_result(header.kind, gates)?;
-    Ok(Sections {
-        nodes,
-        inputs,
-        latchs,
-        properties,
-    })
+    let lines = read_lines(alloc, f, header)?;
+    lines.numbered(alloc)
 }

@@ -4,8 +4,10 @@ ghost use Rattle.std.specs.Prelude.{◌≡◌, ℕ, ◌+◌, ◌/◌, ◌^◌, �
 ghost use Rattle.aig_parsing.specs.Fitting.{defines};
 ghost use Rattle.aig_lexer.specs.Faults.{OnShape};
 ghost use Rattle.aig_lexer.specs.Takes.{Gives};
+ghost use Rattle.aig_format.specs.File.{File, defined};
+ghost use Rattle.aig_ordering.specs.Tables.{AreKnownOf};
 ghost use Rattle.aig_reader.specs.Entries.{may_define, own_at};
-ghost use Rattle.aig_reader.specs.Variables.{AreDefined, AreMarks, HasRoom, IsLiteralFault, IsNext, IsOwn, Tested, kind_by};
+ghost use Rattle.aig_reader.specs.Variables.{AreDefined, AreMarks, HasRoom, IsLiteralFault, IsNewAmong, IsNext, IsOwn, Tested, kind_by};
 
 use crate::error::LineError;
 use aig_lexer::{ByteFeed, FileKind, LexError, ended};
@@ -61,6 +63,19 @@ impl Marks {
         self.marked[variable] = true;
         Ok(variable)
     }
+
+    /// For each variable up to the greatest, whether it is 0 or defined.
+    pub fn known(self) -> Result<Vec<bool>, AllocError>
+        ensures { (f : File) → AreMarks f.greatest self (defined f) → IfOk result (λ known. AreKnownOf f known.items) }
+    {
+        let Marks {
+            greatest,
+            mut marked,
+        } = self;
+        marked.resize(greatest as usize + 1, false)?;
+        marked[0] = true;
+        Ok(marked)
+    }
 }
 
 impl Variables {
@@ -99,6 +114,7 @@ impl Variables {
         ensures exact { (greatest : ℕ) (before : List ℕ) → AreDefined greatest self.old before → Tested (may_define (kind_by self.old) greatest before literal) (λ id. (id ≡ literal / 2) × AreDefined greatest self.new (before ++ literal ∷ [])) result }
         ensures fault { IfErr result IsLiteralFault }
         ensures own { IfOk result (λ _. (size : ℕ) → HasRoom size self.old 1 → IsOwn size literal) }
+        ensures new { IfOk result (λ _. (greatest : ℕ) (before : List ℕ) → AreDefined greatest self.old before → IsNewAmong before literal) }
         ensures id { IfOk result (λ id. id ≡ literal / 2) }
         ensures room { IfOk result (λ _. (size k : ℕ) → HasRoom size self.old (k + 1) → HasRoom size self.new k) }
         ensures kind { kind_by self.new ≡ kind_by self.old }

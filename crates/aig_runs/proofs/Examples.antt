@@ -2,7 +2,7 @@
 use Rattle.std.proofs.Common.{◌≡◌, ℕ, Bool, true, false, not, ◌&&◌, ◌||◌, Option, Some, None, List, [], ◌∷◌, map, IsTrue, refl, sym, subst, arith}
 use Rattle.std.proofs.lemmas.Bool.{false≢true}
 use Rattle.aig_base.specs.declared.logic.literal.Lit.{Lit}
-use Rattle.aig_base.specs.Clauses.{literal_value}
+use Rattle.aig_base.proofs.Literals.{literal_value-lit_to}
 use Rattle.aig_circuit.specs.declared.edge.AigEdge.{AigEdge}
 use Rattle.aig_circuit.specs.declared.node.AigLatch.{AigLatch}
 use Rattle.aig_circuit.specs.Circuit.{Circuit, only_false}
@@ -11,7 +11,7 @@ use Rattle.aig_format.specs.declared.FileKind.TheVariants.{Text}
 use Rattle.aig_format.specs.File.{File}
 use Rattle.aig_format.specs.Fits.{Fits}
 use Rattle.aig_format.specs.Circuit.{circuit_of}
-use Rattle.aig_format.specs.Numbering.{number_of, variables_in_order}
+use Rattle.aig_format.specs.Numbering.{number_of}
 use Rattle.aig_runs.specs.Encodes.{Encodes}
 use Rattle.aig_runs.specs.Queries.{Asks, IsRefuted, IsSafeTo, query_clauses}
 use Rattle.aig_runs.proofs.Queries.{queries_ask}
@@ -71,10 +71,12 @@ toggle = record {
   names = [];
 }
 
--- no assignment has node 1 false and true
+-- no assignment has the latch's node false and true
 toggle-refuted : (lists : List (List (List Lit))) → IsRefuted lists (query_clauses (circuit_of toggle) 0 (circuit_of toggle))
-unfolding literal_value number_of variables_in_order
-toggle-refuted lists s = by (s.0 1) s.1.further_hold
+toggle-refuted lists s =
+    let n = number_of toggle 1 in
+    let holds = rw (literal_value-lit_to s.0 n false, literal_value-lit_to s.0 n true) at s.1.further_hold in
+    by (s.0 n) holds
   where
     by : (b : Bool) → IsTrue ((not b || false) && ((b || false) && true)) → ⊥
     by true h = false≢true h
@@ -84,7 +86,7 @@ toggle-refuted lists s = by (s.0 1) s.1.further_hold
 toggle-safe : (limit : ℕ) (optimize : Bool) (lists : List (List (List Lit))) → Fits toggle limit → Encodes toggle 0 optimize (circuit_of toggle) (circuit_of toggle) lists → IsSafeTo toggle 0
 toggle-safe limit optimize lists fits encodes =
     let c = circuit_of toggle in
-    (refuted_queries_are_safe toggle 0 c (λ k. c) (λ k. lists) (λ k. query_clauses c 0 c) (λ k h. asks k (omega arith))).0 (λ k h. toggle-refuted lists)
+    (refuted_queries_are_safe toggle 0 (λ k. c) (λ k. c) (λ k. lists) (λ k. query_clauses c 0 c) (λ k h. asks k (omega arith))).0 (λ k h. toggle-refuted lists)
   where
     asks : (k : ℕ) → k ≡ 0 → Asks toggle k (circuit_of toggle) (circuit_of toggle) lists (query_clauses (circuit_of toggle) 0 (circuit_of toggle))
     asks k none =

@@ -29,7 +29,7 @@ AreNodeValues c v = (n : ℕ) → n < length c.nodes → v n ≡ node_value c.no
 
 -- The run is one assignment: there is one that gives each leaf of the unrolled circuit the run's value, and each node its value under those
 -- of the leaves, and it satisfies the clauses.
-pub record IsOneAssignment (c unrolled : Circuit) (clauses : List (List (List Lit))) (k : ℕ) (run : ℕ → ℕ → Bool) : Type 0 where
+pub record IsOneAssignment (c unrolled : Circuit) (k : ℕ) (clauses : List (List (List Lit))) (run : ℕ → ℕ → Bool) : Type 0 where
   pub values : ℕ → Bool
   pub reads : Reads c unrolled k values run
   pub only : (other : ℕ → Bool) → Reads c unrolled k other run → (n : ℕ) → IsLeaf unrolled.nodes n → values n ≡ other n
@@ -38,4 +38,4 @@ pub record IsOneAssignment (c unrolled : Circuit) (clauses : List (List (List Li
 
 -- each run, from any state, is one assignment
 abbrev pub RunsAreAssignments : Circuit → Circuit → ℕ → List (List (List Lit)) → Type 0
-RunsAreAssignments c unrolled k clauses = (run : ℕ → ℕ → Bool) → IsRun c k run → IsOneAssignment c unrolled clauses k run
+RunsAreAssignments c unrolled k clauses = (run : ℕ → ℕ → Bool) → IsRun c k run → IsOneAssignment c unrolled k clauses run

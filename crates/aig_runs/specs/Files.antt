@@ -44,7 +44,7 @@ AssignmentsAreRuns f circuit unrolled k clauses = (v : ℕ → Bool) → Satisfi
 
 -- The run is one assignment: there is one that gives each leaf of the unrolled circuit the run's value, and each node its value under those
 -- of the leaves, and it satisfies the clauses.
-pub record IsOneAssignment (f : File) (circuit unrolled : Circuit) (clauses : List (List (List Lit))) (k : ℕ) (run : ℕ → ℕ → Bool) : Type 0 where
+pub record IsOneAssignment (f : File) (circuit unrolled : Circuit) (k : ℕ) (clauses : List (List (List Lit))) (run : ℕ → ℕ → Bool) : Type 0 where
   pub values : ℕ → Bool
   pub leaves : HasLeafValues f circuit unrolled k values run
   pub only : (other : ℕ → Bool) → HasLeafValues f circuit unrolled k other run → (n : ℕ) → IsLeaf unrolled.nodes n → values n ≡ other n
@@ -53,4 +53,4 @@ pub record IsOneAssignment (f : File) (circuit unrolled : Circuit) (clauses : Li
 
 -- each run of the machine, from any state, is one assignment
 abbrev pub RunsAreAssignments : File → Circuit → Circuit → ℕ → List (List (List Lit)) → Type 0
-RunsAreAssignments f circuit unrolled k clauses = (run : ℕ → ℕ → Bool) → IsRun f k run → IsOneAssignment f circuit unrolled clauses k run
+RunsAreAssignments f circuit unrolled k clauses = (run : ℕ → ℕ → Bool) → IsRun f k run → IsOneAssignment f circuit unrolled k clauses run

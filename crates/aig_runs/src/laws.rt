@@ -38,8 +38,8 @@ pub fn queries_ask()
 
 /// Law: the queries of all steps up to n are refuted exactly where no bad literal is reached up to step n.
 pub fn refuted_queries_are_safe()
-    ensures { (f : File) (n : ℕ) (circuit : Circuit) (unrolled : ℕ → Circuit)
+    ensures { (f : File) (n : ℕ) (circuit unrolled : ℕ → Circuit)
         (clauses : ℕ → List (List (List Lit))) (further : ℕ → List (List Lit))
-        → ((k : ℕ) → k ≤ n → Asks f k circuit (unrolled k) (clauses k) (further k))
+        → ((k : ℕ) → k ≤ n → Asks f k (circuit k) (unrolled k) (clauses k) (further k))
         → ((k : ℕ) → k ≤ n → IsRefuted (clauses k) (further k)) ↔ IsSafeTo f n }
 {}

@@ -8,12 +8,16 @@ mod changing;
 mod clauses;
 mod cones;
 mod display;
+mod encoding;
 mod fields;
+mod gaps;
 mod hashing;
 mod reading;
 mod refusing;
+mod runs;
 mod simulating;
 mod unrolling;
+mod whole;
 mod writing;
 
 use aig::{Aig, ReadError};

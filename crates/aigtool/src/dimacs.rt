@@ -40,14 +40,16 @@ fn write_list<W: Sink>(
 }
 
 /// Writes clauses in DIMACS form: the counts of variables and of clauses, and then each clause's line, in rising order of
-/// the variable that it was given to.
-pub fn write<W: Sink>(w: &mut W, clauses: &DagCnf) -> Result<(), StreamFault> {
+/// the variable that it was given to, with further clauses behind them.
+pub fn write<W: Sink>(w: &mut W, clauses: &DagCnf, further: &LitVvec) -> Result<(), StreamFault> {
+    let count = clauses.num_clauses().saturating_add(further.len());
     let mut buffer = OutputBuffer::new();
     buffer.write_bytes(w, b"p cnf ")?;
     buffer.write_number(w, clauses.num_vars(), b' ')?;
-    buffer.write_number(w, clauses.num_clauses(), b'\n')?;
+    buffer.write_number(w, count, b'\n')?;
     for v in 0..clauses.num_vars() {
         write_list(&mut buffer, w, clauses.clauses_of(Var::new(v)))?;
     }
+    write_list(&mut buffer, w, further)?;
     buffer.flush(w)
 }

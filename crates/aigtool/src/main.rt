@@ -1,8 +1,6 @@
 //! `aigtool` prints and converts AIGER files, and prints the clauses of their circuits.
 #![tactic(auto)]
 
-ghost use Rattle.aigtool.specs.Commands.{IsOneStep};
-
 mod command;
 mod dimacs;
 #[cfg(test)]
@@ -21,7 +19,8 @@ use std::rt::{Env, Files};
 use std::{env, io};
 pub use tool::{ToolError, run};
 
-const USAGE: &str = "usage: aigtool text FILE, binary FILE OUT, strash FILE, cnf FILE K [raw]";
+const USAGE: &str =
+    "usage: aigtool text FILE, binary FILE OUT, strash FILE, cnf FILE K [raw], query FILE K [raw]";
 
 /// The words after the program's name.
 fn words(rt: &(impl Env + AllocGlobal)) -> io::Result<Vec<String>> {
@@ -33,9 +32,11 @@ fn words(rt: &(impl Env + AllocGlobal)) -> io::Result<Vec<String>> {
 }
 
 /// Runs a command on a file, and prints to standard output.
-fn execute(rt: &(impl Files + Print + AllocGlobal), c: Command, file: &str) -> Result<(), ToolError>
-    requires { IsOneStep c }
-{
+fn execute(
+    rt: &(impl Files + Print + AllocGlobal),
+    c: Command,
+    file: &str,
+) -> Result<(), ToolError> {
     let Ok(file) = File::open(rt, file) else {
         return Err(ToolError::Read(ReadError::Open));
     };
@@ -75,7 +76,7 @@ fn main(rt: HostRuntime) -> ExitCode {
     let file = words[1].as_str();
     let done = match command {
         Command::Binary => convert(&rt, Path::new(file), Path::new(words[2].as_str())),
-        Command::Text | Command::Strash | Command::Cnf { .. } => execute(&rt, command, file),
+        _ => execute(&rt, command, file),
     };
     match done {
         Ok(()) => ExitCode::SUCCESS,

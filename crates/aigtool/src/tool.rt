@@ -1,16 +1,14 @@
 //! What the commands do with the bytes of a file.
 
-ghost use Rattle.std.specs.Prelude.{◌≤◌, ◌^◌, length};
-ghost use Rattle.aigtool.specs.Commands.{IsOneStep};
-
 use crate::command::Command;
 use crate::dimacs;
 use aig::{Aig, ReadError, WriteError};
-use aig_base::{MemoryError, Sink, Source, StreamFault};
+use aig_base::{LitVvec, MemoryError, Sink, Source, StreamFault};
+use aig_encode::{EncodeError, encode, query};
 use std::alloc::Global;
 use thiserror::Error;
 
-/// The limit on the variables of a file that the program reads, the false one counted.
+/// The limit on the nodes of a circuit that the program reads, and of one that it unrolls.
 pub const LIMIT: usize = 1 << 24;
 
 /// Why the program ends with status 1.
@@ -19,7 +17,10 @@ pub enum ToolError {
     /// FILE was refused.
     #[error("{0}")]
     Read(#[from] ReadError),
-    /// Memory ran out outside reading and writing.
+    /// FILE was refused, or there are no clauses of it.
+    #[error("{0}")]
+    Encode(#[from] EncodeError),
+    /// Memory ran out outside reading, encoding and writing.
     #[error("out of memory")]
     Memory,
     /// The answer wasn't written.
@@ -39,28 +40,24 @@ impl From<StreamFault> for ToolError {
     }
 }
 
-/// Writes the clauses of a circuit in DIMACS form.
-fn write_clauses<W: Sink>(circuit: &Aig, optimize: bool, w: &mut W) -> Result<(), ToolError>
-    requires { length circuit.now.nodes ≤ 2 ^ 31 }
-{
-    let clauses = circuit.cnf(optimize)?;
-    Ok(dimacs::write(w, &clauses)?)
-}
-
 /// Reads FILE's bytes from `r`, and writes to `w` what the command prints, or for `Binary` what it puts into OUT.
 pub fn run<R: Source, W: Sink>(
     alloc: Global,
     c: Command,
     r: &mut R,
     w: &mut W,
-) -> Result<(), ToolError>
-    requires { IsOneStep c }
-{
-    let circuit = Aig::from_aiger(alloc, r, LIMIT)?;
+) -> Result<(), ToolError> {
     match c {
-        Command::Text => Ok(circuit.write_text(w)?),
-        Command::Binary => Ok(circuit.write_binary(w)?),
-        Command::Strash => Ok(circuit.strash()?.write_text(w)?),
-        Command::Cnf { optimize, .. } => write_clauses(&circuit, optimize, w),
+        Command::Text => Ok(Aig::from_aiger(alloc, r, LIMIT)?.write_text(w)?),
+        Command::Binary => Ok(Aig::from_aiger(alloc, r, LIMIT)?.write_binary(w)?),
+        Command::Strash => Ok(Aig::from_aiger(alloc, r, LIMIT)?.strash()?.write_text(w)?),
+        Command::Cnf { k, optimize } => {
+            let encoded = encode(alloc, r, LIMIT, k, optimize)?;
+            Ok(dimacs::write(w, &encoded.clauses, &LitVvec::new(alloc))?)
+        }
+        Command::Query { k, optimize } => {
+            let asked = query(alloc, r, LIMIT, k, optimize)?;
+            Ok(dimacs::write(w, &asked.encoded.clauses, &asked.extra)?)
+        }
     }
 }

@@ -1,6 +1,6 @@
 //! A map from variables to variables.
 
-ghost use Rattle.std.specs.Prelude.{◌≡◌, OnOk, OnErr, IfOk, option_map};
+ghost use Rattle.std.specs.Prelude.{◌≡◌, OnOk, OnErr, IfOk};
 ghost use Rattle.std.specs.FinMap as finite_map;
 ghost use Rattle.aig_base.specs.Clauses.{number_of};
 

@@ -81,7 +81,7 @@ fn edges(alloc: Global, literals: &[u32]) -> Result<Vec<AigEdge>, MemoryError> {
 }
 
 /// Whether there are nodes of all of these edges' numbers.
-fn has_edges(aig: &Aig, edges: &[AigEdge]) -> bool
+pub(super) fn has_edges(aig: &Aig, edges: &[AigEdge]) -> bool
     ensures { IsTrue result → All (IsInRange aig.now.nodes) edges.now }
 {
     edges.iter().all(|e| aig.has_edge(*e))

@@ -60,7 +60,7 @@ fn next(seed: &mut u64) -> usize {
 }
 
 /// A circuit of two inputs and so many gates over operands that look random.
-fn random(alloc: Global, seed: u64, gates: usize) -> Result<Aig, Fail> {
+pub(super) fn random(alloc: Global, seed: u64, gates: usize) -> Result<Aig, Fail> {
     let mut seed = seed;
     let mut aig = Aig::new(alloc)?;
     aig.new_input()?;

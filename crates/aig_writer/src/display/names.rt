@@ -3,7 +3,7 @@
 ghost use Rattle.std.specs.Prelude.{◌<◌};
 ghost use Rattle.std.specs.List.{flat_map};
 ghost use Rattle.std.specs.FinMap.{get};
-ghost use Rattle.std.specs.Fmt.{WritesOnOk};
+ghost use Rattle.std.specs.Fmt.{WritesStyledOnOk};
 ghost use Rattle.aig_circuit.specs.Circuit.{latch_leaves};
 ghost use Rattle.aig_circuit.specs.View.{names_of};
 ghost use Rattle.aig_format.specs.Written.{name_of};
@@ -11,6 +11,7 @@ ghost use Rattle.aig_format.specs.declared.FileKind.TheVariants.{Text};
 ghost use Rattle.aig_format.specs.Circuit.{file_of, name_lines};
 ghost use Rattle.aig_writer.specs.Parts.{name_text};
 
+use crate::display::line::write_number;
 use aig_circuit::{AigLatch, CircuitView};
 use std::collections::HashMap;
 use std::fmt;
@@ -22,7 +23,24 @@ const INPUT: char = 'i';
 /// The letter of a latch's name.
 const LATCH: char = 'l';
 
-/// Writes the name line of a node, if the node has a name: the letter, the position, the name.
+/// Writes a name line: the letter, the position, the name.
+fn write_name_line<W: Write>(
+    letter: char,
+    position: usize,
+    name: &str,
+    f: &mut Formatter<W>,
+) -> fmt::Result
+    requires { letter < 128 }
+    ensures { let text = name_of (record { letter = letter; position = position; name = name.now }) in
+        WritesStyledOnOk W.write_str_gives f.old result text f.new }
+{
+    f.write_char(letter)?;
+    write_number(position, " ", f)?;
+    f.write_str(name)?;
+    f.write_str("\n")
+}
+
+/// Writes the name line of a node, if the node has a name.
 fn write_node_name<W: Write>(
     names: &HashMap<usize, String>,
     letter: char,
@@ -32,10 +50,10 @@ fn write_node_name<W: Write>(
 ) -> fmt::Result
     requires { letter < 128 }
     ensures { let text = name_text letter position (get (names_of names.now.entries) node) in
-        WritesOnOk W.write_str_gives f.old result text f.new }
+        WritesStyledOnOk W.write_str_gives f.old result text f.new }
 {
     match names.get(&node) {
-        Some(name) => writeln!(f, "{letter}{position} {name}"),
+        Some(name) => write_name_line(letter, position, name, f),
         None => Ok(()),
     }
 }
@@ -47,7 +65,7 @@ fn write_input_names<W: Write>(
     f: &mut Formatter<W>,
 ) -> fmt::Result
     ensures { let lines = name_lines INPUT 0 inputs.now (get (names_of names.now.entries)) in
-        WritesOnOk W.write_str_gives f.old result (flat_map name_of lines) f.new }
+        WritesStyledOnOk W.write_str_gives f.old result (flat_map name_of lines) f.new }
 {
     for (i, n) in inputs.iter().enumerate() {
         write_node_name(names, INPUT, i, *n, f)?;
@@ -63,7 +81,7 @@ fn write_latch_names<W: Write>(
 ) -> fmt::Result
     ensures { let leaves = latch_leaves latchs.now in
         let lines = name_lines LATCH 0 leaves (get (names_of names.now.entries)) in
-        WritesOnOk W.write_str_gives f.old result (flat_map name_of lines) f.new }
+        WritesStyledOnOk W.write_str_gives f.old result (flat_map name_of lines) f.new }
 {
     for (i, latch) in latchs.iter().enumerate() {
         write_node_name(names, LATCH, i, latch.input(), f)?;
@@ -74,7 +92,7 @@ fn write_latch_names<W: Write>(
 /// Writes the names of inputs and latches.
 pub fn write_names<W: Write>(circuit: &CircuitView<'_>, f: &mut Formatter<W>) -> fmt::Result
     ensures { let text = flat_map name_of (file_of Text circuit.now).names in
-        WritesOnOk W.write_str_gives f.old result text f.new }
+        WritesStyledOnOk W.write_str_gives f.old result text f.new }
 {
     write_input_names(circuit.names(), circuit.inputs(), f)?;
     write_latch_names(circuit.names(), circuit.latchs(), f)

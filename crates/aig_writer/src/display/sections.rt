@@ -2,7 +2,7 @@
 
 ghost use Rattle.std.specs.Prelude.{◌*◌, length, map, filter_map, option_to_list, All};
 ghost use Rattle.std.specs.List.{flat_map};
-ghost use Rattle.std.specs.Fmt.{WritesOnOk};
+ghost use Rattle.std.specs.Fmt.{WritesStyledOnOk};
 ghost use Rattle.aig_circuit.specs.Edge.{literal_of};
 ghost use Rattle.aig_format.specs.declared.FileKind.TheVariants.{Text};
 ghost use Rattle.aig_format.specs.Written.{lines_of, latch_of, gate_of};
@@ -10,6 +10,7 @@ ghost use Rattle.aig_format.specs.Circuit.{latch_line, gate_line};
 ghost use Rattle.aig_writer.specs.Parts.{literal_sets};
 ghost use Rattle.aig_writer.specs.Literals.{IsSmall, IsSmallEdge, IsSmallLatch, IsSmallNode};
 
+use crate::display::line::write_line;
 use crate::literal::{literal, reset_literal};
 use aig_circuit::{AigEdge, AigLatch, AigNode, AigNodeType};
 use std::fmt;
@@ -19,10 +20,10 @@ use std::fmt::{Formatter, Write};
 pub fn write_inputs<W: Write>(inputs: &[usize], f: &mut Formatter<W>) -> fmt::Result
     requires { All IsSmall inputs.now }
     ensures { let text = lines_of (map (λ n. 2 * n) inputs.now) in
-        WritesOnOk W.write_str_gives f.old result text f.new }
+        WritesStyledOnOk W.write_str_gives f.old result text f.new }
 {
     for n in inputs {
-        writeln!(f, "{}", 2 * *n)?;
+        write_line(&[2 * *n], f)?;
     }
     Ok(())
 }
@@ -31,13 +32,13 @@ pub fn write_inputs<W: Write>(inputs: &[usize], f: &mut Formatter<W>) -> fmt::Re
 fn write_latch<W: Write>(latch: &AigLatch, f: &mut Formatter<W>) -> fmt::Result
     requires { IsSmallLatch latch.now }
     ensures { let text = latch_of Text (latch_line latch.now) in
-        WritesOnOk W.write_str_gives f.old result text f.new }
+        WritesStyledOnOk W.write_str_gives f.old result text f.new }
 {
     let own = 2 * latch.input();
     let next = literal(latch.next());
     match reset_literal(latch) {
-        None => writeln!(f, "{own} {next}"),
-        Some(reset) => writeln!(f, "{own} {next} {reset}"),
+        None => write_line(&[own, next], f),
+        Some(reset) => write_line(&[own, next, reset], f),
     }
 }
 
@@ -45,7 +46,7 @@ fn write_latch<W: Write>(latch: &AigLatch, f: &mut Formatter<W>) -> fmt::Result
 pub fn write_latches<W: Write>(latchs: &[AigLatch], f: &mut Formatter<W>) -> fmt::Result
     requires { All IsSmallLatch latchs.now }
     ensures { let text = flat_map (latch_of Text) (map latch_line latchs.now) in
-        WritesOnOk W.write_str_gives f.old result text f.new }
+        WritesStyledOnOk W.write_str_gives f.old result text f.new }
 {
     for latch in latchs {
         write_latch(latch, f)?;
@@ -57,10 +58,10 @@ pub fn write_latches<W: Write>(latchs: &[AigLatch], f: &mut Formatter<W>) -> fmt
 pub fn write_edges<W: Write>(edges: &[AigEdge], f: &mut Formatter<W>) -> fmt::Result
     requires { All IsSmallEdge edges.now }
     ensures { let text = lines_of (map literal_of edges.now) in
-        WritesOnOk W.write_str_gives f.old result text f.new }
+        WritesStyledOnOk W.write_str_gives f.old result text f.new }
 {
     for e in edges {
-        writeln!(f, "{}", literal(*e))?;
+        write_line(&[literal(*e)], f)?;
     }
     Ok(())
 }
@@ -68,10 +69,10 @@ pub fn write_edges<W: Write>(edges: &[AigEdge], f: &mut Formatter<W>) -> fmt::Re
 /// Writes a line for each set, how many edges it has.
 pub fn write_set_sizes<W: Write>(sets: &[Vec<AigEdge>], f: &mut Formatter<W>) -> fmt::Result
     ensures { let text = lines_of (map length (literal_sets sets.now)) in
-        WritesOnOk W.write_str_gives f.old result text f.new }
+        WritesStyledOnOk W.write_str_gives f.old result text f.new }
 {
     for set in sets {
-        writeln!(f, "{}", set.len())?;
+        write_line(&[set.len()], f)?;
     }
     Ok(())
 }
@@ -80,7 +81,7 @@ pub fn write_set_sizes<W: Write>(sets: &[Vec<AigEdge>], f: &mut Formatter<W>) ->
 pub fn write_sets<W: Write>(sets: &[Vec<AigEdge>], f: &mut Formatter<W>) -> fmt::Result
     requires { All (λ set. All IsSmallEdge set.items) sets.now }
     ensures { let text = flat_map lines_of (literal_sets sets.now) in
-        WritesOnOk W.write_str_gives f.old result text f.new }
+        WritesStyledOnOk W.write_str_gives f.old result text f.new }
 {
     for set in sets {
         write_edges(set, f)?;
@@ -92,12 +93,12 @@ pub fn write_sets<W: Write>(sets: &[Vec<AigEdge>], f: &mut Formatter<W>) -> fmt:
 fn write_gate<W: Write>(node: &AigNode, f: &mut Formatter<W>) -> fmt::Result
     requires { IsSmallNode node.now }
     ensures { let text = flat_map (gate_of Text) (option_to_list (gate_line node.now)) in
-        WritesOnOk W.write_str_gives f.old result text f.new }
+        WritesStyledOnOk W.write_str_gives f.old result text f.new }
 {
     match node.typ() {
         AigNodeType::And(first, second) => {
             let own = 2 * node.node_id();
-            writeln!(f, "{own} {} {}", literal(*second), literal(*first))
+            write_line(&[own, literal(*second), literal(*first)], f)
         }
         _ => Ok(()),
     }
@@ -107,7 +108,7 @@ fn write_gate<W: Write>(node: &AigNode, f: &mut Formatter<W>) -> fmt::Result
 pub fn write_gates<W: Write>(nodes: &[AigNode], f: &mut Formatter<W>) -> fmt::Result
     requires { All IsSmallNode nodes.now }
     ensures { let text = flat_map (gate_of Text) (filter_map gate_line nodes.now) in
-        WritesOnOk W.write_str_gives f.old result text f.new }
+        WritesStyledOnOk W.write_str_gives f.old result text f.new }
 {
     for node in nodes {
         write_gate(node, f)?;

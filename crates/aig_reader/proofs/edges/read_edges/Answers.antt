@@ -2,7 +2,7 @@ use Rattle.std.proofs.Common.{◌≡◌, ◌∙◌, ◌∷◌, ◌++◌, [], ℕ
 use Rattle.std.proofs.lemmas.Result.{err_from_is_err_and}
 use Rattle.aig_parsing.specs.Front.{ended_at, tested_at, times_at}
 use Rattle.aig_parsing.specs.Fitting.{is_literal}
-use Rattle.aig_reader.specs.Lists.{edge_from}
+use Rattle.aig_ordering.specs.Lists.{edge_from}
 use Rattle.aig_lexer.specs.Takes.{Takes, Misses}
 use Rattle.aig_lexer.proofs.Taking.{takes_same, misses_same}
 use Rattle.aig_reader.proofs.Entries.{entries_at, takes_more, misses_more, made_push, times_is_entries}

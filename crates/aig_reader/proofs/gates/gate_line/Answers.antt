@@ -1,27 +1,39 @@
-use Rattle.std.proofs.Common.{◌≡◌, ◌∙◌, ◌++◌, ◌+◌, ◌/◌, ◌&&◌, ℕ, length, ltb, ap, subst, vec_len, arith}
-use Rattle.std.specs.List.{list_all}
-use Rattle.aig_format.specs.File.{GateLine}
+use Rattle.std.proofs.Common.{◌≡◌, ◌∙◌, ◌++◌, ◌+◌, ◌&&◌, ℕ, false, length, ap, refl, subst, vec_len, arith}
+use Rattle.std.proofs.lemmas.Bool.{and_right}
+use Rattle.std.proofs.lemmas.Result.{err_from_is_err_and}
 use Rattle.aig_parsing.specs.Fitting.{gate_of}
-use Rattle.aig_reader.specs.Entries.{may_define, operands_at}
+use Rattle.aig_ordering.proofs.Tables.{length-row}
+use Rattle.aig_reader.specs.Entries.{may_define, may_stand, may_use, operands_at}
 use Rattle.aig_reader.specs.Gates.{literals_of}
 use Rattle.aig_reader.specs.Variables.{HasRoom, kind_by}
-use Rattle.aig_reader.proofs.Body.{nodes_length}
-use Rattle.aig_reader.proofs.GateLines.{gate_test, more_gates, next_above}
+use Rattle.aig_reader.proofs.GateLines.{may_stand-both, more_gates}
 use Rattle.aig_reader.proofs.OwnLines.{misses_line, takes_line}
+use Rattle.aig_reader.proofs.TestedLines.{on_line-weaker}
 use Rattle.aig_reader.proofs.gates.gate_line.Goals as goal
 
-pub returns-then-not-is_next_gate-clause-exact : goal.returns-then-not-is_next_gate-clause-exact
-returns-then-not-is_next_gate-clause-exact g c = λ greatest leaves before h.
+pub returns-in_err-first-clause-exact : goal.returns-in_err-first-clause-exact
+returns-in_err-first-clause-exact g c = λ greatest leaves before h.
+    let p = err_from_is_err_and c.from_residual-in_err-first.result c.from_residual-in_err-first.ensures.1 in
     let kind = kind_by c.args.variables.now in
     let literals = leaves ++ literals_of before in
     let gate = gate_of (c.in_ok-lhs.lhs, (c.in_ok-rhs0.rhs0, c.in_ok-rhs0.rhs1)) in
-    let first = c.in_ok-id.ensures.exact greatest literals h.defined in
-    let same : length c.args.nodes.now.items ≡ greatest + 1 = ap length h.placed ∙ nodes_length before (greatest + 1) 0 in
-    let size : vec_len c.args.nodes.now ≡ greatest + 1 = omega (arith, same, c.args.nodes.now.ok.0) in
-    let own = c.in_ok-id.ensures.own (greatest + 1) (subst (λ (n : ℕ). HasRoom n c.args.variables.now 1) size c.requires.room) in
-    misses_line kind 32 literals (operands_at kind) gate_of
-    (λ (g : GateLine). may_define kind greatest literals g.lhs && list_all (λ e. ltb e g.lhs) (literals_of before) && ltb (g.rhs0 / 2) (g.lhs / 2) && ltb (g.rhs1 / 2) (g.lhs / 2)) _ _ c.in_ok-lhs.lhs
-    (c.in_ok-lhs.ensures.exact greatest literals h.defined) _ (c.in_ok-rhs0.rhs0, c.in_ok-rhs0.rhs1) c.in_ok-rhs0.ensures.exact (gate_test greatest before gate _ _ _ h.latest first.0 own c.is_next_gate.ensures ∙ c.if-not-is_next_gate.true)
+    rw (p.1, p.2) (on_line-weaker c.in_err-first.field-0.0 _ _
+    (λ (no : may_use kind greatest gate ≡ false).
+    misses_line kind 32 literals (operands_at kind) gate_of (may_stand kind greatest literals) _ _ c.in_ok-lhs.lhs (c.in_ok-lhs.ensures.exact greatest literals h.defined) _ (c.in_ok-rhs0.rhs0, c.in_ok-rhs0.rhs1) c.in_ok-rhs0.ensures.exact
+    (may_stand-both kind greatest literals gate ∙ and_right (may_define kind greatest literals gate.lhs) (may_use kind greatest gate) no))
+    (c.in_err-first.ensures.exact greatest literals h.defined))
+
+pub returns-in_err-id-clause-exact : goal.returns-in_err-id-clause-exact
+returns-in_err-id-clause-exact g c = λ greatest leaves before h.
+    let p = err_from_is_err_and c.from_residual-in_err-id.result c.from_residual-in_err-id.ensures.1 in
+    let kind = kind_by c.args.variables.now in
+    let literals = leaves ++ literals_of before in
+    let gate = gate_of (c.in_ok-lhs.lhs, (c.in_ok-rhs0.rhs0, c.in_ok-rhs0.rhs1)) in
+    rw (p.1, p.2) (on_line-weaker c.in_err-id.field-0.0 _ _
+    (λ (no : may_define kind greatest literals gate.lhs ≡ false).
+    misses_line kind 32 literals (operands_at kind) gate_of (may_stand kind greatest literals) _ _ c.in_ok-lhs.lhs (c.in_ok-lhs.ensures.exact greatest literals h.defined) _ (c.in_ok-rhs0.rhs0, c.in_ok-rhs0.rhs1) c.in_ok-rhs0.ensures.exact
+    (may_stand-both kind greatest literals gate ∙ ap (λ b. b && may_use kind greatest gate) no))
+    (c.in_err-id.ensures.exact greatest literals h.defined))
 
 pub index_mut-requires : goal.index_mut-requires
 index_mut-requires g c =
@@ -35,14 +47,13 @@ returns-clause-exact g c = λ greatest leaves before h.
     let literals = leaves ++ literals_of before in
     let gate = gate_of (c.in_ok-lhs.lhs, (c.in_ok-rhs0.rhs0, c.in_ok-rhs0.rhs1)) in
     let first = c.in_ok-id.ensures.exact greatest literals h.defined in
-    let next = c.is_next_gate.ensures in
-    let same : length c.args.nodes.now.items ≡ greatest + 1 = ap length h.placed ∙ nodes_length before (greatest + 1) 0 in
+    let edges = c.in_ok-first.ensures.exact greatest literals h.defined in
+    let same : length c.args.nodes.now.items ≡ greatest + 1 = ap length h.placed ∙ length-row before (greatest + 1) 0 in
     let size : vec_len c.args.nodes.now ≡ greatest + 1 = omega (arith, same, c.args.nodes.now.ok.0) in
     let own = c.in_ok-id.ensures.own (greatest + 1) (subst (λ (n : ℕ). HasRoom n c.args.variables.now 1) size c.requires.room) in (
       gate,
-      rw (c.gate_node.ensures, c.edge_of.ensures, c.edge_of-2.ensures, first.1.0)
-          (more_gates greatest leaves before _ _ _ gate h.placed h.latest own (next_above _ _ _ _ _ next c.if-not-is_next_gate.false) first.1.1),
-      takes_line kind 32 literals (operands_at kind) gate_of
-          (λ (g : GateLine). may_define kind greatest literals g.lhs && list_all (λ e. ltb e g.lhs) (literals_of before) && ltb (g.rhs0 / 2) (g.lhs / 2) && ltb (g.rhs1 / 2) (g.lhs / 2)) _ _ c.in_ok-lhs.lhs
-          (c.in_ok-lhs.ensures.exact greatest literals h.defined) _ (c.in_ok-rhs0.rhs0, c.in_ok-rhs0.rhs1) c.in_ok-rhs0.ensures.exact (gate_test greatest before gate _ _ _ h.latest first.0 own next ∙ c.if-not-is_next_gate.false),
+      rw (c.gate_node.ensures, edges.1.0, edges.1.1, first.1.0)
+          (more_gates greatest leaves before _ _ _ gate h.placed own.1 own.2 (c.in_ok-id.ensures.new greatest literals h.defined) first.1.1 (c.with_gate.ensures before h.in_order own.1)),
+      takes_line kind 32 literals (operands_at kind) gate_of (may_stand kind greatest literals) _ _ c.in_ok-lhs.lhs (c.in_ok-lhs.ensures.exact greatest literals h.defined) _ (c.in_ok-rhs0.rhs0, c.in_ok-rhs0.rhs1) c.in_ok-rhs0.ensures.exact
+          (may_stand-both kind greatest literals gate ∙ rw (first.0, edges.0) refl),
     )

@@ -19,8 +19,8 @@ gate_line-requires-clause-room g c =
     let size : c.args.header.greatest + 1 ≡ vec_len c.loop.nodes = omega (arith, c.loop.invariant.len, c.requires.nodes) in
     subst (λ (n : ℕ). HasRoom n c.loop.variables 1) size (room_for _ _ (c.args.header.greatest + 1) c.args.header.gates c.loop.counter c.loop-test.true c.requires.room c.loop.invariant.room)
 
-pub returns-in_err-last-clause-exact : goal.returns-in_err-last-clause-exact
-returns-in_err-last-clause-exact g c = λ leaves length defined start.
+pub returns-in_err-order-clause-exact : goal.returns-in_err-order-clause-exact
+returns-in_err-order-clause-exact g c = λ leaves length defined start.
     let p = err_from_is_err_and c.from_residual.result c.from_residual.ensures.1 in
     let h = c.loop.invariant.made leaves defined start in
     let kind = kind_by c.args.variables.now in
@@ -28,11 +28,11 @@ returns-in_err-last-clause-exact g c = λ leaves length defined start.
     let count = c.args.header.gates in
     let ns = numbers_of c.args.header in
     let now = g.F.ByteFeed.coming c.loop.f in
-    let e = c.in_err-last.field-0.0 in
+    let e = c.in_err-order.field-0.0 in
     rw (p.1, p.2) (on_line-weaker e _ _
     (λ (k : Misses (gate_at kind greatest leaves h.0) now).
     misses_same (entries_at (gate_at kind greatest leaves) [] count) (fitting_gates_at kind ns leaves) _ (misses_more (gate_at kind greatest leaves) c.loop.counter count _ _ h.0 c.loop-test.true h.2 k) (λ bs. gates_is kind ns leaves bs length))
-    (subst (λ (k : FileKind). OnLine e (Misses (gate_at k greatest leaves h.0) now)) c.loop.invariant.kind (c.in_err-last.ensures.exact greatest leaves h.0 h.1)))
+    (subst (λ (k : FileKind). OnLine e (Misses (gate_at k greatest leaves h.0) now)) c.loop.invariant.kind (c.in_err-order.ensures.exact greatest leaves h.0 h.1)))
 
 pub loop-preserved : goal.loop-preserved
 loop-preserved g c = record {
@@ -40,13 +40,13 @@ loop-preserved g c = record {
       let h = c.loop.invariant.made leaves defined start in
       let kind = kind_by c.args.variables.now in
       let greatest = c.args.header.greatest in
-      let k = c.in_ok-last.ensures.exact greatest leaves h.0 h.1 in (
+      let k = c.in_ok-order.ensures.exact greatest leaves h.0 h.1 in (
         h.0 ++ k.0 ∷ [],
         k.1,
         takes_more (gate_at kind greatest leaves) c.loop.counter _ _ _ h.0 k.0 h.2 (subst (λ (d : FileKind). Takes (gate_at d greatest leaves h.0) (g.F.ByteFeed.coming c.loop.f) (g.F.ByteFeed.coming c.gate_line.new.f) k.0) c.loop.invariant.kind k.2),
       );
   len = c.gate_line.ensures.len ∙ c.loop.invariant.len;
-  room = room_more _ _ _ c.loop.counter c.loop.invariant.room c.in_ok-last.ensures.room;
+  room = room_more _ _ _ c.loop.counter c.loop.invariant.room c.in_ok-order.ensures.room;
   kind = c.gate_line.ensures.kind ∙ c.loop.invariant.kind;
   same = c.gate_line.ensures.same ∙ c.loop.invariant.same;
 }
@@ -60,7 +60,7 @@ returns-clause-exact g c = λ leaves length defined start.
     let count = c.args.header.gates in
     let ns = numbers_of c.args.header in (
       h.0,
-      h.1.placed,
+      (h.1.placed, h.1.defined, h.1.in_order.kept),
       takes_same (entries_at (gate_at kind greatest leaves) [] count) (fitting_gates_at kind ns leaves) _ _ h.0
           (subst (λ (n : ℕ). Takes (entries_at (gate_at kind greatest leaves) [] n) (g.F.ByteFeed.coming c.args.f.now) (g.F.ByteFeed.coming c.loop.f) h.0) all h.2) (λ bs. gates_is kind ns leaves bs length),
     )

@@ -7,7 +7,7 @@ use Rattle.aig_lexer.specs.Takes.{Takes, Misses}
 use Rattle.aig_lexer.proofs.Taking.{takes_same, misses_same}
 use Rattle.aig_reader.specs.Entries.{input_at}
 use Rattle.aig_reader.specs.Faults.{OnLine}
-use Rattle.aig_reader.specs.Lists.{variable_of}
+use Rattle.aig_ordering.specs.Lists.{variable_of}
 use Rattle.aig_reader.specs.Variables.{kind_by}
 use Rattle.aig_reader.proofs.BothKinds.{inputs_is}
 use Rattle.aig_reader.proofs.Entries.{entries_at, takes_more, misses_more, made_push}

@@ -1,6 +1,6 @@
 use Rattle.std.proofs.Common.{◌≡◌, ℕ, ◌+◌, [], map, vec_len}
 use Rattle.aig_reader.specs.Entries.{input_at}
-use Rattle.aig_reader.specs.Lists.{variable_of}
+use Rattle.aig_ordering.specs.Lists.{variable_of}
 use Rattle.aig_reader.specs.Variables.{AreDefined, HasRoom, kind_by}
 use Rattle.aig_lexer.specs.Takes.{Made}
 use Rattle.aig_reader.proofs.Entries.{entries_at}

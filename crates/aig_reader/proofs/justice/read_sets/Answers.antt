@@ -7,7 +7,7 @@ use Rattle.aig_circuit.specs.declared.edge.AigEdge.{AigEdge}
 use Rattle.aig_parsing.specs.Fitting.{literals_at, literal_sets_at}
 use Rattle.aig_lexer.specs.Takes.{Takes, Misses}
 use Rattle.aig_lexer.proofs.Taking.{takes_same, misses_same}
-use Rattle.aig_reader.specs.Lists.{edge_from}
+use Rattle.aig_ordering.specs.Lists.{edge_from}
 use Rattle.aig_reader.proofs.Entries.{entries_at, set_at, sets_is_entries, takes_count, takes_more, misses_more}
 use Rattle.aig_reader.proofs.TestedLines.{on_line-weaker}
 use Rattle.aig_reader.proofs.justice.read_sets.Goals as goal

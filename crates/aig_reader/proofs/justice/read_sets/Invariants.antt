@@ -1,6 +1,6 @@
 use Rattle.std.proofs.Common.{◌≡◌, [], map}
 use Rattle.aig_lexer.specs.Takes.{Made}
-use Rattle.aig_reader.specs.Lists.{edge_from}
+use Rattle.aig_ordering.specs.Lists.{edge_from}
 use Rattle.aig_reader.proofs.Entries.{entries_at, set_at}
 use Rattle.aig_reader.proofs.justice.read_sets.Given as goal
 

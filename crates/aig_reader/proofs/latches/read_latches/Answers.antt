@@ -10,7 +10,7 @@ use Rattle.aig_lexer.proofs.Taking.{takes_same, misses_same}
 use Rattle.aig_reader.specs.declared.variables.Variables.{Variables}
 use Rattle.aig_reader.specs.Entries.{latch_at}
 use Rattle.aig_reader.specs.Faults.{OnLine}
-use Rattle.aig_reader.specs.Lists.{latch_from}
+use Rattle.aig_ordering.specs.Lists.{latch_from}
 use Rattle.aig_reader.specs.Variables.{AreDefined, kind_by}
 use Rattle.aig_reader.proofs.BothKinds.{latches_is}
 use Rattle.aig_reader.proofs.Entries.{entries_at, takes_more, misses_more, made_push}

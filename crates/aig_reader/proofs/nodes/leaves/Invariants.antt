@@ -1,5 +1,5 @@
 use Rattle.std.proofs.Common.{◌≡◌, ◌+◌, []}
-use Rattle.aig_reader.specs.Lists.{nodes_in_row}
+use Rattle.aig_ordering.specs.Lists.{nodes_in_row}
 use Rattle.aig_reader.proofs.nodes.leaves.Given as goal
 
 abbrev pub invariant-loop-id : goal.invariant-loop-id

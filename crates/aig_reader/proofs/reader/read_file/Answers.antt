@@ -35,7 +35,7 @@ read_names-names-requires-clause-distinct g c =
     let body : Body = ((header.kind, numbers_of header), made.0) in
     let taken = takes_both (fitting_header_at c.args.limit) sections_of _ _ _ (header.kind, numbers_of header) made.0 c.in_ok-header.ensures.exact made.2 in
     let fits = accepted c.args.limit _ _ body taken [] [] (no_names_left (numbers_of header)) in
-    rw (c.deref.ensures.value, c.deref-2.ensures.value, made.1.inputs, made.1.latchs) (nodes_distinct (file_from body []) c.args.limit fits.1)
+    rw (c.deref.ensures.value, c.deref-2.ensures.value) (nodes_distinct (file_from body []) c.in_ok-sections.sections made.1 c.args.limit fits.1)
 
 pub returns-in_err-names-clause-exact : goal.returns-in_err-names-clause-exact
 returns-in_err-names-clause-exact g c =
@@ -65,7 +65,7 @@ returns-clause-circuit g c =
       file_from body names.0,
       taken.taken ++ names.2,
       fits,
-      c.with_names.ensures ∙ circuit_is header.kind (numbers_of header) made.0 names.0 s map c.args.limit made.1 kept fits.1,
+      c.with_names.ensures ∙ circuit_is body names.0 s map made.1 kept,
       Consumes-trans _ _ _ taken.taken names.2 taken.consumed names.4,
     )
 

@@ -19,7 +19,7 @@ pub write_gates-requires : goal.write_gates-requires
 write_gates-requires g c = rw c.nodes.ensures.value (HasSmallNumbers-from_circuit c.args.circuit.now c.inputs.ensures.circuit c.requires).nodes
 
 pub returns : goal.returns
-returns g c plain ok =
+returns g c flush ok =
     let inputs = rw c.inputs.ensures.value at c.in_ok-write_inputs.ensures in
     let latches = rw c.latchs.ensures.value at c.in_ok-write_latches.ensures in
     let gates = rw c.nodes.ensures.value at c.in_ok-write_gates.ensures in
@@ -27,4 +27,4 @@ returns g c plain ok =
     let three = shown_append _ two (λ p. latches p refl) in
     let four = shown_append _ three (λ p. c.in_ok-write_properties.ensures p refl) in
     let five = shown_append _ four (λ p. gates p refl) in
-    rw (spelling-sections (file_of Text c.args.circuit.now)) (shown_append _ five (λ p. c.write_names.ensures p ok) plain)
+    rw (spelling-sections (file_of Text c.args.circuit.now)) (shown_append _ five (λ p. c.write_names.ensures p ok) flush)

@@ -13,10 +13,10 @@ loop-i-preserved g c =
     let ns = c.args.inputs.now in
     let places = enumerate_from 0 ns in
     let turn = rw (← name_entry-at 105 name ns c.loop-i.i (omega arith)) at c.in_ok-write_node_name.ensures in
-    shown_turn _ (name_entry 105 name) places c.loop-i.i (0, 0) (omega (arith, length-enumerate_from 0 ns)) c.loop-i.invariant (λ plain. turn plain refl)
+    shown_turn _ (name_entry 105 name) places c.loop-i.i (0, 0) (omega (arith, length-enumerate_from 0 ns)) c.loop-i.invariant (λ flush. turn flush refl)
 
 pub returns : goal.returns
-returns g c plain ok =
+returns g c flush ok =
     let name = get (names_of c.args.names.now.entries) in
     let ns = c.args.inputs.now in
-    rw (name_lines-places 105 0 ns name) (shown_end _ (name_entry 105 name) (enumerate_from 0 ns) c.loop-i.i (omega (arith, length-enumerate_from 0 ns)) c.loop-i.invariant plain)
+    rw (name_lines-places 105 0 ns name) (shown_end _ (name_entry 105 name) (enumerate_from 0 ns) c.loop-i.i (omega (arith, length-enumerate_from 0 ns)) c.loop-i.invariant flush)

@@ -14,10 +14,10 @@ loop-i-preserved g c =
     let ns = latch_leaves c.args.latchs.now in
     let places = enumerate_from 0 ns in
     let turn = rw (c.input.ensures, ← leaf_at c.args.latchs.now c.loop-i.i _ c.loop-i-test.true, ← name_entry-at 108 name ns c.loop-i.i (omega (arith, length-leaves c.args.latchs.now))) at c.in_ok-write_node_name.ensures in
-    shown_turn _ (name_entry 108 name) places c.loop-i.i (0, 0) (omega (arith, length-enumerate_from 0 ns, length-leaves c.args.latchs.now)) c.loop-i.invariant (λ plain. turn plain refl)
+    shown_turn _ (name_entry 108 name) places c.loop-i.i (0, 0) (omega (arith, length-enumerate_from 0 ns, length-leaves c.args.latchs.now)) c.loop-i.invariant (λ flush. turn flush refl)
 
 pub returns : goal.returns
-returns g c plain ok =
+returns g c flush ok =
     let name = get (names_of c.args.names.now.entries) in
     let ns = latch_leaves c.args.latchs.now in
-    rw (name_lines-places 108 0 ns name) (shown_end _ (name_entry 108 name) (enumerate_from 0 ns) c.loop-i.i (omega (arith, length-enumerate_from 0 ns, length-leaves c.args.latchs.now)) c.loop-i.invariant plain)
+    rw (name_lines-places 108 0 ns name) (shown_end _ (name_entry 108 name) (enumerate_from 0 ns) c.loop-i.i (omega (arith, length-enumerate_from 0 ns, length-leaves c.args.latchs.now)) c.loop-i.invariant flush)

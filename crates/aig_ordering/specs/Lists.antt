@@ -1,5 +1,5 @@
--- The lists of a circuit, made of the lines of a file.
-use Rattle.std.specs.Prelude.{ℕ, ◌+◌, ◌/◌, ◌%◌, ◌==◌, if◌then◌else◌, List, map, find, Option, Some, None}
+-- The lists of a circuit, made of the lines of a file, with each variable as its own number.
+use Rattle.std.specs.Prelude.{ℕ, ◌+◌, ◌/◌, ◌%◌, ◌==◌, if◌then◌else◌, List, map, Option, Some, None}
 use Rattle.aig_circuit.specs.declared.edge.AigEdge.{AigEdge}
 use Rattle.aig_circuit.specs.declared.node.AigNodeType.{AigNodeType}
 use Rattle.aig_circuit.specs.declared.node.AigNodeType.TheVariants.{False, Leaf}
@@ -8,6 +8,7 @@ use Rattle.aig_circuit.specs.declared.node.AigLatch.{AigLatch}
 use Rattle.aig_circuit.specs.Edge.{edge_to}
 use Rattle.aig_circuit.specs.Node.{and_of}
 use Rattle.aig_format.specs.File.{LatchLine, GateLine}
+use Rattle.aig_format.specs.Variables.{gate_among}
 use Rattle.aig_format.specs.Numbering.{numbers_from}
 use Rattle.aig_format.specs.Circuit.{initial_of}
 
@@ -30,7 +31,7 @@ kind_by None = Leaf
 
 -- what a variable is, where these gates are defined
 abbrev pub kind_from : List GateLine → ℕ → AigNodeType
-kind_from gates v = if v == 0 then False else kind_by (find (λ g. g.lhs / 2 == v) gates)
+kind_from gates v = if v == 0 then False else kind_by (gate_among gates v)
 
 -- the node of a variable, which has its number
 abbrev pub node_from : List GateLine → ℕ → AigNode

@@ -1,0 +1,5 @@
+pub mod Images
+pub mod Tables
+pub mod Searching
+pub mod Leveling
+pub mod Numbering

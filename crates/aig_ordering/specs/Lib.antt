@@ -1,0 +1,5 @@
+pub mod Lists
+pub mod Tables
+pub mod Search
+pub mod Order
+pub mod Numbers

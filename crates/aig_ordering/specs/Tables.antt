@@ -1,0 +1,46 @@
+-- The tables of a file's variables, and the order that they give. (AIGER format 20071012: "Input/Latch/Output/And section".)
+use Rattle.std.specs.Prelude.{◌≡◌, ℕ, ◌+◌, ◌*◌, ◌≤◌, Bool, true, false, List, length, slice_index_or, Option, None, Result, Ok, Err}
+use Rattle.std.specs.List.{AllByRecursion, list_all}
+use Rattle.aig_circuit.specs.declared.node.AigNode.{AigNode}
+use Rattle.aig_format.specs.File.{GateLine, File, defined}
+use Rattle.aig_format.specs.Variables.{is_known}
+use Rattle.aig_format.specs.Levels.{has_level, level_of}
+use Rattle.aig_format.specs.Fits.{IsDefinable}
+use Rattle.aig_ordering.specs.declared.error.OrderError.{OrderError}
+use Rattle.aig_ordering.specs.declared.error.OrderError.TheVariants.{Memory, Variable}
+use Rattle.aig_ordering.specs.Lists.{nodes_of}
+
+-- both operands are literals of variables up to the greatest
+abbrev pub HasOperands : ℕ → GateLine → Type 0
+HasOperands greatest g = (g.rhs0 ≤ 2 * greatest + 1) × (g.rhs1 ≤ 2 * greatest + 1)
+
+-- the nodes of the file's variables, each at the place of its variable; what the lines define is definable and leaves room
+pub record AreNodesOf (f : File) (nodes : List AigNode) : Type 0 where
+  pub placed : nodes ≡ nodes_of f.greatest f.gates
+  pub definable : AllByRecursion (IsDefinable f.greatest) (defined f)
+  pub operands : AllByRecursion (HasOperands f.greatest) f.gates
+  pub few : length f.gates ≤ f.greatest
+
+-- for each variable of the file, whether it is 0 or defined
+pub record AreKnownOf (f : File) (known : List Bool) : Type 0 where
+  pub count : length known ≡ f.greatest + 1
+  pub each : (v : ℕ) → v ≤ f.greatest → slice_index_or known v false ≡ is_known f v
+
+-- the fact, unless memory failed
+abbrev pub OnOrder : OrderError → Type 0 → Type 0
+OnOrder Memory P = Unit {0}
+OnOrder Variable P = P
+
+-- no gate of the file stands on itself
+abbrev pub all_have_levels : File → Bool
+all_have_levels f = list_all (has_level f) f.gates
+
+-- a value of a file in which each gate has a level, or a refusal of one in which some gate has none
+abbrev pub IfLevels : {X : Type 0} → File → (X → Type 0) → Result X OrderError → Type 0
+IfLevels f P (Ok x) = (all_have_levels f ≡ true) × P x
+IfLevels f P (Err e) = OnOrder e (all_have_levels f ≡ false)
+
+-- the level of each variable of the file
+pub record AreLevelsOf (f : File) (levels : List (Option ℕ)) : Type 0 where
+  pub count : length levels ≡ f.greatest + 1
+  pub each : (v : ℕ) → v ≤ f.greatest → slice_index_or levels v None ≡ level_of f v

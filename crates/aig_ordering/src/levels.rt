@@ -1,0 +1,129 @@
+//! The levels of variables.
+
+ghost use Rattle.std.specs.Prelude.{◌≡◌, ℕ, ◌+◌, ◌^◌, ◌<◌, ◌≤◌, false, length, slice_index_or, true, vec_len, IfErr, IfOk, MatchOption, MatchResult, OnOk, Some};
+ghost use Rattle.aig_circuit.specs.Node.{IfAnd};
+ghost use Rattle.aig_format.specs.File.{File};
+ghost use Rattle.aig_ordering.specs.Search.{IsAt, IsAtRest, IsAtSome, IsTask, Opens, StaysOpen, level_at, work_of};
+ghost use Rattle.aig_ordering.specs.Tables.{AreLevelsOf, AreNodesOf, IfLevels, OnOrder, all_have_levels};
+
+use crate::error::OrderError;
+use aig_circuit::{AigNode, AigNodeType};
+use std::alloc::Global;
+
+/// A search for levels: each variable is opened once, and gets its level when those of its operands are known.
+#[derive(Drop)]
+pub struct Search {
+    /// The level of each variable, where it is known.
+    pub levels: Vec<Option<usize>>,
+    /// Which variables were opened.
+    pub opened: Vec<bool>,
+    /// The variables that wait for the levels of operands, each for that of the next one.
+    pub path: Vec<usize>,
+}
+
+/// What is to be done for a variable.
+pub enum Task {
+    /// The level of this operand is to be found first.
+    Operand(usize),
+    /// This is its level.
+    Level(usize),
+}
+
+/// What is to be done for a variable of this kind, by the levels that are known.
+fn task_of(levels: &[Option<usize>], kind: AigNodeType) -> Task
+    requires operands { IfAnd kind (λ n. n < length levels.now) }
+    requires small { (v k : ℕ) → level_at levels.now v ≡ Some k → k + 1 < 2 ^ 64 }
+    ensures { IsTask levels.now kind result }
+{
+    let AigNodeType::And(first, second) = kind else {
+        return Task::Level(0);
+    };
+    match (levels[first.node_id()], levels[second.node_id()]) {
+        (None, _) => Task::Operand(first.node_id()),
+        (_, None) => Task::Operand(second.node_id()),
+        (Some(a), Some(b)) => Task::Level(a.max(b) + 1),
+    }
+}
+
+impl Search {
+    /// A search in which no level is known.
+    fn new(alloc: Global, count: usize) -> Result<Self, OrderError>
+        ensures rest { IfOk result (λ search. (f : File) → count ≡ f.greatest + 1 → IsAtRest f search) }
+        ensures err { IfErr result (λ e. e ≡ OrderError.Memory) }
+    {
+        Ok(Search {
+            levels: vec![in alloc; None; count]?,
+            opened: vec![in alloc; false; count]?,
+            path: Vec::new(alloc),
+        })
+    }
+
+    /// Opens an operand of a variable, which waits for it. A variable that is open already is refused.
+    fn open(&mut self, variable: usize, operand: usize) -> Result<usize, OrderError>
+        requires { operand < vec_len self.old.opened }
+        ensures ok { IfOk result (λ at. (at ≡ operand) × Opens self.old self.new variable operand) }
+        ensures err { IfErr result (λ e. OnOrder e (slice_index_or self.old.opened.items operand false ≡ true)) }
+    {
+        if self.opened[operand] {
+            return Err(OrderError::Variable);
+        }
+        self.path.push(variable)?;
+        self.opened[operand] = true;
+        Ok(operand)
+    }
+
+    /// Goes one step on from a variable: to an operand, or, once its level is known, to the variable that waits for it.
+    fn step(&mut self, nodes: &[AigNode], variable: usize) -> Result<Option<usize>, OrderError>
+        requires nodes { (f : File) × AreNodesOf f nodes.now }
+        requires within { variable < length nodes.now }
+        requires at { (f : File) → AreNodesOf f nodes.now → IsAt f self.old variable }
+        ensures at { (f : File) → AreNodesOf f nodes.now → MatchResult result (IsAtSome f self.new) (λ e. OnOrder e (all_have_levels f ≡ false)) }
+        ensures stays { OnOk result (StaysOpen self.old self.new) }
+        ensures fewer { IfOk result (λ at. MatchOption at (work_of self.new ≤ work_of self.old) (λ _. work_of self.new < work_of self.old)) }
+    {
+        match task_of(&self.levels, *nodes[variable].typ()) {
+            Task::Operand(operand) => Ok(Some(self.open(variable, operand)?)),
+            Task::Level(level) => {
+                self.levels[variable] = Some(level);
+                Ok(self.path.pop())
+            }
+        }
+    }
+
+    /// Finds the level of a variable, with those of all that it stands on.
+    fn find(&mut self, nodes: &[AigNode], start: usize) -> Result<(), OrderError>
+        requires nodes { (f : File) × AreNodesOf f nodes.now }
+        requires start { start < length nodes.now }
+        requires rest { (f : File) → AreNodesOf f nodes.now → IsAtRest f self.old }
+        ensures rest { (f : File) → AreNodesOf f nodes.now → MatchResult result (λ _. IsAtRest f self.new) (λ e. OnOrder e (all_have_levels f ≡ false)) }
+        ensures stays { OnOk result (StaysOpen self.old self.new) }
+        ensures started { OnOk result (slice_index_or self.new.opened.items start false ≡ true) }
+    {
+        if self.opened[start] {
+            return Ok(());
+        }
+        self.opened[start] = true;
+        let mut current = Some(start);
+        while let Some(variable) = current {
+            current = self.step(nodes, variable)?;
+        }
+        Ok(())
+    }
+}
+
+/// The level of each variable. `nodes` has each variable at its place, with edges to variables.
+pub fn find_levels(alloc: Global, nodes: &[AigNode]) -> Result<Vec<Option<usize>>, OrderError>
+    requires { (f : File) × AreNodesOf f nodes.now }
+    ensures { (f : File) → AreNodesOf f nodes.now → IfLevels f (λ levels. AreLevelsOf f levels.items) result }
+{
+    let mut search = Search::new(alloc, nodes.len())?;
+    for variable in 0..nodes.len() {
+        search.find(nodes, variable)?;
+    }
+    let Search {
+        levels,
+        opened: _,
+        path: _,
+    } = search;
+    Ok(levels)
+}

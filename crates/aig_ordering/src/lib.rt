@@ -1,0 +1,12 @@
+//! The order of a file's variables by level: where a text file leaves variables out or has its gates in any order, the
+//! numbers that its variables get as nodes, and the lists of its circuit under these numbers.
+#![tactic(auto)]
+
+mod error;
+mod levels;
+mod lists;
+mod order;
+
+pub use error::OrderError;
+pub use lists::{edges, latchs, nodes, sets, variables};
+pub use order::{numbers, order_by_level};

@@ -1,0 +1,103 @@
+-- The sections that were read, as those of the file's circuit.
+use Rattle.std.proofs.Common.{◌≡◌, ℕ, ◌/◌, Bool, true, false, ◌||◌, ◌&&◌, List, [], ◌++◌, length, map, Option, Result, Ok, Err, IfOk, IfErr, vec_len, refl, ap, sym, subst, ◌∙◌, arith}
+use Rattle.std.specs.List.{list_all}
+use Rattle.std.proofs.lemmas.List.{length-map}
+use Rattle.aig_format.specs.declared.FileKind.{FileKind}
+use Rattle.aig_format.specs.declared.FileKind.TheVariants.{Text, Binary}
+use Rattle.aig_format.specs.Circuit.{circuit_of, latch_of}
+use Rattle.aig_format.specs.File.{File}
+use Rattle.aig_format.specs.Levels.{has_level}
+use Rattle.aig_format.specs.Numbering.{is_older, number_of}
+use Rattle.aig_parsing.specs.Front.{Parts, is_good}
+use Rattle.aig_parsing.specs.Fitting.{fitting_sections_at, keeps_rules, section_lines_at, uses_known}
+use Rattle.aig_parsing.proofs.SectionFacts.{HasCounts, lines_tell}
+use Rattle.aig_lexer.specs.declared.header.Header.{Header}
+use Rattle.aig_lexer.specs.Header.{numbers_of}
+use Rattle.aig_lexer.specs.Takes.{Makes, Takes}
+use Rattle.aig_lexer.proofs.Taking.{misses_test, takes_tested}
+use Rattle.aig_ordering.specs.declared.error.OrderError.{OrderError}
+use Rattle.aig_ordering.specs.declared.error.OrderError.TheVariants.{Memory, Variable}
+use Rattle.aig_reader.specs.declared.error.Section.{Section}
+use Rattle.aig_reader.specs.declared.lines.Lines.{Lines}
+use Rattle.aig_reader.specs.declared.error.ReadError.{ReadError}
+use Rattle.aig_reader.specs.declared.error.ReadError.TheVariants as errors
+use Rattle.aig_reader.specs.declared.sections.Sections.{Sections}
+use Rattle.aig_reader.specs.Faults.{IsNumberFault, IsSectionFault, OnRefusal, order_error_in, result_by}
+use Rattle.aig_reader.specs.Numbered.{AreNumberedProperties, IsCircuitOf, Judged}
+use Rattle.aig_reader.specs.Sections.{AreLinesOf, file_by}
+use Rattle.aig_reader.proofs.Body.{on_refusal-weaker}
+use Rattle.aig_reader.proofs.FileCircuit.{inputs_is, latchs_is, older_circuit}
+
+module _ (header : Header) (x : Parts) (b a : Option (List ℕ)) (taken : Takes (section_lines_at header.kind (numbers_of header)) b a x) where
+  abbrev keeps : Parts → Bool
+  keeps y = keeps_rules header.kind (file_by header y)
+
+  -- numbered sections, or a refusal, behind the last gate
+  pub numbered_made : (result : Result Sections ReadError) → Judged (keeps x) (IsCircuitOf (file_by header x)) result
+      → Makes OnRefusal (λ (sections : Sections) y. IsCircuitOf (file_by header y) sections) b a result (fitting_sections_at header.kind (numbers_of header))
+  numbered_made (Ok sections) h = (x, h.1, takes_tested (section_lines_at header.kind (numbers_of header)) keeps b a x taken h.0)
+  numbered_made (Err e) h = on_refusal-weaker e _ _ (λ (no : keeps x ≡ false). misses_test (section_lines_at header.kind (numbers_of header)) keeps b a x taken no) h
+
+  module _ (good : is_good header.kind (numbers_of header) ≡ true) where
+    abbrev counts : HasCounts header.kind (numbers_of header) x
+    counts = (lines_tell header.kind (numbers_of header) x (taken.taken ++ []) [] good (taken.reads [])).counts
+
+    pub inputs_count : (result : Result Sections ReadError) → Judged (keeps x) (IsCircuitOf (file_by header x)) result → IfOk result (λ sections. vec_len sections.inputs ≡ header.inputs)
+    inputs_count (Ok sections) h =
+        let all = ap length (inputs_is (file_by header x) sections h.1) ∙ length-map x.0 (λ e. number_of (file_by header x) (e / 2)) in
+        omega (arith, all, counts.inputs, sections.inputs.ok.0)
+    inputs_count (Err e) h = tt
+
+    pub latchs_count : (result : Result Sections ReadError) → Judged (keeps x) (IsCircuitOf (file_by header x)) result → IfOk result (λ sections. vec_len sections.latchs ≡ header.latches)
+    latchs_count (Ok sections) h =
+        let all = ap length (latchs_is (file_by header x) sections h.1) ∙ length-map x.1.0 (latch_of (file_by header x)) in
+        omega (arith, all, counts.latches, sections.latchs.ok.0)
+    latchs_count (Err e) h = tt
+
+-- a fault of numbers is one of sections
+number_fault : (e : ReadError) → IsNumberFault e → IsSectionFault e
+number_fault errors.Memory h = tt
+number_fault (errors.Literal s) h = tt
+number_fault errors.Stream h = tt
+number_fault errors.Header h = h
+number_fault errors.TooMany h = h
+number_fault (errors.Syntax s) h = tt
+number_fault errors.Delta h = tt
+number_fault errors.Name h = h
+number_fault errors.Open h = h
+
+pub number_faults : (result : Result Sections ReadError) → IfErr result IsNumberFault → IfErr result IsSectionFault
+number_faults (Ok sections) h = tt
+number_faults (Err e) h = number_fault e h
+
+-- and not of the stream
+pub no_stream : (result : Result Sections ReadError) → IfErr result IsNumberFault → result ≡ Err errors.Stream → ⊥
+no_stream result h is = subst (λ (r : Result Sections ReadError). IfErr r IsNumberFault) is h
+
+-- ---- the two ways to number
+
+module _ (f : File) where
+  -- by the older rules the lines' sections are the circuit's
+  pub older_judged : (lines : Lines) → AreLinesOf f lines → is_older f ≡ true → (keeps_rules f.kind f ≡ true) × IsCircuitOf f lines.sections
+  older_judged lines h older = (by_kind f.kind, older_circuit f h.good older lines.sections h.sections h.nodes.placed)
+    where
+      by_kind : (kind : FileKind) → keeps_rules kind f ≡ true
+      by_kind Text = ap (λ b. b || (uses_known f && list_all (has_level f) f.gates)) older
+      by_kind Binary = refl
+
+  -- else the newer rules are tested
+  pub newer_judged : (result : Result Sections ReadError) → f.kind ≡ Text → is_older f ≡ false → Judged (uses_known f && list_all (has_level f) f.gates) (IsCircuitOf f) result → Judged (keeps_rules f.kind f) (IsCircuitOf f) result
+  newer_judged result text newer h =
+      let newer_rules = uses_known f && list_all (has_level f) f.gates in
+      subst (λ b. Judged b (IsCircuitOf f) result) (sym (ap (λ k. keeps_rules k f) text ∙ ap (λ b. b || newer_rules) newer)) h
+
+  -- sections of lists under the numbers of nodes are the circuit's
+  pub numbered_circuit : (sections : Sections) → sections.nodes.items ≡ (circuit_of f).nodes → sections.inputs.items ≡ map (λ e. number_of f (e / 2)) f.inputs → sections.latchs.items ≡ map (latch_of f) f.latches
+      → AreNumberedProperties f sections.properties → IsCircuitOf f sections
+  numbered_circuit sections nodes inputs latchs p = λ names. rw (nodes, inputs, latchs, p.outputs, p.bads, p.constraints, p.justice, p.fairness) refl
+
+-- a list's fault is one of numbers
+pub list_fault : {X : Type 0} (section : Section) (lists : Result X OrderError) (result : Result X ReadError) (e : ReadError) → result ≡ result_by (order_error_in section) lists → result ≡ Err e → IsNumberFault e
+list_fault section (Ok x) result e is was = let same = sym is ∙ was in absurd cc
+list_fault {X} section (Err Memory) result e is was = let same : ◌≡◌ {A = Result X ReadError} (Err errors.Memory) (Err e) = sym is ∙ was in let fault : errors.Memory ≡ e = cc in subst IsNumberFault fault tt
+list_fault {X} section (Err Variable) result e is was = let same : ◌≡◌ {A = Result X ReadError} (Err (errors.Literal section)) (Err e) = sym is ∙ was in let fault : errors.Literal section ≡ e = cc in subst IsNumberFault fault tt

@@ -1,0 +1,116 @@
+use Rattle.std.proofs.Common.{◌≡◌, ◌∙◌, ◌++◌, ◌+◌, ◌&&◌, [], ℕ, Bool, ap, sym, length, map, subst, arith}
+use Rattle.std.specs.Prelude.{◌==◌}
+use Rattle.std.proofs.lemmas.Result.{err_from_is_err_and}
+use Rattle.aig_parsing.specs.Fitting.{fitting_gates_at}
+use Rattle.aig_parsing.specs.Front.{Parts}
+use Rattle.aig_parsing.proofs.SectionFacts.{lines_tell}
+use Rattle.aig_format.specs.declared.FileKind.{FileKind}
+use Rattle.aig_lexer.specs.Header.{numbers_of}
+use Rattle.aig_lexer.specs.Takes.{Misses, Takes}
+use Rattle.aig_ordering.proofs.Tables.{length-row}
+use Rattle.aig_reader.specs.declared.error.Section.TheVariants.{Inputs, Latches}
+use Rattle.aig_reader.specs.Faults.{OnRefusal, error_in, gate_error_in}
+use Rattle.aig_reader.specs.Sections.{file_by}
+use Rattle.aig_reader.specs.Variables.{HasRoom}
+use Rattle.aig_reader.proofs.Body.{in_gates, made_in, missed_in, misses_gates, misses_properties, on_refusal-weaker, takes_sections}
+use Rattle.aig_reader.proofs.ReadLeaves.{leaves_read, literals_with}
+use Rattle.aig_reader.proofs.ReadNames.{if_ok_in}
+use Rattle.aig_reader.proofs.Rooms.{room_weaker}
+use Rattle.aig_reader.proofs.lines.read_lines.Goals as goal
+
+pub read_inputs-inputs-requires-clause-room : goal.read_inputs-inputs-requires-clause-room
+read_inputs-inputs-requires-clause-room g c =
+    let header = c.args.header in
+    let enough = c.requires.enough in
+    room_weaker _ (header.greatest + 1) header.inputs header.greatest (omega (arith, enough)) c.new-variables.ensures.room
+
+pub read_latches-latchs-requires-clause-room : goal.read_latches-latchs-requires-clause-room
+read_latches-latchs-requires-clause-room g c =
+    let header = c.args.header in
+    let enough = c.requires.enough in
+    let size = header.greatest + 1 in
+    let rest = header.gates + header.latches in
+    let all = room_weaker c.new-variables.result size (rest + header.inputs) header.greatest (omega (arith, enough)) c.new-variables.ensures.room in
+    let left = if_ok_in (error_in Inputs) (λ _. (size k : ℕ) → HasRoom size c.new-variables.result (k + header.inputs) → HasRoom size c.read_inputs-inputs.new.variables k) c.read_inputs-inputs.result c.result_of.result c.in_ok-inputs.inputs
+    c.result_of.ensures c.in_ok-inputs.was c.read_inputs-inputs.ensures.room in
+    room_weaker _ size header.latches rest (omega arith) (left size rest all)
+
+pub read_gates-gates-requires-clause-nodes : goal.read_gates-gates-requires-clause-nodes
+read_gates-gates-requires-clause-nodes g c =
+    let greatest = c.args.header.greatest in
+    let same : length c.in_ok-nodes.nodes.items ≡ greatest + 1 = ap length c.in_ok-nodes.ensures ∙ length-row [] (greatest + 1) 0 in
+    omega (arith, same, c.in_ok-nodes.nodes.ok.0)
+
+pub read_gates-gates-requires-clause-room : goal.read_gates-gates-requires-clause-room
+read_gates-gates-requires-clause-room g c =
+    let header = c.args.header in
+    let enough = c.requires.enough in
+    let size = header.greatest + 1 in
+    let rest = header.gates + header.latches in
+    let all = room_weaker c.new-variables.result size (rest + header.inputs) header.greatest (omega (arith, enough)) c.new-variables.ensures.room in
+    let left = if_ok_in (error_in Inputs) (λ _. (size k : ℕ) → HasRoom size c.new-variables.result (k + header.inputs) → HasRoom size c.read_inputs-inputs.new.variables k) c.read_inputs-inputs.result c.result_of.result c.in_ok-inputs.inputs
+    c.result_of.ensures c.in_ok-inputs.was c.read_inputs-inputs.ensures.room in
+    let more = if_ok_in (error_in Latches) (λ _. (size k : ℕ) → HasRoom size c.read_inputs-inputs.new.variables (k + header.latches) → HasRoom size c.read_latches-latchs.new.variables k) c.read_latches-latchs.result c.result_of-2.result c.in_ok-latchs.latchs
+    c.result_of-2.ensures c.in_ok-latchs.was c.read_latches-latchs.ensures.room in
+    more size header.gates (left size rest all)
+
+pub returns-in_err-properties-clause-exact : goal.returns-in_err-properties-clause-exact
+returns-in_err-properties-clause-exact g c =
+    let header = c.args.header in
+    let kind = header.kind in
+    let inputs = c.read_inputs-inputs.ensures in
+    let latchs = c.read_latches-latchs.ensures in
+    let leaves = leaves_read header kind _ _ _ _ _ _ _ _ _ _ _ _ c.new-variables.ensures.kind inputs.kind c.result_of.ensures c.in_ok-inputs.was (inputs.exact c.new-variables.ensures.defined) inputs.count c.result_of-2.ensures c.in_ok-latchs.was latchs.exact latchs.count in
+    let p = err_from_is_err_and c.from_residual-in_err-properties.result c.from_residual-in_err-properties.ensures.1 in
+    let e = c.in_err-properties.field-0.0 in
+    rw (p.1, p.2) (on_refusal-weaker e _ _ (misses_properties kind (numbers_of header) _ _ leaves.literals leaves.takes_inputs _ leaves.lines leaves.takes_latchs) c.in_err-properties.ensures.exact)
+
+pub returns-in_err-in_order-clause-exact : goal.returns-in_err-in_order-clause-exact
+returns-in_err-in_order-clause-exact g c =
+    let header = c.args.header in
+    let kind = header.kind in
+    let start = c.new-variables.ensures.kind in
+    let inputs = c.read_inputs-inputs.ensures in
+    let latchs = c.read_latches-latchs.ensures in
+    let leaves = leaves_read header kind _ _ _ _ _ _ _ _ _ _ _ _ start inputs.kind c.result_of.ensures c.in_ok-inputs.was (inputs.exact c.new-variables.ensures.defined) inputs.count c.result_of-2.ensures c.in_ok-latchs.was latchs.exact latchs.count in
+    let properties = c.in_ok-properties.ensures.exact in
+    let gates = c.read_gates-gates.ensures.exact (literals_with leaves.literals leaves.lines) leaves.count leaves.defined c.in_ok-nodes.ensures in
+    let e = c.in_err-in_order.field-0.0 in
+    let missed = missed_in (gate_error_in kind) (in_gates kind) _ _ _ _ c.read_gates-gates.result c.gates_result.result e c.gates_result.ensures c.in_err-in_order.was gates in
+    let p = err_from_is_err_and c.from_residual-in_err-in_order.result c.from_residual-in_err-in_order.ensures.1 in
+    rw (p.1, p.2) (on_refusal-weaker e _ _ (misses_gates kind (numbers_of header) _ _ leaves.literals leaves.takes_inputs _ leaves.lines leaves.takes_latchs _ properties.0 properties.2)
+    (subst (λ (k : FileKind). OnRefusal e (Misses (fitting_gates_at k (numbers_of header) (literals_with leaves.literals leaves.lines)) (g.F.ByteFeed.coming c.read_properties.new.f))) (latchs.kind ∙ inputs.kind ∙ start) missed))
+
+pub returns-clause-exact : goal.returns-clause-exact
+returns-clause-exact g c =
+    let header = c.args.header in
+    let kind = header.kind in
+    let ns = numbers_of header in
+    let start = c.new-variables.ensures.kind in
+    let inputs = c.read_inputs-inputs.ensures in
+    let latchs = c.read_latches-latchs.ensures in
+    let leaves = leaves_read header kind _ _ _ _ _ _ _ _ _ _ _ _ start inputs.kind c.result_of.ensures c.in_ok-inputs.was (inputs.exact c.new-variables.ensures.defined) inputs.count c.result_of-2.ensures c.in_ok-latchs.was latchs.exact latchs.count in
+    let properties = c.in_ok-properties.ensures.exact in
+    let defined = literals_with leaves.literals leaves.lines in
+    let gates = made_in (gate_error_in kind) (in_gates kind) _ _ _ _ c.read_gates-gates.result c.gates_result.result c.in_ok-in_order.in_order c.gates_result.ensures c.in_ok-in_order.was (c.read_gates-gates.ensures.exact defined leaves.count leaves.defined c.in_ok-nodes.ensures) in
+    let same = latchs.kind ∙ inputs.kind ∙ start in
+    let hg : Takes (fitting_gates_at kind ns defined) (g.F.ByteFeed.coming c.read_properties.new.f) (g.F.ByteFeed.coming c.read_gates-gates.new.f) gates.0 =
+    subst (λ (k : FileKind). Takes (fitting_gates_at k ns defined) (g.F.ByteFeed.coming c.read_properties.new.f) (g.F.ByteFeed.coming c.read_gates-gates.new.f) gates.0) same gates.2 in
+    let x = properties.0 in
+    let y : Parts = (leaves.literals, (leaves.lines, (x.0, (x.1.0, (x.1.1.0, (x.1.1.1.0, (x.1.1.1.1.0, (x.1.1.1.1.1, gates.0)))))))) in
+    let f = file_by header y in
+    let taken = takes_sections kind ns _ _ leaves.literals leaves.takes_inputs _ leaves.lines leaves.takes_latchs _ x properties.2 _ gates.0 hg in
+    let tell = lines_tell kind ns y (taken.taken ++ []) [] c.requires.good (taken.reads []) in
+    let enough = c.requires.enough in
+    let p = properties.1 in (
+      y,
+      record {
+        good = record { definable = tell.variables.definable; distinct = tell.variables.distinct; in_range = tell.in_range; binary = tell.older };
+        sections = record { inputs = leaves.inputs_are; latchs = leaves.latchs_are; properties = record { outputs = p.outputs; bads = p.bads; constraints = p.constraints; justice = p.justice; fairness = p.fairness } };
+        nodes = record { placed = gates.1.0; definable = tell.variables.definable; operands = tell.variables.operands; few = omega (arith, tell.counts.gates, enough) };
+        defined = gates.1.1;
+        kind = c.read_gates-gates.ensures.kind ∙ same;
+        older = c.is_older.ensures ∙ ap (λ (n : ℕ). header.greatest == n && c.in_ok-in_order.in_order) (sym tell.count) ∙ ap (λ (b : Bool). header.greatest == length (f.inputs ++ map (λ l. l.literal) f.latches ++ map (λ g. g.lhs) f.gates) && b) gates.1.2;
+      },
+      taken,
+    )

@@ -1,0 +1,112 @@
+//! The numbers of nodes. Where no variable is missing and the gates rise, each above its operands, a variable is its own number;
+//! else the defined variables are numbered by level and, within a level, in rising order.
+
+ghost use Rattle.std.specs.Prelude.{◌≡◌, ◌&&◌, false, IfErr};
+ghost use Rattle.std.specs.List.{list_all};
+ghost use Rattle.aig_format.specs.Circuit.{circuit_of};
+ghost use Rattle.aig_format.specs.File.{File};
+ghost use Rattle.aig_format.specs.Levels.{has_level};
+ghost use Rattle.aig_format.specs.Numbering.{is_older};
+ghost use Rattle.aig_parsing.specs.Fitting.{keeps_rules, uses_known};
+ghost use Rattle.aig_ordering.specs.Tables.{AreKnownOf, AreNodesOf};
+ghost use Rattle.aig_reader.specs.Faults.{IsNumberFault};
+ghost use Rattle.aig_reader.specs.Numbered.{AreNumberedProperties, AreNumbersOf, IsCircuitOf, Judged, JudgedOrder, have_operands, knows_properties};
+ghost use Rattle.aig_reader.specs.Properties.{ArePropertiesOf, property_parts};
+ghost use Rattle.aig_reader.specs.Sections.{AreLinesOf, AreSectionsOf, HasGoodLines};
+
+use crate::error::{ReadError, Section};
+use crate::lines::Lines;
+use crate::properties::Properties;
+use crate::sections::Sections;
+use crate::variables::Variables;
+use aig_circuit::AigNode;
+use aig_ordering::{OrderError, edges, latchs, nodes, numbers, order_by_level, sets, variables};
+use std::alloc::Global;
+
+/// The nodes by level, and the number of each variable that is 0 or defined.
+fn number_nodes(
+    alloc: Global,
+    old: &[AigNode],
+    known: &[bool],
+) -> Result<(Vec<AigNode>, Vec<Option<usize>>), OrderError>
+    requires tables { (f : File) × AreNodesOf f old.now × AreKnownOf f known.now }
+    ensures { (f : File) → HasGoodLines f → AreNodesOf f old.now → AreKnownOf f known.now → is_older f ≡ false → JudgedOrder (list_all (has_level f) f.gates && have_operands f) (λ x. (x.0.items ≡ (circuit_of f).nodes) × AreNumbersOf f x.1.items) result }
+{
+    let order = order_by_level(alloc, old, known)?;
+    let numbers = numbers(alloc, &order, old.len())?;
+    let nodes = nodes(alloc, &numbers, old, &order)?;
+    Ok((nodes, numbers))
+}
+
+impl Properties {
+    /// The lists under the numbers of their variables.
+    fn numbered(&self, alloc: Global, numbers: &[Option<usize>]) -> Result<Properties, ReadError>
+        ensures exact { (f : File) → AreNumbersOf f numbers.now → ArePropertiesOf self.now (property_parts f) → Judged (knows_properties f) (AreNumberedProperties f) result }
+        ensures fault { IfErr result IsNumberFault }
+    {
+        let outputs = edges(alloc, numbers, &self.outputs);
+        let outputs = Section::Outputs.numbered(outputs)?;
+        let bads = edges(alloc, numbers, &self.bads);
+        let bads = Section::Bads.numbered(bads)?;
+        let constraints = edges(alloc, numbers, &self.constraints);
+        let constraints = Section::Constraints.numbered(constraints)?;
+        let justice = sets(alloc, numbers, &self.justice);
+        let justice = Section::Justice.numbered(justice)?;
+        let fairness = edges(alloc, numbers, &self.fairness);
+        let fairness = Section::Fairness.numbered(fairness)?;
+        Ok(Properties {
+            outputs,
+            bads,
+            constraints,
+            justice,
+            fairness,
+        })
+    }
+}
+
+impl Sections {
+    /// The sections with the defined variables by level. `known` tells of each variable whether it is 0 or defined.
+    fn by_level(self, alloc: Global, known: &[bool]) -> Result<Sections, ReadError>
+        requires tables { (f : File) × AreNodesOf f self.nodes.items × AreKnownOf f known.now }
+        ensures exact { (f : File) → HasGoodLines f → AreNodesOf f self.nodes.items → AreKnownOf f known.now → AreSectionsOf self f → is_older f ≡ false → Judged (uses_known f && list_all (has_level f) f.gates) (IsCircuitOf f) result }
+        ensures fault { IfErr result IsNumberFault }
+    {
+        let nodes = number_nodes(alloc, &self.nodes, known);
+        let (nodes, numbers) = Section::Gates.numbered(nodes)?;
+        let inputs = variables(alloc, &numbers, &self.inputs);
+        let inputs = Section::Inputs.numbered(inputs)?;
+        let latchs = latchs(alloc, &numbers, &self.latchs);
+        let latchs = Section::Latches.numbered(latchs)?;
+        let properties = self.properties.numbered(alloc, &numbers)?;
+        Ok(Sections {
+            nodes,
+            inputs,
+            latchs,
+            properties,
+        })
+    }
+}
+
+impl Lines {
+    /// The sections under the numbers of nodes. Refuses what is used and not defined, and gates that stand on themselves.
+    pub fn numbered(self, alloc: Global) -> Result<Sections, ReadError>
+        requires { (f : File) × AreLinesOf f self }
+        ensures exact { (f : File) → AreLinesOf f self → Judged (keeps_rules f.kind f) (IsCircuitOf f) result }
+        ensures fault { IfErr result IsNumberFault }
+    {
+        let Lines {
+            sections,
+            variables,
+            is_older,
+        } = self;
+        let marks = match variables {
+            Variables::Marked(marks) => marks,
+            Variables::Counted(_) => return Ok(sections),
+        };
+        if is_older {
+            return Ok(sections);
+        }
+        let known = marks.known()?;
+        sections.by_level(alloc, &known)
+    }
+}

@@ -1,0 +1,54 @@
+//! What the sections of a file give.
+
+ghost use Rattle.std.specs.Prelude.{◌≡◌};
+ghost use Rattle.aig_circuit.specs.View.{lists_circuit, names_of};
+ghost use Rattle.aig_reader.specs.Sections.{circuit_with};
+
+use crate::properties::Properties;
+use aig_circuit::{AigLatch, AigNode, CircuitLists};
+use std::collections::HashMap;
+
+/// What the sections of a file give: nodes, and lists that name them.
+#[derive(Drop)]
+pub struct Sections {
+    /// The nodes, the first of which is false.
+    pub nodes: Vec<AigNode>,
+    /// The numbers of the inputs, in the file's order.
+    pub inputs: Vec<usize>,
+    /// The latches, in the file's order.
+    pub latchs: Vec<AigLatch>,
+    /// The property lists.
+    pub properties: Properties,
+}
+
+impl Sections {
+    /// The lists of the circuit, with these names.
+    pub fn with_names(self, names: HashMap<usize, String>) -> CircuitLists
+        ensures { lists_circuit result ≡ circuit_with self (names_of names.entries) }
+    {
+        let Sections {
+            nodes,
+            inputs,
+            latchs,
+            properties,
+        } = self;
+        let Properties {
+            outputs,
+            bads,
+            constraints,
+            justice,
+            fairness,
+        } = properties;
+        CircuitLists {
+            nodes,
+            inputs,
+            latchs,
+            outputs,
+            bads,
+            constraints,
+            justice,
+            fairness,
+            names,
+        }
+    }
+}
