@@ -1,4 +1,4 @@
-//! Reads an AIGER file, makes a property of its first output, and prints two steps of the hashed circuit.
+//! Reads an AIGER file, makes a property of its first output, and prints two steps of the refined and hashed circuit.
 #![tactic(auto)]
 
 ghost use Rattle.std.specs.Prelude.{◌≡◌, ◌<◌, ◌&&◌, ◌||◌, ℕ, Bool, IfOk, length, not, slice_index_or};
@@ -56,9 +56,9 @@ fn add_bad_state(aig: &mut Aig) -> Result<(), MemoryError> {
     aig.push_edge(PropList::Bads, !holds)
 }
 
-/// Reads a circuit from `r`, and writes two steps of it to `w`.
+/// Reads a circuit from `r`, and writes two steps of its cone of influence to `w`.
 fn show<R: Source, W: Sink>(alloc: Global, r: &mut R, w: &mut W) -> Result<(), SampleError> {
-    let mut circuit = Aig::from_aiger(alloc, r, 1 << 24)?;
+    let (mut circuit, _) = Aig::from_aiger(alloc, r, 1 << 24)?.coi_refine()?;
     add_bad_state(&mut circuit)?;
     let steps = circuit.strash()?.unroll_to(1)?;
     Ok(steps.write_text(w)?)
