@@ -8,7 +8,6 @@ with 20 further steps.
 """
 import filecmp
 import os
-import random
 import subprocess
 import sys
 import tempfile
@@ -67,13 +66,9 @@ def check_counts(file, out):
 
 
 def shuffle_gates(file, out, gates):
-    """Puts the gates of a text, which are its last lines, in any order."""
-    with open(file, "rb") as lines:
-        lines = lines.readlines()
-    last = lines[-gates:]
-    random.Random(1).shuffle(last)
-    with open(out, "wb") as made:
-        made.writelines(lines[:-gates] + last)
+    """Puts the gates of a text in any order. A process of its own does so, since a child's peak memory counts its parent's."""
+    maker = [sys.executable, os.path.join(HERE, "shuffle_gates.py"), file, out, str(gates)]
+    subprocess.run(maker, check=True)
 
 
 def make_text(file, gates):
