@@ -106,15 +106,22 @@ fn are_read_alike(
 fn encodes_what_is_read(rt: HostRuntime) -> Result<(), Fail> {
     let syntax = |section| Err(ReadError::Syntax(section));
     let literal = |section| Err(ReadError::Literal(section));
-    let rows: [(&[u8], Result<&str, ReadError>); 20] = [
+    let rows: [(&[u8], Result<&str, ReadError>); 24] = [
         (b"aag 0 4294967295 1 0 0\n", Err(ReadError::Header)),
         (b"aag  0 0 0 0 0\n", Err(ReadError::Header)),
+        (b"aag 3 1 0 0 1\n2\n6 2 2\n", Ok("aag 2 1 0 0 1\n2\n4 2 2\n")),
         (b"aag 1 1 0 0 0\n2 \n", syntax(Section::Inputs)),
         (b"aag 1 1 0 0 0\n4294967296\n", syntax(Section::Inputs)),
         (b"aag 2 2 0 0 0\n2\n2\n", literal(Section::Inputs)),
         (b"aag 1 1 0 0 0\n4\n", literal(Section::Inputs)),
         (b"aag 1 1 0 1 0\n2\n4\n", literal(Section::Outputs)),
         (b"aag 2 1 0 0 1\n2\n4 4 2\n", literal(Section::Gates)),
+        (
+            b"aag 3 1 0 0 2\n2\n6 2 2\n4 2 2\n",
+            Ok("aag 3 1 0 0 2\n2\n4 2 2\n6 2 2\n"),
+        ),
+        (b"aag 3 1 0 0 1\n2\n6 4 2\n", literal(Section::Gates)),
+        (b"aag 3 1 0 1 1\n2\n4\n6 2 2\n", literal(Section::Outputs)),
         (b"aag 0 0 0 4294967295 0\n0\n", syntax(Section::Outputs)),
         (
             b"aag 0 0 0 0 0 0 0 2\n4294967295\n4294967295\n0\n",
