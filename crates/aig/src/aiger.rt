@@ -1,17 +1,18 @@
 //! Reading and writing AIGER.
 
 ghost use Rattle.std.specs.Prelude.{◌≡◌, ◌≢◌, ◌⊎◌, ◌<◌, ◌≤◌, ◌^◌, ℕ, List, Some, false, length, IfErr, IfOk, IfSome, IsErrOf, IsOk, IsTrue, OnOk, true, if◌then◌else◌};
-ghost use Rattle.std.specs.Io.KnownBytes.{Appends, Consumes, IsAtEnd};
+ghost use Rattle.std.specs.Io.KnownBytes.{Appends, IsAtEnd};
 ghost use Rattle.aig_circuit.specs.Reencode.{reencoded};
 ghost use Rattle.aig_format.specs.Circuit.{binary_of, circuit_of, file_of, text_of, IsReadAgain};
 ghost use Rattle.aig_format.specs.declared.FileKind.TheVariants.{Binary, Text};
 ghost use Rattle.aig_format.specs.File.{File};
 ghost use Rattle.aig_format.specs.Fits.{Accepts};
-ghost use Rattle.aig_reader.specs.Reading.{ReadsExactly, UnlessInterrupted};
+ghost use Rattle.aig_reader.specs.Reading.{IsOfFile, ReadsExactly, UnlessInterrupted};
 ghost use Rattle.aig_writer.specs.Numbering.{IsBinaryNumbering};
 ghost use Rattle.aig_writer.specs.Sinks.{AppendsBeginning, WritesOrStops};
 ghost use Rattle.aig_circuit.specs.Circuit.{IsClosed};
 ghost use Rattle.aig_format.specs.Writable.{IsWritable};
+ghost use Rattle.aig.specs.Reading.{IsFileCircuit};
 ghost use Rattle.aig.specs.Writing.{IsRefusal, TellsOf};
 ghost use Rattle.aig.specs.declared.aiger.WriteError.TheVariants as errors;
 
@@ -86,14 +87,16 @@ impl Aig {
         requires some { 1 ≤ limit }
         requires few { limit ≤ 2 ^ 31 }
         // The bytes that were read are a file that is accepted, and the circuit is that file's.
-        ensures circuit { IfOk result (λ aig. (file : File) × (bytes : List ℕ) × Accepts bytes limit file × (aig ≡ circuit_of file) × Consumes (R.left r.old) (R.left r.new) bytes) }
+        ensures circuit { IfOk result
+            (IsOfFile (λ bytes. Accepts bytes limit) IsFileCircuit (R.left r.old) (R.left r.new)) }
         // The limit is on its nodes.
         ensures few { IfOk result (λ aig. length aig.nodes ≤ limit) }
         // It has a written form: no leaf is free, initial edges are constant, and names hold no line feed.
         ensures writable { IfOk result IsWritable }
-        // Memory and stream aside, accepted exactly where the bytes are such a file, and TooMany exactly where the header
-        // line is good and passes the limit.
-        ensures exact { IfSome (R.left r.old) (λ bytes. UnlessInterrupted result (ReadsExactly result bytes limit)) }
+        // Of known bytes, memory and stream aside: where they are a file that is accepted, the circuit is that file's; else
+        // there is a refusal, TooMany exactly where the header line is good and passes the limit.
+        ensures exact { IfSome (R.left r.old) (λ bytes.
+            UnlessInterrupted result (ReadsExactly IsFileCircuit limit result bytes)) }
         // A circuit only where no read failed and the stream was read to its end.
         ensures whole { OnOk result ((R.failed r.new ≡ false) × IsAtEnd (R.left r.new)) }
         // Stream only where a read failed in this call.

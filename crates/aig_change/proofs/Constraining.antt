@@ -25,7 +25,8 @@ use Rattle.aig_change.specs.Changes.{GatesStarts, constant_start, first_step_lat
 use Rattle.aig_change.specs.Starting.{Constrains, OpenBegins, SaysStart, is_variable, variable_latchs}
 use Rattle.aig_change.proofs.FirstStep.{AddsFirst, AreOldRuns-gated, AreOldRuns-itself}
 use Rattle.aig_change.proofs.Grown.{AddsLeaf-gates}
-use Rattle.aig_change.proofs.Lists.{All-first, All-second, AllZip-append, AllZip-weaker}
+use Rattle.aig_circuit.proofs.Lists.{All-first, All-second}
+use Rattle.aig_change.proofs.Lists.{AllZip-append, AllZip-weaker}
 use Rattle.aig_change.proofs.Moving.{All-grown}
 
 -- what holds of the one entry holds of all

@@ -13,7 +13,7 @@ use Rattle.aig_circuit.proofs.Trees.{kind_at-within, node_value-false}
 use Rattle.aig_change.specs.Changes.{JoinsConstraints, held_latch}
 use Rattle.aig_change.specs.Runs.{AreOldRuns, ConstraintsHoldUpTo, IsRunFromStart}
 use Rattle.aig_change.proofs.Grown.{AddsLeaf, Begins, Follows, all_hold, all_hold-same, begins_back, begins_forth, follows_back, follows_forth}
-use Rattle.aig_change.proofs.Lists.{All-first, All-second}
+use Rattle.aig_circuit.proofs.Lists.{All-first, All-second}
 
 -- A latch is added whose next value is the and of its own and of all constraints.
 pub record AddsHeld (old new : Circuit) (leaf : ℕ) (next : AigEdge) : Type 0 where

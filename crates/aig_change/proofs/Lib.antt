@@ -1,5 +1,4 @@
 mod Lists
-mod Copies
 mod Values
 pub mod Merging
 pub mod Merged

@@ -1,8 +1,7 @@
 -- One list behind another.
-use Rattle.std.proofs.Common.{◌≡◌, ℕ, zero, suc, ◌+◌, ◌<◌, Bool, ◌&&◌, List, [], ◌∷◌, ◌++◌, length, refl, ap, subst, ◌∙◌, arith, length-append}
+use Rattle.std.proofs.Common.{◌≡◌, ℕ, zero, suc, ◌+◌, ◌<◌, Bool, ◌&&◌, List, [], ◌∷◌, ◌++◌, length, refl, ap, ◌∙◌, arith}
 use Rattle.std.specs.Prelude.{All, slice_get}
 use Rattle.std.specs.List.{AllZip, list_all}
-use Rattle.std.proofs.lemmas.List.{get_or_append_left, get_or-append-add}
 
 -- what stands in the first list stands there still
 pub get-append_left : {X : Type 0} (xs ys : List X) (n : ℕ) → n < length xs → slice_get (xs ++ ys) n ≡ slice_get xs n
@@ -15,14 +14,6 @@ pub get-append_right : {X : Type 0} (xs ys : List X) (n k : ℕ) → n ≡ lengt
 get-append_right [] ys n k e = let same : n ≡ k = omega arith in ap (slice_get ys) same
 get-append_right (x ∷ xs) ys zero k e = absurd (omega arith)
 get-append_right (x ∷ xs) ys (suc n) k e = get-append_right xs ys n k (omega arith)
-
--- what holds of all of both lists holds of all of the first
-pub All-first : {X : Type 0} (P : X → Type 0) (xs ys : List X) → All P (xs ++ ys) → All P xs
-All-first P xs ys all k d h = subst P (get_or_append_left xs ys d k h) (all k d (omega (arith, length-append xs ys)))
-
--- and of all of the second
-pub All-second : {X : Type 0} (P : X → Type 0) (xs ys : List X) → All P (xs ++ ys) → All P ys
-All-second P xs ys all k d h = subst P (get_or-append-add xs ys k d) (all (length xs + k) d (omega (arith, length-append xs ys)))
 
 -- each entry beside itself
 pub AllZip-itself : {X : Type 0} (R : X → X → Type 0) (xs : List X) → All (λ x. R x x) xs → AllZip R xs xs

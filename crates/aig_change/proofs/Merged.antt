@@ -20,7 +20,8 @@ use Rattle.aig_renumber.proofs.Circuits.{latch_leaves-map}
 use Rattle.aig_renumber.proofs.Places.{AllPairs-map_numbers, AllZip-map, All-from_map, Contains-map_back}
 use Rattle.aig_circuit.proofs.Values.{edge_value-renumbered}
 use Rattle.aig_change.specs.Merge.{PairsRuns, merged, shifted}
-use Rattle.aig_change.proofs.Lists.{All-first, All-second, AllZip-itself}
+use Rattle.aig_circuit.proofs.Lists.{All-first, All-second}
+use Rattle.aig_change.proofs.Lists.{AllZip-itself}
 use Rattle.aig_change.proofs.Merging.{AreNodes-joint, Grows-joint, IsOrdered-joint, Renumbers-joint, joint, kind-number, leaf-past, shifted-apart, shifted-back, shifted-past, shifted-within}
 use Rattle.aig_change.proofs.Values.{node_value-past}
 

@@ -30,10 +30,11 @@ kind_push (x ∷ xs) y zero k is = inl (omega arith, is)
 kind_push (x ∷ xs) y (suc n) k is =
     elim (kind_push xs y n k is) [ inl p ↦ inl (omega arith, p.1) | inr p ↦ inr (omega arith, p.1) ]
 
-same_first : (a b c d : AigEdge) → And a b ≡ And c d → a ≡ c
+-- the parts of one and
+pub same_first : (a b c d : AigEdge) → And a b ≡ And c d → a ≡ c
 same_first a b c d e = cc
 
-same_second : (a b c d : AigEdge) → And a b ≡ And c d → b ≡ d
+pub same_second : (a b c d : AigEdge) → And a b ≡ And c d → b ≡ d
 same_second a b c d e = cc
 
 pub FitsBelow-And : (n : ℕ) (a b : AigEdge) → a.node_id < n → b.node_id < n → literal_of a ≤ literal_of b → FitsBelow n (And a b)

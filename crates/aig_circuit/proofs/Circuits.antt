@@ -3,7 +3,7 @@ use Rattle.std.specs.Prelude.{IfSome, All, AllPairs, Contains, IsTrue, slice_get
 use Rattle.std.specs.FinMap.{FinMap, contains_key, get-empty}
 use Rattle.std.proofs.lemmas.Option.{same_Some}
 use Rattle.std.proofs.lemmas.Bool.{cases_lt, false≢true}
-use Rattle.std.proofs.lemmas.List.{get_or_append_left, get_or-append_right}
+use Rattle.std.proofs.lemmas.List.{get_or-map, get_or_append_left, get_or-append_right}
 use Rattle.std.proofs.lemmas.List.Elements.{All-weaker, All-append, All-push, All-nil, All-map, All-contains, Contains-push_cases, Contains-get_or}
 use Rattle.std.proofs.lemmas.List.Quantifiers.{all_pairs_push}
 use Rattle.aig_circuit.specs.declared.edge.AigEdge.{AigEdge}
@@ -139,3 +139,7 @@ AreLeaves-of_circuit c is = record {
   distinct = AllPairs-append (λ m n. m ≢ n) c.inputs (latch_leaves c.latchs) is.inputs_distinct is.latchs_distinct
       (λ k d h i e l same. is.apart i e l (subst (Contains c.inputs) same (Contains-get_or c.inputs k d h)));
 }
+
+-- a latch's leaf, read off the leaves
+pub leaf-read : (latchs : List AigLatch) (i : ℕ) (d : AigLatch) → i < length latchs → get_or (latch_leaves latchs) i 0 ≡ (get_or latchs i d).input
+leaf-read latchs i d h = get_or-map (λ (latch : AigLatch). latch.input) latchs i d 0 h

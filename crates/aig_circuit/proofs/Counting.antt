@@ -37,7 +37,8 @@ length-leaves_filter v (x ∷ xs) = by_kind (is_leaf x.typ) (length-leaves_filte
 length-leaves_from : (v : ℕ) (nodes : List AigNode) → length (leaves_from v nodes) ≡ count_by (λ node. is_leaf node.typ) nodes
 length-leaves_from v nodes = length-leaves_filter v nodes ∙ length-filter (λ node. is_leaf node.typ) nodes
 
-is_leaf-Leaf : (k : AigNodeType) → is_leaf k ≡ true → k ≡ Leaf
+-- what passes for a leaf is one
+pub is_leaf-Leaf : (k : AigNodeType) → is_leaf k ≡ true → k ≡ Leaf
 is_leaf-Leaf Leaf h = refl
 is_leaf-Leaf False h = absurd (false≢true h)
 is_leaf-Leaf (And a b) h = absurd (false≢true h)

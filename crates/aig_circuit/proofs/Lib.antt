@@ -10,3 +10,4 @@ mod Inits
 pub mod Lists
 pub mod Marking
 pub mod Values
+pub mod Edges

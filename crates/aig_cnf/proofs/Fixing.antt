@@ -3,7 +3,7 @@ use Rattle.std.proofs.Common.{◌≡◌, ℕ, ◌<◌, Bool, true, false, not, �
 use Rattle.std.specs.Prelude.{All, option_to_list, slice_get}
 use Rattle.std.specs.List.{flat_map}
 use Rattle.std.proofs.lemmas.List.Elements.{All-cons, All-head, All-map, All-nil, All-tail, All-weaker}
-use Rattle.std.proofs.lemmas.Bool.{cases_eq}
+use Rattle.std.proofs.lemmas.Bool.{cases_eq, not-true}
 use Rattle.std.proofs.lemmas.Option.{slice_get-get_or, slice_get_within, get_or_from_slice_get}
 use Rattle.aig_base.specs.declared.logic.literal.Lit.{Lit}
 use Rattle.aig_base.specs.Clauses.{are_true, lit_to, literal_value, Satisfies}
@@ -17,6 +17,7 @@ use Rattle.aig_circuit.specs.Edge.{inverted_if}
 use Rattle.aig_circuit.specs.Node.{kind_at}
 use Rattle.aig_circuit.specs.Tree.{node_value, edge_value}
 use Rattle.aig_circuit.specs.Circuit.{Circuit, IsCircuit}
+use Rattle.aig_circuit.proofs.Lists.{All-first, All-second}
 use Rattle.aig_circuit.proofs.Trees.{by_smaller, kind_at-there, node_value-false, node_value-leaf}
 use Rattle.aig_cnf.specs.declared.form.Form.{Form}
 use Rattle.aig_cnf.specs.declared.form.Form.TheVariants.{AndOf, XorOf, IteOf}
@@ -27,19 +28,10 @@ use Rattle.aig_circuit.proofs.Marking.{each_named}
 use Rattle.aig_cnf.proofs.Forms.{clauses-say, node_value-HasForm}
 use Rattle.aig_cnf.proofs.Needing.{All-flat_map, named_below, needed_within, roots_in_range}
 
--- what holds of all of two lists holds of all of each
-All-left : {X : Type 0} (P : X → Type 0) (xs ys : List X) → All P (xs ++ ys) → All P xs
-All-left P [] ys h = All-nil P
-All-left P (x ∷ xs) ys h = All-cons P x xs (All-head P x (xs ++ ys) h) (All-left P xs ys (All-tail P x (xs ++ ys) h))
-
-All-right : {X : Type 0} (P : X → Type 0) (xs ys : List X) → All P (xs ++ ys) → All P ys
-All-right P [] ys h = h
-All-right P (x ∷ xs) ys h = All-right P xs ys (All-tail P x (xs ++ ys) h)
-
 -- what holds of all of the lists together holds of all of each
 All-from_flat_map : {X Y : Type 0} (P : Y → Type 0) (f : X → List Y) (xs : List X) → All P (flat_map f xs) → All (λ x. All P (f x)) xs
 All-from_flat_map P f [] h = All-nil (λ x. All P (f x))
-All-from_flat_map P f (x ∷ xs) h = All-cons (λ y. All P (f y)) x xs (All-left P (f x) (flat_map f xs) h) (All-from_flat_map P f xs (All-right P (f x) (flat_map f xs) h))
+All-from_flat_map P f (x ∷ xs) h = All-cons (λ y. All P (f y)) x xs (All-first P (f x) (flat_map f xs) h) (All-from_flat_map P f xs (All-second P (f x) (flat_map f xs) h))
 
 -- two truth values are the same where that is not refuted
 stable : (a b : Bool) → ¬ ¬ (a ≡ b) → a ≡ b
@@ -86,12 +78,8 @@ unit_says : (a : Bool) → IsTrue ((a || false) && true) → a ≡ true
 unit_says true h = refl
 unit_says false h = cc
 
-not_true : (a : Bool) → not a ≡ true → a ≡ false
-not_true true h = cc
-not_true false h = refl
-
 zero_is_false : (v : ℕ → Bool) → IsTrue (are_true v ((lit_to 0 false ∷ []) ∷ [])) → v 0 ≡ false
-zero_is_false v h = not_true (v 0) (sym (literal_value-lit_to v 0 false) ∙ unit_says (literal_value v (lit_to 0 false)) h)
+zero_is_false v h = not-true (v 0) (sym (literal_value-lit_to v 0 false) ∙ unit_says (literal_value v (lit_to 0 false)) h)
 
 false_is_true : (v : ℕ → Bool) → v 0 ≡ false → are_true v ((lit_to 0 false ∷ []) ∷ []) ≡ true
 false_is_true v h = ap (λ u. (u || false) && true) (literal_value-lit_to v 0 false ∙ ap not h)
@@ -129,17 +117,17 @@ FixesRoots-roots c lists all =
     let to_constraints = c.outputs ++ c.bads ++ c.constraints in
     let sets = flat_map (λ (set : List AigEdge). set) c.justice in
     let latches = flat_map latch_edges c.latchs in
-    let to_fairness : All P (to_constraints ++ sets ++ c.fairness) = All-left P (to_constraints ++ sets ++ c.fairness) latches all in
-    let to_justice : All P (to_constraints ++ sets) = All-left P (to_constraints ++ sets) c.fairness to_fairness in
-    let first : All P to_constraints = All-left P to_constraints sets to_justice in
-    let both : All P (c.outputs ++ c.bads) = All-left P (c.outputs ++ c.bads) c.constraints first in
-    let each : All (λ latch. All P (latch_edges latch)) c.latchs = All-from_flat_map P latch_edges c.latchs (All-right P (to_constraints ++ sets ++ c.fairness) latches all) in
+    let to_fairness : All P (to_constraints ++ sets ++ c.fairness) = All-first P (to_constraints ++ sets ++ c.fairness) latches all in
+    let to_justice : All P (to_constraints ++ sets) = All-first P (to_constraints ++ sets) c.fairness to_fairness in
+    let first : All P to_constraints = All-first P to_constraints sets to_justice in
+    let both : All P (c.outputs ++ c.bads) = All-first P (c.outputs ++ c.bads) c.constraints first in
+    let each : All (λ latch. All P (latch_edges latch)) c.latchs = All-from_flat_map P latch_edges c.latchs (All-second P (to_constraints ++ sets ++ c.fairness) latches all) in
     record {
-      outputs = All-left P c.outputs c.bads both;
-      bads = All-right P c.outputs c.bads both;
-      constraints = All-right P (c.outputs ++ c.bads) c.constraints first;
-      justice = All-from_flat_map P (λ (set : List AigEdge). set) c.justice (All-right P to_constraints sets to_justice);
-      fairness = All-right P (to_constraints ++ sets) c.fairness to_fairness;
+      outputs = All-first P c.outputs c.bads both;
+      bads = All-second P c.outputs c.bads both;
+      constraints = All-second P (c.outputs ++ c.bads) c.constraints first;
+      justice = All-from_flat_map P (λ (set : List AigEdge). set) c.justice (All-second P to_constraints sets to_justice);
+      fairness = All-second P (to_constraints ++ sets) c.fairness to_fairness;
       next = All-map P (λ (latch : AigLatch). latch.next) c.latchs (All-weaker (λ latch. All P (latch_edges latch)) (λ latch. P latch.next) (λ latch h. All-head P latch.next (option_to_list latch.init) h) c.latchs each);
       initial = All-flat_map P (λ (latch : AigLatch). option_to_list latch.init) c.latchs (All-weaker (λ latch. All P (latch_edges latch)) (λ latch. All P (option_to_list latch.init)) (λ latch h. All-tail P latch.next (option_to_list latch.init) h) c.latchs each);
     }

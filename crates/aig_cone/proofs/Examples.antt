@@ -14,6 +14,7 @@ use Rattle.aig_circuit.specs.Node.{kind_at}
 use Rattle.aig_circuit.specs.Circuit.{AreNodes, Circuit, IsCircuit, IsInRange, IsLeaf}
 use Rattle.aig_circuit.specs.Reach.{IsBefore, IsInCone, IsOperand, IsReached, root, step}
 use Rattle.aig_cone.specs.Refine.{AreKept, refined, refining_roots}
+use Rattle.aig_cone.proofs.Keeping.{reached_within}
 
 abbrev node : ℕ → AigNodeType → AigNode
 node n kind = record { node_id = n; typ = kind }
@@ -71,11 +72,6 @@ only_latch-latchs : (refined (0 ∷ 1 ∷ []) only_latch).latchs ≡ only_latch.
 only_latch-latchs = refl
 
 -- ---- what is reached
-
--- what holds of the roots and goes on along steps holds of all that is reached
-reached_within : {Step : ℕ → ℕ → Type 0} {roots : List ℕ} (P : ℕ → Type 0) → ((n : ℕ) → Contains roots n → P n) → ((n m : ℕ) → P n → Step n m → P m) → (n : ℕ) → IsReached Step roots n → P n
-reached_within P at_roots along n (root {n = k} h) = at_roots k h
-reached_within P at_roots along n (step {n = k} {m = m} h s) = along k m (reached_within P at_roots along k h) s
 
 -- the one number of a list
 only_one : (m n : ℕ) → Contains (m ∷ []) n → n ≡ m

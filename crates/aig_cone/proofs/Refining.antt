@@ -1,6 +1,6 @@
 -- The refined circuit is a circuit, and its runs are the old ones, cut to the kept leaves.
 use Rattle.std.proofs.Common.{◌≡◌, ◌≢◌, ℕ, zero, suc, ◌+◌, ◌<◌, Bool, true, false, cond, Option, Some, None, List, [], ◌∷◌, ◌++◌, length, map, get_or, refl, sym, ap, subst, ◌∙◌, arith, IsTrue}
-use Rattle.std.specs.Prelude.{All, Contains, IfSome, is_some, option_map, option_to_list, slice_index}
+use Rattle.std.specs.Prelude.{All, Contains, IfSome, is_some, option_map, slice_index}
 use Rattle.std.specs.List.{flat_map}
 use Rattle.std.specs.FinMap.{contains_key, get, get-retain_keys}
 use Rattle.std.proofs.lemmas.Bool.{false≢true}
@@ -15,10 +15,11 @@ use Rattle.aig_circuit.specs.Tree.{edge_value}
 use Rattle.aig_circuit.specs.Circuit.{Circuit, IsCircuit, IsLeaf, latch_leaves}
 use Rattle.aig_circuit.specs.Runs.{HaveSameValues, next_edges}
 use Rattle.aig_circuit.specs.Renumber.{nodes_in_order, place_of, renumbered_edge, renumbered_latch}
+use Rattle.aig_circuit.proofs.Lists.{All-first, All-second}
 use Rattle.aig_circuit.proofs.Trees.{kind_at-within}
 use Rattle.aig_renumber.specs.Numbers.{IsEdgeIn, IsLatchIn, SpeaksOf}
 use Rattle.aig_renumber.proofs.Kept.{is_in-back}
-use Rattle.aig_renumber.proofs.Circuits.{IsCircuit-renumbered, next_edges-map, runs-renumbered}
+use Rattle.aig_renumber.proofs.Circuits.{IsCircuit-renumbered, initial_edges-map, next_edges-map, runs-renumbered}
 use Rattle.aig_renumber.proofs.Numbering.{IsOrdered-made, Merges, Merges-numbers, Renumbers-made, length-nodes_in_order}
 use Rattle.aig_renumber.proofs.Places.{All-from_map, AllZip-map, filter-back}
 use Rattle.aig_circuit.proofs.Values.{edge_value-renumbered}
@@ -26,24 +27,6 @@ use Rattle.aig_cone.specs.Refine.{AreKept, CutsRuns, cut_to, refined}
 use Rattle.aig_circuit.specs.Renumber.{is_in, only_kept}
 use Rattle.aig_circuit.specs.Edges.{initial_edges}
 use Rattle.aig_cone.proofs.Keeping.{Numbers-kept, S, S-latchs, S-properties, S-starts}
-
-pub initial_edges-map : (number : ℕ → ℕ) (latchs : List AigLatch) → initial_edges (map (renumbered_latch number) latchs) ≡ map (renumbered_edge number) (initial_edges latchs)
-initial_edges-map number [] = refl
-initial_edges-map number (l ∷ ls) = at l.init (initial_edges-map number ls)
-  where
-    at : (o : Option AigEdge) → initial_edges (map (renumbered_latch number) ls) ≡ map (renumbered_edge number) (initial_edges ls)
-        → option_to_list (option_map (renumbered_edge number) o) ++ initial_edges (map (renumbered_latch number) ls) ≡ map (renumbered_edge number) (option_to_list o ++ initial_edges ls)
-    at (Some e) rest = ap (λ es. renumbered_edge number e ∷ es) rest
-    at None rest = rest
-
--- the facts of both parts
-split_all : {X : Type 0} (P : X → Type 0) (xs ys : List X) → All P (xs ++ ys) → All P xs × All P ys
-split_all P [] ys all = ((λ k d h. absurd (omega arith)), all)
-split_all P (x ∷ xs) ys all = let r = split_all P xs ys (λ k d h. all (suc k) d (omega arith)) in (front r.0, r.1)
-  where
-    front : All P xs → All P (x ∷ xs)
-    front rest zero d h = all 0 d (omega arith)
-    front rest (suc k) d h = rest k d (omega arith)
 
 module _ (c : Circuit) (kept : List ℕ) (is : IsCircuit c) (are : AreKept c kept) where
   abbrev pub In : ℕ → Type 0
@@ -84,25 +67,26 @@ module _ (c : Circuit) (kept : List ℕ) (is : IsCircuit c) (are : AreKept c kep
   -- its lists speak of kept nodes alone
   pub speaks : SpeaksOf In cut
   speaks =
-      let p4 = split_all (IsEdgeIn In) (c.outputs ++ c.bads ++ c.constraints ++ flat_map (λ (set : List AigEdge). set) c.justice) c.fairness (S-properties c kept is are) in
-      let p3 = split_all (IsEdgeIn In) (c.outputs ++ c.bads ++ c.constraints) (flat_map (λ (set : List AigEdge). set) c.justice) p4.0 in
-      let p2 = split_all (IsEdgeIn In) (c.outputs ++ c.bads) c.constraints p3.0 in
-      let p1 = split_all (IsEdgeIn In) c.outputs c.bads p2.0 in
+      let sets = flat_map (λ (set : List AigEdge). set) c.justice in
+      let all = S-properties c kept is are in
+      let to_justice = All-first (IsEdgeIn In) (c.outputs ++ c.bads ++ c.constraints ++ sets) c.fairness all in
+      let to_constraints = All-first (IsEdgeIn In) (c.outputs ++ c.bads ++ c.constraints) sets to_justice in
+      let to_bads = All-first (IsEdgeIn In) (c.outputs ++ c.bads) c.constraints to_constraints in
       record {
         inputs = All-weaker (λ n. is_in kept n ≡ true) In (λ n h. is_in-back kept n h) cut.inputs (filter_passes (is_in kept) c.inputs);
         latchs = S-latchs c kept is are;
-        outputs = p1.0;
-        bads = p1.1;
-        constraints = p2.1;
-        justice = split_sets c.justice p3.1;
-        fairness = p4.1;
+        outputs = All-first (IsEdgeIn In) c.outputs c.bads to_bads;
+        bads = All-second (IsEdgeIn In) c.outputs c.bads to_bads;
+        constraints = All-second (IsEdgeIn In) (c.outputs ++ c.bads) c.constraints to_constraints;
+        justice = split_sets c.justice (All-second (IsEdgeIn In) (c.outputs ++ c.bads ++ c.constraints) sets to_justice);
+        fairness = All-second (IsEdgeIn In) (c.outputs ++ c.bads ++ c.constraints ++ sets) c.fairness all;
         named = λ n has. is_in-back kept n (keys_kept n has).0;
       }
     where
       split_sets : (sets : List (List AigEdge)) → All (IsEdgeIn In) (flat_map (λ (set : List AigEdge). set) sets) → All (All (IsEdgeIn In)) sets
       split_sets [] all k d h = absurd (omega arith)
-      split_sets (es ∷ sets) all zero d h = (split_all (IsEdgeIn In) es (flat_map (λ (set : List AigEdge). set) sets) all).0
-      split_sets (es ∷ sets) all (suc k) d h = split_sets sets (split_all (IsEdgeIn In) es (flat_map (λ (set : List AigEdge). set) sets) all).1 k d (omega arith)
+      split_sets (es ∷ sets) all zero d h = All-first (IsEdgeIn In) es (flat_map (λ (set : List AigEdge). set) sets) all
+      split_sets (es ∷ sets) all (suc k) d h = split_sets sets (All-second (IsEdgeIn In) es (flat_map (λ (set : List AigEdge). set) sets) all) k d (omega arith)
 
   merges : Merges c.nodes In kept number
   merges = Merges-numbers c.nodes In kept number (Numbers-kept c kept is are)

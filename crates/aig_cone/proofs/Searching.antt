@@ -1,6 +1,6 @@
 -- Visits of nodes, and the search that follows what they have on the stack.
-use Rattle.std.proofs.Common.{◌≡◌, ◌≢◌, ℕ, zero, suc, ◌+◌, ◌<◌, ◌⊎◌, ◌↔◌, Bool, true, false, cond, Option, Some, None, List, [], ◌∷◌, ◌++◌, length, replicate, take, get_or, set, get_or-set_other, get_or-set_same, refl, sym, ap, subst, ◌∙◌, arith, inl, inr, length-append, length-set, Ok, Err, Result}
-use Rattle.std.specs.Prelude.{All, AllPairs, Contains, OnOk, option_map}
+use Rattle.std.proofs.Common.{◌≡◌, ◌≢◌, ℕ, zero, suc, ◌+◌, ◌<◌, ◌⊎◌, ◌↔◌, Bool, true, false, cond, Option, Some, None, List, [], ◌∷◌, ◌++◌, length, replicate, take, get_or, set, get_or-set_other, get_or-set_same, refl, sym, ap, subst, ◌∙◌, arith, inl, inr, length-append, length-set}
+use Rattle.std.specs.Prelude.{All, AllPairs, Contains, option_map}
 use Rattle.std.proofs.lemmas.Bool.{cases_eq}
 use Rattle.std.proofs.lemmas.List.{get_or-map, get_or-take, length-map, length-replicate, length-take, take_more}
 use Rattle.std.proofs.lemmas.List.Sums.{sum_by-set}
@@ -277,10 +277,6 @@ next_within c table is are n m h =
     let latch = subst (λ (l : AigLatch). IsLatch c.nodes l) r.1.2 (is.latchs r.1.0 r.0 r.1.1) in
     let next = latch.next in
     omega (arith, r.3)
-
-pub OnOk-weaker : {T E : Type 0} (r : Result T E) (P Q : Type 0) → (P → Q) → OnOk r P → OnOk r Q
-OnOk-weaker (Ok v) P Q f h = f h
-OnOk-weaker (Err e) P Q f h = tt
 
 -- what comes before a node
 pub Visits-before : (c : Circuit) (table : List (Option ℕ)) → AreNextStates c table → (n : ℕ) (m0 m1 m2 : List Bool) (s0 s1 s2 : List ℕ) → Visits m0 m1 s0 s1 (IsOperand c.nodes n) → Visits m1 m2 s1 s2 (λ m. get_or table n None ≡ Some m) → Visits m0 m2 s0 s2 (IsBefore c n)

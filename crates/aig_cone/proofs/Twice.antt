@@ -1,7 +1,7 @@
 -- A refined circuit is its own refinement.
-use Rattle.std.proofs.Common.{◌≡◌, ◌≢◌, ℕ, zero, suc, ◌<◌, ◌≤◌, ◌⊎◌, Bool, true, false, cond, ◌||◌, Some, List, [], ◌∷◌, ◌++◌, length, map, get_or, refl, sym, ap, subst, ◌∙◌, arith, inl, inr, eqb}
+use Rattle.std.proofs.Common.{◌≡◌, ◌≢◌, ℕ, zero, suc, ◌<◌, ◌≤◌, ◌⊎◌, Bool, true, false, cond, Some, List, [], ◌∷◌, ◌++◌, length, map, get_or, refl, sym, ap, subst, ◌∙◌, arith, inl, inr, eqb}
 use Rattle.std.specs.Prelude.{All, AllPairs, Contains}
-use Rattle.std.specs.List.{flat_map, list_any}
+use Rattle.std.specs.List.{flat_map}
 use Rattle.std.proofs.lemmas.Bool.{cases_lt, ne_eqb, eqb-false}
 use Rattle.std.proofs.lemmas.List.{get_or-map, get_or_default, length-map, map-append, same_lists}
 use Rattle.std.proofs.lemmas.List.Elements.{Contains-append_left, Contains-append_right, Contains-append_cases, Contains-get_or}
@@ -19,11 +19,13 @@ use Rattle.aig_circuit.specs.Renumber.{is_in, only_kept, place_of, renumbered_ci
 use Rattle.aig_circuit.proofs.Building.{and_of-cases}
 use Rattle.aig_circuit.proofs.Trees.{kind_at-within}
 use Rattle.aig_renumber.proofs.Numbering.{kind_at-nodes_in_order, length-nodes_in_order}
+use Rattle.aig_renumber.proofs.Circuits.{initial_edges-map}
+use Rattle.aig_renumber.proofs.Kept.{is_in-there}
 use Rattle.aig_renumber.proofs.Places.{Contains-map, Contains-map_back, filter_all, place_of-get_or, place_of-within, rising-distinct, rising_from}
 use Rattle.aig_renumber.proofs.Same.{renumbered-same, retained-all}
 use Rattle.aig_cone.specs.Refine.{AreKept, all_numbers, refined, refining_roots, variable_nodes}
 use Rattle.aig_cone.proofs.Keeping.{Numbers-kept, Within, along, kept-there, reached_within, roots_within}
-use Rattle.aig_cone.proofs.Refining.{IsCircuit-refined, initial_edges-map}
+use Rattle.aig_cone.proofs.Refining.{IsCircuit-refined}
 
 -- ---- lists under other numbers
 
@@ -54,16 +56,6 @@ variable_nodes-map number (e ∷ es) n keeps has = by_test (λ h. variable_nodes
     by_test follows true is h = rest (follows h)
     by_test follows false differs (zero, h, is) = here is differs
     by_test follows false differs (suc k, h, is) = rest (follows (k, omega arith, is))
-
--- a number that is there is found
-is_in-forth : (ns : List ℕ) (n : ℕ) → Contains ns n → is_in ns n ≡ true
-is_in-forth [] n has = absurd (omega (arith, has.1))
-is_in-forth (m ∷ ns) n has = by_test (λ h. is_in-forth ns n h) (eqb m n) refl has
-  where
-    by_test : (Contains ns n → is_in ns n ≡ true) → (b : Bool) → eqb m n ≡ b → Contains (m ∷ ns) n → (b || list_any (λ j. eqb j n) ns) ≡ true
-    by_test rest true same h = refl
-    by_test rest false differs (zero, h, is) = absurd (eqb-false m n differs is)
-    by_test rest false differs (suc k, h, is) = rest (k, omega arith, is)
 
 -- a rising list of all numbers below a bound has each at its own place
 rising-whole : (ns : List ℕ) (bound : ℕ) → AllPairs (λ m n. m < n) ns → All (λ n. n < bound) ns → ((n : ℕ) → n < bound → Contains ns n) → (length ns ≡ bound) × ((k : ℕ) → k < length ns → get_or ns k 0 ≡ k)
@@ -242,7 +234,7 @@ module _ (c : Circuit) (kept : List ℕ) (is : IsCircuit c) (are : AreKept c kep
         ap (place_of again) (sym (whole.1 n low)) ∙ place_of-get_or again n (rising-distinct again kept_again.rising) low
 
     passes : (n : ℕ) → n < length new.nodes → is_in again n ≡ true
-    passes n h = is_in-forth again n (has n h)
+    passes n h = is_in-there again n (has n h)
 
     nothing_dropped : only_kept again new ≡ new
     nothing_dropped =

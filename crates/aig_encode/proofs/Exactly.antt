@@ -1,58 +1,20 @@
 -- What an answer tells of the bytes, from what reading them told.
-use Rattle.std.proofs.Common.{◌≡◌, ℕ, ◌<◌, ◌≤◌, ◌↔◌, Bool, true, false, IsTrue, Option, Some, None, Result, Ok, Err, List, ◌++◌, length, inl, inr, refl, sym, ap, subst, ◌∙◌, append-nil, arith}
+use Rattle.std.proofs.Common.{◌≡◌, ℕ, ◌<◌, ◌≤◌, ◌⊎◌, Option, Some, None, Result, Ok, Err, List, inl, inr, refl, ap, arith}
 use Rattle.std.specs.Prelude.{IfSome, IsErrOf}
-use Rattle.std.specs.Io.KnownBytes.{Consumes, IsAtEnd}
-use Rattle.std.proofs.lemmas.Bool.{cases_lt, false≢true}
-use Rattle.std.proofs.lemmas.Option.{same_Some}
-use Rattle.aig_circuit.specs.Circuit.{Circuit}
+use Rattle.std.proofs.lemmas.Bool.{false≢true}
 use Rattle.aig_format.specs.File.{File}
 use Rattle.aig_format.specs.Fits.{Accepts}
 use Rattle.aig_format.specs.Circuit.{circuit_of}
-use Rattle.aig_format.specs.Spells.{Spells}
-use Rattle.aig_parsing.proofs.Files.{file_complete}
 use Rattle.aig_reader.specs.declared.error.ReadError.{ReadError}
 use Rattle.aig_reader.specs.declared.error.ReadError.TheVariants.{Memory, Stream, Header, TooMany, Syntax, Literal, Delta, Name, Open}
 use Rattle.aig_reader.specs.Reading as reading
 use Rattle.aig_reader.specs.Reading.{ReadsExactly}
-use Rattle.aig_unroll.specs.Places.{size_by_counts, unrolled_size}
+use Rattle.aig_unroll.specs.Places.{unrolled_size}
 use Rattle.aig_encode.specs.declared.error.EncodeError.{EncodeError}
 use Rattle.aig_encode.specs.declared.error.EncodeError.TheVariants as errors
-use Rattle.aig_encode.specs.Encoding.{AnswersExactly, IsOfFile, IsWithin, UnlessInterrupted}
+use Rattle.aig_encode.specs.Encoding.{AnswersExactly, IsWithin, UnlessInterrupted}
 
--- all known bytes were taken
-all_taken : (bytes taken : List ℕ) (new : Option (List ℕ)) → Consumes (Some bytes) new taken → IsAtEnd new → taken ≡ bytes
-all_taken bytes taken None consumes end = absurd consumes
-all_taken bytes taken (Some rest) consumes end = sym (consumes ∙ ap (λ l. taken ++ l) end ∙ append-nil taken)
-
--- bytes are one file
-one_file : (f g : File) (bytes : List ℕ) → Spells f bytes → Spells g bytes → f ≡ g
-one_file f g bytes p q = same_Some _ _ (sym (file_complete f bytes p) ∙ file_complete g bytes q)
-
--- the bytes of a file pass the limit or don't
-not_both : (f g : File) (bytes : List ℕ) (limit k : ℕ) → Accepts bytes limit f → Accepts bytes limit g → unrolled_size (circuit_of f) k ≤ limit → limit < unrolled_size (circuit_of g) k → ⊥
-not_both f g bytes limit k p q low high =
-    let within = subst (λ h. unrolled_size (circuit_of h) k ≤ limit) (one_file f g bytes p.0 q.0) low in
-    omega (arith, within, high)
-
--- what the test of a circuit's counts tells of the bound
-module _ (c d : Circuit) (n l k limit : ℕ) (within : Bool) (nodes : n ≡ length c.nodes) (latchs : l ≡ length c.latchs) (same : c ≡ d) (test : IsTrue within ↔ (size_by_counts n l k ≤ limit)) where
-  size_is : size_by_counts n l k ≡ unrolled_size d k
-  size_is = ap (λ m. size_by_counts m l k) nodes ∙ ap (λ m. size_by_counts (length c.nodes) m k) latchs ∙ ap (λ e. unrolled_size e k) same
-
-  pub bound_within : within ≡ true → unrolled_size d k ≤ limit
-  bound_within is = subst (λ m. m ≤ limit) size_is (test.0 is)
-
-  pub bound_beyond : within ≡ false → limit < unrolled_size d k
-  bound_beyond is = elim (cases_lt limit (unrolled_size d k)) [
-    | inl beyond ↦ beyond
-    | inr low ↦ absurd (false≢true (sym is ∙ (test.1 (subst (λ m. m ≤ limit) (sym size_is) low))))
-  ]
-
--- what reading told of the bytes, unless it was interrupted
-abbrev Read : {X : Type 0} → ℕ → Result X ReadError → Option (List ℕ) → Type 0
-Read limit result left = IfSome left (λ bytes. reading.UnlessInterrupted result (ReadsExactly result bytes limit))
-
--- and what the answer tells
+-- what an answer tells of the bytes, where they are known
 abbrev Tells : {T : Type 0} → (File → T → Type 0) → ℕ → ℕ → Result T EncodeError → Option (List ℕ) → Type 0
 Tells Means limit k result left = IfSome left (λ bytes. UnlessInterrupted result (AnswersExactly Means limit k result bytes))
 
@@ -60,14 +22,17 @@ Tells Means limit k result left = IfSome left (λ bytes. UnlessInterrupted resul
 no_refusal : (T E : Type 0) (x : T) (e : E) → IsErrOf {T = T} {E = E} (Ok x) e → ⊥
 no_refusal T E x e is = cc
 
-module _ (X T : Type 0) (Means : File → T → Type 0) (limit k : ℕ) where
+module _ (X T : Type 0) (Read : File → X → Type 0) (Means : File → T → Type 0) (limit k : ℕ) where
+  -- what reading told of the bytes, where they are known
+  abbrev Reads : Result X ReadError → Option (List ℕ) → Type 0
+  Reads result left = IfSome left (λ bytes. reading.UnlessInterrupted result (ReadsExactly Read limit result bytes))
+
   -- bytes that reading refused are refused
-  refused : (e : ReadError) (bytes : List ℕ) → ReadsExactly {T = X} (Err e) bytes limit → AnswersExactly Means limit k (Err (errors.Read e)) bytes
+  refused : (e : ReadError) (bytes : List ℕ) → ReadsExactly Read limit (Err e) bytes → AnswersExactly Means limit k (Err (errors.Read e)) bytes
   refused e bytes h = record {
-    accepted = λ f within. absurd (false≢true (h.accepted.1 (f, within.0)));
-    only = λ ok. absurd (false≢true ok);
+    accepted = record { each = λ f within. absurd (h.accepted.each f within.0); only = λ ok. absurd (false≢true ok) };
     too_many = (λ is. h.too_many.0 (inner is), λ many. outer (h.too_many.1 many));
-    too_large = (λ is. absurd (apart is), λ beyond. absurd (false≢true (h.accepted.1 (beyond.0, beyond.1.0))));
+    too_large = (λ is. absurd (apart is), λ beyond. absurd (h.accepted.each beyond.0 beyond.1.0));
   }
     where
       inner : IsErrOf {T = T} (Err (errors.Read e)) (errors.Read TooMany) → IsErrOf {T = X} (Err e) TooMany
@@ -79,7 +44,7 @@ module _ (X T : Type 0) (Means : File → T → Type 0) (limit k : ℕ) where
       apart : IsErrOf {T = T} (Err (errors.Read e)) errors.TooLarge → ⊥
       apart is = cc
 
-  pub refused_in_reading : (e : ReadError) (left : Option (List ℕ)) → Read {X = X} limit (Err e) left → Tells Means limit k (Err (errors.Read e)) left
+  pub refused_in_reading : (e : ReadError) (left : Option (List ℕ)) → Reads (Err e) left → Tells Means limit k (Err (errors.Read e)) left
   refused_in_reading e None h = tt
   refused_in_reading Memory (Some bytes) h = tt
   refused_in_reading Stream (Some bytes) h = tt
@@ -91,31 +56,44 @@ module _ (X T : Type 0) (Means : File → T → Type 0) (limit k : ℕ) where
   refused_in_reading Name (Some bytes) h = refused Name bytes h
   refused_in_reading Open (Some bytes) h = refused Open bytes h
 
-  -- a file that was read whole, and whose further steps pass the limit, is refused
-  pub refused_as_large : (x : X) (left new : Option (List ℕ)) (file : File) (taken : List ℕ) → Accepts taken limit file → limit < unrolled_size (circuit_of file) k → Consumes left new taken → IsAtEnd new → Read limit (Ok x) left
-      → Tells Means limit k (Err errors.TooLarge) left
-  refused_as_large x None new file taken accepts large consumes end h = tt
-  refused_as_large x (Some bytes) new file taken accepts large consumes end h =
-      let is = subst (λ b. Accepts b limit file) (all_taken bytes taken new consumes end) accepts in record {
-        accepted = λ f within. absurd (not_both f file bytes limit k within.0 is within.1 large);
-        only = λ ok. absurd (false≢true ok);
-        too_many = (λ e. absurd (apart e), λ many. absurd (no_refusal X ReadError x TooMany (h.too_many.1 many)));
-        too_large = (λ e. (file, (is, large)), λ beyond. refl);
-      }
+  -- a file that was read, and whose further steps pass the limit, is refused
+  refused_as_large : (x : X) (left : Option (List ℕ)) → ((f : File) → Read f x → limit < unrolled_size (circuit_of f) k) → Reads (Ok x) left → Tells Means limit k (Err errors.TooLarge) left
+  refused_as_large x None large h = tt
+  refused_as_large x (Some bytes) large h = record {
+    accepted = record { each = λ f p. let high = large f (h.accepted.each f p.0) in let low = p.1 in absurd (omega arith); only = λ ok. absurd (false≢true ok) };
+    too_many = (λ e. absurd (apart e), λ many. absurd (no_refusal X ReadError x TooMany (h.too_many.1 many)));
+    too_large = (λ e. let f = h.accepted.only refl in (f.0, (f.1, large f.0 (h.accepted.each f.0 f.1))), λ beyond. refl);
+  }
     where
       apart : IsErrOf {T = T} (Err errors.TooLarge) (errors.Read TooMany) → ⊥
       apart is = cc
 
-  -- a file that was read whole is answered
-  pub answered : (x : X) (answer : T) (left new : Option (List ℕ)) → IsOfFile Means limit k left new answer → IsAtEnd new → Read limit (Ok x) left → Tells Means limit k (Ok answer) left
-  answered x answer None new o end h = tt
-  answered x answer (Some bytes) new o end h =
-      let within = subst (λ b. IsWithin limit k b o.file) (all_taken bytes o.bytes new o.taken end) o.within in record {
-        accepted = λ f p. subst (λ g. Means g answer) (one_file o.file f bytes within.0.0 p.0.0) o.means;
-        only = λ ok. (o.file, within);
-        too_many = (λ e. absurd (no_refusal T EncodeError answer (errors.Read TooMany) e), λ many. absurd (no_refusal X ReadError x TooMany (h.too_many.1 many)));
-        too_large = (λ e. absurd (no_refusal T EncodeError answer errors.TooLarge e), λ beyond. absurd (not_both o.file beyond.0 bytes limit k within.0 beyond.1.0 within.1 beyond.1.1));
-      }
+  -- and so is one for which memory ran out
+  pub refused_behind : (x : X) (e : EncodeError) (left : Option (List ℕ)) → (e ≡ errors.Memory) ⊎ (e ≡ errors.TooLarge)
+      → (IsErrOf {T = T} (Err e) errors.TooLarge → (f : File) → Read f x → limit < unrolled_size (circuit_of f) k) → Reads (Ok x) left → Tells Means limit k (Err e) left
+  refused_behind x e None cases large h = tt
+  refused_behind x errors.Memory (Some bytes) cases large h = tt
+  refused_behind x errors.TooLarge (Some bytes) cases large h = refused_as_large x (Some bytes) (large refl) h
+  refused_behind x (errors.Read e) (Some bytes) cases large h = absurd (elim cases [ inl is ↦ no_memory is | inr is ↦ not_large is ])
+    where
+      no_memory : errors.Read e ≡ errors.Memory → ⊥
+      no_memory is = cc
+
+      not_large : errors.Read e ≡ errors.TooLarge → ⊥
+      not_large is = cc
+
+  -- a file that was read, and whose further steps are within the limit, is answered
+  pub answered : (x : X) (answer : T) (left : Option (List ℕ)) → ((f : File) → Read f x → unrolled_size (circuit_of f) k ≤ limit) → ((f : File) (bytes : List ℕ) → Accepts bytes limit f → Read f x → Means f answer) → Reads (Ok x) left
+      → Tells Means limit k (Ok answer) left
+  answered x answer None low means h = tt
+  answered x answer (Some bytes) low means h = record {
+    accepted = record {
+      each = λ f p. means f bytes p.0 (h.accepted.each f p.0);
+      only = λ ok. let f = h.accepted.only refl in (f.0, (f.1, low f.0 (h.accepted.each f.0 f.1)));
+    };
+    too_many = (λ e. absurd (no_refusal T EncodeError answer (errors.Read TooMany) e), λ many. absurd (no_refusal X ReadError x TooMany (h.too_many.1 many)));
+    too_large = (λ e. absurd (no_refusal T EncodeError answer errors.TooLarge e), λ beyond. let within = low beyond.0 (h.accepted.each beyond.0 beyond.1.0) in let high = beyond.1.1 in absurd (omega arith));
+  }
 
 -- ---- an answer that is made of another
 
@@ -126,8 +104,7 @@ same_error T U e x is = let same : e ≡ x = cc in let error : EncodeError → R
 module _ (T U : Type 0) (Means : File → T → Type 0) (Also : File → U → Type 0) (limit k : ℕ) where
   refused_alike : (e : EncodeError) (bytes : List ℕ) → AnswersExactly Means limit k (Err e) bytes → AnswersExactly Also limit k (Err e) bytes
   refused_alike e bytes h = record {
-    accepted = λ f within. absurd (h.accepted f within);
-    only = λ ok. absurd (false≢true ok);
+    accepted = record { each = λ f within. absurd (h.accepted.each f within); only = λ ok. absurd (false≢true ok) };
     too_many = (λ is. h.too_many.0 (same_error U T e (errors.Read TooMany) is), λ many. same_error T U e (errors.Read TooMany) (h.too_many.1 many));
     too_large = (λ is. h.too_large.0 (same_error U T e errors.TooLarge is), λ beyond. same_error T U e errors.TooLarge (h.too_large.1 beyond));
   }
@@ -151,8 +128,7 @@ module _ (T U : Type 0) (Means : File → T → Type 0) (Also : File → U → T
   pub answered_again : (x : T) (y : U) (left : Option (List ℕ)) → ((f : File) (bytes : List ℕ) → IsWithin limit k bytes f → Means f x → Also f y) → Tells Means limit k (Ok x) left → Tells Also limit k (Ok y) left
   answered_again x y None also h = tt
   answered_again x y (Some bytes) also h = record {
-    accepted = λ f within. also f bytes within (h.accepted f within);
-    only = λ ok. h.only refl;
+    accepted = record { each = λ f within. also f bytes within (h.accepted.each f within); only = λ ok. h.accepted.only refl };
     too_many = (λ e. absurd (no_refusal U EncodeError y (errors.Read TooMany) e), λ many. absurd (no_refusal T EncodeError x (errors.Read TooMany) (h.too_many.1 many)));
     too_large = (λ e. absurd (no_refusal U EncodeError y errors.TooLarge e), λ beyond. absurd (no_refusal T EncodeError x errors.TooLarge (h.too_large.1 beyond)));
   }

@@ -1,10 +1,11 @@
 -- What the answer of an encoding call tells of the bytes.
-use Rattle.std.specs.Prelude.{ℕ, ◌<◌, ◌≤◌, ◌↔◌, Bool, List, Option, Result, Ok, Err, IsOk, IsOkAnd, IsErrOf}
+use Rattle.std.specs.Prelude.{ℕ, ◌<◌, ◌≤◌, ◌↔◌, Bool, List, Option, Result, Ok, Err, IsErrOf}
 use Rattle.std.specs.Io.KnownBytes.{Consumes}
 use Rattle.aig_format.specs.File.{File}
 use Rattle.aig_format.specs.Fits.{Accepts, TooMany}
 use Rattle.aig_format.specs.Circuit.{circuit_of}
 use Rattle.aig_reader.specs.declared.error.ReadError.TheVariants as read
+use Rattle.aig_reader.specs.Reading.{AnswersFile}
 use Rattle.aig_unroll.specs.Places.{unrolled_size}
 use Rattle.aig_runs.specs.Encodes.{Encodes}
 use Rattle.aig_runs.specs.Queries.{Asks}
@@ -37,20 +38,10 @@ IsBeyond limit k bytes f = Accepts bytes limit f × (limit < unrolled_size (circ
 abbrev pub TookFile : (List ℕ → File → Type 0) → Option (List ℕ) → Option (List ℕ) → Type 0
 TookFile Holds old new = (f : File) × (bytes : List ℕ) × Holds bytes f × Consumes old new bytes
 
--- The bytes that were taken are a file within the limit, and the answer is what is meant for that file.
-pub record IsOfFile {T : Type 0} (Means : File → T → Type 0) (limit k : ℕ) (old new : Option (List ℕ)) (answer : T) : Type 0 where
-  pub file : File
-  pub bytes : List ℕ
-  pub within : IsWithin limit k bytes file
-  pub means : Means file answer
-  pub taken : Consumes old new bytes
-
 -- Which bytes are answered, and which are refused as too large.
 pub record AnswersExactly {T : Type 0} (Means : File → T → Type 0) (limit k : ℕ) (result : Result T EncodeError) (bytes : List ℕ) : Type 0 where
-  -- where the bytes are a file within the limit there is an answer, and it is what is meant for that file
-  pub accepted : (f : File) → IsWithin limit k bytes f → IsOkAnd result (Means f)
-  -- there is one only where they are
-  pub only : IsOk result → (f : File) × IsWithin limit k bytes f
+  -- there is an answer exactly where the bytes are a file within the limit, and it is what is meant for that file
+  pub accepted : AnswersFile (IsWithin limit k bytes) Means result
   -- TooMany exactly where the header line is good and passes the limit
   pub too_many : IsErrOf result (errors.Read read.TooMany) ↔ TooMany bytes limit
   -- TooLarge exactly where the bytes are a file whose further steps may pass the limit

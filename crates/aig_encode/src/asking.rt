@@ -2,7 +2,8 @@
 
 ghost use Rattle.std.specs.Prelude.{◌≡◌, ◌^◌, ◌≤◌, false, IfOk, IfSome, IsErrOf, IsTrue};
 ghost use Rattle.std.specs.Io.KnownBytes.{IsAtEnd};
-ghost use Rattle.aig_encode.specs.Encoding.{AnswersExactly, IsBeyond, IsOfFile, IsQuery, IsWithin, PassesReading, TookFile, UnlessInterrupted};
+ghost use Rattle.aig_reader.specs.Reading.{IsOfFile};
+ghost use Rattle.aig_encode.specs.Encoding.{AnswersExactly, IsBeyond, IsQuery, IsWithin, PassesReading, TookFile, UnlessInterrupted};
 
 use crate::encoding::encode;
 use crate::error::EncodeError;
@@ -27,7 +28,7 @@ pub fn query<R: Source>(
     requires some { 1 ≤ limit }
     requires few { limit ≤ 2 ^ 31 }
     // The bytes that were read are a file within the limit, and that file is encoded and asked for.
-    ensures answer { IfOk result (IsOfFile (IsQuery k optimize) limit k (R.left r.old) (R.left r.new)) }
+    ensures answer { IfOk result (IsOfFile (IsWithin limit k) (IsQuery k optimize) (R.left r.old) (R.left r.new)) }
     // Memory and stream aside, there is an answer exactly where the bytes are such a file, and TooMany and TooLarge
     // come exactly where they apply.
     ensures exact { IfSome (R.left r.old) (λ bytes.

@@ -1,8 +1,12 @@
 //! From bytes to clauses.
 
-ghost use Rattle.std.specs.Prelude.{◌≡◌, ◌^◌, ◌≤◌, false, IfOk, IfSome, IsErrOf, IsTrue};
+ghost use Rattle.std.specs.Prelude.{◌≡◌, ◌^◌, ◌<◌, ◌≤◌, ◌⊎◌, ◌↔◌, false, IfErr, IfOk, IfSome, IsErrOf, IsTrue};
 ghost use Rattle.std.specs.Io.KnownBytes.{IsAtEnd};
-ghost use Rattle.aig_encode.specs.Encoding.{AnswersExactly, IsBeyond, IsEncoding, IsOfFile, IsWithin, PassesReading, TookFile, UnlessInterrupted};
+ghost use Rattle.aig_cnf.specs.Cnf.{FixesRoots, HasClauses, NodeValuesSatisfy};
+ghost use Rattle.aig_reader.specs.Reading.{IsOfFile};
+ghost use Rattle.aig_unroll.specs.Places.{unrolled_size};
+ghost use Rattle.aig_unroll.specs.Unroll.{UnrollsTo};
+ghost use Rattle.aig_encode.specs.Encoding.{AnswersExactly, IsBeyond, IsEncoding, IsWithin, PassesReading, TookFile, UnlessInterrupted};
 
 use crate::error::EncodeError;
 use aig::{Aig, ReadError};
@@ -35,7 +39,7 @@ pub fn encode<R: Source>(
     requires some { 1 ≤ limit }
     requires few { limit ≤ 2 ^ 31 }
     // The bytes that were read are a file within the limit, and that file is encoded.
-    ensures answer { IfOk result (IsOfFile (IsEncoding k optimize) limit k (R.left r.old) (R.left r.new)) }
+    ensures answer { IfOk result (IsOfFile (IsWithin limit k) (IsEncoding k optimize) (R.left r.old) (R.left r.new)) }
     // Memory and stream aside, there is an answer exactly where the bytes are such a file, and TooMany and TooLarge
     // come exactly where they apply.
     ensures exact { IfSome (R.left r.old) (λ bytes.
@@ -50,6 +54,26 @@ pub fn encode<R: Source>(
     ensures never_open { IsErrOf result (EncodeError.Read ReadError.Open) → ⊥ }
 {
     let circuit = Aig::from_aiger(alloc, r, limit)?;
+    let encoded = encode_circuit(circuit, limit, k, optimize)?;
+    Ok(encoded)
+}
+
+/// Unrolls a circuit by `k` steps, unless that may pass the limit, and makes the clauses of it.
+fn encode_circuit(
+    circuit: Aig,
+    limit: usize,
+    k: usize,
+    optimize: bool,
+) -> Result<Encoded, EncodeError>
+    requires few { limit ≤ 2 ^ 31 }
+    ensures circuit { IfOk result (λ encoded. encoded.circuit ≡ circuit) }
+    ensures steps { IfOk result (λ encoded. UnrollsTo circuit k encoded.unrolled) }
+    ensures clauses { IfOk result (λ encoded. HasClauses encoded.unrolled optimize encoded.clauses) }
+    ensures fixes { IfOk result (λ encoded. FixesRoots encoded.unrolled encoded.clauses) }
+    ensures satisfied { IfOk result (λ encoded. NodeValuesSatisfy encoded.unrolled encoded.clauses) }
+    ensures large { IsErrOf result EncodeError.TooLarge ↔ (limit < unrolled_size circuit k) }
+    ensures err { IfErr result (λ e. (e ≡ EncodeError.Memory) ⊎ (e ≡ EncodeError.TooLarge)) }
+{
     if !aig_unroll::is_within(circuit.num_nodes(), circuit.latchs().len(), k, limit) {
         return Err(EncodeError::TooLarge);
     }

@@ -5,7 +5,7 @@ use Rattle.std.specs.Fmt.{digits}
 use Rattle.std.proofs.lemmas.Bool.{false≢true}
 use Rattle.std.specs.List.{IsDistinct}
 use Rattle.aig_format.specs.declared.FileKind.TheVariants.{Text, Binary}
-use Rattle.aig_format.specs.File.{LatchLine, GateLine, File}
+use Rattle.aig_format.specs.File.{LatchLine, GateLine, File, HeaderNumbers}
 use Rattle.aig_format.specs.Written.{spelling_of, line_of}
 use Rattle.aig_format.specs.Levels.{level_of}
 use Rattle.aig_format.specs.Numbering.{is_older, number_of, variables_in_order}
@@ -256,14 +256,18 @@ lost_operand-refused limit fits = elim fits.rules [ inl older ↦ omega (arith, 
 
 -- ---- headers
 
+-- a header of inputs alone
+abbrev header_with : ℕ → ℕ → HeaderNumbers
+header_with greatest inputs = record { greatest = greatest; inputs = inputs; latches = 0; outputs = 0; gates = 0; bads = 0; constraints = 0; justice = 0; fairness = 0 }
+
 -- fewer than are defined in a text file, and any other count in a binary one; more in a text file
-too_few : HasEnough Text (1 ∷ 2 ∷ 0 ∷ 0 ∷ 0 ∷ 0 ∷ 0 ∷ 0 ∷ 0 ∷ []) → ⊥
+too_few : HasEnough Text (header_with 1 2) → ⊥
 too_few h = omega (arith, h)
 
-not_exact : HasEnough Binary (2 ∷ 1 ∷ 0 ∷ 0 ∷ 0 ∷ 0 ∷ 0 ∷ 0 ∷ 0 ∷ []) → ⊥
+not_exact : HasEnough Binary (header_with 2 1) → ⊥
 not_exact h = omega (arith, h)
 
-more_in_text : HasEnough Text (2 ∷ 1 ∷ 0 ∷ 0 ∷ 0 ∷ 0 ∷ 0 ∷ 0 ∷ 0 ∷ [])
+more_in_text : HasEnough Text (header_with 2 1)
 more_in_text = lit≤ tt
 
 -- of a file with missing variables the greatest counts, not how many there are

@@ -36,9 +36,31 @@ pub record File : Type 0 where
   pub fairness : List ℕ
   pub names : List NameLine
 
--- the nine numbers of the header: M I L O A B C J F
-abbrev pub header_of : File → List ℕ
-header_of f = f.greatest ∷ length f.inputs ∷ length f.latches ∷ length f.outputs ∷ length f.gates ∷ length f.bads ∷ length f.constraints ∷ length f.justice ∷ length f.fairness ∷ []
+-- the numbers of a header: the greatest variable, and how many entries each section has
+pub record HeaderNumbers : Type 0 where
+  pub greatest : ℕ
+  pub inputs : ℕ
+  pub latches : ℕ
+  pub outputs : ℕ
+  pub gates : ℕ
+  pub bads : ℕ
+  pub constraints : ℕ
+  pub justice : ℕ
+  pub fairness : ℕ
+
+-- the numbers of a file's header
+abbrev pub header_of : File → HeaderNumbers
+header_of f = record {
+  greatest = f.greatest;
+  inputs = length f.inputs;
+  latches = length f.latches;
+  outputs = length f.outputs;
+  gates = length f.gates;
+  bads = length f.bads;
+  constraints = length f.constraints;
+  justice = length f.justice;
+  fairness = length f.fairness;
+}
 
 -- the literals that are defined: inputs, latches, gates
 abbrev pub defined : File → List ℕ

@@ -1,11 +1,11 @@
 -- What the numbers of a file must be. (AIGER format 20071012: "Header", "Input/Latch/Output/And section", "Symbol table"; AIGER 1.9:
 -- "Reset logic".)
-use Rattle.std.specs.Prelude.{◌≡◌, ℕ, ◌+◌, ◌*◌, ◌/◌, ◌%◌, ◌<◌, ◌≤◌, ◌⊎◌, Bool, ◌&&◌, ◌==◌, List, [], ◌∷◌, length, map, IfSome, nat_eq, IsUtf8, slice_index}
+use Rattle.std.specs.Prelude.{◌≡◌, ℕ, ◌+◌, ◌*◌, ◌/◌, ◌%◌, ◌<◌, ◌≤◌, ◌⊎◌, Bool, ◌&&◌, ◌==◌, List, [], ◌∷◌, length, map, IfSome, nat_eq, IsUtf8}
 use Rattle.std.specs.List.{AllByRecursion, IsDistinct}
 use Rattle.aig_format.specs.Text.{◌then◌}
 use Rattle.aig_format.specs.declared.FileKind.{FileKind}
 use Rattle.aig_format.specs.declared.FileKind.TheVariants.{Text, Binary}
-use Rattle.aig_format.specs.File.{LatchLine, GateLine, NameLine, File, defined, header_of, used}
+use Rattle.aig_format.specs.File.{LatchLine, GateLine, NameLine, File, HeaderNumbers, defined, header_of, used}
 use Rattle.aig_format.specs.Variables.{IsKnown}
 use Rattle.aig_format.specs.Levels.{HasLevel}
 use Rattle.aig_format.specs.Letters.{count_of, letter_of_inputs, letter_of_latches}
@@ -63,22 +63,22 @@ pub record Fits (f : File) (limit : ℕ) : Type 0 where
   pub once : IsDistinct same_place f.names
 
 -- how many variables a header defines: I + L + A
-abbrev pub count_defined : List ℕ → ℕ
-count_defined numbers = slice_index numbers 1 + slice_index numbers 2 + slice_index numbers 4
+abbrev pub count_defined : HeaderNumbers → ℕ
+count_defined numbers = numbers.inputs + numbers.latches + numbers.gates
 
 -- a text file may leave variables out, so M >= I + L + A; in a binary file M = I + L + A
-abbrev pub HasEnough : FileKind → List ℕ → Type 0
-HasEnough Text numbers = count_defined numbers ≤ slice_index numbers 0
-HasEnough Binary numbers = slice_index numbers 0 ≡ count_defined numbers
+abbrev pub HasEnough : FileKind → HeaderNumbers → Type 0
+HasEnough Text numbers = count_defined numbers ≤ numbers.greatest
+HasEnough Binary numbers = numbers.greatest ≡ count_defined numbers
 
 -- the header line is good: it stands at the front of the bytes, and its greatest variable is great enough for all that are defined
-pub record HasGoodHeader (bytes : List ℕ) (kind : FileKind) (numbers : List ℕ) : Type 0 where
+pub record HasGoodHeader (bytes : List ℕ) (kind : FileKind) (numbers : HeaderNumbers) : Type 0 where
   pub line : (IsHeader kind numbers then λ _. Unit {0}) bytes
   pub enough : HasEnough kind numbers
 
 -- the header line is good, and M + 1 passes the limit
 abbrev pub TooMany : List ℕ → ℕ → Type 0
-TooMany bytes limit = (kind : FileKind) × (numbers : List ℕ) × HasGoodHeader bytes kind numbers × (limit < slice_index numbers 0 + 1)
+TooMany bytes limit = (kind : FileKind) × (numbers : HeaderNumbers) × HasGoodHeader bytes kind numbers × (limit < numbers.greatest + 1)
 
 -- the bytes are accepted, and are this file
 abbrev pub Accepts : List ℕ → ℕ → File → Type 0

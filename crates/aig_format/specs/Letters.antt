@@ -1,6 +1,7 @@
 -- The letters of the sections in name lines, and the counts of the sections by letter. (AIGER format 20071012: "Symbol table", "Comment
 -- section"; AIGER 1.9: "Properties".)
-use Rattle.std.specs.Prelude.{ℕ, Bool, ◌||◌, ◌==◌, if◌then◌else◌, List, slice_index}
+use Rattle.std.specs.Prelude.{ℕ, Bool, ◌||◌, ◌==◌, if◌then◌else◌}
+use Rattle.aig_format.specs.File.{HeaderNumbers}
 
 -- `i`
 abbrev pub letter_of_inputs : ℕ
@@ -34,13 +35,13 @@ letter_of_fairness = 102
 abbrev pub letter_of_comment : ℕ
 letter_of_comment = 99
 
--- the count of the section of a letter, in the nine numbers of a header: M I L O A B C J F
-abbrev pub count_of : List ℕ → ℕ → ℕ
+-- the count of the section of a letter, in the numbers of a header
+abbrev pub count_of : HeaderNumbers → ℕ → ℕ
 count_of numbers letter =
-    if letter == letter_of_inputs then slice_index numbers 1 else if letter == letter_of_latches then slice_index numbers 2
-    else if letter == letter_of_outputs then slice_index numbers 3 else if letter == letter_of_bads then slice_index numbers 5
-    else if letter == letter_of_constraints then slice_index numbers 6 else if letter == letter_of_justice then slice_index numbers 7
-    else if letter == letter_of_fairness then slice_index numbers 8 else 0
+    if letter == letter_of_inputs then numbers.inputs else if letter == letter_of_latches then numbers.latches
+    else if letter == letter_of_outputs then numbers.outputs else if letter == letter_of_bads then numbers.bads
+    else if letter == letter_of_constraints then numbers.constraints else if letter == letter_of_justice then numbers.justice
+    else if letter == letter_of_fairness then numbers.fairness else 0
 
 -- names of inputs and latches are kept
 abbrev pub is_kept : ℕ → Bool

@@ -8,16 +8,20 @@ use Rattle.aig_format.specs.Letters.{letter_of_comment}
 use Rattle.aig_format.specs.Text.{◌then◌, Each, Just, IsDigit, Ended, IsLine, Lines, IsDelta}
 use Rattle.aig_format.specs.declared.FileKind.{FileKind}
 use Rattle.aig_format.specs.declared.FileKind.TheVariants.{Text, Binary}
-use Rattle.aig_format.specs.File.{LatchLine, GateLine, NameLine, File, header_of, defined}
+use Rattle.aig_format.specs.File.{LatchLine, GateLine, NameLine, File, HeaderNumbers, header_of, defined}
 
 -- the word that tells a file's kind, and the space behind it
 abbrev pub magic : FileKind → List ℕ
 magic Text = codes "aag "
 magic Binary = codes "aig "
 
+-- the nine numbers of a header in the order of its line: M I L O A B C J F
+abbrev pub numbers_in : HeaderNumbers → List ℕ
+numbers_in n = n.greatest ∷ n.inputs ∷ n.latches ∷ n.outputs ∷ n.gates ∷ n.bads ∷ n.constraints ∷ n.justice ∷ n.fairness ∷ []
+
 -- header: the kind's word, then five to nine numbers; those that are not written are 0
-abbrev pub IsHeader : FileKind → List ℕ → List ℕ → Type 0
-IsHeader kind numbers bytes = (written : List ℕ) × (absent : ℕ) × (numbers ≡ written ++ replicate absent 0) × (5 ≤ length written) × (length numbers ≡ 9)
+abbrev pub IsHeader : FileKind → HeaderNumbers → List ℕ → Type 0
+IsHeader kind numbers bytes = (written : List ℕ) × (absent : ℕ) × (numbers_in numbers ≡ written ++ replicate absent 0) × (5 ≤ length written)
     × (Just (magic kind) then IsLine written) bytes
 
 -- the numbers of a latch line behind its literal: next, and the reset if one is written

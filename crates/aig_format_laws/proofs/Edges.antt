@@ -1,5 +1,5 @@
 -- Literals and edges, latch lines and latches: there and back.
-use Rattle.std.proofs.Common.{◌≡◌, ℕ, ◌+◌, ◌*◌, ◌/◌, ◌%◌, ◌<◌, ◌≤◌, Bool, true, false, cond, Option, Some, None, List, [], ◌∷◌, map, refl, sym, ap, ◌∙◌, arith}
+use Rattle.std.proofs.Common.{◌≡◌, ℕ, ◌+◌, ◌*◌, ◌/◌, ◌%◌, ◌<◌, ◌≤◌, Bool, true, false, cond, Option, Some, None, List, [], ◌∷◌, map, refl, ap, ◌∙◌, arith}
 use Rattle.std.specs.Prelude.{IfSome, ◌==◌}
 use Rattle.std.specs.List.{AllByRecursion}
 use Rattle.aig_circuit.specs.declared.edge.AigEdge.{AigEdge}
@@ -18,10 +18,6 @@ edge_literal e = by_compl e.compl refl
     by_compl : (b : Bool) → e.compl ≡ b → edge_to (literal_of e / 2) (literal_of e % 2 == 1) ≡ e
     by_compl true h = let half : (2 * e.node_id + 1) / 2 ≡ e.node_id = omega arith in let odd : (2 * e.node_id + 1) % 2 ≡ 1 = omega arith in rw (h, half, odd) refl
     by_compl false h = let half : (2 * e.node_id + 0) / 2 ≡ e.node_id = omega arith in let even : (2 * e.node_id + 0) % 2 ≡ 0 = omega arith in rw (h, half, even) refl
-
--- edges with one literal are one
-pub literals_differ : (a b : AigEdge) → literal_of a ≡ literal_of b → a ≡ b
-literals_differ a b h = sym (edge_literal a) ∙ ap (λ n. edge_to (n / 2) (n % 2 == 1)) h ∙ edge_literal b
 
 -- a literal is below twice the count of nodes where its node is there
 pub literal_below : (n : ℕ) (e : AigEdge) → e.node_id < n → literal_of e < 2 * n

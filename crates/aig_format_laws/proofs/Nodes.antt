@@ -20,7 +20,8 @@ use Rattle.aig_format.specs.Numbering.{is_older, numbers_from, variables_in_orde
 use Rattle.aig_format.proofs.Searches.{find_none}
 use Rattle.aig_format.proofs.Older.{older-told}
 use Rattle.aig_format.proofs.Numbers.{order-older}
-use Rattle.aig_format_laws.proofs.Edges.{edge_again, literals_differ}
+use Rattle.aig_circuit.proofs.Edges.{literals-same}
+use Rattle.aig_format_laws.proofs.Edges.{edge_again}
 use Rattle.aig_format_laws.proofs.Gates.{AreNumbered, find_line, line_for, lines_all, lines_for, numbered_next}
 
 pub numbered : (nodes : List AigNode) → AreNodes nodes → AreNumbered 0 nodes
@@ -30,7 +31,7 @@ numbered nodes are = λ i node h. omega (arith, are.numbered i node h)
 ordered_again : (a b : AigEdge) → literal_of a ≤ literal_of b → and_of b a ≡ And a b
 ordered_again a b h = elim (and_of-cases b a) [
   | inl p ↦ p.0
-  | inr p ↦ (let same : a ≡ b = literals_differ a b (omega arith) in p.0 ∙ ap (λ e. And e a) (sym same) ∙ ap (And a) same)
+  | inr p ↦ (let same : a ≡ b = literals-same a b (omega arith) in p.0 ∙ ap (λ e. And e a) (sym same) ∙ ap (And a) same)
 ]
 
 module _ (kind : FileKind) (c : Circuit) (are : AreNodes c.nodes) (older : is_older (file_of kind c) ≡ true) where

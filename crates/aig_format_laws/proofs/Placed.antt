@@ -19,20 +19,10 @@ use Rattle.aig_format.specs.File.{defined}
 use Rattle.aig_format.specs.Spells.{Placed, places}
 use Rattle.aig_format.specs.Circuit.{file_of}
 use Rattle.aig_format.specs.Writable.{IsWritable}
+use Rattle.aig_parsing.proofs.Files.{length-places, places-append}
 use Rattle.aig_format_laws.proofs.Gates.{AreNumbered, LineCase, has_line, lefts, line_case, lines_for, no_line, numbered_next}
 use Rattle.aig_format_laws.proofs.Nodes.{numbered}
 use Rattle.aig_format_laws.proofs.Written.{defined_leaves}
-
-places_append : (m n v : ℕ) → places (m + n) v ≡ places m v ++ places n (v + m)
-places_append zero n v = let e : v ≡ v + 0 = omega arith in let f : 0 + n ≡ n = omega arith in rw f (ap (places n) e)
-places_append (suc m) n v =
-    let e : v + 1 + m ≡ v + suc m = omega arith in
-    let f : suc m + n ≡ suc (m + n) = omega arith in
-    rw f (ap (λ (l : List ℕ). 2 * v ∷ l) (places_append m n (v + 1) ∙ ap (λ k. places m (v + 1) ++ places n k) e))
-
-length-places : (n v : ℕ) → length (places n v) ≡ n
-length-places zero v = refl
-length-places (suc n) v = ap suc (length-places n (v + 1))
 
 -- numbers in a row, doubled
 doubled_places : (v : ℕ) (ns : List ℕ) → EachIndex ns (λ i. slice_index ns i ≡ v + i) → map (λ n. 2 * n) ns ≡ places (length ns) v
@@ -114,6 +104,6 @@ module _ (c : Circuit) (is : IsCircuit c) (w : IsWritable c) (placed : IsReencod
       let from : 0 + (length leaves + 1) ≡ 1 + length leaves = omega arith in
       let whole : defined (file_of Binary c) ≡ places (length leaves) 1 ++ places (length c.nodes - (length leaves + 1)) (1 + length leaves) =
       ap (λ (ns : List ℕ). ns ++ gates) (defined_leaves c) ∙ ap (λ (ns : List ℕ). ns ++ gates) first ∙ ap (λ (ns : List ℕ). places (length leaves) 1 ++ ns) (rest ∙ ap (places (length c.nodes - (length leaves + 1))) from) in
-      let row = places_append (length leaves) (length c.nodes - (length leaves + 1)) 1 in
+      let row = places-append (length leaves) (length c.nodes - (length leaves + 1)) 1 in
       let all = whole ∙ sym row in
       all ∙ ap (λ n. places n 1) (sym (ap (λ (ns : List ℕ). length ns) all ∙ length-places _ 1))

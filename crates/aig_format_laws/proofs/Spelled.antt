@@ -3,9 +3,9 @@ use Rattle.std.proofs.Common.{◌≢◌, ℕ, zero, suc, ◌^◌, ◌<◌, List,
 use Rattle.std.specs.Prelude.{replicate}
 use Rattle.std.specs.List.{AllByRecursion}
 use Rattle.aig_format.specs.declared.FileKind.{FileKind}
-use Rattle.aig_format.specs.File.{File, NameLine, header_of}
+use Rattle.aig_format.specs.File.{File, HeaderNumbers, NameLine, header_of}
 use Rattle.aig_format.specs.Text.{Each, IsLine, Lines}
-use Rattle.aig_format.specs.Spells.{IsHeader, Name, Spells}
+use Rattle.aig_format.specs.Spells.{numbers_in, IsHeader, Name, Spells}
 use Rattle.aig_format.proofs.Entries.{rec_append}
 
 -- a number as a file can hold it
@@ -26,15 +26,15 @@ zeros_small : (k : ℕ) → AllByRecursion IsSmallNumber (replicate k 0)
 zeros_small zero = tt
 zeros_small (suc k) = (omega arith, zeros_small k)
 
-header_line_small : (kind : FileKind) (numbers bytes : List ℕ) → IsHeader kind numbers bytes → AllByRecursion IsSmallNumber numbers
+header_line_small : (kind : FileKind) (numbers : HeaderNumbers) (bytes : List ℕ) → IsHeader kind numbers bytes → AllByRecursion IsSmallNumber (numbers_in numbers)
 header_line_small kind numbers bytes h =
-    subst (AllByRecursion IsSmallNumber) (sym h.2) ((rec_append IsSmallNumber h.0 (replicate h.1 0)).1 (line_small h.0 h.5.1 h.5.4, zeros_small h.1))
+    subst (AllByRecursion IsSmallNumber) (sym h.2) ((rec_append IsSmallNumber h.0 (replicate h.1 0)).1 (line_small h.0 h.4.1 h.4.4, zeros_small h.1))
 
 lines_small : (ns bytes : List ℕ) → Lines ns bytes → AllByRecursion IsSmallNumber ns
 lines_small ns bytes h = each_tells (λ n. IsLine (n ∷ [])) IsSmallNumber (λ n text line. (line_small (n ∷ []) text line).0) ns bytes h
 
 -- the counts of a file's header
-pub header_small : (f : File) (bytes : List ℕ) → Spells f bytes → AllByRecursion IsSmallNumber (header_of f)
+pub header_small : (f : File) (bytes : List ℕ) → Spells f bytes → AllByRecursion IsSmallNumber (numbers_in (header_of f))
 header_small f bytes spells = header_line_small f.kind (header_of f) spells.sections.3.0 spells.sections.3.3
 
 -- the sizes of its justice sets

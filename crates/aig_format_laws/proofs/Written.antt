@@ -24,10 +24,10 @@ use Rattle.aig_circuit.proofs.Circuits.{AreLeaves-of_circuit}
 use Rattle.aig_circuit.proofs.Counting.{closed-count}
 use Rattle.aig_format.specs.declared.FileKind.{FileKind}
 use Rattle.aig_format.specs.File.{File, GateLine, LatchLine, defined, header_of}
-use Rattle.aig_format.specs.Fits.{Fits, FitsOlder, HasReset, IsDefinable, IsNameOf, IsOrdered, Rises}
+use Rattle.aig_format.specs.Fits.{Fits, FitsOlder, HasReset, IsDefinable, IsNameOf, IsOrdered}
 use Rattle.aig_format.specs.Letters.{letter_of_inputs, letter_of_latches}
 use Rattle.aig_format.specs.Numbering.{is_older, number_of}
-use Rattle.aig_format.specs.Spells.{Placed}
+use Rattle.aig_format.specs.Spells.{numbers_in, Placed}
 use Rattle.aig_format.specs.Circuit.{IsReadAgain, circuit_of, file_of, latch_line, latch_of, named_node, name_lines, without_other_names}
 use Rattle.aig_format.specs.Writable.{AreTexts, HasLineFeed, IsWritable, list_lengths}
 use Rattle.aig_circuit.specs.Edges.{HasPlainInit}
@@ -37,9 +37,8 @@ use Rattle.aig_format.proofs.Older.{older-tested}
 use Rattle.aig_format.proofs.Entries.{rec_append, rec_map, rec_weaker}
 use Rattle.aig_parsing.specs.Writable.{CanWrite, GateSmall, IsSmall, LatchSmall, NameSmall}
 use Rattle.aig_parsing.proofs.Law.{spelling_spells}
-use Rattle.aig_parsing.proofs.Checked.{IsNew, distinct_after}
-use Rattle.aig_parsing.proofs.Entries.{IsAbove, after_weaker, rises_after}
 use Rattle.aig_parsing.proofs.Guards.{OnUsed, on_used}
+use Rattle.aig_parsing.proofs.FittingFiles.{rising_distinct}
 use Rattle.aig_format_laws.proofs.Edges.{IsOfFile, edges_again, inputs_again, latches_again, literal_below, literal_half, sets_again}
 use Rattle.aig_format_laws.proofs.Gates.{AreNumbered, lefts, lefts_rise, lines_all, lines_count, lines_for}
 use Rattle.aig_format_laws.proofs.Names.{names_again, names_all, names_distinct, names_kept, with_names}
@@ -59,12 +58,6 @@ doubled_distinct (x ∷ xs) d = (
   (rec_map (λ y. nat_eq (2 * x) y ≡ false) (λ n. 2 * n) xs).1 (rec_weaker (λ y. nat_eq x y ≡ false) (λ y. nat_eq (2 * x) (2 * y) ≡ false) (λ y h. ne_eqb (2 * x) (2 * y) (λ e. eqb-false x y h (omega arith))) xs d.0),
   doubled_distinct xs d.1,
 )
-
-new_above : (before : List ℕ) (x : ℕ) → IsAbove before x → IsNew nat_eq before x
-new_above before x = rec_weaker (λ y. y < x) (λ y. nat_eq y x ≡ false) (λ y h. ne_eqb y x (λ e. absurd (omega arith))) before
-
-rising_distinct : (xs : List ℕ) → Rises xs → IsDistinct nat_eq xs
-rising_distinct xs h = (distinct_after nat_eq xs).0 (after_weaker IsAbove (IsNew nat_eq) new_above xs [] ((rises_after xs).1 h))
 
 latch_literals : (latchs : List AigLatch) → map own (map latch_line latchs) ≡ doubled (latch_leaves latchs)
 latch_literals [] = refl
@@ -276,7 +269,7 @@ module _ (kind : FileKind) (c : Circuit) (is : IsCircuit c) (w : IsWritable c) (
   lines_few : length (lines_for c.nodes) < 2 ^ 32
   lines_few = omega (arith, few, count_parts c.nodes is.nodes.false_first is.nodes.false_once)
 
-  header_small : AllByRecursion IsSmall (header_of f)
+  header_small : AllByRecursion IsSmall (numbers_in (header_of f))
   header_small =
       let i = list_small 0 (omega arith) in let l = list_small 1 (omega arith) in let o = list_small 2 (omega arith) in
       let b = list_small 3 (omega arith) in let k = list_small 4 (omega arith) in let j = list_small 5 (omega arith) in let fs = list_small 6 (omega arith) in

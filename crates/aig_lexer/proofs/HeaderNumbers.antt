@@ -1,20 +1,20 @@
 -- The header's numbers, one by one.
-use Rattle.std.proofs.Common.{◌≡◌, ℕ, suc, ◌+◌, ◌-◌, ◌≤◌, ◌<◌, Bool, true, false, cond, eqb, leb, List, [], ◌∷◌, ◌++◌, length, get_or, set, replicate, Option, Some, None, refl, sym, ap, ◌∙◌, append_assoc, arith}
+use Rattle.std.proofs.Common.{◌≡◌, ℕ, suc, ◌+◌, ◌-◌, ◌≤◌, ◌<◌, Bool, true, false, cond, eqb, leb, List, [], ◌∷◌, ◌++◌, length, set, replicate, Option, Some, None, refl, sym, ap, ◌∙◌, append_assoc, arith}
 use Rattle.std.proofs.lemmas.Bool.{ne_eqb, eqb-true, le-leb, lt-leb}
-use Rattle.std.proofs.lemmas.List.{length-append}
 use Rattle.std.proofs.Math.Seq.{set-append_seam}
-use Rattle.aig_parsing.specs.Front.{◌>>=◌, number_at, line_at, mapped_at, padded, tested_at}
-use Rattle.aig_lexer.specs.Words.{header_numbers_at}
+use Rattle.aig_parsing.specs.Front.{◌>>=◌, number_at, line_at, mapped_at, header_from, header_numbers_at, tested_at}
+use Rattle.aig_format.specs.File.{HeaderNumbers}
+use Rattle.aig_parsing.proofs.Sections.{header_from-zeros}
 
 -- at most k numbers behind these, in a line
-abbrev pub numbers_behind : List ℕ → ℕ → List ℕ → Option (List ℕ × List ℕ)
-numbers_behind written k = mapped_at padded (tested_at (mapped_at (λ ns. written ++ ns) (line_at k)) (λ ns. leb 5 (length ns)))
+abbrev pub numbers_behind : List ℕ → ℕ → List ℕ → Option (HeaderNumbers × List ℕ)
+numbers_behind written k = mapped_at header_from (tested_at (mapped_at (λ ns. written ++ ns) (line_at k)) (λ ns. leb 5 (length ns)))
 
 abbrev enough : List ℕ × List ℕ → Option (List ℕ × List ℕ)
 enough x = cond (leb 5 (length x.0)) (Some x) None
 
-abbrev filled : List ℕ × List ℕ → Option (List ℕ × List ℕ)
-filled x = Some (padded x.0, x.1)
+abbrev filled : List ℕ × List ℕ → Option (HeaderNumbers × List ℕ)
+filled x = Some (header_from x.0, x.1)
 
 abbrev behind : List ℕ → List ℕ × List ℕ → Option (List ℕ × List ℕ)
 behind written x = Some (written ++ x.0, x.1)
@@ -55,7 +55,7 @@ module _ (written : List ℕ) (i : ℕ) (lt : i < 9) where
       go (Some x) = ap (λ (ns : List ℕ). enough (ns, x.1) >>= filled) (sym (append_assoc written (n ∷ []) x.0))
 
   -- the last number, behind four at least
-  pub numbers_give : (n : ℕ) (bs rest : List ℕ) → number_at bs ≡ Some ((n, 10), rest) → 5 ≤ length (written ++ n ∷ []) → numbers_behind written (9 - i) bs ≡ Some (padded (written ++ n ∷ []), rest)
+  pub numbers_give : (n : ℕ) (bs rest : List ℕ) → number_at bs ≡ Some ((n, 10), rest) → 5 ≤ length (written ++ n ∷ []) → numbers_behind written (9 - i) bs ≡ Some (header_from (written ++ n ∷ []), rest)
   unfolding line_at
   numbers_give n bs rest e le = rw (one_left i lt, e, le-leb _ _ le) refl
 
@@ -75,14 +75,7 @@ numbers_set numbers written i n lt is e =
     ap (λ (ns : List ℕ). set ns i n) (e ∙ ap (λ (j : ℕ). written ++ replicate j 0) (one_left i lt)) ∙ ap (λ (j : ℕ). set (written ++ replicate (suc k) 0) j n) (sym is)
     ∙ set-append_seam written 0 (replicate k 0) n ∙ sym (append_assoc written (n ∷ []) (replicate k 0))
 
--- the numbers behind a last one
-pub numbers_padded : (numbers written : List ℕ) (i n : ℕ) → i < 9 → length written ≡ i → numbers ≡ written ++ replicate (9 - i) 0 → padded (written ++ n ∷ []) ≡ set numbers i n
-numbers_padded numbers written i n lt is e =
-    let count : 9 - length (written ++ n ∷ []) ≡ 9 - (i + 1) = ap (λ (k : ℕ). 9 - k) (length-append written (n ∷ []) ∙ ap (λ (k : ℕ). k + 1) is) in
-    ap (λ (k : ℕ). (written ++ n ∷ []) ++ replicate k 0) count ∙ sym (numbers_set numbers written i n lt is e)
-
--- nine numbers are these nine
-pub nine_numbers : (ns : List ℕ) → length ns ≡ 9
-    → get_or ns 0 0 ∷ get_or ns 1 0 ∷ get_or ns 2 0 ∷ get_or ns 3 0 ∷ get_or ns 4 0 ∷ get_or ns 5 0 ∷ get_or ns 6 0 ∷ get_or ns 7 0 ∷ get_or ns 8 0 ∷ [] ≡ ns
-nine_numbers (a ∷ b ∷ c ∷ d ∷ e ∷ f ∷ g ∷ h ∷ i ∷ []) is = refl
-nine_numbers _ is = absurd (omega arith)
+-- the header behind a last one
+pub header_from-set : (numbers written : List ℕ) (i n : ℕ) → i < 9 → length written ≡ i → numbers ≡ written ++ replicate (9 - i) 0 → header_from (written ++ n ∷ []) ≡ header_from (set numbers i n)
+header_from-set numbers written i n lt is e =
+    sym (header_from-zeros (written ++ n ∷ []) (9 - (i + 1))) ∙ ap header_from (sym (numbers_set numbers written i n lt is e))

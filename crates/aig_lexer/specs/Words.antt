@@ -1,8 +1,8 @@
 -- Readers on lists for the words of the format.
-use Rattle.std.specs.Prelude.{ℕ, ◌==◌, if◌then◌else◌, nat_le, List, [], ◌∷◌, length, Option, Some, None}
+use Rattle.std.specs.Prelude.{ℕ, ◌==◌, if◌then◌else◌, List, [], ◌∷◌, Option, Some, None}
 use Rattle.aig_format.specs.declared.FileKind.{FileKind}
 use Rattle.aig_format.specs.declared.FileKind.TheVariants.{Text, Binary}
-use Rattle.aig_parsing.specs.Front.{◌>>=◌, byte_at, line_at, mapped_at, number_at, padded, strip, tested_at}
+use Rattle.aig_parsing.specs.Front.{◌>>=◌, byte_at, number_at, strip, tested_at}
 
 -- this byte
 abbrev pub expect_at : ℕ → List ℕ → Option (ℕ × List ℕ)
@@ -20,7 +20,3 @@ number_from_at first bytes = number_at (first ∷ bytes)
 abbrev pub kind_byte_at : List ℕ → Option (FileKind × List ℕ)
 kind_byte_at [] = None
 kind_byte_at (b ∷ bs) = if b == 97 then Some (Text, bs) else if b == 105 then Some (Binary, bs) else None
-
--- five to nine numbers in a line, with zeros for those that are not written
-abbrev pub header_numbers_at : List ℕ → Option (List ℕ × List ℕ)
-header_numbers_at = mapped_at padded (tested_at (line_at 9) (λ ns. nat_le 5 (length ns)))

@@ -1,11 +1,11 @@
 //! The header line.
 
 ghost use Rattle.std.specs.Prelude.{◌≡◌, ◌<◌, IsErrOf, OnOk, true};
-ghost use Rattle.aig_parsing.specs.Front.{header_at, kind_at};
+ghost use Rattle.aig_parsing.specs.Front.{header_at, header_from, header_numbers_at, kind_at};
 ghost use Rattle.aig_lexer.specs.Faults.{OnShape};
 ghost use Rattle.aig_lexer.specs.Header.{numbers_of};
 ghost use Rattle.aig_lexer.specs.Takes.{Gives};
-ghost use Rattle.aig_lexer.specs.Words.{header_numbers_at, kind_byte_at};
+ghost use Rattle.aig_lexer.specs.Words.{kind_byte_at};
 
 use crate::error::LexError;
 use crate::feed::ByteFeed;
@@ -109,7 +109,7 @@ const MOST: usize = 9;
 
 /// Reads a line of five to nine numbers; those that are not written are 0.
 fn header_numbers<F: ByteFeed>(f: &mut F) -> Result<[u32; MOST], LexError>
-    ensures exact { Gives OnShape (λ ns. ns) (F.coming f.old) (F.coming f.new) result header_numbers_at }
+    ensures exact { Gives OnShape header_from (F.coming f.old) (F.coming f.new) result header_numbers_at }
     ensures stream { IsErrOf result LexError.Stream → F.failed f.new ≡ true }
     ensures same { F.behind f.new ≡ F.behind f.old }
     ensures fewer { OnOk result (F.turns f.new < F.turns f.old) }

@@ -3,3 +3,4 @@ pub mod Tables
 pub mod Searching
 pub mod Leveling
 pub mod Numbering
+pub mod Placing

@@ -3,7 +3,6 @@ use Rattle.std.proofs.Common.{◌≡◌, ◌≢◌, ℕ, zero, suc, ◌+◌, ◌
 use Rattle.std.specs.Prelude.{◌==◌, option_map}
 use Rattle.std.specs.List.{list_any}
 use Rattle.std.proofs.lemmas.Bool.{cases_eq, eq-eqb, ne_eqb}
-use Rattle.std.proofs.lemmas.Option.{same_Some}
 use Rattle.std.proofs.lemmas.List.{drop_all, drop_more}
 use Rattle.aig_circuit.specs.declared.node.AigNode.{AigNode}
 use Rattle.aig_circuit.specs.declared.node.AigNodeType.{AigNodeType}
@@ -58,14 +57,6 @@ number_more numbers xs i v h within is = by_case (cases_eq v (get_or xs i 0)) �
         get_or-set_other numbers (get_or xs i 0) v (Some i) None differs ∙ is ∙ sym (number_later i (get_or xs i 0) v (drop (i + 1) xs) (λ e. differs (sym e)))
 
 -- ---- nodes
-
-pub made_node : (id : ℕ) (o : Option AigNodeType) (image : AigNode) → option_map (node_of id) o ≡ Some image → (kind : AigNodeType) × (o ≡ Some kind) × (image ≡ node_of id kind)
-made_node id (Some kind) image is = (kind, refl, sym (same_Some _ _ is))
-made_node id None image is = absurd cc
-
-pub missed_node : (id : ℕ) (o : Option AigNodeType) → option_map (node_of id) o ≡ None → o ≡ None
-missed_node id (Some kind) is = absurd cc
-missed_node id None is = refl
 
 pub numbered-push : (n : ℕ) (kinds : List AigNodeType) (kind : AigNodeType) → numbered n (kinds ++ kind ∷ []) ≡ numbered n kinds ++ node_of (n + length kinds) kind ∷ []
 numbered-push n [] kind = let e : n ≡ n + 0 = omega arith in ap (λ m. node_of m kind ∷ []) e

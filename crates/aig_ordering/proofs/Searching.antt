@@ -209,9 +209,9 @@ module _ (f : File) (nodes : List AigNode) (are : AreNodesOf f nodes) where
         by_kind (And a b) is h =
             gate_level f nodes are v a b (gate_at f v a b is) h.0 h.1 (right a.node_id h.0 h.2) (right b.node_id h.1 h.3) ∙ ap Some (sym h.4)
 
-  -- a level that is known is less than the count of variables
-  pub level_small : (levels : List (Option ℕ)) → ((w j : ℕ) → level_at levels w ≡ Some j → level_of f w ≡ Some j) → (w j : ℕ) → level_at levels w ≡ Some j → j < f.greatest + 1
-  level_small levels right w j is = let few = are.few in omega (arith, level_of-le f w j (right w j is))
+  -- a level is less than the count of variables
+  pub level_small : (w k : ℕ) → level_of f w ≡ Some k → k < f.greatest + 1
+  level_small w k is = let few = are.few in omega (arith, level_of-le f w k is)
 
 -- ---- a search from a variable on
 

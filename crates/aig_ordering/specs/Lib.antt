@@ -3,3 +3,4 @@ pub mod Tables
 pub mod Search
 pub mod Order
 pub mod Numbers
+pub mod Kinds

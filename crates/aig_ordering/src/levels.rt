@@ -1,9 +1,9 @@
 //! The levels of variables.
 
-ghost use Rattle.std.specs.Prelude.{◌≡◌, ℕ, ◌+◌, ◌^◌, ◌<◌, ◌≤◌, false, length, slice_index_or, true, vec_len, IfErr, IfOk, MatchOption, MatchResult, OnOk, Some};
+ghost use Rattle.std.specs.Prelude.{◌≡◌, ℕ, ◌+◌, ◌^◌, ◌<◌, ◌≤◌, false, length, slice_index_or, true, vec_len, IfErr, IfOk, MatchOption, MatchResult, OnOk};
 ghost use Rattle.aig_circuit.specs.Node.{IfAnd};
 ghost use Rattle.aig_format.specs.File.{File};
-ghost use Rattle.aig_ordering.specs.Search.{IsAt, IsAtRest, IsAtSome, IsTask, Opens, StaysOpen, level_at, work_of};
+ghost use Rattle.aig_ordering.specs.Search.{IsAt, IsAtRest, IsAtSome, IsLevelBy, IsTask, Opens, StaysOpen, work_of};
 ghost use Rattle.aig_ordering.specs.Tables.{AreLevelsOf, AreNodesOf, IfLevels, OnOrder, all_have_levels};
 
 use crate::error::OrderError;
@@ -14,7 +14,7 @@ use std::alloc::Global;
 #[derive(Drop)]
 pub struct Search {
     /// The level of each variable, where it is known.
-    pub levels: Vec<Option<usize>>,
+    pub levels: Vec<Option<u32>>,
     /// Which variables were opened.
     pub opened: Vec<bool>,
     /// The variables that wait for the levels of operands, each for that of the next one.
@@ -26,13 +26,13 @@ pub enum Task {
     /// The level of this operand is to be found first.
     Operand(usize),
     /// This is its level.
-    Level(usize),
+    Level(u32),
 }
 
 /// What is to be done for a variable of this kind, by the levels that are known.
-fn task_of(levels: &[Option<usize>], kind: AigNodeType) -> Task
+fn task_of(levels: &[Option<u32>], kind: AigNodeType) -> Task
     requires operands { IfAnd kind (λ n. n < length levels.now) }
-    requires small { (v k : ℕ) → level_at levels.now v ≡ Some k → k + 1 < 2 ^ 64 }
+    requires small { (level : ℕ) → IsLevelBy levels.now kind level → level < 2 ^ 32 }
     ensures { IsTask levels.now kind result }
 {
     let AigNodeType::And(first, second) = kind else {
@@ -75,6 +75,7 @@ impl Search {
     /// Goes one step on from a variable: to an operand, or, once its level is known, to the variable that waits for it.
     fn step(&mut self, nodes: &[AigNode], variable: usize) -> Result<Option<usize>, OrderError>
         requires nodes { (f : File) × AreNodesOf f nodes.now }
+        requires few { length nodes.now ≤ 2 ^ 32 }
         requires within { variable < length nodes.now }
         requires at { (f : File) → AreNodesOf f nodes.now → IsAt f self.old variable }
         ensures at { (f : File) → AreNodesOf f nodes.now → MatchResult result (IsAtSome f self.new) (λ e. OnOrder e (all_have_levels f ≡ false)) }
@@ -93,6 +94,7 @@ impl Search {
     /// Finds the level of a variable, with those of all that it stands on.
     fn find(&mut self, nodes: &[AigNode], start: usize) -> Result<(), OrderError>
         requires nodes { (f : File) × AreNodesOf f nodes.now }
+        requires few { length nodes.now ≤ 2 ^ 32 }
         requires start { start < length nodes.now }
         requires rest { (f : File) → AreNodesOf f nodes.now → IsAtRest f self.old }
         ensures rest { (f : File) → AreNodesOf f nodes.now → MatchResult result (λ _. IsAtRest f self.new) (λ e. OnOrder e (all_have_levels f ≡ false)) }
@@ -112,8 +114,9 @@ impl Search {
 }
 
 /// The level of each variable. `nodes` has each variable at its place, with edges to variables.
-pub fn find_levels(alloc: Global, nodes: &[AigNode]) -> Result<Vec<Option<usize>>, OrderError>
-    requires { (f : File) × AreNodesOf f nodes.now }
+pub fn find_levels(alloc: Global, nodes: &[AigNode]) -> Result<Vec<Option<u32>>, OrderError>
+    requires nodes { (f : File) × AreNodesOf f nodes.now }
+    requires few { length nodes.now ≤ 2 ^ 32 }
     ensures { (f : File) → AreNodesOf f nodes.now → IfLevels f (λ levels. AreLevelsOf f levels.items) result }
 {
     let mut search = Search::new(alloc, nodes.len())?;

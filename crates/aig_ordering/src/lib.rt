@@ -3,10 +3,12 @@
 #![tactic(auto)]
 
 mod error;
+mod kinds;
 mod levels;
 mod lists;
 mod order;
 
 pub use error::OrderError;
-pub use lists::{edges, latchs, nodes, sets, variables};
+pub use kinds::nodes;
+pub use lists::{edges, latchs, sets, variables};
 pub use order::{numbers, order_by_level};

@@ -1,27 +1,27 @@
 -- A file is read exactly: the bytes spell it, and no other.
 use Rattle.std.proofs.Common.{◌≡◌, ℕ, zero, suc, ◌+◌, ◌*◌, List, [], ◌∷◌, ◌++◌, length, map, Some, refl, sym, ap, subst, ◌∙◌, arith}
-use Rattle.std.specs.Prelude.{slice_index}
 use Rattle.std.proofs.lemmas.List.{length-append, length-map}
 use Rattle.std.proofs.lemmas.Option.{same_Some}
 use Rattle.aig_format.specs.Text.{◌then◌, Each, Lines}
 use Rattle.aig_format.specs.declared.FileKind.{FileKind}
 use Rattle.aig_format.specs.declared.FileKind.TheVariants.{Text, Binary}
-use Rattle.aig_format.specs.File.{LatchLine, GateLine, NameLine, File, header_of, defined}
+use Rattle.aig_format.specs.File.{LatchLine, GateLine, NameLine, File, HeaderNumbers, header_of, defined}
 use Rattle.aig_format.specs.Spells.{Inputs, Latch, Gate, IsHeader, Body, Placed, places, Spells}
-use Rattle.aig_parsing.specs.Front.{◌>>=◌, header_at, latch_at, gate_at, inputs_at, latches_at, gates_at, placed_latch_at, placed_gate_at, Parts, sections_at, body_at, tail_at, file_from, file_at}
+use Rattle.aig_parsing.specs.Front.{◌>>=◌, header_at, latch_at, gate_at, inputs_at, latches_at, gates_at, justice_at, numbers_at, placed_latch_at, placed_gate_at, Parts, PropertyParts, property_parts, sections_at, sets_at, body_at, tail_at, file_from, file_at}
 use Rattle.aig_parsing.proofs.Numbers.{bind_some}
-use Rattle.aig_parsing.proofs.Joined.{Begins, Reads, Several, Reads-both, Reads-times}
-use Rattle.aig_parsing.proofs.Sections.{HeaderIs, Reads-header, Reads-latch, Reads-gate, SoMany, Reads-numbers, SetsOf, Reads-sets}
+use Rattle.aig_parsing.proofs.Joined.{Begins, Reads, Several, With, Reads-both, Reads-times}
+use Rattle.aig_parsing.proofs.Sections.{HeaderIs, Reads-header, Reads-latch, Reads-gate, Reads-same, SoMany, Reads-numbers, SetsOf, Reads-sets}
+use Rattle.aig_parsing.proofs.InARow.{PropertiesBy, SectionsBy, Reads-part, Reads-properties_by, Reads-sections_by, then-assoc, then-joined}
 use Rattle.aig_parsing.proofs.Binary.{InPlaces, latch_key, gate_key, Reads-placed, Reads-placed_latch, Reads-placed_gate}
 use Rattle.aig_parsing.proofs.Names.{IsTail, tail_sound, tail_complete}
 
 -- ---- places
 
-length-places : (n v : ℕ) → length (places n v) ≡ n
+pub length-places : (n v : ℕ) → length (places n v) ≡ n
 length-places zero v = refl
 length-places (suc n) v = ap suc (length-places n (v + 1))
 
-places-append : (m n v : ℕ) → places (m + n) v ≡ places m v ++ places n (v + m)
+pub places-append : (m n v : ℕ) → places (m + n) v ≡ places m v ++ places n (v + m)
 places-append zero n v =
     let e : zero + n ≡ n = omega arith in
     let f : v ≡ v + zero = omega arith in
@@ -59,69 +59,54 @@ abbrev pub GatesPart : FileKind → ℕ → ℕ → ℕ → List GateLine → Li
 GatesPart Text i l n gs bytes = Several (Gate Text) n gs bytes
 GatesPart Binary i l n gs bytes = InPlaces gate_key (Gate Binary) n (1 + i + l) gs bytes
 
-pub Reads-inputs : (kind : FileKind) (ns : List ℕ) → Reads (InputsPart kind (slice_index ns 1)) (inputs_at kind ns)
-Reads-inputs Text ns = Reads-numbers (slice_index ns 1)
+pub Reads-inputs : (kind : FileKind) (ns : HeaderNumbers) → Reads (InputsPart kind ns.inputs) (inputs_at kind ns)
+Reads-inputs Text ns = Reads-numbers ns.inputs
 Reads-inputs Binary ns = record {
-  sound = λ bytes x h. subst (Begins (InputsPart Binary (slice_index ns 1)) bytes) (same_Some _ _ h) ([], refl, (refl, refl));
+  sound = λ bytes x h. subst (Begins (InputsPart Binary ns.inputs) bytes) (same_Some _ _ h) ([], refl, (refl, refl));
   complete = λ xs front rest h. rw (h.1, h.0) refl;
 }
 
-Reads-latches : (kind : FileKind) (ns : List ℕ) → Reads (LatchesPart kind (slice_index ns 1) (slice_index ns 2)) (latches_at kind ns)
-Reads-latches Text ns = Reads-times (Latch Text) latch_at (slice_index ns 2) Reads-latch
-Reads-latches Binary ns = Reads-placed latch_key (Latch Binary) placed_latch_at Reads-placed_latch (slice_index ns 2) (1 + slice_index ns 1)
+Reads-latches : (kind : FileKind) (ns : HeaderNumbers) → Reads (LatchesPart kind ns.inputs ns.latches) (latches_at kind ns)
+Reads-latches Text ns = Reads-times (Latch Text) latch_at ns.latches Reads-latch
+Reads-latches Binary ns = Reads-placed latch_key (Latch Binary) placed_latch_at Reads-placed_latch ns.latches (1 + ns.inputs)
 
-Reads-gates : (kind : FileKind) (ns : List ℕ) → Reads (GatesPart kind (slice_index ns 1) (slice_index ns 2) (slice_index ns 4)) (gates_at kind ns)
-Reads-gates Text ns = Reads-times (Gate Text) gate_at (slice_index ns 4) Reads-gate
-Reads-gates Binary ns = Reads-placed gate_key (Gate Binary) placed_gate_at Reads-placed_gate (slice_index ns 4) (1 + slice_index ns 1 + slice_index ns 2)
+Reads-gates : (kind : FileKind) (ns : HeaderNumbers) → Reads (GatesPart kind ns.inputs ns.latches ns.gates) (gates_at kind ns)
+Reads-gates Text ns = Reads-times (Gate Text) gate_at ns.gates Reads-gate
+Reads-gates Binary ns = Reads-placed gate_key (Gate Binary) placed_gate_at Reads-placed_gate ns.gates (1 + ns.inputs + ns.latches)
 
--- the sections by their numbers
-abbrev pub Part_8 : FileKind → List ℕ → List ℕ × List GateLine → List ℕ → Type 0
-Part_8 kind ns x = SoMany (slice_index ns 8) x.0 then GatesPart kind (slice_index ns 1) (slice_index ns 2) (slice_index ns 4) x.1
+-- so many sets: their sizes, and then their literals
+abbrev pub JusticePart : ℕ → List (List ℕ) → List ℕ → Type 0
+JusticePart n sets bytes = (length sets ≡ n) × (Lines (map length sets) then Each Lines sets) bytes
 
-abbrev pub Part_7 : FileKind → List ℕ → List ℕ → List (List ℕ) × (List ℕ × List GateLine) → List ℕ → Type 0
-Part_7 kind ns sizes x = SetsOf sizes x.0 then Part_8 kind ns x.1
+Reads-justice : (n : ℕ) → Reads (JusticePart n) (justice_at n)
+Reads-justice n =
+    let Nothing : List (List ℕ) → Type 0 = λ _. Unit {0} in
+    Reads-same (With Nothing (λ sets. SoMany n (map length sets) then Each Lines sets)) (JusticePart n) (justice_at n)
+    (Reads-part (λ sets. map length sets) Nothing (SoMany n) (Each Lines) (numbers_at n) sets_at (Reads-numbers n) (λ sizes.
+    Reads-same (SetsOf sizes) (With (λ sets. Nothing sets × (map length sets ≡ sizes)) (Each Lines)) (sets_at sizes) (Reads-sets sizes)
+    (λ sets bytes h. ((tt, h.0), h.1)) (λ sets bytes h. (h.0.1, h.1))))
+    (λ sets bytes h. let w = h.1 in (sym (length-map sets length) ∙ w.3.0, (w.0, w.1, w.2, w.3.1, w.4)))
+    (λ sets bytes h. let w = h.1 in (tt, (w.0, w.1, w.2, (length-map sets length ∙ h.0, w.3), w.4)))
 
-abbrev pub Part_6 : FileKind → List ℕ → List ℕ × (List (List ℕ) × (List ℕ × List GateLine)) → List ℕ → Type 0
-Part_6 kind ns x = SoMany (slice_index ns 7) x.0 then Part_7 kind ns x.0 x.1
+-- outputs and properties, and all sections, by the header's numbers
+abbrev pub PropertiesPart : HeaderNumbers → PropertyParts → List ℕ → Type 0
+PropertiesPart = PropertiesBy SoMany JusticePart
 
-abbrev pub Part_5 : FileKind → List ℕ → List ℕ × (List ℕ × (List (List ℕ) × (List ℕ × List GateLine))) → List ℕ → Type 0
-Part_5 kind ns x = SoMany (slice_index ns 6) x.0 then Part_6 kind ns x.1
+abbrev pub SectionsPart : FileKind → HeaderNumbers → Parts → List ℕ → Type 0
+SectionsPart kind ns = SectionsBy (InputsPart kind ns.inputs) (λ _. LatchesPart kind ns.inputs ns.latches) (PropertiesPart ns) (λ _ _. GatesPart kind ns.inputs ns.latches ns.gates)
 
-abbrev pub Part_4 : FileKind → List ℕ → List ℕ × (List ℕ × (List ℕ × (List (List ℕ) × (List ℕ × List GateLine)))) → List ℕ → Type 0
-Part_4 kind ns x = SoMany (slice_index ns 5) x.0 then Part_5 kind ns x.1
-
-abbrev pub Part_3 : FileKind → List ℕ → List ℕ × (List ℕ × (List ℕ × (List ℕ × (List (List ℕ) × (List ℕ × List GateLine))))) → List ℕ → Type 0
-Part_3 kind ns x = SoMany (slice_index ns 3) x.0 then Part_4 kind ns x.1
-
-abbrev pub Part_2 : FileKind → List ℕ → List LatchLine × (List ℕ × (List ℕ × (List ℕ × (List ℕ × (List (List ℕ) × (List ℕ × List GateLine)))))) → List ℕ → Type 0
-Part_2 kind ns x = LatchesPart kind (slice_index ns 1) (slice_index ns 2) x.0 then Part_3 kind ns x.1
-
-abbrev pub Part_1 : FileKind → List ℕ → Parts → List ℕ → Type 0
-Part_1 kind ns x = InputsPart kind (slice_index ns 1) x.0 then Part_2 kind ns x.1
-
-Reads-sections : (kind : FileKind) (ns : List ℕ) → Reads (Part_1 kind ns) (sections_at kind ns)
+Reads-sections : (kind : FileKind) (ns : HeaderNumbers) → Reads (SectionsPart kind ns) (sections_at kind ns)
 Reads-sections kind ns =
-    Reads-both (InputsPart kind (slice_index ns 1)) (λ _. Part_2 kind ns) _ _ (Reads-inputs kind ns) (λ _.
-    Reads-both (LatchesPart kind (slice_index ns 1) (slice_index ns 2)) (λ _. Part_3 kind ns) _ _ (Reads-latches kind ns) (λ _.
-    Reads-both (SoMany (slice_index ns 3)) (λ _. Part_4 kind ns) _ _ (Reads-numbers (slice_index ns 3)) (λ _.
-    Reads-both (SoMany (slice_index ns 5)) (λ _. Part_5 kind ns) _ _ (Reads-numbers (slice_index ns 5)) (λ _.
-    Reads-both (SoMany (slice_index ns 6)) (λ _. Part_6 kind ns) _ _ (Reads-numbers (slice_index ns 6)) (λ _.
-    Reads-both (SoMany (slice_index ns 7)) (Part_7 kind ns) _ _ (Reads-numbers (slice_index ns 7)) (λ sizes.
-    Reads-both (SetsOf sizes) (λ _. Part_8 kind ns) _ _ (Reads-sets sizes) (λ _.
-    Reads-both (SoMany (slice_index ns 8)) (λ _. GatesPart kind (slice_index ns 1) (slice_index ns 2) (slice_index ns 4)) _ _ (Reads-numbers (slice_index ns 8)) (λ _.
-    Reads-gates kind ns))))))))
+    Reads-sections_by (InputsPart kind ns.inputs) (λ _. LatchesPart kind ns.inputs ns.latches) (PropertiesPart ns) (λ _ _. GatesPart kind ns.inputs ns.latches ns.gates) _ _ _ _
+    (Reads-inputs kind ns) (λ _. Reads-latches kind ns) (Reads-properties_by SoMany JusticePart numbers_at justice_at Reads-numbers Reads-justice ns) (λ _ _. Reads-gates kind ns)
 
-abbrev pub IsBody : (FileKind × List ℕ) × Parts → List ℕ → Type 0
-IsBody b = HeaderIs b.0 then Part_1 b.0.0 b.0.1 b.1
+abbrev pub IsBody : (FileKind × HeaderNumbers) × Parts → List ℕ → Type 0
+IsBody b = HeaderIs b.0 then SectionsPart b.0.0 b.0.1 b.1
 
 pub Reads-body : Reads IsBody body_at
-Reads-body = Reads-both HeaderIs (λ h. Part_1 h.0 h.1) header_at (λ h. sections_at h.0 h.1) Reads-header (λ h. Reads-sections h.0 h.1)
+Reads-body = Reads-both HeaderIs (λ h. SectionsPart h.0 h.1) header_at (λ h. sections_at h.0 h.1) Reads-header (λ h. Reads-sections h.0 h.1)
 
 -- ---- from the parts to the file
-
-nine : (ns : List ℕ) → length ns ≡ 9 → ns ≡ slice_index ns 0 ∷ slice_index ns 1 ∷ slice_index ns 2 ∷ slice_index ns 3 ∷ slice_index ns 4 ∷ slice_index ns 5 ∷ slice_index ns 6 ∷ slice_index ns 7 ∷ slice_index ns 8 ∷ []
-nine (a ∷ b ∷ c ∷ d ∷ e ∷ f ∷ g ∷ h ∷ i ∷ []) len = refl
-nine _ len = absurd (omega arith)
 
 pub inputs_text : (kind : FileKind) (n : ℕ) (xs bytes : List ℕ) → InputsPart kind n xs bytes → (length xs ≡ n) × Inputs kind xs bytes
 inputs_text Text n xs bytes h = h
@@ -145,64 +130,48 @@ placed_all Binary i l a xs ls gs b0 b1 b2 p q r =
     let len : length (xs ++ map latch_key ls ++ map gate_key gs) ≡ i + l + a = ap length whole ∙ length-places (i + l + a) 1 in
     whole ∙ ap (λ (n : ℕ). places n 1) (sym len)
 
--- the header's numbers are those of the file
-numbers_are : (ns : List ℕ) (a b c d e f g h : ℕ) → length ns ≡ 9 → a ≡ slice_index ns 1 → b ≡ slice_index ns 2 → c ≡ slice_index ns 3 → d ≡ slice_index ns 4 → e ≡ slice_index ns 5 → f ≡ slice_index ns 6 → g ≡ slice_index ns 7 → h ≡ slice_index ns 8
-    → ns ≡ slice_index ns 0 ∷ a ∷ b ∷ c ∷ d ∷ e ∷ f ∷ g ∷ h ∷ []
-numbers_are ns a b c d e f g h len pa pb pc pd pe pf pg ph = let n = nine ns len in cc
+-- outputs and properties, and what follows, in a row
+properties_text : (ns : HeaderNumbers) (x : PropertyParts) (Behind : List ℕ → Type 0) (bytes : List ℕ) → (PropertiesPart ns x then Behind) bytes
+    → (Lines x.outputs then Lines x.bads then Lines x.constraints then Lines (map length x.justice) then Each Lines x.justice then Lines x.fairness then Behind) bytes
+properties_text ns x Behind bytes h =
+    let o = then-assoc _ _ _ bytes h in
+    let b = then-assoc _ _ _ o.1 o.4 in
+    let c = then-assoc _ _ _ b.1 b.4 in
+    let j = then-assoc _ _ _ c.1 c.4 in
+    let s = then-assoc (Lines (map length x.justice)) (Each Lines x.justice) (SoMany ns.fairness x.fairness then Behind) c.1 (j.0, j.1, j.2, j.3.1, j.4) in
+    let e = s.4 in
+    let f = e.4 in
+    (o.0, o.1, o.2, o.3.1, (b.0, b.1, b.2, b.3.1, (c.0, c.1, c.2, c.3.1, (s.0, s.1, s.2, s.3, (e.0, e.1, e.2, e.3, (f.0, f.1, f.2, f.3.1, f.4))))))
 
-body_to : (b : (FileKind × List ℕ) × Parts) (names : List NameLine) (bytes : List ℕ) → IsBody b bytes → Body (file_from b names) bytes × Placed b.0.0 (defined (file_from b names))
+-- and back
+properties_part : (f : File) (Behind : List ℕ → Type 0) (bytes : List ℕ)
+    → (Lines f.outputs then Lines f.bads then Lines f.constraints then Lines (map length f.justice) then Each Lines f.justice then Lines f.fairness then Behind) bytes
+    → (PropertiesPart (header_of f) (property_parts f) then Behind) bytes
+properties_part f Behind bytes o =
+    let b = o.4 in let c = b.4 in let s = c.4 in let e = s.4 in let w = e.4 in
+    let ns = header_of f in
+    let Fairness = SoMany ns.fairness f.fairness in
+    let Justice = JusticePart ns.justice f.justice in
+    let j = then-joined (Lines (map length f.justice)) (Each Lines f.justice) (Fairness then Behind) c.1 (s.0, s.1, s.2, s.3, (e.0, e.1, e.2, e.3, (w.0, w.1, w.2, (refl, w.3), w.4))) in
+    let justice = then-joined Justice Fairness Behind c.1 (j.0, j.1, j.2, (refl, j.3), j.4) in
+    let constraints = then-joined (SoMany ns.constraints f.constraints) (Justice then Fairness) Behind b.1 (c.0, c.1, c.2, (refl, c.3), justice) in
+    let bads = then-joined (SoMany ns.bads f.bads) (SoMany ns.constraints f.constraints then (Justice then Fairness)) Behind o.1 (b.0, b.1, b.2, (refl, b.3), constraints) in
+    then-joined (SoMany ns.outputs f.outputs) (SoMany ns.bads f.bads then (SoMany ns.constraints f.constraints then (Justice then Fairness))) Behind bytes (o.0, o.1, o.2, (refl, o.3), bads)
+
+body_to : (b : (FileKind × HeaderNumbers) × Parts) (names : List NameLine) (bytes : List ℕ) → IsBody b bytes → Body (file_from b names) bytes × Placed b.0.0 (defined (file_from b names))
 body_to b names bytes h =
     let kind = b.0.0 in
     let ns = b.0.1 in
     let x = b.1 in
-    let p1 = h.4 in let p2 = p1.4 in let p3 = p2.4 in let p4 = p3.4 in let p5 = p4.4 in let p6 = p5.4 in let p7 = p6.4 in let p8 = p7.4 in
-    let i = inputs_text kind (slice_index ns 1) x.0 p1.0 p1.3 in
-    let l = latches_text kind (slice_index ns 1) (slice_index ns 2) x.1.0 p2.0 p2.3 in
-    let g = gates_text kind (slice_index ns 1) (slice_index ns 2) (slice_index ns 4) x.1.1.1.1.1.1.1.1 p8.1 p8.4 in
-    let sets = x.1.1.1.1.1.1.0 in
-    let sizes : map length sets ≡ x.1.1.1.1.1.0 = p7.3.0 in
-    let justice : length sets ≡ slice_index ns 7 = sym (length-map sets length) ∙ ap length sizes ∙ p6.3.0 in
-    let same : ns ≡ header_of (file_from b names) = numbers_are ns _ _ _ _ _ _ _ _ h.3.4 i.0 l.0 p3.3.0 g.0 p4.3.0 p5.3.0 justice p8.3.0 in
-    let header : IsHeader kind (header_of (file_from b names)) h.0 = subst (λ (ms : List ℕ). IsHeader kind ms h.0) same h.3 in
-    let size_lines : Lines (map length sets) p6.0 = subst (λ (ms : List ℕ). Lines ms p6.0) (sym sizes) p6.3.1 in (
-      (
-        h.0,
-        h.1,
-        h.2,
-        header,
-        (
-          p1.0,
-          p1.1,
-          p1.2,
-          i.1,
-          (
-            p2.0,
-            p2.1,
-            p2.2,
-            l.1,
-            (
-              p3.0,
-              p3.1,
-              p3.2,
-              p3.3.1,
-              (
-                p4.0,
-                p4.1,
-                p4.2,
-                p4.3.1,
-                (
-                  p5.0,
-                  p5.1,
-                  p5.2,
-                  p5.3.1,
-                  (p6.0, p6.1, p6.2, size_lines, (p7.0, p7.1, p7.2, p7.3.1, (p8.0, p8.1, p8.2, p8.3.1, g.1))),
-                ),
-              ),
-            ),
-          ),
-        ),
-      ),
-      placed_all kind (slice_index ns 1) (slice_index ns 2) (slice_index ns 4) x.0 x.1.0 x.1.1.1.1.1.1.1.1 p1.0 p2.0 p8.1 p1.3 p2.3 p8.4,
+    let inputs = h.4 in let latches = inputs.4 in let behind = latches.4 in
+    let outputs = behind.3 in let bads = outputs.4 in let constraints = bads.4 in let justice = constraints.4 in
+    let i = inputs_text kind ns.inputs x.inputs inputs.0 inputs.3 in
+    let l = latches_text kind ns.inputs ns.latches x.latches latches.0 latches.3 in
+    let g = gates_text kind ns.inputs ns.latches ns.gates x.gates behind.1 behind.4 in
+    let header : IsHeader kind (header_of (file_from b names)) h.0 = rw (i.0, l.0, outputs.3.0, g.0, bads.3.0, constraints.3.0, justice.3.0, justice.4.0) h.3 in
+    let properties = properties_text ns x.properties (Each (Gate kind) x.gates) latches.1 (behind.0, behind.1, behind.2, behind.3, g.1) in (
+      (h.0, h.1, h.2, header, (inputs.0, inputs.1, inputs.2, i.1, (latches.0, latches.1, latches.2, l.1, properties))),
+      placed_all kind ns.inputs ns.latches ns.gates x.inputs x.latches x.gates inputs.0 latches.0 behind.1 inputs.3 latches.3 behind.4,
     )
 
 inputs_back : (kind : FileKind) (xs : List ℕ) (ls : List LatchLine) (gs : List GateLine) (bytes : List ℕ) → Placed kind (xs ++ map latch_key ls ++ map gate_key gs) → Inputs kind xs bytes → InputsPart kind (length xs) xs bytes
@@ -225,63 +194,29 @@ gates_back Binary xs ls gs bytes p h =
     (s.1 ∙ ap (λ (n : ℕ). places n (1 + length (xs ++ map latch_key ls))) (length-map gs gate_key) ∙ ap (places (length gs)) from, h)
 
 -- the header and the sections of a file
-abbrev pub parts_of : File → (FileKind × List ℕ) × Parts
-parts_of f = ((f.kind, header_of f), (f.inputs, (f.latches, (f.outputs, (f.bads, (f.constraints, (map length f.justice, (f.justice, (f.fairness, f.gates)))))))))
+abbrev pub parts_of : File → (FileKind × HeaderNumbers) × Parts
+parts_of f = ((f.kind, header_of f), record { inputs = f.inputs; latches = f.latches; properties = property_parts f; gates = f.gates })
 
 pub body_from : (f : File) (bytes : List ℕ) → Body f bytes → Placed f.kind (defined f) → IsBody (parts_of f) bytes
 body_from f bytes h p =
-    let p1 = h.4 in let p2 = p1.4 in let p3 = p2.4 in let p4 = p3.4 in let p5 = p4.4 in let p6 = p5.4 in let p7 = p6.4 in let p8 = p7.4 in (
+    let inputs = h.4 in let latches = inputs.4 in
+    let behind = properties_part f (Each (Gate f.kind) f.gates) latches.1 latches.4 in
+    let gates = gates_back f.kind f.inputs f.latches f.gates behind.1 p behind.4 in (
       h.0,
       h.1,
       h.2,
       h.3,
       (
-        p1.0,
-        p1.1,
-        p1.2,
-        inputs_back f.kind f.inputs f.latches f.gates p1.0 p p1.3,
-        (
-          p2.0,
-          p2.1,
-          p2.2,
-          latches_back f.kind f.inputs f.latches f.gates p2.0 p p2.3,
-          (
-            p3.0,
-            p3.1,
-            p3.2,
-            (refl, p3.3),
-            (
-              p4.0,
-              p4.1,
-              p4.2,
-              (refl, p4.3),
-              (
-                p5.0,
-                p5.1,
-                p5.2,
-                (refl, p5.3),
-                (
-                  p6.0,
-                  p6.1,
-                  p6.2,
-                  (length-map f.justice length, p6.3),
-                  (
-                    p7.0,
-                    p7.1,
-                    p7.2,
-                    (refl, p7.3),
-                    (p8.0, p8.1, p8.2, (refl, p8.3), gates_back f.kind f.inputs f.latches f.gates p8.1 p p8.4),
-                  ),
-                ),
-              ),
-            ),
-          ),
-        ),
+        inputs.0,
+        inputs.1,
+        inputs.2,
+        inputs_back f.kind f.inputs f.latches f.gates inputs.0 p inputs.3,
+        (latches.0, latches.1, latches.2, latches_back f.kind f.inputs f.latches f.gates latches.0 p latches.3, (behind.0, behind.1, behind.2, behind.3, gates)),
       ),
     )
 
 -- a body, and names behind it, spell a file
-pub spelled : (b : (FileKind × List ℕ) × Parts) (names : List NameLine) (bytes front rest : List ℕ) → bytes ≡ front ++ rest → IsBody b front → IsTail names rest → Spells (file_from b names) bytes
+pub spelled : (b : (FileKind × HeaderNumbers) × Parts) (names : List NameLine) (bytes front rest : List ℕ) → bytes ≡ front ++ rest → IsBody b front → IsTail names rest → Spells (file_from b names) bytes
 spelled b names bytes front rest whole body tail = let w = body_to b names front body in record { sections = (front, rest, whole, w.0, tail); placed = w.1 }
 
 -- the parts of a file are read from each text that spells it

@@ -1,17 +1,18 @@
 -- A file is read from the front, tested line by line, exactly where it fits: what is read is accepted, and what is accepted is read.
 use Rattle.std.proofs.Common.{◌≡◌, ℕ, zero, suc, ◌+◌, ◌<◌, ◌≤◌, false, ◌&&◌, ◌↔◌, ◌⊎◌, List, [], ◌++◌, length, map, Some, refl, sym, ap, subst, ◌∙◌, arith, inl, inr}
-use Rattle.std.specs.Prelude.{slice_index, nat_eq}
+use Rattle.std.specs.Prelude.{nat_eq}
 use Rattle.std.specs.List.{AllByRecursion, IsDistinct}
 use Rattle.std.proofs.lemmas.Bool.{ne_eqb}
+use Rattle.std.proofs.lemmas.List.{length-map}
 use Rattle.std.proofs.lemmas.Option.{same_Some}
-use Rattle.aig_format.specs.Text.{Ended}
+use Rattle.aig_format.specs.Text.{◌then◌, Each, Ended, Lines}
 use Rattle.aig_format.specs.declared.FileKind.{FileKind}
 use Rattle.aig_format.specs.declared.FileKind.TheVariants.{Text, Binary}
-use Rattle.aig_format.specs.File.{LatchLine, GateLine, NameLine, File, header_of, defined}
+use Rattle.aig_format.specs.File.{LatchLine, GateLine, NameLine, File, HeaderNumbers, header_of, defined}
 use Rattle.aig_format.specs.Spells.{Latch, Gate, Placed, places, Spells}
 use Rattle.aig_format.specs.Fits.{IsDefinable, HasReset, IsOrdered, Rises, FitsOlder, FitsNewer, Fits, HasEnough, Accepts}
-use Rattle.aig_parsing.specs.Front.{◌>>=◌, header_at, is_good, ended_at, tested_at, numbers_at, placed_gate_at, Parts, body_at, file_from, AllAfter}
-use Rattle.aig_parsing.specs.Fitting.{is_within, keeps_rules, section_lines_at, fitting_header_at, defines, has_next, tests_latch, tests_gate, latch_line_at, binary_latch_at, gate_line_at, fitting_inputs_at, fitting_latches_at, fitting_gates_at, fitting_sections_at, fitting_body_at, fitting_tail_at, fitting_at}
+use Rattle.aig_parsing.specs.Front.{◌>>=◌, header_at, is_good, ended_at, tested_at, numbers_at, placed_gate_at, Parts, PropertyParts, property_parts, body_at, file_from, AllAfter}
+use Rattle.aig_parsing.specs.Fitting.{is_within, keeps_rules, section_lines_at, fitting_header_at, defines, has_next, tests_latch, tests_gate, latch_line_at, binary_latch_at, gate_line_at, fitting_inputs_at, fitting_latches_at, fitting_gates_at, literal_justice_at, literal_sets_at, literals_at, fitting_properties_at, fitting_sections_at, fitting_body_at, fitting_tail_at, fitting_at}
 use Rattle.aig_format.proofs.Entries.{rec_weaker, rec_both, rec_append}
 use Rattle.aig_parsing.proofs.Numbers.{bind_some}
 use Rattle.aig_parsing.proofs.Joined.{Reads, With, Reads-ended, Reads-tested}
@@ -19,7 +20,8 @@ use Rattle.aig_parsing.proofs.Lines.{not_10}
 use Rattle.aig_parsing.proofs.Sections.{HeaderIs, Reads-header, Reads-same, SoMany, SetsOf, Reads-numbers}
 use Rattle.aig_parsing.proofs.Binary.{At, latch_key, gate_key}
 use Rattle.aig_parsing.proofs.Names.{tail_sound, tail_complete}
-use Rattle.aig_parsing.proofs.Files.{InputsPart, LatchesPart, GatesPart, Part_1, Part_2, Part_3, Part_4, Part_5, Part_6, Part_7, Part_8, IsBody, Reads-inputs, Reads-body, parts_of, body_from, spelled, body_read, split_places}
+use Rattle.aig_parsing.proofs.Files.{InputsPart, LatchesPart, GatesPart, JusticePart, PropertiesPart, SectionsPart, IsBody, Reads-inputs, Reads-body, parts_of, body_from, spelled, body_read, split_places}
+use Rattle.aig_parsing.proofs.InARow.{PropertiesBy, SectionsBy, Reads-part, Reads-properties_by, Reads-sections_by}
 use Rattle.aig_parsing.proofs.Checked.{Reads-checked, IsNew, distinct_after}
 use Rattle.aig_parsing.proofs.Entries.{after_weaker, IsAbove, rises_after}
 use Rattle.aig_parsing.proofs.Guards.{Defines, Decides-defines, IsLiteral, HasNext, Decides-next, LatchAfter, Decides-latch, GateAfter, Decides-gate, NameAfter, IsWithin, HasOperands, KeepsRules, Decides-rules, Decides-good_within, defined_anew, defined_by_section, on_used, latches_by_line, gates_by_line, gates_in_range, names_by_line, length-defined}
@@ -40,89 +42,107 @@ abbrev pub GatesFit : FileKind → ℕ → List ℕ → List GateLine → Type 0
 GatesFit Text greatest leaves gates = AllAfter (GateAfter greatest leaves) [] gates
 GatesFit Binary greatest leaves gates = AllByRecursion IsOrdered gates
 
-Reads-fitting_inputs : (kind : FileKind) (ns : List ℕ) → Reads (With (InputsFit kind (slice_index ns 0)) (InputsPart kind (slice_index ns 1))) (fitting_inputs_at kind ns)
+Reads-fitting_inputs : (kind : FileKind) (ns : HeaderNumbers) → Reads (With (InputsFit kind ns.greatest) (InputsPart kind ns.inputs)) (fitting_inputs_at kind ns)
 Reads-fitting_inputs Text ns =
-    let greatest = slice_index ns 0 in
+    let greatest = ns.greatest in
     let test = Decides-defines greatest in
-    Reads-checked (Ended 10) (Defines greatest) (ended_at 10) (defines greatest) (Reads-ended 10 not_10) (λ before e. (test before e).0) (λ before e. (test before e).1) (slice_index ns 1) []
-Reads-fitting_inputs Binary ns = Reads-any (InputsPart Binary (slice_index ns 1)) (fitting_inputs_at Binary ns) (Reads-inputs Binary ns)
+    Reads-checked (Ended 10) (Defines greatest) (ended_at 10) (defines greatest) (Reads-ended 10 not_10) (λ before e. (test before e).0) (λ before e. (test before e).1) ns.inputs []
+Reads-fitting_inputs Binary ns = Reads-any (InputsPart Binary ns.inputs) (fitting_inputs_at Binary ns) (Reads-inputs Binary ns)
 
-Reads-fitting_latches : (kind : FileKind) (ns inputs : List ℕ) → Reads (With (LatchesFit kind (slice_index ns 0) inputs) (LatchesPart kind (slice_index ns 1) (slice_index ns 2))) (fitting_latches_at kind ns inputs)
+Reads-fitting_latches : (kind : FileKind) (ns : HeaderNumbers) (inputs : List ℕ) → Reads (With (LatchesFit kind ns.greatest inputs) (LatchesPart kind ns.inputs ns.latches)) (fitting_latches_at kind ns inputs)
 Reads-fitting_latches Text ns inputs =
-    let greatest = slice_index ns 0 in
+    let greatest = ns.greatest in
     let test = Decides-latch greatest inputs in
-    Reads-checked (Latch Text) (LatchAfter greatest inputs) latch_line_at (tests_latch greatest inputs) Reads-latch_line (λ before l. (test before l).0) (λ before l. (test before l).1) (slice_index ns 2) []
+    Reads-checked (Latch Text) (LatchAfter greatest inputs) latch_line_at (tests_latch greatest inputs) Reads-latch_line (λ before l. (test before l).0) (λ before l. (test before l).1) ns.latches []
 Reads-fitting_latches Binary ns inputs =
-    let greatest = slice_index ns 0 in
+    let greatest = ns.greatest in
     let test = Decides-next greatest in
-    Reads-placed_with latch_key (HasNext greatest) (Latch Binary) (λ v. tested_at (binary_latch_at v) (has_next greatest)) (slice_index ns 2) (1 + slice_index ns 1)
+    Reads-placed_with latch_key (HasNext greatest) (Latch Binary) (λ v. tested_at (binary_latch_at v) (has_next greatest)) ns.latches (1 + ns.inputs)
     (λ v. Reads-tested (At latch_key (Latch Binary) v) (HasNext greatest) (binary_latch_at v) (has_next greatest) (Reads-binary_latch v) (λ l. (test l).0) (λ l. (test l).1))
 
-Reads-fitting_gates : (kind : FileKind) (ns leaves : List ℕ) → Reads (With (GatesFit kind (slice_index ns 0) leaves) (GatesPart kind (slice_index ns 1) (slice_index ns 2) (slice_index ns 4))) (fitting_gates_at kind ns leaves)
+Reads-fitting_gates : (kind : FileKind) (ns : HeaderNumbers) (leaves : List ℕ) → Reads (With (GatesFit kind ns.greatest leaves) (GatesPart kind ns.inputs ns.latches ns.gates)) (fitting_gates_at kind ns leaves)
 Reads-fitting_gates Text ns leaves =
-    let greatest = slice_index ns 0 in
+    let greatest = ns.greatest in
     let test = Decides-gate greatest leaves in
-    Reads-checked (Gate Text) (GateAfter greatest leaves) gate_line_at (tests_gate greatest leaves) Reads-gate_line (λ before g. (test before g).0) (λ before g. (test before g).1) (slice_index ns 4) []
+    Reads-checked (Gate Text) (GateAfter greatest leaves) gate_line_at (tests_gate greatest leaves) Reads-gate_line (λ before g. (test before g).0) (λ before g. (test before g).1) ns.gates []
 Reads-fitting_gates Binary ns leaves =
-    Reads-placed_with gate_key IsOrdered (Gate Binary) (λ v. tested_at (placed_gate_at v) is_below) (slice_index ns 4) (1 + slice_index ns 1 + slice_index ns 2) Reads-binary_gate
+    Reads-placed_with gate_key IsOrdered (Gate Binary) (λ v. tested_at (placed_gate_at v) is_below) ns.gates (1 + ns.inputs + ns.latches) Reads-binary_gate
 
--- the facts on the sections by their numbers
-abbrev pub Fit_8 : FileKind → List ℕ → List ℕ → List ℕ × List GateLine → Type 0
-Fit_8 kind ns leaves x = AreLiterals (slice_index ns 0) x.0 × GatesFit kind (slice_index ns 0) leaves x.1
+-- what the tests on the lines of outputs and properties say
+pub record PropertiesFit (greatest : ℕ) (x : PropertyParts) : Type 0 where
+  pub outputs : AreLiterals greatest x.outputs
+  pub bads : AreLiterals greatest x.bads
+  pub constraints : AreLiterals greatest x.constraints
+  pub justice : AreSets greatest x.justice
+  pub fairness : AreLiterals greatest x.fairness
 
-abbrev pub Fit_7 : FileKind → List ℕ → List ℕ → List (List ℕ) × (List ℕ × List GateLine) → Type 0
-Fit_7 kind ns leaves x = AreSets (slice_index ns 0) x.0 × Fit_8 kind ns leaves x.1
+Reads-literal_justice : (greatest n : ℕ) → Reads (With (AreSets greatest) (JusticePart n)) (literal_justice_at greatest n)
+Reads-literal_justice greatest n =
+    let Nothing : List (List ℕ) → Type 0 = λ _. Unit {0} in
+    let Sets : List (List ℕ) → List ℕ → Type 0 = With (AreSets greatest) (Each Lines) in
+    Reads-same (With Nothing (λ sets. SoMany n (map length sets) then Sets sets)) (With (AreSets greatest) (JusticePart n)) (literal_justice_at greatest n)
+    (Reads-part (λ sets. map length sets) Nothing (SoMany n) Sets (numbers_at n) (literal_sets_at greatest) (Reads-numbers n) (λ sizes.
+    Reads-same (With (AreSets greatest) (SetsOf sizes)) (With (λ sets. Nothing sets × (map length sets ≡ sizes)) Sets) (literal_sets_at greatest sizes) (Reads-literal_sets greatest sizes)
+    (λ sets bytes h. ((tt, h.1.0), (h.0, h.1.1))) (λ sets bytes h. (h.1.0, (h.0.1, h.1.1)))))
+    (λ sets bytes h. let w = h.1 in (w.4.0, (sym (length-map sets length) ∙ w.3.0, (w.0, w.1, w.2, w.3.1, w.4.1))))
+    (λ sets bytes h. let w = h.1.1 in (tt, (w.0, w.1, w.2, (length-map sets length ∙ h.1.0, w.3), (h.0, w.4))))
 
-abbrev pub Fit_6 : FileKind → List ℕ → List ℕ → List ℕ × (List (List ℕ) × (List ℕ × List GateLine)) → Type 0
-Fit_6 kind ns leaves x = Unit {0} × Fit_7 kind ns leaves x.1
+Reads-fitting_properties : (ns : HeaderNumbers) → Reads (With (PropertiesFit ns.greatest) (PropertiesPart ns)) (fitting_properties_at ns)
+Reads-fitting_properties ns =
+    let greatest = ns.greatest in
+    let Literals : ℕ → List ℕ → List ℕ → Type 0 = λ n. With (AreLiterals greatest) (SoMany n) in
+    let Sets : ℕ → List (List ℕ) → List ℕ → Type 0 = λ n. With (AreSets greatest) (JusticePart n) in
+    Reads-same (PropertiesBy Literals Sets ns) (With (PropertiesFit greatest) (PropertiesPart ns)) (fitting_properties_at ns)
+    (Reads-properties_by Literals Sets (literals_at greatest) (literal_justice_at greatest) (Reads-literals greatest) (Reads-literal_justice greatest) ns)
+    (λ x bytes o. let b = o.4 in let c = b.4 in let j = c.4 in (
+      record { outputs = o.3.0; bads = b.3.0; constraints = c.3.0; justice = j.3.0; fairness = j.4.0 },
+      (o.0, o.1, o.2, o.3.1, (b.0, b.1, b.2, b.3.1, (c.0, c.1, c.2, c.3.1, (j.0, j.1, j.2, j.3.1, j.4.1)))),
+    ))
+    (λ x bytes h. let fit = h.0 in let o = h.1 in let b = o.4 in let c = b.4 in let j = c.4 in
+    (o.0, o.1, o.2, (fit.outputs, o.3), (b.0, b.1, b.2, (fit.bads, b.3), (c.0, c.1, c.2, (fit.constraints, c.3), (j.0, j.1, j.2, (fit.justice, j.3), (fit.fairness, j.4))))))
 
-abbrev pub Fit_5 : FileKind → List ℕ → List ℕ → List ℕ × (List ℕ × (List (List ℕ) × (List ℕ × List GateLine))) → Type 0
-Fit_5 kind ns leaves x = AreLiterals (slice_index ns 0) x.0 × Fit_6 kind ns leaves x.1
+-- what the tests on the lines of all sections say
+pub record PartsFit (kind : FileKind) (greatest : ℕ) (x : Parts) : Type 0 where
+  pub inputs : InputsFit kind greatest x.inputs
+  pub latches : LatchesFit kind greatest x.inputs x.latches
+  pub properties : PropertiesFit greatest x.properties
+  pub gates : GatesFit kind greatest (x.inputs ++ map latch_key x.latches) x.gates
 
-abbrev pub Fit_4 : FileKind → List ℕ → List ℕ → List ℕ × (List ℕ × (List ℕ × (List (List ℕ) × (List ℕ × List GateLine)))) → Type 0
-Fit_4 kind ns leaves x = AreLiterals (slice_index ns 0) x.0 × Fit_5 kind ns leaves x.1
-
-abbrev pub Fit_3 : FileKind → List ℕ → List ℕ → List ℕ × (List ℕ × (List ℕ × (List ℕ × (List (List ℕ) × (List ℕ × List GateLine))))) → Type 0
-Fit_3 kind ns leaves x = AreLiterals (slice_index ns 0) x.0 × Fit_4 kind ns leaves x.1
-
-abbrev pub Fit_2 : FileKind → List ℕ → List ℕ → List LatchLine × (List ℕ × (List ℕ × (List ℕ × (List ℕ × (List (List ℕ) × (List ℕ × List GateLine)))))) → Type 0
-Fit_2 kind ns inputs x = LatchesFit kind (slice_index ns 0) inputs x.0 × Fit_3 kind ns (inputs ++ map latch_key x.0) x.1
-
-abbrev pub Fit_1 : FileKind → List ℕ → Parts → Type 0
-Fit_1 kind ns x = InputsFit kind (slice_index ns 0) x.0 × Fit_2 kind ns x.0 x.1
-
-pub Reads-section_lines : (kind : FileKind) (ns : List ℕ) → Reads (With (Fit_1 kind ns) (Part_1 kind ns)) (section_lines_at kind ns)
+pub Reads-section_lines : (kind : FileKind) (ns : HeaderNumbers) → Reads (With (PartsFit kind ns.greatest) (SectionsPart kind ns)) (section_lines_at kind ns)
 Reads-section_lines kind ns =
-    let greatest = slice_index ns 0 in
-    Reads-both_with (InputsFit kind greatest) (Fit_2 kind ns) (InputsPart kind (slice_index ns 1)) (λ _. Part_2 kind ns) _ _ (Reads-fitting_inputs kind ns) (λ inputs.
-    Reads-both_with (LatchesFit kind greatest inputs) (λ latches. Fit_3 kind ns (inputs ++ map latch_key latches)) (LatchesPart kind (slice_index ns 1) (slice_index ns 2)) (λ _. Part_3 kind ns) _ _ (Reads-fitting_latches kind ns inputs) (λ latches.
-    let leaves = inputs ++ map latch_key latches in
-    Reads-both_with (AreLiterals greatest) (λ _. Fit_4 kind ns leaves) (SoMany (slice_index ns 3)) (λ _. Part_4 kind ns) _ _ (Reads-literals greatest (slice_index ns 3)) (λ _.
-    Reads-both_with (AreLiterals greatest) (λ _. Fit_5 kind ns leaves) (SoMany (slice_index ns 5)) (λ _. Part_5 kind ns) _ _ (Reads-literals greatest (slice_index ns 5)) (λ _.
-    Reads-both_with (AreLiterals greatest) (λ _. Fit_6 kind ns leaves) (SoMany (slice_index ns 6)) (λ _. Part_6 kind ns) _ _ (Reads-literals greatest (slice_index ns 6)) (λ _.
-    Reads-both_with (λ _. Unit {0}) (λ _. Fit_7 kind ns leaves) (SoMany (slice_index ns 7)) (Part_7 kind ns) _ _ (Reads-any (SoMany (slice_index ns 7)) (numbers_at (slice_index ns 7)) (Reads-numbers (slice_index ns 7))) (λ sizes.
-    Reads-both_with (AreSets greatest) (λ _. Fit_8 kind ns leaves) (SetsOf sizes) (λ _. Part_8 kind ns) _ _ (Reads-literal_sets greatest sizes) (λ _.
-    Reads-both_with (AreLiterals greatest) (λ _. GatesFit kind greatest leaves) (SoMany (slice_index ns 8)) (λ _. GatesPart kind (slice_index ns 1) (slice_index ns 2) (slice_index ns 4)) _ _ (Reads-literals greatest (slice_index ns 8)) (λ _.
-    Reads-fitting_gates kind ns leaves))))))))
+    let greatest = ns.greatest in
+    let Inputs : List ℕ → List ℕ → Type 0 = With (InputsFit kind greatest) (InputsPart kind ns.inputs) in
+    let Latches : List ℕ → List LatchLine → List ℕ → Type 0 = λ inputs. With (LatchesFit kind greatest inputs) (LatchesPart kind ns.inputs ns.latches) in
+    let Properties : PropertyParts → List ℕ → Type 0 = With (PropertiesFit greatest) (PropertiesPart ns) in
+    let Gates : List ℕ → List LatchLine → List GateLine → List ℕ → Type 0 = λ inputs latches. With (GatesFit kind greatest (inputs ++ map latch_key latches)) (GatesPart kind ns.inputs ns.latches ns.gates) in
+    Reads-same (SectionsBy Inputs Latches Properties Gates) (With (PartsFit kind greatest) (SectionsPart kind ns)) (section_lines_at kind ns)
+    (Reads-sections_by Inputs Latches Properties Gates _ _ _ _ (Reads-fitting_inputs kind ns) (Reads-fitting_latches kind ns) (Reads-fitting_properties ns)
+    (λ inputs latches. Reads-fitting_gates kind ns (inputs ++ map latch_key latches)))
+    (λ x bytes i. let l = i.4 in let p = l.4 in (
+      record { inputs = i.3.0; latches = l.3.0; properties = p.3.0; gates = p.4.0 },
+      (i.0, i.1, i.2, i.3.1, (l.0, l.1, l.2, l.3.1, (p.0, p.1, p.2, p.3.1, p.4.1))),
+    ))
+    (λ x bytes h. let fit = h.0 in let i = h.1 in let l = i.4 in let p = l.4 in
+    (i.0, i.1, i.2, (fit.inputs, i.3), (l.0, l.1, l.2, (fit.latches, l.3), (p.0, p.1, p.2, (fit.properties, p.3), (fit.gates, p.4)))))
 
 -- the lines of the sections pass their tests, and the gates that behind them
-abbrev pub SectionsFit : FileKind → List ℕ → Parts → Type 0
-SectionsFit kind ns x = KeepsRules kind (file_from ((kind, ns), x) []) × Fit_1 kind ns x
+abbrev pub SectionsFit : FileKind → HeaderNumbers → Parts → Type 0
+SectionsFit kind ns x = KeepsRules kind (file_from ((kind, ns), x) []) × PartsFit kind ns.greatest x
 
-Reads-fitting_sections : (kind : FileKind) (ns : List ℕ) → Reads (With (SectionsFit kind ns) (Part_1 kind ns)) (fitting_sections_at kind ns)
+Reads-fitting_sections : (kind : FileKind) (ns : HeaderNumbers) → Reads (With (SectionsFit kind ns) (SectionsPart kind ns)) (fitting_sections_at kind ns)
 Reads-fitting_sections kind ns =
     let file = λ (x : Parts). file_from ((kind, ns), x) [] in
     let Keeps : Parts → Type 0 = λ x. KeepsRules kind (file x) in
-    let Lines : Parts → List ℕ → Type 0 = With (Fit_1 kind ns) (Part_1 kind ns) in
-    Reads-same (With Keeps Lines) (With (SectionsFit kind ns) (Part_1 kind ns)) (fitting_sections_at kind ns)
+    let Lines : Parts → List ℕ → Type 0 = With (PartsFit kind ns.greatest) (SectionsPart kind ns) in
+    Reads-same (With Keeps Lines) (With (SectionsFit kind ns) (SectionsPart kind ns)) (fitting_sections_at kind ns)
     (Reads-tested Lines Keeps (section_lines_at kind ns) (λ x. keeps_rules kind (file x)) (Reads-section_lines kind ns) (λ x. (Decides-rules kind (file x)).0) (λ x. (Decides-rules kind (file x)).1))
     (λ x bytes h. ((h.0, h.1.0), h.1.1)) (λ x bytes h. (h.0.0, (h.0.1, h.1)))
 
 -- a good header within the limit
-abbrev pub HeaderFits : ℕ → FileKind × List ℕ → Type 0
+abbrev pub HeaderFits : ℕ → FileKind × HeaderNumbers → Type 0
 HeaderFits limit h = HasEnough h.0 h.1 × IsWithin limit h.1
 
-abbrev pub BodyFits : ℕ → (FileKind × List ℕ) × Parts → Type 0
+abbrev pub BodyFits : ℕ → (FileKind × HeaderNumbers) × Parts → Type 0
 BodyFits limit b = HeaderFits limit b.0 × SectionsFit b.0.0 b.0.1 b.1
 
 Reads-fitting_header : (limit : ℕ) → Reads (With (HeaderFits limit) HeaderIs) (fitting_header_at limit)
@@ -132,7 +152,7 @@ Reads-fitting_header limit =
 
 pub Reads-fitting_body : (limit : ℕ) → Reads (With (BodyFits limit) IsBody) (fitting_body_at limit)
 Reads-fitting_body limit =
-    Reads-both_with (HeaderFits limit) (λ h. SectionsFit h.0 h.1) HeaderIs (λ h. Part_1 h.0 h.1) (fitting_header_at limit) (λ h. fitting_sections_at h.0 h.1)
+    Reads-both_with (HeaderFits limit) (λ h. SectionsFit h.0 h.1) HeaderIs (λ h. SectionsPart h.0 h.1) (fitting_header_at limit) (λ h. fitting_sections_at h.0 h.1)
     (Reads-fitting_header limit) (λ h. Reads-fitting_sections h.0 h.1)
 
 -- ---- literals in their places may be defined, are distinct, and rise
@@ -146,7 +166,8 @@ places_rise zero v = tt
 places_rise (suc zero) v = tt
 places_rise (suc (suc n)) v = (omega arith, places_rise (suc n) (v + 1))
 
-rising_distinct : (xs : List ℕ) → Rises xs → IsDistinct nat_eq xs
+-- numbers that rise differ
+pub rising_distinct : (xs : List ℕ) → Rises xs → IsDistinct nat_eq xs
 rising_distinct xs rises =
     (distinct_after nat_eq xs).0 (after_weaker IsAbove (IsNew nat_eq)
     (λ before x above. rec_weaker (λ y. y < x) (λ y. nat_eq y x ≡ false) (λ y lt. ne_eqb y x (λ e. omega arith)) before above)
@@ -288,34 +309,36 @@ rules_named Binary f = (λ rules. tt, λ rules. tt)
 -- the facts on the parts of a file are those on its lines
 lines_from_body : (f : File) (limit : ℕ) → BodyFits limit (parts_of f) → AllAfter (NameAfter (header_of f)) [] f.names → LinesFit f
 lines_from_body f limit h names =
-    let s1 = h.1.1 in let s2 = s1.1 in let s3 = s2.1 in let s4 = s3.1 in let s5 = s4.1 in let s7 = s5.1.1 in let s8 = s7.1 in
+    let fit = h.1.1 in
+    let properties = fit.properties in
     record {
-      inputs = s1.0;
-      latches = s2.0;
-      outputs = s3.0;
-      bads = s4.0;
-      constraints = s5.0;
-      justice = s7.0;
-      fairness = s8.0;
-      gates = s8.1;
+      inputs = fit.inputs;
+      latches = fit.latches;
+      outputs = properties.outputs;
+      bads = properties.bads;
+      constraints = properties.constraints;
+      justice = properties.justice;
+      fairness = properties.fairness;
+      gates = fit.gates;
       rules = (rules_named f.kind f).0 h.1.0;
       names = names;
     }
 
 body_from_lines : (f : File) (limit : ℕ) → HasEnough f.kind (header_of f) → f.greatest + 1 ≤ limit → LinesFit f → BodyFits limit (parts_of f)
 body_from_lines f limit enough within l =
-    ((enough, within), ((rules_named f.kind f).1 l.rules, (l.inputs, (l.latches, (l.outputs, (l.bads, (l.constraints, (tt, (l.justice, (l.fairness, l.gates))))))))))
+    let properties : PropertiesFit f.greatest (property_parts f) = record { outputs = l.outputs; bads = l.bads; constraints = l.constraints; justice = l.justice; fairness = l.fairness } in
+    ((enough, within), ((rules_named f.kind f).1 l.rules, record { inputs = l.inputs; latches = l.latches; properties = properties; gates = l.gates }))
 
 -- ---- whole files
 
 -- what the tests said of the parts and the names that were read
-abbrev WholeFits : ℕ → List NameLine → (FileKind × List ℕ) × Parts → Type 0
+abbrev WholeFits : ℕ → List NameLine → (FileKind × HeaderNumbers) × Parts → Type 0
 WholeFits limit names b = BodyFits limit b × AllAfter (NameAfter b.0.1) [] names
 
-whole_fits : (limit : ℕ) (bytes rest : List ℕ) (b : (FileKind × List ℕ) × Parts) (names : List NameLine) → body_at bytes ≡ Some (b, rest) → Spells (file_from b names) bytes → WholeFits limit names b → Fits (file_from b names) limit
+whole_fits : (limit : ℕ) (bytes rest : List ℕ) (b : (FileKind × HeaderNumbers) × Parts) (names : List NameLine) → body_at bytes ≡ Some (b, rest) → Spells (file_from b names) bytes → WholeFits limit names b → Fits (file_from b names) limit
 whole_fits limit bytes rest b names read spells whole =
     let f = file_from b names in
-    let same : b ≡ parts_of f = ap (λ (x : ((FileKind × List ℕ) × Parts) × List ℕ). x.0) (same_Some _ _ (sym read ∙ body_read f bytes spells)) in
+    let same : b ≡ parts_of f = ap (λ (x : ((FileKind × HeaderNumbers) × Parts) × List ℕ). x.0) (same_Some _ _ (sym read ∙ body_read f bytes spells)) in
     let w = subst (WholeFits limit names) same whole in
     fits_from_lines f limit w.0.0.0 w.0.0.1 spells.placed (lines_from_body f limit w.0 w.1)
 

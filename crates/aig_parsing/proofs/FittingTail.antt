@@ -1,7 +1,7 @@
 -- Names that are tested as they are read: the tail of a file with tests is that without, where the tests hold.
 use Rattle.std.proofs.Common.{◌≡◌, ℕ, zero, suc, true, false, cond, List, [], ◌∷◌, ◌++◌, Some, None, refl, subst, inl, inr}
 use Rattle.std.proofs.lemmas.Option.{same_Some, cond_some}
-use Rattle.aig_format.specs.File.{NameLine}
+use Rattle.aig_format.specs.File.{HeaderNumbers, NameLine}
 use Rattle.aig_parsing.specs.Front.{◌>>=◌, tested_at, is_comment, name_at, tail_at, AllAfter}
 use Rattle.aig_parsing.specs.Fitting.{tests_name, fitting_tail_at}
 use Rattle.aig_format.proofs.Entries.{chosen}
@@ -18,10 +18,10 @@ unfolding tail_at
 tail_goes k bytes n names is_not one rest = rw (is_not, one, rest) refl
 
 -- names in order with what the tests on their lines say
-abbrev pub FittingTail : List ℕ → ℕ → List NameLine → List ℕ → List NameLine → Type 0
+abbrev pub FittingTail : HeaderNumbers → ℕ → List NameLine → List ℕ → List NameLine → Type 0
 FittingTail ns k before bytes names = (tail_at k bytes ≡ Some names) × AllAfter (NameAfter ns) before names
 
-pub fitting_tail_sound : (ns : List ℕ) (k : ℕ) (before : List NameLine) (bytes : List ℕ) (names : List NameLine) → fitting_tail_at ns k before bytes ≡ Some names → FittingTail ns k before bytes names
+pub fitting_tail_sound : (ns : HeaderNumbers) (k : ℕ) (before : List NameLine) (bytes : List ℕ) (names : List NameLine) → fitting_tail_at ns k before bytes ≡ Some names → FittingTail ns k before bytes names
 unfolding fitting_tail_at
 fitting_tail_sound ns zero before bytes names h = absurd cc
 fitting_tail_sound ns (suc k) before bytes names h =
@@ -39,7 +39,7 @@ fitting_tail_sound ns (suc k) before bytes names h =
           subst (FittingTail ns (suc k) before bytes) (same_Some _ _ c.2) (tail_goes k bytes b.0 c.0 more.0 one t.0, ((Decides-name ns before b.0.0).0 test, t.1))
     ]
 
-pub fitting_tail_complete : (ns : List ℕ) (k : ℕ) (before : List NameLine) (bytes : List ℕ) (names : List NameLine) → FittingTail ns k before bytes names → fitting_tail_at ns k before bytes ≡ Some names
+pub fitting_tail_complete : (ns : HeaderNumbers) (k : ℕ) (before : List NameLine) (bytes : List ℕ) (names : List NameLine) → FittingTail ns k before bytes names → fitting_tail_at ns k before bytes ≡ Some names
 unfolding tail_at fitting_tail_at
 fitting_tail_complete ns zero before bytes names h = let e = h.0 in absurd cc
 fitting_tail_complete ns (suc k) before bytes [] h =

@@ -1,6 +1,6 @@
 -- What the tests of a reader say of each line, and how these facts make up those on a whole file.
 use Rattle.std.proofs.Common.{◌≡◌, ◌↔◌, ℕ, ◌+◌, ◌*◌, ◌/◌, ◌%◌, ◌<◌, ◌≤◌, Bool, true, false, not, ◌&&◌, ◌||◌, leb, List, [], ◌∷◌, ◌++◌, length, map, Option, Some, None, refl, arith}
-use Rattle.std.specs.Prelude.{nat_eq, nat_lt, nat_le, ◌==◌, ◌⊎◌, IfSome, IsTrue, IsUtf8, slice_index}
+use Rattle.std.specs.Prelude.{nat_eq, nat_lt, nat_le, ◌==◌, ◌⊎◌, IfSome, IsTrue, IsUtf8}
 use Rattle.std.specs.Str.{is_utf8}
 use Rattle.std.specs.Bool.{Decides}
 use Rattle.std.specs.List.{AllByRecursion, IsDistinct, list_any, list_all, flat_map}
@@ -9,7 +9,7 @@ use Rattle.std.proofs.lemmas.Bool.Decides.{Decides-like, Decides-and, Decides-or
 use Rattle.std.proofs.lemmas.Str.{IsUtf8-from_is_utf8, is_utf8-from_IsUtf8}
 use Rattle.std.proofs.lemmas.List.Elements.{All-from_recursion, recursion_from_All}
 use Rattle.std.proofs.lemmas.List.{length-append, length-map}
-use Rattle.aig_format.specs.File.{LatchLine, GateLine, NameLine, File, header_of, defined, used}
+use Rattle.aig_format.specs.File.{LatchLine, GateLine, NameLine, File, HeaderNumbers, header_of, defined, used}
 use Rattle.aig_format.specs.Variables.{is_known, IsKnown}
 use Rattle.aig_format.specs.Levels.{has_level, HasLevel}
 use Rattle.aig_format.specs.Numbering.{is_older}
@@ -131,10 +131,10 @@ Decides-utf8 : (bytes : List ℕ) → Decides (is_utf8 bytes) (IsUtf8 bytes)
 Decides-utf8 bytes = (IsUtf8-from_is_utf8 bytes, is_utf8-from_IsUtf8 bytes)
 
 -- a name stands below its section's count, none of those before it is for its place, and it is UTF-8 if it is kept
-abbrev pub NameAfter : List ℕ → List NameLine → NameLine → Type 0
+abbrev pub NameAfter : HeaderNumbers → List NameLine → NameLine → Type 0
 NameAfter ns before n = (n.position < count_of ns n.letter) × IsNew same_place before n × (IsKept n.letter → IsUtf8 n.name)
 
-pub Decides-name : (ns : List ℕ) (before : List NameLine) (n : NameLine) → Decides (tests_name ns before n) (NameAfter ns before n)
+pub Decides-name : (ns : HeaderNumbers) (before : List NameLine) (n : NameLine) → Decides (tests_name ns before n) (NameAfter ns before n)
 Decides-name ns before n =
     let is_below = nat_lt n.position (count_of ns n.letter) in
     let is_new = not (list_any (λ m. same_place m n) before) in
@@ -147,15 +147,15 @@ Decides-name ns before n =
     (Decides-utf8 n.name)))
 
 -- M + 1 is within the limit
-abbrev pub IsWithin : ℕ → List ℕ → Type 0
-IsWithin limit ns = slice_index ns 0 + 1 ≤ limit
+abbrev pub IsWithin : ℕ → HeaderNumbers → Type 0
+IsWithin limit ns = ns.greatest + 1 ≤ limit
 
-pub Decides-good : (kind : FileKind) (ns : List ℕ) → Decides (is_good kind ns) (HasEnough kind ns)
-Decides-good Text ns = Decides-leb (count_defined ns) (slice_index ns 0)
-Decides-good Binary ns = Decides-eqb (slice_index ns 0) (count_defined ns)
+pub Decides-good : (kind : FileKind) (ns : HeaderNumbers) → Decides (is_good kind ns) (HasEnough kind ns)
+Decides-good Text ns = Decides-leb (count_defined ns) ns.greatest
+Decides-good Binary ns = Decides-eqb ns.greatest (count_defined ns)
 
-pub Decides-good_within : (limit : ℕ) (kind : FileKind) (ns : List ℕ) → Decides (is_good kind ns && is_within limit ns) (HasEnough kind ns × IsWithin limit ns)
-Decides-good_within limit kind ns = Decides-and (is_good kind ns) (is_within limit ns) (Decides-good kind ns) (Decides-leb (slice_index ns 0 + 1) limit)
+pub Decides-good_within : (limit : ℕ) (kind : FileKind) (ns : HeaderNumbers) → Decides (is_good kind ns && is_within limit ns) (HasEnough kind ns × IsWithin limit ns)
+Decides-good_within limit kind ns = Decides-and (is_good kind ns) (is_within limit ns) (Decides-good kind ns) (Decides-leb (ns.greatest + 1) limit)
 
 -- ---- from the facts on lines to the facts on a file, and back
 

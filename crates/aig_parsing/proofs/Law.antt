@@ -6,8 +6,8 @@ use Rattle.std.proofs.lemmas.Bool.{eqb-true}
 use Rattle.aig_format.specs.Text.{IsLine, Lines}
 use Rattle.aig_format.specs.declared.FileKind.{FileKind}
 use Rattle.aig_format.specs.declared.FileKind.TheVariants.{Text, Binary}
-use Rattle.aig_format.specs.File.{LatchLine, GateLine, NameLine, File}
-use Rattle.aig_format.specs.Spells.{magic, IsHeader, Inputs, Latch, Gate, Name, next_and_reset, Spells}
+use Rattle.aig_format.specs.File.{LatchLine, GateLine, NameLine, File, HeaderNumbers, header_of}
+use Rattle.aig_format.specs.Spells.{magic, numbers_in, IsHeader, Inputs, Latch, Gate, Name, next_and_reset, Spells}
 use Rattle.aig_format.specs.Written.{line_of, lines_of, in_front, shortened, header_line_of, inputs_of, latch_of, gate_of, name_of, delta_of, spelling_of}
 use Rattle.aig_parsing.specs.Writable.{IsSmall, LatchSmall, GateSmall, NameSmall, SetSmall, CanWrite}
 use Rattle.aig_format.proofs.Entries.{chosen}
@@ -38,18 +38,18 @@ shortened_small [] all = tt
 shortened_small (n ∷ ns) all = in_front_small n (shortened ns) all.0 (shortened_small ns all.1)
 
 -- the written line of the header
-header_written : (kind : FileKind) (m i l o a b c j f : ℕ) → AllByRecursion IsSmall (m ∷ i ∷ l ∷ o ∷ a ∷ b ∷ c ∷ j ∷ f ∷ [])
-    → IsHeader kind (m ∷ i ∷ l ∷ o ∷ a ∷ b ∷ c ∷ j ∷ f ∷ []) (magic kind ++ line_of (m ∷ i ∷ l ∷ o ∷ a ∷ shortened (b ∷ c ∷ j ∷ f ∷ [])))
-header_written kind m i l o a b c j f h =
-    let four = b ∷ c ∷ j ∷ f ∷ [] in
+header_written : (kind : FileKind) (n : HeaderNumbers) → AllByRecursion IsSmall (numbers_in n)
+    → IsHeader kind n (magic kind ++ line_of (n.greatest ∷ n.inputs ∷ n.latches ∷ n.outputs ∷ n.gates ∷ shortened (n.bads ∷ n.constraints ∷ n.justice ∷ n.fairness ∷ [])))
+header_written kind n h =
+    let four = n.bads ∷ n.constraints ∷ n.justice ∷ n.fairness ∷ [] in
+    let behind = n.inputs ∷ n.latches ∷ n.outputs ∷ n.gates ∷ shortened four in
     let s = shortened_is four in
     let t = h.1.1.1.1 in (
-      m ∷ i ∷ l ∷ o ∷ a ∷ shortened four,
+      n.greatest ∷ behind,
       s.0,
-      ap (λ (zs : List ℕ). m ∷ i ∷ l ∷ o ∷ a ∷ zs) s.1,
+      ap (λ (zs : List ℕ). n.greatest ∷ n.inputs ∷ n.latches ∷ n.outputs ∷ n.gates ∷ zs) s.1,
       omega arith,
-      refl,
-      (magic kind, line_of (m ∷ i ∷ l ∷ o ∷ a ∷ shortened four), refl, refl, line_written m (i ∷ l ∷ o ∷ a ∷ shortened four) h.0 (h.1.0, (h.1.1.0, (h.1.1.1.0, (t.0, shortened_small four t.1))))),
+      (magic kind, line_of (n.greatest ∷ behind), refl, refl, line_written n.greatest behind h.0 (h.1.0, (h.1.1.0, (h.1.1.1.0, (t.0, shortened_small four t.1))))),
     )
 
 lines_written : (ns : List ℕ) → AllByRecursion IsSmall ns → Lines ns (lines_of ns)
@@ -102,7 +102,7 @@ spelling_spells f w =
           a,
           b ++ (c ++ (d ++ (e ++ (g ++ (h ++ (i ++ (j ++ k))))))),
           refl,
-          header_written f.kind _ _ _ _ _ _ _ _ _ w.header,
+          header_written f.kind (header_of f) w.header,
           (
             b,
             c ++ (d ++ (e ++ (g ++ (h ++ (i ++ (j ++ k)))))),

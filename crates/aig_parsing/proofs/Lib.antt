@@ -2,6 +2,7 @@ pub mod Numbers
 pub mod Joined
 pub mod Lines
 pub mod Sections
+pub mod InARow
 pub mod Names
 pub mod Binary
 pub mod Files

@@ -1,5 +1,5 @@
 -- The header and the sections of a text file are read from the front exactly.
-use Rattle.std.proofs.Common.{◌≡◌, ℕ, ◌+◌, ◌-◌, ◌≤◌, Bool, eqb, leb, List, [], ◌∷◌, ◌++◌, length, replicate, map, Option, Some, None, refl, sym, ap, subst, ◌∙◌, append_assoc, arith, inl, inr, ◌⊎◌}
+use Rattle.std.proofs.Common.{◌≡◌, ℕ, zero, suc, ◌+◌, ◌-◌, ◌≤◌, Bool, eqb, leb, List, [], ◌∷◌, ◌++◌, length, get_or, replicate, map, Option, Some, None, refl, sym, ap, subst, ◌∙◌, append_assoc, arith, inl, inr, ◌⊎◌}
 use Rattle.std.specs.Prelude.{option_map, option_to_list}
 use Rattle.std.proofs.lemmas.Bool.{eqb-true, eq-eqb, leb-true, le-leb}
 use Rattle.std.proofs.lemmas.Option.{same_Some}
@@ -7,8 +7,9 @@ use Rattle.std.proofs.lemmas.List.{length-append, length-replicate}
 use Rattle.aig_format.specs.Text.{◌then◌, Each, Just, Ended, IsLine, Lines}
 use Rattle.aig_format.specs.declared.FileKind.{FileKind}
 use Rattle.aig_format.specs.declared.FileKind.TheVariants.{Text, Binary}
-use Rattle.aig_format.specs.Spells.{magic, IsHeader, Latch, Gate}
-use Rattle.aig_parsing.specs.Front.{◌>>=◌, ended_at, line_at, strip, or_else, kind_at, padded, header_at, latch_from, gate_from, numbers_at, latch_at, gate_at, sets_at, tested_at, mapped_at}
+use Rattle.aig_format.specs.File.{HeaderNumbers}
+use Rattle.aig_format.specs.Spells.{magic, numbers_in, IsHeader, Latch, Gate}
+use Rattle.aig_parsing.specs.Front.{◌>>=◌, ended_at, line_at, strip, or_else, kind_at, header_from, header_numbers_at, header_at, latch_from, gate_from, numbers_at, latch_at, gate_at, sets_at, tested_at}
 use Rattle.aig_format.proofs.Entries.{chosen}
 use Rattle.aig_parsing.proofs.Numbers.{bind_some}
 use Rattle.aig_parsing.proofs.Joined.{Begins, Reads, Reads-ended, Reads-both, Reads-tested, Reads-seen, Reads-times}
@@ -74,38 +75,54 @@ kind_complete Binary front rest h = rw h refl
 pub Reads-kind : Reads (λ kind. Just (magic kind)) kind_at
 Reads-kind = record { sound = kind_sound; complete = kind_complete }
 
-abbrev AreHeaderNumbers : List ℕ → List ℕ → Type 0
-AreHeaderNumbers numbers bytes = (written : List ℕ) × (numbers ≡ padded written) × (5 ≤ length written) × IsShortLine 9 written bytes
+abbrev AreHeaderNumbers : HeaderNumbers → List ℕ → Type 0
+AreHeaderNumbers numbers bytes = (written : List ℕ) × (header_from written ≡ numbers) × (5 ≤ length written) × IsShortLine 9 written bytes
 
-Reads-header_numbers : Reads AreHeaderNumbers (mapped_at padded (tested_at (line_at 9) (λ ns. leb 5 (length ns))))
+Reads-header_numbers : Reads AreHeaderNumbers header_numbers_at
 Reads-header_numbers =
-    Reads-seen (λ ns bytes. (5 ≤ length ns) × IsShortLine 9 ns bytes) AreHeaderNumbers (tested_at (line_at 9) (λ ns. leb 5 (length ns))) padded
+    Reads-seen (λ ns bytes. (5 ≤ length ns) × IsShortLine 9 ns bytes) AreHeaderNumbers (tested_at (line_at 9) (λ ns. leb 5 (length ns))) header_from
     (Reads-tested (IsShortLine 9) (λ ns. 5 ≤ length ns) (line_at 9) (λ ns. leb 5 (length ns)) (Reads-line 9) (λ ns. leb-true 5 (length ns)) (λ ns. le-leb 5 (length ns)))
-    (λ ns bytes h. (ns, refl, h.0, h.1)) (λ numbers bytes h. (h.0, (h.2, h.3), sym h.1))
+    (λ ns bytes h. (ns, refl, h.0, h.1)) (λ numbers bytes h. (h.0, (h.2, h.3), h.1))
 
-length_padded : (ns : List ℕ) → length ns ≤ 9 → length (padded ns) ≡ 9
-length_padded ns h = omega (arith, length-append ns (replicate (9 - length ns) 0), length-replicate {A = ℕ} (9 - length ns) 0)
+-- the numbers of a line of five to nine, with zeros behind them
+numbers_in-header_from : (ns : List ℕ) → 5 ≤ length ns → length ns ≤ 9 → numbers_in (header_from ns) ≡ ns ++ replicate (9 - length ns) 0
+numbers_in-header_from (m ∷ i ∷ l ∷ o ∷ a ∷ []) low high = refl
+numbers_in-header_from (m ∷ i ∷ l ∷ o ∷ a ∷ b ∷ []) low high = refl
+numbers_in-header_from (m ∷ i ∷ l ∷ o ∷ a ∷ b ∷ c ∷ []) low high = refl
+numbers_in-header_from (m ∷ i ∷ l ∷ o ∷ a ∷ b ∷ c ∷ j ∷ []) low high = refl
+numbers_in-header_from (m ∷ i ∷ l ∷ o ∷ a ∷ b ∷ c ∷ j ∷ f ∷ []) low high = refl
+numbers_in-header_from _ low high = absurd (omega arith)
 
-abbrev pub HeaderIs : FileKind × List ℕ → List ℕ → Type 0
+-- zeros behind the numbers of a line tell nothing
+get_or-zeros : (ns : List ℕ) (k i : ℕ) → get_or (ns ++ replicate k 0) i 0 ≡ get_or ns i 0
+get_or-zeros [] zero i = refl
+get_or-zeros [] (suc k) zero = refl
+get_or-zeros [] (suc k) (suc i) = get_or-zeros [] k i
+get_or-zeros (n ∷ ns) k zero = refl
+get_or-zeros (n ∷ ns) k (suc i) = get_or-zeros ns k i
+
+pub header_from-zeros : (ns : List ℕ) (k : ℕ) → header_from (ns ++ replicate k 0) ≡ header_from ns
+header_from-zeros ns k = let z = get_or-zeros ns k in rw (z 0, z 1, z 2, z 3, z 4, z 5, z 6, z 7, z 8) refl
+
+abbrev pub HeaderIs : FileKind × HeaderNumbers → List ℕ → Type 0
 HeaderIs h = IsHeader h.0 h.1
 
-header_to : (x : FileKind × List ℕ) (bytes : List ℕ) → (Just (magic x.0) then AreHeaderNumbers x.1) bytes → HeaderIs x bytes
+header_to : (x : FileKind × HeaderNumbers) (bytes : List ℕ) → (Just (magic x.0) then AreHeaderNumbers x.1) bytes → HeaderIs x bytes
 header_to x bytes h =
     let w = h.4 in
-    (w.0, 9 - length w.0, w.1, w.2, ap length w.1 ∙ length_padded w.0 w.3.0, (h.0, h.1, h.2, h.3, w.3.1))
+    (w.0, 9 - length w.0, ap numbers_in (sym w.1) ∙ numbers_in-header_from w.0 w.2 w.3.0, w.2, (h.0, h.1, h.2, h.3, w.3.1))
 
-header_from : (x : FileKind × List ℕ) (bytes : List ℕ) → HeaderIs x bytes → (Just (magic x.0) then AreHeaderNumbers x.1) bytes
-header_from x bytes h =
-    let t = h.5 in
-    let len : length h.0 + h.1 ≡ 9 = omega (arith, length-append h.0 (replicate h.1 0), length-replicate {A = ℕ} h.1 0, ap length h.2, h.4) in
-    let k : h.1 ≡ 9 - length h.0 = omega arith in
-    (t.0, t.1, t.2, t.3, (h.0, h.2 ∙ ap (λ (a : ℕ). h.0 ++ replicate a 0) k, h.3, (omega arith, t.4)))
+header_back : (x : FileKind × HeaderNumbers) (bytes : List ℕ) → HeaderIs x bytes → (Just (magic x.0) then AreHeaderNumbers x.1) bytes
+header_back x bytes h =
+    let t = h.4 in
+    let len : 9 ≡ length h.0 + h.1 = ap length h.2 ∙ length-append h.0 (replicate h.1 0) ∙ ap (λ (k : ℕ). length h.0 + k) (length-replicate {A = ℕ} h.1 0) in
+    (t.0, t.1, t.2, t.3, (h.0, sym (header_from-zeros h.0 h.1) ∙ ap header_from (sym h.2), h.3, (omega arith, t.4)))
 
 pub Reads-header : Reads HeaderIs header_at
 Reads-header =
     Reads-same (λ xy. Just (magic xy.0) then AreHeaderNumbers xy.1) HeaderIs header_at
-    (Reads-both (λ kind. Just (magic kind)) (λ _. AreHeaderNumbers) kind_at (λ _. mapped_at padded (tested_at (line_at 9) (λ ns. leb 5 (length ns)))) Reads-kind (λ _. Reads-header_numbers))
-    header_to header_from
+    (Reads-both (λ kind. Just (magic kind)) (λ _. AreHeaderNumbers) kind_at (λ _. header_numbers_at) Reads-kind (λ _. Reads-header_numbers))
+    header_to header_back
 
 -- ---- latches, gates, justice sets
 

@@ -1,28 +1,28 @@
 -- Reading a file from the front, each line tested beside those before it, and the gates all together: what is read so is a file that fits
 -- the limit.
 -- (AIGER format 20071012: "Header", "Binary encoding", "Symbol table"; AIGER 1.9: "Reset logic", "Properties".)
-use Rattle.std.specs.Prelude.{ℕ, zero, suc, ◌+◌, ◌*◌, ◌/◌, ◌%◌, Bool, true, not, ◌&&◌, ◌||◌, nat_lt, nat_le, ◌==◌, if◌then◌else◌, List, [], ◌∷◌, ◌++◌, length, map, slice_index, Option, Some, None}
+use Rattle.std.specs.Prelude.{ℕ, zero, suc, ◌+◌, ◌*◌, ◌/◌, ◌%◌, Bool, true, not, ◌&&◌, ◌||◌, nat_lt, nat_le, ◌==◌, if◌then◌else◌, List, [], ◌∷◌, ◌++◌, length, map, Option, Some, None}
 use Rattle.std.specs.Str.{is_utf8}
 use Rattle.std.specs.List.{list_any, list_all}
 use Rattle.aig_format.specs.declared.FileKind.{FileKind}
 use Rattle.aig_format.specs.declared.FileKind.TheVariants.{Text, Binary}
-use Rattle.aig_format.specs.File.{LatchLine, GateLine, NameLine, File, used}
+use Rattle.aig_format.specs.File.{LatchLine, GateLine, NameLine, File, HeaderNumbers, used}
 use Rattle.aig_format.specs.Variables.{is_known}
 use Rattle.aig_format.specs.Levels.{has_level}
 use Rattle.aig_format.specs.Numbering.{is_older}
 use Rattle.aig_format.specs.Letters.{count_of, is_kept}
 use Rattle.aig_format.specs.Spells.{places}
 use Rattle.aig_format.specs.Fits.{same_place}
-use Rattle.aig_parsing.specs.Front.{◌>>=◌, Parts, both_at, checked_at, ended_at, file_from, header_at, is_comment, is_good, mapped_at, name_at, number_at, numbers_at, placed_at, placed_gate_at, tested_at, times_at}
+use Rattle.aig_parsing.specs.Front.{◌>>=◌, Parts, PropertyParts, both_at, checked_at, ended_at, file_from, header_at, is_comment, is_good, mapped_at, name_at, number_at, numbers_at, placed_at, placed_gate_at, properties_by, sections_by, tested_at, times_at}
 
 -- ---- the header
 
 -- M + 1 is within the limit
-abbrev pub is_within : ℕ → List ℕ → Bool
-is_within limit ns = nat_le (slice_index ns 0 + 1) limit
+abbrev pub is_within : ℕ → HeaderNumbers → Bool
+is_within limit ns = nat_le (ns.greatest + 1) limit
 
 -- a header line that is good and within the limit
-abbrev pub fitting_header_at : ℕ → List ℕ → Option ((FileKind × List ℕ) × List ℕ)
+abbrev pub fitting_header_at : ℕ → List ℕ → Option ((FileKind × HeaderNumbers) × List ℕ)
 fitting_header_at limit = tested_at header_at (λ h. is_good h.0 h.1 && is_within limit h.1)
 
 -- ---- tests of a line beside those before it
@@ -58,7 +58,7 @@ tests_gate greatest leaves before g =
     defines greatest (leaves ++ map (λ h. h.lhs) before) g.lhs && is_literal greatest g.rhs0 && is_literal greatest g.rhs1
 
 -- a name stands below its section's count, none of those before it is for its place, and it is UTF-8 if it is kept
-abbrev pub tests_name : List ℕ → List NameLine → NameLine → Bool
+abbrev pub tests_name : HeaderNumbers → List NameLine → NameLine → Bool
 tests_name ns before n = nat_lt n.position (count_of ns n.letter) && not (list_any (λ m. same_place m n) before) && (not (is_kept n.letter) || is_utf8 n.name)
 
 -- ---- lines
@@ -100,14 +100,14 @@ gate_line_at = mapped_at gate_of triple_at
 -- ---- the sections
 
 -- inputs
-abbrev pub fitting_inputs_at : FileKind → List ℕ → List ℕ → Option (List ℕ × List ℕ)
-fitting_inputs_at Text ns = checked_at (ended_at 10) (defines (slice_index ns 0)) [] (slice_index ns 1)
-fitting_inputs_at Binary ns = λ bytes. Some (places (slice_index ns 1) 1, bytes)
+abbrev pub fitting_inputs_at : FileKind → HeaderNumbers → List ℕ → Option (List ℕ × List ℕ)
+fitting_inputs_at Text ns = checked_at (ended_at 10) (defines ns.greatest) [] ns.inputs
+fitting_inputs_at Binary ns = λ bytes. Some (places ns.inputs 1, bytes)
 
 -- latches, behind these inputs
-abbrev pub fitting_latches_at : FileKind → List ℕ → List ℕ → List ℕ → Option (List LatchLine × List ℕ)
-fitting_latches_at Text ns inputs = checked_at latch_line_at (tests_latch (slice_index ns 0) inputs) [] (slice_index ns 2)
-fitting_latches_at Binary ns inputs = placed_at (λ v. tested_at (binary_latch_at v) (has_next (slice_index ns 0))) (slice_index ns 2) (1 + slice_index ns 1)
+abbrev pub fitting_latches_at : FileKind → HeaderNumbers → List ℕ → List ℕ → Option (List LatchLine × List ℕ)
+fitting_latches_at Text ns inputs = checked_at latch_line_at (tests_latch ns.greatest inputs) [] ns.latches
+fitting_latches_at Binary ns inputs = placed_at (λ v. tested_at (binary_latch_at v) (has_next ns.greatest)) ns.latches (1 + ns.inputs)
 
 -- so many literals that may be used, a line each
 abbrev pub literals_at : ℕ → ℕ → List ℕ → Option (List ℕ × List ℕ)
@@ -121,19 +121,26 @@ literal_sets_at greatest (n ∷ sizes) bytes = do
   sets ← literal_sets_at greatest sizes set.1
   Some (set.0 ∷ sets.0, sets.1)
 
+-- so many sets of such literals: their sizes, and then the literals
+abbrev pub literal_justice_at : ℕ → ℕ → List ℕ → Option (List (List ℕ) × List ℕ)
+literal_justice_at greatest count bytes = do
+  sizes ← numbers_at count bytes
+  literal_sets_at greatest sizes.0 sizes.1
+
 -- gates, behind these leaves; in a binary file the first operand is below the gate
-abbrev pub fitting_gates_at : FileKind → List ℕ → List ℕ → List ℕ → Option (List GateLine × List ℕ)
-fitting_gates_at Text ns leaves = checked_at gate_line_at (tests_gate (slice_index ns 0) leaves) [] (slice_index ns 4)
-fitting_gates_at Binary ns leaves = placed_at (λ v. tested_at (placed_gate_at v) (λ g. nat_lt g.rhs0 g.lhs)) (slice_index ns 4) (1 + slice_index ns 1 + slice_index ns 2)
+abbrev pub fitting_gates_at : FileKind → HeaderNumbers → List ℕ → List ℕ → Option (List GateLine × List ℕ)
+fitting_gates_at Text ns leaves = checked_at gate_line_at (tests_gate ns.greatest leaves) [] ns.gates
+fitting_gates_at Binary ns leaves = placed_at (λ v. tested_at (placed_gate_at v) (λ g. nat_lt g.rhs0 g.lhs)) ns.gates (1 + ns.inputs + ns.latches)
+
+-- outputs and properties
+abbrev pub fitting_properties_at : HeaderNumbers → List ℕ → Option (PropertyParts × List ℕ)
+fitting_properties_at ns = properties_by (literals_at ns.greatest) (literal_justice_at ns.greatest) ns
 
 -- the lines of the sections behind the header
-abbrev pub section_lines_at : FileKind → List ℕ → List ℕ → Option (Parts × List ℕ)
+abbrev pub section_lines_at : FileKind → HeaderNumbers → List ℕ → Option (Parts × List ℕ)
 section_lines_at kind ns =
-    let greatest = slice_index ns 0 in
-    both_at (fitting_inputs_at kind ns) (λ inputs. both_at (fitting_latches_at kind ns inputs) (λ latches. both_at (literals_at greatest (slice_index ns 3))
-    (λ _. both_at (literals_at greatest (slice_index ns 5)) (λ _. both_at (literals_at greatest (slice_index ns 6)) (λ _. both_at (numbers_at (slice_index ns 7))
-    (λ sizes. both_at (literal_sets_at greatest sizes) (λ _. both_at (literals_at greatest (slice_index ns 8))
-    (λ _. fitting_gates_at kind ns (inputs ++ map (λ l. l.literal) latches)))))))))
+    sections_by (fitting_inputs_at kind ns) (fitting_latches_at kind ns) (fitting_properties_at ns)
+    (λ inputs latches. fitting_gates_at kind ns (inputs ++ map (λ l. l.literal) latches))
 
 -- ---- the test behind the last gate
 
@@ -148,15 +155,15 @@ keeps_rules Text f = is_older f || (uses_known f && list_all (has_level f) f.gat
 keeps_rules Binary f = true
 
 -- the sections behind the header
-abbrev pub fitting_sections_at : FileKind → List ℕ → List ℕ → Option (Parts × List ℕ)
+abbrev pub fitting_sections_at : FileKind → HeaderNumbers → List ℕ → Option (Parts × List ℕ)
 fitting_sections_at kind ns = tested_at (section_lines_at kind ns) (λ x. keeps_rules kind (file_from ((kind, ns), x) []))
 
 -- the header within the limit, and the sections
-abbrev pub fitting_body_at : ℕ → List ℕ → Option (((FileKind × List ℕ) × Parts) × List ℕ)
+abbrev pub fitting_body_at : ℕ → List ℕ → Option (((FileKind × HeaderNumbers) × Parts) × List ℕ)
 fitting_body_at limit = both_at (fitting_header_at limit) (λ h. fitting_sections_at h.0 h.1)
 
 -- the names behind these, with the comment behind them, up to the end; at most k names
-unfoldable pub fitting_tail_at : List ℕ → ℕ → List NameLine → List ℕ → Option (List NameLine)
+unfoldable pub fitting_tail_at : HeaderNumbers → ℕ → List NameLine → List ℕ → Option (List NameLine)
 fitting_tail_at ns zero before bytes = None
 fitting_tail_at ns (suc k) before bytes =
     if is_comment bytes then Some [] else (tested_at name_at (tests_name ns before) bytes >>= λ n. fitting_tail_at ns k (before ++ n.0 ∷ []) n.1 >>= λ names. Some (n.0 ∷ names))

@@ -1,9 +1,9 @@
 -- Reading from the front: a value and the bytes after it, or nothing. Each reader is for one text of the grammar.
 -- (AIGER format 20071012: "Header", "Binary encoding", "Symbol table"; AIGER 1.9: "Reset logic", "Properties".)
-use Rattle.std.specs.Prelude.{ℕ, zero, suc, ◌+◌, ◌-◌, ◌*◌, ◌^◌, Bool, true, false, not, ◌&&◌, nat_lt, nat_le, ◌==◌, if◌then◌else◌, List, [], ◌∷◌, ◌++◌, length, replicate, slice_index, slice_get, Option, Some, None, option_map}
+use Rattle.std.specs.Prelude.{ℕ, zero, suc, ◌+◌, ◌-◌, ◌*◌, ◌^◌, Bool, true, false, not, ◌&&◌, nat_lt, nat_le, ◌==◌, if◌then◌else◌, List, [], ◌∷◌, ◌++◌, length, slice_index, slice_index_or, slice_get, Option, Some, None, option_map}
 use Rattle.aig_format.specs.declared.FileKind.{FileKind}
 use Rattle.aig_format.specs.declared.FileKind.TheVariants.{Text, Binary}
-use Rattle.aig_format.specs.File.{LatchLine, GateLine, NameLine, File}
+use Rattle.aig_format.specs.File.{LatchLine, GateLine, NameLine, File, HeaderNumbers}
 use Rattle.aig_format.specs.Letters.{letter_of_comment}
 use Rattle.aig_format.specs.Spells.{magic, is_letter, places}
 use Rattle.aig_format.specs.Fits.{count_defined}
@@ -84,13 +84,27 @@ or_else None other = other
 unfoldable pub kind_at : List ℕ → Option (FileKind × List ℕ)
 kind_at bytes = or_else (option_map (λ rest. (Text, rest)) (strip (magic Text) bytes)) (option_map (λ rest. (Binary, rest)) (strip (magic Binary) bytes))
 
--- nine numbers, with zeros for those that are not written
-abbrev pub padded : List ℕ → List ℕ
-padded ns = ns ++ replicate (9 - length ns) 0
+-- the header of the numbers of a line; those that are not written are 0
+abbrev pub header_from : List ℕ → HeaderNumbers
+header_from ns = record {
+  greatest = slice_index_or ns 0 0;
+  inputs = slice_index_or ns 1 0;
+  latches = slice_index_or ns 2 0;
+  outputs = slice_index_or ns 3 0;
+  gates = slice_index_or ns 4 0;
+  bads = slice_index_or ns 5 0;
+  constraints = slice_index_or ns 6 0;
+  justice = slice_index_or ns 7 0;
+  fairness = slice_index_or ns 8 0;
+}
 
--- the header: its kind and its nine numbers
-abbrev pub header_at : List ℕ → Option ((FileKind × List ℕ) × List ℕ)
-header_at = both_at kind_at (λ kind. mapped_at padded (tested_at (line_at 9) (λ ns. nat_le 5 (length ns))))
+-- five to nine numbers in a line, as a header
+abbrev pub header_numbers_at : List ℕ → Option (HeaderNumbers × List ℕ)
+header_numbers_at = mapped_at header_from (tested_at (line_at 9) (λ ns. nat_le 5 (length ns)))
+
+-- the header: its kind and its numbers
+abbrev pub header_at : List ℕ → Option ((FileKind × HeaderNumbers) × List ℕ)
+header_at = both_at kind_at (λ _. header_numbers_at)
 
 -- the latch of the numbers of a line
 abbrev pub latch_from : List ℕ → LatchLine
@@ -192,48 +206,86 @@ placed_gate_at v = mapped_at (placed_gate v) (tested_at (both_at delta_at (λ _.
 -- ---- files of both kinds, by the header's numbers
 
 -- the inputs: in a binary file they have no bytes
-abbrev pub inputs_at : FileKind → List ℕ → List ℕ → Option (List ℕ × List ℕ)
-inputs_at Text ns = numbers_at (slice_index ns 1)
-inputs_at Binary ns = λ bytes. Some (places (slice_index ns 1) 1, bytes)
+abbrev pub inputs_at : FileKind → HeaderNumbers → List ℕ → Option (List ℕ × List ℕ)
+inputs_at Text ns = numbers_at ns.inputs
+inputs_at Binary ns = λ bytes. Some (places ns.inputs 1, bytes)
 
 -- the latches
-abbrev pub latches_at : FileKind → List ℕ → List ℕ → Option (List LatchLine × List ℕ)
-latches_at Text ns = times_at latch_at (slice_index ns 2)
-latches_at Binary ns = placed_at placed_latch_at (slice_index ns 2) (1 + slice_index ns 1)
+abbrev pub latches_at : FileKind → HeaderNumbers → List ℕ → Option (List LatchLine × List ℕ)
+latches_at Text ns = times_at latch_at ns.latches
+latches_at Binary ns = placed_at placed_latch_at ns.latches (1 + ns.inputs)
 
 -- the gates
-abbrev pub gates_at : FileKind → List ℕ → List ℕ → Option (List GateLine × List ℕ)
-gates_at Text ns = times_at gate_at (slice_index ns 4)
-gates_at Binary ns = placed_at placed_gate_at (slice_index ns 4) (1 + slice_index ns 1 + slice_index ns 2)
+abbrev pub gates_at : FileKind → HeaderNumbers → List ℕ → Option (List GateLine × List ℕ)
+gates_at Text ns = times_at gate_at ns.gates
+gates_at Binary ns = placed_at placed_gate_at ns.gates (1 + ns.inputs + ns.latches)
 
--- inputs, latches, outputs, bads, constraints, justice sizes, justice, fairness, gates
-abbrev pub Parts : Type 0
-Parts = List ℕ × (List LatchLine × (List ℕ × (List ℕ × (List ℕ × (List ℕ × (List (List ℕ) × (List ℕ × List GateLine)))))))
+-- outputs and properties
+pub record PropertyParts : Type 0 where
+  pub outputs : List ℕ
+  pub bads : List ℕ
+  pub constraints : List ℕ
+  pub justice : List (List ℕ)
+  pub fairness : List ℕ
+
+-- those of a file
+abbrev pub property_parts : File → PropertyParts
+property_parts f = record { outputs = f.outputs; bads = f.bads; constraints = f.constraints; justice = f.justice; fairness = f.fairness }
 
 -- the sections behind the header
-abbrev pub sections_at : FileKind → List ℕ → List ℕ → Option (Parts × List ℕ)
-sections_at kind ns =
-    both_at (inputs_at kind ns) (λ _. both_at (latches_at kind ns) (λ _. both_at (numbers_at (slice_index ns 3))
-    (λ _. both_at (numbers_at (slice_index ns 5)) (λ _. both_at (numbers_at (slice_index ns 6)) (λ _. both_at (numbers_at (slice_index ns 7))
-    (λ sizes. both_at (sets_at sizes) (λ _. both_at (numbers_at (slice_index ns 8)) (λ _. gates_at kind ns))))))))
+pub record Parts : Type 0 where
+  pub inputs : List ℕ
+  pub latches : List LatchLine
+  pub properties : PropertyParts
+  pub gates : List GateLine
+
+-- so many justice sets: their sizes, and then their literals
+abbrev pub justice_at : ℕ → List ℕ → Option (List (List ℕ) × List ℕ)
+justice_at count bytes = do
+  sizes ← numbers_at count bytes
+  sets_at sizes.0 sizes.1
+
+-- outputs and properties, by readers of so many literals and of so many sets
+abbrev pub properties_by : (ℕ → List ℕ → Option (List ℕ × List ℕ)) → (ℕ → List ℕ → Option (List (List ℕ) × List ℕ)) → HeaderNumbers → List ℕ → Option (PropertyParts × List ℕ)
+properties_by literals sets ns bytes = do
+  outputs ← literals ns.outputs bytes
+  bads ← literals ns.bads outputs.1
+  constraints ← literals ns.constraints bads.1
+  justice ← sets ns.justice constraints.1
+  fairness ← literals ns.fairness justice.1
+  Some (record { outputs = outputs.0; bads = bads.0; constraints = constraints.0; justice = justice.0; fairness = fairness.0 }, fairness.1)
+
+-- the sections, by their readers; latches may look at the inputs, and gates at both
+abbrev pub sections_by : (List ℕ → Option (List ℕ × List ℕ)) → (List ℕ → List ℕ → Option (List LatchLine × List ℕ)) → (List ℕ → Option (PropertyParts × List ℕ))
+    → (List ℕ → List LatchLine → List ℕ → Option (List GateLine × List ℕ)) → List ℕ → Option (Parts × List ℕ)
+sections_by read_inputs read_latches read_properties read_gates bytes = do
+  inputs ← read_inputs bytes
+  latches ← read_latches inputs.0 inputs.1
+  properties ← read_properties latches.1
+  gates ← read_gates inputs.0 latches.0 properties.1
+  Some (record { inputs = inputs.0; latches = latches.0; properties = properties.0; gates = gates.0 }, gates.1)
+
+-- the sections behind the header
+abbrev pub sections_at : FileKind → HeaderNumbers → List ℕ → Option (Parts × List ℕ)
+sections_at kind ns = sections_by (inputs_at kind ns) (λ _. latches_at kind ns) (properties_by numbers_at justice_at ns) (λ _ _. gates_at kind ns)
 
 -- the header and the sections
-abbrev pub body_at : List ℕ → Option (((FileKind × List ℕ) × Parts) × List ℕ)
+abbrev pub body_at : List ℕ → Option (((FileKind × HeaderNumbers) × Parts) × List ℕ)
 body_at = both_at header_at (λ h. sections_at h.0 h.1)
 
 -- the file of a header, sections and names
-abbrev pub file_from : (FileKind × List ℕ) × Parts → List NameLine → File
+abbrev pub file_from : (FileKind × HeaderNumbers) × Parts → List NameLine → File
 file_from b names = let x = b.1 in record {
   kind = b.0.0;
-  greatest = slice_index b.0.1 0;
-  inputs = x.0;
-  latches = x.1.0;
-  outputs = x.1.1.0;
-  gates = x.1.1.1.1.1.1.1.1;
-  bads = x.1.1.1.0;
-  constraints = x.1.1.1.1.0;
-  justice = x.1.1.1.1.1.1.0;
-  fairness = x.1.1.1.1.1.1.1.0;
+  greatest = b.0.1.greatest;
+  inputs = x.inputs;
+  latches = x.latches;
+  outputs = x.properties.outputs;
+  gates = x.gates;
+  bads = x.properties.bads;
+  constraints = x.properties.constraints;
+  justice = x.properties.justice;
+  fairness = x.properties.fairness;
   names = names;
 }
 
@@ -245,14 +297,14 @@ file_at bytes = do
   Some (file_from b.0 names)
 
 -- M >= I + L + A in a text file, M = I + L + A in a binary one
-abbrev pub is_good : FileKind → List ℕ → Bool
-is_good Text ns = nat_le (count_defined ns) (slice_index ns 0)
-is_good Binary ns = slice_index ns 0 == count_defined ns
+abbrev pub is_good : FileKind → HeaderNumbers → Bool
+is_good Text ns = nat_le (count_defined ns) ns.greatest
+is_good Binary ns = ns.greatest == count_defined ns
 
 -- whether the header line is good, and M + 1 passes the limit
-abbrev pub too_many_of : ℕ → Option ((FileKind × List ℕ) × List ℕ) → Bool
+abbrev pub too_many_of : ℕ → Option ((FileKind × HeaderNumbers) × List ℕ) → Bool
 too_many_of limit None = false
-too_many_of limit (Some h) = is_good h.0.0 h.0.1 && nat_lt limit (slice_index h.0.1 0 + 1)
+too_many_of limit (Some h) = is_good h.0.0 h.0.1 && nat_lt limit (h.0.1.greatest + 1)
 
 -- whether bytes begin with such a header line
 abbrev pub too_many_at : ℕ → List ℕ → Bool

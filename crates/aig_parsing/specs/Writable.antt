@@ -2,7 +2,7 @@
 use Rattle.std.specs.Prelude.{◌≡◌, ◌≢◌, ℕ, ◌^◌, ◌<◌, ◌≤◌, true, List, map, length, option_to_list}
 use Rattle.std.specs.List.{AllByRecursion}
 use Rattle.aig_format.specs.File.{LatchLine, GateLine, NameLine, File, header_of, defined}
-use Rattle.aig_format.specs.Spells.{is_letter, Placed}
+use Rattle.aig_format.specs.Spells.{is_letter, numbers_in, Placed}
 
 -- a number that a file may have
 abbrev pub IsSmall : ℕ → Type 0
@@ -26,7 +26,7 @@ SetSmall s = AllByRecursion IsSmall s
 
 -- what can be written
 pub record CanWrite (f : File) : Type 0 where
-  pub header : AllByRecursion IsSmall (header_of f)
+  pub header : AllByRecursion IsSmall (numbers_in (header_of f))
   pub inputs : AllByRecursion IsSmall f.inputs
   pub latches : AllByRecursion LatchSmall f.latches
   pub outputs : AllByRecursion IsSmall f.outputs

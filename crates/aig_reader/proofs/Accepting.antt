@@ -1,9 +1,10 @@
 -- What the answer of a reading call tells of the bytes, by the laws of readers on lists.
 use Rattle.std.proofs.Common.{◌≡◌, ◌≢◌, ◌↔◌, ℕ, true, List, ◌++◌, Option, Some, None, Result, Ok, Err, IfSome, IsErrOf, refl, sym, ap, subst, ◌∙◌}
-use Rattle.std.specs.Io.KnownBytes.{Consumes, IsAtEnd}
+use Rattle.std.specs.Io.KnownBytes.{IsAtEnd}
+use Rattle.std.proofs.lemmas.Option.{same_Some}
 use Rattle.std.proofs.KnownBytes.{Consumes-whole}
 use Rattle.aig_format.specs.declared.FileKind.{FileKind}
-use Rattle.aig_format.specs.File.{NameLine, File}
+use Rattle.aig_format.specs.File.{NameLine, File, HeaderNumbers}
 use Rattle.aig_format.specs.Fits.{Accepts}
 use Rattle.aig_parsing.proofs.FittingFiles.{fitting_sound, fitting_complete}
 use Rattle.aig_parsing.proofs.TooManyAt.{too_many_exact}
@@ -14,7 +15,7 @@ use Rattle.aig_reader.specs.Names.{tail_of}
 use Rattle.aig_reader.specs.declared.error.ReadError.{ReadError}
 use Rattle.aig_reader.specs.declared.error.ReadError.TheVariants as errors
 use Rattle.aig_reader.specs.Faults.{IsSectionFault, OnRefusal}
-use Rattle.aig_reader.specs.Reading.{ReadsExactly, UnlessInterrupted}
+use Rattle.aig_reader.specs.Reading.{AreListsOf, IsOfFile, ReadsExactly, UnlessInterrupted}
 use Rattle.aig_lexer.specs.Takes.{Takes, Misses}
 use Rattle.aig_reader.proofs.Body.{on_refusal-weaker}
 use Rattle.aig_lexer.proofs.Going.{known_rest}
@@ -22,7 +23,7 @@ use Rattle.aig_lexer.proofs.Taking.{misses_either, misses_both}
 
 -- the kind, the header's numbers, and the sections behind them
 abbrev pub Body : Type 0
-Body = (FileKind × List ℕ) × Parts
+Body = (FileKind × HeaderNumbers) × Parts
 
 -- ---- refusals
 
@@ -40,9 +41,9 @@ same_fault T e h = cc
 told : (T : Type 0) (e : ReadError) (P : Type 0) → IsErrOf (fault T e) errors.TooMany ↔ P → (e ≡ errors.TooMany) ↔ P
 told T e P h = (λ is. h.0 (ap (fault T) is), λ p. same_fault T e (h.1 p))
 
-refuses : (limit : ℕ) (bytes : List ℕ) (e : ReadError) → fitting_at limit bytes ≡ None → TellsTooMany limit e bytes → ReadsExactly (fault CircuitLists e) bytes limit
+refuses : (limit : ℕ) (bytes : List ℕ) (e : ReadError) → fitting_at limit bytes ≡ None → TellsTooMany limit e bytes → ReadsExactly AreListsOf limit (fault CircuitLists e) bytes
 refuses limit bytes e none tells = record {
-  accepted = (λ ok. absurd cc, λ w. let same = sym none ∙ fitting_complete limit bytes w.0 w.1 in absurd cc);
+  accepted = record { each = λ f is. let same = sym none ∙ fitting_complete limit bytes f is in absurd cc; only = λ ok. absurd cc };
   too_many = (λ h. (too_many_exact bytes limit).0 (tells.0 (same_fault CircuitLists e h)), λ h. ap (fault CircuitLists) (tells.1 ((too_many_exact bytes limit).1 h)));
 }
 
@@ -71,7 +72,7 @@ always T errors.Open = tt
 
 -- what is said of an answer where the bytes are known
 abbrev pub ReadsKnown : Result CircuitLists ReadError → ℕ → Option (List ℕ) → Type 0
-ReadsKnown result limit before = IfSome before (λ bytes. UnlessInterrupted result (ReadsExactly result bytes limit))
+ReadsKnown result limit before = IfSome before (λ bytes. UnlessInterrupted result (ReadsExactly AreListsOf limit result bytes))
 
 -- what stands behind the body, read as names
 abbrev with_names : Body × List ℕ → Option File
@@ -85,7 +86,7 @@ no_file : (limit : ℕ) (bytes : List ℕ) → fitting_body_at limit bytes ≡ N
 no_file limit bytes h = file_is limit bytes ∙ ap (λ (o : Option (Body × List ℕ)). o >>= with_names) h
 
 -- the sections, by what the header line says
-abbrev pub sections_of : FileKind × List ℕ → List ℕ → Option (Parts × List ℕ)
+abbrev pub sections_of : FileKind × HeaderNumbers → List ℕ → Option (Parts × List ℕ)
 sections_of h = fitting_sections_at h.0 h.1
 
 -- the header is refused
@@ -93,7 +94,7 @@ pub refused_header : (T : Type 0) (limit : ℕ) (before : Option (List ℕ)) (e 
     → IfSome before (λ bytes. UnlessInterrupted (fault T e) (IsErrOf (fault T e) errors.TooMany ↔ (too_many_at limit bytes ≡ true))) → ReadsKnown (fault CircuitLists e) limit before
 refused_header T limit None e h k = tt
 refused_header T limit (Some bytes) e h k =
-    refusal T CircuitLists e (fitting_header_at limit bytes ≡ None) (IsErrOf (fault T e) errors.TooMany ↔ (too_many_at limit bytes ≡ true)) (ReadsExactly (fault CircuitLists e) bytes limit)
+    refusal T CircuitLists e (fitting_header_at limit bytes ≡ None) (IsErrOf (fault T e) errors.TooMany ↔ (too_many_at limit bytes ≡ true)) (ReadsExactly AreListsOf limit (fault CircuitLists e) bytes)
     (λ none tells. refuses limit bytes e (no_file limit bytes (misses_either (fitting_header_at limit) sections_of (Some bytes) none)) (told T e _ tells)) h k
 
 -- a header that was taken is not too large
@@ -108,7 +109,7 @@ refused_behind : (T : Type 0) (header : T) (limit : ℕ) (before : Option (List 
     → IfSome before (λ bytes. ◌≡◌ {A = Result T ReadError} (Ok header) (Err errors.TooMany) ↔ (too_many_at limit bytes ≡ true)) → ReadsKnown (fault CircuitLists e) limit before
 refused_behind T header limit None e h other k = tt
 refused_behind T header limit (Some bytes) e h other k =
-    refusal CircuitLists CircuitLists e (fitting_at limit bytes ≡ None) (Unit {0}) (ReadsExactly (fault CircuitLists e) bytes limit)
+    refusal CircuitLists CircuitLists e (fitting_at limit bytes ≡ None) (Unit {0}) (ReadsExactly AreListsOf limit (fault CircuitLists e) bytes)
     (λ none t. refuses limit bytes e none (λ is. absurd (other is), λ p. absurd (not_too_many T header _ k p))) h (always CircuitLists e)
 
 no_files : (limit : ℕ) (before : Option (List ℕ)) → Misses (fitting_body_at limit) before → IfSome before (λ bytes. fitting_at limit bytes ≡ None)
@@ -116,7 +117,7 @@ no_files limit None h = tt
 no_files limit (Some bytes) h = no_file limit bytes h
 
 -- a section is refused
-pub refused_section : (T : Type 0) (header : T) (limit : ℕ) (before m : Option (List ℕ)) (h : FileKind × List ℕ) (e : ReadError) → Takes (fitting_header_at limit) before m h → OnRefusal e (Misses (sections_of h) m) → e ≢ errors.TooMany
+pub refused_section : (T : Type 0) (header : T) (limit : ℕ) (before m : Option (List ℕ)) (h : FileKind × HeaderNumbers) (e : ReadError) → Takes (fitting_header_at limit) before m h → OnRefusal e (Misses (sections_of h) m) → e ≢ errors.TooMany
     → IfSome before (λ bytes. ◌≡◌ {A = Result T ReadError} (Ok header) (Err errors.TooMany) ↔ (too_many_at limit bytes ≡ true)) → ReadsKnown (fault CircuitLists e) limit before
 refused_section T header limit before m h e taken missed other k =
     refused_behind T header limit before e
@@ -145,12 +146,17 @@ both_known : (before : Option (List ℕ)) (P Q R : List ℕ → Type 0) → IfSo
 both_known None P Q R p q f = tt
 both_known (Some bytes) P Q R p q f = f bytes p q
 
-pub accepts : (T : Type 0) (header : T) (limit : ℕ) (before after : Option (List ℕ)) (f : File) (bytes : List ℕ) (lists : CircuitLists) → Accepts bytes limit f → Consumes before after bytes → IsAtEnd after
-    → IfSome before (λ bytes. ◌≡◌ {A = Result T ReadError} (Ok header) (Err errors.TooMany) ↔ (too_many_at limit bytes ≡ true)) → IfSome before (λ bytes. ReadsExactly {T = CircuitLists} (Ok lists) bytes limit)
-accepts T header limit before after f bytes lists is c end k =
-    both_known before (λ bytes. (f : File) × Accepts bytes limit f) (λ bytes. ◌≡◌ {A = Result T ReadError} (Ok header) (Err errors.TooMany) ↔ (too_many_at limit bytes ≡ true)) (λ bytes. ReadsExactly {T = CircuitLists} (Ok lists) bytes limit)
-    (Consumes-whole before after bytes (λ bytes. (f : File) × Accepts bytes limit f) c end (f, is)) k
-    (λ bytes file tells. record {
-      accepted = (λ ok. file, λ w. refl);
+-- bytes are one file that is accepted
+one_file : (limit : ℕ) (bytes : List ℕ) (f g : File) → Accepts bytes limit f → Accepts bytes limit g → f ≡ g
+one_file limit bytes f g p q = same_Some f g (sym (fitting_complete limit bytes f p) ∙ fitting_complete limit bytes g q)
+
+-- what was read of known bytes
+pub accepts : (T : Type 0) (header : T) (limit : ℕ) (before after : Option (List ℕ)) (lists : CircuitLists) → IsOfFile (λ bytes. Accepts bytes limit) AreListsOf before after lists → IsAtEnd after
+    → IfSome before (λ bytes. ◌≡◌ {A = Result T ReadError} (Ok header) (Err errors.TooMany) ↔ (too_many_at limit bytes ≡ true)) → IfSome before (λ bytes. ReadsExactly AreListsOf limit (Ok lists) bytes)
+accepts T header limit before after lists o end k =
+    both_known before (λ bytes. Accepts bytes limit o.file) (λ bytes. ◌≡◌ {A = Result T ReadError} (Ok header) (Err errors.TooMany) ↔ (too_many_at limit bytes ≡ true)) (λ bytes. ReadsExactly AreListsOf limit (Ok lists) bytes)
+    (Consumes-whole before after o.bytes (λ bytes. Accepts bytes limit o.file) o.taken end o.holds) k
+    (λ bytes is tells. record {
+      accepted = record { each = λ f p. subst (λ g. AreListsOf g lists) (one_file limit bytes o.file f is p) o.means; only = λ ok. (o.file, is) };
       too_many = (λ is. absurd cc, λ p. absurd (not_too_many T header _ tells ((too_many_exact bytes limit).1 p)));
     })

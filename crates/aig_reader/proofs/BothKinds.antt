@@ -1,9 +1,9 @@
 -- The entries of both kinds of file, as the sections that they make.
-use Rattle.std.proofs.Common.{◌≡◌, ℕ, zero, suc, ◌+◌, ◌-◌, ◌*◌, Bool, true, ◌&&◌, cond, ltb, List, [], ◌∷◌, ◌++◌, Option, Some, None, refl, ap, ◌∙◌, length, length-append, map, slice_index, arith}
+use Rattle.std.proofs.Common.{◌≡◌, ℕ, zero, suc, ◌+◌, ◌-◌, ◌*◌, Bool, true, ◌&&◌, cond, ltb, List, [], ◌∷◌, ◌++◌, Option, Some, None, refl, ap, ◌∙◌, length, length-append, map, arith}
 use Rattle.std.proofs.lemmas.List.{length-map}
 use Rattle.aig_format.specs.declared.FileKind.{FileKind}
 use Rattle.aig_format.specs.declared.FileKind.TheVariants.{Text, Binary}
-use Rattle.aig_format.specs.File.{LatchLine, GateLine}
+use Rattle.aig_format.specs.File.{LatchLine, GateLine, HeaderNumbers}
 use Rattle.aig_format.specs.Spells.{places}
 use Rattle.aig_parsing.specs.Front.{◌>>=◌, both_at, delta_at, ended_at, fits_gate, mapped_at, placed_at, placed_gate, placed_gate_at, tested_at}
 use Rattle.aig_parsing.specs.Fitting.{binary_latch_at, defines, fitting_gates_at, fitting_inputs_at, fitting_latches_at, gate_line_at, gate_of, has_next, latch_line_at, latch_of, next_at, tests_gate, tests_latch}
@@ -29,9 +29,9 @@ binary_inputs greatest (suc n) front bs =
     let e = 2 * (length front + 1) in
     ap (λ (o : Option (List ℕ × List ℕ)). o >>= put_first e) (binary_inputs greatest n (front ++ e ∷ []) bs) ∙ ap (λ (v : ℕ). Some (e ∷ places n (v + 1), bs)) (length_push front e)
 
-pub inputs_is : (kind : FileKind) (ns bs : List ℕ) → entries_at (input_at kind (slice_index ns 0)) [] (slice_index ns 1) bs ≡ fitting_inputs_at kind ns bs
-inputs_is Text ns bs = checked_is_entries (ended_at 10) (defines (slice_index ns 0)) [] (slice_index ns 1) bs
-inputs_is Binary ns bs = binary_inputs (slice_index ns 0) (slice_index ns 1) [] bs
+pub inputs_is : (kind : FileKind) (ns : HeaderNumbers) (bs : List ℕ) → entries_at (input_at kind ns.greatest) [] ns.inputs bs ≡ fitting_inputs_at kind ns bs
+inputs_is Text ns bs = checked_is_entries (ended_at 10) (defines ns.greatest) [] ns.inputs bs
+inputs_is Binary ns bs = binary_inputs ns.greatest ns.inputs [] bs
 
 -- ---- latches
 
@@ -55,16 +55,16 @@ module _ (greatest : ℕ) (inputs : List ℕ) where
   latch_agrees : (base : ℕ) → length inputs + 1 ≡ base → (front : List LatchLine) (bs : List ℕ) → latch_at Binary greatest inputs front bs ≡ tested_at (binary_latch_at (base + length front)) (has_next greatest) bs
   latch_agrees base h front bs = latch_here front bs ∙ ap (λ (v : ℕ). tested_at (binary_latch_at v) (has_next greatest) bs) (latch_place base h front)
 
-pub latches_is : (kind : FileKind) (ns inputs bs : List ℕ) → length inputs ≡ slice_index ns 1 → entries_at (latch_at kind (slice_index ns 0) inputs) [] (slice_index ns 2) bs ≡ fitting_latches_at kind ns inputs bs
-latches_is Text ns inputs bs h = checked_is_entries latch_line_at (tests_latch (slice_index ns 0) inputs) [] (slice_index ns 2) bs
+pub latches_is : (kind : FileKind) (ns : HeaderNumbers) (inputs bs : List ℕ) → length inputs ≡ ns.inputs → entries_at (latch_at kind ns.greatest inputs) [] ns.latches bs ≡ fitting_latches_at kind ns inputs bs
+latches_is Text ns inputs bs h = checked_is_entries latch_line_at (tests_latch ns.greatest inputs) [] ns.latches bs
 latches_is Binary ns inputs bs h =
-    let greatest = slice_index ns 0 in
+    let greatest = ns.greatest in
     let line = λ (v : ℕ). tested_at (binary_latch_at v) (has_next greatest) in
-    let base = 1 + slice_index ns 1 in
+    let base = 1 + ns.inputs in
     let start : length inputs + 1 ≡ base = omega (arith, h) in
     let here : base + 0 ≡ base = omega arith in
-    placed_is_entries (latch_at Binary greatest inputs) line base (λ _. Unit {0}) (λ front i. latch_agrees greatest inputs base start front) (λ front i bs rest x is. tt) (slice_index ns 2) [] bs tt
-    ∙ ap (λ (v : ℕ). placed_at line (slice_index ns 2) v bs) here
+    placed_is_entries (latch_at Binary greatest inputs) line base (λ _. Unit {0}) (λ front i. latch_agrees greatest inputs base start front) (λ front i bs rest x is. tt) ns.latches [] bs tt
+    ∙ ap (λ (v : ℕ). placed_at line ns.latches v bs) here
 
 -- ---- gates
 
@@ -98,13 +98,13 @@ module _ (greatest : ℕ) (leaves : List ℕ) where
   gate_agrees : (base : ℕ) → length leaves + 1 ≡ base → (front : List GateLine) (bs : List ℕ) → gate_at Binary greatest leaves front bs ≡ tested_at (placed_gate_at (base + length front)) first_below bs
   gate_agrees base h front bs = ap (λ (v : ℕ). gate_by v bs) (gate_place base h front) ∙ gate_here (base + length front) bs
 
-pub gates_is : (kind : FileKind) (ns leaves bs : List ℕ) → length leaves ≡ slice_index ns 1 + slice_index ns 2 → entries_at (gate_at kind (slice_index ns 0) leaves) [] (slice_index ns 4) bs ≡ fitting_gates_at kind ns leaves bs
-gates_is Text ns leaves bs h = checked_is_entries gate_line_at (tests_gate (slice_index ns 0) leaves) [] (slice_index ns 4) bs
+pub gates_is : (kind : FileKind) (ns : HeaderNumbers) (leaves bs : List ℕ) → length leaves ≡ ns.inputs + ns.latches → entries_at (gate_at kind ns.greatest leaves) [] ns.gates bs ≡ fitting_gates_at kind ns leaves bs
+gates_is Text ns leaves bs h = checked_is_entries gate_line_at (tests_gate ns.greatest leaves) [] ns.gates bs
 gates_is Binary ns leaves bs h =
-    let greatest = slice_index ns 0 in
+    let greatest = ns.greatest in
     let line = λ (v : ℕ). tested_at (placed_gate_at v) (λ (g : GateLine). ltb g.rhs0 g.lhs) in
-    let base = 1 + slice_index ns 1 + slice_index ns 2 in
+    let base = 1 + ns.inputs + ns.latches in
     let start : length leaves + 1 ≡ base = omega (arith, h) in
     let here : base + 0 ≡ base = omega arith in
-    placed_is_entries (gate_at Binary greatest leaves) line base (λ _. Unit {0}) (λ front i. gate_agrees greatest leaves base start front) (λ front i bs rest x is. tt) (slice_index ns 4) [] bs tt
-    ∙ ap (λ (v : ℕ). placed_at line (slice_index ns 4) v bs) here
+    placed_is_entries (gate_at Binary greatest leaves) line base (λ _. Unit {0}) (λ front i. gate_agrees greatest leaves base start front) (λ front i bs rest x is. tt) ns.gates [] bs tt
+    ∙ ap (λ (v : ℕ). placed_at line ns.gates v bs) here

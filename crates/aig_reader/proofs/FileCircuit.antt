@@ -16,7 +16,7 @@ use Rattle.aig_parsing.specs.Front.{Parts, file_from}
 use Rattle.aig_format.specs.Circuit as of_file
 use Rattle.aig_format.specs.Circuit.{circuit_of, edge_of, initial_of, kind_of, latch_of, named_node, nodes_from}
 use Rattle.aig_format.specs.declared.FileKind.{FileKind}
-use Rattle.aig_format.specs.File.{LatchLine, GateLine, NameLine, File, defined, used}
+use Rattle.aig_format.specs.File.{LatchLine, GateLine, NameLine, File, defined, used, HeaderNumbers}
 use Rattle.aig_format.specs.Fits.{Fits, IsDefinable}
 use Rattle.aig_format.specs.Numbering.{is_older, number_of, numbers_from, variables_in_order}
 use Rattle.aig_format.specs.Variables.{gate_of_variable}
@@ -152,12 +152,12 @@ module _ (f : File) where
     nodes_distinct limit fits = rw (inputs_is, leaves_is) (distinct_pairs _ (leaves_distinct f limit fits))
 
 -- a file's circuit has its names alone from the names
-circuit_named : (b : (FileKind × List ℕ) × Parts) (lines : List NameLine) → circuit_of (file_from b lines) ≡ record (circuit_of (file_from b [])) { names = from_entries (filter_map (named_node (file_from b [])) lines) }
+circuit_named : (b : (FileKind × HeaderNumbers) × Parts) (lines : List NameLine) → circuit_of (file_from b lines) ≡ record (circuit_of (file_from b [])) { names = from_entries (filter_map (named_node (file_from b [])) lines) }
 unfolding number_of variables_in_order
 circuit_named b lines = refl
 
 -- the sections with the names that are kept are the file's circuit
-pub circuit_is : (b : (FileKind × List ℕ) × Parts) (lines : List NameLine) (sections : Sections) (names : FinMap nat_cmp (List ℕ)) → IsCircuitOf (file_from b []) sections
+pub circuit_is : (b : (FileKind × HeaderNumbers) × Parts) (lines : List NameLine) (sections : Sections) (names : FinMap nat_cmp (List ℕ)) → IsCircuitOf (file_from b []) sections
     → names ≡ kept_names sections.inputs.items (latch_leaves sections.latchs.items) lines → circuit_with sections names ≡ circuit_of (file_from b lines)
 circuit_is b lines sections names is kept =
     let f = file_from b [] in

@@ -1,5 +1,5 @@
 -- A gate behind others.
-use Rattle.std.proofs.Common.{◌≡◌, ◌≢◌, ℕ, ◌+◌, ◌/◌, ◌<◌, ◌≤◌, Bool, true, false, ◌&&◌, ltb, List, [], ◌∷◌, ◌++◌, set, refl, sym, ap, subst, ◌∙◌, append_assoc, arith}
+use Rattle.std.proofs.Common.{◌≡◌, ◌≢◌, ℕ, ◌/◌, ◌<◌, ◌≤◌, Bool, true, false, ◌&&◌, ltb, List, [], ◌∷◌, ◌++◌, refl, sym, ap, subst, ◌∙◌, append_assoc, arith}
 use Rattle.std.specs.List.{list_all}
 use Rattle.std.proofs.lemmas.Bool.{lt-ltb}
 use Rattle.std.proofs.lemmas.List.{map_push}
@@ -10,14 +10,12 @@ use Rattle.aig_format.specs.declared.FileKind.TheVariants.{Text, Binary}
 use Rattle.aig_format.specs.File.{GateLine}
 use Rattle.aig_format.specs.Numbering.{are_in_order, is_ordered, rises}
 use Rattle.aig_format.proofs.Entries.{rec_parts}
-use Rattle.aig_ordering.specs.Lists.{nodes_of}
 use Rattle.aig_parsing.specs.Fitting.{defines, is_literal}
 use Rattle.aig_reader.specs.declared.variables.Variables.{Variables}
 use Rattle.aig_reader.specs.declared.gates.GateOrder.{GateOrder}
 use Rattle.aig_reader.specs.Entries.{may_define, may_stand, may_use}
-use Rattle.aig_reader.specs.Gates.{AreGates, IsOrderOf, gate_node_of, last_or, literals_of}
+use Rattle.aig_reader.specs.Gates.{AreFirstNodes, AreGates, IsOrderOf, last_or, literals_of}
 use Rattle.aig_reader.specs.Variables.{AreDefined, IsNewAmong}
-use Rattle.aig_reader.proofs.PlacedNodes.{places_gate}
 
 -- ---- the order of gates
 
@@ -74,13 +72,16 @@ may_stand-both Binary greatest before g = refl
 
 -- ---- one more gate
 
-pub more_gates : (greatest : ℕ) (leaves : List ℕ) (before : List GateLine) (variables : Variables) (nodes : List AigNode) (order : GateOrder) (g : GateLine) → nodes ≡ nodes_of greatest before
-    → 2 ≤ g.lhs → g.lhs / 2 < greatest + 1 → IsNewAmong (leaves ++ literals_of before) g.lhs → AreDefined greatest variables ((leaves ++ literals_of before) ++ g.lhs ∷ []) → IsOrderOf (before ++ g ∷ []) order
-    → AreGates greatest leaves (before ++ g ∷ []) variables (set nodes (g.lhs / 2) (gate_node_of g)) order
-more_gates greatest leaves before variables nodes order g placed some high new defined in_order =
+pub more_gates : (greatest : ℕ) (leaves : List ℕ) (before : List GateLine) (variables : Variables) (nodes : List AigNode) (order : GateOrder) (g : GateLine) → AreFirstNodes (before ++ g ∷ []) nodes
+    → AreDefined greatest variables ((leaves ++ literals_of before) ++ g.lhs ∷ []) → IsOrderOf (before ++ g ∷ []) order → AreGates greatest leaves (before ++ g ∷ []) variables nodes order
+more_gates greatest leaves before variables nodes order g placed defined in_order =
     let push : literals_of (before ++ g ∷ []) ≡ literals_of before ++ g.lhs ∷ [] = map_push (λ (h : GateLine). h.lhs) before g in
     record {
       defined = subst (λ (es : List ℕ). AreDefined greatest variables es) (append_assoc leaves (literals_of before) (g.lhs ∷ []) ∙ ap (λ (es : List ℕ). leaves ++ es) (sym push)) defined;
-      placed = ap (λ (ns : List AigNode). set ns (g.lhs / 2) (gate_node_of g)) placed ∙ places_gate greatest before g some high (rec_parts (λ d. d / 2 ≢ g.lhs / 2) leaves (literals_of before) new).1;
+      placed = placed;
       in_order = in_order;
     }
+
+-- a literal that is new behind leaves and gates is new among those of the gates
+pub new_among : (leaves : List ℕ) (before : List GateLine) (e : ℕ) → IsNewAmong (leaves ++ literals_of before) e → IsNewAmong (literals_of before) e
+new_among leaves before e new = (rec_parts (λ d. d / 2 ≢ e / 2) leaves (literals_of before) new).1

@@ -11,7 +11,7 @@ use Rattle.std.proofs.lemmas.List.Elements.{filter_map-append}
 use Rattle.std.proofs.lemmas.List.Folds.{list_any-append}
 use denote.Enum.Bare.{sameb}
 use Rattle.aig_base.proofs.Mapping.{same_test}
-use Rattle.aig_format.specs.File.{NameLine}
+use Rattle.aig_format.specs.File.{NameLine, HeaderNumbers}
 use Rattle.aig_format.specs.Fits.{same_place}
 use Rattle.aig_format.specs.Letters.{count_of, is_kept}
 use Rattle.aig_reader.specs.contracts.names.section.NamedSection.{the_type}
@@ -46,10 +46,10 @@ taken_more names place q name =
 -- ---- positions
 
 -- the name stands within its section
-abbrev pub IsWithin : List ℕ → NameLine → Type 0
+abbrev pub IsWithin : HeaderNumbers → NameLine → Type 0
 IsWithin ns n = n.position < count_of ns n.letter
 
-pub within_more : (ns : List ℕ) (names : List NameLine) (n : NameLine) → AllByRecursion (IsWithin ns) names → IsWithin ns n → AllByRecursion (IsWithin ns) (names ++ n ∷ [])
+pub within_more : (ns : HeaderNumbers) (names : List NameLine) (n : NameLine) → AllByRecursion (IsWithin ns) names → IsWithin ns n → AllByRecursion (IsWithin ns) (names ++ n ∷ [])
 within_more ns [] n h k = (k, tt)
 within_more ns (m ∷ names) n h k = (h.0, within_more ns names n h.1 k)
 
@@ -77,7 +77,7 @@ kept_by_node inputs leaves l n name = go (eqb l 105) (eqb l 108)
     go false true = refl
     go false false = refl
 
-module _ (ns inputs leaves : List ℕ) (all_inputs : length inputs ≡ slice_index ns 1) (all_leaves : length leaves ≡ slice_index ns 2) (distinct : AllPairs (λ m n. m ≢ n) (inputs ++ leaves)) where
+module _ (ns : HeaderNumbers) (inputs leaves : List ℕ) (all_inputs : length inputs ≡ ns.inputs) (all_leaves : length leaves ≡ ns.latches) (distinct : AllPairs (λ m n. m ≢ n) (inputs ++ leaves)) where
   -- where the node of a place stands among all nodes of inputs and latches
   record Stands (l n node : ℕ) : Type 0 where
     at : ℕ
@@ -93,7 +93,7 @@ module _ (ns inputs leaves : List ℕ) (all_inputs : length inputs ≡ slice_ind
 
       go : (i j : Bool) → eqb l 105 ≡ i → eqb l 108 ≡ j → cond i (Some (slice_index inputs n)) (cond j (Some (slice_index leaves n)) None) ≡ Some node → Stands l n node
       go true j is _ e =
-          let small : n < slice_index ns 1 = within 105 (eqb-true l 105 is) in
+          let small : n < ns.inputs = within 105 (eqb-true l 105 is) in
           let inside : n < length inputs = omega arith in
           record {
             at = n;
@@ -102,7 +102,7 @@ module _ (ns inputs leaves : List ℕ) (all_inputs : length inputs ≡ slice_ind
             place = inl (eqb-true l 105 is, refl, inside);
           }
       go false true _ is e =
-          let small : n < slice_index ns 2 = within 108 (eqb-true l 108 is) in
+          let small : n < ns.latches = within 108 (eqb-true l 108 is) in
           record {
             at = length inputs + n;
             inside = omega (arith, length-append inputs leaves);

@@ -24,3 +24,4 @@ pub mod Tails
 pub mod KeptNames
 pub mod NameFaults
 pub mod SoFar
+pub mod Reading

@@ -3,7 +3,7 @@ use Rattle.std.proofs.Common.{◌≡◌, ℕ, Bool, true, false, not, ◌&&◌, 
 use Rattle.std.specs.Str.{is_utf8}
 use Rattle.std.specs.List.{list_any}
 use Rattle.std.specs.Io.KnownBytes.{Consumes}
-use Rattle.aig_format.specs.File.{NameLine}
+use Rattle.aig_format.specs.File.{NameLine, HeaderNumbers}
 use Rattle.aig_format.specs.Fits.{same_place}
 use Rattle.aig_format.specs.Spells.{is_letter}
 use Rattle.aig_parsing.specs.Front.{◌>>=◌, tested_at, text_at, name_at, name_from}
@@ -23,7 +23,7 @@ abbrev pub is_taken : List NameLine → ℕ → ℕ → Bool
 is_taken names letter position = list_any (λ m. same_place m (name_line letter position [])) names
 
 -- a position within the section of this letter, whose first byte came before
-abbrev pub place_at : List ℕ → ℕ → ℕ → List ℕ → Option (ℕ × List ℕ)
+abbrev pub place_at : HeaderNumbers → ℕ → ℕ → List ℕ → Option (ℕ × List ℕ)
 place_at ns letter first = tested_at (position_at first) (λ n. ltb n (count_of ns letter))
 
 -- a name that is UTF-8 if it is kept
@@ -65,7 +65,7 @@ with_letter l b bs is = rw is (named_place l (position_at b bs))
 
 -- ---- with them
 
-module _ (ns : List ℕ) (names : List NameLine) where
+module _ (ns : HeaderNumbers) (names : List NameLine) where
   -- a name line that passes its tests
   abbrev pub line_at : List ℕ → Option (NameLine × List ℕ)
   line_at = tested_at name_at (tests_name ns names)

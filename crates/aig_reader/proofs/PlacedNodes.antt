@@ -1,15 +1,18 @@
 -- The nodes of a file, as its gates are read.
-use Rattle.std.proofs.Common.{◌≡◌, ◌≢◌, ℕ, zero, suc, ◌+◌, ◌/◌, ◌<◌, ◌≤◌, Bool, true, false, cond, eqb, List, [], ◌∷◌, ◌++◌, set, find, Option, Some, None, refl, ap, ◌∙◌, arith}
+use Rattle.std.proofs.Common.{◌≡◌, ◌≢◌, ℕ, zero, suc, ◌+◌, ◌/◌, ◌<◌, ◌≤◌, Bool, true, false, cond, eqb, List, [], ◌∷◌, ◌++◌, length, set, find, Option, Some, None, refl, sym, ap, subst, ◌∙◌, length-append, arith}
+use Rattle.std.specs.List.{AllByRecursion}
+use Rattle.std.proofs.Math.ListN.{length-set}
 use Rattle.std.proofs.lemmas.Bool.{ne_eqb, eq-eqb}
 use Rattle.std.proofs.lemmas.List.Folds.{find-append}
 use Rattle.aig_circuit.specs.declared.node.AigNode.{AigNode}
+use Rattle.aig_circuit.specs.declared.node.AigNodeType.{AigNodeType}
 use Rattle.aig_circuit.specs.declared.node.AigNodeType.TheVariants.{False, Leaf}
 use Rattle.aig_circuit.specs.Node.{and_of}
 use Rattle.aig_format.specs.File.{GateLine}
-use Rattle.aig_format.proofs.Entries.{rec_unmap, rec_weaker}
+use Rattle.aig_format.proofs.Entries.{rec_append, rec_unmap, rec_weaker}
 use Rattle.aig_format.proofs.Searches.{find_none}
 use Rattle.aig_ordering.specs.Lists.{edge_from, kind_by, kind_from, node_from, nodes_in_row, nodes_of}
-use Rattle.aig_reader.specs.Gates.{gate_node_of, literals_of}
+use Rattle.aig_reader.specs.Gates.{AreFirstNodes, gate_node_of, literals_of}
 use Rattle.aig_reader.specs.Variables.{IsNewAmong}
 
 -- one more node
@@ -18,14 +21,6 @@ nodes_push f zero v = let e : v ≡ v + 0 = omega arith in ap (λ (w : ℕ). nod
 nodes_push f (suc n) v =
     let e : v + 1 + n ≡ v + suc n = omega arith in
     ap (λ (xs : List AigNode). node_from f v ∷ xs) (nodes_push f n (v + 1) ∙ ap (λ (w : ℕ). nodes_in_row f n (v + 1) ++ node_from f w ∷ []) e)
-
--- a further leaf
-pub leaves_push : (i : ℕ) → nodes_in_row [] (i + 1 + 1) 0 ≡ nodes_in_row [] (i + 1) 0 ++ record { node_id = i + 1; typ = Leaf } ∷ []
-leaves_push i =
-    let n : i + 1 + 1 ≡ suc (i + 1) = omega arith in
-    let z : 0 + (i + 1) ≡ i + 1 = omega arith in
-    let ne : i + 1 ≢ 0 = omega arith in
-    rw (n, nodes_push [] (i + 1) 0, z, ne_eqb (i + 1) 0 ne) refl
 
 -- ---- a gate behind others
 
@@ -50,7 +45,14 @@ module _ (gates : List GateLine) (g : GateLine) where
   same_kind : (n : ℕ) → g.lhs / 2 ≢ n → kind_from (gates ++ g ∷ []) n ≡ kind_from gates n
   same_kind n ne = ap (λ (o : Option GateLine). cond (eqb n 0) False (kind_by o)) (find_other gates g n (ne_eqb (g.lhs / 2) n ne))
 
-  -- nodes behind that of the gate stay
+  -- nodes before that of the gate stay
+  same_before : (n v : ℕ) → v + n ≤ g.lhs / 2 → nodes_in_row (gates ++ g ∷ []) n v ≡ nodes_in_row gates n v
+  same_before zero v le = refl
+  same_before (suc n) v le =
+      let ne : g.lhs / 2 ≢ v = omega arith in
+      rw (same_kind v ne, same_before n (v + 1) (omega arith)) refl
+
+  -- nodes behind it stay
   same_behind : (n v : ℕ) → g.lhs / 2 < v → nodes_in_row (gates ++ g ∷ []) n v ≡ nodes_in_row gates n v
   same_behind zero v lt = refl
   same_behind (suc n) v lt =
@@ -68,10 +70,64 @@ module _ (gates : List GateLine) (g : GateLine) where
       let ne : g.lhs / 2 ≢ v = omega arith in
       rw (same_kind v ne, sets_gate n (v + 1) k (omega arith) (omega arith) is) refl
 
--- a gate whose variable is new takes the place of a leaf
-pub places_gate : (greatest : ℕ) (gates : List GateLine) (g : GateLine) → 2 ≤ g.lhs → g.lhs / 2 < greatest + 1 → IsNewAmong (literals_of gates) g.lhs
-    → set (nodes_of greatest gates) (g.lhs / 2) (gate_node_of g) ≡ nodes_of greatest (gates ++ g ∷ [])
-places_gate greatest gates g some high new =
-    let found = find_new gates g (g.lhs / 2) (none_at gates g.lhs new) (eq-eqb (g.lhs / 2) (g.lhs / 2) refl) in
-    let positive : g.lhs / 2 ≢ 0 = omega arith in
-    sets_gate gates g (greatest + 1) 0 (g.lhs / 2) high (omega arith) (rw (ne_eqb (g.lhs / 2) 0 positive, found) refl)
+-- ---- the nodes so far
+
+-- the nodes up to the greatest are all
+pub first_all : (greatest : ℕ) (gates : List GateLine) (nodes : List AigNode) → AreFirstNodes gates nodes → length nodes ≡ greatest + 1 → nodes ≡ nodes_of greatest gates
+first_all greatest gates nodes h all = h.placed ∙ ap (λ (n : ℕ). nodes_in_row gates n 0) all
+
+-- one more node is that of the number behind them
+placed_push : (gates : List GateLine) (nodes : List AigNode) (node : AigNode) → nodes ≡ nodes_in_row gates (length nodes) 0 → node ≡ node_from gates (length nodes) → nodes ++ node ∷ [] ≡ nodes_in_row gates (length (nodes ++ node ∷ [])) 0
+placed_push gates nodes node placed is =
+    let n = length nodes in
+    let size : suc n ≡ length (nodes ++ node ∷ []) = omega (arith, length-append nodes (node ∷ [])) in
+    let here : n ≡ 0 + n = omega arith in
+    ap (λ (ns : List AigNode). ns ++ node ∷ []) placed ∙ ap (λ (m : AigNode). nodes_in_row gates n 0 ++ m ∷ []) (is ∙ ap (node_from gates) here) ∙ sym (nodes_push gates n 0) ∙ ap (λ (m : ℕ). nodes_in_row gates m 0) size
+
+-- gates within these nodes are within more of them
+within_more : (gates : List GateLine) (m n : ℕ) → m ≤ n → AllByRecursion (λ g. g.lhs / 2 < m) gates → AllByRecursion (λ g. g.lhs / 2 < n) gates
+within_more gates m n le h = rec_weaker (λ (g : GateLine). g.lhs / 2 < m) (λ g. g.lhs / 2 < n) (λ g lt. omega (arith, lt, le)) gates h
+
+-- a leaf behind them
+pub first_leaf : (gates : List GateLine) (nodes : List AigNode) (node : AigNode) → AreFirstNodes gates nodes → node ≡ record { node_id = length nodes; typ = Leaf } → AreFirstNodes gates (nodes ++ node ∷ [])
+first_leaf gates nodes node h is =
+    let n = length nodes in
+    let size : length (nodes ++ node ∷ []) ≡ n + 1 = length-append nodes (node ∷ []) in
+    let some : n ≢ 0 = let s = h.some in omega arith in
+    let none : find (is_at n) gates ≡ None =
+    find_none (is_at n) gates (rec_weaker (λ (g : GateLine). g.lhs / 2 < n) (λ g. is_at n g ≡ false) (λ g lt. let ne : g.lhs / 2 ≢ n = omega arith in ne_eqb (g.lhs / 2) n ne) gates h.within) in
+    let kind : kind_from gates n ≡ Leaf = rw (ne_eqb n 0 some, none) refl in
+    record {
+      some = omega (arith, size);
+      placed = placed_push gates nodes node h.placed (is ∙ ap (λ (k : AigNodeType). record { node_id = n; typ = k }) (sym kind));
+      within = within_more gates n (length (nodes ++ node ∷ [])) (omega (arith, size)) h.within;
+    }
+
+-- a gate whose variable is new behind them, or in the place of a leaf
+module _ (gates : List GateLine) (nodes : List AigNode) (g : GateLine) (h : AreFirstNodes gates nodes) (own : 2 ≤ g.lhs) (new : IsNewAmong (literals_of gates) g.lhs) where
+  kind_here : kind_from (gates ++ g ∷ []) (g.lhs / 2) ≡ and_of (edge_from g.rhs0) (edge_from g.rhs1)
+  kind_here =
+      let found = find_new gates g (g.lhs / 2) (none_at gates g.lhs new) (eq-eqb (g.lhs / 2) (g.lhs / 2) refl) in
+      let positive : g.lhs / 2 ≢ 0 = omega arith in
+      rw (ne_eqb (g.lhs / 2) 0 positive, found) refl
+
+  pub first_gate_behind : g.lhs / 2 ≡ length nodes → AreFirstNodes (gates ++ g ∷ []) (nodes ++ gate_node_of g ∷ [])
+  first_gate_behind at =
+      let all = nodes ++ gate_node_of g ∷ [] in
+      let size : length all ≡ length nodes + 1 = length-append nodes (gate_node_of g ∷ []) in
+      let node : gate_node_of g ≡ node_from (gates ++ g ∷ []) (length nodes) = rw (← at, kind_here) refl in
+      record {
+        some = omega (arith, size);
+        placed = placed_push (gates ++ g ∷ []) nodes (gate_node_of g) (h.placed ∙ sym (same_before gates g (length nodes) 0 (omega arith))) node;
+        within = (rec_append (λ (k : GateLine). k.lhs / 2 < length all) gates (g ∷ [])).1 (within_more gates (length nodes) (length all) (omega (arith, size)) h.within, (omega (arith, size, at), tt));
+      }
+
+  pub first_gate_set : g.lhs / 2 < length nodes → AreFirstNodes (gates ++ g ∷ []) (set nodes (g.lhs / 2) (gate_node_of g))
+  first_gate_set low =
+      let all = set nodes (g.lhs / 2) (gate_node_of g) in
+      let size : length all ≡ length nodes = length-set nodes (g.lhs / 2) (gate_node_of g) in
+      record {
+        some = subst (λ (n : ℕ). 0 < n) (sym size) h.some;
+        placed = ap (λ (ns : List AigNode). set ns (g.lhs / 2) (gate_node_of g)) h.placed ∙ sets_gate gates g (length nodes) 0 (g.lhs / 2) low (omega arith) kind_here ∙ ap (λ (n : ℕ). nodes_in_row (gates ++ g ∷ []) n 0) (sym size);
+        within = subst (λ (n : ℕ). AllByRecursion (λ k. k.lhs / 2 < n) (gates ++ g ∷ [])) (sym size) ((rec_append (λ (k : GateLine). k.lhs / 2 < length nodes) gates (g ∷ [])).1 (h.within, (low, tt)));
+      }

@@ -1,6 +1,7 @@
 -- What reading the names gave.
 use Rattle.std.proofs.Common.{◌≡◌, ◌≢◌, ℕ, List, [], Option, Some, None, Result, Ok, Err, IfSome, IfOk, OnOk, refl, subst}
 use Rattle.std.specs.Io.KnownBytes.{Consumes}
+use Rattle.aig_format.specs.File.{HeaderNumbers}
 use Rattle.aig_parsing.specs.Fitting.{fitting_tail_at}
 use Rattle.aig_reader.specs.declared.names.error.NameError.{NameError}
 use Rattle.aig_reader.specs.declared.names.error.NameError.TheVariants as name
@@ -49,6 +50,6 @@ names_fault lines result e is was same =
     let k = err_in name_error_of lines result e is was in
     subst IsNamesFault same (subst IsNamesFault k.2 (is_names_fault k.0))
 
-pub no_names_left : (ns : List ℕ) → tail_of ns [] ≡ Some []
+pub no_names_left : (ns : HeaderNumbers) → tail_of ns [] ≡ Some []
 unfolding fitting_tail_at
 no_names_left ns = refl

@@ -1,12 +1,12 @@
 -- What is known of the names that were read.
 use Rattle.std.proofs.Common.{◌≡◌, ◌≢◌, ℕ, ◌<◌, Bool, true, false, cond, ltb, List, [], ◌∷◌, ◌++◌, length, AllPairs, Option, Some, None, IfSome, nat_cmp, sym, ap, subst, ◌∙◌}
-use Rattle.std.specs.Prelude.{Ok, is_some, slice_index}
+use Rattle.std.specs.Prelude.{Ok, is_some}
 use Rattle.std.specs.Io.KnownBytes.{Consumes}
 use Rattle.std.specs.List.{AllByRecursion}
 use Rattle.std.specs.FinMap.{FinMap}
 use Rattle.std.proofs.lemmas.Bool.{ltb-true}
 use Rattle.std.proofs.lemmas.Option.{cond_some}
-use Rattle.aig_format.specs.File.{NameLine}
+use Rattle.aig_format.specs.File.{NameLine, HeaderNumbers}
 use Rattle.aig_format.specs.Spells.{is_letter}
 use Rattle.aig_parsing.specs.Front.{tested_at, is_comment}
 use Rattle.aig_format.specs.Letters.{count_of, is_kept}
@@ -30,14 +30,14 @@ takes_test {A} p test b a x h =
     ap (λ (y : A × List ℕ). test y.0) (sym e.1) ∙ e.0
 
 -- a place that was read is within its section
-pub takes_within : (ns : List ℕ) (b a : Option (List ℕ)) (letter first n : ℕ) → Takes (place_at ns letter first) b a n → n < count_of ns letter
+pub takes_within : (ns : HeaderNumbers) (b a : Option (List ℕ)) (letter first n : ℕ) → Takes (place_at ns letter first) b a n → n < count_of ns letter
 takes_within ns b a letter first n h = ltb-true n (count_of ns letter) (takes_test _ (λ m. ltb m (count_of ns letter)) b a n h)
 
-pub within_section : (ns : List ℕ) (n letter m : ℕ) → n < count_of ns letter → letter ≡ m → n < count_of ns m
+pub within_section : (ns : HeaderNumbers) (n letter m : ℕ) → n < count_of ns letter → letter ≡ m → n < count_of ns m
 within_section ns n letter m h is = subst (λ k. n < count_of ns k) is h
 
 -- these names were read, and are in the map and the places
-pub record SoFar (ns inputs leaves : List ℕ) (before now : Option (List ℕ)) (has : Place → Bool) (kept : FinMap nat_cmp (List ℕ)) : Type 0 where
+pub record SoFar (ns : HeaderNumbers) (inputs leaves : List ℕ) (before now : Option (List ℕ)) (has : Place → Bool) (kept : FinMap nat_cmp (List ℕ)) : Type 0 where
   pub names : List NameLine
   pub goes : TailGoes ns before names now
   pub all_within : AllByRecursion (IsWithin ns) names
@@ -45,7 +45,7 @@ pub record SoFar (ns inputs leaves : List ℕ) (before now : Option (List ℕ)) 
   pub entries : kept ≡ kept_names inputs leaves names
 
 -- the bytes that were to come are read as no names
-abbrev pub IsRefused : List ℕ → Option (List ℕ) → Type 0
+abbrev pub IsRefused : HeaderNumbers → Option (List ℕ) → Type 0
 IsRefused ns before = IfSome before (λ bytes. tail_of ns bytes ≡ None)
 
 -- the letter of a name and the byte behind it
@@ -60,7 +60,7 @@ start_of_line now mid o section first h is = let k = subst (λ (o : Option (Name
 pub start_of_end : (now mid : Option (List ℕ)) (o : Option (NamedSection × ℕ)) → NameStarts now mid (Ok o) → o ≡ None → (taken : List ℕ) × (is_comment taken ≡ true) × Consumes now mid taken
 start_of_end now mid o h is = subst (λ (o : Option (NamedSection × ℕ)). NameStarts now mid (Ok o)) is h
 
-module _ (ns inputs leaves : List ℕ) (before now : Option (List ℕ)) (has : Place → Bool) (kept : FinMap nat_cmp (List ℕ)) where
+module _ (ns : HeaderNumbers) (inputs leaves : List ℕ) (before now : Option (List ℕ)) (has : Place → Bool) (kept : FinMap nat_cmp (List ℕ)) where
   pub so_far_none : ((q : Place) → has q ≡ false) → kept ≡ kept_names inputs leaves [] → SoFar ns inputs leaves now now has kept
   so_far_none h e = record { names = []; goes = tail_begins ns now; all_within = tt; places = h; entries = e }
 
@@ -93,7 +93,7 @@ module _ (ns inputs leaves : List ℕ) (before now : Option (List ℕ)) (has : P
           line_refused mid l b s f
           (line_without_name ns s.names now rest l place.position (line_with_place ns s.names now mid l b f.is f.taken rest place.position p) (is_at false free) (subst (λ t. Misses (name_text_at t) rest) kept_letter k))
 
-      module _ (all_inputs : length inputs ≡ slice_index ns 1) (all_leaves : length leaves ≡ slice_index ns 2) (distinct : AllPairs (λ m n. m ≢ n) (inputs ++ leaves)) where
+      module _ (all_inputs : length inputs ≡ ns.inputs) (all_leaves : length leaves ≡ ns.latches) (distinct : AllPairs (λ m n. m ≢ n) (inputs ++ leaves)) where
         pub name_read : (later : Option (List ℕ)) (name : List ℕ) (now_has : Place → Bool) (now_kept : FinMap nat_cmp (List ℕ)) → Takes (name_text_at (is_some node)) rest later name
             → ((q : Place) → now_has q ≡ cond (same_spot place q) true (has q)) → now_kept ≡ with_name node name kept → SoFar ns inputs leaves before later now_has now_kept
         name_read later name now_has now_kept k adds keeps =

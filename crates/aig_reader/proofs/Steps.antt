@@ -44,13 +44,13 @@ module _ (header : Header) (x : Parts) (b a : Option (List ℕ)) (taken : Takes 
 
     pub inputs_count : (result : Result Sections ReadError) → Judged (keeps x) (IsCircuitOf (file_by header x)) result → IfOk result (λ sections. vec_len sections.inputs ≡ header.inputs)
     inputs_count (Ok sections) h =
-        let all = ap length (inputs_is (file_by header x) sections h.1) ∙ length-map x.0 (λ e. number_of (file_by header x) (e / 2)) in
+        let all = ap length (inputs_is (file_by header x) sections h.1) ∙ length-map x.inputs (λ e. number_of (file_by header x) (e / 2)) in
         omega (arith, all, counts.inputs, sections.inputs.ok.0)
     inputs_count (Err e) h = tt
 
     pub latchs_count : (result : Result Sections ReadError) → Judged (keeps x) (IsCircuitOf (file_by header x)) result → IfOk result (λ sections. vec_len sections.latchs ≡ header.latches)
     latchs_count (Ok sections) h =
-        let all = ap length (latchs_is (file_by header x) sections h.1) ∙ length-map x.1.0 (latch_of (file_by header x)) in
+        let all = ap length (latchs_is (file_by header x) sections h.1) ∙ length-map x.latches (latch_of (file_by header x)) in
         omega (arith, all, counts.latches, sections.latchs.ok.0)
     latchs_count (Err e) h = tt
 

@@ -4,11 +4,11 @@ use Rattle.std.specs.Io.KnownBytes.{Consumes}
 use Rattle.std.specs.Ordering.{nat_cmp}
 use Rattle.std.specs.FinMap.{FinMap, from_entries}
 use Rattle.aig_format.specs.Letters.{letter_of_inputs, letter_of_latches}
-use Rattle.aig_format.specs.File.{NameLine}
+use Rattle.aig_format.specs.File.{NameLine, HeaderNumbers}
 use Rattle.aig_parsing.specs.Fitting.{fitting_tail_at}
 
 -- the names and the comment behind the gates, by the header's numbers
-abbrev pub tail_of : List ℕ → List ℕ → Option (List NameLine)
+abbrev pub tail_of : HeaderNumbers → List ℕ → Option (List NameLine)
 tail_of ns bytes = fitting_tail_at ns (suc (length bytes)) [] bytes
 
 -- a value that was made of what the bytes up to the end are read as, or a fault that refuses bytes that aren't read

@@ -1,5 +1,9 @@
 -- What the answer of a reading call tells of the bytes.
-use Rattle.std.specs.Prelude.{ℕ, List, ◌↔◌, Result, Ok, Err, IsOk, IsErrOf}
+use Rattle.std.specs.Prelude.{◌≡◌, ℕ, List, ◌↔◌, Option, Result, Ok, Err, IsOk, IsOkAnd, IsErrOf}
+use Rattle.std.specs.Io.KnownBytes.{Consumes}
+use Rattle.aig_circuit.specs.declared.view.CircuitLists.{CircuitLists}
+use Rattle.aig_circuit.specs.View.{lists_circuit}
+use Rattle.aig_format.specs.Circuit.{circuit_of}
 use Rattle.aig_format.specs.File.{File}
 use Rattle.aig_format.specs.Fits.{Accepts, TooMany}
 use Rattle.aig_reader.specs.declared.error.ReadError.{ReadError}
@@ -12,7 +16,25 @@ UnlessInterrupted (Err errors.Stream) P = Unit {0}
 UnlessInterrupted (Err e) P = P
 UnlessInterrupted (Ok x) P = P
 
--- accepted exactly where the bytes spell a file that fits, and TooMany exactly where the header line is good and passes the limit
-pub record ReadsExactly {T : Type 0} (result : Result T ReadError) (bytes : List ℕ) (limit : ℕ) : Type 0 where
-  pub accepted : IsOk result ↔ ((f : File) × Accepts bytes limit f)
+-- the lists are those of the file's circuit
+abbrev pub AreListsOf : File → CircuitLists → Type 0
+AreListsOf f lists = lists_circuit lists ≡ circuit_of f
+
+-- the bytes that were taken are a file of which this holds, and the value is what is meant for that file
+pub record IsOfFile {T : Type 0} (Holds : List ℕ → File → Type 0) (Means : File → T → Type 0) (old new : Option (List ℕ)) (value : T) : Type 0 where
+  pub file : File
+  pub bytes : List ℕ
+  pub holds : Holds bytes file
+  pub means : Means file value
+  pub taken : Consumes old new bytes
+
+-- there is a value exactly where there is a file of which this holds, and it is what is meant for that file
+pub record AnswersFile {T E : Type 0} (Holds : File → Type 0) (Means : File → T → Type 0) (result : Result T E) : Type 0 where
+  pub each : (f : File) → Holds f → IsOkAnd result (Means f)
+  pub only : IsOk result → (f : File) × Holds f
+
+-- there is a value exactly where the bytes are a file that is accepted, and TooMany exactly where the header line is good and passes the
+-- limit
+pub record ReadsExactly {T : Type 0} (Means : File → T → Type 0) (limit : ℕ) (result : Result T ReadError) (bytes : List ℕ) : Type 0 where
+  pub accepted : AnswersFile (Accepts bytes limit) Means result
   pub too_many : IsErrOf result errors.TooMany ↔ TooMany bytes limit

@@ -8,14 +8,14 @@ use Rattle.aig_format.specs.declared.FileKind.TheVariants.{Binary}
 use Rattle.aig_format.specs.File.{File, defined, used}
 use Rattle.aig_format.specs.Fits.{IsDefinable}
 use Rattle.aig_format.specs.Numbering.{is_older}
-use Rattle.aig_parsing.specs.Front.{Parts, file_from}
+use Rattle.aig_parsing.specs.Front.{Parts, file_from, property_parts}
 use Rattle.aig_lexer.specs.declared.header.Header.{Header}
 use Rattle.aig_lexer.specs.Header.{numbers_of}
 use Rattle.aig_ordering.specs.Lists.{latch_from, variable_of}
 use Rattle.aig_ordering.specs.Tables.{AreNodesOf}
 use Rattle.aig_reader.specs.declared.lines.Lines.{Lines}
 use Rattle.aig_reader.specs.declared.sections.Sections.{Sections}
-use Rattle.aig_reader.specs.Properties.{ArePropertiesOf, property_parts}
+use Rattle.aig_reader.specs.Properties.{ArePropertiesOf}
 use Rattle.aig_reader.specs.Variables.{AreDefined, kind_by}
 
 -- the file of a header and these sections, with no names

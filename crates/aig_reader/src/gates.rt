@@ -1,6 +1,6 @@
 //! Gates: in a text file a line each, in a binary file two differences each.
 
-ghost use Rattle.std.specs.Prelude.{◌≡◌, ℕ, ◌+◌, ◌/◌, ◌^◌, ◌<◌, ◌≤◌, ◌&&◌, nat_lt, [], ◌∷◌, ◌++◌, List, length, map, true, vec_len, IfErr, IfOk, IsErrOf};
+ghost use Rattle.std.specs.Prelude.{◌≡◌, ℕ, ◌+◌, ◌/◌, ◌^◌, ◌<◌, ◌≤◌, ◌&&◌, nat_lt, [], ◌∷◌, ◌++◌, List, length, map, true, vec_capacity, IfErr, IfOk, IsErrOf};
 ghost use Rattle.aig_parsing.specs.Fitting.{fitting_gates_at};
 ghost use Rattle.aig_format.specs.declared.FileKind.TheVariants.{Binary};
 ghost use Rattle.aig_format.specs.File.{GateLine};
@@ -16,6 +16,7 @@ ghost use Rattle.aig_reader.specs.Variables.{AreDefined, HasRoom, Tested, kind_b
 
 use crate::edges::{edge_of, edge_within};
 use crate::error::LineError;
+use crate::nodes::{add_leaves, put_gate};
 use crate::variables::Variables;
 use aig_circuit::{AigEdge, AigNode, gate_node};
 use aig_lexer::{ByteFeed, Header, LexError, delta, pair};
@@ -104,10 +105,10 @@ fn gate_line<F: ByteFeed>(
     nodes: &mut Vec<AigNode>,
     order: GateOrder,
 ) -> Result<GateOrder, LineError>
-    requires few { vec_len nodes.old ≤ 2 ^ 31 }
-    requires room { HasRoom (vec_len nodes.old) variables.old 1 }
+    requires few { vec_capacity nodes.old ≤ 2 ^ 31 }
+    requires room { HasRoom (vec_capacity nodes.old) variables.old 1 }
     ensures exact { (greatest : ℕ) (leaves : List ℕ) (before : List GateLine) → AreGates greatest leaves before variables.old nodes.old.items order → Makes OnLine (λ order gate. AreGates greatest leaves (before ++ gate ∷ []) variables.new nodes.new.items order) (F.coming f.old) (F.coming f.new) result (gate_at (kind_by variables.old) greatest leaves before) }
-    ensures len { vec_len nodes.new ≡ vec_len nodes.old }
+    ensures capacity { vec_capacity nodes.new ≡ vec_capacity nodes.old }
     ensures room { IfOk result (λ _. (size k : ℕ) → HasRoom size variables.old (k + 1) → HasRoom size variables.new k) }
     ensures kind { kind_by variables.new ≡ kind_by variables.old }
     ensures stream { IsErrOf result LineError.Stream → F.failed f.new ≡ true }
@@ -117,11 +118,12 @@ fn gate_line<F: ByteFeed>(
     let (rhs0, rhs1) = operands(f, variables, lhs)?;
     let (first, second) = operand_edges(variables, lhs, rhs0, rhs1)?;
     let id = variables.define(lhs)?;
-    nodes[id] = gate_node(id, first, second);
+    put_gate(nodes, gate_node(id, first, second));
     Ok(order.with_gate(lhs, rhs0, rhs1))
 }
 
-/// Reads the gates, defines their variables, and puts them in their places. Answers whether they rise, each above its operands.
+/// Reads the gates, defines their variables, and puts them in their places, with leaves in the others. Answers whether
+/// they rise, each above its operands.
 pub fn read_gates<F: ByteFeed>(
     f: &mut F,
     header: Header,
@@ -129,9 +131,9 @@ pub fn read_gates<F: ByteFeed>(
     nodes: &mut Vec<AigNode>,
 ) -> Result<bool, LineError>
     requires few { header.greatest < 2 ^ 31 }
-    requires nodes { vec_len nodes.old ≡ header.greatest + 1 }
+    requires nodes { vec_capacity nodes.old ≡ header.greatest + 1 }
     requires room { HasRoom (header.greatest + 1) variables.old header.gates }
-    ensures exact { (leaves : List ℕ) → length leaves ≡ header.inputs + header.latches → AreDefined header.greatest variables.old leaves → nodes.old.items ≡ nodes_of header.greatest [] → Makes OnLine (λ kept gates. (nodes.new.items ≡ nodes_of header.greatest gates) × AreDefined header.greatest variables.new (leaves ++ map (λ g. g.lhs) gates) × (kept ≡ are_in_order gates)) (F.coming f.old) (F.coming f.new) result (fitting_gates_at (kind_by variables.old) (numbers_of header) leaves) }
+    ensures exact { (leaves : List ℕ) → length leaves ≡ header.inputs + header.latches → AreDefined header.greatest variables.old leaves → nodes.old.items ≡ nodes_of 0 [] → Makes OnLine (λ kept gates. (nodes.new.items ≡ nodes_of header.greatest gates) × AreDefined header.greatest variables.new (leaves ++ map (λ g. g.lhs) gates) × (kept ≡ are_in_order gates)) (F.coming f.old) (F.coming f.new) result (fitting_gates_at (kind_by variables.old) (numbers_of header) leaves) }
     ensures kind { kind_by variables.new ≡ kind_by variables.old }
     ensures stream { IsErrOf result LineError.Stream → F.failed f.new ≡ true }
     ensures same { F.behind f.new ≡ F.behind f.old }
@@ -143,5 +145,6 @@ pub fn read_gates<F: ByteFeed>(
     for _ in 0..header.gates {
         order = gate_line(f, variables, nodes, order)?;
     }
+    add_leaves(nodes, header.greatest as usize + 1);
     Ok(order.kept)
 }

@@ -12,7 +12,7 @@ use crate::error::{ReadError, Section, gates_result};
 use crate::gates::read_gates;
 use crate::inputs::read_inputs;
 use crate::latches::read_latches;
-use crate::nodes::leaves;
+use crate::nodes::first_node;
 use crate::properties::read_properties;
 use crate::sections::Sections;
 use crate::variables::Variables;
@@ -49,7 +49,7 @@ pub fn read_lines<F: ByteFeed>(alloc: Global, f: &mut F, header: Header) -> Resu
     ensures same { F.behind f.new ≡ F.behind f.old }
 {
     let mut variables = Variables::new(alloc, header.kind, header.greatest);
-    let mut nodes = leaves(alloc, header.greatest)?;
+    let mut nodes = first_node(alloc, header.greatest)?;
     let inputs = read_inputs(alloc, f, header, &mut variables);
     let inputs = Section::Inputs.result_of(inputs)?;
     let latchs = read_latches(alloc, f, header, &mut variables);

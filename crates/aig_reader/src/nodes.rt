@@ -1,20 +1,50 @@
-//! The nodes of a circuit.
+//! The nodes of a circuit, as its gates come.
 
-ghost use Rattle.std.specs.Prelude.{◌≡◌, ◌^◌, ◌<◌, [], IfOk};
+ghost use Rattle.std.specs.Prelude.{◌≡◌, ◌+◌, ◌/◌, ◌<◌, ◌≤◌, [], ◌∷◌, ◌++◌, List, IfOk, vec_capacity, vec_len};
+ghost use Rattle.aig_format.specs.File.{GateLine};
 ghost use Rattle.aig_ordering.specs.Lists.{nodes_of};
+ghost use Rattle.aig_reader.specs.Gates.{AreFirstNodes, gate_node_of, literals_of};
+ghost use Rattle.aig_reader.specs.Variables.{IsNewAmong};
 
 use aig_circuit::{AigNode, false_node, leaf_node};
 use std::alloc::{AllocError, Global};
 
-/// The false node, and a leaf for each variable from 1 to the greatest.
-pub fn leaves(alloc: Global, greatest: u32) -> Result<Vec<AigNode>, AllocError>
-    requires { greatest < 2 ^ 31 }
-    ensures { IfOk result (λ nodes. nodes.items ≡ nodes_of greatest []) }
+/// The node of variable 0, which is false, with room for those of the variables up to the greatest.
+pub fn first_node(alloc: Global, greatest: u32) -> Result<Vec<AigNode>, AllocError>
+    ensures items { IfOk result (λ nodes. nodes.items ≡ nodes_of 0 []) }
+    ensures room { IfOk result (λ nodes. vec_capacity nodes ≡ greatest + 1) }
 {
     let mut nodes = Vec::with_capacity(alloc, greatest as usize + 1)?;
-    nodes.push(false_node())?;
-    for id in 0..greatest as usize {
-        nodes.push(leaf_node(id + 1))?;
-    }
+    nodes.push_reserved(false_node());
     Ok(nodes)
+}
+
+/// Appends leaves until there are so many nodes, for which there is room.
+pub fn add_leaves(nodes: &mut Vec<AigNode>, len: usize)
+    requires { len ≤ vec_capacity nodes.old }
+    ensures exact { (gates : List GateLine) → AreFirstNodes gates nodes.old.items
+        → AreFirstNodes gates nodes.new.items }
+    ensures len { len ≤ vec_len nodes.new }
+    ensures capacity { vec_capacity nodes.new ≡ vec_capacity nodes.old }
+{
+    for id in nodes.len()..len {
+        nodes.push_reserved(leaf_node(id));
+    }
+}
+
+/// Puts a gate in its place, behind leaves where there are no nodes before it yet. There is room for it.
+pub fn put_gate(nodes: &mut Vec<AigNode>, gate: AigNode)
+    requires { gate.node_id < vec_capacity nodes.old }
+    ensures exact { (gates : List GateLine) (g : GateLine) → AreFirstNodes gates nodes.old.items
+        → IsNewAmong (literals_of gates) g.lhs → 2 ≤ g.lhs → gate ≡ gate_node_of g
+        → AreFirstNodes (gates ++ g ∷ []) nodes.new.items }
+    ensures capacity { vec_capacity nodes.new ≡ vec_capacity nodes.old }
+{
+    let id = gate.node_id();
+    add_leaves(nodes, id);
+    if id < nodes.len() {
+        nodes[id] = gate;
+    } else {
+        nodes.push_reserved(gate);
+    }
 }

@@ -1,17 +1,18 @@
 //! The numbers of nodes. Where no variable is missing and the gates rise, each above its operands, a variable is its own number;
 //! else the defined variables are numbered by level and, within a level, in rising order.
 
-ghost use Rattle.std.specs.Prelude.{◌≡◌, ◌&&◌, false, IfErr};
+ghost use Rattle.std.specs.Prelude.{◌≡◌, ◌≤◌, ◌^◌, ◌&&◌, false, length, vec_len, IfErr};
 ghost use Rattle.std.specs.List.{list_all};
 ghost use Rattle.aig_format.specs.Circuit.{circuit_of};
 ghost use Rattle.aig_format.specs.File.{File};
 ghost use Rattle.aig_format.specs.Levels.{has_level};
 ghost use Rattle.aig_format.specs.Numbering.{is_older};
 ghost use Rattle.aig_parsing.specs.Fitting.{keeps_rules, uses_known};
+ghost use Rattle.aig_parsing.specs.Front.{property_parts};
 ghost use Rattle.aig_ordering.specs.Tables.{AreKnownOf, AreNodesOf};
 ghost use Rattle.aig_reader.specs.Faults.{IsNumberFault};
 ghost use Rattle.aig_reader.specs.Numbered.{AreNumberedProperties, AreNumbersOf, IsCircuitOf, Judged, JudgedOrder, have_operands, knows_properties};
-ghost use Rattle.aig_reader.specs.Properties.{ArePropertiesOf, property_parts};
+ghost use Rattle.aig_reader.specs.Properties.{ArePropertiesOf};
 ghost use Rattle.aig_reader.specs.Sections.{AreLinesOf, AreSectionsOf, HasGoodLines};
 
 use crate::error::{ReadError, Section};
@@ -26,13 +27,14 @@ use std::alloc::Global;
 /// The nodes by level, and the number of each variable that is 0 or defined.
 fn number_nodes(
     alloc: Global,
-    old: &[AigNode],
+    old: Vec<AigNode>,
     known: &[bool],
-) -> Result<(Vec<AigNode>, Vec<Option<usize>>), OrderError>
-    requires tables { (f : File) × AreNodesOf f old.now × AreKnownOf f known.now }
-    ensures { (f : File) → HasGoodLines f → AreNodesOf f old.now → AreKnownOf f known.now → is_older f ≡ false → JudgedOrder (list_all (has_level f) f.gates && have_operands f) (λ x. (x.0.items ≡ (circuit_of f).nodes) × AreNumbersOf f x.1.items) result }
+) -> Result<(Vec<AigNode>, Vec<Option<u32>>), OrderError>
+    requires tables { (f : File) × AreNodesOf f old.items × AreKnownOf f known.now }
+    requires few { vec_len old ≤ 2 ^ 32 }
+    ensures { (f : File) → HasGoodLines f → AreNodesOf f old.items → AreKnownOf f known.now → is_older f ≡ false → JudgedOrder (list_all (has_level f) f.gates && have_operands f) (λ x. (x.0.items ≡ (circuit_of f).nodes) × AreNumbersOf f x.1.items) result }
 {
-    let order = order_by_level(alloc, old, known)?;
+    let order = order_by_level(alloc, &old, known)?;
     let numbers = numbers(alloc, &order, old.len())?;
     let nodes = nodes(alloc, &numbers, old, &order)?;
     Ok((nodes, numbers))
@@ -40,7 +42,7 @@ fn number_nodes(
 
 impl Properties {
     /// The lists under the numbers of their variables.
-    fn numbered(&self, alloc: Global, numbers: &[Option<usize>]) -> Result<Properties, ReadError>
+    fn numbered(&self, alloc: Global, numbers: &[Option<u32>]) -> Result<Properties, ReadError>
         ensures exact { (f : File) → AreNumbersOf f numbers.now → ArePropertiesOf self.now (property_parts f) → Judged (knows_properties f) (AreNumberedProperties f) result }
         ensures fault { IfErr result IsNumberFault }
     {
@@ -68,16 +70,23 @@ impl Sections {
     /// The sections with the defined variables by level. `known` tells of each variable whether it is 0 or defined.
     fn by_level(self, alloc: Global, known: &[bool]) -> Result<Sections, ReadError>
         requires tables { (f : File) × AreNodesOf f self.nodes.items × AreKnownOf f known.now }
+        requires few { vec_len self.nodes ≤ 2 ^ 32 }
         ensures exact { (f : File) → HasGoodLines f → AreNodesOf f self.nodes.items → AreKnownOf f known.now → AreSectionsOf self f → is_older f ≡ false → Judged (uses_known f && list_all (has_level f) f.gates) (IsCircuitOf f) result }
         ensures fault { IfErr result IsNumberFault }
     {
-        let nodes = number_nodes(alloc, &self.nodes, known);
+        let Sections {
+            nodes,
+            inputs,
+            latchs: old_latchs,
+            properties,
+        } = self;
+        let nodes = number_nodes(alloc, nodes, known);
         let (nodes, numbers) = Section::Gates.numbered(nodes)?;
-        let inputs = variables(alloc, &numbers, &self.inputs);
+        let inputs = variables(alloc, &numbers, &inputs);
         let inputs = Section::Inputs.numbered(inputs)?;
-        let latchs = latchs(alloc, &numbers, &self.latchs);
+        let latchs = latchs(alloc, &numbers, &old_latchs);
         let latchs = Section::Latches.numbered(latchs)?;
-        let properties = self.properties.numbered(alloc, &numbers)?;
+        let properties = properties.numbered(alloc, &numbers)?;
         Ok(Sections {
             nodes,
             inputs,

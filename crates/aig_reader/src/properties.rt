@@ -1,10 +1,11 @@
 //! The sections between the latches and the gates.
 
 ghost use Rattle.std.specs.Prelude.{◌≡◌, true, IfErr, IsErrOf};
+ghost use Rattle.aig_parsing.specs.Fitting.{fitting_properties_at};
 ghost use Rattle.aig_lexer.specs.Header.{numbers_of};
 ghost use Rattle.aig_lexer.specs.Takes.{Makes};
 ghost use Rattle.aig_reader.specs.Faults.{IsSectionFault, OnRefusal};
-ghost use Rattle.aig_reader.specs.Properties.{ArePropertiesOf, properties_at};
+ghost use Rattle.aig_reader.specs.Properties.{ArePropertiesOf};
 
 use crate::edges::read_edges;
 use crate::error::{ReadError, Section};
@@ -34,7 +35,7 @@ pub fn read_properties<F: ByteFeed>(
     f: &mut F,
     header: Header,
 ) -> Result<Properties, ReadError>
-    ensures exact { Makes OnRefusal ArePropertiesOf (F.coming f.old) (F.coming f.new) result (properties_at (numbers_of header)) }
+    ensures exact { Makes OnRefusal ArePropertiesOf (F.coming f.old) (F.coming f.new) result (fitting_properties_at (numbers_of header)) }
     ensures fault { IfErr result IsSectionFault }
     ensures stream { IsErrOf result ReadError.Stream → F.failed f.new ≡ true }
     ensures same { F.behind f.new ≡ F.behind f.old }

@@ -1,17 +1,14 @@
 //! Reading a file.
 
-ghost use Rattle.std.specs.Prelude.{◌≡◌, ℕ, ◌+◌, ◌^◌, ◌<◌, ◌≤◌, true, false, List, IfErr, IfOk, IfSome, IsErrOf, IsTrue, OnOk, vec_len};
-ghost use Rattle.std.specs.Io.KnownBytes.{Consumes, IsAtEnd};
-ghost use Rattle.aig_circuit.specs.View.{lists_circuit};
+ghost use Rattle.std.specs.Prelude.{◌≡◌, ◌+◌, ◌^◌, ◌<◌, ◌≤◌, true, false, IfErr, IfOk, IfSome, IsErrOf, IsTrue, OnOk, vec_len};
+ghost use Rattle.std.specs.Io.KnownBytes.{IsAtEnd};
 ghost use Rattle.aig_parsing.specs.Fitting.{fitting_sections_at};
 ghost use Rattle.aig_parsing.specs.Front.{is_good};
-ghost use Rattle.aig_format.specs.Circuit.{circuit_of};
-ghost use Rattle.aig_format.specs.File.{File};
 ghost use Rattle.aig_format.specs.Fits.{Accepts};
 ghost use Rattle.aig_lexer.specs.Header.{numbers_of};
 ghost use Rattle.aig_lexer.specs.Takes.{Makes};
 ghost use Rattle.aig_reader.specs.Faults.{IsSectionFault, OnRefusal};
-ghost use Rattle.aig_reader.specs.Reading.{ReadsExactly, UnlessInterrupted};
+ghost use Rattle.aig_reader.specs.Reading.{AreListsOf, IsOfFile, ReadsExactly, UnlessInterrupted};
 ghost use Rattle.aig_reader.specs.Numbered.{IsCircuitOf};
 ghost use Rattle.aig_reader.specs.Sections.{file_by};
 
@@ -32,9 +29,11 @@ pub fn read<R: Source>(alloc: Global, r: &mut R, limit: usize) -> Result<Circuit
     requires some { 1 ≤ limit }
     requires few { limit ≤ 2 ^ 31 }
     // The bytes that were read are a file that is accepted, and the lists are those of its circuit.
-    ensures circuit { IfOk result (λ lists. (f : File) × (bytes : List ℕ) × Accepts bytes limit f × (lists_circuit lists ≡ circuit_of f) × Consumes (R.left r.old) (R.left r.new) bytes) }
-    // Memory and stream aside, accepted exactly where the bytes are such a file, and TooMany exactly where the header line is good and passes the limit.
-    ensures exact { IfSome (R.left r.old) (λ bytes. UnlessInterrupted result (ReadsExactly result bytes limit)) }
+    ensures circuit { IfOk result (IsOfFile (λ bytes. Accepts bytes limit) AreListsOf (R.left r.old) (R.left r.new)) }
+    // Of known bytes, memory and stream aside: where they are a file that is accepted, the lists are those of its
+    // circuit; else there is a refusal, TooMany exactly where the header line is good and passes the limit.
+    ensures exact { IfSome (R.left r.old) (λ bytes.
+        UnlessInterrupted result (ReadsExactly AreListsOf limit result bytes)) }
     // A circuit only where no read failed and the stream was read to its end.
     ensures whole { OnOk result ((R.failed r.new ≡ false) × IsAtEnd (R.left r.new)) }
     // Stream only where a read failed in this call.
@@ -49,8 +48,10 @@ pub fn read<R: Source>(alloc: Global, r: &mut R, limit: usize) -> Result<Circuit
 /// Reads a file, up to the end.
 fn read_file<F: ByteFeed>(alloc: Global, f: &mut F, limit: usize) -> Result<CircuitLists, ReadError>
     requires { limit ≤ 2 ^ 31 }
-    ensures circuit { IfOk result (λ lists. (file : File) × (bytes : List ℕ) × Accepts bytes limit file × (lists_circuit lists ≡ circuit_of file) × Consumes (F.coming f.old) (F.coming f.new) bytes) }
-    ensures exact { IfSome (F.coming f.old) (λ bytes. UnlessInterrupted result (ReadsExactly result bytes limit)) }
+    ensures circuit { IfOk result
+        (IsOfFile (λ bytes. Accepts bytes limit) AreListsOf (F.coming f.old) (F.coming f.new)) }
+    ensures exact { IfSome (F.coming f.old) (λ bytes.
+        UnlessInterrupted result (ReadsExactly AreListsOf limit result bytes)) }
     ensures whole { OnOk result ((F.failed f.new ≡ false) × IsAtEnd (F.coming f.new)) }
     ensures stream { IsErrOf result ReadError.Stream → IsTrue (F.failed f.new) }
     ensures never_open { IsErrOf result ReadError.Open → ⊥ }

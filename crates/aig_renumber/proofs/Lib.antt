@@ -8,3 +8,4 @@ pub mod Order
 pub mod Same
 pub mod Placed
 pub mod Tables
+pub mod Sets

@@ -1,12 +1,11 @@
 -- What it says of the machine that no query up to a step can be satisfied.
 use Rattle.std.proofs.Common.{◌↔◌, ℕ, ◌≤◌, Bool, List, sym, ◌∙◌, arith}
 use Rattle.std.specs.List.{list_any}
-use Rattle.std.proofs.lemmas.Bool.{false≢true}
+use Rattle.std.proofs.lemmas.Bool.{false≢true, false_from_ne_true}
 use Rattle.aig_base.specs.declared.logic.literal.Lit.{Lit}
 use Rattle.aig_circuit.specs.Circuit.{Circuit}
 use Rattle.aig_format.specs.File.{File}
 use Rattle.aig_format.specs.Machine.{IsRun, literal_value}
-use Rattle.aig_unroll.proofs.Others.{false_from}
 use Rattle.aig_runs.specs.Queries.{Asks, IsRefuted, IsSafeTo, IsWitness}
 use Rattle.aig_runs.proofs.Rows.{any_none}
 
@@ -19,7 +18,7 @@ module _ (f : File) (n : ℕ) where
   safe_is : ((k : ℕ) → k ≤ n → ¬ ((run : ℕ → ℕ → Bool) × IsWitness f k run)) ↔ IsSafeTo f n
   safe_is = (
     λ none last t run is start low h constraints.
-        (any_none (literal_value (run t)) f.bads).0 (false_from (list_any (literal_value (run t)) f.bads) (λ bad.
+        (any_none (literal_value (run t)) f.bads).0 (false_from_ne_true (list_any (literal_value (run t)) f.bads) (λ bad.
         none t h (run, record { is_run = run_cut f last t run is low; start = start; constraints = constraints; bad = bad }))),
     λ safe k h w.
         let b = w.1 in

@@ -1,43 +1,22 @@
 -- Nodes whose trees are equal are alike under their images, so the kept nodes merge the others.
-use Rattle.std.proofs.Common.{◌≡◌, ℕ, ◌+◌, ◌*◌, ◌<◌, Bool, true, false, cond, Some, List, length, get_or, refl, sym, ap, subst, ◌∙◌, arith, inl, inr}
+use Rattle.std.proofs.Common.{◌≡◌, ℕ, ◌<◌, Some, List, length, get_or, refl, sym, ap, subst, ◌∙◌, arith, inl, inr}
 use Rattle.std.proofs.lemmas.Bool.{false≢true}
 use Rattle.aig_circuit.specs.declared.edge.AigEdge.{AigEdge}
 use Rattle.aig_circuit.specs.declared.node.AigNodeType.{AigNodeType}
 use Rattle.aig_circuit.specs.declared.node.AigNodeType.TheVariants.{False, Leaf, And}
 use Rattle.aig_circuit.specs.declared.node.AigNode.{AigNode}
-use Rattle.aig_circuit.specs.Edge.{edge_to, literal_of}
+use Rattle.aig_circuit.specs.Edge.{edge_to}
 use Rattle.aig_circuit.specs.Node.{kind_at, and_of}
 use Rattle.aig_circuit.specs.Tree.{tree_of, tree_of_kind}
 use Rattle.aig_circuit.specs.Circuit.{AreNodes}
 use Rattle.aig_circuit.specs.Renumber.{renumbered_edge, renumbered_kind}
 use Rattle.aig_circuit.proofs.Building.{and_of-cases}
 use Rattle.aig_circuit.proofs.Trees.{kind_at-there, kind_at-within, tree_of-is}
+use Rattle.aig_circuit.proofs.Edges.{literals-same}
 use Rattle.aig_renumber.proofs.Numbering.{Merges}
 use Rattle.aig_strash.specs.Exchange.{HaveEqualTrees, first_of, image_of, kept_nodes}
 use Rattle.aig_strash.proofs.Equal.{Equal, equal-operands}
 use Rattle.aig_strash.proofs.Firsts.{first-is, first-leaf, first-within, image-0, image-back, image-below, image-place, image-same, image-within, kept-within, kept_at-kept}
-
--- edges with one literal are one
-pub literals-same : (a b : AigEdge) → literal_of a ≡ literal_of b → a ≡ b
-literals-same a b h = by_compl a.compl refl b.compl refl
-  where
-    number : (i j : Bool) → 2 * a.node_id + cond i 1 0 ≡ 2 * b.node_id + cond j 1 0 → a.node_id ≡ b.node_id
-    number true true e = omega arith
-    number true false e = omega arith
-    number false true e = omega arith
-    number false false e = omega arith
-
-    inversion : (i j : Bool) → 2 * a.node_id + cond i 1 0 ≡ 2 * b.node_id + cond j 1 0 → i ≡ j
-    inversion true true e = refl
-    inversion true false e = absurd (omega arith)
-    inversion false true e = absurd (omega arith)
-    inversion false false e = refl
-
-    by_compl : (i : Bool) → a.compl ≡ i → (j : Bool) → b.compl ≡ j → a ≡ b
-    by_compl i is j js =
-        let n = number a.compl b.compl h in
-        let k = inversion a.compl b.compl h in
-        λ t. record { node_id = n t; compl = k t }
 
 -- the and of two edges is that of the edges turned
 pub and_of-turned : (a b : AigEdge) → and_of a b ≡ and_of b a

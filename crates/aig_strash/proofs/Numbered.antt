@@ -17,7 +17,8 @@ use Rattle.aig_circuit.proofs.Trees.{tree_of-and}
 use Rattle.aig_strash.specs.Exchange.{HaveEqualTrees, IsGate, first_of, image_of, is_kept, kept_before, node_numbers}
 use Rattle.aig_strash.specs.Numbering.{gate_literals, operand_literals}
 use Rattle.aig_strash.specs.Tables.{Literals}
-use Rattle.aig_strash.proofs.Alike.{literals-same, nodes-alike, operands-there}
+use Rattle.aig_circuit.proofs.Edges.{literals-same}
+use Rattle.aig_strash.proofs.Alike.{nodes-alike, operands-there}
 use Rattle.aig_strash.proofs.Equal.{Equal, Pairs, equal-ands}
 use Rattle.aig_strash.proofs.Firsts.{first-is, first-twice, first-within, image-apart, image-same, numbers-count, numbers-length}
 use Rattle.aig_strash.proofs.Listing.{counting-place}

@@ -189,10 +189,6 @@ pub values_in-anew : (e : AigEdge) (c : Circuit) (state values others : List Lbo
 values_in-anew e c state values others [] = refl
 values_in-anew e c state values others (inputs ∷ steps) = refl
 
--- a latch's leaf, read off the leaves
-pub leaf-read : (latchs : List AigLatch) (i : ℕ) (d : AigLatch) → i < length latchs → get_or (latch_leaves latchs) i 0 ≡ (get_or latchs i d).input
-leaf-read latchs i d h = get_or-map (λ (latch : AigLatch). latch.input) latchs i d 0 h
-
 -- the same, read off values that are the nodes'
 pub next_state-is : (c : Circuit) → IsCircuit c → (x : ℕ → Lbool) (values : List Lbool) → values ≡ three_values c x → (latchs : List AigLatch) → latchs ≡ c.latchs
     → map (λ (latch : AigLatch). value_by values latch.next) latchs ≡ next_state c x

@@ -14,7 +14,8 @@ use Rattle.aig_circuit.specs.Runs.{is_leaf}
 use Rattle.aig_circuit.proofs.Trees.{kind_at-within}
 use Rattle.aig_unroll.specs.Places.{is_other_leaf, leaves_behind, other_leaves}
 use Rattle.aig_unroll.proofs.Lists.{AllPairs-drop, AllPairs-map}
-use Rattle.aig_unroll.proofs.Others.{kept_all, leaf_kind, number_in}
+use Rattle.aig_circuit.proofs.Counting.{is_leaf-Leaf}
+use Rattle.aig_unroll.proofs.Others.{kept_all, number_in}
 
 -- a node's number
 abbrev number_of : AigNode → ℕ
@@ -83,7 +84,7 @@ module _ (nodes : List AigNode) (are : AreNodes nodes) where
       let within : count + k < length nodes = omega (arith, length-drop count nodes) in
       let at = get_or-drop count nodes k d in
       let number : (get_or (drop count nodes) k d).node_id ≡ count + k = ap number_of at ∙ number_there (count + k) d within in
-      let kind : (get_or nodes (count + k) d).typ ≡ Leaf = leaf_kind _ (ap leaf_test (sym at) ∙ passes) in
+      let kind : (get_or nodes (count + k) d).typ ≡ Leaf = is_leaf-Leaf _ (ap leaf_test (sym at) ∙ passes) in
       let leaf : IsLeaf nodes (count + k) = ap (option_map (λ (x : AigNode). x.typ)) (slice_get-get_or nodes (count + k) d within) ∙ ap Some kind in
       (subst (IsLeaf nodes) (sym number) leaf, omega arith)
 

@@ -3,7 +3,7 @@ use Rattle.std.proofs.Common.{◌≡◌, ◌≢◌, ℕ, suc, ◌+◌, ◌<◌, 
 use Rattle.std.specs.Prelude.{All, Contains, filter, option_map, ◌==◌}
 use Rattle.std.specs.List.{list_any}
 use Rattle.std.proofs.Math.ListN.{length-set}
-use Rattle.std.proofs.lemmas.Bool.{eq-eqb, eqb-true, true≢false}
+use Rattle.std.proofs.lemmas.Bool.{eq-eqb, eqb-true, true≢false, false_from_ne_true}
 use Rattle.std.proofs.lemmas.Option.{same_Some, slice_get-get_or}
 use Rattle.std.proofs.lemmas.List.{append-nil, drop_at, get_or-take, length-take, map-append}
 use Rattle.std.proofs.lemmas.List.Elements.{All-contains, All-filter, All-map, filter_more}
@@ -20,11 +20,11 @@ use Rattle.aig_circuit.specs.Runs.{is_leaf}
 use Rattle.aig_circuit.proofs.Building.{Grows-itself, Grows-leaf, Grows-longer, Grows-then, edge_value-Grows}
 use Rattle.aig_circuit.proofs.Circuits.{latch_leaves-leaves}
 use Rattle.aig_circuit.proofs.Trees.{kind_at-within, node_value-and, node_value-false, node_value-leaf}
+use Rattle.aig_renumber.proofs.Kept.{is_in-back, is_in-there}
 use Rattle.aig_unroll.specs.Places.{is_other_leaf, leaves_behind}
 use Rattle.aig_unroll.specs.Step.{Copies, CopiesBelow, MarksLatches, image_at, image_in, others_among, takes_no_node}
 use Rattle.aig_unroll.specs.Step.Copies.{false_node, latch_leaf, other_leaf, gate}
 use Rattle.aig_unroll.proofs.Added.{behind-are, leaves_behind-more, no_node, number_there}
-use Rattle.aig_unroll.proofs.Others.{false_from, found, found_back}
 
 -- ---- values of images
 
@@ -76,13 +76,6 @@ leaves_behind-leaf count old h are =
     leaves_behind-more count old (with_node old Leaf) h (Grows-leaf old are) ∙ ap (λ ns. leaves_behind count old ++ ns) last
 
 -- ---- one node more
-
--- the and of two edges
-and_first : (a b c d : AigEdge) → And a b ≡ And c d → a ≡ c
-and_first a b c d e = cc
-
-and_second : (a b c d : AigEdge) → And a b ≡ And c d → b ≡ d
-and_second a b c d e = cc
 
 -- no image yet
 pub CopiesBelow-none : (from : Circuit) (old : List AigNode) (images : List AigEdge) → AreNodes old → length images ≡ length from.nodes → CopiesBelow from old old images images 0
@@ -230,7 +223,7 @@ module _ (from : Circuit) (circuit : IsCircuit from) (old mid new : List AigNode
   copies_more count marks (latch_leaf is low image same) =
       let typ = kind_is Leaf is in
       let has : Contains (latch_leaves from.latchs) i = latch_there (list_any (λ m. m == i) (latch_leaves from.latchs)) refl in
-      let any : list_any (λ m. m == node.node_id) (latch_leaves from.latchs) ≡ true = ap (λ n. list_any (λ m. m == n) (latch_leaves from.latchs)) number_is ∙ found (latch_leaves from.latchs) i has in
+      let any : list_any (λ m. m == node.node_id) (latch_leaves from.latchs) ≡ true = ap (λ n. list_any (λ m. m == n) (latch_leaves from.latchs)) number_is ∙ is_in-there (latch_leaves from.latchs) i has in
       let other : is_other_leaf from node ≡ false = ap (λ k. is_other_leaf from (record { node_id = node.node_id; typ = k })) typ ∙ ap not any in
       let none : takes_no_node from node ≡ true = ap (λ k. takes_no_node from (record { node_id = node.node_id; typ = k })) typ ∙ ap (λ b. not (not b)) any in
       follows_more (record {
@@ -241,16 +234,16 @@ module _ (from : Circuit) (circuit : IsCircuit from) (old mid new : List AigNode
       })
     where
       latch_there : (b : Bool) → list_any (λ m. m == i) (latch_leaves from.latchs) ≡ b → Contains (latch_leaves from.latchs) i
-      latch_there true h = found_back (latch_leaves from.latchs) i h
+      latch_there true h = is_in-back (latch_leaves from.latchs) i h
       latch_there false h =
-          let none : ¬ Contains (latch_leaves from.latchs) i = λ has. true≢false (sym (found (latch_leaves from.latchs) i has) ∙ h) in
+          let none : ¬ Contains (latch_leaves from.latchs) i = λ has. true≢false (sym (is_in-there (latch_leaves from.latchs) i has) ∙ h) in
           let inside_before : i < length before = omega arith in
           absurd (omega (arith, marks.others i inside_before none, ap (λ (f : AigEdge). f.node_id) (so_far.rest i (omega arith))))
   copies_more count marks (other_leaf is high image same) =
       let typ = kind_is Leaf is in
       let no_latch : ¬ Contains (latch_leaves from.latchs) i = λ has. absurd (omega (arith, marks.latches i has, high, ap (λ (f : AigEdge). f.node_id) (so_far.rest i (omega arith)))) in
       let any : list_any (λ m. m == node.node_id) (latch_leaves from.latchs) ≡ false =
-      ap (λ n. list_any (λ m. m == n) (latch_leaves from.latchs)) number_is ∙ false_from (list_any (λ m. m == i) (latch_leaves from.latchs)) (λ h. no_latch (found_back (latch_leaves from.latchs) i h)) in
+      ap (λ n. list_any (λ m. m == n) (latch_leaves from.latchs)) number_is ∙ false_from_ne_true (list_any (λ m. m == i) (latch_leaves from.latchs)) (λ h. no_latch (is_in-back (latch_leaves from.latchs) i h)) in
       let other : is_other_leaf from node ≡ true = ap (λ k. is_other_leaf from (record { node_id = node.node_id; typ = k })) typ ∙ ap not any in
       let none : takes_no_node from node ≡ false = ap (λ k. takes_no_node from (record { node_id = node.node_id; typ = k })) typ ∙ ap (λ b. not (not b)) any in
       let leaf_edge = λ (n : ℕ). edge_to n false in

@@ -17,10 +17,11 @@ use Rattle.aig_circuit.specs.Circuit.{Circuit, IsCircuit, IsLeaf, latch_leaves}
 use Rattle.aig_circuit.specs.Runs.{next_edges}
 use Rattle.aig_circuit.proofs.Circuits.{AllPairs-append, latch_leaves-leaves}
 use Rattle.aig_circuit.proofs.Trees.{kind_at-within}
+use Rattle.aig_renumber.proofs.Kept.{is_in-there}
 use Rattle.aig_unroll.specs.Step.{CopiesAll, CopiesBelow, image_at, others_among, takes_no_node}
 use Rattle.aig_unroll.proofs.Added.{no_node, number_there}
 use Rattle.aig_unroll.proofs.Copied.{map_same}
-use Rattle.aig_unroll.proofs.Others.{found, kept_all, number_in}
+use Rattle.aig_unroll.proofs.Others.{kept_all, number_in}
 
 module _ (from : Circuit) (circuit : IsCircuit from) where
   -- false and the latches' leaves
@@ -59,7 +60,7 @@ module _ (from : Circuit) (circuit : IsCircuit from) where
   bare_among q (suc k, h, is) =
       let short : k < length (latch_leaves from.latchs) = omega arith in
       let has : Contains (latch_leaves from.latchs) q = (k, short, is) in
-      among q Leaf (All-contains (IsLeaf from.nodes) (latch_leaves from.latchs) q (latch_leaves-leaves from circuit) has) (ap (λ b. not (not b)) (found (latch_leaves from.latchs) q has))
+      among q Leaf (All-contains (IsLeaf from.nodes) (latch_leaves from.latchs) q (latch_leaves-leaves from circuit) has) (ap (λ b. not (not b)) (is_in-there (latch_leaves from.latchs) q has))
 
   -- there are more of them than latches
   bare_many : 1 + length from.latchs ≤ length (filter (takes_no_node from) from.nodes)

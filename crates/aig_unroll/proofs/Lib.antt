@@ -8,7 +8,6 @@ pub mod NextStep
 pub mod MoreShown
 pub mod MoreSteps
 mod OneStep
-pub mod Copies
 pub mod Copied
 pub mod Table
 pub mod Counted

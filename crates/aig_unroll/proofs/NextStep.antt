@@ -2,7 +2,7 @@
 use Rattle.std.proofs.Common.{◌≡◌, ℕ, zero, suc, ◌+◌, ◌*◌, ◌<◌, ◌≤◌, ◌⊎◌, Bool, true, false, cond, ltb, List, [], ◌∷◌, ◌++◌, length, get_or, refl, sym, ap, subst, ◌∙◌, arith, add-one, inl, inr}
 use Rattle.std.specs.Prelude.{All, Contains, ◌==◌}
 use Rattle.std.specs.List.{AllZip, list_any}
-use Rattle.std.proofs.lemmas.Bool.{cases_lt, le-ltb, lt-ltb}
+use Rattle.std.proofs.lemmas.Bool.{cases_lt, le-ltb, lt-ltb, false_from_ne_true}
 use Rattle.std.proofs.lemmas.Nat.{mul-add-lt}
 use Rattle.std.proofs.lemmas.List.{get_or-append-add, get_or_append_left, get_or_default, length-map}
 use Rattle.std.proofs.lemmas.List.Elements.{All-contains, Contains-get_or}
@@ -13,12 +13,13 @@ use Rattle.aig_circuit.specs.Tree.{edge_value}
 use Rattle.aig_circuit.specs.Circuit.{Circuit, IsCircuit, IsLeaf, latch_leaves}
 use Rattle.aig_circuit.specs.Runs.{IsRun, next_edges}
 use Rattle.aig_renumber.proofs.Places.{place_of-get_or, place_of-within}
+use Rattle.aig_renumber.proofs.Kept.{is_in-back, is_in-there}
 use Rattle.aig_circuit.specs.Renumber.{place_of}
 use Rattle.aig_unroll.specs.Places.{Reads, leaves_behind, other_leaves, place_at}
 use Rattle.aig_unroll.specs.Unroll.{ReadsNext, UnrollsOnce, UnrollsTo}
 use Rattle.aig_unroll.proofs.Added.{others-distinct}
 use Rattle.aig_unroll.proofs.Lists.{all_from_zips, zip_from, zip_mapped, zip_unmapped}
-use Rattle.aig_unroll.proofs.Others.{false_from, found, found_back, others-are, others-have}
+use Rattle.aig_unroll.proofs.Others.{others-are, others-have}
 
 -- ---- values over steps
 
@@ -39,8 +40,8 @@ pub leaf_cases : (c : Circuit) → IsCircuit c → (n : ℕ) → IsLeaf c.nodes 
 leaf_cases c is n leaf = by_test (list_any (λ m. m == n) (latch_leaves c.latchs)) refl
   where
     by_test : (b : Bool) → list_any (λ m. m == n) (latch_leaves c.latchs) ≡ b → Contains (latch_leaves c.latchs) n ⊎ Contains (other_leaves c) n
-    by_test true e = inl (found_back (latch_leaves c.latchs) n e)
-    by_test false e = inr (others-have c is.nodes n leaf (λ has. differ (sym (found (latch_leaves c.latchs) n has) ∙ e)))
+    by_test true e = inl (is_in-back (latch_leaves c.latchs) n e)
+    by_test false e = inr (others-have c is.nodes n leaf (λ has. differ (sym (is_in-there (latch_leaves c.latchs) n has) ∙ e)))
       where
         differ : true ≡ false → ⊥
         differ e = cc
@@ -190,7 +191,7 @@ module _ (c old new : Circuit) (k : ℕ) (is : IsCircuit c) (to : UnrollsTo c k 
   next_values-other y i h =
       let n = get_or others i 0 in
       let no_latch = (others-are c is.nodes i 0 h).1 in
-      let test : list_any (λ m. m == n) leaves ≡ false = false_from (list_any (λ m. m == n) leaves) (λ e. no_latch (found_back leaves n e)) in
+      let test : list_any (λ m. m == n) leaves ≡ false = false_from_ne_true (list_any (λ m. m == n) leaves) (λ e. no_latch (is_in-back leaves n e)) in
       ap (λ b. cond b (edge_value old.nodes y (get_or nexts (place_of leaves n) no_edge)) (y (get_or added (place_of others n) 0))) test
       ∙ ap (λ j. y (get_or added j 0)) (place_of-get_or others i (others-distinct c is.nodes) h)
 
@@ -204,7 +205,7 @@ module _ (c old new : Circuit) (k : ℕ) (is : IsCircuit c) (to : UnrollsTo c k 
       at_latch : (i : ℕ) → i < length leaves → next_values y (get_or leaves i 0) ≡ edge_value old.nodes y (get_or nexts i no_edge)
       at_latch i h =
           let n = get_or leaves i 0 in
-          ap (λ b. cond b (edge_value old.nodes y (get_or nexts (place_of leaves n) no_edge)) (y (get_or added (place_of others n) 0))) (found leaves n (Contains-get_or leaves i 0 h))
+          ap (λ b. cond b (edge_value old.nodes y (get_or nexts (place_of leaves n) no_edge)) (y (get_or added (place_of others n) 0))) (is_in-there leaves n (Contains-get_or leaves i 0 h))
           ∙ ap (λ j. edge_value old.nodes y (get_or nexts j no_edge)) (place_of-get_or leaves i is.latchs_distinct h)
 
   -- what reads the same values agrees at each leaf

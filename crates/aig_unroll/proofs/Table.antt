@@ -10,6 +10,7 @@ use Rattle.aig_circuit.specs.declared.node.AigLatch.{AigLatch}
 use Rattle.aig_circuit.specs.Edge.{edge_to}
 use Rattle.aig_circuit.specs.Circuit.{Circuit, IsCircuit, latch_leaves}
 use Rattle.aig_circuit.specs.Runs.{next_edges}
+use Rattle.aig_circuit.proofs.Circuits.{leaf-read}
 use Rattle.aig_unroll.specs.Step.{HasLatchImages, MarksLatches, image_at, image_in}
 use Rattle.aig_unroll.specs.Unroll.{starts_of}
 
@@ -26,14 +27,11 @@ HasLatchImages-more latchs current i unset images d e within inside there distin
           get_or-set_other images leaf n next (edge_to 0 false) ne ∙ so_far.rest n (omega (arith, length-set images leaf next)) (λ k f h. none k f (omega arith));
     }
   where
-    leaf_at : (k : ℕ) (f : AigLatch) → k < length latchs → get_or (latch_leaves latchs) k 0 ≡ (get_or latchs k f).input
-    leaf_at k f h = get_or-map (λ (l : AigLatch). l.input) latchs k f 0 h
-
     each : (k : ℕ) (f g : AigLatch) → k < i + 1 → (k < i) ⊎ (i ≤ k) → image_at (set images (get_or latchs i d).input (get_or current i e).next) (get_or latchs k f).input ≡ (get_or current k g).next
     each k f g h (inl early) =
         let short : k < length latchs = omega arith in
         let last : i < length (latch_leaves latchs) = omega (arith, length-map latchs (λ (l : AigLatch). l.input)) in
-        let ne : (get_or latchs k f).input ≢ (get_or latchs i d).input = λ q. distinct k i 0 early last (leaf_at k f short ∙ q ∙ sym (leaf_at i d within)) in
+        let ne : (get_or latchs k f).input ≢ (get_or latchs i d).input = λ q. distinct k i 0 early last (leaf-read latchs k f short ∙ q ∙ sym (leaf-read latchs i d within)) in
         get_or-set_other images (get_or latchs i d).input (get_or latchs k f).input (get_or current i e).next (edge_to 0 false) ne ∙ so_far.each k f g early
     each k f g h (inr late) =
         let same : i ≡ k = omega arith in

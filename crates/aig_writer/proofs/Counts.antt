@@ -10,7 +10,7 @@ use Rattle.aig_circuit.specs.declared.node.AigNodeType.{AigNodeType}
 use Rattle.aig_circuit.specs.declared.node.AigNodeType.TheVariants.{False, Leaf, And}
 use Rattle.aig_circuit.specs.Node.{IsAnd}
 use Rattle.aig_format.specs.File.{GateLine, File, header_of}
-use Rattle.aig_format.specs.Spells.{magic}
+use Rattle.aig_format.specs.Spells.{magic, numbers_in}
 use Rattle.aig_format.specs.Circuit.{gate_line}
 use Rattle.std.proofs.lemmas.List.{take_more}
 use Rattle.std.proofs.lemmas.Bool.Decides.{nat_tests}
@@ -80,7 +80,7 @@ take-five m i l o a rest k h =
     (let five : 5 + k ≡ suc (suc (suc (suc (suc k)))) = omega arith in ap (λ n. take n (m ∷ i ∷ l ∷ o ∷ a ∷ rest)) five)
     ∙ ap (λ ns. m ∷ i ∷ l ∷ o ∷ a ∷ ns) h
 
-pub header_text : (f : File) (k : ℕ) (numbers : List ℕ) → numbers ≡ header_of f → take k (take 4 (drop 5 numbers)) ≡ shortened (take 4 (drop 5 numbers))
+pub header_text : (f : File) (k : ℕ) (numbers : List ℕ) → numbers ≡ numbers_in (header_of f) → take k (take 4 (drop 5 numbers)) ≡ shortened (take 4 (drop 5 numbers))
     → header_line_of f ≡ magic f.kind ++ line_of (take (5 + k) numbers)
 header_text f k numbers same h =
     ap (λ ns. magic f.kind ++ line_of ns) (sym (take-five f.greatest (length f.inputs) (length f.latches) (length f.outputs) (length f.gates) _ k (rw same at h)) ∙ ap (take (5 + k)) (sym same))

@@ -5,7 +5,7 @@ use Rattle.std.specs.List.{enumerate_from, flat_map}
 use Rattle.std.proofs.lemmas.List.FromFn.{get_or-enumerate_from}
 use Rattle.std.specs.FinMap.{get}
 use Rattle.std.proofs.lemmas.List.Concat.{flat_map-append}
-use Rattle.std.proofs.lemmas.List.{get_or-map, length-map}
+use Rattle.std.proofs.lemmas.List.{length-map}
 use Rattle.aig_circuit.specs.declared.node.AigLatch.{AigLatch}
 use Rattle.aig_circuit.specs.Circuit.{Circuit, latch_leaves}
 use Rattle.aig_format.specs.declared.FileKind.TheVariants.{Text}
@@ -42,9 +42,6 @@ name_lines-places letter position (n ∷ ns) name =
 
 pub length-leaves : (latchs : List AigLatch) → length (latch_leaves latchs) ≡ length latchs
 length-leaves latchs = length-map latchs (λ (latch : AigLatch). latch.input)
-
-pub leaf_at : (latchs : List AigLatch) (i : ℕ) (d : AigLatch) → i < length latchs → get_or (latch_leaves latchs) i 0 ≡ (get_or latchs i d).input
-leaf_at latchs i d h = get_or-map (λ (latch : AigLatch). latch.input) latchs i d 0 h
 
 abbrev pub input_name_lines : Circuit → List ℕ
 input_name_lines c = flat_map name_of (name_lines 105 0 c.inputs (get c.names))

@@ -1,8 +1,7 @@
 -- The file of a circuit whose nodes are written under other numbers.
-use Rattle.std.proofs.Common.{◌≡◌, ℕ, ◌+◌, ◌-◌, ◌*◌, ◌<◌, ◌≤◌, ◌^◌, zero, suc, Bool, true, false, cond, Option, Some, None, List, [], ◌∷◌, ◌++◌, length, map, get_or, refl, sym, ap, subst, ◌∙◌, arith, length-append}
-use Rattle.std.specs.Prelude.{All, nat_lt, option_map, filter_map, slice_get, option_to_list}
-use Rattle.std.specs.Ordering.{nat_cmp}
-use Rattle.std.specs.FinMap.{FinMap, get, entries, get-entries, get-from_entries}
+use Rattle.std.proofs.Common.{◌≡◌, ℕ, ◌+◌, ◌-◌, ◌*◌, ◌<◌, ◌≤◌, ◌^◌, suc, Bool, true, false, cond, Option, Some, None, List, [], ◌∷◌, ◌++◌, length, map, get_or, refl, sym, ap, subst, ◌∙◌, arith, length-append}
+use Rattle.std.specs.Prelude.{All, nat_lt, option_map, filter_map, option_to_list}
+use Rattle.std.specs.FinMap.{get, entries, get-entries, get-from_entries}
 use Rattle.std.specs.List.{cons_option}
 use Rattle.std.proofs.lemmas.Bool.Decides.{nat_tests}
 use Rattle.std.proofs.lemmas.Cmp.{nat_cmp_total}
@@ -18,12 +17,11 @@ use Rattle.aig_circuit.specs.Edge.{edge_to, literal_of}
 use Rattle.aig_circuit.specs.Node.{kind_at, and_of}
 use Rattle.aig_circuit.specs.Circuit.{Circuit, IsCircuit, IsClosed, IsLeaf, IsLatch, latch_leaves}
 use Rattle.aig_circuit.specs.Reencode.{gate_number, new_number, order_of, reencoded}
-use Rattle.aig_circuit.specs.Renumber.{nodes_in_order, renumbered_circuit, renumbered_edge, renumbered_kind, renumbered_latch, renumbered_names}
+use Rattle.aig_circuit.specs.Renumber.{nodes_in_order, renumbered_circuit, renumbered_edge, renumbered_kind, renumbered_latch}
 use Rattle.aig_circuit.proofs.Trees.{kind_at-within}
-use Rattle.aig_circuit.proofs.Circuits.{AreLeaves-of_circuit}
 use Rattle.aig_format.specs.declared.FileKind.{FileKind}
 use Rattle.aig_format.specs.declared.FileKind.TheVariants.{Binary}
-use Rattle.aig_format.specs.File.{File, header_of, GateLine, NameLine}
+use Rattle.aig_format.specs.File.{GateLine, NameLine}
 use Rattle.aig_format.specs.Written.{header_line_of}
 use Rattle.aig_format.specs.Circuit.{file_of, gate_line, latch_line, name_lines}
 use Rattle.aig_renumber.proofs.Agreeing.{circuits-agree}

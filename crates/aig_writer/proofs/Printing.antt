@@ -14,6 +14,7 @@ use Rattle.aig_circuit.specs.declared.node.AigNode.{AigNode}
 use Rattle.aig_circuit.specs.Edge.{literal_of}
 use Rattle.aig_format.specs.declared.FileKind.TheVariants.{Text}
 use Rattle.aig_format.specs.File.{File, header_of}
+use Rattle.aig_format.specs.Spells.{numbers_in}
 use Rattle.aig_format.specs.Written.{line_of}
 use Rattle.aig_writer.proofs.Items.{gate_text}
 
@@ -65,7 +66,7 @@ line_of-last (n ∷ m ∷ ns) (suc k) d h =
     ∙ ap (λ l. decimal n ++ (32 ∷ l)) (line_of-last (m ∷ ns) k d (omega arith))
 
 -- some of the numbers of a header are shown
-pub some_shown : (f : File) (k : ℕ) (numbers : List ℕ) → numbers ≡ header_of f → 0 < length (take (5 + k) numbers)
+pub some_shown : (f : File) (k : ℕ) (numbers : List ℕ) → numbers ≡ numbers_in (header_of f) → 0 < length (take (5 + k) numbers)
 some_shown f k numbers same =
     let five : 5 + k ≡ suc (4 + k) = omega arith in
     rw (same, five) (omega arith)

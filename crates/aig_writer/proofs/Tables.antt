@@ -1,13 +1,13 @@
 -- A table of numbers, filled node by node.
-use Rattle.std.proofs.Common.{◌≡◌, ◌≢◌, ℕ, ◌+◌, ◌-◌, ◌<◌, ◌≤◌, List, [], ◌∷◌, ◌++◌, length, take, get_or, replicate, refl, sym, ap, subst, ◌∙◌, arith, inl, inr, length-append}
+use Rattle.std.proofs.Common.{◌≡◌, ◌≢◌, ℕ, ◌+◌, ◌-◌, ◌<◌, List, [], ◌∷◌, ◌++◌, length, take, get_or, refl, sym, ap, subst, ◌∙◌, arith, inl, inr, length-append}
 use Rattle.std.specs.Prelude.{All, AllPairs, Contains, slice_index, slice_set}
 use Rattle.std.proofs.lemmas.Bool.{cases_lt}
 use Rattle.std.proofs.lemmas.Grind.{get_or_default_zero}
 use Rattle.std.proofs.lemmas.List.{get_or-append-add, get_or-set_other, get_or-set_same, get_or-take, length-set, length-take-le, take_more}
-use Rattle.std.proofs.lemmas.List.Elements.{Contains-append_left, Contains-append_right, Contains-append_cases, Contains-get_or}
+use Rattle.std.proofs.lemmas.List.Elements.{Contains-append_left, Contains-append_right, Contains-get_or}
 use Rattle.std.proofs.Math.ListN.{get_or-append}
 use Rattle.std.proofs.Math.Seq.{get_or-append_seam}
-use Rattle.std.specs.Prelude.{filter_map, ◌↔◌, EachIndex}
+use Rattle.std.specs.Prelude.{filter_map, ◌↔◌}
 use Rattle.std.proofs.lemmas.List.{length-map}
 use Rattle.aig_circuit.specs.declared.node.AigLatch.{AigLatch}
 use Rattle.aig_circuit.specs.declared.node.AigNode.{AigNode}
@@ -17,7 +17,7 @@ use Rattle.std.specs.Prelude.{IsTrue}
 use Rattle.std.proofs.lemmas.List.Elements.{All-contains, filter_map-append}
 use Rattle.aig_renumber.proofs.Order.{gates-turn_gate, gates-turn_other}
 use Rattle.aig_circuit.specs.Circuit.{Circuit, IsCircuit, IsClosed, IsLatch, latch_leaves}
-use Rattle.aig_circuit.specs.Reencode.{IsReencoded, gate_number, new_number, order_of}
+use Rattle.aig_circuit.specs.Reencode.{IsReencoded, gate_number, order_of}
 use Rattle.aig_renumber.proofs.Order.{IsGate, Numbers-order, are_gates, length-order, order-distinct, rising_gates}
 use Rattle.aig_renumber.proofs.Places.{AllPairs-weaker}
 use Rattle.aig_circuit.proofs.Trees.{kind_at-within}

@@ -3,7 +3,7 @@
 ghost use Rattle.std.specs.Prelude.{◌≡◌, ◌≤◌, length, take, filter_map};
 ghost use Rattle.aig_circuit.specs.Circuit.{IsCircuit};
 ghost use Rattle.aig_format.specs.File.{header_of};
-ghost use Rattle.aig_format.specs.Spells.{magic};
+ghost use Rattle.aig_format.specs.Spells.{magic, numbers_in};
 ghost use Rattle.aig_format.specs.Written.{shortened, header_line_of};
 ghost use Rattle.aig_format.specs.Circuit.{file_of, gate_line};
 ghost use Rattle.aig_writer.specs.Sinks.{BuffersOrStops};
@@ -31,7 +31,7 @@ fn gate_count(nodes: &[AigNode]) -> usize
 
 /// The numbers of the header: M I L O A B C J F.
 pub(crate) fn header_numbers(circuit: &CircuitView<'_>) -> [usize; 9]
-    ensures value { (kind : FileKind) → result ≡ header_of (file_of kind circuit.now) }
+    ensures value { (kind : FileKind) → result ≡ numbers_in (header_of (file_of kind circuit.now)) }
     ensures circuit { IsCircuit circuit.now }
 {
     [

@@ -109,7 +109,10 @@ fn encodes_what_is_read(rt: HostRuntime) -> Result<(), Fail> {
     let rows: [(&[u8], Result<&str, ReadError>); 24] = [
         (b"aag 0 4294967295 1 0 0\n", Err(ReadError::Header)),
         (b"aag  0 0 0 0 0\n", Err(ReadError::Header)),
-        (b"aag 3 1 0 0 1\n2\n6 2 2\n", Ok("aag 2 1 0 0 1\n2\n4 2 2\n")),
+        (
+            b"aag 3 1 0 0 1\n2\n6 2 2\n",
+            Ok("aag 2 1 0 0 1\n2\n4 2 2\n"),
+        ),
         (b"aag 1 1 0 0 0\n2 \n", syntax(Section::Inputs)),
         (b"aag 1 1 0 0 0\n4294967296\n", syntax(Section::Inputs)),
         (b"aag 2 2 0 0 0\n2\n2\n", literal(Section::Inputs)),

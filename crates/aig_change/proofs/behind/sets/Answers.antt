@@ -1,6 +1,6 @@
 use Rattle.std.specs.Prelude.{All}
 use Rattle.aig_change.specs.Behind.{IsEdgeBelow}
-use Rattle.aig_change.proofs.Copies.{set_read}
+use Rattle.aig_renumber.proofs.Sets.{set_read}
 use Rattle.aig_change.proofs.behind.sets.Goals as goal
 
 pub edges-requires-clause-below : goal.edges-requires-clause-below

@@ -1,6 +1,7 @@
 use Rattle.std.proofs.Common.{◌≡◌, List, ℕ, subst}
+use Rattle.std.proofs.lemmas.Result.{on_ok_weaker}
 use Rattle.aig_cone.specs.Marks.{Visits}
-use Rattle.aig_cone.proofs.Searching.{IsInCone-reached, OnOk-weaker, stacked-start}
+use Rattle.aig_cone.proofs.Searching.{IsInCone-reached, stacked-start}
 use Rattle.aig_cone.proofs.search.mark_cone.Goals as goal
 
 pub follow-requires-clause-stacked : goal.follow-requires-clause-stacked
@@ -12,7 +13,7 @@ pub returns : goal.returns
 returns c =
     let first = subst (λ (stack : List ℕ). Visits c.args.marks.now c.visit.new.marks stack c.visit.new.stack.items (λ k. k ≡ 0)) c.new-stack.ensures.items c.in_ok-visit.ensures in
     let start = stacked-start c.args.marks.now c.visit.new.marks c.visit_all.new.marks c.visit.new.stack.items c.visit_all.new.stack.items c.args.roots.now c.requires.unmarked first c.in_ok-visit_all.ensures in
-    OnOk-weaker c.follow.result _ _
+    on_ok_weaker c.follow.result
     (λ marked n.
     let cone = IsInCone-reached c.args.circuit.now c.args.roots.now c.visit_all.new.stack.items c.requires.circuit (λ k. (start k).1) n in
     let reached = marked n in

@@ -1,8 +1,9 @@
 use Rattle.std.proofs.Common.{List, subst, arith}
+use Rattle.std.proofs.lemmas.Result.{on_ok_weaker}
 use Rattle.aig_circuit.specs.declared.node.AigNode.{AigNode}
 use Rattle.aig_circuit.specs.Reach.{IsOperand}
 use Rattle.aig_cone.specs.Marks.{Visits}
-use Rattle.aig_cone.proofs.Searching.{OnOk-weaker, Visits-before, next_within}
+use Rattle.aig_cone.proofs.Searching.{Visits-before, next_within}
 use Rattle.aig_cone.proofs.search.visit_before.Goals as goal
 
 pub visit_next-requires-clause-within : goal.visit_next-requires-clause-within
@@ -10,7 +11,7 @@ visit_next-requires-clause-within c m h = omega (arith, next_within c.args.circu
 
 pub returns : goal.returns
 returns c =
-    OnOk-weaker c.visit_next.result _ _
+    on_ok_weaker c.visit_next.result
     (Visits-before c.args.circuit.now c.args.next_states.now c.requires.table c.args.id c.args.marks.now c.visit_operands.new.marks c.visit_next.new.marks c.args.stack.now.items c.visit_operands.new.stack.items c.visit_next.new.stack.items
     (subst (λ (nodes : List AigNode). Visits c.args.marks.now c.visit_operands.new.marks c.args.stack.now.items c.visit_operands.new.stack.items (IsOperand nodes c.args.id)) c.nodes.ensures.value c.in_ok-visit_operands.ensures))
     c.visit_next.ensures

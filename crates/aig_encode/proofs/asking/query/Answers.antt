@@ -33,7 +33,7 @@ pub returns-clause-answer : goal.returns-clause-answer
 returns-clause-answer g c =
     let o = c.in_ok-encoded.ensures.answer in
     let q : Query = record { encoded = c.in_ok-encoded.encoded; extra = c.in_ok-extra.extra } in
-    record { file = o.file; bytes = o.bytes; within = o.within; means = asked o.file c.args.limit c.args.k c.args.optimize o.bytes q c.in_ok-extra.ensures o.within o.means; taken = o.taken }
+    record { file = o.file; bytes = o.bytes; holds = o.holds; means = asked o.file c.args.limit c.args.k c.args.optimize o.bytes q c.in_ok-extra.ensures o.holds o.means; taken = o.taken }
 
 pub returns-clause-exact : goal.returns-clause-exact
 returns-clause-exact g c =

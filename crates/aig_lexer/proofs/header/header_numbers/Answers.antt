@@ -1,11 +1,10 @@
 use Rattle.std.proofs.Common.{◌∙◌, ◌+◌, ◌-◌, ◌∷◌, ◌++◌, [], ◌≤◌, ℕ, None, length, refl, ap, subst, arith}
 use Rattle.std.proofs.lemmas.Result.{err_from_is_err_and}
 use Rattle.std.proofs.lemmas.List.{length-append}
-use Rattle.aig_parsing.specs.Front.{number_at, padded}
+use Rattle.aig_parsing.specs.Front.{header_from, header_numbers_at, number_at}
 use Rattle.aig_lexer.specs.Takes.{Takes, Misses}
-use Rattle.aig_lexer.specs.Words.{header_numbers_at}
 use Rattle.aig_lexer.proofs.Going.{goes_start, goes_call, goes_done, goes_wrong, goes_nowhere, goes_same}
-use Rattle.aig_lexer.proofs.HeaderNumbers.{numbers_behind, numbers_start, numbers_too_many, numbers_stop, numbers_go, numbers_give, numbers_break, numbers_set, numbers_padded}
+use Rattle.aig_lexer.proofs.HeaderNumbers.{numbers_behind, numbers_start, numbers_too_many, numbers_stop, numbers_go, numbers_give, numbers_break, numbers_set, header_from-set}
 use Rattle.aig_lexer.proofs.Taking.{misses_where}
 use Rattle.aig_lexer.proofs.Words.{on_shape-weaker}
 use Rattle.aig_lexer.proofs.header.header_numbers.Goals as goal
@@ -37,8 +36,8 @@ returns-then-i-ge-FEWEST-clause-exact g c =
     let long : 5 ≤ length (h.written ++ c.in_ok-value.value ∷ []) = omega (arith, more, h.count) in
     let taken = rw c.if-end-eq10.true at c.in_ok-value.ensures.exact in
     subst (Takes header_numbers_at (g.F.ByteFeed.coming c.args.f.now) (g.F.ByteFeed.coming c.number.new.f))
-    (numbers_padded c.loop-i.numbers h.written c.loop-i.i c.in_ok-value.value c.loop-i-test.true h.count h.filled)
-    (goes_done header_numbers_at (padded (h.written ++ c.in_ok-value.value ∷ [])) _ (g.F.ByteFeed.coming c.number.new.f)
+    (header_from-set c.loop-i.numbers h.written c.loop-i.i c.in_ok-value.value c.loop-i-test.true h.count h.filled)
+    (goes_done header_numbers_at (header_from (h.written ++ c.in_ok-value.value ∷ [])) _ (g.F.ByteFeed.coming c.number.new.f)
     (goes_call header_numbers_at number_at (numbers_behind h.written (9 - c.loop-i.i)) _ _ (g.F.ByteFeed.coming c.loop-i.f) _ (c.in_ok-value.value, 10) h.goes_on taken
     (λ bs rest e. numbers_give h.written c.loop-i.i c.loop-i-test.true c.in_ok-value.value bs rest e long)))
 

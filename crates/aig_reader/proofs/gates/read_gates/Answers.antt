@@ -1,4 +1,5 @@
-use Rattle.std.proofs.Common.{◌≡◌, ◌∙◌, ◌∷◌, ◌++◌, ◌+◌, [], ℕ, subst, vec_len, arith}
+use Rattle.std.proofs.Common.{◌≡◌, ◌∙◌, ◌∷◌, ◌++◌, ◌+◌, [], ℕ, subst, length, arith}
+use Rattle.std.specs.Prelude.{vec_capacity}
 use Rattle.std.proofs.lemmas.Result.{err_from_is_err_and}
 use Rattle.aig_parsing.specs.Fitting.{fitting_gates_at}
 use Rattle.aig_format.specs.declared.FileKind.{FileKind}
@@ -10,13 +11,14 @@ use Rattle.aig_reader.specs.Faults.{OnLine}
 use Rattle.aig_reader.specs.Variables.{HasRoom, kind_by}
 use Rattle.aig_reader.proofs.BothKinds.{gates_is}
 use Rattle.aig_reader.proofs.Entries.{entries_at, takes_more, misses_more}
+use Rattle.aig_reader.proofs.PlacedNodes.{first_all}
 use Rattle.aig_reader.proofs.Rooms.{room_for, room_more}
 use Rattle.aig_reader.proofs.TestedLines.{on_line-weaker}
 use Rattle.aig_reader.proofs.gates.read_gates.Goals as goal
 
 pub gate_line-requires-clause-room : goal.gate_line-requires-clause-room
 gate_line-requires-clause-room g c =
-    let size : c.args.header.greatest + 1 ≡ vec_len c.loop.nodes = omega (arith, c.loop.invariant.len, c.requires.nodes) in
+    let size : c.args.header.greatest + 1 ≡ vec_capacity c.loop.nodes = omega (arith, c.loop.invariant.capacity, c.requires.nodes) in
     subst (λ (n : ℕ). HasRoom n c.loop.variables 1) size (room_for _ _ (c.args.header.greatest + 1) c.args.header.gates c.loop.counter c.loop-test.true c.requires.room c.loop.invariant.room)
 
 pub returns-in_err-order-clause-exact : goal.returns-in_err-order-clause-exact
@@ -45,22 +47,25 @@ loop-preserved g c = record {
         k.1,
         takes_more (gate_at kind greatest leaves) c.loop.counter _ _ _ h.0 k.0 h.2 (subst (λ (d : FileKind). Takes (gate_at d greatest leaves h.0) (g.F.ByteFeed.coming c.loop.f) (g.F.ByteFeed.coming c.gate_line.new.f) k.0) c.loop.invariant.kind k.2),
       );
-  len = c.gate_line.ensures.len ∙ c.loop.invariant.len;
+  capacity = c.gate_line.ensures.capacity ∙ c.loop.invariant.capacity;
   room = room_more _ _ _ c.loop.counter c.loop.invariant.room c.in_ok-order.ensures.room;
   kind = c.gate_line.ensures.kind ∙ c.loop.invariant.kind;
   same = c.gate_line.ensures.same ∙ c.loop.invariant.same;
 }
 
 pub returns-clause-exact : goal.returns-clause-exact
-returns-clause-exact g c = λ leaves length defined start.
-    let all : c.loop.counter ≡ c.args.header.gates = omega arith in
+returns-clause-exact g c = λ leaves count_is defined start.
+    let done : c.loop.counter ≡ c.args.header.gates = omega arith in
     let h = c.loop.invariant.made leaves defined start in
     let kind = kind_by c.args.variables.now in
     let greatest = c.args.header.greatest in
     let count = c.args.header.gates in
-    let ns = numbers_of c.args.header in (
+    let ns = numbers_of c.args.header in
+    let all = c.add_leaves.new.nodes in
+    let capacity = c.add_leaves.ensures.capacity ∙ c.loop.invariant.capacity ∙ c.requires.nodes in
+    let size : length all.items ≡ greatest + 1 = omega (arith, c.add_leaves.ensures.len, capacity, all.ok) in (
       h.0,
-      (h.1.placed, h.1.defined, h.1.in_order.kept),
+      (first_all greatest h.0 all.items (c.add_leaves.ensures.exact h.0 h.1.placed) size, h.1.defined, h.1.in_order.kept),
       takes_same (entries_at (gate_at kind greatest leaves) [] count) (fitting_gates_at kind ns leaves) _ _ h.0
-          (subst (λ (n : ℕ). Takes (entries_at (gate_at kind greatest leaves) [] n) (g.F.ByteFeed.coming c.args.f.now) (g.F.ByteFeed.coming c.loop.f) h.0) all h.2) (λ bs. gates_is kind ns leaves bs length),
+          (subst (λ (n : ℕ). Takes (entries_at (gate_at kind greatest leaves) [] n) (g.F.ByteFeed.coming c.args.f.now) (g.F.ByteFeed.coming c.loop.f) h.0) done h.2) (λ bs. gates_is kind ns leaves bs count_is),
     )

@@ -1,4 +1,4 @@
-use Rattle.std.proofs.Common.{◌≡◌, ◌∙◌, ◌++◌, ◌+◌, ◌&&◌, [], ℕ, Bool, ap, sym, length, map, subst, arith}
+use Rattle.std.proofs.Common.{◌∙◌, ◌++◌, ◌+◌, ◌&&◌, [], ℕ, Bool, ap, sym, length, map, subst, arith}
 use Rattle.std.specs.Prelude.{◌==◌}
 use Rattle.std.proofs.lemmas.Result.{err_from_is_err_and}
 use Rattle.aig_parsing.specs.Fitting.{fitting_gates_at}
@@ -7,7 +7,6 @@ use Rattle.aig_parsing.proofs.SectionFacts.{lines_tell}
 use Rattle.aig_format.specs.declared.FileKind.{FileKind}
 use Rattle.aig_lexer.specs.Header.{numbers_of}
 use Rattle.aig_lexer.specs.Takes.{Misses, Takes}
-use Rattle.aig_ordering.proofs.Tables.{length-row}
 use Rattle.aig_reader.specs.declared.error.Section.TheVariants.{Inputs, Latches}
 use Rattle.aig_reader.specs.Faults.{OnRefusal, error_in, gate_error_in}
 use Rattle.aig_reader.specs.Sections.{file_by}
@@ -34,12 +33,6 @@ read_latches-latchs-requires-clause-room g c =
     let left = if_ok_in (error_in Inputs) (λ _. (size k : ℕ) → HasRoom size c.new-variables.result (k + header.inputs) → HasRoom size c.read_inputs-inputs.new.variables k) c.read_inputs-inputs.result c.result_of.result c.in_ok-inputs.inputs
     c.result_of.ensures c.in_ok-inputs.was c.read_inputs-inputs.ensures.room in
     room_weaker _ size header.latches rest (omega arith) (left size rest all)
-
-pub read_gates-gates-requires-clause-nodes : goal.read_gates-gates-requires-clause-nodes
-read_gates-gates-requires-clause-nodes g c =
-    let greatest = c.args.header.greatest in
-    let same : length c.in_ok-nodes.nodes.items ≡ greatest + 1 = ap length c.in_ok-nodes.ensures ∙ length-row [] (greatest + 1) 0 in
-    omega (arith, same, c.in_ok-nodes.nodes.ok.0)
 
 pub read_gates-gates-requires-clause-room : goal.read_gates-gates-requires-clause-room
 read_gates-gates-requires-clause-room g c =
@@ -74,7 +67,7 @@ returns-in_err-in_order-clause-exact g c =
     let latchs = c.read_latches-latchs.ensures in
     let leaves = leaves_read header kind _ _ _ _ _ _ _ _ _ _ _ _ start inputs.kind c.result_of.ensures c.in_ok-inputs.was (inputs.exact c.new-variables.ensures.defined) inputs.count c.result_of-2.ensures c.in_ok-latchs.was latchs.exact latchs.count in
     let properties = c.in_ok-properties.ensures.exact in
-    let gates = c.read_gates-gates.ensures.exact (literals_with leaves.literals leaves.lines) leaves.count leaves.defined c.in_ok-nodes.ensures in
+    let gates = c.read_gates-gates.ensures.exact (literals_with leaves.literals leaves.lines) leaves.count leaves.defined c.in_ok-nodes.ensures.items in
     let e = c.in_err-in_order.field-0.0 in
     let missed = missed_in (gate_error_in kind) (in_gates kind) _ _ _ _ c.read_gates-gates.result c.gates_result.result e c.gates_result.ensures c.in_err-in_order.was gates in
     let p = err_from_is_err_and c.from_residual-in_err-in_order.result c.from_residual-in_err-in_order.ensures.1 in
@@ -92,12 +85,12 @@ returns-clause-exact g c =
     let leaves = leaves_read header kind _ _ _ _ _ _ _ _ _ _ _ _ start inputs.kind c.result_of.ensures c.in_ok-inputs.was (inputs.exact c.new-variables.ensures.defined) inputs.count c.result_of-2.ensures c.in_ok-latchs.was latchs.exact latchs.count in
     let properties = c.in_ok-properties.ensures.exact in
     let defined = literals_with leaves.literals leaves.lines in
-    let gates = made_in (gate_error_in kind) (in_gates kind) _ _ _ _ c.read_gates-gates.result c.gates_result.result c.in_ok-in_order.in_order c.gates_result.ensures c.in_ok-in_order.was (c.read_gates-gates.ensures.exact defined leaves.count leaves.defined c.in_ok-nodes.ensures) in
+    let gates = made_in (gate_error_in kind) (in_gates kind) _ _ _ _ c.read_gates-gates.result c.gates_result.result c.in_ok-in_order.in_order c.gates_result.ensures c.in_ok-in_order.was (c.read_gates-gates.ensures.exact defined leaves.count leaves.defined c.in_ok-nodes.ensures.items) in
     let same = latchs.kind ∙ inputs.kind ∙ start in
     let hg : Takes (fitting_gates_at kind ns defined) (g.F.ByteFeed.coming c.read_properties.new.f) (g.F.ByteFeed.coming c.read_gates-gates.new.f) gates.0 =
     subst (λ (k : FileKind). Takes (fitting_gates_at k ns defined) (g.F.ByteFeed.coming c.read_properties.new.f) (g.F.ByteFeed.coming c.read_gates-gates.new.f) gates.0) same gates.2 in
     let x = properties.0 in
-    let y : Parts = (leaves.literals, (leaves.lines, (x.0, (x.1.0, (x.1.1.0, (x.1.1.1.0, (x.1.1.1.1.0, (x.1.1.1.1.1, gates.0)))))))) in
+    let y : Parts = record { inputs = leaves.literals; latches = leaves.lines; properties = x; gates = gates.0 } in
     let f = file_by header y in
     let taken = takes_sections kind ns _ _ leaves.literals leaves.takes_inputs _ leaves.lines leaves.takes_latchs _ x properties.2 _ gates.0 hg in
     let tell = lines_tell kind ns y (taken.taken ++ []) [] c.requires.good (taken.reads []) in

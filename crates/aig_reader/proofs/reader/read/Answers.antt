@@ -1,7 +1,7 @@
-use Rattle.std.proofs.Common.{◌≡◌, ◌∙◌, sym, arith}
-use Rattle.aig_format.specs.Circuit.{circuit_of}
+use Rattle.std.proofs.Common.{◌∙◌, sym, arith}
+use Rattle.std.proofs.lemmas.Result.{IfOk-weaker}
 use Rattle.aig_format.specs.Fits.{Accepts}
-use Rattle.aig_circuit.specs.View.{lists_circuit}
+use Rattle.aig_reader.specs.Reading.{AreListsOf}
 use Rattle.aig_lexer.proofs.Ending.{ends_read, ends_whole}
 use Rattle.aig_reader.proofs.reader.read.Goals as goal
 
@@ -9,8 +9,9 @@ pub returns-clause-circuit : goal.returns-clause-circuit
 returns-clause-circuit g c =
     let name = sym (c.read_file.ensures.same ∙ c.new-bytes.ensures.same) in
     let b = c.read_file.new.f in
-    ends_read g.R.Source.left c.read_file.result b.window.now b.at b.end b.source.now _ (grind arith) (λ f bytes. Accepts bytes c.args.limit f) (λ lists f. lists_circuit lists ≡ circuit_of f) _ _ c.read_file.ensures.whole
-    (rw c.new-bytes.ensures.bytes at c.read_file.ensures.circuit)
+    IfOk-weaker c.read_file.result _ _ (λ lists o. record { file = o.0; bytes = o.1; holds = o.2; means = o.3; taken = o.4 })
+    (ends_read g.R.Source.left c.read_file.result b.window.now b.at b.end b.source.now _ (grind arith) (λ f bytes. Accepts bytes c.args.limit f) (λ lists f. AreListsOf f lists) _ _ c.read_file.ensures.whole
+    (IfOk-weaker c.read_file.result _ _ (λ lists o. (o.file, o.bytes, o.holds, o.means, o.taken)) (rw c.new-bytes.ensures.bytes at c.read_file.ensures.circuit)))
 
 pub returns-clause-exact : goal.returns-clause-exact
 returns-clause-exact g c = rw c.new-bytes.ensures.bytes at c.read_file.ensures.exact

@@ -61,20 +61,15 @@ returns-clause-circuit g c =
     let s = c.in_ok-sections.sections in
     let map = names_of c.in_ok-names.names.entries in
     let kept : map ≡ kept_names s.inputs.items (latch_leaves s.latchs.items) names.0 =
-    names.1 ∙ ap (λ (ns : List ℕ). kept_names ns (latch_leaves c.deref-2.result.now) names.0) c.deref.ensures.value ∙ ap (λ (ls : List AigLatch). kept_names s.inputs.items (latch_leaves ls) names.0) c.deref-2.ensures.value in (
-      file_from body names.0,
-      taken.taken ++ names.2,
-      fits,
-      c.with_names.ensures ∙ circuit_is body names.0 s map made.1 kept,
-      Consumes-trans _ _ _ taken.taken names.2 taken.consumed names.4,
-    )
+    names.1 ∙ ap (λ (ns : List ℕ). kept_names ns (latch_leaves c.deref-2.result.now) names.0) c.deref.ensures.value ∙ ap (λ (ls : List AigLatch). kept_names s.inputs.items (latch_leaves ls) names.0) c.deref-2.ensures.value in record {
+      file = file_from body names.0;
+      bytes = taken.taken ++ names.2;
+      holds = fits;
+      means = c.with_names.ensures ∙ circuit_is body names.0 s map made.1 kept;
+      taken = Consumes-trans _ _ _ taken.taken names.2 taken.consumed names.4;
+    }
 
 pub returns-clause-exact : goal.returns-clause-exact
 returns-clause-exact g c =
-    let header = c.in_ok-header.header in
-    let made = c.in_ok-sections.ensures.exact in
-    let body : Body = ((header.kind, numbers_of header), made.0) in
-    let taken = takes_both (fitting_header_at c.args.limit) sections_of _ _ _ (header.kind, numbers_of header) made.0 c.in_ok-header.ensures.exact made.2 in
-    let names = names_in _ _ _ (tail_of (numbers_of header)) c.read_names-names.result c.names_result.result c.names_result.ensures c.read_names-names.ensures.exact c.in_ok-names.names c.in_ok-names.was in
     let end = on_ok_in name_error_of _ c.read_names-names.result c.names_result.result c.in_ok-names.names c.names_result.ensures c.in_ok-names.was c.read_names-names.ensures.whole in
-    accepts _ header c.args.limit _ _ (file_from body names.0) (taken.taken ++ names.2) _ (accepted c.args.limit _ _ body taken names.0 names.2 names.3) (Consumes-trans _ _ _ taken.taken names.2 taken.consumed names.4) end.1 c.in_ok-header.ensures.too_many
+    accepts _ c.in_ok-header.header c.args.limit _ _ c.with_names.result (returns-clause-circuit g c) end.1 c.in_ok-header.ensures.too_many

@@ -2,7 +2,8 @@ use Rattle.std.proofs.Common.{◌≡◌, ◌<◌, length, get_or, sym, ◌∙◌
 use Rattle.std.proofs.lemmas.List.{length-map}
 use Rattle.aig_circuit.specs.declared.node.AigLatch.{AigLatch}
 use Rattle.aig_circuit.specs.Circuit.{latch_leaves}
-use Rattle.aig_ternary.proofs.Stepping.{leaf-read, with_given-next}
+use Rattle.aig_circuit.proofs.Circuits.{leaf-read}
+use Rattle.aig_ternary.proofs.Stepping.{with_given-next}
 use Rattle.aig_ternary.proofs.step.write_state.Goals as goal
 
 pub bounds-values-input : goal.bounds-values-input

@@ -1,6 +1,6 @@
 use Rattle.std.specs.Prelude.{All}
 use Rattle.std.proofs.Common.{◌<◌, length}
-use Rattle.aig_unroll.proofs.Copies.{set_read}
+use Rattle.aig_renumber.proofs.Sets.{set_read}
 use Rattle.aig_unroll.proofs.entries.push_sets.Goals as goal
 
 pub append_images-requires-clause-there : goal.append_images-requires-clause-there

@@ -1,6 +1,6 @@
-use Rattle.std.proofs.Common.{◌≡◌, Result, Ok, Err, length, map, subst, sym, ap, ◌∙◌, arith}
-use Rattle.std.specs.Prelude.{OnOk}
+use Rattle.std.proofs.Common.{◌≡◌, length, map, subst, sym, ap, ◌∙◌, arith}
 use Rattle.std.proofs.lemmas.List.{length-map}
+use Rattle.std.proofs.lemmas.Result.{on_ok_weaker}
 use Rattle.aig_circuit.specs.declared.node.AigLatch.{AigLatch}
 use Rattle.aig_circuit.specs.Circuit.{latch_leaves}
 use Rattle.aig_circuit.specs.Runs.{next_edges}
@@ -8,10 +8,6 @@ use Rattle.aig_unroll.specs.Step.{HasLatchImages, CopiesAll, CopiesBelow, image_
 use Rattle.aig_unroll.proofs.Counted.{all_copies}
 use Rattle.aig_unroll.proofs.Table.{latch_images, marks_latches}
 use Rattle.aig_unroll.proofs.nodes.copy_step.Goals as goal
-
-OnOk-weaker : {T E : Type 0} (r : Result T E) (P Q : Type 0) → (P → Q) → OnOk r P → OnOk r Q
-OnOk-weaker (Ok x) P Q f p = f p
-OnOk-weaker (Err e) P Q f p = tt
 
 pub copy_nodes-requires-clause-latches : goal.copy_nodes-requires-clause-latches
 copy_nodes-requires-clause-latches c =
@@ -33,5 +29,5 @@ returns-clause-copies c =
     let has = subst (λ l. HasLatchImages l current (length l) c.len.result c.set_latch_images.new.images) c.latchs.ensures.value c.set_latch_images.ensures in
     let same : length from.latchs ≡ length current = sym (length-map from.latchs (λ (l : AigLatch). l.input)) ∙ sym (ap length c.requires.leaves) ∙ length-map current (λ (l : AigLatch). l.input) in
     let placed : map (image_at before) (latch_leaves from.latchs) ≡ next_edges current = latch_images from c.latchs.ensures.circuit current c.len.result before same has in
-    OnOk-weaker c.copy_nodes.result (CopiesBelow from old new before images (length from.nodes)) (CopiesAll from current old new images)
+    on_ok_weaker {P = (CopiesBelow from old new before images (length from.nodes))} {Q = (CopiesAll from current old new images)} c.copy_nodes.result
     (λ copies. all_copies from c.latchs.ensures.circuit current old new before images placed copies) c.copy_nodes.ensures.copies

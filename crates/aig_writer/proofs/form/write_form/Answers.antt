@@ -1,6 +1,5 @@
 use Rattle.std.proofs.Common.{rules}
-use Rattle.std.proofs.lemmas.Result.{on_err_weaker}
-use Rattle.aig_writer.proofs.Putting.{failed_put, written_through, Stops-flush}
+use Rattle.aig_writer.proofs.Putting.{failed_put, written_through}
 use Rattle.aig_writer.proofs.form.write_form.Goals as goal
 
 pub returns-in_err-write_sections-clause-writes : goal.returns-in_err-write_sections-clause-writes

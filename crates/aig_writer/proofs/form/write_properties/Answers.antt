@@ -1,4 +1,4 @@
-use Rattle.std.proofs.Common.{[], drop, rules}
+use Rattle.std.proofs.Common.{drop, rules}
 use Rattle.aig_format.specs.declared.FileKind.TheVariants.{Text}
 use Rattle.aig_writer.specs.Numbering.{number_in, numbered_file}
 use Rattle.aig_writer.proofs.Putting.{Buffers-trans, failed_among, failed_first, then_call}

@@ -5,7 +5,8 @@ use Rattle.std.proofs.lemmas.List.FromFn.{length-enumerate_from}
 use Rattle.aig_circuit.specs.Circuit.{latch_leaves}
 use Rattle.aig_circuit.specs.View.{names_of}
 use Rattle.aig_writer.proofs.Putting.{Buffers-turn, all_done, failed_turn}
-use Rattle.aig_writer.proofs.Entries.{leaf_at, length-leaves, name_entry, name_entry-at, name_lines-places}
+use Rattle.aig_circuit.proofs.Circuits.{leaf-read}
+use Rattle.aig_writer.proofs.Entries.{length-leaves, name_entry, name_entry-at, name_lines-places}
 use Rattle.aig_writer.proofs.names.write_latch_names.Goals as goal
 
 pub returns-in_err-write_node_name : goal.returns-in_err-write_node_name
@@ -13,7 +14,7 @@ returns-in_err-write_node_name g c =
     let name = get (names_of c.args.names.now.entries) in
     let ns = latch_leaves c.args.latchs.now in
     let places = enumerate_from 0 ns in
-    let turn = rw (c.input.ensures, ← leaf_at c.args.latchs.now c.loop-i.i _ c.loop-i-test.true, ← name_entry-at 108 name ns c.loop-i.i (omega (arith, length-leaves c.args.latchs.now))) at c.in_err-write_node_name.ensures in
+    let turn = rw (c.input.ensures, ← leaf-read c.args.latchs.now c.loop-i.i _ c.loop-i-test.true, ← name_entry-at 108 name ns c.loop-i.i (omega (arith, length-leaves c.args.latchs.now))) at c.in_err-write_node_name.ensures in
     rw (name_lines-places 108 0 ns name) (failed_turn (name_entry 108 name) places c.loop-i.i (0, 0) (omega (arith, length-enumerate_from 0 ns, length-leaves c.args.latchs.now)) c.loop-i.invariant turn (search rules))
 
 pub loop-i-preserved : goal.loop-i-preserved
@@ -21,7 +22,7 @@ loop-i-preserved g c =
     let name = get (names_of c.args.names.now.entries) in
     let ns = latch_leaves c.args.latchs.now in
     let places = enumerate_from 0 ns in
-    let turn = rw (c.input.ensures, ← leaf_at c.args.latchs.now c.loop-i.i _ c.loop-i-test.true, ← name_entry-at 108 name ns c.loop-i.i (omega (arith, length-leaves c.args.latchs.now))) at c.in_ok-write_node_name.ensures.ok in
+    let turn = rw (c.input.ensures, ← leaf-read c.args.latchs.now c.loop-i.i _ c.loop-i-test.true, ← name_entry-at 108 name ns c.loop-i.i (omega (arith, length-leaves c.args.latchs.now))) at c.in_ok-write_node_name.ensures.ok in
     Buffers-turn (name_entry 108 name) places c.loop-i.i (0, 0) (omega (arith, length-enumerate_from 0 ns, length-leaves c.args.latchs.now)) c.loop-i.invariant turn
 
 pub returns : goal.returns

@@ -1,6 +1,4 @@
-use Rattle.std.proofs.Common.{arith, length}
-use Rattle.aig_circuit.specs.Circuit.{latch_leaves}
-use Rattle.aig_writer.proofs.Entries.{length-leaves}
+use Rattle.std.proofs.Common.{arith}
 use Rattle.aig_writer.proofs.Tables.{gates_distinct, gates_there, latches_within, node_count, table_done}
 use Rattle.aig_writer.proofs.numbering.fill_table.Goals as goal
 

@@ -1,6 +1,5 @@
-use Rattle.std.proofs.Common.{◌≡◌, ◌++◌, length, take, drop, arith, sym, subst, ◌∙◌}
+use Rattle.std.proofs.Common.{◌≡◌, ◌++◌, length, take, drop, arith, ◌∙◌}
 use Rattle.std.proofs.lemmas.List.{take-append-le, take_all}
-use Rattle.aig_writer.specs.Numbering.{IsBinaryNumbering}
 use Rattle.aig_writer.proofs.numbering.full_table.Goals as goal
 
 pub returns : goal.returns

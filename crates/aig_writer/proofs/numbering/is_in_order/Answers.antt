@@ -1,6 +1,3 @@
-use Rattle.std.proofs.Common.{◌≡◌, ◌+◌, ℕ, length, arith}
-use Rattle.std.specs.Prelude.{slice_index}
-use Rattle.aig_circuit.specs.Circuit.{latch_leaves}
 use Rattle.aig_writer.proofs.Tables.{reencoded-row}
 use Rattle.aig_writer.proofs.numbering.is_in_order.Goals as goal
 

@@ -3,8 +3,7 @@ use Rattle.std.specs.List.{flat_map}
 use Rattle.aig_writer.specs.Sinks.{Buffers}
 use Rattle.aig_writer.specs.Numbering.{number_in}
 use Rattle.aig_circuit.specs.Renumber.{renumbered_edge}
-use Rattle.aig_writer.proofs.Items.{edge_line, numbered_edges}
-use Rattle.aig_writer.proofs.Small.{edge_small}
+use Rattle.aig_writer.proofs.Items.{edge_line}
 use Rattle.aig_writer.proofs.sections.write_edges.Given as goal
 
 abbrev pub invariant-loop-e : goal.invariant-loop-e

@@ -2,7 +2,7 @@ use Rattle.std.proofs.Common.{take}
 use Rattle.std.specs.List.{flat_map}
 use Rattle.aig_writer.specs.Sinks.{Buffers}
 use Rattle.aig_writer.specs.Numbering.{number_in, renumbered_node}
-use Rattle.aig_writer.proofs.Items.{gate_text, numbered_gates}
+use Rattle.aig_writer.proofs.Items.{gate_text}
 use Rattle.aig_writer.proofs.sections.write_gates.Given as goal
 
 abbrev pub invariant-loop-node : goal.invariant-loop-node

@@ -2,7 +2,7 @@ use Rattle.std.proofs.Common.{take}
 use Rattle.std.specs.List.{flat_map}
 use Rattle.aig_writer.specs.Sinks.{Buffers}
 use Rattle.aig_writer.specs.Numbering.{number_in}
-use Rattle.aig_writer.proofs.Items.{input_line, numbered_inputs}
+use Rattle.aig_writer.proofs.Items.{input_line}
 use Rattle.aig_writer.proofs.sections.write_input_lines.Given as goal
 
 abbrev pub invariant-loop-n : goal.invariant-loop-n

@@ -3,8 +3,7 @@ use Rattle.std.specs.List.{flat_map}
 use Rattle.aig_writer.specs.Sinks.{Buffers}
 use Rattle.aig_writer.specs.Numbering.{number_in}
 use Rattle.aig_circuit.specs.Renumber.{renumbered_latch}
-use Rattle.aig_writer.proofs.Items.{latch_text, numbered_latches}
-use Rattle.aig_writer.proofs.Small.{latch_small}
+use Rattle.aig_writer.proofs.Items.{latch_text}
 use Rattle.aig_writer.proofs.sections.write_latches.Given as goal
 
 abbrev pub invariant-loop-latch : goal.invariant-loop-latch

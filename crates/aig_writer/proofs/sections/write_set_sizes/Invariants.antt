@@ -1,7 +1,7 @@
 use Rattle.std.proofs.Common.{take}
 use Rattle.std.specs.List.{flat_map}
 use Rattle.aig_writer.specs.Sinks.{Buffers}
-use Rattle.aig_writer.proofs.Items.{len_is, size_line, set_sizes}
+use Rattle.aig_writer.proofs.Items.{size_line}
 use Rattle.aig_writer.proofs.sections.write_set_sizes.Given as goal
 
 abbrev pub invariant-loop-set : goal.invariant-loop-set

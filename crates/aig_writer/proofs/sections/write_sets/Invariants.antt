@@ -2,7 +2,7 @@ use Rattle.std.proofs.Common.{take}
 use Rattle.std.specs.List.{flat_map}
 use Rattle.aig_writer.specs.Sinks.{Buffers}
 use Rattle.aig_writer.specs.Numbering.{number_in}
-use Rattle.aig_writer.proofs.Items.{numbered_set, numbered_sets}
+use Rattle.aig_writer.proofs.Items.{numbered_set}
 use Rattle.aig_writer.proofs.sections.write_sets.Given as goal
 
 abbrev pub invariant-loop-set : goal.invariant-loop-set

@@ -3,7 +3,7 @@ use Rattle.std.proofs.lemmas.Result.{err_from_is_err_and}
 use Rattle.aig_circuit.specs.declared.node.AigNode.{AigNode}
 use Rattle.aig_circuit.specs.Node.{IfAnd}
 use Rattle.aig_ordering.specs.Lists.{kind_from}
-use Rattle.aig_ordering.proofs.Tables.{node_at}
+use Rattle.aig_ordering.proofs.Tables.{count-nodes, node_at}
 use Rattle.aig_ordering.proofs.Searching.{at_operand, cycle, kind_within, level_right, level_small, on_order, operand_below, opening_is_work, settled}
 use Rattle.aig_ordering.proofs.levels.Search.step.Goals as goal
 
@@ -17,13 +17,14 @@ task_of-requires-clause-operands c =
     subst (λ (k : ℕ). IfAnd c.typ.result.now (λ n. n < k)) (sym (ap length c.deref.ensures.value ∙ (c.requires.at f are).search.levels)) (kind_within f nodes are c.args.variable c.typ.result.now kind)
 
 pub task_of-requires-clause-small : goal.task_of-requires-clause-small
-task_of-requires-clause-small c = λ v k is.
+task_of-requires-clause-small c = λ level is.
     let f = c.requires.nodes.0 in
+    let nodes = c.args.nodes.now in
     let are = c.requires.nodes.1 in
-    let at = c.requires.at f are in
-    let levels = c.args.self.now.levels in
-    let h = level_small f c.args.nodes.now are levels.items at.search.right v k (rw c.deref.ensures.value at is) in
-    omega (arith, h, at.search.levels, levels.ok.0, levels.small)
+    let kind : kind_from f.gates c.args.variable ≡ c.typ.result.now =
+    sym (c.typ.ensures ∙ ap (λ (node : AigNode). node.typ) (node_at f nodes are c.args.variable _ c.requires.within)) in
+    let right = level_right f nodes are c.args.variable c.typ.result.now kind c.args.self.now.levels.items level (c.requires.at f are).search.right (rw c.deref.ensures.value at is) in
+    omega (arith, level_small f nodes are c.args.variable level right, count-nodes f nodes are, c.requires.few)
 
 pub open-requires : goal.open-requires
 open-requires c =

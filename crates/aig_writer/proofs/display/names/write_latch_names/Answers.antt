@@ -4,7 +4,8 @@ use Rattle.std.specs.FinMap.{get}
 use Rattle.std.proofs.lemmas.List.FromFn.{length-enumerate_from}
 use Rattle.aig_circuit.specs.Circuit.{latch_leaves}
 use Rattle.aig_circuit.specs.View.{names_of}
-use Rattle.aig_writer.proofs.Entries.{leaf_at, length-leaves, name_entry, name_entry-at, name_lines-places}
+use Rattle.aig_circuit.proofs.Circuits.{leaf-read}
+use Rattle.aig_writer.proofs.Entries.{length-leaves, name_entry, name_entry-at, name_lines-places}
 use Rattle.aig_writer.proofs.Printing.{shown_end, shown_turn}
 use Rattle.aig_writer.proofs.display.names.write_latch_names.Goals as goal
 
@@ -13,7 +14,7 @@ loop-i-preserved g c =
     let name = get (names_of c.args.names.now.entries) in
     let ns = latch_leaves c.args.latchs.now in
     let places = enumerate_from 0 ns in
-    let turn = rw (c.input.ensures, ← leaf_at c.args.latchs.now c.loop-i.i _ c.loop-i-test.true, ← name_entry-at 108 name ns c.loop-i.i (omega (arith, length-leaves c.args.latchs.now))) at c.in_ok-write_node_name.ensures in
+    let turn = rw (c.input.ensures, ← leaf-read c.args.latchs.now c.loop-i.i _ c.loop-i-test.true, ← name_entry-at 108 name ns c.loop-i.i (omega (arith, length-leaves c.args.latchs.now))) at c.in_ok-write_node_name.ensures in
     shown_turn _ (name_entry 108 name) places c.loop-i.i (0, 0) (omega (arith, length-enumerate_from 0 ns, length-leaves c.args.latchs.now)) c.loop-i.invariant (λ flush. turn flush refl)
 
 pub returns : goal.returns

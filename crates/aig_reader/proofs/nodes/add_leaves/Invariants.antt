@@ -1,0 +1,12 @@
+use Rattle.std.proofs.Common.{◌≡◌, List, vec_len}
+use Rattle.std.specs.Prelude.{vec_capacity}
+use Rattle.aig_format.specs.File.{GateLine}
+use Rattle.aig_reader.specs.Gates.{AreFirstNodes}
+use Rattle.aig_reader.proofs.nodes.add_leaves.Given as goal
+
+abbrev pub invariant-loop-id : goal.invariant-loop-id
+invariant-loop-id l = record {
+  exact : (gates : List GateLine) → AreFirstNodes gates l.fn.nodes.items → AreFirstNodes gates l.nodes.items;
+  len : vec_len l.nodes ≡ l.id;
+  capacity : vec_capacity l.nodes ≡ vec_capacity l.fn.nodes;
+}
