@@ -6,8 +6,6 @@ mod memory;
 mod std_stream;
 mod stream;
 mod test_streams;
-#[cfg(test)]
-mod tests;
 
 pub use logic::{DagCnf, Lbool, Lit, LitVvec, Var, VarVMap};
 pub use memory::MemoryError;

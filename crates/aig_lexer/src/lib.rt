@@ -11,6 +11,3 @@ pub use error::LexError;
 pub use feed::{Buffered, ByteFeed, WINDOW_SIZE};
 pub use header::{Header, header_line};
 pub use lexer::{delta, ended, next_line, number_from, pair};
-
-#[cfg(test)]
-mod tests;

@@ -1,4 +1,4 @@
-//! Tests of the library, by its public calls.
+//! Tests of the library's calls on circuits.
 #![tactic(auto)]
 
 #[cfg(test)]

@@ -1,264 +1,31 @@
 //! Circuits that are built by calls, and the texts that they are written as.
 
-ghost use Rattle.std.specs.Prelude.{◌≡◌, All, IsTrue};
-ghost use Rattle.aig_circuit.specs.Circuit.{IsInRange};
-ghost use Rattle.aig_circuit.specs.PropLists.{edges_of};
-
-use super::writing::text_of;
 use aig::{Aig, AigEdge, PropList};
-use aig_base::{Lit, MemoryError};
+use aig_testing::{Many, Pair, Step, edge, is_written, take_all};
 use std::alloc::Global;
 use std::process::Abort;
 use std::test::Fail;
 
-/// The call for a connective of two edges.
-#[derive(Clone, Copy)]
-pub(super) enum Pair {
-    TrivialAnd,
-    And,
-    TrivialOr,
-    Or,
-    Imply,
-    Eq,
+/// Whether these are the edges of these literals.
+fn are_edges(answers: &[AigEdge], literals: &[u32]) -> bool {
+    answers.len() == literals.len()
+        && answers
+            .iter()
+            .zip(literals)
+            .all(|(e, literal)| *e == edge(*literal))
 }
 
-/// The call for a connective of a list of edges.
-#[derive(Clone, Copy)]
-pub(super) enum Many {
-    TrivialAnds,
-    Ands,
-    TrivialOrs,
-    Ors,
-}
-
-/// A call that changes a circuit. Nodes are given by their numbers, and edges by their literals.
-#[derive(Clone, Copy)]
-pub(super) enum Step<'a> {
-    Leaf,
-    Input,
-    Latch(u32, Option<u32>),
-    AddInput(usize),
-    AddLatch(usize, u32, Option<u32>),
-    Gate(Pair, u32, u32),
-    Gates(Many, &'a [u32]),
-    Push(PropList, u32),
-    Set(PropList, usize, u32),
-    Clear(PropList),
-    Justice(&'a [u32]),
-    ClearJustice,
-    Next(usize, u32),
-    Init(usize, Option<u32>),
-    Name(usize, &'a str),
-}
-
-/// Why a step isn't taken.
-#[derive(Clone, Copy, Debug)]
-pub(super) enum StepError {
-    /// Memory ran out.
-    Memory,
-    /// The circuit doesn't allow the step.
-    NotAllowed,
-}
-
-impl From<MemoryError> for StepError {
-    fn from(_error: MemoryError) -> StepError {
-        StepError::Memory
-    }
-}
-
-/// The edge of a literal.
-fn edge(literal: u32) -> AigEdge {
-    AigEdge::from_lit(Lit::from(literal))
-}
-
-/// The edges of literals.
-fn edges(alloc: Global, literals: &[u32]) -> Result<Vec<AigEdge>, MemoryError> {
-    let mut edges = Vec::new(alloc);
-    for literal in literals {
-        edges.push(edge(*literal))?;
-    }
-    Ok(edges)
-}
-
-/// Whether there are nodes of all of these edges' numbers.
-pub(super) fn has_edges(aig: &Aig, edges: &[AigEdge]) -> bool
-    ensures { IsTrue result → All (IsInRange aig.now.nodes) edges.now }
-{
-    edges.iter().all(|e| aig.has_edge(*e))
-}
-
-/// Adds a connective of two edges.
-fn add_gate(aig: &mut Aig, pair: Pair, a: AigEdge, b: AigEdge) -> Result<AigEdge, StepError> {
-    if !aig.has_edge(a) || !aig.has_edge(b) {
-        return Err(StepError::NotAllowed);
-    }
-    Ok(match pair {
-        Pair::TrivialAnd => aig.trivial_new_and_node(a, b)?,
-        Pair::And => aig.new_and_node(a, b)?,
-        Pair::TrivialOr => aig.trivial_new_or_node(a, b)?,
-        Pair::Or => aig.new_or_node(a, b)?,
-        Pair::Imply => aig.new_imply_node(a, b)?,
-        Pair::Eq => aig.new_eq_node(a, b)?,
-    })
-}
-
-/// Adds a connective of a list of edges.
-fn add_gates(aig: &mut Aig, many: Many, edges: Vec<AigEdge>) -> Result<AigEdge, StepError> {
-    if !has_edges(aig, &edges) {
-        return Err(StepError::NotAllowed);
-    }
-    Ok(match many {
-        Many::TrivialAnds => aig.trivial_new_ands_node(edges)?,
-        Many::Ands => aig.new_ands_node(edges)?,
-        Many::TrivialOrs => aig.trivial_new_ors_node(edges)?,
-        Many::Ors => aig.new_ors_node(edges)?,
-    })
-}
-
-/// Adds a latch, with a new leaf or with leaf `id`.
-fn add_latch(
-    aig: &mut Aig,
-    id: Option<usize>,
-    next: u32,
-    init: Option<u32>,
-) -> Result<(), StepError> {
-    let (next, init) = (edge(next), init.map(edge));
-    if !aig.has_edge(next) || init.is_some_and(|e| !aig.has_edge(e)) {
-        return Err(StepError::NotAllowed);
-    }
-    match id {
-        None => {
-            aig.new_latch(next, init)?;
-        }
-        Some(id) if aig.is_free_leaf(id) => aig.add_latch(id, next, init)?,
-        _ => return Err(StepError::NotAllowed),
-    }
-    Ok(())
-}
-
-/// Makes a free leaf an input.
-fn add_input(aig: &mut Aig, id: usize) -> Result<(), StepError> {
-    if !aig.is_free_leaf(id) {
-        return Err(StepError::NotAllowed);
-    }
-    Ok(aig.add_input(id)?)
-}
-
-/// The edges of a property list.
-fn entries(aig: &Aig, list: PropList) -> &[AigEdge]
-    ensures { result.now ≡ edges_of list aig.now }
-{
-    match list {
-        PropList::Outputs => aig.outputs(),
-        PropList::Bads => aig.bads(),
-        PropList::Constraints => aig.constraints(),
-        PropList::Fairness => aig.fairness(),
-    }
-}
-
-/// Changes a property list: appends an edge, or puts it in place of entry `i`.
-fn put_edge(aig: &mut Aig, list: PropList, i: Option<usize>, e: AigEdge) -> Result<(), StepError> {
-    if !aig.has_edge(e) {
-        return Err(StepError::NotAllowed);
-    }
-    match i {
-        None => aig.push_edge(list, e)?,
-        Some(i) if i < entries(aig, list).len() => aig.set_edge(list, i, e),
-        _ => return Err(StepError::NotAllowed),
-    }
-    Ok(())
-}
-
-/// Appends a justice set.
-fn push_justice(aig: &mut Aig, set: Vec<AigEdge>) -> Result<(), StepError> {
-    if !has_edges(aig, &set) {
-        return Err(StepError::NotAllowed);
-    }
-    Ok(aig.push_justice(set)?)
-}
-
-/// Replaces the next edge of latch `i`.
-fn set_next(aig: &mut Aig, i: usize, e: AigEdge) -> Result<(), StepError> {
-    if i >= aig.latchs().len() || !aig.has_edge(e) {
-        return Err(StepError::NotAllowed);
-    }
-    aig.set_next(i, e);
-    Ok(())
-}
-
-/// Replaces the initial edge of latch `i`.
-fn set_init(aig: &mut Aig, i: usize, e: Option<AigEdge>) -> Result<(), StepError> {
-    if i >= aig.latchs().len() || e.is_some_and(|e| !aig.has_edge(e)) {
-        return Err(StepError::NotAllowed);
-    }
-    aig.set_init(i, e);
-    Ok(())
-}
-
-/// Names a node.
-fn set_name(aig: &mut Aig, id: usize, name: &str) -> Result<(), StepError> {
-    if !aig.has_node(id) {
-        return Err(StepError::NotAllowed);
-    }
-    Ok(aig.set_symbol(id, name)?)
-}
-
-/// Changes the leaves of a circuit, or its lists.
-fn change(alloc: Global, aig: &mut Aig, step: Step<'_>) -> Result<(), StepError> {
-    match step {
-        Step::Leaf => {
-            aig.new_leaf_node()?;
-        }
-        Step::Input => {
-            aig.new_input()?;
-        }
-        Step::Latch(next, init) => add_latch(aig, None, next, init)?,
-        Step::AddInput(id) => add_input(aig, id)?,
-        Step::AddLatch(id, next, init) => add_latch(aig, Some(id), next, init)?,
-        Step::Push(list, e) => put_edge(aig, list, None, edge(e))?,
-        Step::Set(list, i, e) => put_edge(aig, list, Some(i), edge(e))?,
-        Step::Clear(list) => aig.clear_edges(list),
-        Step::Justice(set) => push_justice(aig, edges(alloc, set)?)?,
-        Step::ClearJustice => aig.clear_justice(),
-        Step::Next(i, e) => set_next(aig, i, edge(e))?,
-        Step::Init(i, e) => set_init(aig, i, e.map(edge))?,
-        Step::Name(id, name) => set_name(aig, id, name)?,
-        Step::Gate(..) | Step::Gates(..) => return Err(StepError::NotAllowed),
-    }
-    Ok(())
-}
-
-/// Takes a step, and gives the edge that it answers, if it is one that adds gates.
-pub(super) fn take(
+/// The steps answer the edges of these literals.
+fn are_answered(
+    rt: &impl Abort,
     alloc: Global,
     aig: &mut Aig,
-    step: Step<'_>,
-) -> Result<Option<AigEdge>, StepError> {
-    match step {
-        Step::Gate(pair, a, b) => Ok(Some(add_gate(aig, pair, edge(a), edge(b))?)),
-        Step::Gates(many, list) => Ok(Some(add_gates(aig, many, edges(alloc, list)?)?)),
-        other => {
-            change(alloc, aig, other)?;
-            Ok(None)
-        }
-    }
-}
-
-/// The circuit of these steps, and the edges that they answer.
-fn built_with_answers(alloc: Global, steps: &[Step<'_>]) -> Result<(Aig, Vec<AigEdge>), Fail> {
-    let mut aig = Aig::new(alloc)?;
-    let mut answers = Vec::new(alloc);
-    for step in steps {
-        if let Some(e) = take(alloc, &mut aig, *step)? {
-            answers.push(e)?;
-        }
-    }
-    Ok((aig, answers))
-}
-
-/// The circuit of these steps.
-pub(super) fn built(alloc: Global, steps: &[Step<'_>]) -> Result<Aig, Fail> {
-    Ok(built_with_answers(alloc, steps)?.0)
+    steps: &[Step<'_>],
+    literals: &[u32],
+) -> Result<(), Fail> {
+    let answers = take_all(alloc, aig, steps)?;
+    assert!(rt; are_edges(&answers, literals));
+    Ok(())
 }
 
 /// The steps answer the edges of these literals, and the circuit is written so.
@@ -269,10 +36,9 @@ fn builds(
     answers: &[u32],
     text: &str,
 ) -> Result<(), Fail> {
-    let (aig, answered) = built_with_answers(alloc, steps)?;
-    assert_eq!(rt; answered.as_slice(), edges(alloc, answers)?.as_slice());
-    assert_eq!(rt; text_of(alloc, &aig)?.as_str(), text);
-    Ok(())
+    let mut aig = Aig::new(alloc)?;
+    are_answered(rt, alloc, &mut aig, steps, answers)?;
+    is_written(alloc, &aig, text)
 }
 
 #[test]

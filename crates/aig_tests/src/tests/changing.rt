@@ -1,19 +1,21 @@
 //! Circuits merged, and changed in their properties and initial edges.
 
-use super::building::{Step, built};
-use super::writing::text_of;
-use super::{AND, read};
+use super::whole::is_described;
 use aig::{Aig, AigEdge, PropList};
+use aig_testing::{AND, Step, built, is_written, read};
+use std::alloc::Global;
+use std::process::Abort;
 use std::test::Fail;
 
 #[test]
 fn appends_a_circuit(rt: HostRuntime) -> Result<(), Fail> {
     let mut both = read(rt.alloc(), AND)?;
     both.merge(&read(rt.alloc(), AND)?)?;
-    assert_eq!(rt;
-        text_of(rt.alloc(), &both)?.as_str(),
-        "aag 6 4 0 2 2\n2\n4\n8\n10\n6\n12\n6 4 2\n12 10 8\n"
-    );
+    is_written(
+        rt.alloc(),
+        &both,
+        "aag 6 4 0 2 2\n2\n4\n8\n10\n6\n12\n6 4 2\n12 10 8\n",
+    )?;
     both.merge(&Aig::new(rt.alloc())?)?;
     assert_eq!(rt; both.num_nodes(), 7);
     Ok(())
@@ -38,26 +40,24 @@ fn appends_every_list(rt: HostRuntime) -> Result<(), Fail> {
     let mut aig = built(rt.alloc(), &steps)?;
     let other = aig.clone()?;
     aig.merge(&other)?;
-    assert_eq!(rt; aig.num_nodes(), 7);
-    assert_eq!(rt; aig.inputs(), [1, 4].as_slice());
-    assert_eq!(rt; aig.latchs().len(), 2);
-    let latch = aig.latchs()[1];
-    assert_eq!(rt;
-        (latch.input(), latch.next(), latch.init()),
-        (5, AigEdge::from(5), Some(AigEdge::from(4)))
-    );
-    let edge = AigEdge::from;
-    assert_eq!(rt; aig.outputs(), [edge(1), edge(4)].as_slice());
-    assert_eq!(rt; aig.bads(), [!edge(1), !edge(4)].as_slice());
-    let yes = AigEdge::constant(true);
-    assert_eq!(rt; aig.constraints(), [yes, yes].as_slice());
-    assert_eq!(rt; aig.fairness(), [edge(2), edge(5)].as_slice());
-    let justice = aig.justice();
-    assert_eq!(rt; justice.len(), 4);
-    assert_eq!(rt; justice[2].as_slice(), [edge(4), !edge(5)].as_slice());
-    assert_eq!(rt; justice[3].len(), 0);
-    assert_eq!(rt; aig.symbols().len(), 1);
-    Ok(())
+    is_described(
+        rt.alloc(),
+        &aig,
+        "nodes F L L L L L L\n\
+         inputs 1 4\n\
+         latches 2:2:1 5:5:4\n\
+         outputs 1 4\n\
+         bads !1 !4\n\
+         constraints !0 !0\n\
+         justice [ 1 !2 ] [ ] [ 4 !5 ] [ ]\n\
+         fairness 2 5\n\
+         names 1=x",
+    )
+}
+
+/// The circuit of these steps with its constraints moved.
+fn moved(alloc: Global, steps: &[Step<'_>]) -> Result<Aig, Fail> {
+    Ok(built(alloc, steps)?.aig_move()?)
 }
 
 #[test]
@@ -83,17 +83,27 @@ fn moves_constraints(rt: HostRuntime) -> Result<(), Fail> {
         ),
     ];
     for (steps, text) in rows {
-        let moved = built(rt.alloc(), steps)?.aig_move()?;
-        assert_eq!(rt; text_of(rt.alloc(), &moved)?.as_str(), text);
+        is_written(rt.alloc(), &moved(rt.alloc(), steps)?, text)?;
     }
     Ok(())
 }
 
+/// Compressing the bads of the circuit of these steps gives the old ones, and this text.
+fn are_compressed(
+    rt: &impl Abort,
+    alloc: Global,
+    steps: &[Step<'_>],
+    old: &[AigEdge],
+    text: &str,
+) -> Result<(), Fail> {
+    let mut aig = built(alloc, steps)?;
+    assert_eq!(rt; aig.compress_property()?.as_slice(), old);
+    is_written(alloc, &aig, text)
+}
+
 #[test]
 fn compresses_bads(rt: HostRuntime) -> Result<(), Fail> {
-    let mut none = Aig::new(rt.alloc())?;
-    assert_eq!(rt; none.compress_property()?.len(), 0);
-    assert_eq!(rt; none.bads(), [AigEdge::constant(false)].as_slice());
+    are_compressed(&rt, rt.alloc(), &[], &[], "aag 0 0 0 0 0 1\n0\n")?;
     let steps = [
         Step::Input,
         Step::Input,
@@ -101,17 +111,20 @@ fn compresses_bads(rt: HostRuntime) -> Result<(), Fail> {
         Step::Push(PropList::Bads, 4),
         Step::Push(PropList::Outputs, 4),
     ];
-    let mut two = built(rt.alloc(), &steps)?;
-    let old = two.compress_property()?;
-    assert_eq!(rt;
-        old.as_slice(),
-        [AigEdge::from(1), AigEdge::from(2)].as_slice()
-    );
-    assert_eq!(rt;
-        text_of(rt.alloc(), &two)?.as_str(),
-        "aag 3 2 0 1 1 1\n2\n4\n4\n7\n6 5 3\n"
-    );
-    Ok(())
+    are_compressed(
+        &rt,
+        rt.alloc(),
+        &steps,
+        &[AigEdge::from(1), AigEdge::from(2)],
+        "aag 3 2 0 1 1 1\n2\n4\n4\n7\n6 5 3\n",
+    )
+}
+
+/// The circuit of these steps with its initial edges said by a constraint.
+fn with_starts(alloc: Global, steps: &[Step<'_>]) -> Result<Aig, Fail> {
+    let mut aig = built(alloc, steps)?;
+    aig.gate_init_to_constraint()?;
+    Ok(aig)
 }
 
 #[test]
@@ -132,9 +145,7 @@ fn says_starts_by_constraints(rt: HostRuntime) -> Result<(), Fail> {
         ),
     ];
     for (steps, text) in rows {
-        let mut aig = built(rt.alloc(), steps)?;
-        aig.gate_init_to_constraint()?;
-        assert_eq!(rt; text_of(rt.alloc(), &aig)?.as_str(), text);
+        is_written(rt.alloc(), &with_starts(rt.alloc(), steps)?, text)?;
     }
     Ok(())
 }

@@ -1,11 +1,12 @@
 //! Cones of nodes, and the circuits of cones.
 
-use super::building::{Pair, Step, built};
-use super::writing::text_of;
+use super::whole::is_described;
 use aig::{Aig, AigEdge, PropList};
 use aig_base::{Var, VarVMap};
+use aig_testing::{Pair, Step, built, is_written};
 use std::alloc::Global;
 use std::collections::HashSet;
+use std::process::Abort;
 use std::test::Fail;
 
 /// An input, a latch whose next edge is a gate, and the gate, which is their and.
@@ -61,18 +62,14 @@ fn gives_old_numbers(map: &VarVMap, old: &[usize]) -> bool {
 #[test]
 fn marks_cones(rt: HostRuntime) -> Result<(), Fail> {
     let aig = built(rt.alloc(), &LOOP)?;
-    assert_eq!(rt;
-        cone_of(&aig, 3)?.as_slice(),
-        [false, true, true, true].as_slice()
-    );
-    assert_eq!(rt;
-        cone_of(&aig, 2)?.as_slice(),
-        [false, false, true, false].as_slice()
-    );
-    assert_eq!(rt;
-        cone_of(&aig, 0)?.as_slice(),
-        [true, false, false, false].as_slice()
-    );
+    let rows = [
+        (3, [false, true, true, true]),
+        (2, [false, false, true, false]),
+        (0, [true, false, false, false]),
+    ];
+    for (id, marks) in rows {
+        assert_eq!(rt; cone_of(&aig, id)?.as_slice(), marks.as_slice());
+    }
     Ok(())
 }
 
@@ -88,6 +85,19 @@ fn crosses_latches(rt: HostRuntime) -> Result<(), Fail> {
     )?;
     assert!(rt; are_exactly(&reached(&held, &[2])?, &[0, 2]));
     Ok(())
+}
+
+/// The refined circuit is written so, and its nodes have these old numbers.
+fn is_refined(
+    rt: &impl Abort,
+    alloc: Global,
+    aig: &Aig,
+    text: &str,
+    old: &[usize],
+) -> Result<(), Fail> {
+    let (made, map) = refined(aig)?;
+    assert!(rt; gives_old_numbers(&map, old));
+    is_written(alloc, &made, text)
 }
 
 #[test]
@@ -122,9 +132,7 @@ fn refines(rt: HostRuntime) -> Result<(), Fail> {
         (&LOOP, "aag 3 1 1 0 1\n2\n4 6\n6 4 2\n", &[0, 1, 2, 3]),
     ];
     for (steps, text, old) in rows {
-        let (made, map) = refined(&built(rt.alloc(), steps)?)?;
-        assert_eq!(rt; text_of(rt.alloc(), &made)?.as_str(), text);
-        assert!(rt; gives_old_numbers(&map, old));
+        is_refined(&rt, rt.alloc(), &built(rt.alloc(), steps)?, text, old)?;
     }
     Ok(())
 }
@@ -139,11 +147,35 @@ fn refines_by_initial_edges(rt: HostRuntime) -> Result<(), Fail> {
         Step::AddLatch(3, 6, Some(2)),
     ];
     let (made, _) = refined(&built(rt.alloc(), &steps)?)?;
-    assert_eq!(rt; made.num_nodes(), 3);
-    assert_eq!(rt; made.latchs().len(), 1);
-    let latch = made.latchs()[0];
-    assert_eq!(rt; (latch.input(), latch.init()), (2, Some(AigEdge::from(1))));
-    Ok(())
+    is_described(
+        rt.alloc(),
+        &made,
+        "nodes F L L\n\
+         inputs\n\
+         latches 2:2:1\n\
+         outputs\n\
+         bads\n\
+         constraints\n\
+         justice\n\
+         fairness\n\
+         names",
+    )
+}
+
+/// Adds the and of an edge's inverse and a leaf.
+fn add_link(aig: &mut Aig, last: AigEdge, leaf: AigEdge) -> Result<AigEdge, Fail> {
+    if !aig.has_edge(leaf) || !aig.has_edge(last) {
+        return Err(Fail::from("no such node"));
+    }
+    Ok(aig.trivial_new_and_node(!last, leaf)?)
+}
+
+/// Appends an output.
+fn push_output(aig: &mut Aig, e: AigEdge) -> Result<(), Fail> {
+    if !aig.has_edge(e) {
+        return Err(Fail::from("no such node"));
+    }
+    Ok(aig.push_edge(PropList::Outputs, e)?)
 }
 
 /// A chain of gates, each the and of the one before and its own leaf's inverse.
@@ -152,14 +184,9 @@ fn chain(alloc: Global, gates: usize) -> Result<Aig, Fail> {
     let leaf = AigEdge::from(aig.new_input()?);
     let mut last = leaf;
     for _ in 0..gates {
-        if !aig.has_edge(leaf) || !aig.has_edge(last) {
-            return Err(Fail::from("no such node"));
-        }
-        last = aig.trivial_new_and_node(!last, leaf)?;
+        last = add_link(&mut aig, last, leaf)?;
     }
-    if aig.has_edge(last) {
-        aig.push_edge(PropList::Outputs, last)?;
-    }
+    push_output(&mut aig, last)?;
     Ok(aig)
 }
 

@@ -1,9 +1,7 @@
 //! Edges, nodes, and the calls that read a circuit.
 
-use super::building::{Pair, Step, built};
-use super::{AND, read};
-use aig::{Aig, AigEdge, AigNode, AigNodeType};
-use aig_base::MemoryError;
+use aig::{AigEdge, AigNode, AigNodeType};
+use aig_testing::{AND, Step, built, is_latch, read};
 use std::test::Fail;
 
 #[test]
@@ -59,12 +57,8 @@ fn circuits_are_read_by_calls(rt: HostRuntime) -> Result<(), Fail> {
 fn latches_are_read_by_calls(rt: HostRuntime) -> Result<(), Fail> {
     let aig = read(rt.alloc(), "aag 1 0 1 1 0\n2 3\n2\n")?;
     assert_eq!(rt; aig.latchs().len(), 1);
-    let latch = aig.latchs()[0];
-    assert_eq!(rt;
-        (latch.input(), latch.next(), latch.init()),
-        (1, !AigEdge::from(1), Some(AigEdge::constant(false)))
-    );
-    Ok(())
+    let next = !AigEdge::from(1);
+    is_latch(&aig, 0, 1, next, Some(AigEdge::constant(false)))
 }
 
 #[test]
@@ -107,13 +101,4 @@ fn names_are_copied(rt: HostRuntime) -> Result<(), Fail> {
     assert!(rt; copy.begins_with(&aig) && !copy.begins_with(&latched));
     assert!(rt; !latched.begins_with(&copy));
     Ok(())
-}
-
-/// The re-encoded circuit, if no leaf is free.
-pub(super) fn closed_reencoded(aig: &Aig) -> Result<Option<Aig>, MemoryError> {
-    if aig.is_closed() {
-        Ok(Some(aig.reencode()?))
-    } else {
-        Ok(None)
-    }
 }

@@ -1,9 +1,13 @@
 //! Structural hashing beside a plain program that compares trees pairwise.
 
-use super::building::{Pair, Step, built};
-use super::writing::text_of;
+ghost use Rattle.std.specs.Prelude.{◌<◌};
+
+use super::whole::is_described;
 use aig::{Aig, AigEdge, AigNodeType, PropList};
+use aig_base::MemoryError;
+use aig_testing::{Pair, Step, built, is_written};
 use std::alloc::Global;
+use std::process::Abort;
 use std::test::Fail;
 
 /// A node's tree, written out with the operands of each gate in the order of their texts: trees are equal up to exchange
@@ -59,30 +63,46 @@ fn next(seed: &mut u64) -> usize {
     (*seed >> 33) as usize
 }
 
+/// An edge that looks random, to a node below `size`.
+fn random_edge(seed: &mut u64, size: usize) -> AigEdge
+    requires { 0 < size }
+{
+    AigEdge::new(next(seed) % size, next(seed) % 2 == 1)
+}
+
+/// Adds a gate over operands that look random.
+fn add_random_gate(aig: &mut Aig, seed: &mut u64) -> Result<(), MemoryError> {
+    let size = aig.num_nodes();
+    let a = random_edge(seed, size);
+    let b = random_edge(seed, size);
+    if aig.has_edge(a) && aig.has_edge(b) {
+        aig.trivial_new_and_node(a, b)?;
+    }
+    Ok(())
+}
+
 /// A circuit of two inputs and so many gates over operands that look random.
 pub(super) fn random(alloc: Global, seed: u64, gates: usize) -> Result<Aig, Fail> {
     let mut seed = seed;
-    let mut aig = Aig::new(alloc)?;
-    aig.new_input()?;
-    aig.new_input()?;
+    let mut aig = built(alloc, &[Step::Input, Step::Input])?;
     for _ in 0..gates {
-        let size = aig.num_nodes();
-        let a = AigEdge::new(next(&mut seed) % size, next(&mut seed) % 2 == 1);
-        let b = AigEdge::new(next(&mut seed) % size, next(&mut seed) % 2 == 1);
-        if aig.has_edge(a) && aig.has_edge(b) {
-            aig.trivial_new_and_node(a, b)?;
-        }
+        add_random_gate(&mut aig, &mut seed)?;
     }
     Ok(aig)
+}
+
+/// Hashing leaves as many nodes as trees differ.
+fn merges_trees(rt: &impl Abort, alloc: Global, aig: &Aig) -> Result<(), Fail> {
+    let hashed = aig.strash()?;
+    assert_eq!(rt; hashed.num_nodes(), count_trees(alloc, aig)?);
+    assert_eq!(rt; count_trees(alloc, &hashed)?, hashed.num_nodes());
+    Ok(())
 }
 
 #[test]
 fn merges_equal_trees(rt: HostRuntime) -> Result<(), Fail> {
     for seed in 0..40u64 {
-        let aig = random(rt.alloc(), seed, 10)?;
-        let hashed = aig.strash()?;
-        assert_eq!(rt; hashed.num_nodes(), count_trees(rt.alloc(), &aig)?);
-        assert_eq!(rt; count_trees(rt.alloc(), &hashed)?, hashed.num_nodes());
+        merges_trees(&rt, rt.alloc(), &random(rt.alloc(), seed, 10)?)?;
     }
     Ok(())
 }
@@ -104,29 +124,22 @@ fn keeps_lists_and_first_names(rt: HostRuntime) -> Result<(), Fail> {
         Step::Name(1, "x"),
     ];
     let aig = built(rt.alloc(), &steps)?.strash()?;
-    let edge = AigEdge::from;
-    assert_eq!(rt; (aig.num_nodes(), aig.inputs()), (5, [1].as_slice()));
-    assert_eq!(rt; aig.latchs().len(), 1);
-    let latch = aig.latchs()[0];
-    assert_eq!(rt;
-        (latch.input(), latch.next(), latch.init()),
-        (2, !edge(3), Some(edge(3)))
-    );
-    assert_eq!(rt; aig.bads(), [!edge(4)].as_slice());
-    let justice = aig.justice();
-    assert_eq!(rt; justice.len(), 2);
-    assert_eq!(rt; justice[0].as_slice(), [edge(3), edge(3)].as_slice());
-    assert_eq!(rt; justice[1].as_slice(), [edge(4)].as_slice());
-    assert_eq!(rt; aig.symbols().len(), 2);
-    assert_eq!(rt; aig.get_symbol(3)?.as_deref(), Some("kept"));
-    assert_eq!(rt; aig.get_symbol(4)?.as_deref(), None);
+    is_described(
+        rt.alloc(),
+        &aig,
+        "nodes F L L 1&2 3&3\n\
+         inputs 1\n\
+         latches 2:!3:3\n\
+         outputs\n\
+         bads !4\n\
+         constraints\n\
+         justice [ 3 3 ] [ 4 ]\n\
+         fairness\n\
+         names 1=x 3=kept",
+    )?;
     let again = aig.strash()?;
     assert_eq!(rt; again.num_nodes(), 5);
     let closed = [Step::Input, Step::Gate(Pair::TrivialAnd, 2, 2)];
     let own = built(rt.alloc(), &closed)?.strash()?;
-    assert_eq!(rt;
-        text_of(rt.alloc(), &own)?.as_str(),
-        "aag 2 1 0 0 1\n2\n4 2 2\n"
-    );
-    Ok(())
+    is_written(rt.alloc(), &own, "aag 2 1 0 0 1\n2\n4 2 2\n")
 }

@@ -1,9 +1,8 @@
 //! Refused memory: each of these tests also ends well where any one request is refused.
 
-use super::building::{Many, Pair, Step, take};
-use super::fields::closed_reencoded;
 use aig::{Aig, AigLatch, PropList};
 use aig_base::MemoryError;
+use aig_testing::{Many, Pair, Step, closed_reencoded, take};
 
 /// Whether two latches are the same.
 fn are_same_latches(latch: &AigLatch, other: &AigLatch) -> bool {

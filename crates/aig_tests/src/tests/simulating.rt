@@ -2,11 +2,11 @@
 
 ghost use Rattle.std.specs.Prelude.{◌≡◌, All, IsTrue, length};
 
-use super::building::{Pair, Step, built};
-use super::read;
 use aig::{Aig, AigEdge, TernarySimulate};
 use aig_base::Lbool;
+use aig_testing::{Pair, Step, built, read};
 use std::alloc::Global;
+use std::process::Abort;
 use std::test::Fail;
 
 const F: Lbool = Lbool::FALSE;
@@ -103,14 +103,22 @@ fn simulates_runs(rt: HostRuntime) -> Result<(), Fail> {
 
 #[test]
 fn values_steps(rt: HostRuntime) -> Result<(), Fail> {
-    let toggle = read(rt.alloc(), "aag 1 0 1 1 0\n2 3\n2\n")?;
+    steps_toggle(
+        &rt,
+        rt.alloc(),
+        &read(rt.alloc(), "aag 1 0 1 1 0\n2 3\n2\n")?,
+    )
+}
+
+/// A step of a toggle from true gives its latch the value true.
+fn steps_toggle(rt: &impl Abort, alloc: Global, toggle: &Aig) -> Result<(), Fail> {
     let (latch, past) = (AigEdge::from(1), AigEdge::from(2));
     if toggle.latchs().len() != 1 || toggle.inputs().len() != 0 || !toggle.has_edge(latch) {
         return Err(Fail::from("another circuit"));
     }
-    let mut simulation = TernarySimulate::new(&toggle, vec![in rt.alloc(); T; 1]?);
+    let mut simulation = TernarySimulate::new(toggle, vec![in alloc; T; 1]?);
     assert!(rt; !simulation.has_value(latch));
-    simulation.simulate(Vec::new(rt.alloc()))?;
+    simulation.simulate(Vec::new(alloc))?;
     assert!(rt; simulation.has_value(latch) && !simulation.has_value(past));
     if simulation.has_value(!latch) && simulation.has_value(latch) {
         assert_eq!(rt; simulation.value(latch), T);

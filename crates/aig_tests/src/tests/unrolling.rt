@@ -1,9 +1,8 @@
 //! Circuits with further steps.
 
-use super::building::{Step, built};
-use super::read;
-use super::writing::text_of;
-use aig::{Aig, AigEdge, PropList};
+use super::whole::is_described;
+use aig::{Aig, PropList};
+use aig_testing::{Step, built, is_written, read, text_of};
 use std::test::Fail;
 
 #[test]
@@ -53,12 +52,7 @@ fn unrolls_files(rt: HostRuntime) -> Result<(), Fail> {
         ),
     ];
     for (text, k, unrolled) in rows {
-        let made = read(rt.alloc(), text)?.unroll_to(k)?;
-        assert_eq!(rt;
-            text_of(rt.alloc(), &made)?.as_str(),
-            unrolled,
-            "of {text:?}"
-        );
+        is_written(rt.alloc(), &read(rt.alloc(), text)?.unroll_to(k)?, unrolled)?;
     }
     Ok(())
 }
@@ -76,11 +70,8 @@ fn unrolls_step_by_step(rt: HostRuntime) -> Result<(), Fail> {
     let from = read(rt.alloc(), "aag 3 1 1 1 1\n2\n4 6\n6\n6 4 2\n")?;
     let mut aig = from.clone()?;
     for k in 0..4usize {
-        let at_once = from.unroll_to(k)?;
-        assert_eq!(rt;
-            text_of(rt.alloc(), &aig)?.as_str(),
-            text_of(rt.alloc(), &at_once)?.as_str()
-        );
+        let at_once = text_of(rt.alloc(), &from.unroll_to(k)?)?;
+        is_written(rt.alloc(), &aig, &at_once)?;
         unroll(&mut aig, &from)?;
     }
     Ok(())
@@ -96,15 +87,17 @@ fn unrolls_free_leaves(rt: HostRuntime) -> Result<(), Fail> {
         Step::Push(PropList::Bads, 4),
     ];
     let made = built(rt.alloc(), &steps)?.unroll_to(2)?;
-    assert_eq!(rt; made.num_nodes(), 5);
-    assert_eq!(rt; made.inputs(), [3, 4].as_slice());
-    assert_eq!(rt; made.latchs().len(), 1);
-    let latch = made.latchs()[0];
-    assert_eq!(rt;
-        (latch.input(), latch.next(), latch.init()),
-        (2, AigEdge::from(4), Some(!AigEdge::from(1)))
-    );
-    let edge = AigEdge::from;
-    assert_eq!(rt; made.bads(), [edge(2), edge(1), edge(3)].as_slice());
-    Ok(())
+    is_described(
+        rt.alloc(),
+        &made,
+        "nodes F L L L L\n\
+         inputs 3 4\n\
+         latches 2:4:!1\n\
+         outputs\n\
+         bads 2 1 3\n\
+         constraints\n\
+         justice\n\
+         fairness\n\
+         names",
+    )
 }

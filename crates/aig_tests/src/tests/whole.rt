@@ -1,10 +1,10 @@
 //! One circuit with an entry in every list, and each call that makes or changes circuits once on it. Expected values are
 //! worked out by hand.
 
-use super::building::{Pair, Step, built, has_edges};
 use super::hashing::random;
 use aig::{Aig, AigEdge, AigNodeType, PropList};
 use aig_base::Lbool;
+use aig_testing::{Pair, Step, built, has_edges};
 use std::alloc::Global;
 use std::fmt::Write;
 use std::test::Fail;
@@ -131,11 +131,21 @@ fn described(alloc: Global, aig: &Aig) -> Result<String, Fail> {
     Ok(text)
 }
 
+/// Fails where a circuit isn't described so, and shows how it is.
+pub(super) fn is_described(alloc: Global, aig: &Aig, text: &str) -> Result<(), Fail> {
+    let found = described(alloc, aig)?;
+    if found.as_str() != text {
+        return Err(Fail::from(found));
+    }
+    Ok(())
+}
+
 #[test]
 fn builds(rt: HostRuntime) -> Result<(), Fail> {
     let aig = built(rt.alloc(), &WHOLE)?;
-    assert_eq!(rt;
-        described(rt.alloc(), &aig)?.as_str(),
+    is_described(
+        rt.alloc(),
+        &aig,
         "nodes F L L L L L L 1&3 !4&6 1&3 7&8 8&9 2&2\n\
          inputs 2 1\n\
          latches 3:7:0 4:!8:- 5:3:!1\n\
@@ -144,9 +154,8 @@ fn builds(rt: HostRuntime) -> Result<(), Fail> {
          constraints 8 !5\n\
          justice [ 10 !3 ] [ ] [ 6 ]\n\
          fairness !6\n\
-         names 1=a 2=b 6=free 9=h 12=last"
-    );
-    Ok(())
+         names 1=a 2=b 6=free 9=h 12=last",
+    )
 }
 
 /// The marks of a cone.
@@ -173,8 +182,9 @@ fn marks_and_refines(rt: HostRuntime) -> Result<(), Fail> {
     assert!(rt; cone.len() == 5 && [0, 1, 3, 5, 7].iter().all(|id| cone.contains(id)));
     let (refined, map) = aig.coi_refine()?;
     assert_eq!(rt; map.len(), 11);
-    assert_eq!(rt;
-        described(rt.alloc(), &refined)?.as_str(),
+    is_described(
+        rt.alloc(),
+        &refined,
         "nodes F L L L L L 1&2 !3&5 1&2 6&7 7&8\n\
          inputs 1\n\
          latches 2:6:0 3:!7:- 4:2:!1\n\
@@ -183,9 +193,8 @@ fn marks_and_refines(rt: HostRuntime) -> Result<(), Fail> {
          constraints 7 !4\n\
          justice [ 9 !2 ] [ ] [ 5 ]\n\
          fairness !5\n\
-         names 1=a 5=free 8=h"
-    );
-    Ok(())
+         names 1=a 5=free 8=h",
+    )
 }
 
 #[test]
@@ -193,8 +202,9 @@ fn merges(rt: HostRuntime) -> Result<(), Fail> {
     let mut aig = built(rt.alloc(), &WHOLE)?;
     let other = aig.clone()?;
     aig.merge(&other)?;
-    assert_eq!(rt;
-        described(rt.alloc(), &aig)?.as_str(),
+    is_described(
+        rt.alloc(),
+        &aig,
         "nodes F L L L L L L 1&3 !4&6 1&3 7&8 8&9 2&2 L L L L L L 13&15 !16&18 13&15 19&20 20&21 14&14\n\
          inputs 2 1 14 13\n\
          latches 3:7:0 4:!8:- 5:3:!1 15:19:0 16:!20:- 17:15:!13\n\
@@ -203,17 +213,17 @@ fn merges(rt: HostRuntime) -> Result<(), Fail> {
          constraints 8 !5 20 !17\n\
          justice [ 10 !3 ] [ ] [ 6 ] [ 22 !15 ] [ ] [ 18 ]\n\
          fairness !6 !18\n\
-         names 1=a 2=b 6=free 9=h 12=last"
-    );
-    Ok(())
+         names 1=a 2=b 6=free 9=h 12=last",
+    )
 }
 
 #[test]
 fn changes_properties(rt: HostRuntime) -> Result<(), Fail> {
     let mut aig = built(rt.alloc(), &WHOLE)?;
     let moved = aig.aig_move()?;
-    assert_eq!(rt;
-        described(rt.alloc(), &moved)?.as_str(),
+    is_described(
+        rt.alloc(),
+        &moved,
         "nodes F L L L L L L 1&3 !4&6 1&3 7&8 8&9 2&2 L !5&8 13&14 7&15 10&15\n\
          inputs 2 1\n\
          latches 3:7:0 4:!8:- 5:3:!1 13:15:!0\n\
@@ -222,12 +232,13 @@ fn changes_properties(rt: HostRuntime) -> Result<(), Fail> {
          constraints\n\
          justice [ 10 !3 ] [ ] [ 6 ]\n\
          fairness !6\n\
-         names 1=a 2=b 6=free 9=h 12=last"
-    );
+         names 1=a 2=b 6=free 9=h 12=last",
+    )?;
     let mut gated = aig.clone()?;
     gated.gate_init_to_constraint()?;
-    assert_eq!(rt;
-        described(rt.alloc(), &gated)?.as_str(),
+    is_described(
+        rt.alloc(),
+        &gated,
         "nodes F L L L L L L 1&3 !4&6 1&3 7&8 8&9 2&2 L !1&5 1&!5 !14&!15 13&16\n\
          inputs 2 1\n\
          latches 3:7:0 4:!8:- 5:3:- 13:0:!0\n\
@@ -236,15 +247,16 @@ fn changes_properties(rt: HostRuntime) -> Result<(), Fail> {
          constraints 8 !5 !17\n\
          justice [ 10 !3 ] [ ] [ 6 ]\n\
          fairness !6\n\
-         names 1=a 2=b 6=free 9=h 12=last"
-    );
+         names 1=a 2=b 6=free 9=h 12=last",
+    )?;
     let old = aig.compress_property()?;
     assert_eq!(rt;
         old.as_slice(),
         [AigEdge::new(7, false), AigEdge::new(9, true)].as_slice()
     );
-    assert_eq!(rt;
-        described(rt.alloc(), &aig)?.as_str(),
+    is_described(
+        rt.alloc(),
+        &aig,
         "nodes F L L L L L L 1&3 !4&6 1&3 7&8 8&9 2&2 !7&9\n\
          inputs 2 1\n\
          latches 3:7:0 4:!8:- 5:3:!1\n\
@@ -253,18 +265,17 @@ fn changes_properties(rt: HostRuntime) -> Result<(), Fail> {
          constraints 8 !5\n\
          justice [ 10 !3 ] [ ] [ 6 ]\n\
          fairness !6\n\
-         names 1=a 2=b 6=free 9=h 12=last"
-    );
-    Ok(())
+         names 1=a 2=b 6=free 9=h 12=last",
+    )
 }
 
 #[test]
 fn unrolls(rt: HostRuntime) -> Result<(), Fail> {
     let mut aig = built(rt.alloc(), &WHOLE)?;
     let made = aig.unroll_to(1)?;
-    let unrolled = described(rt.alloc(), &made)?;
-    assert_eq!(rt;
-        unrolled.as_str(),
+    is_described(
+        rt.alloc(),
+        &made,
         "nodes F L L L L L L 1&3 !4&6 1&3 7&8 8&9 2&2 L L L 7&13 8&15 7&13 16&17 17&18\n\
          inputs 2 1 13 14 15\n\
          latches 3:16:0 4:!17:- 5:7:!1\n\
@@ -273,15 +284,14 @@ fn unrolls(rt: HostRuntime) -> Result<(), Fail> {
          constraints 8 !5 17 !3\n\
          justice [ 10 !3 ] [ ] [ 6 ] [ 19 !7 ] [ ] [ 15 ]\n\
          fairness !6 !15\n\
-         names 1=a 2=b 6=free 9=h 12=last"
-    );
+         names 1=a 2=b 6=free 9=h 12=last",
+    )?;
     let from = aig.clone()?;
     if !aig.begins_with(&from) {
         return Err(Fail::from("another circuit"));
     }
     aig.unroll(&from)?;
-    assert_eq!(rt; described(rt.alloc(), &aig)?.as_str(), unrolled.as_str());
-    Ok(())
+    is_described(rt.alloc(), &aig, &described(rt.alloc(), &made)?)
 }
 
 // A shift register that a free leaf feeds: at each step the last latch has what the leaf had three steps before.
@@ -297,8 +307,9 @@ fn unrolls_a_shift_register(rt: HostRuntime) -> Result<(), Fail> {
         Step::Justice(&[]),
     ];
     let made = built(rt.alloc(), &steps)?.unroll_to(4)?;
-    assert_eq!(rt;
-        described(rt.alloc(), &made)?.as_str(),
+    is_described(
+        rt.alloc(),
+        &made,
         "nodes F L L L L L L L L\n\
          inputs 5 6 7 8\n\
          latches 2:8:- 3:7:- 4:6:-\n\
@@ -307,9 +318,8 @@ fn unrolls_a_shift_register(rt: HostRuntime) -> Result<(), Fail> {
          constraints\n\
          justice [ 4 !2 ] [ ] [ 3 !1 ] [ ] [ 2 !5 ] [ ] [ 1 !6 ] [ ] [ 5 !7 ] [ ]\n\
          fairness\n\
-         names"
-    );
-    Ok(())
+         names",
+    )
 }
 
 /// The circuit in the order of a binary file.
@@ -324,8 +334,9 @@ fn reencoded(aig: &Aig) -> Result<Aig, Fail> {
 fn renumbers(rt: HostRuntime) -> Result<(), Fail> {
     let mut aig = built(rt.alloc(), &WHOLE)?;
     let hashed = aig.strash()?;
-    assert_eq!(rt;
-        described(rt.alloc(), &hashed)?.as_str(),
+    is_described(
+        rt.alloc(),
+        &hashed,
         "nodes F L L L L L L 1&3 !4&6 7&8 2&2\n\
          inputs 2 1\n\
          latches 3:7:0 4:!8:- 5:3:!1\n\
@@ -334,15 +345,16 @@ fn renumbers(rt: HostRuntime) -> Result<(), Fail> {
          constraints 8 !5\n\
          justice [ 9 !3 ] [ ] [ 6 ]\n\
          fairness !6\n\
-         names 1=a 2=b 6=free 10=last"
-    );
+         names 1=a 2=b 6=free 10=last",
+    )?;
     if !aig.is_free_leaf(6) {
         return Err(Fail::from("another circuit"));
     }
     aig.add_input(6)?;
     let placed = reencoded(&aig)?;
-    assert_eq!(rt;
-        described(rt.alloc(), &placed)?.as_str(),
+    is_described(
+        rt.alloc(),
+        &placed,
         "nodes F L L L L L L 2&4 3&!5 2&4 7&8 8&9 1&1\n\
          inputs 1 2 3\n\
          latches 4:7:0 5:!8:- 6:4:!2\n\
@@ -351,9 +363,8 @@ fn renumbers(rt: HostRuntime) -> Result<(), Fail> {
          constraints 8 !6\n\
          justice [ 10 !4 ] [ ] [ 3 ]\n\
          fairness !3\n\
-         names 1=b 2=a 3=free 9=h 12=last"
-    );
-    Ok(())
+         names 1=b 2=a 3=free 9=h 12=last",
+    )
 }
 
 #[test]
@@ -439,16 +450,22 @@ fn hashed_nodes(alloc: Global, aig: &Aig) -> Result<String, Fail> {
     Ok(text)
 }
 
+/// Fails where hashing doesn't give the nodes that comparing all trees gives, and shows what it gives.
+fn hashes_so(alloc: Global, aig: &Aig) -> Result<(), Fail> {
+    let hashed = described(alloc, &aig.strash()?)?;
+    if !hashed
+        .as_str()
+        .starts_with(hashed_nodes(alloc, aig)?.as_str())
+    {
+        return Err(Fail::from(hashed));
+    }
+    Ok(())
+}
+
 #[test]
 fn hashes_as_by_comparing_trees(rt: HostRuntime) -> Result<(), Fail> {
     for seed in 0..30u64 {
-        let aig = random(rt.alloc(), seed, 14)?;
-        let nodes = hashed_nodes(rt.alloc(), &aig)?;
-        let hashed = described(rt.alloc(), &aig.strash()?)?;
-        assert!(rt;
-            hashed.as_str().starts_with(nodes.as_str()),
-            "of seed {seed}"
-        );
+        hashes_so(rt.alloc(), &random(rt.alloc(), seed, 14)?)?;
     }
     Ok(())
 }

@@ -1,10 +1,12 @@
 //! Binary files, in and out.
 
-use super::building::{Pair, Step, built};
-use super::fields::closed_reencoded;
-use super::writing::{binary_of, text_of};
-use super::{AND, BINARY_AND, LIMIT, read, read_parts};
-use aig::{AigEdge, PropList};
+use super::reading::are_read;
+use aig::{Aig, AigEdge, PropList};
+use aig_testing::{
+    AND, BINARY_AND, Pair, Step, binary_of, built, closed_reencoded, is_latch, is_written,
+    is_written_in_binary, read,
+};
+use std::alloc::Global;
 use std::test::Fail;
 
 #[test]
@@ -19,11 +21,21 @@ fn writes_texts_in_binary(rt: HostRuntime) -> Result<(), Fail> {
         ),
     ];
     for (text, bytes) in rows {
-        let circuit = read(rt.alloc(), text)?;
-        let written = binary_of(rt.alloc(), &circuit)?;
-        assert_eq!(rt; written.as_slice(), bytes, "of {text:?}");
+        is_written_in_binary(rt.alloc(), &read(rt.alloc(), text)?, bytes)?;
     }
     Ok(())
+}
+
+/// The binary form of a text's circuit.
+fn in_binary(alloc: Global, text: &str) -> Result<Vec<u8>, Fail> {
+    let circuit = read(alloc, text)?;
+    binary_of(alloc, &circuit)
+}
+
+/// The binary form of a text's circuit is read as that circuit.
+fn is_read_again(alloc: Global, text: &str) -> Result<(), Fail> {
+    let bytes = in_binary(alloc, text)?;
+    are_read(alloc, &bytes, text)
 }
 
 #[test]
@@ -36,14 +48,21 @@ fn reads_what_it_wrote(rt: HostRuntime) -> Result<(), Fail> {
         "aag 1 0 1 0 0\n2 3 1\nl0 state\n",
     ];
     for text in rows {
-        let circuit = read(rt.alloc(), text)?;
-        let bytes = binary_of(rt.alloc(), &circuit)?;
-        for p in [1, 4096] {
-            let again = read_parts(rt.alloc(), &bytes, p, None, LIMIT)??;
-            assert_eq!(rt; text_of(rt.alloc(), &again)?.as_str(), text);
-        }
+        is_read_again(rt.alloc(), text)?;
     }
     Ok(())
+}
+
+/// The circuit of these steps in the order of a binary file.
+fn reencoded(alloc: Global, steps: &[Step<'_>]) -> Result<Aig, Fail> {
+    let made = closed_reencoded(&built(alloc, steps)?)?;
+    Ok(made.ok_or("a leaf is free")?)
+}
+
+/// The circuit of these steps, in the order of a binary file, has this text.
+fn is_reencoded(alloc: Global, steps: &[Step<'_>], text: &str) -> Result<(), Fail> {
+    let made = reencoded(alloc, steps)?;
+    is_written(alloc, &made, text)
 }
 
 // Inputs first, then latches, then gates: initial edges and names get the new numbers, and operands are put in order.
@@ -85,9 +104,7 @@ fn reencodes(rt: HostRuntime) -> Result<(), Fail> {
         ),
     ];
     for (steps, text) in rows {
-        let aig = built(rt.alloc(), steps)?;
-        let made = closed_reencoded(&aig)?.ok_or("a leaf is free")?;
-        assert_eq!(rt; text_of(rt.alloc(), &made)?.as_str(), text);
+        is_reencoded(rt.alloc(), steps, text)?;
     }
     Ok(())
 }
@@ -95,13 +112,8 @@ fn reencodes(rt: HostRuntime) -> Result<(), Fail> {
 #[test]
 fn reencodes_initial_edges(rt: HostRuntime) -> Result<(), Fail> {
     let steps = [Step::Leaf, Step::Input, Step::AddLatch(1, 4, Some(5))];
-    let aig = built(rt.alloc(), &steps)?;
-    let made = closed_reencoded(&aig)?.ok_or("a leaf is free")?;
+    let made = reencoded(rt.alloc(), &steps)?;
     assert_eq!(rt; made.latchs().len(), 1);
-    let latch = made.latchs()[0];
-    assert_eq!(rt;
-        (latch.input(), latch.next(), latch.init()),
-        (2, AigEdge::from(1), Some(!AigEdge::from(1)))
-    );
-    Ok(())
+    let edge = AigEdge::from(1);
+    is_latch(&made, 0, 2, edge, Some(!edge))
 }

@@ -2,30 +2,16 @@
 
 ghost use Rattle.std.specs.Prelude.{◌<◌};
 
-use super::building::{Step, built};
-use super::{AND, BINARY_AND, LIMIT, read};
+use super::streams::Idle;
 use aig::{Aig, WriteError};
 use aig_base::{Taker, ToWrite};
+use aig_testing::{AND, BINARY_AND, LIMIT, Step, built, is_written, read};
 use std::alloc::Global;
-use std::io::Write;
+use std::fmt::Write;
+use std::fs;
 use std::path::Path;
 use std::process::Abort;
 use std::test::Fail;
-use std::{fs, io};
-
-/// The text form of a circuit.
-pub(super) fn text_of(alloc: Global, circuit: &Aig) -> Result<String, Fail> {
-    let mut sink = ToWrite::new(Vec::new(alloc));
-    circuit.write_text(&mut sink)?;
-    Ok(String::from_utf8(sink.into_inner())?)
-}
-
-/// The binary form of a circuit.
-pub(super) fn binary_of(alloc: Global, circuit: &Aig) -> Result<Vec<u8>, Fail> {
-    let mut sink = ToWrite::new(Vec::new(alloc));
-    circuit.write_binary(&mut sink)?;
-    Ok(sink.into_inner())
-}
 
 /// What writing a circuit into a sink gives, in the text form or the binary form, and what the sink holds then. The sink takes `p`
 /// bytes at a time, and `room` in all.
@@ -47,6 +33,24 @@ fn written(
     Ok((result, sink.bytes().to_vec(alloc)?))
 }
 
+/// A sink with room for a beginning of the bytes holds it, and this is the answer.
+fn leaves_as_many(
+    rt: &impl Abort,
+    alloc: Global,
+    circuit: &Aig,
+    ascii: bool,
+    p: usize,
+    beginning: &[u8],
+    answer: Result<(), WriteError>,
+) -> Result<(), Fail>
+    requires { 0 < p }
+{
+    let (result, held) = written(alloc, circuit, ascii, p, beginning.len())?;
+    assert_eq!(rt; result, answer);
+    assert!(rt; held.as_slice() == beginning);
+    Ok(())
+}
+
 /// A sink without room for all of the bytes holds a beginning of them, and the answer is `Stream`.
 fn leaves_beginnings(
     rt: &impl Abort,
@@ -57,13 +61,10 @@ fn leaves_beginnings(
 ) -> Result<(), Fail> {
     for p in [1, 7, 4096] {
         for j in 0..bytes.len() {
-            let (result, held) = written(alloc, circuit, ascii, p, j)?;
-            assert_eq!(rt; result, Err(WriteError::Stream));
-            assert!(rt; held.as_slice() == &bytes[..j], "after {j} bytes");
+            let refused = Err(WriteError::Stream);
+            leaves_as_many(rt, alloc, circuit, ascii, p, &bytes[..j], refused)?;
         }
-        let (result, held) = written(alloc, circuit, ascii, p, bytes.len())?;
-        assert_eq!(rt; result, Ok(()));
-        assert!(rt; held.as_slice() == bytes);
+        leaves_as_many(rt, alloc, circuit, ascii, p, bytes, Ok(()))?;
     }
     Ok(())
 }
@@ -75,38 +76,32 @@ fn leaves_a_beginning(rt: HostRuntime) -> Result<(), Fail> {
     leaves_beginnings(&rt, rt.alloc(), &circuit, false, BINARY_AND)
 }
 
-#[test]
-fn writes_more_than_a_block(rt: HostRuntime) -> Result<(), Fail> {
-    let mut text = String::from_str(rt.alloc(), "aag 300 300 0 0 0\n")?;
+/// A file that doesn't fit into a buffer: three hundred inputs, the last of which has a long name.
+fn long_file(alloc: Global) -> Result<String, Fail> {
+    let mut text = String::from_str(alloc, "aag 300 300 0 0 0\n")?;
     for i in 1..301usize {
-        text.push_str(&format!(in rt.alloc(); "{}\n", 2 * i)?)?;
+        write!(text, "{}\n", 2 * i)?;
     }
     text.push_str("i299 ")?;
     for _ in 0..5000 {
         text.push('a')?;
     }
     text.push('\n')?;
-    let circuit = read(rt.alloc(), &text)?;
+    Ok(text)
+}
+
+/// The text is read, and written in pieces of these lengths.
+fn is_written_in_pieces(rt: &impl Abort, alloc: Global, text: &str) -> Result<(), Fail> {
+    let circuit = read(alloc, text)?;
     for p in [1, 7, 4096] {
-        let (result, held) = written(rt.alloc(), &circuit, true, p, text.len())?;
-        assert_eq!(rt; result, Ok(()));
-        assert!(rt; held.as_slice() == text.as_bytes());
+        leaves_as_many(rt, alloc, &circuit, true, p, text.as_bytes(), Ok(()))?;
     }
     Ok(())
 }
 
-/// A writer that takes no byte.
-#[derive(Drop)]
-struct Idle;
-
-impl Write for Idle {
-    fn write(&mut self, _piece: &[u8]) -> io::Result<usize> {
-        Ok(0)
-    }
-
-    fn flush(&mut self) -> io::Result<()> {
-        Ok(())
-    }
+#[test]
+fn writes_more_than_a_block(rt: HostRuntime) -> Result<(), Fail> {
+    is_written_in_pieces(&rt, rt.alloc(), &long_file(rt.alloc())?)
 }
 
 #[test]
@@ -114,6 +109,20 @@ fn tells_a_writer_that_takes_nothing(rt: HostRuntime) -> Result<(), Fail> {
     let circuit = read(rt.alloc(), AND)?;
     let mut idle = ToWrite::new(Idle);
     assert_eq!(rt; circuit.write_text(&mut idle), Err(WriteError::Stream));
+    Ok(())
+}
+
+/// A circuit that is refused so leaves a sink as it was.
+fn leaves_nothing(
+    rt: &impl Abort,
+    alloc: Global,
+    circuit: &Aig,
+    ascii: bool,
+    fault: WriteError,
+) -> Result<(), Fail> {
+    let (result, held) = written(alloc, circuit, ascii, 1, 64)?;
+    assert_eq!(rt; result, Err(fault));
+    assert_eq!(rt; held.len(), 0);
     Ok(())
 }
 
@@ -135,9 +144,7 @@ fn refuses_before_the_first_byte(rt: HostRuntime) -> Result<(), Fail> {
     for (steps, fault) in rows {
         let circuit = built(rt.alloc(), steps)?;
         for ascii in [true, false] {
-            let (result, held) = written(rt.alloc(), &circuit, ascii, 1, 64)?;
-            assert_eq!(rt; result, Err(fault));
-            assert_eq!(rt; held.len(), 0);
+            leaves_nothing(&rt, rt.alloc(), &circuit, ascii, fault)?;
             assert_eq!(rt; circuit.to_file(&rt, path, ascii), Err(fault));
             assert!(rt; fs::open(&rt, path).is_err());
         }
@@ -149,8 +156,7 @@ fn refuses_before_the_first_byte(rt: HostRuntime) -> Result<(), Fail> {
 #[test]
 fn passes_over_names_of_other_nodes(rt: HostRuntime) -> Result<(), Fail> {
     let circuit = built(rt.alloc(), &[Step::Name(0, "a\nb")])?;
-    assert_eq!(rt; text_of(rt.alloc(), &circuit)?.as_str(), "aag 0 0 0 0 0\n");
-    Ok(())
+    is_written(rt.alloc(), &circuit, "aag 0 0 0 0 0\n")
 }
 
 #[test]
@@ -166,8 +172,11 @@ fn writes_files(rt: HostRuntime) -> Result<(), Fail> {
         let path = Path::new(name);
         assert_eq!(rt; circuit.to_file(&rt, path, ascii), Ok(()));
         assert_eq!(rt; fs::read(&rt, path)?.as_slice(), bytes);
-        let again = Aig::from_file(&rt, rt.alloc(), path, LIMIT)?;
-        assert_eq!(rt; text_of(rt.alloc(), &again)?.as_str(), AND);
+        is_written(
+            rt.alloc(),
+            &Aig::from_file(&rt, rt.alloc(), path, LIMIT)?,
+            AND,
+        )?;
         fs::remove_file(&rt, path)?;
     }
     Ok(())

@@ -2,26 +2,34 @@
 
 ghost use Rattle.std.specs.Prelude.{◌<◌, ◌≤◌, ◌^◌};
 
-use super::writing::text_of;
-use super::{AND, BINARY_AND, LIMIT, PIECES, read_parts};
 use aig::{Aig, ReadError, Section};
 use aig_base::Parts;
+use aig_testing::{AND, BINARY_AND, LIMIT, PIECES, is_written, read_parts};
 use std::alloc::Global;
 use std::process::Abort;
 use std::test::Fail;
 
 /// The bytes are read, and their circuit is printed as this text, wherever they are cut.
-pub(super) fn are_read(
-    rt: &impl Abort,
-    alloc: Global,
-    bytes: &[u8],
-    text: &str,
-) -> Result<(), Fail> {
+pub(super) fn are_read(alloc: Global, bytes: &[u8], text: &str) -> Result<(), Fail> {
     for p in PIECES {
-        let circuit = read_parts(alloc, bytes, p, None, LIMIT)??;
-        assert_eq!(rt; text_of(alloc, &circuit)?.as_str(), text, "by {p}");
+        is_written(alloc, &read_parts(alloc, bytes, p, None, LIMIT)??, text)?;
     }
     Ok(())
+}
+
+/// Why these bytes are refused, if they are. The source gives `p` bytes at a time, and fails after `j` bytes if `j` is given.
+fn fault_of(
+    alloc: Global,
+    bytes: &[u8],
+    p: usize,
+    j: Option<usize>,
+    limit: usize,
+) -> Result<Option<ReadError>, Fail>
+    requires some { 1 ≤ limit }
+    requires few { limit ≤ 2 ^ 31 }
+    requires pieces { 0 < p }
+{
+    Ok(read_parts(alloc, bytes, p, j, limit)?.err())
 }
 
 /// The bytes are refused so, wherever they are cut.
@@ -36,7 +44,7 @@ pub(super) fn are_refused(
     requires few { limit ≤ 2 ^ 31 }
 {
     for p in PIECES {
-        let refused = read_parts(alloc, bytes, p, None, limit)?.err();
+        let refused = fault_of(alloc, bytes, p, None, limit)?;
         assert_eq!(rt; refused, Some(fault), "{bytes:?} by {p}");
     }
     Ok(())
@@ -62,7 +70,7 @@ fn reads_gates_and_latches(rt: HostRuntime) -> Result<(), Fail> {
         (b"aig 1 0 1 1 0\n3 2\n2\n", "aag 1 0 1 1 0\n2 3 2\n2\n"),
     ];
     for (bytes, text) in rows {
-        are_read(&rt, rt.alloc(), bytes, text)?;
+        are_read(rt.alloc(), bytes, text)?;
     }
     Ok(())
 }
@@ -96,35 +104,47 @@ fn reads_properties_names_and_comments(rt: HostRuntime) -> Result<(), Fail> {
         ),
     ];
     for (bytes, text) in rows {
-        are_read(&rt, rt.alloc(), bytes.as_bytes(), text)?;
+        are_read(rt.alloc(), bytes.as_bytes(), text)?;
     }
     are_read(
-        &rt,
         rt.alloc(),
         b"aag 0 0 0 1 0 1 1 1 1\n0\n0\n0\n0\n0\no0 \xff\xfe\nb0 a\nc0 a\nj0 a\nf0 a\n",
         "aag 0 0 0 1 0 1 1 1 1\n0\n0\n0\n0\n0\n",
     )
 }
 
+/// A header whose first number has 5,000 digits.
+fn long_number(alloc: Global) -> Result<Vec<u8>, Fail> {
+    let mut bytes = b"aag ".to_vec(alloc)?;
+    bytes.resize(5_004, b'0')?;
+    bytes.extend_from_slice(b" 0 0 0 0\n")?;
+    Ok(bytes)
+}
+
+/// An input with a name of 10,000 letters.
+fn long_name(alloc: Global) -> Result<String, Fail> {
+    let mut text = String::from_str(alloc, "aag 1 1 0 0 0\n2\ni0 ")?;
+    for _ in 0..10_000 {
+        text.push('a')?;
+    }
+    text.push('\n')?;
+    Ok(text)
+}
+
+/// The and of two inputs, with a comment of a million bytes.
+fn long_comment(alloc: Global) -> Result<Vec<u8>, Fail> {
+    let mut bytes = AND.as_bytes().to_vec(alloc)?;
+    bytes.push(b'c')?;
+    bytes.resize(1_000_027, 0)?;
+    Ok(bytes)
+}
+
 #[test]
 fn reads_what_is_longer_than_a_buffer(rt: HostRuntime) -> Result<(), Fail> {
-    let alloc = rt.alloc();
-    let mut zeros = b"aag ".to_vec(alloc)?;
-    zeros.resize(5_004, b'0')?;
-    zeros.extend_from_slice(b" 0 0 0 0\n")?;
-    are_read(&rt, alloc, &zeros, "aag 0 0 0 0 0\n")?;
-
-    let mut named = String::from_str(alloc, "aag 1 1 0 0 0\n2\ni0 ")?;
-    for _ in 0..10_000 {
-        named.push('a')?;
-    }
-    named.push('\n')?;
-    are_read(&rt, alloc, named.as_bytes(), named.as_str())?;
-
-    let mut comment = AND.as_bytes().to_vec(alloc)?;
-    comment.push(b'c')?;
-    comment.resize(1_000_027, 0)?;
-    are_read(&rt, alloc, &comment, AND)
+    are_read(rt.alloc(), &long_number(rt.alloc())?, "aag 0 0 0 0 0\n")?;
+    let named = long_name(rt.alloc())?;
+    are_read(rt.alloc(), named.as_bytes(), &named)?;
+    are_read(rt.alloc(), &long_comment(rt.alloc())?, AND)
 }
 
 #[test]
@@ -145,20 +165,18 @@ fn refuses_headers(rt: HostRuntime) -> Result<(), Fail> {
     for bytes in rows {
         are_refused(&rt, rt.alloc(), bytes, LIMIT, ReadError::Header)?;
     }
-    are_refused(
-        &rt,
-        rt.alloc(),
-        b"aag 4000 4000 0 0 0\n",
-        100,
-        ReadError::TooMany,
-    )?;
-    are_refused(
-        &rt,
-        rt.alloc(),
-        b"aig 4294967295 4294967295 0 0 0\n",
-        LIMIT,
-        ReadError::TooMany,
-    )?;
+    Ok(())
+}
+
+#[test]
+fn keeps_within_the_limit(rt: HostRuntime) -> Result<(), Fail> {
+    let rows: [(&[u8], usize); 2] = [
+        (b"aag 4000 4000 0 0 0\n", 100),
+        (b"aig 4294967295 4294967295 0 0 0\n", LIMIT),
+    ];
+    for (bytes, limit) in rows {
+        are_refused(&rt, rt.alloc(), bytes, limit, ReadError::TooMany)?;
+    }
     let least = read_parts(rt.alloc(), b"aag 0 0 0 0 0\n", 1, None, 1)??;
     assert_eq!(rt; least.num_nodes(), 1);
     Ok(())
@@ -273,12 +291,12 @@ fn tells_a_failed_read_wherever_it_comes(rt: HostRuntime) -> Result<(), Fail> {
     for bytes in [AND.as_bytes(), BINARY_AND, named] {
         for j in 0..bytes.len() + 1 {
             for p in [1, 4096] {
-                let refused = read_parts(rt.alloc(), bytes, p, Some(j), LIMIT)?.err();
+                let refused = fault_of(rt.alloc(), bytes, p, Some(j), LIMIT)?;
                 assert_eq!(rt; refused, Some(ReadError::Stream), "after {j} bytes");
             }
         }
-        let whole = read_parts(rt.alloc(), bytes, 1, Some(bytes.len() + 1), LIMIT)?;
-        assert!(rt; whole.is_ok());
+        let whole = fault_of(rt.alloc(), bytes, 1, Some(bytes.len() + 1), LIMIT)?;
+        assert_eq!(rt; whole, None);
     }
     Ok(())
 }

@@ -2,12 +2,10 @@
 //!
 //! The simulator knows the lines alone, and the solver the clauses: neither asks the library for a value.
 
-ghost use Rattle.std.specs.Prelude.{◌<◌, ◌≤◌, ◌^◌};
-
-use super::LIMIT;
 use aig::{Aig, AigEdge};
 use aig_base::{DagCnf, Lit, LitVvec, Parts, Var};
-use aig_encode::{Query, query};
+use aig_encode::{Encoded, Query, query};
+use aig_testing::LIMIT;
 use std::alloc::Global;
 use std::process::Abort;
 use std::test::Fail;
@@ -217,6 +215,16 @@ fn propagate(values: &mut [Option<bool>], clauses: &[&[Lit]]) {
     }
 }
 
+/// Whether all clauses of a list hold.
+fn all_hold(values: &[Option<bool>], list: &LitVvec) -> bool {
+    for i in 0..list.len() {
+        if !holds(values, list.clause(i)) {
+            return false;
+        }
+    }
+    true
+}
+
 /// The clauses of a list behind others.
 fn append<'a>(all: &mut Vec<&'a [Lit]>, list: &'a LitVvec) -> Result<(), Fail> {
     for i in 0..list.len() {
@@ -248,6 +256,22 @@ fn places(alloc: Global, lines: &Lines<'_>, unrolled: &Aig) -> Result<Vec<usize>
     Ok(places)
 }
 
+/// Gives the inputs of the unrolled circuit the values that they have at the steps of a run.
+fn fill_inputs(
+    alloc: Global,
+    lines: &Lines<'_>,
+    unrolled: &Aig,
+    steps: &[Vec<bool>],
+    values: &mut [Option<bool>],
+) -> Result<(), Fail> {
+    let given = values_of(alloc, steps, lines.inputs)?;
+    let places = places(alloc, lines, unrolled)?;
+    for (id, bit) in places.iter().zip(given) {
+        assign(values, *id, bit == Some(true));
+    }
+    Ok(())
+}
+
 /// The values of nodes that a run gives to the leaves of the unrolled circuit.
 fn leaf_values(
     alloc: Global,
@@ -255,16 +279,12 @@ fn leaf_values(
     unrolled: &Aig,
     steps: &[Vec<bool>],
 ) -> Result<Vec<Option<bool>>, Fail> {
-    let mut values = vec![in alloc; None; unrolled.num_nodes()]?;
     let first = steps.first().ok_or("no step")?;
+    let mut values = vec![in alloc; None; unrolled.num_nodes()]?;
     for latch in lines.latches {
         assign(&mut values, latch.literal / 2, value(first, latch.literal));
     }
-    let given = values_of(alloc, steps, lines.inputs)?;
-    let places = places(alloc, lines, unrolled)?;
-    for (id, bit) in places.iter().zip(given) {
-        assign(&mut values, *id, bit == Some(true));
-    }
+    fill_inputs(alloc, lines, unrolled, steps, &mut values)?;
     Ok(values)
 }
 
@@ -291,6 +311,57 @@ fn are_as_run(
     Ok(())
 }
 
+/// The justice sets of the unrolled circuit have the values of the run, a set a step.
+fn is_justice_as_run(
+    rt: &impl Abort,
+    alloc: Global,
+    lines: &Lines<'_>,
+    values: &[Option<bool>],
+    unrolled: &Aig,
+    steps: &[Vec<bool>],
+) -> Result<(), Fail> {
+    if !lines.justice.is_empty() {
+        assert_eq!(rt; unrolled.justice().len(), steps.len());
+    }
+    for (set, step) in unrolled.justice().iter().zip(steps.chunks(1)) {
+        are_as_run(rt, alloc, values, set, step, lines.justice)?;
+    }
+    Ok(())
+}
+
+/// The next edges of a circuit's latches.
+fn next_edges(alloc: Global, aig: &Aig) -> Result<Vec<AigEdge>, Fail> {
+    let mut next = Vec::new(alloc);
+    for latch in aig.latchs() {
+        next.push(latch.next())?;
+    }
+    Ok(next)
+}
+
+/// The literals of the latches' next states.
+fn next_literals(alloc: Global, lines: &Lines<'_>) -> Result<Vec<usize>, Fail> {
+    let mut literals = Vec::new(alloc);
+    for latch in lines.latches {
+        literals.push(latch.next)?;
+    }
+    Ok(literals)
+}
+
+/// The next edges of the unrolled circuit have the values that the last step gives the next states.
+fn is_next_as_run(
+    rt: &impl Abort,
+    alloc: Global,
+    lines: &Lines<'_>,
+    values: &[Option<bool>],
+    unrolled: &Aig,
+    steps: &[Vec<bool>],
+) -> Result<(), Fail> {
+    let last = steps.chunks(1).next_back().ok_or("no step")?;
+    let next = next_edges(alloc, unrolled)?;
+    let literals = next_literals(alloc, lines)?;
+    are_as_run(rt, alloc, values, &next, last, &literals)
+}
+
 /// All properties of the unrolled circuit, and its next edges, have the values of the run.
 fn is_as_run(
     rt: &impl Abort,
@@ -300,40 +371,17 @@ fn is_as_run(
     unrolled: &Aig,
     steps: &[Vec<bool>],
 ) -> Result<(), Fail> {
-    are_as_run(rt, alloc, values, unrolled.outputs(), steps, lines.outputs)?;
-    are_as_run(rt, alloc, values, unrolled.bads(), steps, lines.bads)?;
-    are_as_run(
-        rt,
-        alloc,
-        values,
-        unrolled.constraints(),
-        steps,
-        lines.constraints,
-    )?;
-    are_as_run(
-        rt,
-        alloc,
-        values,
-        unrolled.fairness(),
-        steps,
-        lines.fairness,
-    )?;
-    if !lines.justice.is_empty() {
-        assert_eq!(rt; unrolled.justice().len(), steps.len());
+    let lists = [
+        (unrolled.outputs(), lines.outputs),
+        (unrolled.bads(), lines.bads),
+        (unrolled.constraints(), lines.constraints),
+        (unrolled.fairness(), lines.fairness),
+    ];
+    for (edges, literals) in lists {
+        are_as_run(rt, alloc, values, edges, steps, literals)?;
     }
-    for (set, step) in unrolled.justice().iter().zip(steps.chunks(1)) {
-        are_as_run(rt, alloc, values, set, step, lines.justice)?;
-    }
-    let mut next = Vec::new(alloc);
-    for latch in unrolled.latchs() {
-        next.push(latch.next())?;
-    }
-    let mut literals = Vec::new(alloc);
-    for latch in lines.latches {
-        literals.push(latch.next)?;
-    }
-    let last = steps.chunks(1).next_back().ok_or("no step")?;
-    are_as_run(rt, alloc, values, &next, last, &literals)
+    is_justice_as_run(rt, alloc, lines, values, unrolled, steps)?;
+    is_next_as_run(rt, alloc, lines, values, unrolled, steps)
 }
 
 /// Whether the run begins with the initial values, meets all constraints, and ends in a bad state.
@@ -354,28 +402,72 @@ fn is_witness(lines: &Lines<'_>, steps: &[Vec<bool>]) -> bool {
     starts && allowed && ends
 }
 
-/// The clauses fix what the run of these bits has, and hold with the further clauses of the query exactly where it is a witness.
-/// Answers whether it is one.
-fn agrees(
+/// What all clauses of the unrolled circuit fix, where its leaves have the values of a run. Then all of them hold.
+fn fixed_values(
+    rt: &impl Abort,
+    alloc: Global,
+    lines: &Lines<'_>,
+    encoded: &Encoded,
+    steps: &[Vec<bool>],
+) -> Result<Vec<Option<bool>>, Fail> {
+    let clauses = all_clauses(alloc, &encoded.clauses)?;
+    let mut values = leaf_values(alloc, lines, &encoded.unrolled, steps)?;
+    propagate(&mut values, &clauses);
+    assert!(rt; clauses.iter().all(|clause| holds(&values, clause)));
+    Ok(values)
+}
+
+/// The clauses fix what the run of these bits has. Answers whether the further clauses of the query hold then, and whether the run
+/// is a witness.
+fn answers(
     rt: &impl Abort,
     alloc: Global,
     lines: &Lines<'_>,
     asked: &Query,
     k: usize,
     bits: usize,
-) -> Result<bool, Fail> {
-    let unrolled = &asked.encoded.unrolled;
-    let clauses = all_clauses(alloc, &asked.encoded.clauses)?;
-    let mut further = Vec::new(alloc);
-    append(&mut further, &asked.extra)?;
+) -> Result<(bool, bool), Fail> {
     let steps = run(alloc, lines, k, bits)?;
-    let mut values = leaf_values(alloc, lines, unrolled, &steps)?;
-    propagate(&mut values, &clauses);
-    assert!(rt; clauses.iter().all(|clause| holds(&values, clause)));
-    is_as_run(rt, alloc, lines, &values, unrolled, &steps)?;
-    let asks = further.iter().all(|clause| holds(&values, clause));
-    assert_eq!(rt; asks, is_witness(lines, &steps), "of {bits} with {k} steps");
-    Ok(asks)
+    let values = fixed_values(rt, alloc, lines, &asked.encoded, &steps)?;
+    is_as_run(rt, alloc, lines, &values, &asked.encoded.unrolled, &steps)?;
+    Ok((all_hold(&values, &asked.extra), is_witness(lines, &steps)))
+}
+
+/// The further clauses of the query hold exactly on the witnesses among so many runs. Answers how many these are.
+fn count_witnesses(
+    rt: &impl Abort,
+    alloc: Global,
+    lines: &Lines<'_>,
+    asked: &Query,
+    k: usize,
+    runs: usize,
+) -> Result<usize, Fail> {
+    let mut count: usize = 0;
+    for bits in 0..runs {
+        let (asks, witness) = answers(rt, alloc, lines, asked, k, bits)?;
+        assert_eq!(rt; asks, witness, "of {bits} with {k} steps");
+        count = count.saturating_add(asks as usize);
+    }
+    Ok(count)
+}
+
+/// The query of a file, with `k` steps.
+fn asked(alloc: Global, lines: &Lines<'_>, k: usize, optimize: bool) -> Result<Query, Fail> {
+    let mut source = Parts::new(lines.text.as_bytes().to_vec(alloc)?, 7, None);
+    Ok(query(alloc, &mut source, LIMIT, k, optimize)?)
+}
+
+/// How many of so many runs are witnesses, by the query of a file.
+fn find_witnesses(
+    rt: &impl Abort,
+    alloc: Global,
+    lines: &Lines<'_>,
+    k: usize,
+    runs: usize,
+    optimize: bool,
+) -> Result<usize, Fail> {
+    let asked = asked(alloc, lines, k, optimize)?;
+    count_witnesses(rt, alloc, lines, &asked, k, runs)
 }
 
 /// The clauses with `k` steps agree with all of so many runs, and so many of these are witnesses.
@@ -388,15 +480,8 @@ fn agrees_on_all(
     count: usize,
 ) -> Result<(), Fail> {
     for optimize in [false, true] {
-        let mut source = Parts::new(lines.text.as_bytes().to_vec(alloc)?, 7, None);
-        let asked = query(alloc, &mut source, LIMIT, k, optimize)?;
-        let mut witnesses = Vec::new(alloc);
-        for bits in 0..runs {
-            if agrees(rt, alloc, lines, &asked, k, bits)? {
-                witnesses.push(bits)?;
-            }
-        }
-        assert_eq!(rt; witnesses.len(), count, "with {k} steps");
+        let found = find_witnesses(rt, alloc, lines, k, runs, optimize)?;
+        assert_eq!(rt; found, count, "with {k} steps");
     }
     Ok(())
 }

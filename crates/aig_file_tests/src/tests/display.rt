@@ -1,8 +1,7 @@
 //! What a circuit is printed as, and where it isn't.
 
-use super::building::{Pair, Step, built};
-use super::{AND, read};
 use aig::{Aig, PropList};
+use aig_testing::{AND, Pair, Step, built, read};
 use std::alloc::Global;
 use std::fmt;
 use std::fmt::Write;
@@ -107,12 +106,25 @@ fn refusals_are_told(rt: HostRuntime) -> Result<(), Fail> {
     Ok(())
 }
 
+/// A circuit is printed as this text in a field of sixty characters, too.
+fn is_not_padded(rt: &impl Abort, alloc: Global, aig: &Aig, text: &str) -> Result<(), Fail> {
+    let printed = format!(in alloc; "{aig:>60}")?;
+    assert_eq!(rt; printed.as_str(), text);
+    Ok(())
+}
+
+/// A circuit is printed as this text with a precision of three, too.
+fn is_not_cut(rt: &impl Abort, alloc: Global, aig: &Aig, text: &str) -> Result<(), Fail> {
+    let printed = format!(in alloc; "{aig:.3}")?;
+    assert_eq!(rt; printed.as_str(), text);
+    Ok(())
+}
+
 #[test]
 fn the_options_of_a_placeholder_are_passed_over(rt: HostRuntime) -> Result<(), Fail> {
     let aig = read(rt.alloc(), AND)?;
-    assert_eq!(rt; format!(in rt.alloc(); "{aig:>60}")?.as_str(), AND);
-    assert_eq!(rt; format!(in rt.alloc(); "{aig:.3}")?.as_str(), AND);
-    Ok(())
+    is_not_padded(&rt, rt.alloc(), &aig, AND)?;
+    is_not_cut(&rt, rt.alloc(), &aig, AND)
 }
 
 /// How a circuit is printed into so much room.

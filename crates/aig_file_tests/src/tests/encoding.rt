@@ -2,13 +2,11 @@
 
 ghost use Rattle.std.specs.Prelude.{◌<◌, ◌≤◌, ◌^◌};
 
-use super::writing::text_of;
-use super::{AND, LIMIT, read_parts};
-use aig::{ReadError, Section};
+use aig::{Aig, ReadError, Section};
 use aig_base::Parts;
 use aig_encode::{EncodeError, Encoded, encode, query};
+use aig_testing::{AND, LIMIT, is_written, read_parts};
 use std::alloc::Global;
-use std::process::Abort;
 use std::test::Fail;
 
 /// What encoding with `k` further steps gives for these bytes. The source gives `p` bytes at a time, and fails after `j` bytes if
@@ -29,9 +27,25 @@ fn encoded(
     Ok(encode(alloc, &mut source, limit, k, true))
 }
 
+/// The circuit has this text, or is refused so.
+fn is_as_wanted(
+    alloc: Global,
+    made: Result<&Aig, EncodeError>,
+    wanted: Result<&str, EncodeError>,
+) -> Result<(), Fail> {
+    match made {
+        Ok(circuit) => is_written(alloc, circuit, wanted?),
+        Err(fault) => {
+            if wanted.err() != Some(fault) {
+                return Err(Fail::from(fault));
+            }
+            Ok(())
+        }
+    }
+}
+
 /// The text of the unrolled circuit, or the refusal, is this.
 fn unrolls(
-    rt: &impl Abort,
     alloc: Global,
     file: &str,
     limit: usize,
@@ -42,13 +56,9 @@ fn unrolls(
     requires few { limit ≤ 2 ^ 31 }
 {
     match encoded(alloc, file.as_bytes(), 7, None, limit, k)? {
-        Ok(made) => {
-            let text = text_of(alloc, &made.unrolled)?;
-            assert_eq!(rt; Ok(text.as_str()), wanted);
-        }
-        Err(fault) => assert_eq!(rt; Err(fault), wanted),
+        Ok(made) => is_as_wanted(alloc, Ok(&made.unrolled), wanted),
+        Err(fault) => is_as_wanted(alloc, Err(fault), wanted),
     }
-    Ok(())
 }
 
 // The limit is on all nodes that the steps may take, whatever folds.
@@ -56,47 +66,57 @@ fn unrolls(
 fn keeps_within_the_limit(rt: HostRuntime) -> Result<(), Fail> {
     let alloc = rt.alloc();
     let toggle = "aag 1 0 1 1 0\n2 3\n2\n";
-    unrolls(&rt, alloc, toggle, 2, 1, Ok("aag 1 0 1 2 0\n2 2\n2\n3\n"))?;
+    unrolls(alloc, toggle, 2, 1, Ok("aag 1 0 1 2 0\n2 2\n2\n3\n"))?;
     let held = "aag 3 1 1 1 1\n2\n4 1\n6\n6 4 2\n";
     let step = "aag 4 2 1 2 1\n2\n8\n4 1\n6\n8\n6 4 2\n";
-    unrolls(&rt, alloc, held, 6, 1, Ok(step))?;
-    unrolls(&rt, alloc, held, 5, 1, Err(EncodeError::TooLarge))?;
+    unrolls(alloc, held, 6, 1, Ok(step))?;
+    unrolls(alloc, held, 5, 1, Err(EncodeError::TooLarge))?;
     let too_many = EncodeError::Read(ReadError::TooMany);
-    unrolls(&rt, alloc, held, 3, 1, Err(too_many))?;
+    unrolls(alloc, held, 3, 1, Err(too_many))?;
     let input = "aag 1 1 0 0 0\n2\n";
-    unrolls(&rt, alloc, input, 3, 1, Ok("aag 2 2 0 0 0\n2\n4\n"))?;
-    unrolls(&rt, alloc, input, 3, usize::MAX, Err(EncodeError::TooLarge))
+    unrolls(alloc, input, 3, 1, Ok("aag 2 2 0 0 0\n2\n4\n"))?;
+    unrolls(alloc, input, 3, usize::MAX, Err(EncodeError::TooLarge))
 }
 
-/// A circuit with this text is read from the bytes, or they are refused so, and encoding them without further steps gives the same,
-/// whether they come whole or one at a time.
-fn are_read_alike(
-    rt: &impl Abort,
+/// A circuit with this text is read from the bytes, or they are refused so.
+fn is_read(
     alloc: Global,
     bytes: &[u8],
-    wanted: Result<&str, ReadError>,
+    p: usize,
+    wanted: Result<&str, EncodeError>,
+) -> Result<(), Fail>
+    requires pieces { 0 < p }
+{
+    match read_parts(alloc, bytes, p, None, 10)? {
+        Ok(made) => is_as_wanted(alloc, Ok(&made), wanted),
+        Err(fault) => is_as_wanted(alloc, Err(EncodeError::Read(fault)), wanted),
+    }
+}
+
+/// A circuit with this text is encoded from the bytes, without further steps, or they are refused so.
+fn is_encoded(
+    alloc: Global,
+    bytes: &[u8],
+    p: usize,
+    wanted: Result<&str, EncodeError>,
+) -> Result<(), Fail>
+    requires pieces { 0 < p }
+{
+    match encoded(alloc, bytes, p, None, 10, 0)? {
+        Ok(made) => is_as_wanted(alloc, Ok(&made.circuit), wanted),
+        Err(fault) => is_as_wanted(alloc, Err(fault), wanted),
+    }
+}
+
+/// Reading the bytes and encoding them give the same, whether they come whole or one at a time.
+fn are_read_alike(
+    alloc: Global,
+    bytes: &[u8],
+    wanted: Result<&str, EncodeError>,
 ) -> Result<(), Fail> {
     for p in [1, 4096] {
-        let read = read_parts(alloc, bytes, p, None, 10)?;
-        let made = encoded(alloc, bytes, p, None, 10, 0)?;
-        match wanted {
-            Ok(text) => {
-                assert_eq!(rt; text_of(alloc, &read?)?.as_str(), text, "{bytes:?} by {p}");
-                assert_eq!(rt;
-                    text_of(alloc, &made?.circuit)?.as_str(),
-                    text,
-                    "{bytes:?} by {p}"
-                );
-            }
-            Err(fault) => {
-                assert_eq!(rt; read.err(), Some(fault), "{bytes:?} by {p}");
-                assert_eq!(rt;
-                    made.err(),
-                    Some(EncodeError::Read(fault)),
-                    "{bytes:?} by {p}"
-                );
-            }
-        }
+        is_read(alloc, bytes, p, wanted)?;
+        is_encoded(alloc, bytes, p, wanted)?;
     }
     Ok(())
 }
@@ -148,25 +168,27 @@ fn encodes_what_is_read(rt: HostRuntime) -> Result<(), Fail> {
         (b"aag 0 0 0 0 0\nc", Ok("aag 0 0 0 0 0\n")),
     ];
     for (bytes, wanted) in rows {
-        are_read_alike(&rt, rt.alloc(), bytes, wanted)?;
+        are_read_alike(rt.alloc(), bytes, wanted.map_err(EncodeError::Read))?;
     }
     Ok(())
+}
+
+/// Why these bytes are refused where the source gives one at a time, and fails after `j` bytes.
+fn fault_of(alloc: Global, bytes: &[u8], j: usize) -> Result<Option<EncodeError>, Fail> {
+    Ok(encoded(alloc, bytes, 1, Some(j), LIMIT, 1)?.err())
 }
 
 // Reading the end is a read, too.
 #[test]
 fn tells_a_failed_read_wherever_it_comes(rt: HostRuntime) -> Result<(), Fail> {
     let bytes = AND.as_bytes();
+    let fault = Some(EncodeError::Read(ReadError::Stream));
     for j in 0..bytes.len() + 1 {
-        let refused = encoded(rt.alloc(), bytes, 1, Some(j), LIMIT, 1)?.err();
-        assert_eq!(rt;
-            refused,
-            Some(EncodeError::Read(ReadError::Stream)),
-            "after {j} bytes"
-        );
+        let refused = fault_of(rt.alloc(), bytes, j)?;
+        assert_eq!(rt; refused, fault, "after {j} bytes");
     }
-    let whole = encoded(rt.alloc(), bytes, 1, Some(bytes.len() + 1), LIMIT, 1)?;
-    assert!(rt; whole.is_ok());
+    let whole = fault_of(rt.alloc(), bytes, bytes.len() + 1)?;
+    assert_eq!(rt; whole, None);
     Ok(())
 }
 

@@ -1,8 +1,9 @@
 //! Text files that leave variables out, or have their gates in any order.
 
 use super::reading::{are_read, are_refused};
-use super::{LIMIT, read};
 use aig::{AigEdge, ReadError, Section};
+use aig_testing::{LIMIT, read};
+use std::alloc::Global;
 use std::fmt::Write;
 use std::test::Fail;
 
@@ -32,7 +33,7 @@ fn numbers_nodes_by_level(rt: HostRuntime) -> Result<(), Fail> {
         ),
     ];
     for (text, printed) in rows {
-        are_read(&rt, rt.alloc(), text.as_bytes(), printed)?;
+        are_read(rt.alloc(), text.as_bytes(), printed)?;
     }
     Ok(())
 }
@@ -73,9 +74,9 @@ fn refuses_what_has_no_number(rt: HostRuntime) -> Result<(), Fail> {
     Ok(())
 }
 
-#[test]
-fn reads_a_long_chain_that_falls(rt: HostRuntime) -> Result<(), Fail> {
-    let mut text = String::new(rt.alloc());
+/// A chain of gates that each stand on the next line's gate.
+fn falling_chain(alloc: Global) -> Result<String, Fail> {
+    let mut text = String::new(alloc);
     write!(
         text,
         "aag {} 1 0 1 {CHAIN}\n2\n{}\n",
@@ -86,7 +87,12 @@ fn reads_a_long_chain_that_falls(rt: HostRuntime) -> Result<(), Fail> {
         let operand = 2 * (CHAIN - i);
         write!(text, "{} {operand} {operand}\n", operand + 2)?;
     }
-    let circuit = read(rt.alloc(), text.as_str())?;
+    Ok(text)
+}
+
+#[test]
+fn reads_a_long_chain_that_falls(rt: HostRuntime) -> Result<(), Fail> {
+    let circuit = read(rt.alloc(), &falling_chain(rt.alloc())?)?;
     assert_eq!(rt; circuit.num_nodes(), CHAIN + 2);
     assert_eq!(rt;
         circuit.outputs().first().copied(),

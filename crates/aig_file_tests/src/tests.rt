@@ -1,0 +1,11 @@
+//! Whole files, from bytes to circuits and clauses, and from circuits to bytes.
+
+mod binary;
+mod display;
+mod encoding;
+mod gaps;
+mod lexing;
+mod reading;
+mod runs;
+mod streams;
+mod writing;
