@@ -5,6 +5,15 @@ use Rattle.std.proofs.lemmas.Option.{same_Some}
 use Rattle.std.proofs.lemmas.List.{take_more}
 use Rattle.aig_ordering.specs.Numbers.{all_by}
 
+-- what was mapped to something, and what to nothing
+pub mapped_some : {A B : Type 0} (g : A → B) (o : Option A) (y : B) → option_map g o ≡ Some y → (x : A) × (o ≡ Some x) × (y ≡ g x)
+mapped_some g (Some x) y is = (x, refl, sym (same_Some _ _ is))
+mapped_some g None y is = absurd cc
+
+pub mapped_none : {A B : Type 0} (g : A → B) (o : Option A) → option_map g o ≡ None → o ≡ None
+mapped_none g (Some x) is = absurd cc
+mapped_none g None is = refl
+
 module _ {A B : Type 0} (f : A → Option B) where
   -- what goes before the images of the others
   abbrev before : List A → B → Option (List B)

@@ -8,6 +8,8 @@ use Rattle.aig_circuit.specs.declared.node.AigNode.{AigNode}
 use Rattle.aig_circuit.specs.declared.node.AigNodeType.{AigNodeType}
 use Rattle.aig_circuit.specs.Renumber.{place_of}
 use Rattle.aig_ordering.specs.Numbers.{node_of, number_at, number_in, numbered}
+use Rattle.aig_ordering.specs.Tables.{told}
+use Rattle.aig_ordering.proofs.Tables.{told-more, told-nothing}
 
 -- ---- numbers by places
 
@@ -36,30 +38,35 @@ number_all xs v zero is = by_number (number_in xs v)
 number_all xs v (suc i) is = absurd (omega arith)
 
 -- a table without numbers
-pub number_none : (n v i : ℕ) (xs : List ℕ) → length xs ≤ i → number_at (replicate n None) v ≡ number_from i (drop i xs) v
-number_none n v i xs past = at_none n v ∙ sym (ap (λ (ys : List ℕ). number_from i ys v) (drop_all i xs past))
-  where
-    at_none : (n v : ℕ) → number_at (replicate n None) v ≡ None
-    at_none zero v = refl
-    at_none (suc n) zero = refl
-    at_none (suc n) (suc v) = at_none n v
+pub number_none : (n v i : ℕ) (xs : List ℕ) → length xs ≤ i → number_at (replicate n 0) v ≡ number_from i (drop i xs) v
+number_none n v i xs past = told-nothing n v ∙ sym (ap (λ (ys : List ℕ). number_from i ys v) (drop_all i xs past))
 
 -- the number of one place less
-pub number_more : (numbers : List (Option ℕ)) (xs : List ℕ) (i v : ℕ) → i < length xs → get_or xs i 0 < length numbers → number_at numbers v ≡ number_from (i + 1) (drop (i + 1) xs) v
-    → number_at (set numbers (get_or xs i 0) (Some i)) v ≡ number_from i (drop i xs) v
+pub number_more : (numbers : List ℕ) (xs : List ℕ) (i v : ℕ) → i < length xs → get_or xs i 0 < length numbers → number_at numbers v ≡ number_from (i + 1) (drop (i + 1) xs) v
+    → number_at (set numbers (get_or xs i 0) (i + 1)) v ≡ number_from i (drop i xs) v
 number_more numbers xs i v h within is = by_case (cases_eq v (get_or xs i 0)) ∙ sym (ap (λ (ys : List ℕ). number_from i ys v) (drop_more xs i 0 h))
   where
-    by_case : (v ≡ get_or xs i 0) ⊎ (v ≢ get_or xs i 0) → number_at (set numbers (get_or xs i 0) (Some i)) v ≡ number_from i (get_or xs i 0 ∷ drop (i + 1) xs) v
+    by_case : (v ≡ get_or xs i 0) ⊎ (v ≢ get_or xs i 0) → number_at (set numbers (get_or xs i 0) (i + 1)) v ≡ number_from i (get_or xs i 0 ∷ drop (i + 1) xs) v
     by_case (inl same) =
-        ap (number_at (set numbers (get_or xs i 0) (Some i))) same ∙ get_or-set_same numbers (get_or xs i 0) (Some i) None within
+        ap (number_at (set numbers (get_or xs i 0) (i + 1))) same ∙ ap told (get_or-set_same numbers (get_or xs i 0) (i + 1) 0 within) ∙ told-more i
         ∙ sym (number_first i (get_or xs i 0) (drop (i + 1) xs)) ∙ ap (number_from i (get_or xs i 0 ∷ drop (i + 1) xs)) (sym same)
     by_case (inr differs) =
-        get_or-set_other numbers (get_or xs i 0) v (Some i) None differs ∙ is ∙ sym (number_later i (get_or xs i 0) v (drop (i + 1) xs) (λ e. differs (sym e)))
+        ap told (get_or-set_other numbers (get_or xs i 0) v (i + 1) 0 differs) ∙ is ∙ sym (number_later i (get_or xs i 0) v (drop (i + 1) xs) (λ e. differs (sym e)))
 
 -- ---- nodes
 
-pub numbered-push : (n : ℕ) (kinds : List AigNodeType) (kind : AigNodeType) → numbered n (kinds ++ kind ∷ []) ≡ numbered n kinds ++ node_of (n + length kinds) kind ∷ []
+numbered-push : (n : ℕ) (kinds : List AigNodeType) (kind : AigNodeType) → numbered n (kinds ++ kind ∷ []) ≡ numbered n kinds ++ node_of (n + length kinds) kind ∷ []
 numbered-push n [] kind = let e : n ≡ n + 0 = omega arith in ap (λ m. node_of m kind ∷ []) e
 numbered-push n (k ∷ kinds) kind =
     let e : n + 1 + length kinds ≡ n + suc (length kinds) = omega arith in
     ap (λ (nodes : List AigNode). node_of n k ∷ nodes) (numbered-push (n + 1) kinds kind ∙ ap (λ m. numbered (n + 1) kinds ++ node_of m kind ∷ []) e)
+
+length-numbered : (n : ℕ) (kinds : List AigNodeType) → length (numbered n kinds) ≡ length kinds
+length-numbered n [] = refl
+length-numbered n (kind ∷ kinds) = ap suc (length-numbered (n + 1) kinds)
+
+-- the node of one kind more
+pub numbered-more : (kinds : List AigNodeType) (kind : AigNodeType) (nodes : List AigNode) (node : AigNode) (id : ℕ) → id ≡ length nodes → node ≡ node_of id kind → nodes ≡ numbered 0 kinds → nodes ++ node ∷ [] ≡ numbered 0 (kinds ++ kind ∷ [])
+numbered-more kinds kind nodes node id last is are =
+    let place : id ≡ 0 + length kinds = omega (arith, last, ap length are, length-numbered 0 kinds) in
+    ap (λ (ns : List AigNode). ns ++ node ∷ []) are ∙ ap (λ (n : AigNode). numbered 0 kinds ++ n ∷ []) (is ∙ ap (λ n. node_of n kind) place) ∙ sym (numbered-push 0 kinds kind)

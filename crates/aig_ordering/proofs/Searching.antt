@@ -16,9 +16,9 @@ use Rattle.aig_ordering.specs.declared.levels.Search.{Search}
 use Rattle.aig_ordering.specs.Lists.{kind_from}
 use Rattle.aig_ordering.specs.declared.error.OrderError.{OrderError}
 use Rattle.aig_ordering.specs.declared.error.OrderError.TheVariants.{Memory, Variable}
-use Rattle.aig_ordering.specs.Tables.{AreNodesOf, OnOrder, all_have_levels}
-use Rattle.aig_ordering.specs.Search.{Descends, IsAt, IsAtRest, IsAtSome, IsFound, IsLevelBy, IsOperandOf, IsPath, IsSearch, Opens, level_at, work_of}
-use Rattle.aig_ordering.proofs.Tables.{gate_at, gate_level, leaf_level, operands_below, operands_within, some_level_missing}
+use Rattle.aig_ordering.specs.Tables.{AreNodesOf, OnOrder, all_have_levels, level_at, told}
+use Rattle.aig_ordering.specs.Search.{Descends, IsAt, IsAtRest, IsAtSome, IsFound, IsLevelBy, IsOperandOf, IsPath, IsSearch, Opens, work_of}
+use Rattle.aig_ordering.proofs.Tables.{gate_at, gate_level, leaf_level, operands_below, operands_within, some_level_missing, told-more}
 
 -- ---- paths
 
@@ -90,7 +90,7 @@ module _ (f : File) (nodes : List AigNode) (are : AreNodesOf f nodes) where
   -- an operand that is opened
   pub at_operand : (s t : Search) (v u : ℕ) → IsAt f s v → Descends f v u → u < f.greatest + 1 → Opens s t v u → IsAt f t u
   at_operand s t v u at down within o =
-      let kept = λ (w k : ℕ) (is : level_at t.levels.items w ≡ Some k). at.search.right w k (ap (λ (ls : List (Option ℕ)). level_at ls w) (sym o.levels) ∙ is) in
+      let kept = λ (w k : ℕ) (is : level_at t.levels.items w ≡ Some k). at.search.right w k (ap (λ (ls : List ℕ). level_at ls w) (sym o.levels) ∙ is) in
       record {
         search = record {
           levels = ap length o.levels ∙ at.search.levels;
@@ -103,7 +103,7 @@ module _ (f : File) (nodes : List AigNode) (are : AreNodesOf f nodes) where
       }
     where
       found : (w : ℕ) → IsFound s w → IsFound t w
-      found w has = (has.0, ap (λ (ls : List (Option ℕ)). level_at ls w) o.levels ∙ has.1)
+      found w has = (has.0, ap (λ (ls : List ℕ). level_at ls w) o.levels ∙ has.1)
 
       by_case : (w : ℕ) → (w ≡ u) ⊎ (w ≢ u) → get_or t.opened.items w false ≡ true → IsFound t w ⊎ Contains ((s.path.items ++ v ∷ []) ++ u ∷ []) w
       by_case w (inl same) is = inr (rw same (Contains-push (s.path.items ++ v ∷ []) u))
@@ -125,12 +125,12 @@ module _ (f : File) (nodes : List AigNode) (are : AreNodesOf f nodes) where
 
   -- ---- a variable whose level is found
 
-  module _ (s t : Search) (v k : ℕ) (at : IsAt f s v) (known : t.levels.items ≡ set s.levels.items v (Some k)) (same_marks : t.opened.items ≡ s.opened.items) (right : level_of f v ≡ Some k) where
+  module _ (s t : Search) (v k : ℕ) (at : IsAt f s v) (known : t.levels.items ≡ set s.levels.items v (k + 1)) (same_marks : t.opened.items ≡ s.opened.items) (right : level_of f v ≡ Some k) where
     within_levels : v < length s.levels.items
     within_levels = omega (arith, at.search.levels, at_within f s v at)
 
     level_here : level_at t.levels.items v ≡ Some k
-    level_here = ap (λ (ls : List (Option ℕ)). level_at ls v) known ∙ get_or-set_same s.levels.items v (Some k) None within_levels
+    level_here = ap (λ (ls : List ℕ). level_at ls v) known ∙ ap told (get_or-set_same s.levels.items v (k + 1) 0 within_levels) ∙ told-more k
 
     found_here : IsFound t v
     found_here = (k, level_here)
@@ -140,18 +140,18 @@ module _ (f : File) (nodes : List AigNode) (are : AreNodesOf f nodes) where
       where
         by_case : (w ≡ v) ⊎ (w ≢ v) → IsFound t w
         by_case (inl same) = rw same found_here
-        by_case (inr differs) = (has.0, ap (λ (ls : List (Option ℕ)). level_at ls w) known ∙ get_or-set_other s.levels.items v w (Some k) None differs ∙ has.1)
+        by_case (inr differs) = (has.0, ap (λ (ls : List ℕ). level_at ls w) known ∙ ap told (get_or-set_other s.levels.items v w (k + 1) 0 differs) ∙ has.1)
 
     search_still : IsSearch f t
     search_still = record {
-      levels = ap length known ∙ length-set s.levels.items v (Some k) ∙ at.search.levels;
+      levels = ap length known ∙ length-set s.levels.items v (k + 1) ∙ at.search.levels;
       opened = ap length same_marks ∙ at.search.opened;
       right = λ w j is. by_case w j (cases_eq w v) is;
     }
       where
         by_case : (w j : ℕ) → (w ≡ v) ⊎ (w ≢ v) → level_at t.levels.items w ≡ Some j → level_of f w ≡ Some j
         by_case w j (inl same) is = ap (level_of f) same ∙ right ∙ sym level_here ∙ ap (level_at t.levels.items) (sym same) ∙ is
-        by_case w j (inr differs) is = at.search.right w j (sym (get_or-set_other s.levels.items v w (Some k) None differs) ∙ ap (λ (ls : List (Option ℕ)). level_at ls w) (sym known) ∙ is)
+        by_case w j (inr differs) is = at.search.right w j (ap told (sym (get_or-set_other s.levels.items v w (k + 1) 0 differs)) ∙ ap (λ (ls : List ℕ). level_at ls w) (sym known) ∙ is)
 
     open_still : (w : ℕ) → get_or t.opened.items w false ≡ true → IsFound t w ⊎ Contains s.path.items w
     open_still w is = elim (at.opened w (ap (λ (ms : List Bool). get_or ms w false) (sym same_marks) ∙ is)) [
@@ -200,7 +200,7 @@ module _ (f : File) (nodes : List AigNode) (are : AreNodesOf f nodes) where
             let below = operands_below f nodes are v a b at in
             elim h [ inl e ↦ (rw e within.0, rw e below.0) | inr e ↦ (rw e within.1, rw e below.1) ]
 
-    pub level_right : (levels : List (Option ℕ)) (k : ℕ) → ((w j : ℕ) → level_at levels w ≡ Some j → level_of f w ≡ Some j) → IsLevelBy levels kind k → level_of f v ≡ Some k
+    pub level_right : (levels : List ℕ) (k : ℕ) → ((w j : ℕ) → level_at levels w ≡ Some j → level_of f w ≡ Some j) → IsLevelBy levels kind k → level_of f v ≡ Some k
     level_right levels k right is = by_kind kind is_kind is
       where
         by_kind : (kind : AigNodeType) → kind_from f.gates v ≡ kind → IsLevelBy levels kind k → level_of f v ≡ Some k
@@ -231,7 +231,7 @@ at_start f s t v rest within levels marks path =
       search = record {
         levels = ap length levels ∙ rest.search.levels;
         opened = ap length marks ∙ length-set s.opened.items v true ∙ rest.search.opened;
-        right = λ w k is. rest.search.right w k (ap (λ (ls : List (Option ℕ)). level_at ls w) (sym levels) ∙ is);
+        right = λ w k is. rest.search.right w k (ap (λ (ls : List ℕ). level_at ls w) (sym levels) ∙ is);
       };
       within = rw empty (All-push (λ w. w < f.greatest + 1) [] v (All-nil (λ w. w < f.greatest + 1)) within);
       path = rw empty tt;
@@ -243,7 +243,7 @@ at_start f s t v rest within levels marks path =
     by_case w (inr differs) is =
         let old : get_or s.opened.items w false ≡ true = sym (get_or-set_other s.opened.items v w true false differs) ∙ ap (λ (ms : List Bool). get_or ms w false) (sym marks) ∙ is in
         let has = rest.opened w old in
-        inl (has.0, ap (λ (ls : List (Option ℕ)). level_at ls w) levels ∙ has.1)
+        inl (has.0, ap (λ (ls : List ℕ). level_at ls w) levels ∙ has.1)
 
 -- with each step there is less to do
 pub less_left : (o : Option ℕ) (old new : ℕ) → MatchOption o (new ≤ old) (λ _. new < old) → new + length (option_to_list o) < old + 1

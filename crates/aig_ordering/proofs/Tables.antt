@@ -1,8 +1,9 @@
 -- The nodes of a file's variables, and what they tell of its gates.
-use Rattle.std.proofs.Common.{◌≡◌, ℕ, zero, suc, ◌+◌, ◌/◌, ◌<◌, ◌≤◌, max, Bool, true, false, cond, List, [], ◌∷◌, ◌++◌, length, map, get_or, Option, Some, None, refl, sym, ap, ◌∙◌, arith, inl, inr, ◌⊎◌}
+use Rattle.std.proofs.Common.{◌≡◌, ℕ, zero, suc, ◌+◌, ◌/◌, ◌<◌, ◌≤◌, max, Bool, true, false, cond, List, [], ◌∷◌, ◌++◌, length, map, get_or, replicate, Option, Some, None, refl, sym, ap, ◌∙◌, arith, inl, inr, ◌⊎◌}
 use Rattle.std.specs.Prelude.{◌==◌, ◌&&◌, is_some, slice_get, nat_lt, option_map}
 use Rattle.std.specs.List.{AllByRecursion, list_all}
 use Rattle.std.proofs.lemmas.Bool.{and_parts, eqb-true, ne_eqb}
+use Rattle.std.proofs.lemmas.Option.{same_Some}
 use Rattle.std.proofs.lemmas.List.{length-map}
 use Rattle.aig_circuit.specs.declared.edge.AigEdge.{AigEdge}
 use Rattle.aig_circuit.specs.declared.node.AigNode.{AigNode}
@@ -20,8 +21,29 @@ use Rattle.aig_format.proofs.Searches.{find_some, find_none}
 use Rattle.aig_format.proofs.Members.{length-numbers}
 use Rattle.aig_format.proofs.Levels.{level_of-gate, level_of-leaf, level_of-operands, levelled}
 use Rattle.aig_ordering.specs.Lists.{edge_from, kind_by, kind_from, node_from, nodes_in_row, nodes_of}
-use Rattle.aig_ordering.specs.Tables.{AreNodesOf, HasOperands, all_have_levels}
+use Rattle.aig_ordering.specs.Tables.{AreNodesOf, HasOperands, all_have_levels, told}
 use Rattle.aig_ordering.specs.Search.{Descends}
+
+-- ---- entries
+
+pub told-more : (n : ℕ) → told (n + 1) ≡ Some n
+told-more n = let e : n + 1 ≡ suc n = omega arith in ap told e
+
+-- an entry is above what it tells
+pub told-below : (entry k : ℕ) → told entry ≡ Some k → k < entry
+told-below zero k is = absurd cc
+told-below (suc entry) k is = let same = same_Some _ _ is in omega (arith, same)
+
+-- and no greater than any number above that
+pub told-least : (entry bound : ℕ) → ((k : ℕ) → told entry ≡ Some k → k < bound) → entry ≤ bound
+told-least zero bound within = omega arith
+told-least (suc entry) bound within = within entry refl
+
+-- a table that tells nothing
+pub told-nothing : (n v : ℕ) → told (get_or (replicate n 0) v 0) ≡ None
+told-nothing zero v = refl
+told-nothing (suc n) zero = refl
+told-nothing (suc n) (suc v) = told-nothing n v
 
 -- ---- nodes in a row
 

@@ -1,6 +1,6 @@
 pub mod Lists
+pub mod Gates
 pub mod Tables
 pub mod Search
 pub mod Order
 pub mod Numbers
-pub mod Kinds

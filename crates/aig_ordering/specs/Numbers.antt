@@ -10,15 +10,15 @@ use Rattle.aig_circuit.specs.Edge.{edge_to}
 use Rattle.aig_circuit.specs.Node.{and_of}
 use Rattle.aig_circuit.specs.Renumber.{place_of}
 use Rattle.aig_ordering.specs.declared.error.OrderError.{OrderError}
-use Rattle.aig_ordering.specs.Tables.{OnOrder}
+use Rattle.aig_ordering.specs.Tables.{OnOrder, told}
 
 -- the place of a variable in an order, if it is there
 abbrev pub number_in : List ℕ → ℕ → Option ℕ
 number_in order v = if list_any (λ u. u == v) order then Some (place_of order v) else None
 
--- the number of a variable in a table, if it has one
-abbrev pub number_at : List (Option ℕ) → ℕ → Option ℕ
-number_at numbers v = slice_index_or numbers v None
+-- the number of a variable, if the table tells one
+abbrev pub number_at : List ℕ → ℕ → Option ℕ
+number_at numbers v = told (slice_index_or numbers v 0)
 
 -- the images of all entries, if each has one
 abbrev pub all_by : {A B : Type 0} → (A → Option B) → List A → Option (List B)

@@ -4,20 +4,17 @@ use Rattle.aig_circuit.specs.declared.node.AigNodeType.{AigNodeType}
 use Rattle.aig_circuit.specs.declared.node.AigNodeType.TheVariants.{False, Leaf, And}
 use Rattle.aig_format.specs.File.{File}
 use Rattle.aig_format.specs.Levels.{level_of}
+use Rattle.aig_ordering.specs.Tables.{level_at}
 use Rattle.aig_ordering.specs.declared.levels.Search.{Search}
 use Rattle.aig_ordering.specs.declared.levels.Task.{Task}
 use Rattle.aig_ordering.specs.declared.levels.Task.TheVariants.{Operand, Level}
-
--- the level of a variable, if the list has one
-abbrev pub level_at : List (Option ℕ) → ℕ → Option ℕ
-level_at levels v = slice_index_or levels v None
 
 -- one more than the greater of two levels
 abbrev pub IsAbove : Option ℕ → Option ℕ → ℕ → Type 0
 IsAbove first second level = (a b : ℕ) × (first ≡ Some a) × (second ≡ Some b) × (level ≡ max a b + 1)
 
 -- the level of what is no gate is 0, and that of a gate is above those of its operands
-abbrev pub IsLevelBy : List (Option ℕ) → AigNodeType → ℕ → Type 0
+abbrev pub IsLevelBy : List ℕ → AigNodeType → ℕ → Type 0
 IsLevelBy levels (And a b) level = IsAbove (level_at levels a.node_id) (level_at levels b.node_id) level
 IsLevelBy levels False level = level ≡ 0
 IsLevelBy levels Leaf level = level ≡ 0
@@ -29,7 +26,7 @@ IsOperandOf False v = ⊥
 IsOperandOf Leaf v = ⊥
 
 -- an operand whose level isn't known, or else the level
-abbrev pub IsTask : List (Option ℕ) → AigNodeType → Task → Type 0
+abbrev pub IsTask : List ℕ → AigNodeType → Task → Type 0
 IsTask levels kind (Operand v) = IsOperandOf kind v × (level_at levels v ≡ None)
 IsTask levels kind (Level level) = IsLevelBy levels kind level
 

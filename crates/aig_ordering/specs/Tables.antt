@@ -1,5 +1,5 @@
 -- The tables of a file's variables, and the order that they give. (AIGER format 20071012: "Input/Latch/Output/And section".)
-use Rattle.std.specs.Prelude.{◌≡◌, ℕ, ◌+◌, ◌*◌, ◌≤◌, Bool, true, false, List, length, slice_index_or, Option, None, Result, Ok, Err}
+use Rattle.std.specs.Prelude.{◌≡◌, ℕ, ◌+◌, ◌*◌, ◌≤◌, zero, suc, Bool, true, false, List, length, slice_index_or, Option, Some, None, Result, Ok, Err}
 use Rattle.std.specs.List.{AllByRecursion, list_all}
 use Rattle.aig_circuit.specs.declared.node.AigNode.{AigNode}
 use Rattle.aig_format.specs.File.{GateLine, File, defined}
@@ -40,7 +40,16 @@ abbrev pub IfLevels : {X : Type 0} → File → (X → Type 0) → Result X Orde
 IfLevels f P (Ok x) = (all_have_levels f ≡ true) × P x
 IfLevels f P (Err e) = OnOrder e (all_have_levels f ≡ false)
 
+-- what an entry of a table tells: n + 1 tells n, and 0 nothing
+abbrev pub told : ℕ → Option ℕ
+told zero = None
+told (suc n) = Some n
+
+-- the level of a variable, if the table tells one
+abbrev pub level_at : List ℕ → ℕ → Option ℕ
+level_at levels v = told (slice_index_or levels v 0)
+
 -- the level of each variable of the file
-pub record AreLevelsOf (f : File) (levels : List (Option ℕ)) : Type 0 where
+pub record AreLevelsOf (f : File) (levels : List ℕ) : Type 0 where
   pub count : length levels ≡ f.greatest + 1
-  pub each : (v : ℕ) → v ≤ f.greatest → slice_index_or levels v None ≡ level_of f v
+  pub each : (v : ℕ) → v ≤ f.greatest → level_at levels v ≡ level_of f v

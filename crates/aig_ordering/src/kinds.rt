@@ -1,99 +1,48 @@
 //! The nodes of a circuit under the numbers of its variables.
 
-ghost use Rattle.std.specs.Prelude.{◌≡◌, ℕ, ◌<◌, All, length, map, nat_eq, option_and_then, option_map};
-ghost use Rattle.std.specs.List.{IsDistinct};
+ghost use Rattle.std.specs.Prelude.{◌≡◌, ◌<◌, All, length, option_and_then, option_map};
 ghost use Rattle.aig_circuit.specs.Node.{kind_at};
-ghost use Rattle.aig_ordering.specs.Kinds.{kind_in};
-ghost use Rattle.aig_ordering.specs.Numbers.{MakesAll, all_by, kind_by, node_of, number_at, number_in, numbered};
+ghost use Rattle.aig_ordering.specs.Gates.{kind_in, nodes_in};
+ghost use Rattle.aig_ordering.specs.Numbers.{MakesAll, all_by, kind_by, node_of, number_at, numbered};
 
 use crate::error::OrderError;
-use crate::lists::number;
-use aig_circuit::{AigEdge, AigNode, AigNodeType, false_node, gate_node, leaf_node};
+use crate::gates::{Operands, edge_of};
+use crate::lists::edge;
+use aig_circuit::{AigNode, false_node, gate_node, leaf_node};
 use std::alloc::Global;
 
-/// What a node is under the new numbers, a third of a node in size.
-#[derive(Clone, Copy)]
-pub enum Entry {
-    /// Constant false.
-    Constant,
-    /// A leaf.
-    Variable,
-    /// A gate: the numbers of its operands, and whether each is inverted.
-    Gate(u32, u32, bool, bool),
-}
-
-/// The entry of a node of this kind.
-fn entry_of(numbers: &[Option<u32>], kind: AigNodeType) -> Option<Entry>
-    ensures { option_map kind_in result ≡ kind_by (number_at numbers.now) kind }
+/// The node with this number for a variable that has this gate, or none. A gate's operands get their numbers.
+fn node(numbers: &[u32], id: usize, variable: usize, gate: Option<Operands>) -> Option<AigNode>
+    ensures { result ≡ option_map (node_of id) (kind_by (number_at numbers.now) (kind_in variable gate)) }
 {
-    match kind {
-        AigNodeType::And(first, second) => {
-            let a = number(numbers, first.node_id())?;
-            let b = number(numbers, second.node_id())?;
-            Some(Entry::Gate(a, b, first.compl(), second.compl()))
+    match gate {
+        Some(operands) => {
+            let first = edge(numbers, edge_of(operands.first))?;
+            let second = edge(numbers, edge_of(operands.second))?;
+            Some(gate_node(id, first, second))
         }
-        AigNodeType::Leaf => Some(Entry::Variable),
-        AigNodeType::False => Some(Entry::Constant),
+        None if variable == 0 => Some(false_node()),
+        None => Some(leaf_node(id)),
     }
 }
 
-/// The entries of the order's nodes. They are made in the order of the old nodes, each in its place.
-fn entries(
-    alloc: Global,
-    numbers: &[Option<u32>],
-    old: &[AigNode],
-    order: &[u32],
-) -> Result<Vec<Entry>, OrderError>
-    requires within { All (λ v. v < length old.now) order.now }
-    requires distinct { IsDistinct nat_eq order.now }
-    requires numbers { (v : ℕ) → v < length old.now → number_at numbers.now v ≡ number_in order.now v }
-    ensures { MakesAll (λ entries. map kind_in entries.items) (all_by (λ v. option_and_then (kind_by (number_at numbers.now)) (kind_at old.now v)) order.now) result }
-{
-    let mut entries = vec![in alloc; Entry::Constant; order.len()]?;
-    for (variable, node) in old.iter().enumerate() {
-        let Some(id) = number(numbers, variable) else {
-            continue;
-        };
-        let Some(made) = entry_of(numbers, *node.typ()) else {
-            return Err(OrderError::Variable);
-        };
-        entries[id as usize] = made;
-    }
-    Ok(entries)
-}
-
-/// The node of this number and entry, with a gate's operands put in order.
-fn node(id: usize, entry: Entry) -> AigNode
-    ensures { result ≡ node_of id (kind_in entry) }
-{
-    match entry {
-        Entry::Constant => false_node(),
-        Entry::Variable => leaf_node(id),
-        Entry::Gate(a, b, first, second) => {
-            let first = AigEdge::new(a as usize, first);
-            let second = AigEdge::new(b as usize, second);
-            gate_node(id, first, second)
-        }
-    }
-}
-
-/// The nodes of the order, with operands under their numbers. They take the place of the old nodes.
+/// The nodes of the order's variables, with operands under their numbers.
 pub fn nodes(
     alloc: Global,
-    numbers: &[Option<u32>],
-    old: Vec<AigNode>,
+    numbers: &[u32],
+    gates: &[Option<Operands>],
     order: &[u32],
 ) -> Result<Vec<AigNode>, OrderError>
-    requires within { All (λ v. v < length old.items) order.now }
-    requires distinct { IsDistinct nat_eq order.now }
-    requires numbers { (v : ℕ) → v < length old.items → number_at numbers.now v ≡ number_in order.now v }
-    ensures { MakesAll (λ new. new.items) (option_map (numbered 0) (all_by (λ v. option_and_then (kind_by (number_at numbers.now)) (kind_at old.items v)) order.now)) result }
+    requires within { All (λ v. v < length gates.now) order.now }
+    ensures { MakesAll (λ new. new.items) (option_map (numbered 0) (all_by (λ v. option_and_then (kind_by (number_at numbers.now)) (kind_at (nodes_in gates.now) v)) order.now)) result }
 {
-    let entries = entries(alloc, numbers, &old, order)?;
-    let mut new = old;
-    new.clear();
-    for (id, entry) in entries.iter().enumerate() {
-        new.push(node(id, *entry))?;
+    let mut new = Vec::with_capacity(alloc, order.len())?;
+    for variable in order {
+        let variable = *variable as usize;
+        let Some(made) = node(numbers, new.len(), variable, gates[variable]) else {
+            return Err(OrderError::Variable);
+        };
+        new.push(made)?;
     }
     Ok(new)
 }

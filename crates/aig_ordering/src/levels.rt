@@ -3,18 +3,21 @@
 ghost use Rattle.std.specs.Prelude.{◌≡◌, ℕ, ◌+◌, ◌^◌, ◌<◌, ◌≤◌, false, length, slice_index_or, true, vec_len, IfErr, IfOk, MatchOption, MatchResult, OnOk};
 ghost use Rattle.aig_circuit.specs.Node.{IfAnd};
 ghost use Rattle.aig_format.specs.File.{File};
+ghost use Rattle.aig_ordering.specs.Gates.{nodes_in};
 ghost use Rattle.aig_ordering.specs.Search.{IsAt, IsAtRest, IsAtSome, IsLevelBy, IsTask, Opens, StaysOpen, work_of};
 ghost use Rattle.aig_ordering.specs.Tables.{AreLevelsOf, AreNodesOf, IfLevels, OnOrder, all_have_levels};
 
+use crate::entries::told;
 use crate::error::OrderError;
-use aig_circuit::{AigNode, AigNodeType};
+use crate::gates::{Operands, variable_node};
+use aig_circuit::AigNodeType;
 use std::alloc::Global;
 
 /// A search for levels: each variable is opened once, and gets its level when those of its operands are known.
 #[derive(Drop)]
 pub struct Search {
-    /// The level of each variable, where it is known.
-    pub levels: Vec<Option<u32>>,
+    /// The table of the levels that are known: n + 1 for level n, and 0 for none.
+    pub levels: Vec<u32>,
     /// Which variables were opened.
     pub opened: Vec<bool>,
     /// The variables that wait for the levels of operands, each for that of the next one.
@@ -30,7 +33,7 @@ pub enum Task {
 }
 
 /// What is to be done for a variable of this kind, by the levels that are known.
-fn task_of(levels: &[Option<u32>], kind: AigNodeType) -> Task
+fn task_of(levels: &[u32], kind: AigNodeType) -> Task
     requires operands { IfAnd kind (λ n. n < length levels.now) }
     requires small { (level : ℕ) → IsLevelBy levels.now kind level → level < 2 ^ 32 }
     ensures { IsTask levels.now kind result }
@@ -38,7 +41,10 @@ fn task_of(levels: &[Option<u32>], kind: AigNodeType) -> Task
     let AigNodeType::And(first, second) = kind else {
         return Task::Level(0);
     };
-    match (levels[first.node_id()], levels[second.node_id()]) {
+    match (
+        told(levels[first.node_id()]),
+        told(levels[second.node_id()]),
+    ) {
         (None, _) => Task::Operand(first.node_id()),
         (_, None) => Task::Operand(second.node_id()),
         (Some(a), Some(b)) => Task::Level(a.max(b) + 1),
@@ -52,7 +58,7 @@ impl Search {
         ensures err { IfErr result (λ e. e ≡ OrderError.Memory) }
     {
         Ok(Search {
-            levels: vec![in alloc; None; count]?,
+            levels: vec![in alloc; 0; count]?,
             opened: vec![in alloc; false; count]?,
             path: Vec::new(alloc),
         })
@@ -73,31 +79,36 @@ impl Search {
     }
 
     /// Goes one step on from a variable: to an operand, or, once its level is known, to the variable that waits for it.
-    fn step(&mut self, nodes: &[AigNode], variable: usize) -> Result<Option<usize>, OrderError>
-        requires nodes { (f : File) × AreNodesOf f nodes.now }
-        requires few { length nodes.now ≤ 2 ^ 32 }
-        requires within { variable < length nodes.now }
-        requires at { (f : File) → AreNodesOf f nodes.now → IsAt f self.old variable }
-        ensures at { (f : File) → AreNodesOf f nodes.now → MatchResult result (IsAtSome f self.new) (λ e. OnOrder e (all_have_levels f ≡ false)) }
+    fn step(
+        &mut self,
+        gates: &[Option<Operands>],
+        variable: usize,
+    ) -> Result<Option<usize>, OrderError>
+        requires nodes { (f : File) × AreNodesOf f (nodes_in gates.now) }
+        requires few { length gates.now ≤ 2 ^ 31 }
+        requires within { variable < length gates.now }
+        requires at { (f : File) → AreNodesOf f (nodes_in gates.now) → IsAt f self.old variable }
+        ensures at { (f : File) → AreNodesOf f (nodes_in gates.now) → MatchResult result (IsAtSome f self.new) (λ e. OnOrder e (all_have_levels f ≡ false)) }
         ensures stays { OnOk result (StaysOpen self.old self.new) }
         ensures fewer { IfOk result (λ at. MatchOption at (work_of self.new ≤ work_of self.old) (λ _. work_of self.new < work_of self.old)) }
     {
-        match task_of(&self.levels, *nodes[variable].typ()) {
+        let kind = *variable_node(variable, gates[variable]).typ();
+        match task_of(&self.levels, kind) {
             Task::Operand(operand) => Ok(Some(self.open(variable, operand)?)),
             Task::Level(level) => {
-                self.levels[variable] = Some(level);
+                self.levels[variable] = level + 1;
                 Ok(self.path.pop())
             }
         }
     }
 
     /// Finds the level of a variable, with those of all that it stands on.
-    fn find(&mut self, nodes: &[AigNode], start: usize) -> Result<(), OrderError>
-        requires nodes { (f : File) × AreNodesOf f nodes.now }
-        requires few { length nodes.now ≤ 2 ^ 32 }
-        requires start { start < length nodes.now }
-        requires rest { (f : File) → AreNodesOf f nodes.now → IsAtRest f self.old }
-        ensures rest { (f : File) → AreNodesOf f nodes.now → MatchResult result (λ _. IsAtRest f self.new) (λ e. OnOrder e (all_have_levels f ≡ false)) }
+    fn find(&mut self, gates: &[Option<Operands>], start: usize) -> Result<(), OrderError>
+        requires nodes { (f : File) × AreNodesOf f (nodes_in gates.now) }
+        requires few { length gates.now ≤ 2 ^ 31 }
+        requires start { start < length gates.now }
+        requires rest { (f : File) → AreNodesOf f (nodes_in gates.now) → IsAtRest f self.old }
+        ensures rest { (f : File) → AreNodesOf f (nodes_in gates.now) → MatchResult result (λ _. IsAtRest f self.new) (λ e. OnOrder e (all_have_levels f ≡ false)) }
         ensures stays { OnOk result (StaysOpen self.old self.new) }
         ensures started { OnOk result (slice_index_or self.new.opened.items start false ≡ true) }
     {
@@ -107,21 +118,21 @@ impl Search {
         self.opened[start] = true;
         let mut current = Some(start);
         while let Some(variable) = current {
-            current = self.step(nodes, variable)?;
+            current = self.step(gates, variable)?;
         }
         Ok(())
     }
 }
 
-/// The level of each variable. `nodes` has each variable at its place, with edges to variables.
-pub fn find_levels(alloc: Global, nodes: &[AigNode]) -> Result<Vec<Option<u32>>, OrderError>
-    requires nodes { (f : File) × AreNodesOf f nodes.now }
-    requires few { length nodes.now ≤ 2 ^ 32 }
-    ensures { (f : File) → AreNodesOf f nodes.now → IfLevels f (λ levels. AreLevelsOf f levels.items) result }
+/// The table of the levels of the variables: n + 1 for level n. `gates` has the gate of each, or none, with literals of variables.
+pub fn find_levels(alloc: Global, gates: &[Option<Operands>]) -> Result<Vec<u32>, OrderError>
+    requires nodes { (f : File) × AreNodesOf f (nodes_in gates.now) }
+    requires few { length gates.now ≤ 2 ^ 31 }
+    ensures { (f : File) → AreNodesOf f (nodes_in gates.now) → IfLevels f (λ levels. AreLevelsOf f levels.items) result }
 {
-    let mut search = Search::new(alloc, nodes.len())?;
-    for variable in 0..nodes.len() {
-        search.find(nodes, variable)?;
+    let mut search = Search::new(alloc, gates.len())?;
+    for variable in 0..gates.len() {
+        search.find(gates, variable)?;
     }
     let Search {
         levels,

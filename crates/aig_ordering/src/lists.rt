@@ -3,23 +3,24 @@
 ghost use Rattle.std.specs.Prelude.{◌≡◌, map};
 ghost use Rattle.aig_ordering.specs.Numbers.{MakesAll, all_by, edge_by, latch_by, number_at};
 
+use crate::entries::told;
 use crate::error::OrderError;
 use aig_circuit::{AigEdge, AigLatch};
 use std::alloc::Global;
 
 /// The number of a variable.
-pub fn number(numbers: &[Option<u32>], variable: usize) -> Option<u32>
+pub fn number(numbers: &[u32], variable: usize) -> Option<u32>
     ensures { result ≡ number_at numbers.now variable }
 {
     if variable < numbers.len() {
-        numbers[variable]
+        told(numbers[variable])
     } else {
         None
     }
 }
 
 /// The edge to the number of its variable.
-fn edge(numbers: &[Option<u32>], e: AigEdge) -> Option<AigEdge>
+pub fn edge(numbers: &[u32], e: AigEdge) -> Option<AigEdge>
     ensures { result ≡ edge_by (number_at numbers.now) e }
 {
     let id = number(numbers, e.node_id())?;
@@ -27,11 +28,7 @@ fn edge(numbers: &[Option<u32>], e: AigEdge) -> Option<AigEdge>
 }
 
 /// The edges to the numbers of their variables.
-pub fn edges(
-    alloc: Global,
-    numbers: &[Option<u32>],
-    old: &[AigEdge],
-) -> Result<Vec<AigEdge>, OrderError>
+pub fn edges(alloc: Global, numbers: &[u32], old: &[AigEdge]) -> Result<Vec<AigEdge>, OrderError>
     ensures { MakesAll (λ new. new.items) (all_by (edge_by (number_at numbers.now)) old.now) result }
 {
     let mut new = Vec::with_capacity(alloc, old.len())?;
@@ -47,7 +44,7 @@ pub fn edges(
 /// The sets of edges to the numbers of their variables.
 pub fn sets(
     alloc: Global,
-    numbers: &[Option<u32>],
+    numbers: &[u32],
     old: &[Vec<AigEdge>],
 ) -> Result<Vec<Vec<AigEdge>>, OrderError>
     ensures { MakesAll (λ new. map (λ set. set.items) new.items) (all_by (all_by (edge_by (number_at numbers.now))) (map (λ set. set.items) old.now)) result }
@@ -61,11 +58,7 @@ pub fn sets(
 }
 
 /// The numbers of variables.
-pub fn variables(
-    alloc: Global,
-    numbers: &[Option<u32>],
-    old: &[usize],
-) -> Result<Vec<usize>, OrderError>
+pub fn variables(alloc: Global, numbers: &[u32], old: &[usize]) -> Result<Vec<usize>, OrderError>
     ensures { MakesAll (λ new. new.items) (all_by (number_at numbers.now) old.now) result }
 {
     let mut new = Vec::with_capacity(alloc, old.len())?;
@@ -79,7 +72,7 @@ pub fn variables(
 }
 
 /// The latch with the number of its leaf, and its next edge to the number of its variable.
-fn latch(numbers: &[Option<u32>], old: AigLatch) -> Option<AigLatch>
+fn latch(numbers: &[u32], old: AigLatch) -> Option<AigLatch>
     ensures { result ≡ latch_by (number_at numbers.now) old }
 {
     let id = number(numbers, old.input())?;
@@ -88,11 +81,7 @@ fn latch(numbers: &[Option<u32>], old: AigLatch) -> Option<AigLatch>
 }
 
 /// The latches with the numbers of their leaves, and their next edges to the numbers of their variables.
-pub fn latchs(
-    alloc: Global,
-    numbers: &[Option<u32>],
-    old: &[AigLatch],
-) -> Result<Vec<AigLatch>, OrderError>
+pub fn latchs(alloc: Global, numbers: &[u32], old: &[AigLatch]) -> Result<Vec<AigLatch>, OrderError>
     ensures { MakesAll (λ new. new.items) (all_by (latch_by (number_at numbers.now)) old.now) result }
 {
     let mut new = Vec::with_capacity(alloc, old.len())?;

@@ -1,5 +1,5 @@
 -- The numbers of variables by level, and lists under them.
-use Rattle.std.proofs.Common.{◌≡◌, ◌≢◌, ℕ, zero, suc, ◌+◌, ◌*◌, ◌/◌, ◌%◌, ◌<◌, ◌≤◌, Bool, true, false, cond, eqb, ltb, ◌||◌, ◌&&◌, List, [], ◌∷◌, ◌++◌, ◌↔◌, length, map, Option, Some, None, refl, sym, ap, ◌∙◌, arith, inl, inr}
+use Rattle.std.proofs.Common.{◌≡◌, ◌≢◌, ℕ, zero, suc, ◌+◌, ◌/◌, ◌%◌, ◌<◌, ◌≤◌, Bool, true, false, cond, eqb, ltb, ◌||◌, ◌&&◌, List, [], ◌∷◌, ◌++◌, ◌↔◌, length, map, Option, Some, None, refl, sym, ap, ◌∙◌, arith, inl, inr}
 use Rattle.std.specs.Prelude.{◌==◌, option_map, option_and_then}
 use Rattle.std.specs.List.{AllByRecursion, list_all, flat_map}
 use Rattle.std.proofs.lemmas.Bool.{ltb-true, ltb-false, ne_eqb, false≢true, or_right}
@@ -10,7 +10,7 @@ use Rattle.aig_circuit.specs.declared.node.AigNode.{AigNode}
 use Rattle.aig_circuit.specs.declared.node.AigNodeType.{AigNodeType}
 use Rattle.aig_circuit.specs.declared.node.AigNodeType.TheVariants.{False, Leaf, And}
 use Rattle.aig_circuit.specs.declared.node.AigLatch.{AigLatch}
-use Rattle.aig_circuit.specs.Edge.{edge_to, literal_of}
+use Rattle.aig_circuit.specs.Edge.{edge_to}
 use Rattle.aig_circuit.specs.Node.{and_of, kind_at}
 use Rattle.aig_circuit.specs.Renumber.{place_of}
 use Rattle.aig_circuit.proofs.Building.{and_of-cases, and_of-not_false}
@@ -32,11 +32,13 @@ use Rattle.aig_parsing.proofs.Guards.{Decides-list_all}
 use Rattle.aig_ordering.specs.Lists as lists
 use Rattle.aig_format.specs.Circuit as of_file
 use Rattle.aig_ordering.specs.Lists.{edge_from, kind_from, latch_from, nodes_of, variable_of}
+use Rattle.aig_ordering.specs.Tables.{told}
 use Rattle.aig_ordering.specs.Numbers.{all_by, edge_by, kind_by, latch_by, node_of, number_at, number_in, numbered}
 use Rattle.aig_ordering.proofs.Tables.{kind_at-variable}
 use Rattle.aig_reader.specs.Numbered.{AreNumbersOf, have_operands, knows}
 use Rattle.aig_reader.specs.Sections.{HasGoodLines}
 use Rattle.aig_reader.proofs.GateLines.{and_assoc}
+use Rattle.aig_reader.proofs.TableEntries.{and_of-swap}
 
 -- ---- images
 
@@ -103,12 +105,12 @@ module _ (f : File) (good : HasGoodLines f) (newer : is_older f ≡ false) (leve
       let same : eqb (suc v) 0 ≡ false = ne_eqb (suc v) 0 (λ e. omega (arith, e)) in
       (any_within f.greatest (suc v) (defined f) good.definable (ap (λ b. b || is_defined f (suc v)) (sym same) ∙ known)).1
 
-  pub numbers_are : (numbers : List (Option ℕ)) → length numbers ≡ f.greatest + 1 → ((v : ℕ) → v < f.greatest + 1 → number_at numbers v ≡ number_in order v) → AreNumbersOf f numbers
+  pub numbers_are : (numbers : List ℕ) → length numbers ≡ f.greatest + 1 → ((v : ℕ) → v < f.greatest + 1 → number_at numbers v ≡ number_in order v) → AreNumbersOf f numbers
   numbers_are numbers count table v = by_bound (ltb v (f.greatest + 1)) refl
     where
       by_known : (b : Bool) → is_known f v ≡ b → f.greatest + 1 ≤ v → number_at numbers v ≡ cond (is_known f v) (Some (number_of f v)) None
       by_known true known high = absurd (omega (arith, within v known))
-      by_known false known high = get_or_past numbers v None (omega (arith, count)) ∙ ap (λ b. cond b (Some (number_of f v)) None) (sym known)
+      by_known false known high = ap told (get_or_past numbers v 0 (omega (arith, count))) ∙ ap (λ b. cond b (Some (number_of f v)) None) (sym known)
 
       by_bound : (b : Bool) → ltb v (f.greatest + 1) ≡ b → number_at numbers v ≡ cond (is_known f v) (Some (number_of f v)) None
       by_bound true low =
@@ -118,7 +120,7 @@ module _ (f : File) (good : HasGoodLines f) (newer : is_older f ≡ false) (leve
 
 -- ---- lists under the numbers
 
-module _ (f : File) (table : List (Option ℕ)) (are : AreNumbersOf f table) where
+module _ (f : File) (table : List ℕ) (are : AreNumbersOf f table) where
   abbrev number : ℕ → Option ℕ
   number = number_at table
 
@@ -184,30 +186,6 @@ module _ (f : File) (table : List (Option ℕ)) (are : AreNumbersOf f table) whe
       ∙ ap (λ b. cond b (Some (map (latch_of f) f.latches)) None) (nexts_known f.latches)
 
   -- ---- nodes
-
-  -- edges with one literal are one
-  edges_same : (a b : AigEdge) → literal_of a ≡ literal_of b → a ≡ b
-  edges_same a b h = by_parts a.compl refl b.compl refl
-    where
-      numbers_same : (s t : Bool) → 2 * a.node_id + cond s 1 0 ≡ 2 * b.node_id + cond t 1 0 → (a.node_id ≡ b.node_id) × (s ≡ t)
-      numbers_same true true e = (omega arith, refl)
-      numbers_same true false e = absurd (omega arith)
-      numbers_same false true e = absurd (omega arith)
-      numbers_same false false e = (omega arith, refl)
-
-      by_parts : (s : Bool) → a.compl ≡ s → (t : Bool) → b.compl ≡ t → a ≡ b
-      by_parts s left t right =
-          let p = numbers_same s t (sym (ap (λ c. 2 * a.node_id + cond c 1 0) left) ∙ h ∙ ap (λ c. 2 * b.node_id + cond c 1 0) right) in
-          ap (λ c. edge_to a.node_id c) (left ∙ p.1 ∙ sym right) ∙ ap (λ n. edge_to n b.compl) p.0
-
-  and_of-swap : (a b : AigEdge) → and_of a b ≡ and_of b a
-  and_of-swap a b = elim (and_of-cases a b) [
-    | inl p ↦ elim (and_of-cases b a) [ inl q ↦ absurd (omega (arith, p.1, q.1)) | inr q ↦ p.0 ∙ sym q.0 ]
-    | inr p ↦ elim (and_of-cases b a) [
-      | inl q ↦ p.0 ∙ sym q.0
-      | inr q ↦ let same = edges_same a b (omega (arith, p.1, q.1)) in ap (λ c. and_of a c) (sym same) ∙ ap (λ c. and_of c a) same
-    ]
-  ]
 
   pair_is : (x y : ℕ) → kind_by number (And (edge_from x) (edge_from y)) ≡ cond (knows_one x && knows_one y) (Some (and_of (edge_of f x) (edge_of f y))) None
   pair_is x y =

@@ -1,5 +1,5 @@
 -- The circuit of the file that was read.
-use Rattle.std.proofs.Common.{◌≡◌, ◌≢◌, ℕ, zero, suc, ◌+◌, ◌*◌, ◌/◌, ◌%◌, ◌≤◌, true, cond, List, [], ◌∷◌, ◌++◌, map, slice_index, Option, Some, None, refl, sym, ap, ◌∙◌, arith}
+use Rattle.std.proofs.Common.{◌≡◌, ◌≢◌, ℕ, zero, suc, ◌+◌, ◌*◌, ◌/◌, ◌%◌, ◌≤◌, true, cond, List, [], ◌∷◌, ◌++◌, map, slice_index, Option, Some, None, Vec, refl, sym, ap, ◌∙◌, arith}
 use Rattle.std.specs.Prelude.{filter_map, AllPairs, ◌==◌}
 use Rattle.std.specs.Ordering.{nat_cmp}
 use Rattle.std.specs.FinMap.{FinMap, from_entries}
@@ -27,9 +27,11 @@ use Rattle.aig_format.proofs.Older.{older-told}
 use Rattle.aig_format.proofs.Searches.{find_some}
 use Rattle.aig_ordering.specs.Lists.{edge_from, kind_by, kind_from, latch_from, nodes_in_row, nodes_of, variable_of}
 use Rattle.aig_reader.specs.Names.{kept_name, kept_names}
+use Rattle.std.specs.declared.alloc.Global.{Global}
+use Rattle.aig_reader.specs.declared.sections.Lists.{Lists}
 use Rattle.aig_reader.specs.declared.sections.Sections.{Sections}
 use Rattle.aig_reader.specs.Numbered.{IsCircuitOf}
-use Rattle.aig_reader.specs.Sections.{AreSectionsOf, HasGoodLines, circuit_with}
+use Rattle.aig_reader.specs.Sections.{AreSectionListsOf, HasGoodLines, circuit_with, sections_of}
 
 same_kept : (h k : NameLine → Option (ℕ × List ℕ)) → ((n : NameLine) → h n ≡ k n) → (names : List NameLine) → filter_map h names ≡ filter_map k names
 same_kept h k same [] = refl
@@ -117,11 +119,11 @@ module _ (f : File) (good : HasGoodLines f) (older : is_older f ≡ true) where
       ap (λ k. nodes_in_row f.gates k 0) n ∙ nodes_are (suc f.greatest) 0 ∙ ap (λ vs. nodes_from f 0 (0 ∷ vs)) (ap (λ n. numbers_from n 1) exact ∙ sym (order-older f older))
 
   -- the sections by variable are the file's circuit
-  pub older_circuit : (sections : Sections) → AreSectionsOf sections f → sections.nodes.items ≡ nodes_of f.greatest f.gates → IsCircuitOf f sections
-  older_circuit sections h nodes = λ names.
+  pub older_circuit : (lists : Lists) (nodes : Vec AigNode Global) → AreSectionListsOf lists f → nodes.items ≡ nodes_of f.greatest f.gates → IsCircuitOf f (sections_of nodes lists)
+  older_circuit lists nodes h placed = λ names.
       let p = h.properties in
       let used = sections_within in
-      rw (nodes, h.inputs, h.latchs, p.outputs, p.bads, p.constraints, p.justice, p.fairness, nodes_same, numbers_are f.inputs leaves_within.0, latches_are f.latches latches_within, edges_are f.outputs used.outputs, edges_are f.bads used.bads, edges_are f.constraints used.constraints, sets_are f.justice used.justice, edges_are f.fairness used.fairness) refl
+      rw (placed, h.inputs, h.latchs, p.outputs, p.bads, p.constraints, p.justice, p.fairness, nodes_same, numbers_are f.inputs leaves_within.0, latches_are f.latches latches_within, edges_are f.outputs used.outputs, edges_are f.bads used.bads, edges_are f.constraints used.constraints, sets_are f.justice used.justice, edges_are f.fairness used.fairness) refl
 
 -- ---- the circuit with names
 

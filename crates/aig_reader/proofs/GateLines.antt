@@ -1,20 +1,24 @@
 -- A gate behind others.
-use Rattle.std.proofs.Common.{◌≡◌, ◌≢◌, ℕ, ◌/◌, ◌<◌, ◌≤◌, Bool, true, false, ◌&&◌, ltb, List, [], ◌∷◌, ◌++◌, refl, sym, ap, subst, ◌∙◌, append_assoc, arith}
+use Rattle.std.proofs.Common.{◌≡◌, ◌≢◌, ℕ, ◌/◌, ◌<◌, ◌≤◌, Bool, true, false, ◌&&◌, ltb, List, [], ◌∷◌, ◌++◌, Option, Vec, refl, sym, ap, subst, ◌∙◌, append_assoc, arith}
 use Rattle.std.specs.List.{list_all}
 use Rattle.std.proofs.lemmas.Bool.{lt-ltb}
 use Rattle.std.proofs.lemmas.List.{map_push}
 use Rattle.std.proofs.lemmas.List.Folds.{list_all-append}
-use Rattle.aig_circuit.specs.declared.node.AigNode.{AigNode}
+use Rattle.std.specs.declared.alloc.Global.{Global}
+use Rattle.aig_ordering.specs.declared.gates.Operands.{Operands}
+use Rattle.aig_ordering.specs.Gates.{nodes_in}
 use Rattle.aig_format.specs.declared.FileKind.{FileKind}
 use Rattle.aig_format.specs.declared.FileKind.TheVariants.{Text, Binary}
 use Rattle.aig_format.specs.File.{GateLine}
 use Rattle.aig_format.specs.Numbering.{are_in_order, is_ordered, rises}
-use Rattle.aig_format.proofs.Entries.{rec_parts}
+use Rattle.aig_format.proofs.Entries.{rec_append, rec_parts}
 use Rattle.aig_parsing.specs.Fitting.{defines, is_literal}
 use Rattle.aig_reader.specs.declared.variables.Variables.{Variables}
-use Rattle.aig_reader.specs.declared.gates.GateOrder.{GateOrder}
+use Rattle.aig_reader.specs.declared.places.Rising.{Rising}
+use Rattle.aig_reader.specs.declared.places.Gates.{Gates}
+use Rattle.aig_reader.specs.declared.places.Gates.TheVariants as held
 use Rattle.aig_reader.specs.Entries.{may_define, may_stand, may_use}
-use Rattle.aig_reader.specs.Gates.{AreFirstNodes, AreGates, IsOrderOf, last_or, literals_of}
+use Rattle.aig_reader.specs.Gates.{AreFirstNodes, AreGates, ArePlaced, HasWords, last_or, line_of, literals_of}
 use Rattle.aig_reader.specs.Variables.{AreDefined, IsNewAmong}
 
 -- ---- the order of gates
@@ -56,12 +60,41 @@ order_push gates g some =
     ∙ ap (λ (b : Bool). (rises lefts && ltb (last_or 0 lefts) g.lhs) && b) (list_all-append is_ordered gates (g ∷ []) ∙ ap (λ (b : Bool). all && b) (and_true (is_ordered g)))
     ∙ four (rises lefts) all (ltb (last_or 0 lefts) g.lhs) (is_ordered g)
 
-pub is_order_push : (gates : List GateLine) (order new : GateOrder) (g : GateLine) → IsOrderOf gates order → 2 ≤ g.lhs → new.last ≡ g.lhs → new.kept ≡ order.kept && (ltb order.last g.lhs && is_ordered g) → IsOrderOf (gates ++ g ∷ []) new
-is_order_push gates order new g h some last kept =
-    record {
-      last = last ∙ sym (ap (last_or 0) (map_push (λ (h : GateLine). h.lhs) gates g) ∙ last_push 0 g.lhs (literals_of gates));
-      kept = kept ∙ ap (λ (b : Bool). b && (ltb order.last g.lhs && is_ordered g)) h.kept ∙ ap (λ (n : ℕ). are_in_order gates && (ltb n g.lhs && is_ordered g)) h.last ∙ sym (order_push gates g (omega arith));
-    }
+-- ---- a gate in its place
+
+module _ (before : List GateLine) (lhs : ℕ) (operands : Operands) (some : 2 ≤ lhs) where
+  abbrev g : GateLine
+  g = line_of lhs operands
+
+  order_with : (old : Rising) → ArePlaced before (held.Rising old) → are_in_order (before ++ g ∷ []) ≡ ltb old.last lhs && is_ordered g
+  order_with old h =
+      order_push before g (omega arith)
+      ∙ rw (sym h.in_order, sym h.last.last) refl
+
+  -- gates that rise still do with the next one
+  pub rises_still : (old new : Rising) → ArePlaced before (held.Rising old) → (ltb old.last lhs && is_ordered g) ≡ true → AreFirstNodes (before ++ g ∷ []) new.nodes.items → new.last ≡ lhs → HasWords g
+      → ArePlaced (before ++ g ∷ []) (held.Rising new)
+  rises_still old new h next nodes last words = record {
+    nodes = nodes;
+    in_order = sym (order_with old h ∙ next);
+    last = record {
+      last = last ∙ sym (ap (last_or 0) (map_push (λ (h : GateLine). h.lhs) before g) ∙ last_push 0 lhs (literals_of before));
+      words = (rec_append HasWords before (g ∷ [])).1 (h.last.words, (words, tt));
+    };
+  }
+
+  -- and don't with any other
+  pub rises_no_more : (old : Rising) (table : Vec (Option Operands) Global) → ArePlaced before (held.Rising old) → (ltb old.last lhs && is_ordered g) ≡ false → AreFirstNodes (before ++ g ∷ []) (nodes_in table.items)
+      → ArePlaced (before ++ g ∷ []) (held.Table table)
+  rises_no_more old table h other nodes = record { nodes = nodes; in_order = sym (order_with old h ∙ other); last = tt }
+
+  -- gates that don't rise don't with one more
+  pub still_in_table : (old new : Vec (Option Operands) Global) → ArePlaced before (held.Table old) → AreFirstNodes (before ++ g ∷ []) (nodes_in new.items) → ArePlaced (before ++ g ∷ []) (held.Table new)
+  still_in_table old new h nodes = record {
+    nodes = nodes;
+    in_order = sym (order_push before g (omega arith) ∙ ap (λ (b : Bool). b && (ltb (last_or 0 (literals_of before)) lhs && is_ordered g)) (sym h.in_order));
+    last = tt;
+  }
 
 -- ---- tests
 
@@ -72,14 +105,13 @@ may_stand-both Binary greatest before g = refl
 
 -- ---- one more gate
 
-pub more_gates : (greatest : ℕ) (leaves : List ℕ) (before : List GateLine) (variables : Variables) (nodes : List AigNode) (order : GateOrder) (g : GateLine) → AreFirstNodes (before ++ g ∷ []) nodes
-    → AreDefined greatest variables ((leaves ++ literals_of before) ++ g.lhs ∷ []) → IsOrderOf (before ++ g ∷ []) order → AreGates greatest leaves (before ++ g ∷ []) variables nodes order
-more_gates greatest leaves before variables nodes order g placed defined in_order =
+pub more_gates : (greatest : ℕ) (leaves : List ℕ) (before : List GateLine) (variables : Variables) (held : Gates) (g : GateLine) → ArePlaced (before ++ g ∷ []) held
+    → AreDefined greatest variables ((leaves ++ literals_of before) ++ g.lhs ∷ []) → AreGates greatest leaves (before ++ g ∷ []) variables held
+more_gates greatest leaves before variables held g placed defined =
     let push : literals_of (before ++ g ∷ []) ≡ literals_of before ++ g.lhs ∷ [] = map_push (λ (h : GateLine). h.lhs) before g in
     record {
       defined = subst (λ (es : List ℕ). AreDefined greatest variables es) (append_assoc leaves (literals_of before) (g.lhs ∷ []) ∙ ap (λ (es : List ℕ). leaves ++ es) (sym push)) defined;
       placed = placed;
-      in_order = in_order;
     }
 
 -- a literal that is new behind leaves and gates is new among those of the gates

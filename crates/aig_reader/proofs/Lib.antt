@@ -1,4 +1,5 @@
 pub mod PlacedNodes
+pub mod TableEntries
 pub mod TestedLines
 pub mod Entries
 pub mod BothKinds

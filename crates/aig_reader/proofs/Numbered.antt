@@ -54,7 +54,7 @@ judged view images test wanted section lists result is makes was = judged_by tes
 
 -- ---- lists of sections
 
-module _ (f : File) (table : List (Option ℕ)) (are : AreNumbersOf f table) (section : Section) where
+module _ (f : File) (table : List ℕ) (are : AreNumbersOf f table) (section : Section) where
   pub edges_judged : (es : List ℕ) (old : List AigEdge) (lists : Result (Vec AigEdge Global) OrderError) (result : Result (Vec AigEdge Global) ReadError) → old ≡ map edge_from es
       → MakesAll (λ new. new.items) (all_by (edge_by (number_at table)) old) lists → result ≡ result_by (order_error_in section) lists → Judged (knows f es) (λ new. new.items ≡ map (edge_of f) es) result
   edges_judged es old lists result made makes was =

@@ -1,5 +1,5 @@
 -- The sections that were read, as those of the file's circuit.
-use Rattle.std.proofs.Common.{◌≡◌, ℕ, ◌/◌, Bool, true, false, ◌||◌, ◌&&◌, List, [], ◌++◌, length, map, Option, Result, Ok, Err, IfOk, IfErr, vec_len, refl, ap, sym, subst, ◌∙◌, arith}
+use Rattle.std.proofs.Common.{◌≡◌, ℕ, ◌/◌, Bool, true, false, ◌||◌, ◌&&◌, List, [], ◌++◌, length, map, Option, Result, Ok, Err, IfOk, IfErr, Vec, vec_len, refl, ap, sym, subst, ◌∙◌, arith}
 use Rattle.std.specs.List.{list_all}
 use Rattle.std.proofs.lemmas.List.{length-map}
 use Rattle.aig_format.specs.declared.FileKind.{FileKind}
@@ -24,7 +24,10 @@ use Rattle.aig_reader.specs.declared.error.ReadError.TheVariants as errors
 use Rattle.aig_reader.specs.declared.sections.Sections.{Sections}
 use Rattle.aig_reader.specs.Faults.{IsNumberFault, IsSectionFault, OnRefusal, order_error_in, result_by}
 use Rattle.aig_reader.specs.Numbered.{AreNumberedProperties, IsCircuitOf, Judged}
-use Rattle.aig_reader.specs.Sections.{AreLinesOf, file_by}
+use Rattle.std.specs.declared.alloc.Global.{Global}
+use Rattle.aig_circuit.specs.declared.node.AigNode.{AigNode}
+use Rattle.aig_reader.specs.Gates.{nodes_held}
+use Rattle.aig_reader.specs.Sections.{AreLinesOf, file_by, sections_of}
 use Rattle.aig_reader.proofs.Body.{on_refusal-weaker}
 use Rattle.aig_reader.proofs.FileCircuit.{inputs_is, latchs_is, older_circuit}
 
@@ -78,8 +81,8 @@ no_stream result h is = subst (λ (r : Result Sections ReadError). IfErr r IsNum
 
 module _ (f : File) where
   -- by the older rules the lines' sections are the circuit's
-  pub older_judged : (lines : Lines) → AreLinesOf f lines → is_older f ≡ true → (keeps_rules f.kind f ≡ true) × IsCircuitOf f lines.sections
-  older_judged lines h older = (by_kind f.kind, older_circuit f h.good older lines.sections h.sections h.nodes.placed)
+  pub older_judged : (lines : Lines) (nodes : Vec AigNode Global) → AreLinesOf f lines → nodes.items ≡ nodes_held lines.gates → is_older f ≡ true → (keeps_rules f.kind f ≡ true) × IsCircuitOf f (sections_of nodes lines.lists)
+  older_judged lines nodes h held older = (by_kind f.kind, older_circuit f h.good older lines.lists nodes h.lists (held ∙ h.nodes.placed))
     where
       by_kind : (kind : FileKind) → keeps_rules kind f ≡ true
       by_kind Text = ap (λ b. b || (uses_known f && list_all (has_level f) f.gates)) older

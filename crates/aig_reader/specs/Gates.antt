@@ -1,12 +1,19 @@
 -- Gates that are read one after the other.
-use Rattle.std.specs.Prelude.{◌≡◌, ℕ, ◌/◌, ◌<◌, List, [], ◌∷◌, ◌++◌, length, map}
+use Rattle.std.specs.Prelude.{◌≡◌, ℕ, ◌/◌, ◌^◌, ◌<◌, ◌≤◌, Bool, true, false, List, [], ◌∷◌, ◌++◌, length, map, Option, Some, None, vec_capacity, vec_len}
 use Rattle.std.specs.List.{AllByRecursion}
 use Rattle.aig_circuit.specs.declared.node.AigNode.{AigNode}
+use Rattle.aig_circuit.specs.declared.node.AigNodeType.{AigNodeType}
+use Rattle.aig_circuit.specs.declared.node.AigNodeType.TheVariants.{False, Leaf, And}
+use Rattle.aig_circuit.specs.Edge.{literal_of}
 use Rattle.aig_circuit.specs.Node.{and_of}
 use Rattle.aig_format.specs.File.{GateLine}
 use Rattle.aig_format.specs.Numbering.{are_in_order}
-use Rattle.aig_reader.specs.declared.gates.GateOrder.{GateOrder}
+use Rattle.aig_reader.specs.declared.places.Rising.{Rising}
+use Rattle.aig_reader.specs.declared.places.Gates.{Gates}
+use Rattle.aig_reader.specs.declared.places.Gates.TheVariants as held
 use Rattle.aig_reader.specs.declared.variables.Variables.{Variables}
+use Rattle.aig_ordering.specs.declared.gates.Operands.{Operands}
+use Rattle.aig_ordering.specs.Gates.{nodes_in}
 use Rattle.aig_ordering.specs.Lists.{edge_from, nodes_in_row}
 use Rattle.aig_reader.specs.Variables.{AreDefined}
 
@@ -15,18 +22,49 @@ abbrev pub last_or : ℕ → List ℕ → ℕ
 last_or n [] = n
 last_or n (x ∷ xs) = last_or x xs
 
+-- the line of a gate of this literal and these operands
+abbrev pub line_of : ℕ → Operands → GateLine
+line_of lhs operands = record { lhs = lhs; rhs0 = operands.first; rhs1 = operands.second }
+
 -- the node of a gate
 abbrev pub gate_node_of : GateLine → AigNode
 gate_node_of g = record { node_id = g.lhs / 2; typ = and_of (edge_from g.rhs0) (edge_from g.rhs1) }
+
+-- the operands of what is a gate
+abbrev pub gate_in : AigNodeType → Option Operands
+gate_in (And a b) = Some (record { first = literal_of a; second = literal_of b })
+gate_in False = None
+gate_in Leaf = None
 
 -- the literals that gates define
 abbrev pub literals_of : List GateLine → List ℕ
 literals_of gates = map (λ g. g.lhs) gates
 
--- the last literal that these gates define, and whether they rise, each above its operands
-pub record IsOrderOf (gates : List GateLine) (order : GateOrder) : Type 0 where
-  pub last : order.last ≡ last_or 0 (literals_of gates)
-  pub kept : order.kept ≡ are_in_order gates
+-- both operands are numbers of 32 bits
+abbrev pub HasWords : GateLine → Type 0
+HasWords g = (g.rhs0 < 2 ^ 32) × (g.rhs1 < 2 ^ 32)
+
+-- ---- where gates are held
+
+-- the nodes of the first variables, as they are held
+abbrev pub nodes_held : Gates → List AigNode
+nodes_held (held.Rising rising) = rising.nodes.items
+nodes_held (held.Table table) = nodes_in table.items
+
+-- whether the gates rise
+abbrev pub is_rising : Gates → Bool
+is_rising (held.Rising rising) = true
+is_rising (held.Table table) = false
+
+-- the fact, if the gates rise
+abbrev pub IfRising : Gates → (Rising → Type 0) → Type 0
+IfRising (held.Rising rising) P = P rising
+IfRising (held.Table table) P = Unit {0}
+
+-- there is room for the nodes of so many variables, and for no more
+abbrev pub HasSpace : ℕ → Gates → Type 0
+HasSpace size (held.Rising rising) = vec_capacity rising.nodes ≡ size
+HasSpace size (held.Table table) = vec_len table ≤ size
 
 -- the nodes of the first variables, from 0 on, where these gates are defined, each within them
 pub record AreFirstNodes (gates : List GateLine) (nodes : List AigNode) : Type 0 where
@@ -34,8 +72,18 @@ pub record AreFirstNodes (gates : List GateLine) (nodes : List AigNode) : Type 0
   pub placed : nodes ≡ nodes_in_row gates (length nodes) 0
   pub within : AllByRecursion (λ g. g.lhs / 2 < length nodes) gates
 
--- behind these leaves and gates: the variables, the nodes, and the order of the gates
-pub record AreGates (greatest : ℕ) (leaves : List ℕ) (gates : List GateLine) (variables : Variables) (nodes : List AigNode) (order : GateOrder) : Type 0 where
+-- the literal that the last of these gates defines, which all have numbers of 32 bits
+pub record IsLastOf (gates : List GateLine) (rising : Rising) : Type 0 where
+  pub last : rising.last ≡ last_or 0 (literals_of gates)
+  pub words : AllByRecursion HasWords gates
+
+-- these gates are held, and it is known whether they rise, each above its operands
+pub record ArePlaced (gates : List GateLine) (held : Gates) : Type 0 where
+  pub nodes : AreFirstNodes gates (nodes_held held)
+  pub in_order : is_rising held ≡ are_in_order gates
+  pub last : IfRising held (IsLastOf gates)
+
+-- behind these leaves and gates: the variables, and where the gates are held
+pub record AreGates (greatest : ℕ) (leaves : List ℕ) (gates : List GateLine) (variables : Variables) (held : Gates) : Type 0 where
   pub defined : AreDefined greatest variables (leaves ++ literals_of gates)
-  pub placed : AreFirstNodes gates nodes
-  pub in_order : IsOrderOf gates order
+  pub placed : ArePlaced gates held

@@ -1,5 +1,5 @@
 -- Lists under the numbers of a file's variables.
-use Rattle.std.specs.Prelude.{◌≡◌, ℕ, ◌/◌, Bool, true, false, if◌then◌else◌, List, [], ◌∷◌, ◌++◌, map, Option, Some, None, Result, Ok, Err}
+use Rattle.std.specs.Prelude.{◌≡◌, ℕ, ◌/◌, Bool, true, false, if◌then◌else◌, List, [], ◌∷◌, ◌++◌, map, Some, None, Result, Ok, Err}
 use Rattle.std.specs.Ordering.{nat_cmp}
 use Rattle.std.specs.FinMap.{FinMap}
 use Rattle.std.specs.List.{list_all, flat_map}
@@ -43,7 +43,7 @@ knows_properties f = knows f (f.outputs ++ f.bads ++ f.constraints ++ flat_map (
 -- ---- numbers
 
 -- the table has the number of each variable that is 0 or defined, and no others
-abbrev pub AreNumbersOf : File → List (Option ℕ) → Type 0
+abbrev pub AreNumbersOf : File → List ℕ → Type 0
 AreNumbersOf f numbers = (v : ℕ) → number_at numbers v ≡ (if is_known f v then Some (number_of f v) else None)
 
 -- the edges of the file's outputs and properties

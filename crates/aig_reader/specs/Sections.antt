@@ -1,8 +1,10 @@
 -- The sections of a file, with each variable as its own number.
-use Rattle.std.specs.Prelude.{◌≡◌, ℕ, ◌+◌, ◌*◌, ◌≤◌, true, List, [], map, nat_eq}
+use Rattle.std.specs.Prelude.{◌≡◌, ℕ, ◌+◌, ◌*◌, ◌^◌, ◌<◌, ◌≤◌, ◌&&◌, true, List, [], map, nat_eq, Vec}
 use Rattle.std.specs.List.{AllByRecursion, IsDistinct}
 use Rattle.std.specs.Ordering.{nat_cmp}
 use Rattle.std.specs.FinMap.{FinMap}
+use Rattle.std.specs.declared.alloc.Global.{Global}
+use Rattle.aig_circuit.specs.declared.node.AigNode.{AigNode}
 use Rattle.aig_circuit.specs.Circuit.{Circuit}
 use Rattle.aig_format.specs.declared.FileKind.TheVariants.{Binary}
 use Rattle.aig_format.specs.File.{File, defined, used}
@@ -14,7 +16,9 @@ use Rattle.aig_lexer.specs.Header.{numbers_of}
 use Rattle.aig_ordering.specs.Lists.{latch_from, variable_of}
 use Rattle.aig_ordering.specs.Tables.{AreNodesOf}
 use Rattle.aig_reader.specs.declared.lines.Lines.{Lines}
+use Rattle.aig_reader.specs.declared.sections.Lists.{Lists}
 use Rattle.aig_reader.specs.declared.sections.Sections.{Sections}
+use Rattle.aig_reader.specs.Gates.{ArePlaced, is_rising, nodes_held}
 use Rattle.aig_reader.specs.Properties.{ArePropertiesOf}
 use Rattle.aig_reader.specs.Variables.{AreDefined, kind_by}
 
@@ -23,10 +27,10 @@ abbrev pub file_by : Header → Parts → File
 file_by header x = file_from ((header.kind, numbers_of header), x) []
 
 -- the lists were made of the lines of the file's sections
-pub record AreSectionsOf (sections : Sections) (f : File) : Type 0 where
-  pub inputs : sections.inputs.items ≡ map variable_of f.inputs
-  pub latchs : sections.latchs.items ≡ map latch_from f.latches
-  pub properties : ArePropertiesOf sections.properties (property_parts f)
+pub record AreSectionListsOf (lists : Lists) (f : File) : Type 0 where
+  pub inputs : lists.inputs.items ≡ map variable_of f.inputs
+  pub latchs : lists.latchs.items ≡ map latch_from f.latches
+  pub properties : ArePropertiesOf lists.properties (property_parts f)
 
 -- what the lines of sections tell of their file: literals are defined once and are those of its variables, and binary files keep the older
 -- rules
@@ -36,14 +40,20 @@ pub record HasGoodLines (f : File) : Type 0 where
   pub in_range : AllByRecursion (λ e. e ≤ 2 * f.greatest + 1) (used f)
   pub binary : f.kind ≡ Binary → is_older f ≡ true
 
--- the lines of the file's sections were read: lists and nodes by variable, what is defined, and whether the file keeps the older rules
+-- the lines of the file's sections were read: lists and gates by variable, what is defined, and whether any variable is missing
 pub record AreLinesOf (f : File) (lines : Lines) : Type 0 where
   pub good : HasGoodLines f
-  pub sections : AreSectionsOf lines.sections f
-  pub nodes : AreNodesOf f lines.sections.nodes.items
+  pub lists : AreSectionListsOf lines.lists f
+  pub gates : ArePlaced f.gates lines.gates
+  pub nodes : AreNodesOf f (nodes_held lines.gates)
   pub defined : AreDefined f.greatest lines.variables (defined f)
   pub kind : kind_by lines.variables ≡ f.kind
-  pub older : lines.is_older ≡ is_older f
+  pub older : (lines.is_complete && is_rising lines.gates) ≡ is_older f
+  pub few : f.greatest < 2 ^ 31
+
+-- the sections of these nodes and lists
+abbrev pub sections_of : Vec AigNode Global → Lists → Sections
+sections_of nodes lists = record { nodes = nodes; inputs = lists.inputs; latchs = lists.latchs; properties = lists.properties }
 
 -- the circuit of these sections, with these names
 abbrev pub circuit_with : Sections → FinMap nat_cmp (List ℕ) → Circuit

@@ -11,14 +11,8 @@ ghost use Rattle.aig_reader.specs.Variables.{Tested};
 use crate::error::LineError;
 use aig_circuit::AigEdge;
 use aig_lexer::{ByteFeed, ended};
+use aig_ordering::edge_of;
 use std::alloc::Global;
-
-/// The edge of a literal.
-pub fn edge_of(literal: u32) -> AigEdge
-    ensures { result ≡ edge_from literal }
-{
-    AigEdge::new(literal as usize / 2, literal % 2 == 1)
-}
 
 /// The edge of a literal, which is that of a variable up to the greatest.
 pub fn edge_within(greatest: u32, literal: u32) -> Result<AigEdge, LineError>

@@ -12,9 +12,11 @@ mod lines;
 mod names;
 mod nodes;
 mod numbering;
+mod places;
 mod properties;
 mod reader;
 mod sections;
+mod table;
 mod variables;
 
 pub use error::{ReadError, Section};

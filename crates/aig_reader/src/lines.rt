@@ -1,6 +1,6 @@
 //! The lines of the sections, with each variable as its own number.
 
-ghost use Rattle.std.specs.Prelude.{◌≡◌, ◌+◌, ◌^◌, ◌<◌, ◌≤◌, ◌==◌, ◌&&◌, true, IfErr, IsErrOf};
+ghost use Rattle.std.specs.Prelude.{◌≡◌, ◌+◌, ◌^◌, ◌<◌, ◌≤◌, ◌==◌, true, IfErr, IsErrOf};
 ghost use Rattle.aig_parsing.specs.Fitting.{section_lines_at};
 ghost use Rattle.aig_parsing.specs.Front.{is_good};
 ghost use Rattle.aig_lexer.specs.Header.{numbers_of};
@@ -12,30 +12,32 @@ use crate::error::{ReadError, Section, gates_result};
 use crate::gates::read_gates;
 use crate::inputs::read_inputs;
 use crate::latches::read_latches;
-use crate::nodes::first_node;
+use crate::places::Gates;
 use crate::properties::read_properties;
-use crate::sections::Sections;
+use crate::sections::Lists;
 use crate::variables::Variables;
 use aig_lexer::{ByteFeed, Header};
 use std::alloc::Global;
 
-/// What the lines of the sections give: node v is that of variable v.
+/// What the lines of the sections give, with each variable as its own number.
 #[derive(Drop)]
 pub struct Lines {
     /// The lists.
-    pub sections: Sections,
+    pub lists: Lists,
+    /// The gates.
+    pub gates: Gates,
     /// The variables that are defined.
     pub variables: Variables,
-    /// Whether no variable is missing, and the gates rise, each above its operands.
-    pub is_older: bool,
+    /// Whether no variable is missing.
+    pub is_complete: bool,
 }
 
-/// Whether no variable is missing, and the gates are in order.
-fn is_older(header: Header, in_order: bool) -> bool
+/// Whether no variable is missing.
+fn is_complete(header: Header) -> bool
     requires { header.inputs + header.latches + header.gates ≤ header.greatest }
-    ensures { result ≡ (header.greatest == header.inputs + header.latches + header.gates && in_order) }
+    ensures { result ≡ (header.greatest == header.inputs + header.latches + header.gates) }
 {
-    header.greatest == header.inputs + header.latches + header.gates && in_order
+    header.greatest == header.inputs + header.latches + header.gates
 }
 
 /// Reads the lines of the sections behind the header line.
@@ -49,22 +51,21 @@ pub fn read_lines<F: ByteFeed>(alloc: Global, f: &mut F, header: Header) -> Resu
     ensures same { F.behind f.new ≡ F.behind f.old }
 {
     let mut variables = Variables::new(alloc, header.kind, header.greatest);
-    let mut nodes = first_node(alloc, header.greatest)?;
     let inputs = read_inputs(alloc, f, header, &mut variables);
     let inputs = Section::Inputs.result_of(inputs)?;
     let latchs = read_latches(alloc, f, header, &mut variables);
     let latchs = Section::Latches.result_of(latchs)?;
     let properties = read_properties(alloc, f, header)?;
-    let gates = read_gates(f, header, &mut variables, &mut nodes);
-    let in_order = gates_result(header.kind, gates)?;
+    let gates = read_gates(alloc, f, header, &mut variables);
+    let gates = gates_result(header.kind, gates)?;
     Ok(Lines {
-        sections: Sections {
-            nodes,
+        lists: Lists {
             inputs,
             latchs,
             properties,
         },
+        gates,
         variables,
-        is_older: is_older(header, in_order),
+        is_complete: is_complete(header),
     })
 }

@@ -1,6 +1,6 @@
 //! The nodes of a circuit, as its gates come.
 
-ghost use Rattle.std.specs.Prelude.{◌≡◌, ◌+◌, ◌/◌, ◌<◌, ◌≤◌, [], ◌∷◌, ◌++◌, List, IfOk, vec_capacity, vec_len};
+ghost use Rattle.std.specs.Prelude.{◌≡◌, ◌+◌, ◌/◌, ◌<◌, ◌≤◌, [], ◌∷◌, ◌++◌, List, IfOk, max, vec_capacity, vec_len};
 ghost use Rattle.aig_format.specs.File.{GateLine};
 ghost use Rattle.aig_ordering.specs.Lists.{nodes_of};
 ghost use Rattle.aig_reader.specs.Gates.{AreFirstNodes, gate_node_of, literals_of};
@@ -24,7 +24,7 @@ pub fn add_leaves(nodes: &mut Vec<AigNode>, len: usize)
     requires { len ≤ vec_capacity nodes.old }
     ensures exact { (gates : List GateLine) → AreFirstNodes gates nodes.old.items
         → AreFirstNodes gates nodes.new.items }
-    ensures len { len ≤ vec_len nodes.new }
+    ensures len { vec_len nodes.new ≡ max (vec_len nodes.old) len }
     ensures capacity { vec_capacity nodes.new ≡ vec_capacity nodes.old }
 {
     for id in nodes.len()..len {
@@ -32,12 +32,14 @@ pub fn add_leaves(nodes: &mut Vec<AigNode>, len: usize)
     }
 }
 
-/// Puts a gate in its place, behind leaves where there are no nodes before it yet. There is room for it.
+/// Puts a gate in its place, behind leaves where there are no nodes before it yet. There is room for it. No leaf is put
+/// behind it.
 pub fn put_gate(nodes: &mut Vec<AigNode>, gate: AigNode)
     requires { gate.node_id < vec_capacity nodes.old }
     ensures exact { (gates : List GateLine) (g : GateLine) → AreFirstNodes gates nodes.old.items
         → IsNewAmong (literals_of gates) g.lhs → 2 ≤ g.lhs → gate ≡ gate_node_of g
         → AreFirstNodes (gates ++ g ∷ []) nodes.new.items }
+    ensures len { vec_len nodes.new ≡ max (vec_len nodes.old) (gate.node_id + 1) }
     ensures capacity { vec_capacity nodes.new ≡ vec_capacity nodes.old }
 {
     let id = gate.node_id();

@@ -9,40 +9,43 @@ ghost use Rattle.aig_format.specs.Levels.{has_level};
 ghost use Rattle.aig_format.specs.Numbering.{is_older};
 ghost use Rattle.aig_parsing.specs.Fitting.{keeps_rules, uses_known};
 ghost use Rattle.aig_parsing.specs.Front.{property_parts};
+ghost use Rattle.aig_ordering.specs.Gates.{nodes_in};
 ghost use Rattle.aig_ordering.specs.Tables.{AreKnownOf, AreNodesOf};
 ghost use Rattle.aig_reader.specs.Faults.{IsNumberFault};
 ghost use Rattle.aig_reader.specs.Numbered.{AreNumberedProperties, AreNumbersOf, IsCircuitOf, Judged, JudgedOrder, have_operands, knows_properties};
 ghost use Rattle.aig_reader.specs.Properties.{ArePropertiesOf};
-ghost use Rattle.aig_reader.specs.Sections.{AreLinesOf, AreSectionsOf, HasGoodLines};
+ghost use Rattle.aig_reader.specs.Sections.{AreLinesOf, AreSectionListsOf, HasGoodLines};
 
 use crate::error::{ReadError, Section};
 use crate::lines::Lines;
 use crate::properties::Properties;
-use crate::sections::Sections;
+use crate::sections::{Lists, Sections};
 use crate::variables::Variables;
 use aig_circuit::AigNode;
-use aig_ordering::{OrderError, edges, latchs, nodes, numbers, order_by_level, sets, variables};
+use aig_ordering::{
+    Operands, OrderError, edges, latchs, nodes, numbers, order_by_level, sets, variables,
+};
 use std::alloc::Global;
 
 /// The nodes by level, and the number of each variable that is 0 or defined.
 fn number_nodes(
     alloc: Global,
-    old: Vec<AigNode>,
+    gates: Vec<Option<Operands>>,
     known: &[bool],
-) -> Result<(Vec<AigNode>, Vec<Option<u32>>), OrderError>
-    requires tables { (f : File) × AreNodesOf f old.items × AreKnownOf f known.now }
-    requires few { vec_len old ≤ 2 ^ 32 }
-    ensures { (f : File) → HasGoodLines f → AreNodesOf f old.items → AreKnownOf f known.now → is_older f ≡ false → JudgedOrder (list_all (has_level f) f.gates && have_operands f) (λ x. (x.0.items ≡ (circuit_of f).nodes) × AreNumbersOf f x.1.items) result }
+) -> Result<(Vec<AigNode>, Vec<u32>), OrderError>
+    requires tables { (f : File) × AreNodesOf f (nodes_in gates.items) × AreKnownOf f known.now }
+    requires few { vec_len gates ≤ 2 ^ 31 }
+    ensures { (f : File) → HasGoodLines f → AreNodesOf f (nodes_in gates.items) → AreKnownOf f known.now → is_older f ≡ false → JudgedOrder (list_all (has_level f) f.gates && have_operands f) (λ x. (x.0.items ≡ (circuit_of f).nodes) × AreNumbersOf f x.1.items) result }
 {
-    let order = order_by_level(alloc, &old, known)?;
-    let numbers = numbers(alloc, &order, old.len())?;
-    let nodes = nodes(alloc, &numbers, old, &order)?;
+    let order = order_by_level(alloc, &gates, known)?;
+    let numbers = numbers(alloc, &order, gates.len())?;
+    let nodes = nodes(alloc, &numbers, &gates, &order)?;
     Ok((nodes, numbers))
 }
 
 impl Properties {
     /// The lists under the numbers of their variables.
-    fn numbered(&self, alloc: Global, numbers: &[Option<u32>]) -> Result<Properties, ReadError>
+    fn numbered(&self, alloc: Global, numbers: &[u32]) -> Result<Properties, ReadError>
         ensures exact { (f : File) → AreNumbersOf f numbers.now → ArePropertiesOf self.now (property_parts f) → Judged (knows_properties f) (AreNumberedProperties f) result }
         ensures fault { IfErr result IsNumberFault }
     {
@@ -66,21 +69,27 @@ impl Properties {
     }
 }
 
-impl Sections {
+impl Lists {
     /// The sections with the defined variables by level. `known` tells of each variable whether it is 0 or defined.
-    fn by_level(self, alloc: Global, known: &[bool]) -> Result<Sections, ReadError>
-        requires tables { (f : File) × AreNodesOf f self.nodes.items × AreKnownOf f known.now }
-        requires few { vec_len self.nodes ≤ 2 ^ 32 }
-        ensures exact { (f : File) → HasGoodLines f → AreNodesOf f self.nodes.items → AreKnownOf f known.now → AreSectionsOf self f → is_older f ≡ false → Judged (uses_known f && list_all (has_level f) f.gates) (IsCircuitOf f) result }
+    fn by_level(
+        self,
+        alloc: Global,
+        gates: Vec<Option<Operands>>,
+        known: &[bool],
+    ) -> Result<Sections, ReadError>
+        requires tables { (f : File) × AreNodesOf f (nodes_in gates.items) × AreKnownOf f known.now }
+        requires few { vec_len gates ≤ 2 ^ 31 }
+        ensures exact { (f : File) → HasGoodLines f → AreNodesOf f (nodes_in gates.items) → AreKnownOf f known.now
+            → AreSectionListsOf self f → is_older f ≡ false
+            → Judged (uses_known f && list_all (has_level f) f.gates) (IsCircuitOf f) result }
         ensures fault { IfErr result IsNumberFault }
     {
-        let Sections {
-            nodes,
+        let Lists {
             inputs,
             latchs: old_latchs,
             properties,
         } = self;
-        let nodes = number_nodes(alloc, nodes, known);
+        let nodes = number_nodes(alloc, gates, known);
         let (nodes, numbers) = Section::Gates.numbered(nodes)?;
         let inputs = variables(alloc, &numbers, &inputs);
         let inputs = Section::Inputs.numbered(inputs)?;
@@ -104,18 +113,19 @@ impl Lines {
         ensures fault { IfErr result IsNumberFault }
     {
         let Lines {
-            sections,
+            lists,
+            gates,
             variables,
-            is_older,
+            is_complete,
         } = self;
-        let marks = match variables {
-            Variables::Marked(marks) => marks,
-            Variables::Counted(_) => return Ok(sections),
-        };
-        if is_older {
-            return Ok(sections);
+        if is_complete && gates.are_rising() {
+            return Ok(lists.with_nodes(gates.into_nodes()));
         }
-        let known = marks.known()?;
-        sections.by_level(alloc, &known)
+        let gates = gates.into_table(alloc)?;
+        let known = match variables {
+            Variables::Marked(marks) => marks.known()?,
+            Variables::Counted(_) => unreachable!(),
+        };
+        lists.by_level(alloc, gates, &known)
     }
 }

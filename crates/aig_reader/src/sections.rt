@@ -2,11 +2,22 @@
 
 ghost use Rattle.std.specs.Prelude.{◌≡◌};
 ghost use Rattle.aig_circuit.specs.View.{lists_circuit, names_of};
-ghost use Rattle.aig_reader.specs.Sections.{circuit_with};
+ghost use Rattle.aig_reader.specs.Sections.{circuit_with, sections_of};
 
 use crate::properties::Properties;
 use aig_circuit::{AigLatch, AigNode, CircuitLists};
 use std::collections::HashMap;
+
+/// The lists of a file's sections.
+#[derive(Drop)]
+pub struct Lists {
+    /// The numbers of the inputs, in the file's order.
+    pub inputs: Vec<usize>,
+    /// The latches, in the file's order.
+    pub latchs: Vec<AigLatch>,
+    /// The property lists.
+    pub properties: Properties,
+}
 
 /// What the sections of a file give: nodes, and lists that name them.
 #[derive(Drop)]
@@ -19,6 +30,25 @@ pub struct Sections {
     pub latchs: Vec<AigLatch>,
     /// The property lists.
     pub properties: Properties,
+}
+
+impl Lists {
+    /// The lists, with these nodes.
+    pub fn with_nodes(self, nodes: Vec<AigNode>) -> Sections
+        ensures { result ≡ sections_of nodes self }
+    {
+        let Lists {
+            inputs,
+            latchs,
+            properties,
+        } = self;
+        Sections {
+            nodes,
+            inputs,
+            latchs,
+            properties,
+        }
+    }
 }
 
 impl Sections {

@@ -1,22 +1,33 @@
-use Rattle.std.proofs.Common.{List, Some, map, sym, ap, ◌∙◌}
-use Rattle.std.specs.Prelude.{option_map}
-use Rattle.std.proofs.lemmas.List.{take_all}
-use Rattle.aig_ordering.specs.declared.kinds.Entry.{Entry}
-use Rattle.aig_ordering.specs.Kinds.{kind_in}
-use Rattle.aig_ordering.specs.Numbers.{numbered}
-use Rattle.aig_ordering.proofs.Placing.{node_more}
+use Rattle.std.proofs.Common.{◌++◌, ◌∷◌, [], sym, ap, ◌∙◌, arith}
+use Rattle.std.specs.Prelude.{option_and_then, option_map, slice_index}
+use Rattle.aig_ordering.specs.Numbers.{kind_by, node_of, number_at, numbered}
+use Rattle.aig_ordering.proofs.Images.{all_by-missed, all_by-more, mapped_none, mapped_some}
+use Rattle.aig_ordering.proofs.NodesIn.{kind_under, nodes_in-kind}
+use Rattle.aig_ordering.proofs.Numbering.{numbered-more}
 use Rattle.aig_ordering.proofs.kinds.nodes.Goals as goal
 
-pub loop-id-init : goal.loop-id-init
-loop-id-init c = c.clear.ensures.items
+pub returns-in_default : goal.returns-in_default
+returns-in_default c =
+    let numbers = c.args.numbers.now in
+    let gates = c.args.gates.now in
+    let order = c.args.order.now in
+    let i = c.loop-variable.variable-index in
+    let kind = nodes_in-kind gates (slice_index order i) _ (c.requires.within i 0 c.loop-variable-test.true) in
+    let none = mapped_none (node_of c.len.result) _ (sym c.node.ensures ∙ c.in_default.is) in
+    ap (option_map (numbered 0)) (all_by-missed (kind_under numbers gates) order i 0 c.loop-variable-test.true (ap (option_and_then (kind_by (number_at numbers))) kind ∙ none))
 
-pub loop-id-preserved : goal.loop-id-preserved
-loop-id-preserved c =
-    node_more c.deref-entry-items.result.now c.loop-id.id _ c.loop-id.new.items c.push.new.self.items c.node.result c.loop-id-test.true c.loop-id.invariant c.node.ensures c.in_ok-push.ensures.items
-
-pub returns : goal.returns
-returns c =
-    let made = rw c.deref.ensures.value at c.in_ok-entries.ensures in
-    ap (option_map (numbered 0)) made
-    ∙ ap (λ (entries : List Entry). Some (numbered 0 (map kind_in entries))) (sym c.deref-entry-items.ensures.value ∙ sym (take_all c.loop-id.id c.deref-entry-items.result.now c.loop-id-test.false))
-    ∙ ap Some (sym c.loop-id.invariant)
+pub loop-variable-preserved : goal.loop-variable-preserved
+loop-variable-preserved c =
+    let numbers = c.args.numbers.now in
+    let gates = c.args.gates.now in
+    let order = c.args.order.now in
+    let i = c.loop-variable.variable-index in
+    let inv = c.loop-variable.invariant in
+    let new = c.loop-variable.new in
+    let kind = nodes_in-kind gates (slice_index order i) _ (c.requires.within i 0 c.loop-variable-test.true) in
+    let made = mapped_some (node_of c.len.result) _ c.in-Some.made (sym c.node.ensures ∙ c.in-Some.is) in
+    record {
+      kinds = inv.kinds ++ made.0 ∷ [];
+      are = all_by-more (kind_under numbers gates) order i 0 inv.kinds made.0 c.loop-variable-test.true inv.are (ap (option_and_then (kind_by (number_at numbers))) kind ∙ made.1);
+      made = c.in_ok-push.ensures.items ∙ numbered-more inv.kinds made.0 new.items c.in-Some.made c.len.result (omega (arith, c.len.ensures, new.ok.0)) made.2 inv.made;
+    }

@@ -1,10 +1,12 @@
 use Rattle.std.proofs.Common.{◌≤◌, ℕ, sym, ◌∙◌, below_more, arith}
-use Rattle.aig_ordering.proofs.Tables.{all_levels-tested, count-nodes}
+use Rattle.aig_ordering.specs.Gates.{nodes_in}
+use Rattle.aig_ordering.proofs.NodesIn.{count-gates}
+use Rattle.aig_ordering.proofs.Tables.{all_levels-tested}
 use Rattle.aig_ordering.proofs.levels.find_levels.Goals as goal
 
 pub loop-variable-init : goal.loop-variable-init
 loop-variable-init c = record {
-  rest = λ f are. c.in_ok-search.ensures.rest f (count-nodes f c.args.nodes.now are);
+  rest = λ f are. c.in_ok-search.ensures.rest f (count-gates f c.args.gates.now are);
   opened = λ v h. absurd (omega arith);
 }
 
@@ -20,9 +22,9 @@ find-requires-clause-rest c = c.loop-variable.invariant.rest
 pub returns : goal.returns
 returns c = λ f are.
     let rest = c.loop-variable.invariant.rest f are in
-    let count = count-nodes f c.args.nodes.now are in
+    let count = count-gates f c.args.gates.now are in
     let has = λ (v : ℕ) (h : v ≤ f.greatest). rest.opened v (c.loop-variable.invariant.opened v (omega (arith, count, c.loop-variable-test.false))) in (
-      all_levels-tested f c.args.nodes.now are (λ v h. let k = has v h in (k.0, rest.search.right v k.0 k.1)),
+      all_levels-tested f (nodes_in c.args.gates.now) are (λ v h. let k = has v h in (k.0, rest.search.right v k.0 k.1)),
       record {
         count = rest.search.levels;
         each = λ v h. (let k = has v h in k.1 ∙ sym (rest.search.right v k.0 k.1));

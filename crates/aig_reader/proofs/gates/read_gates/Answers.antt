@@ -1,5 +1,4 @@
-use Rattle.std.proofs.Common.{◌≡◌, ◌∙◌, ◌∷◌, ◌++◌, ◌+◌, [], ℕ, subst, length, arith}
-use Rattle.std.specs.Prelude.{vec_capacity}
+use Rattle.std.proofs.Common.{◌≡◌, ◌∙◌, ◌∷◌, ◌++◌, ◌+◌, [], ℕ, subst, arith}
 use Rattle.std.proofs.lemmas.Result.{err_from_is_err_and}
 use Rattle.aig_parsing.specs.Fitting.{fitting_gates_at}
 use Rattle.aig_format.specs.declared.FileKind.{FileKind}
@@ -8,7 +7,7 @@ use Rattle.aig_lexer.specs.Takes.{Takes, Misses}
 use Rattle.aig_lexer.proofs.Taking.{takes_same, misses_same}
 use Rattle.aig_reader.specs.Entries.{gate_at}
 use Rattle.aig_reader.specs.Faults.{OnLine}
-use Rattle.aig_reader.specs.Variables.{HasRoom, kind_by}
+use Rattle.aig_reader.specs.Variables.{kind_by}
 use Rattle.aig_reader.proofs.BothKinds.{gates_is}
 use Rattle.aig_reader.proofs.Entries.{entries_at, takes_more, misses_more}
 use Rattle.aig_reader.proofs.PlacedNodes.{first_all}
@@ -16,56 +15,61 @@ use Rattle.aig_reader.proofs.Rooms.{room_for, room_more}
 use Rattle.aig_reader.proofs.TestedLines.{on_line-weaker}
 use Rattle.aig_reader.proofs.gates.read_gates.Goals as goal
 
-pub gate_line-requires-clause-room : goal.gate_line-requires-clause-room
-gate_line-requires-clause-room g c =
-    let size : c.args.header.greatest + 1 ≡ vec_capacity c.loop.nodes = omega (arith, c.loop.invariant.capacity, c.requires.nodes) in
-    subst (λ (n : ℕ). HasRoom n c.loop.variables 1) size (room_for _ _ (c.args.header.greatest + 1) c.args.header.gates c.loop.counter c.loop-test.true c.requires.room c.loop.invariant.room)
+pub gate_line-requires-clause-space : goal.gate_line-requires-clause-space
+gate_line-requires-clause-space g c =
+    let size = c.args.header.greatest + 1 in
+    (size, omega (arith, c.requires.few), room_for _ _ size c.args.header.gates c.loop.counter c.loop-test.true c.requires.room c.loop.invariant.room, c.loop.invariant.space)
 
-pub returns-in_err-order-clause-exact : goal.returns-in_err-order-clause-exact
-returns-in_err-order-clause-exact g c = λ leaves length defined start.
-    let p = err_from_is_err_and c.from_residual.result c.from_residual.ensures.1 in
-    let h = c.loop.invariant.made leaves defined start in
+pub gate_line-requires-clause-gates : goal.gate_line-requires-clause-gates
+gate_line-requires-clause-gates g c =
+    let h = c.loop.invariant.made c.requires.defined.0 c.requires.defined.1 in
+    (c.args.header.greatest, c.requires.defined.0, h.0, h.1)
+
+pub returns-in_err-gate_line-clause-exact : goal.returns-in_err-gate_line-clause-exact
+returns-in_err-gate_line-clause-exact g c = λ leaves length defined.
+    let p = err_from_is_err_and c.from_residual-in_err-gate_line.result c.from_residual-in_err-gate_line.ensures.1 in
+    let h = c.loop.invariant.made leaves defined in
     let kind = kind_by c.args.variables.now in
     let greatest = c.args.header.greatest in
     let count = c.args.header.gates in
     let ns = numbers_of c.args.header in
     let now = g.F.ByteFeed.coming c.loop.f in
-    let e = c.in_err-order.field-0.0 in
+    let e = c.in_err-gate_line.field-0.0 in
     rw (p.1, p.2) (on_line-weaker e _ _
     (λ (k : Misses (gate_at kind greatest leaves h.0) now).
     misses_same (entries_at (gate_at kind greatest leaves) [] count) (fitting_gates_at kind ns leaves) _ (misses_more (gate_at kind greatest leaves) c.loop.counter count _ _ h.0 c.loop-test.true h.2 k) (λ bs. gates_is kind ns leaves bs length))
-    (subst (λ (k : FileKind). OnLine e (Misses (gate_at k greatest leaves h.0) now)) c.loop.invariant.kind (c.in_err-order.ensures.exact greatest leaves h.0 h.1)))
+    (subst (λ (k : FileKind). OnLine e (Misses (gate_at k greatest leaves h.0) now)) c.loop.invariant.kind (c.in_err-gate_line.ensures.exact greatest leaves h.0 h.1)))
 
 pub loop-preserved : goal.loop-preserved
 loop-preserved g c = record {
-  made = λ leaves defined start.
-      let h = c.loop.invariant.made leaves defined start in
+  made = λ leaves defined.
+      let h = c.loop.invariant.made leaves defined in
       let kind = kind_by c.args.variables.now in
       let greatest = c.args.header.greatest in
-      let k = c.in_ok-order.ensures.exact greatest leaves h.0 h.1 in (
+      let k = c.in_ok-gate_line.ensures.exact greatest leaves h.0 h.1 in (
         h.0 ++ k.0 ∷ [],
         k.1,
         takes_more (gate_at kind greatest leaves) c.loop.counter _ _ _ h.0 k.0 h.2 (subst (λ (d : FileKind). Takes (gate_at d greatest leaves h.0) (g.F.ByteFeed.coming c.loop.f) (g.F.ByteFeed.coming c.gate_line.new.f) k.0) c.loop.invariant.kind k.2),
       );
-  capacity = c.gate_line.ensures.capacity ∙ c.loop.invariant.capacity;
-  room = room_more _ _ _ c.loop.counter c.loop.invariant.room c.in_ok-order.ensures.room;
+  space =
+      let size = c.args.header.greatest + 1 in
+      c.in_ok-gate_line.ensures.space size (room_for _ _ size c.args.header.gates c.loop.counter c.loop-test.true c.requires.room c.loop.invariant.room) c.loop.invariant.space;
+  room = room_more _ _ _ c.loop.counter c.loop.invariant.room c.in_ok-gate_line.ensures.room;
   kind = c.gate_line.ensures.kind ∙ c.loop.invariant.kind;
   same = c.gate_line.ensures.same ∙ c.loop.invariant.same;
 }
 
 pub returns-clause-exact : goal.returns-clause-exact
-returns-clause-exact g c = λ leaves count_is defined start.
+returns-clause-exact g c = λ leaves count_is defined.
     let done : c.loop.counter ≡ c.args.header.gates = omega arith in
-    let h = c.loop.invariant.made leaves defined start in
+    let h = c.loop.invariant.made leaves defined in
     let kind = kind_by c.args.variables.now in
     let greatest = c.args.header.greatest in
     let count = c.args.header.gates in
     let ns = numbers_of c.args.header in
-    let all = c.add_leaves.new.nodes in
-    let capacity = c.add_leaves.ensures.capacity ∙ c.loop.invariant.capacity ∙ c.requires.nodes in
-    let size : length all.items ≡ greatest + 1 = omega (arith, c.add_leaves.ensures.len, capacity, all.ok) in (
+    let placed = c.add_leaves.ensures.placed h.0 h.1.placed in (
       h.0,
-      (first_all greatest h.0 all.items (c.add_leaves.ensures.exact h.0 h.1.placed) size, h.1.defined, h.1.in_order.kept),
+      (record { defined = h.1.defined; placed = placed }, first_all greatest h.0 _ placed.nodes c.in_ok-add_leaves.ensures.len),
       takes_same (entries_at (gate_at kind greatest leaves) [] count) (fitting_gates_at kind ns leaves) _ _ h.0
           (subst (λ (n : ℕ). Takes (entries_at (gate_at kind greatest leaves) [] n) (g.F.ByteFeed.coming c.args.f.now) (g.F.ByteFeed.coming c.loop.f) h.0) done h.2) (λ bs. gates_is kind ns leaves bs count_is),
     )

@@ -9,6 +9,7 @@ use Rattle.aig_lexer.specs.Header.{numbers_of}
 use Rattle.aig_lexer.specs.Takes.{Misses, Takes}
 use Rattle.aig_reader.specs.declared.error.Section.TheVariants.{Inputs, Latches}
 use Rattle.aig_reader.specs.Faults.{OnRefusal, error_in, gate_error_in}
+use Rattle.aig_reader.specs.Gates.{is_rising}
 use Rattle.aig_reader.specs.Sections.{file_by}
 use Rattle.aig_reader.specs.Variables.{HasRoom}
 use Rattle.aig_reader.proofs.Body.{in_gates, made_in, missed_in, misses_gates, misses_properties, on_refusal-weaker, takes_sections}
@@ -47,6 +48,15 @@ read_gates-gates-requires-clause-room g c =
     c.result_of-2.ensures c.in_ok-latchs.was c.read_latches-latchs.ensures.room in
     more size header.gates (left size rest all)
 
+pub read_gates-gates-requires-clause-defined : goal.read_gates-gates-requires-clause-defined
+read_gates-gates-requires-clause-defined g c =
+    let header = c.args.header in
+    let kind = header.kind in
+    let inputs = c.read_inputs-inputs.ensures in
+    let latchs = c.read_latches-latchs.ensures in
+    let leaves = leaves_read header kind _ _ _ _ _ _ _ _ _ _ _ _ c.new-variables.ensures.kind inputs.kind c.result_of.ensures c.in_ok-inputs.was (inputs.exact c.new-variables.ensures.defined) inputs.count c.result_of-2.ensures c.in_ok-latchs.was latchs.exact latchs.count in
+    (literals_with leaves.literals leaves.lines, leaves.defined)
+
 pub returns-in_err-properties-clause-exact : goal.returns-in_err-properties-clause-exact
 returns-in_err-properties-clause-exact g c =
     let header = c.args.header in
@@ -58,8 +68,8 @@ returns-in_err-properties-clause-exact g c =
     let e = c.in_err-properties.field-0.0 in
     rw (p.1, p.2) (on_refusal-weaker e _ _ (misses_properties kind (numbers_of header) _ _ leaves.literals leaves.takes_inputs _ leaves.lines leaves.takes_latchs) c.in_err-properties.ensures.exact)
 
-pub returns-in_err-in_order-clause-exact : goal.returns-in_err-in_order-clause-exact
-returns-in_err-in_order-clause-exact g c =
+pub returns-in_err-gates-clause-exact : goal.returns-in_err-gates-clause-exact
+returns-in_err-gates-clause-exact g c =
     let header = c.args.header in
     let kind = header.kind in
     let start = c.new-variables.ensures.kind in
@@ -67,10 +77,10 @@ returns-in_err-in_order-clause-exact g c =
     let latchs = c.read_latches-latchs.ensures in
     let leaves = leaves_read header kind _ _ _ _ _ _ _ _ _ _ _ _ start inputs.kind c.result_of.ensures c.in_ok-inputs.was (inputs.exact c.new-variables.ensures.defined) inputs.count c.result_of-2.ensures c.in_ok-latchs.was latchs.exact latchs.count in
     let properties = c.in_ok-properties.ensures.exact in
-    let gates = c.read_gates-gates.ensures.exact (literals_with leaves.literals leaves.lines) leaves.count leaves.defined c.in_ok-nodes.ensures.items in
-    let e = c.in_err-in_order.field-0.0 in
-    let missed = missed_in (gate_error_in kind) (in_gates kind) _ _ _ _ c.read_gates-gates.result c.gates_result.result e c.gates_result.ensures c.in_err-in_order.was gates in
-    let p = err_from_is_err_and c.from_residual-in_err-in_order.result c.from_residual-in_err-in_order.ensures.1 in
+    let gates = c.read_gates-gates.ensures.exact (literals_with leaves.literals leaves.lines) leaves.count leaves.defined in
+    let e = c.in_err-gates.field-0.0 in
+    let missed = missed_in (gate_error_in kind) (in_gates kind) _ _ _ _ c.read_gates-gates.result c.gates_result.result e c.gates_result.ensures c.in_err-gates.was gates in
+    let p = err_from_is_err_and c.from_residual-in_err-gates.result c.from_residual-in_err-gates.ensures.1 in
     rw (p.1, p.2) (on_refusal-weaker e _ _ (misses_gates kind (numbers_of header) _ _ leaves.literals leaves.takes_inputs _ leaves.lines leaves.takes_latchs _ properties.0 properties.2)
     (subst (λ (k : FileKind). OnRefusal e (Misses (fitting_gates_at k (numbers_of header) (literals_with leaves.literals leaves.lines)) (g.F.ByteFeed.coming c.read_properties.new.f))) (latchs.kind ∙ inputs.kind ∙ start) missed))
 
@@ -85,7 +95,7 @@ returns-clause-exact g c =
     let leaves = leaves_read header kind _ _ _ _ _ _ _ _ _ _ _ _ start inputs.kind c.result_of.ensures c.in_ok-inputs.was (inputs.exact c.new-variables.ensures.defined) inputs.count c.result_of-2.ensures c.in_ok-latchs.was latchs.exact latchs.count in
     let properties = c.in_ok-properties.ensures.exact in
     let defined = literals_with leaves.literals leaves.lines in
-    let gates = made_in (gate_error_in kind) (in_gates kind) _ _ _ _ c.read_gates-gates.result c.gates_result.result c.in_ok-in_order.in_order c.gates_result.ensures c.in_ok-in_order.was (c.read_gates-gates.ensures.exact defined leaves.count leaves.defined c.in_ok-nodes.ensures.items) in
+    let gates = made_in (gate_error_in kind) (in_gates kind) _ _ _ _ c.read_gates-gates.result c.gates_result.result c.in_ok-gates.gates c.gates_result.ensures c.in_ok-gates.was (c.read_gates-gates.ensures.exact defined leaves.count leaves.defined) in
     let same = latchs.kind ∙ inputs.kind ∙ start in
     let hg : Takes (fitting_gates_at kind ns defined) (g.F.ByteFeed.coming c.read_properties.new.f) (g.F.ByteFeed.coming c.read_gates-gates.new.f) gates.0 =
     subst (λ (k : FileKind). Takes (fitting_gates_at k ns defined) (g.F.ByteFeed.coming c.read_properties.new.f) (g.F.ByteFeed.coming c.read_gates-gates.new.f) gates.0) same gates.2 in
@@ -99,11 +109,13 @@ returns-clause-exact g c =
       y,
       record {
         good = record { definable = tell.variables.definable; distinct = tell.variables.distinct; in_range = tell.in_range; binary = tell.older };
-        sections = record { inputs = leaves.inputs_are; latchs = leaves.latchs_are; properties = record { outputs = p.outputs; bads = p.bads; constraints = p.constraints; justice = p.justice; fairness = p.fairness } };
-        nodes = record { placed = gates.1.0; definable = tell.variables.definable; operands = tell.variables.operands; few = omega (arith, tell.counts.gates, enough) };
-        defined = gates.1.1;
+        lists = record { inputs = leaves.inputs_are; latchs = leaves.latchs_are; properties = record { outputs = p.outputs; bads = p.bads; constraints = p.constraints; justice = p.justice; fairness = p.fairness } };
+        gates = gates.1.0.placed;
+        nodes = record { placed = gates.1.1; definable = tell.variables.definable; operands = tell.variables.operands; few = omega (arith, tell.counts.gates, enough) };
+        defined = gates.1.0.defined;
         kind = c.read_gates-gates.ensures.kind ∙ same;
-        older = c.is_older.ensures ∙ ap (λ (n : ℕ). header.greatest == n && c.in_ok-in_order.in_order) (sym tell.count) ∙ ap (λ (b : Bool). header.greatest == length (f.inputs ++ map (λ l. l.literal) f.latches ++ map (λ g. g.lhs) f.gates) && b) gates.1.2;
+        older = ap (λ (b : Bool). b && is_rising c.in_ok-gates.gates) (c.is_complete.ensures ∙ ap (λ (n : ℕ). header.greatest == n) (sym tell.count)) ∙ ap (λ (b : Bool). header.greatest == length (f.inputs ++ map (λ l. l.literal) f.latches ++ map (λ g. g.lhs) f.gates) && b) gates.1.0.placed.in_order;
+        few = c.requires.few;
       },
       taken,
     )

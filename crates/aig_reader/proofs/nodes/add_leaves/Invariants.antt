@@ -1,4 +1,4 @@
-use Rattle.std.proofs.Common.{◌≡◌, List, vec_len}
+use Rattle.std.proofs.Common.{◌≡◌, ◌≤◌, List, max, vec_len}
 use Rattle.std.specs.Prelude.{vec_capacity}
 use Rattle.aig_format.specs.File.{GateLine}
 use Rattle.aig_reader.specs.Gates.{AreFirstNodes}
@@ -8,5 +8,7 @@ abbrev pub invariant-loop-id : goal.invariant-loop-id
 invariant-loop-id l = record {
   exact : (gates : List GateLine) → AreFirstNodes gates l.fn.nodes.items → AreFirstNodes gates l.nodes.items;
   len : vec_len l.nodes ≡ l.id;
+  from : vec_len l.fn.nodes ≤ l.id;
+  upto : l.id ≤ max (vec_len l.fn.nodes) l.fn.len;
   capacity : vec_capacity l.nodes ≡ vec_capacity l.fn.nodes;
 }

@@ -1,6 +1,6 @@
 use Rattle.std.proofs.Common.{true, false, sym, refl, get_or-set_same, ◌∙◌, arith}
 use Rattle.std.proofs.lemmas.List.{get_or_read}
-use Rattle.aig_ordering.proofs.Tables.{count-nodes}
+use Rattle.aig_ordering.proofs.NodesIn.{count-gates}
 use Rattle.aig_ordering.proofs.Searching.{at_start, at_within, less_left, marks_stay}
 use Rattle.aig_ordering.proofs.levels.Search.find.Goals as goal
 
@@ -8,21 +8,21 @@ pub index-requires : goal.index-requires
 index-requires c =
     let f = c.requires.nodes.0 in
     let are = c.requires.nodes.1 in
-    omega (arith, c.requires.start, count-nodes f c.args.nodes.now are, (c.requires.rest f are).search.opened, c.args.self.now.opened.ok.0)
+    omega (arith, c.requires.start, count-gates f c.args.gates.now are, (c.requires.rest f are).search.opened, c.args.self.now.opened.ok.0)
 
 pub returns-then-index-clause-started : goal.returns-then-index-clause-started
 returns-then-index-clause-started c =
     let f = c.requires.nodes.0 in
     let are = c.requires.nodes.1 in
     let marks = c.args.self.now.opened.items in
-    sym (get_or_read marks c.args.start c.index.result.now (omega (arith, c.requires.start, count-nodes f c.args.nodes.now are, (c.requires.rest f are).search.opened)) c.index.ensures false)
+    sym (get_or_read marks c.args.start c.index.result.now (omega (arith, c.requires.start, count-gates f c.args.gates.now are, (c.requires.rest f are).search.opened)) c.index.ensures false)
     ∙ c.if-index.true
 
 pub index_mut-requires : goal.index_mut-requires
 index_mut-requires c =
     let f = c.requires.nodes.0 in
     let are = c.requires.nodes.1 in
-    omega (arith, c.requires.start, count-nodes f c.args.nodes.now are, (c.requires.rest f are).search.opened, c.args.self.now.opened.ok.0)
+    omega (arith, c.requires.start, count-gates f c.args.gates.now are, (c.requires.rest f are).search.opened, c.args.self.now.opened.ok.0)
 
 pub loop-current-init : goal.loop-current-init
 loop-current-init c =
@@ -30,9 +30,9 @@ loop-current-init c =
     let f = c.requires.nodes.0 in
     let are = c.requires.nodes.1 in
     record {
-      at = λ f are. at_start f c.args.self.now _ c.args.start (c.requires.rest f are) (omega (arith, c.requires.start, count-nodes f c.args.nodes.now are)) refl refl refl;
+      at = λ f are. at_start f c.args.self.now _ c.args.start (c.requires.rest f are) (omega (arith, c.requires.start, count-gates f c.args.gates.now are)) refl refl refl;
       opened = λ u is. marks_stay marks c.args.start u is;
-      started = get_or-set_same marks c.args.start true false (omega (arith, c.requires.start, count-nodes f c.args.nodes.now are, (c.requires.rest f are).search.opened));
+      started = get_or-set_same marks c.args.start true false (omega (arith, c.requires.start, count-gates f c.args.gates.now are, (c.requires.rest f are).search.opened));
     }
 
 pub step-requires-clause-within : goal.step-requires-clause-within
@@ -40,7 +40,7 @@ step-requires-clause-within c =
     let f = c.requires.nodes.0 in
     let are = c.requires.nodes.1 in
     let at = rw c.in-Some.is at (c.loop-current.invariant.at f are) in
-    omega (arith, at_within f c.loop-current.self c.in-Some.variable at, count-nodes f c.args.nodes.now are)
+    omega (arith, at_within f c.loop-current.self c.in-Some.variable at, count-gates f c.args.gates.now are)
 
 pub step-requires-clause-at : goal.step-requires-clause-at
 step-requires-clause-at c = λ f are. rw c.in-Some.is at (c.loop-current.invariant.at f are)

@@ -1,0 +1,56 @@
+-- The nodes that a table of gates tells.
+use Rattle.std.proofs.Common.{◌≡◌, ℕ, zero, suc, ◌+◌, ◌<◌, List, [], ◌∷◌, length, get_or, Option, Some, refl, sym, ap, ◌∙◌, arith}
+use Rattle.std.specs.Prelude.{option_and_then}
+use Rattle.aig_circuit.specs.declared.node.AigNode.{AigNode}
+use Rattle.aig_circuit.specs.declared.node.AigNodeType.{AigNodeType}
+use Rattle.aig_circuit.specs.Node.{kind_at}
+use Rattle.aig_circuit.proofs.Trees.{kind_at-read}
+use Rattle.aig_format.specs.File.{File}
+use Rattle.aig_ordering.specs.declared.gates.Operands.{Operands}
+use Rattle.aig_ordering.specs.Gates.{kind_in, node_in, nodes_in, nodes_in_from}
+use Rattle.aig_ordering.specs.Lists.{kind_from}
+use Rattle.aig_ordering.specs.Numbers.{kind_by, number_at}
+use Rattle.aig_ordering.specs.Tables.{AreNodesOf}
+use Rattle.aig_ordering.proofs.Tables.{count-nodes, node_at}
+
+-- ---- the nodes of a table
+
+length-from : (v : ℕ) (gates : List (Option Operands)) → length (nodes_in_from v gates) ≡ length gates
+length-from v [] = refl
+length-from v (gate ∷ gates) = ap suc (length-from (v + 1) gates)
+
+at_from : (w v : ℕ) (gates : List (Option Operands)) (d : AigNode) (e : Option Operands) → v < length gates → get_or (nodes_in_from w gates) v d ≡ node_in (w + v) (get_or gates v e)
+at_from w v [] d e h = absurd (omega arith)
+at_from w zero (gate ∷ gates) d e h = let same : w ≡ w + 0 = omega arith in ap (λ u. node_in u gate) same
+at_from w (suc v) (gate ∷ gates) d e h =
+    let same : w + 1 + v ≡ w + suc v = omega arith in
+    at_from (w + 1) v gates d e (omega arith) ∙ ap (λ u. node_in u (get_or gates v e)) same
+
+-- as many nodes as gates
+pub length-nodes_in : (gates : List (Option Operands)) → length (nodes_in gates) ≡ length gates
+length-nodes_in gates = length-from 0 gates
+
+-- the node at a place is that of the gate there
+pub nodes_in-at : (gates : List (Option Operands)) (v : ℕ) (d : AigNode) (e : Option Operands) → v < length gates → get_or (nodes_in gates) v d ≡ node_in v (get_or gates v e)
+nodes_in-at gates v d e h = let same : 0 + v ≡ v = omega arith in at_from 0 v gates d e h ∙ ap (λ u. node_in u (get_or gates v e)) same
+
+-- and so is its kind
+pub nodes_in-kind : (gates : List (Option Operands)) (v : ℕ) (e : Option Operands) → v < length gates → kind_at (nodes_in gates) v ≡ Some (kind_in v (get_or gates v e))
+nodes_in-kind gates v e h =
+    let d = node_in v (get_or gates v e) in
+    kind_at-read (nodes_in gates) v d (kind_in v (get_or gates v e)) (omega (arith, length-nodes_in gates)) (sym (ap (λ (node : AigNode). node.typ) (nodes_in-at gates v d e h)))
+
+module _ (f : File) (gates : List (Option Operands)) (are : AreNodesOf f (nodes_in gates)) where
+  -- the table has each variable of the file
+  pub count-gates : length gates ≡ f.greatest + 1
+  count-gates = sym (length-nodes_in gates) ∙ count-nodes f (nodes_in gates) are
+
+  -- and tells its kind
+  pub kind_told : (v : ℕ) (e : Option Operands) (node : AigNode) (kind : AigNodeType) → v < length gates → node ≡ node_in v (get_or gates v e) → kind ≡ node.typ → kind_from f.gates v ≡ kind
+  kind_told v e node kind h is has =
+      let typ = λ (n : AigNode). n.typ in
+      sym (ap typ (node_at f (nodes_in gates) are v node (omega (arith, length-nodes_in gates)))) ∙ ap typ (nodes_in-at gates v node e h) ∙ sym (has ∙ ap typ is)
+
+-- the kind of a variable under the numbers
+abbrev pub kind_under : List ℕ → List (Option Operands) → ℕ → Option AigNodeType
+kind_under numbers gates v = option_and_then (kind_by (number_at numbers)) (kind_at (nodes_in gates) v)

@@ -1,0 +1,26 @@
+-- The gates of a file's variables, by the literals of their operands.
+use Rattle.std.specs.Prelude.{ℕ, ◌+◌, ◌==◌, if◌then◌else◌, List, [], ◌∷◌, Option, Some, None}
+use Rattle.aig_circuit.specs.declared.node.AigNodeType.{AigNodeType}
+use Rattle.aig_circuit.specs.declared.node.AigNodeType.TheVariants.{False, Leaf}
+use Rattle.aig_circuit.specs.declared.node.AigNode.{AigNode}
+use Rattle.aig_circuit.specs.Node.{and_of}
+use Rattle.aig_ordering.specs.declared.gates.Operands.{Operands}
+use Rattle.aig_ordering.specs.Lists.{edge_from}
+
+-- what a variable is: with a gate the and of its operands, put in order; else 0 is false, and any other a leaf
+abbrev pub kind_in : ℕ → Option Operands → AigNodeType
+kind_in v (Some gate) = and_of (edge_from gate.first) (edge_from gate.second)
+kind_in v None = if v == 0 then False else Leaf
+
+-- the node of a variable, which has its number
+abbrev pub node_in : ℕ → Option Operands → AigNode
+node_in v gate = record { node_id = v; typ = kind_in v gate }
+
+-- the nodes of variables in a row, from v on
+abbrev pub nodes_in_from : ℕ → List (Option Operands) → List AigNode
+nodes_in_from v [] = []
+nodes_in_from v (gate ∷ gates) = node_in v gate ∷ nodes_in_from (v + 1) gates
+
+-- the nodes of the variables from 0 on
+abbrev pub nodes_in : List (Option Operands) → List AigNode
+nodes_in gates = nodes_in_from 0 gates

@@ -1,0 +1,141 @@
+//! Where the gates that were read are held.
+
+ghost use Rattle.std.specs.Prelude.{◌≡◌, ℕ, ◌+◌, ◌/◌, ◌^◌, ◌<◌, ◌≤◌, ◌&&◌, nat_lt, [], ◌∷◌, ◌++◌, List, IfOk, OnOk, length, true, vec_capacity};
+ghost use Rattle.aig_format.specs.File.{GateLine};
+ghost use Rattle.aig_format.specs.Numbering.{is_ordered};
+ghost use Rattle.aig_ordering.specs.Gates.{nodes_in};
+ghost use Rattle.aig_reader.specs.Gates.{AreFirstNodes, ArePlaced, HasSpace, is_rising, line_of, literals_of, nodes_held};
+ghost use Rattle.aig_reader.specs.Variables.{IsNewAmong};
+
+use crate::nodes::{add_leaves, first_node, put_gate};
+use crate::table::{add_entries, put_operands, table_of};
+use aig_circuit::AigNode;
+use aig_ordering::{Operands, variable_node};
+use std::alloc::{AllocError, Global};
+
+/// Gates that rise, each above its operands.
+#[derive(Drop)]
+pub struct Rising {
+    /// The nodes of the first variables, from 0 on.
+    pub nodes: Vec<AigNode>,
+    /// The literal that the last gate defines, or 0.
+    pub last: u32,
+}
+
+/// The gates that were read.
+#[derive(Drop)]
+pub enum Gates {
+    /// They rise, each above its operands.
+    Rising(Rising),
+    /// They don't: the operands of each of the first variables, from 0 on, that is a gate.
+    Table(Vec<Option<Operands>>),
+}
+
+impl Rising {
+    /// Whether the literal of a gate is above that of the last one, and above those of its operands.
+    fn is_next(&self, lhs: u32, operands: Operands) -> bool
+        ensures { result ≡ (nat_lt self.now.last lhs && is_ordered (line_of lhs operands)) }
+    {
+        self.last < lhs && operands.first / 2 < lhs / 2 && operands.second / 2 < lhs / 2
+    }
+
+    /// Puts a gate in its place.
+    fn put(&mut self, lhs: u32, operands: Operands)
+        requires { lhs / 2 < vec_capacity self.old.nodes }
+        ensures exact { (before : List GateLine) → AreFirstNodes before self.old.nodes.items
+            → IsNewAmong (literals_of before) lhs → 2 ≤ lhs
+            → AreFirstNodes (before ++ line_of lhs operands ∷ []) self.new.nodes.items }
+        ensures last { self.new.last ≡ lhs }
+        ensures capacity { vec_capacity self.new.nodes ≡ vec_capacity self.old.nodes }
+    {
+        put_gate(
+            &mut self.nodes,
+            variable_node(lhs as usize / 2, Some(operands)),
+        );
+        self.last = lhs;
+    }
+}
+
+impl Gates {
+    /// No gates, with room for those of the variables up to the greatest.
+    pub fn new(alloc: Global, greatest: u32) -> Result<Self, AllocError>
+        ensures placed { IfOk result (ArePlaced []) }
+        ensures space { IfOk result (HasSpace (greatest + 1)) }
+    {
+        Ok(Gates::Rising(Rising {
+            nodes: first_node(alloc, greatest)?,
+            last: 0,
+        }))
+    }
+
+    /// Puts a gate in its place. Where it doesn't rise, all gates are put in a table.
+    pub fn put(&mut self, alloc: Global, lhs: u32, operands: Operands) -> Result<(), AllocError>
+        requires space { (size : ℕ) × (size ≤ 2 ^ 31) × (lhs / 2 < size) × HasSpace size self.old }
+        requires placed { (before : List GateLine) × ArePlaced before self.old }
+        ensures placed { (before : List GateLine) → ArePlaced before self.old → IsNewAmong (literals_of before) lhs
+            → 2 ≤ lhs → OnOk result (ArePlaced (before ++ line_of lhs operands ∷ []) self.new) }
+        ensures space { OnOk result ((size : ℕ) → lhs / 2 < size → HasSpace size self.old → HasSpace size self.new) }
+    {
+        match self {
+            Gates::Rising(rising) => {
+                if rising.is_next(lhs, operands) {
+                    rising.put(lhs, operands);
+                } else {
+                    let mut table = table_of(alloc, &rising.nodes)?;
+                    put_operands(&mut table, lhs as usize / 2, operands)?;
+                    *self = Gates::Table(table);
+                }
+                Ok(())
+            }
+            Gates::Table(table) => put_operands(table, lhs as usize / 2, operands),
+        }
+    }
+
+    /// Appends leaves until there are so many nodes.
+    pub fn add_leaves(&mut self, len: usize) -> Result<(), AllocError>
+        requires few { len ≤ 2 ^ 31 }
+        requires space { HasSpace len self.old }
+        ensures placed { (gates : List GateLine) → ArePlaced gates self.old → ArePlaced gates self.new }
+        ensures len { OnOk result (length (nodes_held self.new) ≡ len) }
+    {
+        match self {
+            Gates::Rising(rising) => {
+                add_leaves(&mut rising.nodes, len);
+                Ok(())
+            }
+            Gates::Table(table) => add_entries(table, len),
+        }
+    }
+
+    /// Whether they rise, each above its operands.
+    pub fn are_rising(&self) -> bool
+        ensures { result ≡ is_rising self.now }
+    {
+        matches!(self, Gates::Rising(_))
+    }
+
+    /// The nodes of gates that rise.
+    pub fn into_nodes(self) -> Vec<AigNode>
+        requires { is_rising self ≡ true }
+        ensures { result.items ≡ nodes_held self }
+    {
+        match self {
+            Gates::Rising(rising) => {
+                let Rising { nodes, last: _ } = rising;
+                nodes
+            }
+            Gates::Table(_) => unreachable!(),
+        }
+    }
+
+    /// All gates in a table.
+    pub fn into_table(self, alloc: Global) -> Result<Vec<Option<Operands>>, AllocError>
+        requires { (gates : List GateLine) × ArePlaced gates self }
+        ensures { IfOk result (λ table. nodes_in table.items ≡ nodes_held self) }
+    {
+        match self {
+            Gates::Rising(rising) => table_of(alloc, &rising.nodes),
+            Gates::Table(table) => Ok(table),
+        }
+    }
+}
