@@ -1,9 +1,9 @@
 -- What an answer tells of the bytes, from what reading them told.
-use Rattle.std.proofs.Common.{◌≡◌, ℕ, ◌<◌, ◌≤◌, ◌⊎◌, Option, Some, None, Result, Ok, Err, List, inl, inr, refl, ap, arith}
+use Rattle.std.proofs.Common.{◌≡◌, ℕ, ◌<◌, ◌≤◌, Option, Some, None, Result, Ok, Err, List, refl, ap, arith}
 use Rattle.std.specs.Prelude.{IfSome, IsErrOf}
 use Rattle.std.proofs.lemmas.Bool.{false≢true}
 use Rattle.aig_format.specs.File.{File}
-use Rattle.aig_format.specs.Fits.{Accepts}
+use Rattle.aig_format.specs.Fits.{Fits}
 use Rattle.aig_format.specs.Circuit.{circuit_of}
 use Rattle.aig_reader.specs.declared.error.ReadError.{ReadError}
 use Rattle.aig_reader.specs.declared.error.ReadError.TheVariants.{Memory, Stream, Header, TooMany, Syntax, Literal, Delta, Name, Open}
@@ -15,16 +15,16 @@ use Rattle.aig_encode.specs.declared.error.EncodeError.TheVariants as errors
 use Rattle.aig_encode.specs.Encoding.{AnswersExactly, IsWithin, UnlessInterrupted}
 
 -- what an answer tells of the bytes, where they are known
-abbrev Tells : {T : Type 0} → (File → T → Type 0) → ℕ → ℕ → Result T EncodeError → Option (List ℕ) → Type 0
+abbrev pub Tells : {T : Type 0} → (File → T → Type 0) → ℕ → ℕ → Result T EncodeError → Option (List ℕ) → Type 0
 Tells Means limit k result left = IfSome left (λ bytes. UnlessInterrupted result (AnswersExactly Means limit k result bytes))
 
 -- an answer is no refusal
-no_refusal : (T E : Type 0) (x : T) (e : E) → IsErrOf {T = T} {E = E} (Ok x) e → ⊥
+pub no_refusal : (T E : Type 0) (x : T) (e : E) → IsErrOf {T = T} {E = E} (Ok x) e → ⊥
 no_refusal T E x e is = cc
 
 module _ (X T : Type 0) (Read : File → X → Type 0) (Means : File → T → Type 0) (limit k : ℕ) where
   -- what reading told of the bytes, where they are known
-  abbrev Reads : Result X ReadError → Option (List ℕ) → Type 0
+  abbrev pub Reads : Result X ReadError → Option (List ℕ) → Type 0
   Reads result left = IfSome left (λ bytes. reading.UnlessInterrupted result (ReadsExactly Read limit result bytes))
 
   -- bytes that reading refused are refused
@@ -57,9 +57,8 @@ module _ (X T : Type 0) (Read : File → X → Type 0) (Means : File → T → T
   refused_in_reading Open (Some bytes) h = refused Open bytes h
 
   -- a file that was read, and whose further steps pass the limit, is refused
-  refused_as_large : (x : X) (left : Option (List ℕ)) → ((f : File) → Read f x → limit < unrolled_size (circuit_of f) k) → Reads (Ok x) left → Tells Means limit k (Err errors.TooLarge) left
-  refused_as_large x None large h = tt
-  refused_as_large x (Some bytes) large h = record {
+  pub refused_as_large : (x : X) (bytes : List ℕ) → ((f : File) → Read f x → limit < unrolled_size (circuit_of f) k) → ReadsExactly Read limit (Ok x) bytes → AnswersExactly Means limit k (Err errors.TooLarge) bytes
+  refused_as_large x bytes large h = record {
     accepted = record { each = λ f p. let high = large f (h.accepted.each f p.0) in let low = p.1 in absurd (omega arith); only = λ ok. absurd (false≢true ok) };
     too_many = (λ e. absurd (apart e), λ many. absurd (no_refusal X ReadError x TooMany (h.too_many.1 many)));
     too_large = (λ e. let f = h.accepted.only refl in (f.0, (f.1, large f.0 (h.accepted.each f.0 f.1))), λ beyond. refl);
@@ -68,27 +67,12 @@ module _ (X T : Type 0) (Read : File → X → Type 0) (Means : File → T → T
       apart : IsErrOf {T = T} (Err errors.TooLarge) (errors.Read TooMany) → ⊥
       apart is = cc
 
-  -- and so is one for which memory ran out
-  pub refused_behind : (x : X) (e : EncodeError) (left : Option (List ℕ)) → (e ≡ errors.Memory) ⊎ (e ≡ errors.TooLarge)
-      → (IsErrOf {T = T} (Err e) errors.TooLarge → (f : File) → Read f x → limit < unrolled_size (circuit_of f) k) → Reads (Ok x) left → Tells Means limit k (Err e) left
-  refused_behind x e None cases large h = tt
-  refused_behind x errors.Memory (Some bytes) cases large h = tt
-  refused_behind x errors.TooLarge (Some bytes) cases large h = refused_as_large x (Some bytes) (large refl) h
-  refused_behind x (errors.Read e) (Some bytes) cases large h = absurd (elim cases [ inl is ↦ no_memory is | inr is ↦ not_large is ])
-    where
-      no_memory : errors.Read e ≡ errors.Memory → ⊥
-      no_memory is = cc
-
-      not_large : errors.Read e ≡ errors.TooLarge → ⊥
-      not_large is = cc
-
   -- a file that was read, and whose further steps are within the limit, is answered
-  pub answered : (x : X) (answer : T) (left : Option (List ℕ)) → ((f : File) → Read f x → unrolled_size (circuit_of f) k ≤ limit) → ((f : File) (bytes : List ℕ) → Accepts bytes limit f → Read f x → Means f answer) → Reads (Ok x) left
-      → Tells Means limit k (Ok answer) left
-  answered x answer None low means h = tt
-  answered x answer (Some bytes) low means h = record {
+  pub answered : (x : X) (answer : T) (bytes : List ℕ) → ((f : File) → Read f x → unrolled_size (circuit_of f) k ≤ limit) → ((f : File) → Fits f limit → Read f x → Means f answer) → ReadsExactly Read limit (Ok x) bytes
+      → AnswersExactly Means limit k (Ok answer) bytes
+  answered x answer bytes low means h = record {
     accepted = record {
-      each = λ f p. means f bytes p.0 (h.accepted.each f p.0);
+      each = λ f p. means f p.0.1 (h.accepted.each f p.0);
       only = λ ok. let f = h.accepted.only refl in (f.0, (f.1, low f.0 (h.accepted.each f.0 f.1)));
     };
     too_many = (λ e. absurd (no_refusal T EncodeError answer (errors.Read TooMany) e), λ many. absurd (no_refusal X ReadError x TooMany (h.too_many.1 many)));

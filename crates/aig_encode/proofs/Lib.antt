@@ -1,1 +1,2 @@
 mod Exactly
+mod Promised

@@ -54,8 +54,7 @@ pub fn encode<R: Source>(
     ensures never_open { IsErrOf result (EncodeError.Read ReadError.Open) → ⊥ }
 {
     let circuit = Aig::from_aiger(alloc, r, limit)?;
-    let encoded = encode_circuit(circuit, limit, k, optimize)?;
-    Ok(encoded)
+    encode_circuit(circuit, limit, k, optimize)
 }
 
 /// Unrolls a circuit by `k` steps, unless that may pass the limit, and makes the clauses of it.

@@ -311,24 +311,6 @@ fn are_as_run(
     Ok(())
 }
 
-/// The justice sets of the unrolled circuit have the values of the run, a set a step.
-fn is_justice_as_run(
-    rt: &impl Abort,
-    alloc: Global,
-    lines: &Lines<'_>,
-    values: &[Option<bool>],
-    unrolled: &Aig,
-    steps: &[Vec<bool>],
-) -> Result<(), Fail> {
-    if !lines.justice.is_empty() {
-        assert_eq!(rt; unrolled.justice().len(), steps.len());
-    }
-    for (set, step) in unrolled.justice().iter().zip(steps.chunks(1)) {
-        are_as_run(rt, alloc, values, set, step, lines.justice)?;
-    }
-    Ok(())
-}
-
 /// The next edges of a circuit's latches.
 fn next_edges(alloc: Global, aig: &Aig) -> Result<Vec<AigEdge>, Fail> {
     let mut next = Vec::new(alloc);
@@ -347,41 +329,50 @@ fn next_literals(alloc: Global, lines: &Lines<'_>) -> Result<Vec<usize>, Fail> {
     Ok(literals)
 }
 
-/// The next edges of the unrolled circuit have the values that the last step gives the next states.
-fn is_next_as_run(
-    rt: &impl Abort,
-    alloc: Global,
-    lines: &Lines<'_>,
-    values: &[Option<bool>],
-    unrolled: &Aig,
-    steps: &[Vec<bool>],
-) -> Result<(), Fail> {
-    let last = steps.chunks(1).next_back().ok_or("no step")?;
-    let next = next_edges(alloc, unrolled)?;
-    let literals = next_literals(alloc, lines)?;
-    are_as_run(rt, alloc, values, &next, last, &literals)
+/// What two sides are compared on: the lines of a file with the values of a run of it, and the circuit that was unrolled by as many
+/// steps with the values of its nodes.
+#[derive(Clone, Copy)]
+struct Both<'a, 'b> {
+    lines: &'a Lines<'b>,
+    steps: &'a [Vec<bool>],
+    unrolled: &'a Aig,
+    values: &'a [Option<bool>],
 }
 
-/// All properties of the unrolled circuit, and its next edges, have the values of the run.
-fn is_as_run(
-    rt: &impl Abort,
-    alloc: Global,
-    lines: &Lines<'_>,
-    values: &[Option<bool>],
-    unrolled: &Aig,
-    steps: &[Vec<bool>],
-) -> Result<(), Fail> {
-    let lists = [
-        (unrolled.outputs(), lines.outputs),
-        (unrolled.bads(), lines.bads),
-        (unrolled.constraints(), lines.constraints),
-        (unrolled.fairness(), lines.fairness),
-    ];
-    for (edges, literals) in lists {
-        are_as_run(rt, alloc, values, edges, steps, literals)?;
+impl Both<'_, '_> {
+    /// The justice sets of the circuit have the values of the run, a set a step.
+    fn agree_on_justice(self, rt: &impl Abort, alloc: Global) -> Result<(), Fail> {
+        if !self.lines.justice.is_empty() {
+            assert_eq!(rt; self.unrolled.justice().len(), self.steps.len());
+        }
+        for (set, step) in self.unrolled.justice().iter().zip(self.steps.chunks(1)) {
+            are_as_run(rt, alloc, self.values, set, step, self.lines.justice)?;
+        }
+        Ok(())
     }
-    is_justice_as_run(rt, alloc, lines, values, unrolled, steps)?;
-    is_next_as_run(rt, alloc, lines, values, unrolled, steps)
+
+    /// The next edges of the circuit have the values that the last step gives the next states.
+    fn agree_on_next(self, rt: &impl Abort, alloc: Global) -> Result<(), Fail> {
+        let last = self.steps.chunks(1).next_back().ok_or("no step")?;
+        let next = next_edges(alloc, self.unrolled)?;
+        let literals = next_literals(alloc, self.lines)?;
+        are_as_run(rt, alloc, self.values, &next, last, &literals)
+    }
+
+    /// All properties of the circuit, and its next edges, have the values of the run.
+    fn agree(self, rt: &impl Abort, alloc: Global) -> Result<(), Fail> {
+        let lists = [
+            (self.unrolled.outputs(), self.lines.outputs),
+            (self.unrolled.bads(), self.lines.bads),
+            (self.unrolled.constraints(), self.lines.constraints),
+            (self.unrolled.fairness(), self.lines.fairness),
+        ];
+        for (edges, literals) in lists {
+            are_as_run(rt, alloc, self.values, edges, self.steps, literals)?;
+        }
+        self.agree_on_justice(rt, alloc)?;
+        self.agree_on_next(rt, alloc)
+    }
 }
 
 /// Whether the run begins with the initial values, meets all constraints, and ends in a bad state.
@@ -429,7 +420,13 @@ fn answers(
 ) -> Result<(bool, bool), Fail> {
     let steps = run(alloc, lines, k, bits)?;
     let values = fixed_values(rt, alloc, lines, &asked.encoded, &steps)?;
-    is_as_run(rt, alloc, lines, &values, &asked.encoded.unrolled, &steps)?;
+    let both = Both {
+        lines: &*lines,
+        steps: &steps,
+        unrolled: &asked.encoded.unrolled,
+        values: &values,
+    };
+    both.agree(rt, alloc)?;
     Ok((all_hold(&values, &asked.extra), is_witness(lines, &steps)))
 }
 
