@@ -1,10 +1,9 @@
 -- The variables that are defined so far.
-use Rattle.std.proofs.Common.{◌≡◌, ◌≢◌, ℕ, zero, suc, ◌+◌, ◌-◌, ◌*◌, ◌/◌, ◌<◌, ◌≤◌, Bool, true, false, ◌||◌, List, [], ◌∷◌, ◌++◌, length, length-append, ltb, replicate, set, take, get_or, Result, Ok, Err, IfOk, refl, sym, ap, ◌∙◌, arith}
+use Rattle.std.proofs.Common.{◌≡◌, ◌≢◌, ℕ, ◌+◌, ◌*◌, ◌/◌, ◌≤◌, true, false, ◌||◌, List, [], ◌∷◌, ◌++◌, Result, Ok, Err, IfOk, refl, ap, ◌∙◌, arith}
 use Rattle.std.specs.Prelude.{◌==◌}
 use Rattle.std.specs.List.{AllByRecursion, list_any}
-use Rattle.std.proofs.lemmas.Bool.{eqb-false, ltb-false, ltb-true, ne_eqb}
+use Rattle.std.proofs.lemmas.Bool.{eqb-false}
 use Rattle.std.proofs.lemmas.Bool.Decides.{nat_tests}
-use Rattle.std.proofs.lemmas.List.{get_or-append_right, get_or_append_left, get_or-replicate, get_or-set_other, get_or-set_same, get_or-take, get_or_past, length-replicate, length-set, length-take}
 use Rattle.aig_format.specs.File.{File, defined}
 use Rattle.aig_format.specs.Fits.{IsDefinable}
 use Rattle.aig_format.specs.Variables.{is_known}
@@ -12,7 +11,7 @@ use Rattle.aig_format.proofs.Entries.{rec_append, rec_both, rec_weaker}
 use Rattle.aig_format.proofs.Numbers.{half_differs}
 use Rattle.aig_parsing.specs.Fitting.{defines}
 use Rattle.aig_parsing.proofs.Guards.{Decides-defines}
-use Rattle.aig_ordering.specs.Tables.{AreKnownOf}
+use Rattle.aig_reader.specs.Bits.{bit_told}
 use Rattle.aig_reader.specs.declared.error.LineError.{LineError}
 use Rattle.aig_reader.specs.declared.variables.Marks.{Marks}
 use Rattle.aig_reader.specs.Variables.{AreCounted, AreMarks, IsNewAmong, Tested}
@@ -57,36 +56,6 @@ marked_is greatest v (e ∷ es) all =
     let same : (e == 2 * v) ≡ (e / 2 == v) = grind (arith, nat_tests, even) in
     ap (λ b. b || list_any (λ e. e == 2 * v) es) same ∙ ap (λ b. (e / 2 == v) || b) (marked_is greatest v es all.1)
 
--- marks that were cut or filled up to so many
-module _ (old new : List Bool) (n : ℕ) (is : new ≡ take n old ++ replicate (n - length old) false) where
-  resized_count : length new ≡ n
-  resized_count = let both = length-append (take n old) (replicate (n - length old) false) in omega (arith, ap length is, both, length-take n old, length-replicate (n - length old) false)
-
-  resized_at : (v : ℕ) → v < n → get_or new v false ≡ get_or old v false
-  resized_at v low = ap (λ xs. get_or xs v false) is ∙ by_bound (ltb v (length old)) refl
-    where
-      by_bound : (b : Bool) → ltb v (length old) ≡ b → get_or (take n old ++ replicate (n - length old) false) v false ≡ get_or old v false
-      by_bound true h =
-          let within = ltb-true v (length old) h in
-          get_or_append_left (take n old) (replicate (n - length old) false) false v (omega (arith, low, within, length-take n old)) ∙ get_or-take n old v false low
-      by_bound false h =
-          let past = ltb-false v (length old) h in
-          let cut : length (take n old) ≡ length old = omega (arith, low, past, length-take n old) in
-          get_or-append_right (take n old) (replicate (n - length old) false) (length old) v false cut (omega (arith, past)) ∙ get_or-replicate (n - length old) (v - length old) false false (omega (arith, low, past)) ∙ sym (get_or_past old v false (omega (arith, past)))
-
--- marks of all variables, with that of 0
-pub known_are : (f : File) (marks : Marks) (all : List Bool) → AreMarks f.greatest marks (defined f) → all ≡ take (f.greatest + 1) marks.marked.items ++ replicate (f.greatest + 1 - length marks.marked.items) false → AreKnownOf f (set all 0 true)
-known_are f marks all h is =
-    record {
-      count = length-set all 0 true ∙ count;
-      each = each;
-    }
-  where
-    count : length all ≡ f.greatest + 1
-    count = resized_count marks.marked.items all (f.greatest + 1) is
-
-    each : (v : ℕ) → v ≤ f.greatest → get_or (set all 0 true) v false ≡ is_known f v
-    each zero le = get_or-set_same all 0 true false (omega (arith, count))
-    each (suc v) le =
-        get_or-set_other all 0 (suc v) true false (λ e. omega (arith, e)) ∙ resized_at marks.marked.items all (f.greatest + 1) is (suc v) (omega (arith, le)) ∙ h.marked (suc v) le ∙ marked_is f.greatest (suc v) (defined f) h.definable
-        ∙ ap (λ b. b || list_any (λ e. e / 2 == suc v) (defined f)) (sym (ne_eqb (suc v) 0 (λ e. omega (arith, e))))
+-- whether a variable is 0 or marked tells whether it is known
+pub known_at : (f : File) (marks : Marks) (v : ℕ) → AreMarks f.greatest marks (defined f) → v ≤ f.greatest → (v == 0 || bit_told marks.marked.items v) ≡ is_known f v
+known_at f marks v h low = ap (λ b. v == 0 || b) (h.marked v low ∙ marked_is f.greatest v (defined f) h.definable)

@@ -5,6 +5,7 @@ pub mod Entries
 pub mod BothKinds
 pub mod OwnLines
 pub mod Rooms
+pub mod MarkedBits
 pub mod Defined
 pub mod GateLines
 pub mod ByLevel

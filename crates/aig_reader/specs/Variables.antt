@@ -1,9 +1,10 @@
 -- The variables that are defined so far, and what a test of a literal answers.
-use Rattle.std.specs.Prelude.{◌≡◌, ◌≢◌, ℕ, ◌+◌, ◌*◌, ◌/◌, ◌%◌, ◌<◌, ◌≤◌, ◌==◌, ◌⊎◌, Bool, true, false, List, length, slice_index_or, Result, Ok, Err}
+use Rattle.std.specs.Prelude.{◌≡◌, ◌≢◌, ℕ, ◌+◌, ◌*◌, ◌/◌, ◌%◌, ◌<◌, ◌≤◌, ◌==◌, ◌⊎◌, Bool, true, false, List, length, Result, Ok, Err}
 use Rattle.std.specs.List.{AllByRecursion, list_any}
 use Rattle.aig_format.specs.Fits.{IsDefinable}
 use Rattle.aig_format.specs.declared.FileKind.{FileKind}
 use Rattle.aig_format.specs.declared.FileKind.TheVariants.{Text, Binary}
+use Rattle.aig_reader.specs.Bits.{bit_told}
 use Rattle.aig_reader.specs.declared.error.LineError.{LineError}
 use Rattle.aig_reader.specs.declared.error.LineError.TheVariants.{Literal, Memory}
 use Rattle.aig_reader.specs.declared.variables.Marks.{Marks}
@@ -20,7 +21,7 @@ kind_by (Counted count) = Binary
 pub record AreMarks (greatest : ℕ) (marks : Marks) (literals : List ℕ) : Type 0 where
   pub top : marks.greatest ≡ greatest
   pub definable : AllByRecursion (IsDefinable greatest) literals
-  pub marked : (v : ℕ) → v ≤ greatest → slice_index_or marks.marked.items v false ≡ list_any (λ e. e == 2 * v) literals
+  pub marked : (v : ℕ) → v ≤ greatest → bit_told marks.marked.items v ≡ list_any (λ e. e == 2 * v) literals
 
 -- there are so many even literals, and no variable of theirs is above the count
 pub record AreCounted (count : ℕ) (literals : List ℕ) : Type 0 where

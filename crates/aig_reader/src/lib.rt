@@ -1,6 +1,7 @@
 //! Reads AIGER files, text and binary, from a source of bytes.
 #![tactic(auto)]
 
+mod bits;
 mod edges;
 mod error;
 mod gates;

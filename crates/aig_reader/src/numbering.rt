@@ -123,7 +123,7 @@ impl Lines {
         }
         let gates = gates.into_table(alloc)?;
         let known = match variables {
-            Variables::Marked(marks) => marks.known()?,
+            Variables::Marked(marks) => marks.known(alloc)?,
             Variables::Counted(_) => unreachable!(),
         };
         lists.by_level(alloc, gates, &known)

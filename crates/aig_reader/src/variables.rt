@@ -1,25 +1,27 @@
 //! The variables of a file.
 
-ghost use Rattle.std.specs.Prelude.{◌≡◌, ℕ, ◌+◌, ◌/◌, ◌^◌, ◌<◌, ◌≤◌, List, [], ◌∷◌, ◌++◌, IfErr, IfOk, IsErrOf, OnOk, false, slice_index_or, true, vec_len};
+ghost use Rattle.std.specs.Prelude.{◌≡◌, ℕ, ◌+◌, ◌/◌, ◌^◌, ◌<◌, ◌≤◌, List, [], ◌∷◌, ◌++◌, IfErr, IfOk, IsErrOf, OnOk, true, vec_len};
 ghost use Rattle.aig_parsing.specs.Fitting.{defines};
 ghost use Rattle.aig_lexer.specs.Faults.{OnShape};
 ghost use Rattle.aig_lexer.specs.Takes.{Gives};
 ghost use Rattle.aig_format.specs.File.{File, defined};
 ghost use Rattle.aig_ordering.specs.Tables.{AreKnownOf};
+ghost use Rattle.aig_reader.specs.Bits.{bit_told};
 ghost use Rattle.aig_reader.specs.Entries.{may_define, own_at};
 ghost use Rattle.aig_reader.specs.Variables.{AreDefined, AreMarks, HasRoom, IsLiteralFault, IsNewAmong, IsNext, IsOwn, Tested, kind_by};
 
+use crate::bits::{has_bit, set_bit};
 use crate::error::LineError;
 use aig_lexer::{ByteFeed, FileKind, LexError, ended};
 use std::alloc::{AllocError, Global};
 
-/// Which variables of a text file are defined so far. A variable that has no mark is not.
+/// Which variables of a text file are defined so far. A variable that has no bit is not.
 #[derive(Drop)]
 pub struct Marks {
     /// The greatest variable of the file.
     pub greatest: u32,
-    /// For each variable up to some one, whether it is defined.
-    pub marked: Vec<bool>,
+    /// For each variable up to some one a bit, whether it is defined: bit v % 64 of word v / 64.
+    pub marked: Vec<u64>,
 }
 
 /// The variables of a file that are defined so far.
@@ -31,14 +33,14 @@ pub enum Variables {
     Counted(u32),
 }
 
-/// Makes room for the mark of this variable.
-fn cover(marked: &mut Vec<bool>, variable: usize) -> Result<(), AllocError>
-    requires { variable < 2 ^ 31 }
-    ensures same { (v : ℕ) → slice_index_or marked.new.items v false ≡ slice_index_or marked.old.items v false }
-    ensures len { OnOk result (variable < vec_len marked.new) }
+/// Makes room for the bit of this variable.
+fn cover(marked: &mut Vec<u64>, variable: usize) -> Result<(), AllocError>
+    ensures same { (v : ℕ) → bit_told marked.new.items v ≡ bit_told marked.old.items v }
+    ensures len { OnOk result (variable / 64 < vec_len marked.new) }
 {
-    if variable >= marked.len() {
-        marked.resize(variable + 1, false)?;
+    let word = variable / 64;
+    if word >= marked.len() {
+        marked.resize(word + 1, 0)?;
     }
     Ok(())
 }
@@ -57,24 +59,24 @@ impl Marks {
             return Err(LineError::Literal);
         }
         cover(&mut self.marked, variable)?;
-        if self.marked[variable] {
+        if has_bit(&self.marked, variable) {
             return Err(LineError::Literal);
         }
-        self.marked[variable] = true;
+        set_bit(&mut self.marked, variable);
         Ok(variable)
     }
 
     /// For each variable up to the greatest, whether it is 0 or defined.
-    pub fn known(self) -> Result<Vec<bool>, AllocError>
+    pub fn known(self, alloc: Global) -> Result<Vec<bool>, AllocError>
         ensures { (f : File) → AreMarks f.greatest self (defined f) → IfOk result (λ known. AreKnownOf f known.items) }
     {
-        let Marks {
-            greatest,
-            mut marked,
-        } = self;
-        marked.resize(greatest as usize + 1, false)?;
-        marked[0] = true;
-        Ok(marked)
+        let Marks { greatest, marked } = self;
+        let len = greatest as usize + 1;
+        let mut known = Vec::with_capacity(alloc, len)?;
+        for variable in 0..len {
+            known.push(variable == 0 || has_bit(&marked, variable))?;
+        }
+        Ok(known)
     }
 }
 

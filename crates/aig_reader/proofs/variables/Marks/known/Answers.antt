@@ -1,12 +1,12 @@
-use Rattle.std.proofs.Common.{◌≡◌, ◌++◌, ◌+◌, ◌-◌, ℕ, false, length, replicate, subst, take, vec_len, arith}
-use Rattle.aig_reader.proofs.Defined.{known_are}
+use Rattle.std.proofs.Common.{◌≡◌, ◌+◌, ◌∙◌, arith}
+use Rattle.aig_reader.proofs.Defined.{known_at}
 use Rattle.aig_reader.proofs.variables.Marks.known.Goals as goal
 
 pub returns : goal.returns
 returns c = λ f h.
-    let old = c.args.self.marked.items in
-    let all = c.resize.new.self.items in
-    let same : vec_len c.args.self.marked ≡ length old = omega (arith, c.args.self.marked.ok.0) in
-    let size = c.args.self.greatest + 1 in
-    let filled = subst (λ (n : ℕ). all ≡ take size old ++ replicate (size - n) false) same c.in_ok-resize.ensures.items in
-    known_are f c.args.self all h (subst (λ (n : ℕ). all ≡ take (n + 1) old ++ replicate (n + 1 - length old) false) h.top filled)
+    let top = h.top in
+    let done : c.loop-variable.variable ≡ f.greatest + 1 = omega arith in
+    record {
+      count = c.loop-variable.invariant.0 ∙ done;
+      each = λ v low. c.loop-variable.invariant.1 v (omega (arith, done, low)) ∙ known_at f c.args.self v h low;
+    }
