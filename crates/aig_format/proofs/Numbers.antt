@@ -128,23 +128,27 @@ any_misses v (e ∷ es) h =
     let p = or_parts (e / 2 == v) (list_any (λ e. e / 2 == v) es) h in
     (ne_eqb v (e / 2) (λ is. eqb-false (e / 2) v p.0 (sym is)), any_misses v es p.1)
 
+-- literals of as many variables as there are up to the greatest are those of all of them
+pub all_there : (greatest : ℕ) (es : List ℕ) → AllByRecursion (IsDefinable greatest) es → IsDistinct nat_eq es → greatest ≡ length es → (v : ℕ) → 1 ≤ v → v ≤ greatest → list_any (λ e. e / 2 == v) es ≡ true
+all_there greatest es definable distinct m v low high = true_from_ne_false (list_any (λ e. e / 2 == v) es) (λ no.
+    let Even = λ (e : ℕ). e % 2 ≡ 0 in
+    let Within = λ (x : ℕ). x < length es + 1 in
+    let even = rec_weaker (IsDefinable greatest) Even (λ e d. d.0) es definable in
+    let within : AllByRecursion Within (halves es) =
+    (rec_map Within (λ (e : ℕ). e / 2) es).1 (rec_weaker (IsDefinable greatest) (λ (e : ℕ). e / 2 < length es + 1) (λ e d. let h = d.2 in omega arith) es definable) in
+    let some : AllByRecursion (λ (x : ℕ). nat_eq 0 x ≡ false) (halves es) =
+    (rec_map (λ (x : ℕ). nat_eq 0 x ≡ false) (λ (e : ℕ). e / 2) es).1 (rec_weaker (IsDefinable greatest) (λ (e : ℕ). nat_eq 0 (e / 2) ≡ false) (λ e d. let h = d.1 in ne_eqb 0 (e / 2) (λ is. absurd (omega arith))) es definable) in
+    let d1 = IsDistinct-cons nat_eq v (halves es) (any_misses v es no) (halves_distinct es even distinct) in
+    let d0 = IsDistinct-cons nat_eq 0 (v ∷ halves es) (ne_eqb 0 v (λ is. absurd (omega arith)), some) d1 in
+    let zero_within : 0 < length es + 1 = omega arith in
+    let v_within : v < length es + 1 = omega arith in
+    let long = length-le_from_distinct_below (0 ∷ v ∷ halves es) (length es + 1) d0 (λ q is. any_has Within q (0 ∷ v ∷ halves es) (zero_within, (v_within, within)) is) in
+    let same = length-map es (λ (e : ℕ). e / 2) in
+    absurd (omega arith))
+
 -- in a file without gaps each variable is defined
 pub all_defined : (f : File) (limit : ℕ) → Fits f limit → f.greatest ≡ length (defined f) → (v : ℕ) → 1 ≤ v → v ≤ f.greatest → is_defined f v ≡ true
-all_defined f limit fits m v low high = true_from_ne_false (is_defined f v) (λ no.
-    let Even = λ (e : ℕ). e % 2 ≡ 0 in
-    let Within = λ (x : ℕ). x < length (defined f) + 1 in
-    let even = rec_weaker (IsDefinable f.greatest) Even (λ e d. d.0) (defined f) fits.definable in
-    let within : AllByRecursion Within (halves (defined f)) =
-    (rec_map Within (λ (e : ℕ). e / 2) (defined f)).1 (rec_weaker (IsDefinable f.greatest) (λ (e : ℕ). e / 2 < length (defined f) + 1) (λ e d. let h = d.2 in omega arith) (defined f) fits.definable) in
-    let some : AllByRecursion (λ (x : ℕ). nat_eq 0 x ≡ false) (halves (defined f)) =
-    (rec_map (λ (x : ℕ). nat_eq 0 x ≡ false) (λ (e : ℕ). e / 2) (defined f)).1 (rec_weaker (IsDefinable f.greatest) (λ (e : ℕ). nat_eq 0 (e / 2) ≡ false) (λ e d. let h = d.1 in ne_eqb 0 (e / 2) (λ is. absurd (omega arith))) (defined f) fits.definable) in
-    let d1 = IsDistinct-cons nat_eq v (halves (defined f)) (any_misses v (defined f) no) (halves_distinct (defined f) even fits.distinct) in
-    let d0 = IsDistinct-cons nat_eq 0 (v ∷ halves (defined f)) (ne_eqb 0 v (λ is. absurd (omega arith)), some) d1 in
-    let zero_within : 0 < length (defined f) + 1 = omega arith in
-    let v_within : v < length (defined f) + 1 = omega arith in
-    let long = length-le_from_distinct_below (0 ∷ v ∷ halves (defined f)) (length (defined f) + 1) d0 (λ q is. any_has Within q (0 ∷ v ∷ halves (defined f)) (zero_within, (v_within, within)) is) in
-    let same = length-map (defined f) (λ (e : ℕ). e / 2) in
-    absurd (omega arith))
+all_defined f limit fits m v low high = all_there f.greatest (defined f) fits.definable fits.distinct m v low high
 
 -- in a file without gaps each variable up to the greatest is 0 or defined
 all_known : (f : File) (limit : ℕ) → Fits f limit → f.greatest ≡ length (defined f) → (v : ℕ) → v ≤ f.greatest → is_known f v ≡ true

@@ -1,20 +1,22 @@
 -- The variables that are defined so far.
-use Rattle.std.proofs.Common.{◌≡◌, ◌≢◌, ℕ, ◌+◌, ◌*◌, ◌/◌, ◌≤◌, true, false, ◌||◌, List, [], ◌∷◌, ◌++◌, Result, Ok, Err, IfOk, refl, ap, ◌∙◌, arith}
+use Rattle.std.proofs.Common.{◌≡◌, ◌≢◌, ℕ, ◌+◌, ◌*◌, ◌/◌, ◌<◌, ◌≤◌, true, false, ◌||◌, List, [], ◌∷◌, ◌++◌, Result, Ok, Err, IfOk, refl, sym, ap, ◌∙◌, arith}
 use Rattle.std.specs.Prelude.{◌==◌}
 use Rattle.std.specs.List.{AllByRecursion, list_any}
-use Rattle.std.proofs.lemmas.Bool.{eqb-false}
+use Rattle.std.proofs.lemmas.Bool.{eqb-false, leb-false, ne_eqb}
 use Rattle.std.proofs.lemmas.Bool.Decides.{nat_tests}
 use Rattle.aig_format.specs.File.{File, defined}
 use Rattle.aig_format.specs.Fits.{IsDefinable}
 use Rattle.aig_format.specs.Variables.{is_known}
-use Rattle.aig_format.proofs.Entries.{rec_append, rec_both, rec_weaker}
+use Rattle.aig_format.proofs.Entries.{rec_append, rec_both, rec_parts, rec_weaker}
 use Rattle.aig_format.proofs.Numbers.{half_differs}
 use Rattle.aig_parsing.specs.Fitting.{defines}
 use Rattle.aig_parsing.proofs.Guards.{Decides-defines}
 use Rattle.aig_reader.specs.Bits.{bit_told}
 use Rattle.aig_reader.specs.declared.error.LineError.{LineError}
 use Rattle.aig_reader.specs.declared.variables.Marks.{Marks}
-use Rattle.aig_reader.specs.Variables.{AreCounted, AreMarks, IsNewAmong, Tested}
+use Rattle.aig_reader.specs.Variables.{AreCounted, AreDefined, AreMarks, IsNewAmong, Tested, is_marked}
+use Rattle.aig_reader.specs.declared.variables.Variables.{Variables}
+use Rattle.aig_reader.specs.declared.variables.Variables.TheVariants.{Counted, Marked}
 use Rattle.aig_reader.proofs.Entries.{length_push}
 
 -- ---- in text files
@@ -59,3 +61,19 @@ marked_is greatest v (e ∷ es) all =
 -- whether a variable is 0 or marked tells whether it is known
 pub known_at : (f : File) (marks : Marks) (v : ℕ) → AreMarks f.greatest marks (defined f) → v ≤ f.greatest → (v == 0 || bit_told marks.marked.items v) ≡ is_known f v
 known_at f marks v h low = ap (λ b. v == 0 || b) (h.marked v low ∙ marked_is f.greatest v (defined f) h.definable)
+
+-- ---- in both
+
+-- a variable without a mark, below that of the last literal, is that of none of them
+pub unmarked_none : (greatest : ℕ) (variables : Variables) (v : ℕ) (before : List ℕ) (e : ℕ) → AreDefined greatest variables (before ++ e ∷ []) → v < e / 2 → is_marked variables v ≡ false → list_any (λ e. e / 2 == v) (before ++ e ∷ []) ≡ false
+unmarked_none greatest (Marked marks) v before e h low none =
+    let last = (rec_parts (IsDefinable greatest) before (e ∷ []) h.definable).1.0.2 in
+    sym (marked_is greatest v (before ++ e ∷ []) h.definable) ∙ sym (h.marked v (omega (arith, low, last))) ∙ none
+unmarked_none greatest (Counted count) v before e h low none = none_beyond (before ++ e ∷ []) h.below
+  where
+    above : count < v
+    above = let le = leb-false v count none in omega arith
+
+    none_beyond : (es : List ℕ) → AllByRecursion (IsDefinable count) es → list_any (λ e. e / 2 == v) es ≡ false
+    none_beyond [] all = refl
+    none_beyond (e ∷ es) all = let high = all.0.2 in rw (ne_eqb (e / 2) v (λ is. omega (arith, is, high, above)), none_beyond es all.1) refl

@@ -1,12 +1,11 @@
 -- A gate behind others.
-use Rattle.std.proofs.Common.{◌≡◌, ◌≢◌, ℕ, ◌/◌, ◌<◌, ◌≤◌, Bool, true, false, ◌&&◌, ltb, List, [], ◌∷◌, ◌++◌, Option, Vec, refl, sym, ap, subst, ◌∙◌, append_assoc, arith}
-use Rattle.std.specs.List.{list_all}
+use Rattle.std.proofs.Common.{◌≡◌, ◌≢◌, ℕ, ◌/◌, ◌<◌, ◌≤◌, Bool, true, false, ◌&&◌, ltb, List, [], ◌∷◌, ◌++◌, refl, sym, ap, subst, ◌∙◌, append_assoc, arith}
+use Rattle.std.specs.Prelude.{◌==◌}
+use Rattle.std.specs.List.{list_all, list_any}
 use Rattle.std.proofs.lemmas.Bool.{lt-ltb}
 use Rattle.std.proofs.lemmas.List.{map_push}
 use Rattle.std.proofs.lemmas.List.Folds.{list_all-append}
-use Rattle.std.specs.declared.alloc.Global.{Global}
 use Rattle.aig_ordering.specs.declared.gates.Operands.{Operands}
-use Rattle.aig_ordering.specs.Gates.{nodes_in}
 use Rattle.aig_format.specs.declared.FileKind.{FileKind}
 use Rattle.aig_format.specs.declared.FileKind.TheVariants.{Text, Binary}
 use Rattle.aig_format.specs.File.{GateLine}
@@ -16,10 +15,13 @@ use Rattle.aig_parsing.specs.Fitting.{defines, is_literal}
 use Rattle.aig_reader.specs.declared.variables.Variables.{Variables}
 use Rattle.aig_reader.specs.declared.places.Rising.{Rising}
 use Rattle.aig_reader.specs.declared.places.Gates.{Gates}
+use Rattle.aig_reader.specs.declared.table.Table.{Table}
 use Rattle.aig_reader.specs.declared.places.Gates.TheVariants as held
 use Rattle.aig_reader.specs.Entries.{may_define, may_stand, may_use}
-use Rattle.aig_reader.specs.Gates.{AreFirstNodes, AreGates, ArePlaced, HasWords, last_or, line_of, literals_of}
-use Rattle.aig_reader.specs.Variables.{AreDefined, IsNewAmong}
+use Rattle.aig_reader.specs.Gates.{AreFirstNodes, AreGates, ArePlaced, AreRising, AreWaiting, HasWords, last_or, line_of, literals_of}
+use Rattle.aig_reader.specs.Variables.{AreDefined, IsNewAmong, is_marked}
+use Rattle.aig_reader.proofs.Defined.{unmarked_none}
+use Rattle.aig_reader.proofs.NewerGates.{newer_more, newer_order, newer_skipped}
 
 -- ---- the order of gates
 
@@ -62,39 +64,42 @@ order_push gates g some =
 
 -- ---- a gate in its place
 
-module _ (before : List GateLine) (lhs : ℕ) (operands : Operands) (some : 2 ≤ lhs) where
+module _ (greatest : ℕ) (leaves : List ℕ) (before : List GateLine) (lhs : ℕ) (operands : Operands) (some : 2 ≤ lhs) where
   abbrev g : GateLine
   g = line_of lhs operands
 
-  order_with : (old : Rising) → ArePlaced before (held.Rising old) → are_in_order (before ++ g ∷ []) ≡ ltb old.last lhs && is_ordered g
-  order_with old h =
-      order_push before g (omega arith)
-      ∙ rw (sym h.in_order, sym h.last.last) refl
+  order_with : (old : Rising) → AreRising before old → are_in_order (before ++ g ∷ []) ≡ ltb old.last lhs && is_ordered g
+  order_with old h = order_push before g (omega arith) ∙ rw (h.in_order, sym h.last) refl
 
   -- gates that rise still do with the next one
-  pub rises_still : (old new : Rising) → ArePlaced before (held.Rising old) → (ltb old.last lhs && is_ordered g) ≡ true → AreFirstNodes (before ++ g ∷ []) new.nodes.items → new.last ≡ lhs → HasWords g
-      → ArePlaced (before ++ g ∷ []) (held.Rising new)
+  pub rises_still : (old new : Rising) → ArePlaced greatest leaves before (held.Rising old) → (ltb old.last lhs && is_ordered g) ≡ true → AreFirstNodes (before ++ g ∷ []) new.nodes.items → new.last ≡ lhs → HasWords g
+      → ArePlaced greatest leaves (before ++ g ∷ []) (held.Rising new)
   rises_still old new h next nodes last words = record {
     nodes = nodes;
-    in_order = sym (order_with old h ∙ next);
-    last = record {
+    form = record {
+      in_order = order_with old h.form ∙ next;
       last = last ∙ sym (ap (last_or 0) (map_push (λ (h : GateLine). h.lhs) before g) ∙ last_push 0 lhs (literals_of before));
-      words = (rec_append HasWords before (g ∷ [])).1 (h.last.words, (words, tt));
+      words = (rec_append HasWords before (g ∷ [])).1 (h.form.words, (words, tt));
     };
   }
 
-  -- and don't with any other
-  pub rises_no_more : (old : Rising) (table : Vec (Option Operands) Global) → ArePlaced before (held.Rising old) → (ltb old.last lhs && is_ordered g) ≡ false → AreFirstNodes (before ++ g ∷ []) (nodes_in table.items)
-      → ArePlaced (before ++ g ∷ []) (held.Table table)
-  rises_no_more old table h other nodes = record { nodes = nodes; in_order = sym (order_with old h ∙ other); last = tt }
+  -- and don't with one that isn't above the others and its operands
+  pub rises_no_more : (old : Rising) (table : Table) → ArePlaced greatest leaves before (held.Rising old) → (ltb old.last lhs && is_ordered g) ≡ false → AreWaiting (before ++ g ∷ []) table
+      → ArePlaced greatest leaves (before ++ g ∷ []) (held.Table table)
+  rises_no_more old table h other nodes = record { nodes = nodes; form = newer_order greatest leaves (before ++ g ∷ []) (order_with old h.form ∙ other) }
 
-  -- gates that don't rise don't with one more
-  pub still_in_table : (old new : Vec (Option Operands) Global) → ArePlaced before (held.Table old) → AreFirstNodes (before ++ g ∷ []) (nodes_in new.items) → ArePlaced (before ++ g ∷ []) (held.Table new)
-  still_in_table old new h nodes = record {
-    nodes = nodes;
-    in_order = sym (order_push before g (omega arith) ∙ ap (λ (b : Bool). b && (ltb (last_or 0 (literals_of before)) lhs && is_ordered g)) (sym h.in_order));
-    last = tt;
-  }
+  -- nor do they in a file of the older rules where one passes over a variable that isn't defined
+  pub passes_over : (variables : Variables) (v : ℕ) (table : Table) → AreDefined greatest variables ((leaves ++ literals_of before) ++ lhs ∷ []) → 1 ≤ v → v < lhs / 2 → is_marked variables v ≡ false
+      → AreWaiting (before ++ g ∷ []) table → ArePlaced greatest leaves (before ++ g ∷ []) (held.Table table)
+  passes_over variables v table defined low below unmarked nodes =
+      let row : (leaves ++ literals_of before) ++ lhs ∷ [] ≡ leaves ++ literals_of (before ++ g ∷ []) =
+      append_assoc leaves (literals_of before) (lhs ∷ []) ∙ ap (λ (es : List ℕ). leaves ++ es) (sym (map_push (λ (h : GateLine). h.lhs) before g)) in
+      let none = unmarked_none greatest variables v (leaves ++ literals_of before) lhs defined below unmarked in
+      record { nodes = nodes; form = newer_skipped greatest leaves before g v low below (ap (list_any (λ e. e / 2 == v)) (sym row) ∙ none) }
+
+  -- a file that keeps the newer rules alone does with one gate more
+  pub still_in_table : (old new : Table) → ArePlaced greatest leaves before (held.Table old) → AreWaiting (before ++ g ∷ []) new → ArePlaced greatest leaves (before ++ g ∷ []) (held.Table new)
+  still_in_table old new h nodes = record { nodes = nodes; form = newer_more greatest leaves before g h.form }
 
 -- ---- tests
 
@@ -105,7 +110,7 @@ may_stand-both Binary greatest before g = refl
 
 -- ---- one more gate
 
-pub more_gates : (greatest : ℕ) (leaves : List ℕ) (before : List GateLine) (variables : Variables) (held : Gates) (g : GateLine) → ArePlaced (before ++ g ∷ []) held
+pub more_gates : (greatest : ℕ) (leaves : List ℕ) (before : List GateLine) (variables : Variables) (held : Gates) (g : GateLine) → ArePlaced greatest leaves (before ++ g ∷ []) held
     → AreDefined greatest variables ((leaves ++ literals_of before) ++ g.lhs ∷ []) → AreGates greatest leaves (before ++ g ∷ []) variables held
 more_gates greatest leaves before variables held g placed defined =
     let push : literals_of (before ++ g ∷ []) ≡ literals_of before ++ g.lhs ∷ [] = map_push (λ (h : GateLine). h.lhs) before g in

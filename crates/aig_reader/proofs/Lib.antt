@@ -1,5 +1,6 @@
 pub mod PlacedNodes
 pub mod TableEntries
+pub mod Waiting
 pub mod TestedLines
 pub mod Entries
 pub mod BothKinds
@@ -8,6 +9,7 @@ pub mod Rooms
 pub mod MarkedBits
 pub mod Defined
 pub mod GateLines
+pub mod NewerGates
 pub mod ByLevel
 pub mod Numbered
 pub mod Body

@@ -1,21 +1,24 @@
 -- Gates that are read one after the other.
-use Rattle.std.specs.Prelude.{◌≡◌, ℕ, ◌/◌, ◌^◌, ◌<◌, ◌≤◌, Bool, true, false, List, [], ◌∷◌, ◌++◌, length, map, Option, Some, None, vec_capacity, vec_len}
-use Rattle.std.specs.List.{AllByRecursion}
+use Rattle.std.specs.Prelude.{All, ◌≡◌, ℕ, ◌/◌, ◌^◌, ◌<◌, ◌≤◌, Bool, true, false, List, [], ◌∷◌, ◌++◌, length, map, nat_eq, Option, Some, None, vec_capacity, vec_len}
+use Rattle.std.specs.List.{AllByRecursion, IsDistinct}
 use Rattle.aig_circuit.specs.declared.node.AigNode.{AigNode}
 use Rattle.aig_circuit.specs.declared.node.AigNodeType.{AigNodeType}
 use Rattle.aig_circuit.specs.declared.node.AigNodeType.TheVariants.{False, Leaf, And}
 use Rattle.aig_circuit.specs.Edge.{literal_of}
 use Rattle.aig_circuit.specs.Node.{and_of}
 use Rattle.aig_format.specs.File.{GateLine}
+use Rattle.aig_format.specs.Fits.{IsDefinable}
 use Rattle.aig_format.specs.Numbering.{are_in_order}
 use Rattle.aig_reader.specs.declared.places.Rising.{Rising}
+use Rattle.aig_reader.specs.declared.table.Late.{Late}
+use Rattle.aig_reader.specs.declared.table.Table.{Table}
 use Rattle.aig_reader.specs.declared.places.Gates.{Gates}
 use Rattle.aig_reader.specs.declared.places.Gates.TheVariants as held
 use Rattle.aig_reader.specs.declared.variables.Variables.{Variables}
 use Rattle.aig_ordering.specs.declared.gates.Operands.{Operands}
 use Rattle.aig_ordering.specs.Gates.{nodes_in}
 use Rattle.aig_ordering.specs.Lists.{edge_from, nodes_in_row}
-use Rattle.aig_reader.specs.Variables.{AreDefined}
+use Rattle.aig_reader.specs.Variables.{AreDefined, IsNewAmong}
 
 -- the last of these numbers, or this one
 abbrev pub last_or : ℕ → List ℕ → ℕ
@@ -49,22 +52,17 @@ HasWords g = (g.rhs0 < 2 ^ 32) × (g.rhs1 < 2 ^ 32)
 -- the nodes of the first variables, as they are held
 abbrev pub nodes_held : Gates → List AigNode
 nodes_held (held.Rising rising) = rising.nodes.items
-nodes_held (held.Table table) = nodes_in table.items
+nodes_held (held.Table table) = nodes_in table.entries.items
 
 -- whether the gates rise
 abbrev pub is_rising : Gates → Bool
 is_rising (held.Rising rising) = true
 is_rising (held.Table table) = false
 
--- the fact, if the gates rise
-abbrev pub IfRising : Gates → (Rising → Type 0) → Type 0
-IfRising (held.Rising rising) P = P rising
-IfRising (held.Table table) P = Unit {0}
-
 -- there is room for the nodes of so many variables, and for no more
 abbrev pub HasSpace : ℕ → Gates → Type 0
 HasSpace size (held.Rising rising) = vec_capacity rising.nodes ≡ size
-HasSpace size (held.Table table) = vec_len table ≤ size
+HasSpace size (held.Table table) = (vec_len table.entries ≤ size) × All (λ l. l.lhs / 2 < size) table.late.items
 
 -- the nodes of the first variables, from 0 on, where these gates are defined, each within them
 pub record AreFirstNodes (gates : List GateLine) (nodes : List AigNode) : Type 0 where
@@ -72,18 +70,50 @@ pub record AreFirstNodes (gates : List GateLine) (nodes : List AigNode) : Type 0
   pub placed : nodes ≡ nodes_in_row gates (length nodes) 0
   pub within : AllByRecursion (λ g. g.lhs / 2 < length nodes) gates
 
--- the literal that the last of these gates defines, which all have numbers of 32 bits
-pub record IsLastOf (gates : List GateLine) (rising : Rising) : Type 0 where
+-- the lines of gates that wait for their places
+abbrev pub lines_of : List Late → List GateLine
+lines_of late = map (λ l. line_of l.lhs l.operands) late
+
+-- each of these gates defines a variable that none before it does
+abbrev pub AreNew : List GateLine → List GateLine → Type 0
+AreNew front [] = Unit {0}
+AreNew front (g ∷ gates) = ((2 ≤ g.lhs) × IsNewAmong (literals_of front) g.lhs) × AreNew (front ++ g ∷ []) gates
+
+-- gates in their places, and behind them those that wait
+pub record AreWaiting (gates : List GateLine) (table : Table) : Type 0 where
+  pub front : List GateLine
+  pub all : gates ≡ front ++ lines_of table.late.items
+  pub nodes : AreFirstNodes front (nodes_in table.entries.items)
+  pub new : AreNew front (lines_of table.late.items)
+
+-- the nodes of these gates, as they are held
+abbrev pub AreHeld : List GateLine → Gates → Type 0
+AreHeld gates (held.Rising rising) = AreFirstNodes gates rising.nodes.items
+AreHeld gates (held.Table table) = AreWaiting gates table
+
+-- the literal that the last of these gates defines, which rise, each above its operands, and all have numbers of 32 bits
+pub record AreRising (gates : List GateLine) (rising : Rising) : Type 0 where
+  pub in_order : are_in_order gates ≡ true
   pub last : rising.last ≡ last_or 0 (literals_of gates)
   pub words : AllByRecursion HasWords gates
 
--- these gates are held, and it is known whether they rise, each above its operands
-pub record ArePlaced (gates : List GateLine) (held : Gates) : Type 0 where
-  pub nodes : AreFirstNodes gates (nodes_held held)
-  pub in_order : is_rising held ≡ are_in_order gates
-  pub last : IfRising held (IsLastOf gates)
+-- behind these leaves, no gates that begin with these rise so that no variable up to the greatest is missing
+abbrev pub IsNewer : ℕ → List ℕ → List GateLine → Type 0
+IsNewer greatest leaves gates =
+    (rest : List GateLine) → let literals = leaves ++ literals_of (gates ++ rest) in
+    AllByRecursion (IsDefinable greatest) literals → IsDistinct nat_eq literals → greatest ≡ length literals → are_in_order (gates ++ rest) ≡ false
+
+-- as nodes they rise, in a table the file keeps the newer rules alone
+abbrev pub IsHeld : ℕ → List ℕ → List GateLine → Gates → Type 0
+IsHeld greatest leaves gates (held.Rising rising) = AreRising gates rising
+IsHeld greatest leaves gates (held.Table table) = IsNewer greatest leaves gates
+
+-- behind these leaves, these gates are held
+pub record ArePlaced (greatest : ℕ) (leaves : List ℕ) (gates : List GateLine) (held : Gates) : Type 0 where
+  pub nodes : AreHeld gates held
+  pub form : IsHeld greatest leaves gates held
 
 -- behind these leaves and gates: the variables, and where the gates are held
 pub record AreGates (greatest : ℕ) (leaves : List ℕ) (gates : List GateLine) (variables : Variables) (held : Gates) : Type 0 where
   pub defined : AreDefined greatest variables (leaves ++ literals_of gates)
-  pub placed : ArePlaced gates held
+  pub placed : ArePlaced greatest leaves gates held

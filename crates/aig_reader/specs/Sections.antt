@@ -1,5 +1,5 @@
 -- The sections of a file, with each variable as its own number.
-use Rattle.std.specs.Prelude.{◌≡◌, ℕ, ◌+◌, ◌*◌, ◌^◌, ◌<◌, ◌≤◌, ◌&&◌, true, List, [], map, nat_eq, Vec}
+use Rattle.std.specs.Prelude.{◌≡◌, ℕ, ◌+◌, ◌*◌, ◌^◌, ◌<◌, ◌≤◌, ◌&&◌, true, List, [], ◌++◌, map, nat_eq, Vec}
 use Rattle.std.specs.List.{AllByRecursion, IsDistinct}
 use Rattle.std.specs.Ordering.{nat_cmp}
 use Rattle.std.specs.FinMap.{FinMap}
@@ -44,7 +44,7 @@ pub record HasGoodLines (f : File) : Type 0 where
 pub record AreLinesOf (f : File) (lines : Lines) : Type 0 where
   pub good : HasGoodLines f
   pub lists : AreSectionListsOf lines.lists f
-  pub gates : ArePlaced f.gates lines.gates
+  pub gates : ArePlaced f.greatest (f.inputs ++ map (λ l. l.literal) f.latches) f.gates lines.gates
   pub nodes : AreNodesOf f (nodes_held lines.gates)
   pub defined : AreDefined f.greatest lines.variables (defined f)
   pub kind : kind_by lines.variables ≡ f.kind

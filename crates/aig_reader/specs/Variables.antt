@@ -1,5 +1,5 @@
 -- The variables that are defined so far, and what a test of a literal answers.
-use Rattle.std.specs.Prelude.{◌≡◌, ◌≢◌, ℕ, ◌+◌, ◌*◌, ◌/◌, ◌%◌, ◌<◌, ◌≤◌, ◌==◌, ◌⊎◌, Bool, true, false, List, length, Result, Ok, Err}
+use Rattle.std.specs.Prelude.{◌≡◌, ◌≢◌, ℕ, ◌+◌, ◌*◌, ◌/◌, ◌%◌, ◌<◌, ◌≤◌, ◌==◌, ◌⊎◌, Bool, true, false, List, length, nat_le, Result, Ok, Err}
 use Rattle.std.specs.List.{AllByRecursion, list_any}
 use Rattle.aig_format.specs.Fits.{IsDefinable}
 use Rattle.aig_format.specs.declared.FileKind.{FileKind}
@@ -32,6 +32,11 @@ pub record AreCounted (count : ℕ) (literals : List ℕ) : Type 0 where
 abbrev pub AreDefined : ℕ → Variables → List ℕ → Type 0
 AreDefined greatest (Marked marks) literals = AreMarks greatest marks literals
 AreDefined greatest (Counted count) literals = AreCounted count literals
+
+-- whether this variable, which is not 0, is defined
+abbrev pub is_marked : Variables → ℕ → Bool
+is_marked (Marked marks) v = bit_told marks.marked.items v
+is_marked (Counted count) v = nat_le v count
 
 -- there are `size` variables, the false one counted, and in a binary file k more of them can be defined
 abbrev pub HasRoom : ℕ → Variables → ℕ → Type 0

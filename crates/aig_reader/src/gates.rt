@@ -86,7 +86,7 @@ fn gate_line<F: ByteFeed>(
         return Err(LineError::Literal);
     }
     variables.define(lhs)?;
-    gates.put(alloc, lhs, operands)?;
+    gates.put(alloc, variables, lhs, operands)?;
     Ok(())
 }
 

@@ -1,14 +1,15 @@
 //! Where the gates that were read are held.
 
-ghost use Rattle.std.specs.Prelude.{◌≡◌, ℕ, ◌+◌, ◌/◌, ◌^◌, ◌<◌, ◌≤◌, ◌&&◌, nat_lt, [], ◌∷◌, ◌++◌, List, IfOk, OnOk, length, true, vec_capacity};
+ghost use Rattle.std.specs.Prelude.{◌≡◌, ℕ, ◌+◌, ◌/◌, ◌^◌, ◌<◌, ◌≤◌, ◌&&◌, ◌⊎◌, nat_lt, [], ◌∷◌, ◌++◌, List, IfOk, OnOk, false, length, true, vec_capacity, vec_len};
 ghost use Rattle.aig_format.specs.File.{GateLine};
 ghost use Rattle.aig_format.specs.Numbering.{is_ordered};
 ghost use Rattle.aig_ordering.specs.Gates.{nodes_in};
 ghost use Rattle.aig_reader.specs.Gates.{AreFirstNodes, ArePlaced, HasSpace, is_rising, line_of, literals_of, nodes_held};
-ghost use Rattle.aig_reader.specs.Variables.{IsNewAmong};
+ghost use Rattle.aig_reader.specs.Variables.{AreDefined, IsNewAmong, is_marked};
 
 use crate::nodes::{add_leaves, first_node, put_gate};
-use crate::table::{add_entries, put_operands, table_of};
+use crate::table::{Table, table_of};
+use crate::variables::Variables;
 use aig_circuit::AigNode;
 use aig_ordering::{Operands, variable_node};
 use std::alloc::{AllocError, Global};
@@ -25,18 +26,31 @@ pub struct Rising {
 /// The gates that were read.
 #[derive(Drop)]
 pub enum Gates {
-    /// They rise, each above its operands.
+    /// They rise, each above its operands, and the variables below them are defined by them or before them.
     Rising(Rising),
-    /// They don't: the operands of each of the first variables, from 0 on, that is a gate.
-    Table(Vec<Option<Operands>>),
+    /// It is not so: the operands of each of the first variables, from 0 on, that is a gate.
+    Table(Table),
 }
 
 impl Rising {
     /// Whether the literal of a gate is above that of the last one, and above those of its operands.
-    fn is_next(&self, lhs: u32, operands: Operands) -> bool
+    fn is_above(&self, lhs: u32, operands: Operands) -> bool
         ensures { result ≡ (nat_lt self.now.last lhs && is_ordered (line_of lhs operands)) }
     {
         self.last < lhs && operands.first / 2 < lhs / 2 && operands.second / 2 < lhs / 2
+    }
+
+    /// Whether a gate may be the next one of a file in which no variable is missing and gates rise, each above its operands:
+    /// the variables that it passes over are defined.
+    fn is_next(&self, variables: &Variables, lhs: u32, operands: Operands) -> bool
+        ensures next { result ≡ true → (nat_lt self.now.last lhs && is_ordered (line_of lhs operands)) ≡ true }
+        ensures other { result ≡ false → ((nat_lt self.now.last lhs && is_ordered (line_of lhs operands)) ≡ false)
+            ⊎ ((v : ℕ) × (vec_len self.now.nodes ≤ v) × (v < lhs / 2) × (is_marked variables.now v ≡ false)) }
+    {
+        self.is_above(lhs, operands)
+            && variables
+                .first_undefined(self.nodes.len(), lhs as usize / 2)
+                .is_none()
     }
 
     /// Puts a gate in its place.
@@ -59,7 +73,7 @@ impl Rising {
 impl Gates {
     /// No gates, with room for those of the variables up to the greatest.
     pub fn new(alloc: Global, greatest: u32) -> Result<Self, AllocError>
-        ensures placed { IfOk result (ArePlaced []) }
+        ensures placed { IfOk result (λ gates. (leaves : List ℕ) → ArePlaced greatest leaves [] gates) }
         ensures space { IfOk result (HasSpace (greatest + 1)) }
     {
         Ok(Gates::Rising(Rising {
@@ -68,26 +82,35 @@ impl Gates {
         }))
     }
 
-    /// Puts a gate in its place. Where it doesn't rise, all gates are put in a table.
-    pub fn put(&mut self, alloc: Global, lhs: u32, operands: Operands) -> Result<(), AllocError>
+    /// Puts a gate in its place, whose variable is the last that was defined. Where gates don't rise, or a variable below
+    /// theirs is defined by none before, all gates are put in a table.
+    pub fn put(
+        &mut self,
+        alloc: Global,
+        variables: &Variables,
+        lhs: u32,
+        operands: Operands,
+    ) -> Result<(), AllocError>
         requires space { (size : ℕ) × (size ≤ 2 ^ 31) × (lhs / 2 < size) × HasSpace size self.old }
-        requires placed { (before : List GateLine) × ArePlaced before self.old }
-        ensures placed { (before : List GateLine) → ArePlaced before self.old → IsNewAmong (literals_of before) lhs
-            → 2 ≤ lhs → OnOk result (ArePlaced (before ++ line_of lhs operands ∷ []) self.new) }
+        requires placed { (greatest : ℕ) × (leaves : List ℕ) × (before : List GateLine) × ArePlaced greatest leaves before self.old }
+        ensures placed { (greatest : ℕ) (leaves : List ℕ) (before : List GateLine) → ArePlaced greatest leaves before self.old
+            → AreDefined greatest variables.now ((leaves ++ literals_of before) ++ lhs ∷ [])
+            → IsNewAmong (literals_of before) lhs → 2 ≤ lhs
+            → OnOk result (ArePlaced greatest leaves (before ++ line_of lhs operands ∷ []) self.new) }
         ensures space { OnOk result ((size : ℕ) → lhs / 2 < size → HasSpace size self.old → HasSpace size self.new) }
     {
         match self {
             Gates::Rising(rising) => {
-                if rising.is_next(lhs, operands) {
+                if rising.is_next(variables, lhs, operands) {
                     rising.put(lhs, operands);
                 } else {
-                    let mut table = table_of(alloc, &rising.nodes)?;
-                    put_operands(&mut table, lhs as usize / 2, operands)?;
+                    let mut table = Table::new(alloc, &rising.nodes)?;
+                    table.push(lhs, operands)?;
                     *self = Gates::Table(table);
                 }
                 Ok(())
             }
-            Gates::Table(table) => put_operands(table, lhs as usize / 2, operands),
+            Gates::Table(table) => table.push(lhs, operands),
         }
     }
 
@@ -95,7 +118,8 @@ impl Gates {
     pub fn add_leaves(&mut self, len: usize) -> Result<(), AllocError>
         requires few { len ≤ 2 ^ 31 }
         requires space { HasSpace len self.old }
-        ensures placed { (gates : List GateLine) → ArePlaced gates self.old → ArePlaced gates self.new }
+        ensures placed { (greatest : ℕ) (leaves : List ℕ) (gates : List GateLine) → ArePlaced greatest leaves gates self.old
+            → OnOk result (ArePlaced greatest leaves gates self.new × AreFirstNodes gates (nodes_held self.new)) }
         ensures len { OnOk result (length (nodes_held self.new) ≡ len) }
     {
         match self {
@@ -103,11 +127,11 @@ impl Gates {
                 add_leaves(&mut rising.nodes, len);
                 Ok(())
             }
-            Gates::Table(table) => add_entries(table, len),
+            Gates::Table(table) => table.complete(len),
         }
     }
 
-    /// Whether they rise, each above its operands.
+    /// Whether they are held as nodes.
     pub fn are_rising(&self) -> bool
         ensures { result ≡ is_rising self.now }
     {
@@ -130,12 +154,15 @@ impl Gates {
 
     /// All gates in a table.
     pub fn into_table(self, alloc: Global) -> Result<Vec<Option<Operands>>, AllocError>
-        requires { (gates : List GateLine) × ArePlaced gates self }
+        requires { (greatest : ℕ) × (leaves : List ℕ) × (gates : List GateLine) × ArePlaced greatest leaves gates self }
         ensures { IfOk result (λ table. nodes_in table.items ≡ nodes_held self) }
     {
         match self {
             Gates::Rising(rising) => table_of(alloc, &rising.nodes),
-            Gates::Table(table) => Ok(table),
+            Gates::Table(table) => {
+                let Table { entries, late: _ } = table;
+                Ok(entries)
+            }
         }
     }
 }

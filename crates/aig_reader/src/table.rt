@@ -5,12 +5,34 @@ ghost use Rattle.aig_circuit.specs.Edge.{literal_of};
 ghost use Rattle.aig_circuit.specs.Node.{IfAnd};
 ghost use Rattle.aig_format.specs.File.{GateLine};
 ghost use Rattle.aig_ordering.specs.Gates.{nodes_in};
-ghost use Rattle.aig_reader.specs.Gates.{AreFirstNodes, gate_in, line_of, literals_of};
+ghost use Rattle.aig_reader.specs.Gates.{AreFirstNodes, AreWaiting, HasSpace, gate_in, line_of, literals_of};
+ghost use Rattle.aig_reader.specs.declared.places.Gates.TheVariants as held;
 ghost use Rattle.aig_reader.specs.Variables.{IsNewAmong};
 
 use aig_circuit::{AigEdge, AigNode, AigNodeType};
 use aig_ordering::Operands;
 use std::alloc::{AllocError, Global};
+
+/// How many gates wait for their places at most.
+const WAITING: usize = 1024;
+
+/// A gate that waits for its place.
+#[derive(Clone, Copy)]
+pub struct Late {
+    /// The literal that it defines.
+    pub lhs: u32,
+    /// Its operands.
+    pub operands: Operands,
+}
+
+/// Gates in a table. They are put there some at a time, since then the waits for memory at their places overlap.
+#[derive(Drop)]
+pub struct Table {
+    /// The operands of each of the first variables, from 0 on, that is a gate.
+    pub entries: Vec<Option<Operands>>,
+    /// The gates that were read last.
+    pub late: Vec<Late>,
+}
 
 /// The literal of an edge.
 fn literal(edge: AigEdge) -> u32
@@ -47,7 +69,7 @@ pub fn table_of(alloc: Global, nodes: &[AigNode]) -> Result<Vec<Option<Operands>
 }
 
 /// Appends entries without a gate until there are so many.
-pub fn add_entries(table: &mut Vec<Option<Operands>>, len: usize) -> Result<(), AllocError>
+fn add_entries(table: &mut Vec<Option<Operands>>, len: usize) -> Result<(), AllocError>
     requires { len ≤ 2 ^ 31 }
     ensures exact { (gates : List GateLine) → AreFirstNodes gates (nodes_in table.old.items)
         → AreFirstNodes gates (nodes_in table.new.items) }
@@ -60,7 +82,7 @@ pub fn add_entries(table: &mut Vec<Option<Operands>>, len: usize) -> Result<(), 
 }
 
 /// Puts a gate in the place of its variable, which is a leaf or has no place yet.
-pub fn put_operands(
+fn put_operands(
     table: &mut Vec<Option<Operands>>,
     variable: usize,
     operands: Operands,
@@ -74,4 +96,71 @@ pub fn put_operands(
     add_entries(table, variable + 1)?;
     table[variable] = Some(operands);
     Ok(())
+}
+
+impl Table {
+    /// The table of these nodes, each at the place of its variable. No gate waits.
+    pub fn new(alloc: Global, nodes: &[AigNode]) -> Result<Self, AllocError>
+        requires { All (λ node. IfAnd node.typ (λ id. id < 2 ^ 31)) nodes.now }
+        ensures entries { IfOk result (λ table. table.entries.items ≡ map (λ node. gate_in node.typ) nodes.now) }
+        ensures late { IfOk result (λ table. table.late.items ≡ []) }
+    {
+        Ok(Table {
+            entries: table_of(alloc, nodes)?,
+            late: Vec::with_capacity(alloc, WAITING)?,
+        })
+    }
+
+    /// Puts the gates that wait in their places.
+    fn settle(&mut self) -> Result<(), AllocError>
+        requires { (size : ℕ) × (size ≤ 2 ^ 31) × HasSpace size (held.Table self.old) }
+        ensures nodes { (gates : List GateLine) → AreWaiting gates self.old
+            → OnOk result (AreFirstNodes gates (nodes_in self.new.entries.items) × (self.new.late.items ≡ [])) }
+        ensures late { OnOk result (self.new.late.items ≡ []) }
+        ensures space { OnOk result ((size : ℕ) → HasSpace size (held.Table self.old) → HasSpace size (held.Table self.new)) }
+    {
+        let Table { entries, late } = self;
+        for gate in late.iter() {
+            put_operands(entries, gate.lhs as usize / 2, gate.operands)?;
+        }
+        late.clear();
+        Ok(())
+    }
+
+    /// Makes room for one more gate that waits.
+    fn make_room(&mut self) -> Result<(), AllocError>
+        requires { (size : ℕ) × (size ≤ 2 ^ 31) × HasSpace size (held.Table self.old) }
+        ensures waiting { (gates : List GateLine) → AreWaiting gates self.old → OnOk result (AreWaiting gates self.new) }
+        ensures space { OnOk result ((size : ℕ) → HasSpace size (held.Table self.old) → HasSpace size (held.Table self.new)) }
+    {
+        if self.late.len() >= WAITING {
+            self.settle()
+        } else {
+            Ok(())
+        }
+    }
+
+    /// Takes a gate, which waits for its place.
+    pub fn push(&mut self, lhs: u32, operands: Operands) -> Result<(), AllocError>
+        requires { (size : ℕ) × (size ≤ 2 ^ 31) × HasSpace size (held.Table self.old) }
+        ensures waiting { (gates : List GateLine) → AreWaiting gates self.old → IsNewAmong (literals_of gates) lhs → 2 ≤ lhs
+            → OnOk result (AreWaiting (gates ++ line_of lhs operands ∷ []) self.new) }
+        ensures space { OnOk result ((size : ℕ) → lhs / 2 < size → HasSpace size (held.Table self.old) → HasSpace size (held.Table self.new)) }
+    {
+        self.make_room()?;
+        self.late.push(Late { lhs, operands })?;
+        Ok(())
+    }
+
+    /// Puts the gates that wait in their places, and appends entries without a gate until there are so many.
+    pub fn complete(&mut self, len: usize) -> Result<(), AllocError>
+        requires few { len ≤ 2 ^ 31 }
+        requires space { HasSpace len (held.Table self.old) }
+        ensures nodes { (gates : List GateLine) → AreWaiting gates self.old → OnOk result (AreFirstNodes gates (nodes_in self.new.entries.items)) }
+        ensures late { OnOk result (self.new.late.items ≡ []) }
+        ensures len { OnOk result (vec_len self.new.entries ≡ len) }
+    {
+        self.settle()?;
+        add_entries(&mut self.entries, len)
+    }
 }

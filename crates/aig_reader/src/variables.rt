@@ -1,6 +1,6 @@
 //! The variables of a file.
 
-ghost use Rattle.std.specs.Prelude.{◌≡◌, ℕ, ◌+◌, ◌/◌, ◌^◌, ◌<◌, ◌≤◌, List, [], ◌∷◌, ◌++◌, IfErr, IfOk, IsErrOf, OnOk, true, vec_len};
+ghost use Rattle.std.specs.Prelude.{◌≡◌, ℕ, ◌+◌, ◌/◌, ◌^◌, ◌<◌, ◌≤◌, List, [], ◌∷◌, ◌++◌, IfErr, IfOk, IsErrOf, MatchOption, OnOk, false, true, vec_len};
 ghost use Rattle.aig_parsing.specs.Fitting.{defines};
 ghost use Rattle.aig_lexer.specs.Faults.{OnShape};
 ghost use Rattle.aig_lexer.specs.Takes.{Gives};
@@ -8,7 +8,7 @@ ghost use Rattle.aig_format.specs.File.{File, defined};
 ghost use Rattle.aig_ordering.specs.Tables.{AreKnownOf};
 ghost use Rattle.aig_reader.specs.Bits.{bit_told};
 ghost use Rattle.aig_reader.specs.Entries.{may_define, own_at};
-ghost use Rattle.aig_reader.specs.Variables.{AreDefined, AreMarks, HasRoom, IsLiteralFault, IsNewAmong, IsNext, IsOwn, Tested, kind_by};
+ghost use Rattle.aig_reader.specs.Variables.{AreDefined, AreMarks, HasRoom, IsLiteralFault, IsNewAmong, IsNext, IsOwn, Tested, is_marked, kind_by};
 
 use crate::bits::{has_bit, set_bit};
 use crate::error::LineError;
@@ -128,5 +128,27 @@ impl Variables {
                 Ok(literal as usize / 2)
             }
         }
+    }
+
+    /// Whether a variable, which is not 0, is defined.
+    fn is_defined(&self, variable: usize) -> bool
+        ensures { result ≡ is_marked self.now variable }
+    {
+        match self {
+            Variables::Marked(marks) => has_bit(&marks.marked, variable),
+            Variables::Counted(count) => variable <= *count as usize,
+        }
+    }
+
+    /// The first of the variables from one to below another that isn't defined, if there is one. None of them is 0.
+    pub fn first_undefined(&self, from: usize, to: usize) -> Option<usize>
+        ensures { MatchOption result ((v : ℕ) → from ≤ v → v < to → is_marked self.now v ≡ true) (λ v. (from ≤ v) × (v < to) × (is_marked self.now v ≡ false)) }
+    {
+        for variable in from..to {
+            if !self.is_defined(variable) {
+                return Some(variable);
+            }
+        }
+        None
     }
 }

@@ -17,7 +17,7 @@ returns-clause-exact g c = λ greatest leaves before h.
     let own = c.in_ok-define.ensures.own c.requires.space.0 c.requires.space.2 in
     let new = new_among leaves before gate.lhs (c.in_ok-define.ensures.new greatest literals h.defined) in (
       gate,
-      more_gates greatest leaves before _ _ gate (c.in_ok-put.ensures.placed before h.placed new own.1) first.1.1,
+      more_gates greatest leaves before _ _ gate (c.in_ok-put.ensures.placed greatest leaves before h.placed first.1.1 new own.1) first.1.1,
       takes_line kind 32 literals (operands_at kind) gate_of (may_stand kind greatest literals) _ _ c.in_ok-lhs.lhs (c.in_ok-lhs.ensures.exact greatest literals h.defined) _ (c.in_ok-first.first, c.in_ok-first.second) c.in_ok-first.ensures.exact
           (may_stand-both kind greatest literals gate ∙ rw (first.0, usable) refl),
     )

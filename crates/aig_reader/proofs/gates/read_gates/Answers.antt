@@ -1,13 +1,14 @@
-use Rattle.std.proofs.Common.{◌≡◌, ◌∙◌, ◌∷◌, ◌++◌, ◌+◌, [], ℕ, subst, arith}
+use Rattle.std.proofs.Common.{◌≡◌, ◌∙◌, ◌∷◌, ◌++◌, ◌+◌, [], ℕ, subst, refl, sym, arith}
 use Rattle.std.proofs.lemmas.Result.{err_from_is_err_and}
 use Rattle.aig_parsing.specs.Fitting.{fitting_gates_at}
 use Rattle.aig_format.specs.declared.FileKind.{FileKind}
 use Rattle.aig_lexer.specs.Header.{numbers_of}
 use Rattle.aig_lexer.specs.Takes.{Takes, Misses}
-use Rattle.aig_lexer.proofs.Taking.{takes_same, misses_same}
+use Rattle.std.proofs.lemmas.List.{append-nil}
+use Rattle.aig_lexer.proofs.Taking.{takes_nothing, takes_same, misses_same}
 use Rattle.aig_reader.specs.Entries.{gate_at}
 use Rattle.aig_reader.specs.Faults.{OnLine}
-use Rattle.aig_reader.specs.Variables.{kind_by}
+use Rattle.aig_reader.specs.Variables.{AreDefined, HasRoom, kind_by}
 use Rattle.aig_reader.proofs.BothKinds.{gates_is}
 use Rattle.aig_reader.proofs.Entries.{entries_at, takes_more, misses_more}
 use Rattle.aig_reader.proofs.PlacedNodes.{first_all}
@@ -24,6 +25,19 @@ pub gate_line-requires-clause-gates : goal.gate_line-requires-clause-gates
 gate_line-requires-clause-gates g c =
     let h = c.loop.invariant.made c.requires.defined.0 c.requires.defined.1 in
     (c.args.header.greatest, c.requires.defined.0, h.0, h.1)
+
+pub loop-init : goal.loop-init
+loop-init g c = record {
+  made = λ leaves defined. (
+    [],
+    record { defined = subst (AreDefined c.args.header.greatest c.args.variables.now) (sym (append-nil leaves)) defined; placed = c.in_ok-gates.ensures.placed leaves },
+    takes_nothing _ [],
+  );
+  space = c.in_ok-gates.ensures.space;
+  room = λ size k h. (let e : k + 0 ≡ k = omega arith in subst (λ (n : ℕ). HasRoom size c.args.variables.now n) e h);
+  kind = refl;
+  same = refl;
+}
 
 pub returns-in_err-gate_line-clause-exact : goal.returns-in_err-gate_line-clause-exact
 returns-in_err-gate_line-clause-exact g c = λ leaves length defined.
@@ -67,9 +81,9 @@ returns-clause-exact g c = λ leaves count_is defined.
     let greatest = c.args.header.greatest in
     let count = c.args.header.gates in
     let ns = numbers_of c.args.header in
-    let placed = c.add_leaves.ensures.placed h.0 h.1.placed in (
+    let placed = c.in_ok-add_leaves.ensures.placed greatest leaves h.0 h.1.placed in (
       h.0,
-      (record { defined = h.1.defined; placed = placed }, first_all greatest h.0 _ placed.nodes c.in_ok-add_leaves.ensures.len),
+      (record { defined = h.1.defined; placed = placed.0 }, first_all greatest h.0 _ placed.1 c.in_ok-add_leaves.ensures.len),
       takes_same (entries_at (gate_at kind greatest leaves) [] count) (fitting_gates_at kind ns leaves) _ _ h.0
           (subst (λ (n : ℕ). Takes (entries_at (gate_at kind greatest leaves) [] n) (g.F.ByteFeed.coming c.args.f.now) (g.F.ByteFeed.coming c.loop.f) h.0) done h.2) (λ bs. gates_is kind ns leaves bs count_is),
     )

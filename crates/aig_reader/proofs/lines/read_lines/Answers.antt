@@ -1,4 +1,4 @@
-use Rattle.std.proofs.Common.{◌∙◌, ◌++◌, ◌+◌, ◌&&◌, [], ℕ, Bool, ap, sym, length, map, subst, arith}
+use Rattle.std.proofs.Common.{◌∙◌, ◌++◌, ◌+◌, [], ℕ, ap, sym, subst, arith}
 use Rattle.std.specs.Prelude.{◌==◌}
 use Rattle.std.proofs.lemmas.Result.{err_from_is_err_and}
 use Rattle.aig_parsing.specs.Fitting.{fitting_gates_at}
@@ -9,9 +9,9 @@ use Rattle.aig_lexer.specs.Header.{numbers_of}
 use Rattle.aig_lexer.specs.Takes.{Misses, Takes}
 use Rattle.aig_reader.specs.declared.error.Section.TheVariants.{Inputs, Latches}
 use Rattle.aig_reader.specs.Faults.{OnRefusal, error_in, gate_error_in}
-use Rattle.aig_reader.specs.Gates.{is_rising}
 use Rattle.aig_reader.specs.Sections.{file_by}
 use Rattle.aig_reader.specs.Variables.{HasRoom}
+use Rattle.aig_reader.proofs.NewerGates.{older_held}
 use Rattle.aig_reader.proofs.Body.{in_gates, made_in, missed_in, misses_gates, misses_properties, on_refusal-weaker, takes_sections}
 use Rattle.aig_reader.proofs.ReadLeaves.{leaves_read, literals_with}
 use Rattle.aig_reader.proofs.ReadNames.{if_ok_in}
@@ -114,7 +114,7 @@ returns-clause-exact g c =
         nodes = record { placed = gates.1.1; definable = tell.variables.definable; operands = tell.variables.operands; few = omega (arith, tell.counts.gates, enough) };
         defined = gates.1.0.defined;
         kind = c.read_gates-gates.ensures.kind ∙ same;
-        older = ap (λ (b : Bool). b && is_rising c.in_ok-gates.gates) (c.is_complete.ensures ∙ ap (λ (n : ℕ). header.greatest == n) (sym tell.count)) ∙ ap (λ (b : Bool). header.greatest == length (f.inputs ++ map (λ l. l.literal) f.latches ++ map (λ g. g.lhs) f.gates) && b) gates.1.0.placed.in_order;
+        older = older_held f c.is_complete.result c.in_ok-gates.gates (c.is_complete.ensures ∙ ap (λ (n : ℕ). header.greatest == n) (sym tell.count)) tell.variables.definable tell.variables.distinct gates.1.0.placed.form;
         few = c.requires.few;
       },
       taken,

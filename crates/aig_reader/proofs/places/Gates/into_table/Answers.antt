@@ -8,11 +8,11 @@ use Rattle.aig_reader.proofs.places.Gates.into_table.Goals as goal
 pub table_of-requires : goal.table_of-requires
 table_of-requires c =
     let nodes = c.in-Rising.rising.nodes.items in
-    let h = rw c.in-Rising.is at c.requires.1 in
-    subst (All HasSmall) (sym c.deref.ensures.value) (small_nodes c.requires.0 _ 0 nodes h.last.words h.nodes.placed)
+    let h = rw c.in-Rising.is at c.requires.3 in
+    subst (All HasSmall) (sym c.deref.ensures.value) (small_nodes c.requires.2 _ 0 nodes h.form.words h.nodes.placed)
 
 pub returns-in-Rising : goal.returns-in-Rising
 returns-in-Rising c =
-    let h = rw c.in-Rising.is at c.requires.1 in
+    let h = rw c.in-Rising.is at c.requires.3 in
     let table = rw c.deref.ensures.value at c.table_of.ensures in
-    rw c.in-Rising.is (IfOk-weaker c.table_of.result _ _ (λ t is. ap nodes_in is ∙ table-back c.requires.0 c.in-Rising.rising.nodes.items h.nodes) table)
+    rw c.in-Rising.is (IfOk-weaker c.table_of.result _ _ (λ t is. ap nodes_in is ∙ table-back c.requires.2 c.in-Rising.rising.nodes.items h.nodes) table)

@@ -1,0 +1,104 @@
+-- Gates that no file of the older rules begins with.
+use Rattle.std.proofs.Common.{◌≡◌, ℕ, ◌/◌, ◌<◌, ◌≤◌, Bool, true, false, ◌&&◌, List, [], ◌∷◌, ◌++◌, length, map, refl, sym, ap, subst, ◌∙◌, append_assoc, arith}
+use Rattle.std.specs.Prelude.{◌==◌, nat_lt}
+use Rattle.std.specs.List.{AllByRecursion, IsDistinct, list_all, list_any}
+use Rattle.std.specs.Prelude.{nat_eq}
+use Rattle.std.proofs.lemmas.Bool.{and_from, and_parts, eqb-true, false≢true, ltb-true, ne_eqb}
+use Rattle.std.proofs.lemmas.List.{append-nil, map-append}
+use Rattle.std.proofs.lemmas.List.Folds.{list_all-append, list_any-append}
+use Rattle.aig_format.specs.File.{GateLine, File, defined}
+use Rattle.aig_format.specs.Fits.{IsDefinable}
+use Rattle.aig_format.specs.Numbering.{are_in_order, is_older, is_ordered, rises}
+use Rattle.aig_format.proofs.Entries.{rec_parts}
+use Rattle.aig_format.proofs.Numbers.{all_there}
+use Rattle.aig_reader.specs.declared.places.Gates.{Gates}
+use Rattle.aig_reader.specs.declared.places.Gates.TheVariants.{Rising, Table}
+use Rattle.aig_reader.specs.Gates.{IsHeld, IsNewer, is_rising, literals_of}
+
+-- ---- numbers that rise
+
+rises-front : (xs ys : List ℕ) → rises (xs ++ ys) ≡ true → rises xs ≡ true
+rises-front [] ys h = refl
+rises-front (x ∷ []) ys h = refl
+rises-front (x ∷ y ∷ xs) ys h = let p = and_parts (nat_lt x y) (rises (y ∷ (xs ++ ys))) h in and_from (nat_lt x y) (rises (y ∷ xs)) p.0 (rises-front (y ∷ xs) ys p.1)
+
+rises-back : (xs : List ℕ) (y : ℕ) (ys : List ℕ) → rises (xs ++ y ∷ ys) ≡ true → rises (y ∷ ys) ≡ true
+rises-back [] y ys h = h
+rises-back (x ∷ []) y ys h = (and_parts (nat_lt x y) (rises (y ∷ ys)) h).1
+rises-back (x ∷ z ∷ xs) y ys h = rises-back (z ∷ xs) y ys (and_parts (nat_lt x z) (rises (z ∷ (xs ++ y ∷ ys))) h).1
+
+-- no number behind another has a half below that one's
+none_below : (v x : ℕ) (ys : List ℕ) → rises (x ∷ ys) ≡ true → v < x / 2 → list_any (λ e. e / 2 == v) ys ≡ false
+none_below v x [] h low = refl
+none_below v x (y ∷ ys) h low =
+    let p = and_parts (nat_lt x y) (rises (y ∷ ys)) h in
+    let above = ltb-true x y p.0 in
+    let higher : v < y / 2 = omega (arith, above, low) in
+    rw (ne_eqb (y / 2) v (λ e. omega (arith, e, higher)), none_below v y ys p.1 higher) refl
+
+-- ---- gates that begin a file
+
+module _ (greatest : ℕ) (leaves : List ℕ) (gates : List GateLine) where
+  -- gates that don't rise don't with more of them
+  pub newer_order : are_in_order gates ≡ false → IsNewer greatest leaves gates
+  newer_order h = λ rest definable distinct exact. by_test rest (are_in_order (gates ++ rest)) refl
+    where
+      by_test : (rest : List GateLine) (b : Bool) → are_in_order (gates ++ rest) ≡ b → are_in_order (gates ++ rest) ≡ false
+      by_test rest false is = is
+      by_test rest true is =
+          let p = and_parts (rises (literals_of (gates ++ rest))) (list_all is_ordered (gates ++ rest)) is in
+          let front = rises-front (literals_of gates) (literals_of rest) (sym (ap rises (map-append (λ (g : GateLine). g.lhs) gates rest)) ∙ p.0) in
+          let ordered = and_parts (list_all is_ordered gates) (list_all is_ordered rest) (sym (list_all-append is_ordered gates rest) ∙ p.1) in
+          absurd (false≢true (sym h ∙ and_from (rises (literals_of gates)) (list_all is_ordered gates) front ordered.0))
+
+  -- nor do they with one more
+  pub newer_more : (g : GateLine) → IsNewer greatest leaves gates → IsNewer greatest leaves (gates ++ g ∷ [])
+  newer_more g h = λ rest. subst (λ (gs : List GateLine). let literals = leaves ++ literals_of gs in AllByRecursion (IsDefinable greatest) literals → IsDistinct nat_eq literals → greatest ≡ length literals → are_in_order gs ≡ false) (sym (append_assoc gates (g ∷ []) rest)) (h (g ∷ rest))
+
+  -- and these are none themselves
+  pub newer_told : IsNewer greatest leaves gates → let literals = leaves ++ literals_of gates in AllByRecursion (IsDefinable greatest) literals → IsDistinct nat_eq literals → greatest ≡ length literals → are_in_order gates ≡ false
+  newer_told h = subst (λ (gs : List GateLine). let literals = leaves ++ literals_of gs in AllByRecursion (IsDefinable greatest) literals → IsDistinct nat_eq literals → greatest ≡ length literals → are_in_order gs ≡ false) (append-nil gates) (h [])
+
+-- where a variable below a gate is defined by none before, it is by one behind it, or is missing
+module _ (greatest : ℕ) (leaves : List ℕ) (before : List GateLine) (g : GateLine) (v : ℕ) (some : 1 ≤ v) (below : v < g.lhs / 2) where
+  abbrev is_here : ℕ → Bool
+  is_here e = e / 2 == v
+
+  abbrev gates : List GateLine
+  gates = before ++ g ∷ []
+
+  -- the literals, with those behind the gate apart
+  behind_gate : (rest : List GateLine) → literals_of (gates ++ rest) ≡ literals_of before ++ g.lhs ∷ literals_of rest
+  behind_gate rest =
+      let lhs = λ (h : GateLine). h.lhs in
+      map-append lhs gates rest ∙ ap (λ (es : List ℕ). es ++ literals_of rest) (map-append lhs before (g ∷ [])) ∙ append_assoc (literals_of before) (g.lhs ∷ []) (literals_of rest)
+
+  none_behind : (rest : List GateLine) → are_in_order (gates ++ rest) ≡ true → list_any is_here (literals_of rest) ≡ false
+  none_behind rest is =
+      let p = and_parts (rises (literals_of (gates ++ rest))) (list_all is_ordered (gates ++ rest)) is in
+      none_below v g.lhs (literals_of rest) (rises-back (literals_of before) g.lhs (literals_of rest) (sym (ap rises (behind_gate rest)) ∙ p.0)) below
+
+  pub newer_skipped : list_any is_here (leaves ++ literals_of gates) ≡ false → IsNewer greatest leaves gates
+  newer_skipped none = λ rest definable distinct exact.
+      let front = rec_parts (IsDefinable greatest) leaves (literals_of (gates ++ rest)) definable in
+      let last = (rec_parts (IsDefinable greatest) (literals_of before) (g.lhs ∷ literals_of rest) (subst (AllByRecursion (IsDefinable greatest)) (behind_gate rest) front.1)).1.0.2 in
+      by_test rest (are_in_order (gates ++ rest)) refl (all_there greatest _ definable distinct exact v some (omega (arith, below, last)))
+    where
+      by_test : (rest : List GateLine) (b : Bool) → are_in_order (gates ++ rest) ≡ b → list_any is_here (leaves ++ literals_of (gates ++ rest)) ≡ true → are_in_order (gates ++ rest) ≡ false
+      by_test rest false is there = is
+      by_test rest true is there =
+          let parts = ap (λ (es : List ℕ). leaves ++ es) (map-append (λ (h : GateLine). h.lhs) gates rest) ∙ sym (append_assoc leaves (literals_of gates) (literals_of rest)) in
+          let split = list_any-append is_here (leaves ++ literals_of gates) (literals_of rest) ∙ rw (none, none_behind rest is) refl in
+          absurd (false≢true (sym split ∙ ap (list_any is_here) (sym parts) ∙ there))
+
+-- ---- the gates of a file
+
+-- gates that are held as nodes, in a file where no variable is missing, keep the older rules
+pub older_held : (f : File) (complete : Bool) (held : Gates) → complete ≡ (f.greatest == length (defined f)) → AllByRecursion (IsDefinable f.greatest) (defined f) → IsDistinct nat_eq (defined f)
+    → IsHeld f.greatest (f.inputs ++ map (λ l. l.literal) f.latches) f.gates held → (complete && is_rising held) ≡ is_older f
+older_held f complete (Rising rising) is definable distinct h = rw (is, h.in_order) refl
+older_held f complete (Table table) is definable distinct h = ap (λ (b : Bool). b && false) is ∙ by_test (f.greatest == length (defined f)) refl
+  where
+    by_test : (b : Bool) → (f.greatest == length (defined f)) ≡ b → (b && false) ≡ (b && are_in_order f.gates)
+    by_test true exact = sym (newer_told f.greatest (f.inputs ++ map (λ l. l.literal) f.latches) f.gates h definable distinct (eqb-true f.greatest (length (defined f)) exact))
+    by_test false exact = refl

@@ -1,0 +1,54 @@
+-- Gates that wait for their places.
+use Rattle.std.proofs.Common.{◌≡◌, ℕ, ◌+◌, ◌<◌, ◌≤◌, List, [], ◌∷◌, ◌++◌, Option, length, map, take, drop, get_or, sym, ap, subst, ◌∙◌, append_assoc}
+use Rattle.std.proofs.lemmas.List.{append-nil, drop_more, map_more, map_push}
+use Rattle.aig_format.specs.File.{GateLine}
+use Rattle.aig_reader.specs.declared.table.Late.{Late}
+use Rattle.aig_reader.specs.declared.table.Table.{Table}
+use Rattle.aig_ordering.specs.declared.gates.Operands.{Operands}
+use Rattle.aig_ordering.specs.Gates.{nodes_in}
+use Rattle.aig_reader.specs.Gates.{AreFirstNodes, AreNew, AreWaiting, line_of, lines_of, literals_of}
+use Rattle.aig_reader.specs.Variables.{IsNewAmong}
+
+-- one more gate that is new behind the others
+new_push : (front gates : List GateLine) (g : GateLine) → AreNew front gates → 2 ≤ g.lhs → IsNewAmong (literals_of (front ++ gates)) g.lhs → AreNew front (gates ++ g ∷ [])
+new_push front [] g new own among = ((own, subst (λ (gs : List GateLine). IsNewAmong (literals_of gs) g.lhs) (append-nil front) among), tt)
+new_push front (x ∷ gates) g new own among =
+    (new.0, new_push (front ++ x ∷ []) gates g new.1 own (subst (λ (gs : List GateLine). IsNewAmong (literals_of gs) g.lhs) (sym (append_assoc front (x ∷ []) gates)) among))
+
+module _ (front : List GateLine) (late : List Late) where
+  -- the gates that are in their places once so many no longer wait
+  abbrev pub placed : ℕ → List GateLine
+  placed i = front ++ lines_of (take i late)
+
+  pub placed_more : (i : ℕ) (d : Late) → i < length late → placed i ++ line_of (get_or late i d).lhs (get_or late i d).operands ∷ [] ≡ placed (i + 1)
+  placed_more i d h = append_assoc front (lines_of (take i late)) _ ∙ ap (λ (gs : List GateLine). front ++ gs) (sym (map_more (λ (l : Late). line_of l.lhs l.operands) late i d h))
+
+  -- the next one is new behind them, and so are the others behind it
+  pub next_new : (i : ℕ) (d : Late) → i < length late → AreNew (placed i) (lines_of (drop i late))
+      → ((2 ≤ (get_or late i d).lhs) × IsNewAmong (literals_of (placed i)) (get_or late i d).lhs) × AreNew (placed (i + 1)) (lines_of (drop (i + 1) late))
+  next_new i d h new =
+      let next = subst (λ (ls : List Late). AreNew (placed i) (lines_of ls)) (drop_more late i d h) new in
+      (next.0, subst (λ (gs : List GateLine). AreNew gs (lines_of (drop (i + 1) late))) (placed_more i d h) next.1)
+
+-- where no gate waits all are in their places
+pub none_waits : (gates : List GateLine) (table : Table) → AreFirstNodes gates (nodes_in table.entries.items) → table.late.items ≡ [] → AreWaiting gates table
+none_waits gates table nodes none = record {
+  front = gates;
+  all = sym (append-nil gates) ∙ ap (λ (late : List Late). gates ++ lines_of late) (sym none);
+  nodes = nodes;
+  new = subst (λ (late : List Late). AreNew gates (lines_of late)) (sym none) tt;
+}
+
+-- one more gate waits
+pub one_more_waits : (gates : List GateLine) (old new : Table) (lhs : ℕ) (operands : Operands) → AreWaiting gates old → IsNewAmong (literals_of gates) lhs → 2 ≤ lhs → new.entries.items ≡ old.entries.items
+    → new.late.items ≡ old.late.items ++ record { lhs = lhs; operands = operands } ∷ [] → AreWaiting (gates ++ line_of lhs operands ∷ []) new
+one_more_waits gates old new lhs operands h among own entries late =
+    let line = λ (l : Late). line_of l.lhs l.operands in
+    let gate : Late = record { lhs = lhs; operands = operands } in
+    let lines = sym (map_push line old.late.items gate) ∙ ap (map line) (sym late) in
+    record {
+      front = h.front;
+      all = ap (λ (gs : List GateLine). gs ++ line gate ∷ []) h.all ∙ append_assoc h.front (lines_of old.late.items) (line gate ∷ []) ∙ ap (λ (gs : List GateLine). h.front ++ gs) lines;
+      nodes = subst (λ (es : List (Option Operands)). AreFirstNodes h.front (nodes_in es)) (sym entries) h.nodes;
+      new = subst (AreNew h.front) lines (new_push h.front (lines_of old.late.items) (line gate) h.new own (subst (λ (gs : List GateLine). IsNewAmong (literals_of gs) lhs) h.all among));
+    }
