@@ -13,6 +13,7 @@ use Rattle.aig_circuit.specs.Node.{kind_at, FitsBelow, IsOrdered, and_of}
 use Rattle.aig_circuit.specs.Tree.{node_value, edge_value}
 use Rattle.aig_circuit.specs.Circuit.{AreNodes}
 use Rattle.aig_circuit.specs.Build.{with_node, Folds, true_first, true_second, false_first, false_second, same, opposite, AddsGate, AddsGates, Grows, KeepsTrees, KeepsValues}
+use Rattle.aig_circuit.proofs.Edges.{literals-same}
 use Rattle.aig_circuit.proofs.Trees.{kind_at-append, kind_at-last, kind_at-within, tree_of-agrees, node_value-agrees, node_value-and, node_value-false}
 
 -- a node of a longer list is an old one or the last
@@ -47,6 +48,19 @@ FitsBelow-And n a b i j l = record {
 -- the two edges of a gate, in the one order or the other
 pub and_of-cases : (a b : AigEdge) → ((and_of a b ≡ And b a) × (literal_of b < literal_of a)) ⊎ ((and_of a b ≡ And a b) × (literal_of a ≤ literal_of b))
 and_of-cases a b = grind (arith, nat_tests)
+
+-- the and of two edges is that of the edges turned
+pub and_of-turned : (a b : AigEdge) → and_of a b ≡ and_of b a
+and_of-turned a b = elim (and_of-cases a b) [
+  | inl p ↦ elim (and_of-cases b a) [
+    | inl q ↦ absurd (omega (arith, p.1, q.1))
+    | inr q ↦ p.0 ∙ sym q.0
+  ]
+  | inr p ↦ elim (and_of-cases b a) [
+    | inl q ↦ p.0 ∙ sym q.0
+    | inr q ↦ (let same = literals-same a b (omega (arith, p.1, q.1)) in ap (λ e. and_of e b) same ∙ ap (and_of b) (sym same))
+  ]
+]
 
 and_not_false : (a b : AigEdge) → And a b ≡ False → ⊥
 and_not_false a b e = cc

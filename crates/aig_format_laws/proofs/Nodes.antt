@@ -10,7 +10,7 @@ use Rattle.aig_circuit.specs.declared.node.AigNode.{AigNode}
 use Rattle.aig_circuit.specs.Edge.{literal_of}
 use Rattle.aig_circuit.specs.Node.{kind_at, and_of}
 use Rattle.aig_circuit.specs.Circuit.{AreNodes, Circuit}
-use Rattle.aig_circuit.proofs.Building.{and_of-cases}
+use Rattle.aig_circuit.proofs.Building.{and_of-cases, and_of-turned}
 use Rattle.aig_circuit.proofs.Trees.{kind_at-within}
 use Rattle.aig_format.specs.declared.FileKind.{FileKind}
 use Rattle.aig_format.specs.File.{GateLine, defined}
@@ -20,7 +20,6 @@ use Rattle.aig_format.specs.Numbering.{is_older, numbers_from, variables_in_orde
 use Rattle.aig_format.proofs.Searches.{find_none}
 use Rattle.aig_format.proofs.Older.{older-told}
 use Rattle.aig_format.proofs.Numbers.{order-older}
-use Rattle.aig_circuit.proofs.Edges.{literals-same}
 use Rattle.aig_format_laws.proofs.Edges.{edge_again}
 use Rattle.aig_format_laws.proofs.Gates.{AreNumbered, find_line, line_for, lines_all, lines_for, numbered_next}
 
@@ -29,10 +28,7 @@ numbered nodes are = λ i node h. omega (arith, are.numbered i node h)
 
 -- operands that are in order stay so
 ordered_again : (a b : AigEdge) → literal_of a ≤ literal_of b → and_of b a ≡ And a b
-ordered_again a b h = elim (and_of-cases b a) [
-  | inl p ↦ p.0
-  | inr p ↦ (let same : a ≡ b = literals-same a b (omega arith) in p.0 ∙ ap (λ e. And e a) (sym same) ∙ ap (And a) same)
-]
+ordered_again a b h = and_of-turned b a ∙ elim (and_of-cases a b) [ inl p ↦ absurd (omega (arith, h, p.1)) | inr p ↦ p.0 ]
 
 module _ (kind : FileKind) (c : Circuit) (are : AreNodes c.nodes) (older : is_older (file_of kind c) ≡ true) where
   not_zero : (m : ℕ) → kind_of (file_of kind c) (suc m) ≡ kind_by (file_of kind c) (gate_of_variable (file_of kind c) (suc m))

@@ -13,7 +13,7 @@ use Rattle.aig_circuit.specs.declared.node.AigLatch.{AigLatch}
 use Rattle.aig_circuit.specs.Edge.{edge_to}
 use Rattle.aig_circuit.specs.Node.{and_of, kind_at}
 use Rattle.aig_circuit.specs.Renumber.{place_of}
-use Rattle.aig_circuit.proofs.Building.{and_of-cases, and_of-not_false}
+use Rattle.aig_circuit.proofs.Building.{and_of-cases, and_of-not_false, and_of-turned}
 use Rattle.aig_format.specs.File.{LatchLine, GateLine, File, defined}
 use Rattle.aig_format.specs.Variables.{is_defined, is_known, IsKnown, gate_of_variable}
 use Rattle.aig_format.specs.Levels.{has_level, HasLevel}
@@ -38,7 +38,6 @@ use Rattle.aig_ordering.proofs.Tables.{kind_at-variable}
 use Rattle.aig_reader.specs.Numbered.{AreNumbersOf, have_operands, knows}
 use Rattle.aig_reader.specs.Sections.{HasGoodLines}
 use Rattle.aig_reader.proofs.GateLines.{and_assoc}
-use Rattle.aig_reader.proofs.TableEntries.{and_of-swap}
 
 -- ---- images
 
@@ -210,7 +209,7 @@ module _ (f : File) (table : List ℕ) (are : AreNumbersOf f table) where
   gate_is : (g : GateLine) → kind_by number (and_of (edge_from g.rhs0) (edge_from g.rhs1)) ≡ cond (gate_known g) (Some (and_of (edge_of f g.rhs0) (edge_of f g.rhs1))) None
   gate_is g = elim (and_of-cases (edge_from g.rhs0) (edge_from g.rhs1)) [
     | inl c ↦ ap (kind_by number) c.0 ∙ pair_is g.rhs1 g.rhs0 ∙ ap (λ b. cond b (Some (and_of (edge_of f g.rhs1) (edge_of f g.rhs0))) None) (and_swap (knows_one g.rhs1) (knows_one g.rhs0))
-        ∙ ap (λ (k : AigNodeType). cond (gate_known g) (Some k) None) (and_of-swap (edge_of f g.rhs1) (edge_of f g.rhs0))
+        ∙ ap (λ (k : AigNodeType). cond (gate_known g) (Some k) None) (and_of-turned (edge_of f g.rhs1) (edge_of f g.rhs0))
     | inr c ↦ ap (kind_by number) c.0 ∙ pair_is g.rhs0 g.rhs1
   ]
 

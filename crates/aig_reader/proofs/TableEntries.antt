@@ -11,7 +11,7 @@ use Rattle.aig_circuit.specs.declared.node.AigNodeType.TheVariants.{False, Leaf}
 use Rattle.aig_circuit.specs.declared.edge.AigEdge.{AigEdge}
 use Rattle.aig_circuit.specs.Edge.{edge_to, literal_of}
 use Rattle.aig_circuit.specs.Node.{IfAnd, and_of}
-use Rattle.aig_circuit.proofs.Building.{and_of-cases}
+use Rattle.aig_circuit.proofs.Building.{and_of-cases, and_of-turned}
 use Rattle.aig_format.specs.File.{GateLine}
 use Rattle.aig_format.specs.Numbering.{numbers_from}
 use Rattle.aig_format.specs.Variables.{gate_among}
@@ -23,32 +23,6 @@ use Rattle.aig_ordering.specs.Lists.{edge_from, kind_by, kind_from, node_from, n
 use Rattle.aig_reader.specs.Gates.{AreFirstNodes, HasWords, gate_in, line_of, literals_of}
 use Rattle.aig_reader.specs.Variables.{IsNewAmong}
 use Rattle.aig_reader.proofs.PlacedNodes.{first_gate_set, first_leaf}
-
--- ---- operands in any order
-
--- edges with one literal are one
-edges_same : (a b : AigEdge) → literal_of a ≡ literal_of b → a ≡ b
-edges_same a b h = by_parts a.compl refl b.compl refl
-  where
-    numbers_same : (s t : Bool) → 2 * a.node_id + cond s 1 0 ≡ 2 * b.node_id + cond t 1 0 → (a.node_id ≡ b.node_id) × (s ≡ t)
-    numbers_same true true e = (omega arith, refl)
-    numbers_same true false e = absurd (omega arith)
-    numbers_same false true e = absurd (omega arith)
-    numbers_same false false e = (omega arith, refl)
-
-    by_parts : (s : Bool) → a.compl ≡ s → (t : Bool) → b.compl ≡ t → a ≡ b
-    by_parts s left t right =
-        let p = numbers_same s t (sym (ap (λ c. 2 * a.node_id + cond c 1 0) left) ∙ h ∙ ap (λ c. 2 * b.node_id + cond c 1 0) right) in
-        ap (λ c. edge_to a.node_id c) (left ∙ p.1 ∙ sym right) ∙ ap (λ n. edge_to n b.compl) p.0
-
-pub and_of-swap : (a b : AigEdge) → and_of a b ≡ and_of b a
-and_of-swap a b = elim (and_of-cases a b) [
-  | inl p ↦ elim (and_of-cases b a) [ inl q ↦ absurd (omega (arith, p.1, q.1)) | inr q ↦ p.0 ∙ sym q.0 ]
-  | inr p ↦ elim (and_of-cases b a) [
-    | inl q ↦ p.0 ∙ sym q.0
-    | inr q ↦ let same = edges_same a b (omega (arith, p.1, q.1)) in ap (λ c. and_of a c) (sym same) ∙ ap (λ c. and_of c a) same
-  ]
-]
 
 -- ---- from nodes to a table, and back
 
@@ -63,7 +37,7 @@ literal-back e = by_test (e % 2 == 1) refl
 -- the kind of a gate, from its operands
 gate-back : (v a b : ℕ) → kind_in v (gate_in (and_of (edge_from a) (edge_from b))) ≡ and_of (edge_from a) (edge_from b)
 gate-back v a b = elim (and_of-cases (edge_from a) (edge_from b)) [
-  | inl c ↦ rw (c.0, literal-back a, literal-back b) (and_of-swap (edge_from b) (edge_from a) ∙ c.0)
+  | inl c ↦ rw (c.0, literal-back a, literal-back b) (and_of-turned (edge_from b) (edge_from a) ∙ c.0)
   | inr c ↦ rw (c.0, literal-back a, literal-back b) c.0
 ]
 

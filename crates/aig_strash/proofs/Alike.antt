@@ -10,26 +10,12 @@ use Rattle.aig_circuit.specs.Node.{kind_at, and_of}
 use Rattle.aig_circuit.specs.Tree.{tree_of, tree_of_kind}
 use Rattle.aig_circuit.specs.Circuit.{AreNodes}
 use Rattle.aig_circuit.specs.Renumber.{renumbered_edge, renumbered_kind}
-use Rattle.aig_circuit.proofs.Building.{and_of-cases}
+use Rattle.aig_circuit.proofs.Building.{and_of-turned}
 use Rattle.aig_circuit.proofs.Trees.{kind_at-there, kind_at-within, tree_of-is}
-use Rattle.aig_circuit.proofs.Edges.{literals-same}
 use Rattle.aig_renumber.proofs.Numbering.{Merges}
 use Rattle.aig_strash.specs.Exchange.{HaveEqualTrees, first_of, image_of, kept_nodes}
 use Rattle.aig_strash.proofs.Equal.{Equal, equal-operands}
 use Rattle.aig_strash.proofs.Firsts.{first-is, first-leaf, first-within, image-0, image-back, image-below, image-place, image-same, image-within, kept-within, kept_at-kept}
-
--- the and of two edges is that of the edges turned
-pub and_of-turned : (a b : AigEdge) → and_of a b ≡ and_of b a
-and_of-turned a b = elim (and_of-cases a b) [
-  | inl p ↦ elim (and_of-cases b a) [
-    | inl q ↦ absurd (omega (arith, p.1, q.1))
-    | inr q ↦ p.0 ∙ sym q.0
-  ]
-  | inr p ↦ elim (and_of-cases b a) [
-    | inl q ↦ p.0 ∙ sym q.0
-    | inr q ↦ (let same = literals-same a b (omega (arith, p.1, q.1)) in ap (λ e. and_of e b) same ∙ ap (and_of b) (sym same))
-  ]
-]
 
 module _ (nodes : List AigNode) (are : AreNodes nodes) where
   -- edges to nodes with equal trees have one image
