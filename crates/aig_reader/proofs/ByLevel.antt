@@ -2,6 +2,7 @@
 use Rattle.std.proofs.Common.{◌≡◌, ◌≢◌, ℕ, zero, suc, ◌+◌, ◌/◌, ◌%◌, ◌<◌, ◌≤◌, Bool, true, false, cond, eqb, ltb, ◌||◌, ◌&&◌, List, [], ◌∷◌, ◌++◌, ◌↔◌, length, map, Option, Some, None, refl, sym, ap, ◌∙◌, arith, inl, inr}
 use Rattle.std.specs.Prelude.{◌==◌, option_map, option_and_then}
 use Rattle.std.specs.List.{AllByRecursion, list_all, flat_map}
+use Rattle.std.proofs.Math.Bool.{and_assoc}
 use Rattle.std.proofs.lemmas.Bool.{ltb-true, ltb-false, ne_eqb, false≢true, or_right}
 use Rattle.std.proofs.lemmas.List.{get_or_past}
 use Rattle.std.proofs.lemmas.List.Folds.{list_all-append}
@@ -37,7 +38,6 @@ use Rattle.aig_ordering.specs.Numbers.{all_by, edge_by, kind_by, latch_by, node_
 use Rattle.aig_ordering.proofs.Tables.{kind_at-variable}
 use Rattle.aig_reader.specs.Numbered.{AreNumbersOf, have_operands, knows}
 use Rattle.aig_reader.specs.Sections.{HasGoodLines}
-use Rattle.aig_reader.proofs.GateLines.{and_assoc}
 
 -- ---- images
 
@@ -234,7 +234,7 @@ module _ (f : File) (table : List ℕ) (are : AreNumbersOf f table) where
 
   operands_known : (gs : List GateLine) → knows f (flat_map (λ g. g.rhs0 ∷ g.rhs1 ∷ []) gs) ≡ list_all gate_known gs
   operands_known [] = refl
-  operands_known (g ∷ gs) = ap (λ b. knows_one g.rhs0 && (knows_one g.rhs1 && b)) (operands_known gs) ∙ and_assoc (knows_one g.rhs0) (knows_one g.rhs1) (list_all gate_known gs)
+  operands_known (g ∷ gs) = ap (λ b. knows_one g.rhs0 && (knows_one g.rhs1 && b)) (operands_known gs) ∙ sym (and_assoc (knows_one g.rhs0) (knows_one g.rhs1) (list_all gate_known gs))
 
   -- ---- nodes in a row
 

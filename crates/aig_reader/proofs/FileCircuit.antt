@@ -1,5 +1,5 @@
 -- The circuit of the file that was read.
-use Rattle.std.proofs.Common.{◌≡◌, ◌≢◌, ℕ, zero, suc, ◌+◌, ◌*◌, ◌/◌, ◌%◌, ◌≤◌, true, cond, List, [], ◌∷◌, ◌++◌, map, slice_index, Option, Some, None, Vec, refl, sym, ap, ◌∙◌, arith}
+use Rattle.std.proofs.Common.{◌≡◌, ◌≢◌, ℕ, zero, suc, ◌+◌, ◌*◌, ◌/◌, ◌%◌, ◌≤◌, true, cond, List, [], ◌∷◌, ◌++◌, map, slice_index, Option, Some, None, refl, sym, ap, ◌∙◌, arith}
 use Rattle.std.specs.Prelude.{filter_map, AllPairs, ◌==◌}
 use Rattle.std.specs.Ordering.{nat_cmp}
 use Rattle.std.specs.FinMap.{FinMap, from_entries}
@@ -27,11 +27,9 @@ use Rattle.aig_format.proofs.Older.{older-told}
 use Rattle.aig_format.proofs.Searches.{find_some}
 use Rattle.aig_ordering.specs.Lists.{edge_from, kind_by, kind_from, latch_from, nodes_in_row, nodes_of, variable_of}
 use Rattle.aig_reader.specs.Names.{kept_name, kept_names}
-use Rattle.std.specs.declared.alloc.Global.{Global}
-use Rattle.aig_reader.specs.declared.sections.Lists.{Lists}
 use Rattle.aig_reader.specs.declared.sections.Sections.{Sections}
 use Rattle.aig_reader.specs.Numbered.{IsCircuitOf}
-use Rattle.aig_reader.specs.Sections.{AreSectionListsOf, HasGoodLines, circuit_with, sections_of}
+use Rattle.aig_reader.specs.Sections.{AreListsByVariable, HasGoodLines, circuit_with}
 
 same_kept : (h k : NameLine → Option (ℕ × List ℕ)) → ((n : NameLine) → h n ≡ k n) → (names : List NameLine) → filter_map h names ≡ filter_map k names
 same_kept h k same [] = refl
@@ -119,8 +117,8 @@ module _ (f : File) (good : HasGoodLines f) (older : is_older f ≡ true) where
       ap (λ k. nodes_in_row f.gates k 0) n ∙ nodes_are (suc f.greatest) 0 ∙ ap (λ vs. nodes_from f 0 (0 ∷ vs)) (ap (λ n. numbers_from n 1) exact ∙ sym (order-older f older))
 
   -- the sections by variable are the file's circuit
-  pub older_circuit : (lists : Lists) (nodes : Vec AigNode Global) → AreSectionListsOf lists f → nodes.items ≡ nodes_of f.greatest f.gates → IsCircuitOf f (sections_of nodes lists)
-  older_circuit lists nodes h placed = λ names.
+  pub older_circuit : (sections : Sections) → AreListsByVariable sections.lists f → sections.nodes.items ≡ nodes_of f.greatest f.gates → IsCircuitOf f sections
+  older_circuit sections h placed = λ names.
       let p = h.properties in
       let used = sections_within in
       rw (placed, h.inputs, h.latchs, p.outputs, p.bads, p.constraints, p.justice, p.fairness, nodes_same, numbers_are f.inputs leaves_within.0, latches_are f.latches latches_within, edges_are f.outputs used.outputs, edges_are f.bads used.bads, edges_are f.constraints used.constraints, sets_are f.justice used.justice, edges_are f.fairness used.fairness) refl
@@ -137,20 +135,20 @@ module _ (f : File) where
   name_is n = rw (input_is f.inputs n.position, input_is (map (λ (l : LatchLine). l.literal) f.latches) n.position) refl
 
   module _ (sections : Sections) (is : IsCircuitOf f sections) where
-    pub inputs_is : sections.inputs.items ≡ numbers f f.inputs
+    pub inputs_is : sections.lists.inputs.items ≡ numbers f f.inputs
     inputs_is = ap (λ (c : Circuit). c.inputs) (is (circuit_of f).names)
 
-    pub latchs_is : sections.latchs.items ≡ map (latch_of f) f.latches
+    pub latchs_is : sections.lists.latchs.items ≡ map (latch_of f) f.latches
     latchs_is = ap (λ (c : Circuit). c.latchs) (is (circuit_of f).names)
 
-    leaves_is : latch_leaves sections.latchs.items ≡ numbers f (map (λ (l : LatchLine). l.literal) f.latches)
+    leaves_is : latch_leaves sections.lists.latchs.items ≡ numbers f (map (λ (l : LatchLine). l.literal) f.latches)
     leaves_is = ap latch_leaves latchs_is ∙ leaves_of_latches f f.latches
 
-    names_is : (lines : List NameLine) → kept_names sections.inputs.items (latch_leaves sections.latchs.items) lines ≡ from_entries (filter_map (named_node f) lines)
+    names_is : (lines : List NameLine) → kept_names sections.lists.inputs.items (latch_leaves sections.lists.latchs.items) lines ≡ from_entries (filter_map (named_node f) lines)
     names_is lines = rw (inputs_is, leaves_is) (ap (λ (es : List (ℕ × List ℕ)). from_entries es) (same_kept (kept_name (numbers f f.inputs) (numbers f (map (λ (l : LatchLine). l.literal) f.latches))) (named_node f) name_is lines))
 
     -- the nodes of inputs and latches are distinct
-    pub nodes_distinct : (limit : ℕ) → Fits f limit → AllPairs (λ m n. m ≢ n) (sections.inputs.items ++ latch_leaves sections.latchs.items)
+    pub nodes_distinct : (limit : ℕ) → Fits f limit → AllPairs (λ m n. m ≢ n) (sections.lists.inputs.items ++ latch_leaves sections.lists.latchs.items)
     nodes_distinct limit fits = rw (inputs_is, leaves_is) (distinct_pairs _ (leaves_distinct f limit fits))
 
 -- a file's circuit has its names alone from the names
@@ -160,7 +158,7 @@ circuit_named b lines = refl
 
 -- the sections with the names that are kept are the file's circuit
 pub circuit_is : (b : (FileKind × HeaderNumbers) × Parts) (lines : List NameLine) (sections : Sections) (names : FinMap nat_cmp (List ℕ)) → IsCircuitOf (file_from b []) sections
-    → names ≡ kept_names sections.inputs.items (latch_leaves sections.latchs.items) lines → circuit_with sections names ≡ circuit_of (file_from b lines)
+    → names ≡ kept_names sections.lists.inputs.items (latch_leaves sections.lists.latchs.items) lines → circuit_with sections names ≡ circuit_of (file_from b lines)
 circuit_is b lines sections names is kept =
     let f = file_from b [] in
     is names ∙ ap (λ (ns : FinMap nat_cmp (List ℕ)). let c : Circuit = record (circuit_of f) { names = ns } in c) (kept ∙ names_is f sections is lines) ∙ sym (circuit_named b lines)

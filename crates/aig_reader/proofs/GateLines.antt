@@ -1,5 +1,6 @@
 -- A gate behind others.
 use Rattle.std.proofs.Common.{◌≡◌, ◌≢◌, ℕ, ◌/◌, ◌<◌, ◌≤◌, Bool, true, false, ◌&&◌, ltb, List, [], ◌∷◌, ◌++◌, refl, sym, ap, subst, ◌∙◌, append_assoc, arith}
+use Rattle.std.proofs.Math.Bool.{and-true, and_assoc}
 use Rattle.std.specs.Prelude.{◌==◌}
 use Rattle.std.specs.List.{list_all, list_any}
 use Rattle.std.proofs.lemmas.Bool.{lt-ltb}
@@ -25,22 +26,14 @@ use Rattle.aig_reader.proofs.NewerGates.{newer_more, newer_order, newer_skipped}
 
 -- ---- the order of gates
 
-pub and_assoc : (a b c : Bool) → (a && (b && c)) ≡ (a && b) && c
-and_assoc true b c = refl
-and_assoc false b c = refl
-
 last_push : (n x : ℕ) (xs : List ℕ) → last_or n (xs ++ x ∷ []) ≡ x
 last_push n x [] = refl
 last_push n x (y ∷ ys) = last_push y x ys
 
-and_true : (a : Bool) → (a && true) ≡ a
-and_true true = refl
-and_true false = refl
-
 -- numbers rise with one more where it is above the last
 rises_behind : (n x : ℕ) (xs : List ℕ) → rises (n ∷ (xs ++ x ∷ [])) ≡ rises (n ∷ xs) && ltb (last_or n xs) x
-rises_behind n x [] = and_true (ltb n x)
-rises_behind n x (y ∷ ys) = ap (λ (b : Bool). ltb n y && b) (rises_behind y x ys) ∙ and_assoc (ltb n y) (rises (y ∷ ys)) (ltb (last_or y ys) x)
+rises_behind n x [] = and-true (ltb n x)
+rises_behind n x (y ∷ ys) = ap (λ (b : Bool). ltb n y && b) (rises_behind y x ys) ∙ sym (and_assoc (ltb n y) (rises (y ∷ ys)) (ltb (last_or y ys) x))
 
 rises_push : (x : ℕ) (xs : List ℕ) → 0 < x → rises (xs ++ x ∷ []) ≡ rises xs && ltb (last_or 0 xs) x
 rises_push x [] some = sym (lt-ltb 0 x some)
@@ -59,7 +52,7 @@ order_push gates g some =
     let all = list_all is_ordered gates in
     ap (λ (ls : List ℕ). rises ls && list_all is_ordered (gates ++ g ∷ [])) (map_push (λ (h : GateLine). h.lhs) gates g)
     ∙ ap (λ (b : Bool). b && list_all is_ordered (gates ++ g ∷ [])) (rises_push g.lhs lefts some)
-    ∙ ap (λ (b : Bool). (rises lefts && ltb (last_or 0 lefts) g.lhs) && b) (list_all-append is_ordered gates (g ∷ []) ∙ ap (λ (b : Bool). all && b) (and_true (is_ordered g)))
+    ∙ ap (λ (b : Bool). (rises lefts && ltb (last_or 0 lefts) g.lhs) && b) (list_all-append is_ordered gates (g ∷ []) ∙ ap (λ (b : Bool). all && b) (and-true (is_ordered g)))
     ∙ four (rises lefts) all (ltb (last_or 0 lefts) g.lhs) (is_ordered g)
 
 -- ---- a gate in its place
@@ -105,7 +98,7 @@ module _ (greatest : ℕ) (leaves : List ℕ) (before : List GateLine) (lhs : �
 
 -- a gate may stand behind others where it may be defined and its operands may be used
 pub may_stand-both : (kind : FileKind) (greatest : ℕ) (before : List ℕ) (g : GateLine) → may_stand kind greatest before g ≡ may_define kind greatest before g.lhs && may_use kind greatest g
-may_stand-both Text greatest before g = sym (and_assoc (defines greatest before g.lhs) (is_literal greatest g.rhs0) (is_literal greatest g.rhs1))
+may_stand-both Text greatest before g = and_assoc (defines greatest before g.lhs) (is_literal greatest g.rhs0) (is_literal greatest g.rhs1)
 may_stand-both Binary greatest before g = refl
 
 -- ---- one more gate

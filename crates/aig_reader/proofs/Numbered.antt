@@ -17,7 +17,7 @@ use Rattle.aig_ordering.specs.Numbers.{MakesAll, all_by, edge_by, number_at}
 use Rattle.aig_reader.specs.declared.error.ReadError.{ReadError}
 use Rattle.aig_reader.specs.declared.error.Section.{Section}
 use Rattle.aig_reader.specs.Faults.{OnRefusal, order_error_in, result_by}
-use Rattle.aig_reader.specs.Numbered.{AreNumbersOf, Judged, JudgedOrder, have_operands, knows, knows_properties}
+use Rattle.aig_reader.specs.Numbered.{AreNumbersOf, Judged, JudgedOrder, have_operands, knows, knows_lists, knows_properties}
 use Rattle.aig_reader.proofs.ByLevel.{edges_are, sets_are}
 
 -- ---- answers
@@ -91,7 +91,7 @@ module _ (f : File) where
   seven true b c d e g h = refl
   seven false b c d e g h = refl
 
-  uses_known-is : uses_known f ≡ (knows f nexts && knows_properties f) && have_operands f
+  uses_known-is : uses_known f ≡ knows_lists f && have_operands f
   uses_known-is =
       let operands = flat_map (λ (g : GateLine). g.rhs0 ∷ g.rhs1 ∷ []) f.gates in
       joined (nexts ++ f.outputs ++ f.bads ++ f.constraints ++ sets ++ f.fairness) operands
@@ -105,9 +105,9 @@ module _ (f : File) where
       ∙ seven (knows f nexts) (knows f f.outputs) (knows f f.bads) (knows f f.constraints) (knows f sets) (knows f f.fairness) (knows f operands)
       ∙ ap (λ b. (knows f nexts && b) && knows f operands) (sym knows_properties-is)
 
-  -- the test of the newer rules, from those of nodes, latches and properties
-  pub newer-is : (levels n p o : Bool) → knows f nexts ≡ n → knows_properties f ≡ p → have_operands f ≡ o → (uses_known f && levels) ≡ ((n && p) && o) && levels
-  newer-is levels n p o hn hp ho = ap (λ b. b && levels) (uses_known-is ∙ ap (λ b. (b && knows_properties f) && have_operands f) hn ∙ ap (λ b. (n && b) && have_operands f) hp ∙ ap (λ b. (n && p) && b) ho)
+  -- the test of the newer rules, from those of lists and operands
+  pub newer-is : (levels l o : Bool) → knows_lists f ≡ l → have_operands f ≡ o → (uses_known f && levels) ≡ (l && o) && levels
+  newer-is levels l o hl ho = ap (λ b. b && levels) (uses_known-is ∙ ap (λ b. b && have_operands f) hl ∙ ap (λ b. l && b) ho)
 
 -- a test of levels and operands that fails
 pub no_nodes : (levels a o : Bool) → (levels && o) ≡ false → ((a && o) && levels) ≡ false

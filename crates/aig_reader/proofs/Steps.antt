@@ -1,5 +1,5 @@
 -- The sections that were read, as those of the file's circuit.
-use Rattle.std.proofs.Common.{◌≡◌, ℕ, ◌/◌, Bool, true, false, ◌||◌, ◌&&◌, List, [], ◌++◌, length, map, Option, Result, Ok, Err, IfOk, IfErr, Vec, vec_len, refl, ap, sym, subst, ◌∙◌, arith}
+use Rattle.std.proofs.Common.{◌≡◌, ℕ, ◌+◌, ◌*◌, ◌/◌, ◌≤◌, Bool, true, false, ◌||◌, ◌&&◌, List, [], ◌++◌, length, Option, Result, Ok, Err, IfOk, IfErr, vec_len, refl, ap, sym, subst, ◌∙◌, arith}
 use Rattle.std.specs.List.{list_all}
 use Rattle.std.proofs.lemmas.List.{length-map}
 use Rattle.aig_format.specs.declared.FileKind.{FileKind}
@@ -10,26 +10,24 @@ use Rattle.aig_format.specs.Levels.{has_level}
 use Rattle.aig_format.specs.Numbering.{is_older, number_of}
 use Rattle.aig_parsing.specs.Front.{Parts, is_good}
 use Rattle.aig_parsing.specs.Fitting.{fitting_sections_at, keeps_rules, section_lines_at, uses_known}
+use Rattle.aig_parsing.proofs.Guards.{length-defined, on_used}
 use Rattle.aig_parsing.proofs.SectionFacts.{HasCounts, lines_tell}
+use Rattle.aig_ordering.specs.Tables.{AreNodesOf}
 use Rattle.aig_lexer.specs.declared.header.Header.{Header}
 use Rattle.aig_lexer.specs.Header.{numbers_of}
 use Rattle.aig_lexer.specs.Takes.{Makes, Takes}
 use Rattle.aig_lexer.proofs.Taking.{misses_test, takes_tested}
-use Rattle.aig_ordering.specs.declared.error.OrderError.{OrderError}
-use Rattle.aig_ordering.specs.declared.error.OrderError.TheVariants.{Memory, Variable}
-use Rattle.aig_reader.specs.declared.error.Section.{Section}
-use Rattle.aig_reader.specs.declared.lines.Lines.{Lines}
 use Rattle.aig_reader.specs.declared.error.ReadError.{ReadError}
 use Rattle.aig_reader.specs.declared.error.ReadError.TheVariants as errors
 use Rattle.aig_reader.specs.declared.sections.Sections.{Sections}
-use Rattle.aig_reader.specs.Faults.{IsNumberFault, IsSectionFault, OnRefusal, order_error_in, result_by}
-use Rattle.aig_reader.specs.Numbered.{AreNumberedProperties, IsCircuitOf, Judged}
-use Rattle.std.specs.declared.alloc.Global.{Global}
+use Rattle.aig_reader.specs.Faults.{IsNumberFault, IsSectionFault, OnRefusal}
+use Rattle.aig_reader.specs.Numbered.{AreListsByNumber, IsCircuitOf, Judged}
 use Rattle.aig_circuit.specs.declared.node.AigNode.{AigNode}
-use Rattle.aig_reader.specs.Gates.{nodes_held}
-use Rattle.aig_reader.specs.Sections.{AreLinesOf, file_by, sections_of}
+use Rattle.aig_reader.specs.Gates.{AreFirstNodes}
+use Rattle.aig_reader.specs.Sections.{AreListsByVariable, HasGoodLines, file_by}
 use Rattle.aig_reader.proofs.Body.{on_refusal-weaker}
 use Rattle.aig_reader.proofs.FileCircuit.{inputs_is, latchs_is, older_circuit}
+use Rattle.aig_reader.proofs.PlacedNodes.{first_all}
 
 module _ (header : Header) (x : Parts) (b a : Option (List ℕ)) (taken : Takes (section_lines_at header.kind (numbers_of header)) b a x) where
   abbrev keeps : Parts → Bool
@@ -45,16 +43,16 @@ module _ (header : Header) (x : Parts) (b a : Option (List ℕ)) (taken : Takes 
     abbrev counts : HasCounts header.kind (numbers_of header) x
     counts = (lines_tell header.kind (numbers_of header) x (taken.taken ++ []) [] good (taken.reads [])).counts
 
-    pub inputs_count : (result : Result Sections ReadError) → Judged (keeps x) (IsCircuitOf (file_by header x)) result → IfOk result (λ sections. vec_len sections.inputs ≡ header.inputs)
+    pub inputs_count : (result : Result Sections ReadError) → Judged (keeps x) (IsCircuitOf (file_by header x)) result → IfOk result (λ sections. vec_len sections.lists.inputs ≡ header.inputs)
     inputs_count (Ok sections) h =
         let all = ap length (inputs_is (file_by header x) sections h.1) ∙ length-map x.inputs (λ e. number_of (file_by header x) (e / 2)) in
-        omega (arith, all, counts.inputs, sections.inputs.ok.0)
+        omega (arith, all, counts.inputs, sections.lists.inputs.ok.0)
     inputs_count (Err e) h = tt
 
-    pub latchs_count : (result : Result Sections ReadError) → Judged (keeps x) (IsCircuitOf (file_by header x)) result → IfOk result (λ sections. vec_len sections.latchs ≡ header.latches)
+    pub latchs_count : (result : Result Sections ReadError) → Judged (keeps x) (IsCircuitOf (file_by header x)) result → IfOk result (λ sections. vec_len sections.lists.latchs ≡ header.latches)
     latchs_count (Ok sections) h =
         let all = ap length (latchs_is (file_by header x) sections h.1) ∙ length-map x.latches (latch_of (file_by header x)) in
-        omega (arith, all, counts.latches, sections.latchs.ok.0)
+        omega (arith, all, counts.latches, sections.lists.latchs.ok.0)
     latchs_count (Err e) h = tt
 
 -- a fault of numbers is one of sections
@@ -80,9 +78,19 @@ no_stream result h is = subst (λ (r : Result Sections ReadError). IfErr r IsNum
 -- ---- the two ways to number
 
 module _ (f : File) where
+  -- the nodes of the file's variables, where its gates are in their places
+  pub nodes_placed : HasGoodLines f → (nodes : List AigNode) → AreFirstNodes f.gates nodes → length nodes ≡ f.greatest + 1 → AreNodesOf f nodes
+  nodes_placed good nodes h all = record {
+    placed = first_all f.greatest f.gates nodes h all;
+    definable = good.definable;
+    operands = ((on_used (λ e. e ≤ 2 * f.greatest + 1) f).0 good.in_range).gates;
+    few = omega (arith, length-defined f, good.enough);
+  }
+
   -- by the older rules the lines' sections are the circuit's
-  pub older_judged : (lines : Lines) (nodes : Vec AigNode Global) → AreLinesOf f lines → nodes.items ≡ nodes_held lines.gates → is_older f ≡ true → (keeps_rules f.kind f ≡ true) × IsCircuitOf f (sections_of nodes lines.lists)
-  older_judged lines nodes h held older = (by_kind f.kind, older_circuit f h.good older lines.lists nodes h.lists (held ∙ h.nodes.placed))
+  pub older_judged : (sections : Sections) → HasGoodLines f → AreListsByVariable sections.lists f → AreFirstNodes f.gates sections.nodes.items → vec_len sections.nodes ≡ f.greatest + 1 → is_older f ≡ true → (keeps_rules f.kind f ≡ true) × IsCircuitOf f sections
+  older_judged sections good lists nodes all older =
+      (by_kind f.kind, older_circuit f good older sections lists (first_all f.greatest f.gates sections.nodes.items nodes (omega (arith, all, sections.nodes.ok.0))))
     where
       by_kind : (kind : FileKind) → keeps_rules kind f ≡ true
       by_kind Text = ap (λ b. b || (uses_known f && list_all (has_level f) f.gates)) older
@@ -94,13 +102,6 @@ module _ (f : File) where
       let newer_rules = uses_known f && list_all (has_level f) f.gates in
       subst (λ b. Judged b (IsCircuitOf f) result) (sym (ap (λ k. keeps_rules k f) text ∙ ap (λ b. b || newer_rules) newer)) h
 
-  -- sections of lists under the numbers of nodes are the circuit's
-  pub numbered_circuit : (sections : Sections) → sections.nodes.items ≡ (circuit_of f).nodes → sections.inputs.items ≡ map (λ e. number_of f (e / 2)) f.inputs → sections.latchs.items ≡ map (latch_of f) f.latches
-      → AreNumberedProperties f sections.properties → IsCircuitOf f sections
-  numbered_circuit sections nodes inputs latchs p = λ names. rw (nodes, inputs, latchs, p.outputs, p.bads, p.constraints, p.justice, p.fairness) refl
-
--- a list's fault is one of numbers
-pub list_fault : {X : Type 0} (section : Section) (lists : Result X OrderError) (result : Result X ReadError) (e : ReadError) → result ≡ result_by (order_error_in section) lists → result ≡ Err e → IsNumberFault e
-list_fault section (Ok x) result e is was = let same = sym is ∙ was in absurd cc
-list_fault {X} section (Err Memory) result e is was = let same : ◌≡◌ {A = Result X ReadError} (Err errors.Memory) (Err e) = sym is ∙ was in let fault : errors.Memory ≡ e = cc in subst IsNumberFault fault tt
-list_fault {X} section (Err Variable) result e is was = let same : ◌≡◌ {A = Result X ReadError} (Err (errors.Literal section)) (Err e) = sym is ∙ was in let fault : errors.Literal section ≡ e = cc in subst IsNumberFault fault tt
+  -- nodes and lists under the numbers of variables are the circuit's
+  pub numbered_circuit : (sections : Sections) → sections.nodes.items ≡ (circuit_of f).nodes → AreListsByNumber f sections.lists → IsCircuitOf f sections
+  numbered_circuit sections nodes h = let p = h.properties in λ names. rw (nodes, h.inputs, h.latchs, p.outputs, p.bads, p.constraints, p.justice, p.fairness) refl

@@ -1,13 +1,15 @@
 -- Gates that wait for their places.
 use Rattle.std.proofs.Common.{◌≡◌, ℕ, ◌+◌, ◌<◌, ◌≤◌, List, [], ◌∷◌, ◌++◌, Option, length, map, take, drop, get_or, sym, ap, subst, ◌∙◌, append_assoc}
 use Rattle.std.proofs.lemmas.List.{append-nil, drop_more, map_more, map_push}
+use Rattle.aig_circuit.specs.declared.node.AigNode.{AigNode}
 use Rattle.aig_format.specs.File.{GateLine}
 use Rattle.aig_reader.specs.declared.table.Late.{Late}
 use Rattle.aig_reader.specs.declared.table.Table.{Table}
 use Rattle.aig_ordering.specs.declared.gates.Operands.{Operands}
 use Rattle.aig_ordering.specs.Gates.{nodes_in}
-use Rattle.aig_reader.specs.Gates.{AreFirstNodes, AreNew, AreWaiting, line_of, lines_of, literals_of}
+use Rattle.aig_reader.specs.Gates.{AreFirstNodes, AreNew, AreWaiting, gate_in, line_of, lines_of, literals_of}
 use Rattle.aig_reader.specs.Variables.{IsNewAmong}
+use Rattle.aig_reader.proofs.TableEntries.{table-back}
 
 -- one more gate that is new behind the others
 new_push : (front gates : List GateLine) (g : GateLine) → AreNew front gates → 2 ≤ g.lhs → IsNewAmong (literals_of (front ++ gates)) g.lhs → AreNew front (gates ++ g ∷ [])
@@ -30,12 +32,12 @@ module _ (front : List GateLine) (late : List Late) where
       let next = subst (λ (ls : List Late). AreNew (placed i) (lines_of ls)) (drop_more late i d h) new in
       (next.0, subst (λ (gs : List GateLine). AreNew gs (lines_of (drop (i + 1) late))) (placed_more i d h) next.1)
 
--- where no gate waits all are in their places
-pub none_waits : (gates : List GateLine) (table : Table) → AreFirstNodes gates (nodes_in table.entries.items) → table.late.items ≡ [] → AreWaiting gates table
-none_waits gates table nodes none = record {
+-- in the table of nodes all gates are in their places
+pub none_waits : (gates : List GateLine) (nodes : List AigNode) (table : Table) → AreFirstNodes gates nodes → table.entries.items ≡ map (λ node. gate_in node.typ) nodes → table.late.items ≡ [] → AreWaiting gates table
+none_waits gates nodes table h entries none = record {
   front = gates;
   all = sym (append-nil gates) ∙ ap (λ (late : List Late). gates ++ lines_of late) (sym none);
-  nodes = nodes;
+  nodes = subst (AreFirstNodes gates) (sym (ap nodes_in entries ∙ table-back gates nodes h)) h;
   new = subst (λ (late : List Late). AreNew gates (lines_of late)) (sym none) tt;
 }
 

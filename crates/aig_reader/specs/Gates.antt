@@ -49,11 +49,6 @@ HasWords g = (g.rhs0 < 2 ^ 32) × (g.rhs1 < 2 ^ 32)
 
 -- ---- where gates are held
 
--- the nodes of the first variables, as they are held
-abbrev pub nodes_held : Gates → List AigNode
-nodes_held (held.Rising rising) = rising.nodes.items
-nodes_held (held.Table table) = nodes_in table.entries.items
-
 -- whether the gates rise
 abbrev pub is_rising : Gates → Bool
 is_rising (held.Rising rising) = true

@@ -1,17 +1,18 @@
 -- Lists under the numbers of a file's variables.
-use Rattle.std.specs.Prelude.{◌≡◌, ℕ, ◌/◌, Bool, true, false, if◌then◌else◌, List, [], ◌∷◌, ◌++◌, map, Some, None, Result, Ok, Err}
+use Rattle.std.specs.Prelude.{◌≡◌, ℕ, ◌/◌, Bool, true, false, if◌then◌else◌, ◌&&◌, List, [], ◌∷◌, ◌++◌, map, Some, None, Result, Ok, Err}
 use Rattle.std.specs.Ordering.{nat_cmp}
 use Rattle.std.specs.FinMap.{FinMap}
 use Rattle.std.specs.List.{list_all, flat_map}
 use Rattle.aig_format.specs.File.{File}
 use Rattle.aig_format.specs.Variables.{is_known}
 use Rattle.aig_format.specs.Numbering.{number_of}
-use Rattle.aig_format.specs.Circuit.{circuit_of, edge_of}
+use Rattle.aig_format.specs.Circuit.{circuit_of, edge_of, latch_of}
 use Rattle.aig_ordering.specs.declared.error.OrderError.{OrderError}
 use Rattle.aig_ordering.specs.Numbers.{number_at}
 use Rattle.aig_ordering.specs.Tables.{OnOrder}
 use Rattle.aig_reader.specs.declared.error.ReadError.{ReadError}
 use Rattle.aig_reader.specs.declared.properties.Properties.{Properties}
+use Rattle.aig_reader.specs.declared.sections.Lists.{Lists}
 use Rattle.aig_reader.specs.declared.sections.Sections.{Sections}
 use Rattle.aig_reader.specs.Faults.{OnRefusal}
 use Rattle.aig_reader.specs.Sections.{circuit_with}
@@ -40,6 +41,10 @@ have_operands f = knows f (flat_map (λ g. g.rhs0 ∷ g.rhs1 ∷ []) f.gates)
 abbrev pub knows_properties : File → Bool
 knows_properties f = knows f (f.outputs ++ f.bads ++ f.constraints ++ flat_map (λ s. s) f.justice ++ f.fairness)
 
+-- whether those of latches, outputs and properties are
+abbrev pub knows_lists : File → Bool
+knows_lists f = knows f (map (λ l. l.next) f.latches) && knows_properties f
+
 -- ---- numbers
 
 -- the table has the number of each variable that is 0 or defined, and no others
@@ -53,6 +58,12 @@ pub record AreNumberedProperties (f : File) (properties : Properties) : Type 0 w
   pub constraints : properties.constraints.items ≡ map (edge_of f) f.constraints
   pub justice : map (λ set. set.items) properties.justice.items ≡ map (map (edge_of f)) f.justice
   pub fairness : properties.fairness.items ≡ map (edge_of f) f.fairness
+
+-- the lists of the file's circuit
+pub record AreListsByNumber (f : File) (lists : Lists) : Type 0 where
+  pub inputs : lists.inputs.items ≡ map (λ e. number_of f (e / 2)) f.inputs
+  pub latchs : lists.latchs.items ≡ map (latch_of f) f.latches
+  pub properties : AreNumberedProperties f lists.properties
 
 -- the sections have the file's circuit, but for its names
 abbrev pub IsCircuitOf : File → Sections → Type 0

@@ -1,10 +1,8 @@
 -- The sections of a file, with each variable as its own number.
-use Rattle.std.specs.Prelude.{◌≡◌, ℕ, ◌+◌, ◌*◌, ◌^◌, ◌<◌, ◌≤◌, ◌&&◌, true, List, [], ◌++◌, map, nat_eq, Vec}
+use Rattle.std.specs.Prelude.{◌≡◌, ℕ, ◌+◌, ◌*◌, ◌^◌, ◌<◌, ◌≤◌, ◌&&◌, true, List, [], ◌++◌, length, map, nat_eq}
 use Rattle.std.specs.List.{AllByRecursion, IsDistinct}
 use Rattle.std.specs.Ordering.{nat_cmp}
 use Rattle.std.specs.FinMap.{FinMap}
-use Rattle.std.specs.declared.alloc.Global.{Global}
-use Rattle.aig_circuit.specs.declared.node.AigNode.{AigNode}
 use Rattle.aig_circuit.specs.Circuit.{Circuit}
 use Rattle.aig_format.specs.declared.FileKind.TheVariants.{Binary}
 use Rattle.aig_format.specs.File.{File, defined, used}
@@ -14,11 +12,10 @@ use Rattle.aig_parsing.specs.Front.{Parts, file_from, property_parts}
 use Rattle.aig_lexer.specs.declared.header.Header.{Header}
 use Rattle.aig_lexer.specs.Header.{numbers_of}
 use Rattle.aig_ordering.specs.Lists.{latch_from, variable_of}
-use Rattle.aig_ordering.specs.Tables.{AreNodesOf}
 use Rattle.aig_reader.specs.declared.lines.Lines.{Lines}
 use Rattle.aig_reader.specs.declared.sections.Lists.{Lists}
 use Rattle.aig_reader.specs.declared.sections.Sections.{Sections}
-use Rattle.aig_reader.specs.Gates.{ArePlaced, is_rising, nodes_held}
+use Rattle.aig_reader.specs.Gates.{ArePlaced, HasSpace, is_rising}
 use Rattle.aig_reader.specs.Properties.{ArePropertiesOf}
 use Rattle.aig_reader.specs.Variables.{AreDefined, kind_by}
 
@@ -26,8 +23,8 @@ use Rattle.aig_reader.specs.Variables.{AreDefined, kind_by}
 abbrev pub file_by : Header → Parts → File
 file_by header x = file_from ((header.kind, numbers_of header), x) []
 
--- the lists were made of the lines of the file's sections
-pub record AreSectionListsOf (lists : Lists) (f : File) : Type 0 where
+-- the lists have the entries of the file's sections, each variable as its own number
+pub record AreListsByVariable (lists : Lists) (f : File) : Type 0 where
   pub inputs : lists.inputs.items ≡ map variable_of f.inputs
   pub latchs : lists.latchs.items ≡ map latch_from f.latches
   pub properties : ArePropertiesOf lists.properties (property_parts f)
@@ -37,34 +34,32 @@ pub record AreSectionListsOf (lists : Lists) (f : File) : Type 0 where
 pub record HasGoodLines (f : File) : Type 0 where
   pub definable : AllByRecursion (IsDefinable f.greatest) (defined f)
   pub distinct : IsDistinct nat_eq (defined f)
+  pub enough : length (defined f) ≤ f.greatest
   pub in_range : AllByRecursion (λ e. e ≤ 2 * f.greatest + 1) (used f)
   pub binary : f.kind ≡ Binary → is_older f ≡ true
 
 -- the lines of the file's sections were read: lists and gates by variable, what is defined, and whether any variable is missing
 pub record AreLinesOf (f : File) (lines : Lines) : Type 0 where
   pub good : HasGoodLines f
-  pub lists : AreSectionListsOf lines.lists f
-  pub gates : ArePlaced f.greatest (f.inputs ++ map (λ l. l.literal) f.latches) f.gates lines.gates
-  pub nodes : AreNodesOf f (nodes_held lines.gates)
-  pub defined : AreDefined f.greatest lines.variables (defined f)
-  pub kind : kind_by lines.variables ≡ f.kind
-  pub older : (lines.is_complete && is_rising lines.gates) ≡ is_older f
+  pub greatest : lines.greatest ≡ f.greatest
   pub few : f.greatest < 2 ^ 31
-
--- the sections of these nodes and lists
-abbrev pub sections_of : Vec AigNode Global → Lists → Sections
-sections_of nodes lists = record { nodes = nodes; inputs = lists.inputs; latchs = lists.latchs; properties = lists.properties }
+  pub kind : kind_by lines.variables ≡ f.kind
+  pub defined : AreDefined f.greatest lines.variables (defined f)
+  pub lists : AreListsByVariable lines.lists f
+  pub gates : ArePlaced f.greatest (f.inputs ++ map (λ l. l.literal) f.latches) f.gates lines.gates
+  pub space : HasSpace (f.greatest + 1) lines.gates
+  pub older : (lines.is_complete && is_rising lines.gates) ≡ is_older f
 
 -- the circuit of these sections, with these names
 abbrev pub circuit_with : Sections → FinMap nat_cmp (List ℕ) → Circuit
 circuit_with s names = record {
   nodes = s.nodes.items;
-  inputs = s.inputs.items;
-  latchs = s.latchs.items;
-  outputs = s.properties.outputs.items;
-  bads = s.properties.bads.items;
-  constraints = s.properties.constraints.items;
-  justice = map (λ set. set.items) s.properties.justice.items;
-  fairness = s.properties.fairness.items;
+  inputs = s.lists.inputs.items;
+  latchs = s.lists.latchs.items;
+  outputs = s.lists.properties.outputs.items;
+  bads = s.lists.properties.bads.items;
+  constraints = s.lists.properties.constraints.items;
+  justice = map (λ set. set.items) s.lists.properties.justice.items;
+  fairness = s.lists.properties.fairness.items;
   names = names;
 }

@@ -7,10 +7,9 @@ ghost use Rattle.aig_format.specs.File.{GateLine};
 ghost use Rattle.aig_lexer.specs.Faults.{OnShape};
 ghost use Rattle.aig_lexer.specs.Header.{numbers_of};
 ghost use Rattle.aig_lexer.specs.Takes.{Gives, Makes};
-ghost use Rattle.aig_ordering.specs.Lists.{nodes_of};
 ghost use Rattle.aig_reader.specs.Entries.{gate_at, may_use, operands_at};
 ghost use Rattle.aig_reader.specs.Faults.{OnLine};
-ghost use Rattle.aig_reader.specs.Gates.{AreGates, HasSpace, line_of, nodes_held};
+ghost use Rattle.aig_reader.specs.Gates.{AreGates, HasSpace, line_of};
 ghost use Rattle.aig_reader.specs.Variables.{AreDefined, HasRoom, kind_by};
 
 use crate::error::LineError;
@@ -90,7 +89,7 @@ fn gate_line<F: ByteFeed>(
     Ok(())
 }
 
-/// Reads the gates, defines their variables, and puts them in their places, with leaves in the others.
+/// Reads the gates, defines their variables, and puts them in their places.
 pub fn read_gates<F: ByteFeed>(
     alloc: Global,
     f: &mut F,
@@ -102,8 +101,10 @@ pub fn read_gates<F: ByteFeed>(
     requires defined { (leaves : List ℕ) × AreDefined header.greatest variables.old leaves }
     ensures exact { (leaves : List ℕ) → length leaves ≡ header.inputs + header.latches
         → AreDefined header.greatest variables.old leaves
-        → Makes OnLine (λ held gates. AreGates header.greatest leaves gates variables.new held × (nodes_held held ≡ nodes_of header.greatest gates))
-        (F.coming f.old) (F.coming f.new) result (fitting_gates_at (kind_by variables.old) (numbers_of header) leaves) }
+        → Makes OnLine (λ held gates. AreGates header.greatest leaves gates variables.new held)
+        (F.coming f.old) (F.coming f.new) result
+        (fitting_gates_at (kind_by variables.old) (numbers_of header) leaves) }
+    ensures space { IfOk result (HasSpace (header.greatest + 1)) }
     ensures kind { kind_by variables.new ≡ kind_by variables.old }
     ensures stream { IsErrOf result LineError.Stream → F.failed f.new ≡ true }
     ensures same { F.behind f.new ≡ F.behind f.old }
@@ -112,6 +113,5 @@ pub fn read_gates<F: ByteFeed>(
     for _ in 0..header.gates {
         gate_line(alloc, f, variables, &mut gates)?;
     }
-    gates.add_leaves(header.greatest as usize + 1)?;
     Ok(gates)
 }

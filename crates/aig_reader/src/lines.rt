@@ -28,6 +28,8 @@ pub struct Lines {
     pub gates: Gates,
     /// The variables that are defined.
     pub variables: Variables,
+    /// The greatest variable of the file.
+    pub greatest: u32,
     /// Whether no variable is missing.
     pub is_complete: bool,
 }
@@ -45,7 +47,8 @@ pub fn read_lines<F: ByteFeed>(alloc: Global, f: &mut F, header: Header) -> Resu
     requires few { header.greatest < 2 ^ 31 }
     requires good { is_good header.kind (numbers_of header) ≡ true }
     requires enough { header.inputs + header.latches + header.gates ≤ header.greatest }
-    ensures exact { Makes OnRefusal (λ lines x. AreLinesOf (file_by header x) lines) (F.coming f.old) (F.coming f.new) result (section_lines_at header.kind (numbers_of header)) }
+    ensures exact { Makes OnRefusal (λ lines x. AreLinesOf (file_by header x) lines)
+        (F.coming f.old) (F.coming f.new) result (section_lines_at header.kind (numbers_of header)) }
     ensures fault { IfErr result IsSectionFault }
     ensures stream { IsErrOf result ReadError.Stream → F.failed f.new ≡ true }
     ensures same { F.behind f.new ≡ F.behind f.old }
@@ -66,6 +69,7 @@ pub fn read_lines<F: ByteFeed>(alloc: Global, f: &mut F, header: Header) -> Resu
         },
         gates,
         variables,
+        greatest: header.greatest,
         is_complete: is_complete(header),
     })
 }

@@ -12,9 +12,9 @@ ghost use Rattle.aig_parsing.specs.Front.{property_parts};
 ghost use Rattle.aig_ordering.specs.Gates.{nodes_in};
 ghost use Rattle.aig_ordering.specs.Tables.{AreKnownOf, AreNodesOf};
 ghost use Rattle.aig_reader.specs.Faults.{IsNumberFault};
-ghost use Rattle.aig_reader.specs.Numbered.{AreNumberedProperties, AreNumbersOf, IsCircuitOf, Judged, JudgedOrder, have_operands, knows_properties};
+ghost use Rattle.aig_reader.specs.Numbered.{AreListsByNumber, AreNumberedProperties, AreNumbersOf, IsCircuitOf, Judged, JudgedOrder, have_operands, knows_lists, knows_properties};
 ghost use Rattle.aig_reader.specs.Properties.{ArePropertiesOf};
-ghost use Rattle.aig_reader.specs.Sections.{AreLinesOf, AreSectionListsOf, HasGoodLines};
+ghost use Rattle.aig_reader.specs.Sections.{AreLinesOf, AreListsByVariable, HasGoodLines};
 
 use crate::error::{ReadError, Section};
 use crate::lines::Lines;
@@ -30,23 +30,28 @@ use std::alloc::Global;
 /// The nodes by level, and the number of each variable that is 0 or defined.
 fn number_nodes(
     alloc: Global,
-    gates: Vec<Option<Operands>>,
+    gates: &[Option<Operands>],
     known: &[bool],
 ) -> Result<(Vec<AigNode>, Vec<u32>), OrderError>
-    requires tables { (f : File) × AreNodesOf f (nodes_in gates.items) × AreKnownOf f known.now }
-    requires few { vec_len gates ≤ 2 ^ 31 }
-    ensures { (f : File) → HasGoodLines f → AreNodesOf f (nodes_in gates.items) → AreKnownOf f known.now → is_older f ≡ false → JudgedOrder (list_all (has_level f) f.gates && have_operands f) (λ x. (x.0.items ≡ (circuit_of f).nodes) × AreNumbersOf f x.1.items) result }
+    requires tables { (f : File) × AreNodesOf f (nodes_in gates.now) × AreKnownOf f known.now }
+    requires few { length gates.now ≤ 2 ^ 31 }
+    ensures { (f : File) → HasGoodLines f → AreNodesOf f (nodes_in gates.now)
+        → AreKnownOf f known.now → is_older f ≡ false
+        → JudgedOrder (list_all (has_level f) f.gates && have_operands f)
+        (λ x. (x.0.items ≡ (circuit_of f).nodes) × AreNumbersOf f x.1.items) result }
 {
-    let order = order_by_level(alloc, &gates, known)?;
+    let order = order_by_level(alloc, gates, known)?;
     let numbers = numbers(alloc, &order, gates.len())?;
-    let nodes = nodes(alloc, &numbers, &gates, &order)?;
+    let nodes = nodes(alloc, &numbers, gates, &order)?;
     Ok((nodes, numbers))
 }
 
 impl Properties {
     /// The lists under the numbers of their variables.
     fn numbered(&self, alloc: Global, numbers: &[u32]) -> Result<Properties, ReadError>
-        ensures exact { (f : File) → AreNumbersOf f numbers.now → ArePropertiesOf self.now (property_parts f) → Judged (knows_properties f) (AreNumberedProperties f) result }
+        ensures exact { (f : File) → AreNumbersOf f numbers.now
+            → ArePropertiesOf self.now (property_parts f)
+            → Judged (knows_properties f) (AreNumberedProperties f) result }
         ensures fault { IfErr result IsNumberFault }
     {
         let outputs = edges(alloc, numbers, &self.outputs);
@@ -70,38 +75,42 @@ impl Properties {
 }
 
 impl Lists {
-    /// The sections with the defined variables by level. `known` tells of each variable whether it is 0 or defined.
-    fn by_level(
-        self,
-        alloc: Global,
-        gates: Vec<Option<Operands>>,
-        known: &[bool],
-    ) -> Result<Sections, ReadError>
-        requires tables { (f : File) × AreNodesOf f (nodes_in gates.items) × AreKnownOf f known.now }
-        requires few { vec_len gates ≤ 2 ^ 31 }
-        ensures exact { (f : File) → HasGoodLines f → AreNodesOf f (nodes_in gates.items) → AreKnownOf f known.now
-            → AreSectionListsOf self f → is_older f ≡ false
-            → Judged (uses_known f && list_all (has_level f) f.gates) (IsCircuitOf f) result }
+    /// The lists under the numbers of their variables.
+    fn numbered(&self, alloc: Global, numbers: &[u32]) -> Result<Lists, ReadError>
+        ensures exact { (f : File) → AreNumbersOf f numbers.now → AreListsByVariable self.now f
+            → Judged (knows_lists f) (AreListsByNumber f) result }
         ensures fault { IfErr result IsNumberFault }
     {
-        let Lists {
-            inputs,
-            latchs: old_latchs,
-            properties,
-        } = self;
-        let nodes = number_nodes(alloc, gates, known);
-        let (nodes, numbers) = Section::Gates.numbered(nodes)?;
-        let inputs = variables(alloc, &numbers, &inputs);
+        let inputs = variables(alloc, numbers, &self.inputs);
         let inputs = Section::Inputs.numbered(inputs)?;
-        let latchs = latchs(alloc, &numbers, &old_latchs);
+        let latchs = latchs(alloc, numbers, &self.latchs);
         let latchs = Section::Latches.numbered(latchs)?;
-        let properties = properties.numbered(alloc, &numbers)?;
-        Ok(Sections {
-            nodes,
+        let properties = self.properties.numbered(alloc, numbers)?;
+        Ok(Lists {
             inputs,
             latchs,
             properties,
         })
+    }
+
+    /// The sections with the defined variables by level. `known` tells of each variable whether it is 0 or defined.
+    fn by_level(
+        &self,
+        alloc: Global,
+        gates: &[Option<Operands>],
+        known: &[bool],
+    ) -> Result<Sections, ReadError>
+        requires tables { (f : File) × AreNodesOf f (nodes_in gates.now) × AreKnownOf f known.now }
+        requires few { length gates.now ≤ 2 ^ 31 }
+        ensures exact { (f : File) → HasGoodLines f → AreNodesOf f (nodes_in gates.now)
+            → AreKnownOf f known.now → AreListsByVariable self.now f → is_older f ≡ false
+            → Judged (uses_known f && list_all (has_level f) f.gates) (IsCircuitOf f) result }
+        ensures fault { IfErr result IsNumberFault }
+    {
+        let nodes = number_nodes(alloc, gates, known);
+        let (nodes, numbers) = Section::Gates.numbered(nodes)?;
+        let lists = self.numbered(alloc, &numbers)?;
+        Ok(Sections { nodes, lists })
     }
 }
 
@@ -109,23 +118,27 @@ impl Lines {
     /// The sections under the numbers of nodes. Refuses what is used and not defined, and gates that stand on themselves.
     pub fn numbered(self, alloc: Global) -> Result<Sections, ReadError>
         requires { (f : File) × AreLinesOf f self }
-        ensures exact { (f : File) → AreLinesOf f self → Judged (keeps_rules f.kind f) (IsCircuitOf f) result }
+        ensures exact { (f : File) → AreLinesOf f self
+            → Judged (keeps_rules f.kind f) (IsCircuitOf f) result }
         ensures fault { IfErr result IsNumberFault }
     {
         let Lines {
             lists,
             gates,
             variables,
+            greatest,
             is_complete,
         } = self;
+        let len = greatest as usize + 1;
         if is_complete && gates.are_rising() {
-            return Ok(lists.with_nodes(gates.into_nodes()));
+            let nodes = gates.into_nodes(len);
+            return Ok(Sections { nodes, lists });
         }
-        let gates = gates.into_table(alloc)?;
+        let gates = gates.into_table(alloc, len)?;
         let known = match variables {
             Variables::Marked(marks) => marks.known(alloc)?,
             Variables::Counted(_) => unreachable!(),
         };
-        lists.by_level(alloc, gates, &known)
+        lists.by_level(alloc, &gates, &known)
     }
 }

@@ -4,11 +4,11 @@ ghost use Rattle.std.specs.Prelude.{◌≡◌, ℕ, ◌+◌, ◌/◌, ◌^◌, �
 ghost use Rattle.aig_format.specs.File.{GateLine};
 ghost use Rattle.aig_format.specs.Numbering.{is_ordered};
 ghost use Rattle.aig_ordering.specs.Gates.{nodes_in};
-ghost use Rattle.aig_reader.specs.Gates.{AreFirstNodes, ArePlaced, HasSpace, is_rising, line_of, literals_of, nodes_held};
+ghost use Rattle.aig_reader.specs.Gates.{AreFirstNodes, ArePlaced, HasSpace, is_rising, line_of, literals_of};
 ghost use Rattle.aig_reader.specs.Variables.{AreDefined, IsNewAmong, is_marked};
 
 use crate::nodes::{add_leaves, first_node, put_gate};
-use crate::table::{Table, table_of};
+use crate::table::Table;
 use crate::variables::Variables;
 use aig_circuit::AigNode;
 use aig_ordering::{Operands, variable_node};
@@ -114,23 +114,6 @@ impl Gates {
         }
     }
 
-    /// Appends leaves until there are so many nodes.
-    pub fn add_leaves(&mut self, len: usize) -> Result<(), AllocError>
-        requires few { len ≤ 2 ^ 31 }
-        requires space { HasSpace len self.old }
-        ensures placed { (greatest : ℕ) (leaves : List ℕ) (gates : List GateLine) → ArePlaced greatest leaves gates self.old
-            → OnOk result (ArePlaced greatest leaves gates self.new × AreFirstNodes gates (nodes_held self.new)) }
-        ensures len { OnOk result (length (nodes_held self.new) ≡ len) }
-    {
-        match self {
-            Gates::Rising(rising) => {
-                add_leaves(&mut rising.nodes, len);
-                Ok(())
-            }
-            Gates::Table(table) => table.complete(len),
-        }
-    }
-
     /// Whether they are held as nodes.
     pub fn are_rising(&self) -> bool
         ensures { result ≡ is_rising self.now }
@@ -138,31 +121,38 @@ impl Gates {
         matches!(self, Gates::Rising(_))
     }
 
-    /// The nodes of gates that rise.
-    pub fn into_nodes(self) -> Vec<AigNode>
-        requires { is_rising self ≡ true }
-        ensures { result.items ≡ nodes_held self }
+    /// The nodes of so many variables, where gates rise: leaves in the places of variables without a gate.
+    pub fn into_nodes(self, len: usize) -> Vec<AigNode>
+        requires rising { is_rising self ≡ true }
+        requires space { HasSpace len self }
+        ensures nodes { (greatest : ℕ) (leaves : List ℕ) (gates : List GateLine)
+            → ArePlaced greatest leaves gates self → AreFirstNodes gates result.items }
+        ensures len { vec_len result ≡ len }
     {
         match self {
             Gates::Rising(rising) => {
-                let Rising { nodes, last: _ } = rising;
+                let Rising { mut nodes, last: _ } = rising;
+                add_leaves(&mut nodes, len);
                 nodes
             }
             Gates::Table(_) => unreachable!(),
         }
     }
 
-    /// All gates in a table.
-    pub fn into_table(self, alloc: Global) -> Result<Vec<Option<Operands>>, AllocError>
-        requires { (greatest : ℕ) × (leaves : List ℕ) × (gates : List GateLine) × ArePlaced greatest leaves gates self }
-        ensures { IfOk result (λ table. nodes_in table.items ≡ nodes_held self) }
+    /// The gates of so many variables in a table.
+    pub fn into_table(self, alloc: Global, len: usize) -> Result<Vec<Option<Operands>>, AllocError>
+        requires few { len ≤ 2 ^ 31 }
+        requires space { HasSpace len self }
+        requires placed { (greatest : ℕ) × (leaves : List ℕ) × (gates : List GateLine)
+            × ArePlaced greatest leaves gates self }
+        ensures nodes { (greatest : ℕ) (leaves : List ℕ) (gates : List GateLine)
+            → ArePlaced greatest leaves gates self
+            → IfOk result (λ table. AreFirstNodes gates (nodes_in table.items)) }
+        ensures len { IfOk result (λ table. vec_len table ≡ len) }
     {
         match self {
-            Gates::Rising(rising) => table_of(alloc, &rising.nodes),
-            Gates::Table(table) => {
-                let Table { entries, late: _ } = table;
-                Ok(entries)
-            }
+            Gates::Rising(rising) => Table::new(alloc, &rising.nodes)?.into_entries(len),
+            Gates::Table(table) => table.into_entries(len),
         }
     }
 }

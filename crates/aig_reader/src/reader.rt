@@ -59,7 +59,8 @@ fn read_file<F: ByteFeed>(alloc: Global, f: &mut F, limit: usize) -> Result<Circ
 {
     let header = read_header(f, limit)?;
     let sections = read_sections(alloc, f, header)?;
-    let names = read_names(alloc, f, &header, &sections.inputs, &sections.latchs);
+    let lists = &sections.lists;
+    let names = read_names(alloc, f, &header, &lists.inputs, &lists.latchs);
     let names = names_result(names)?;
     Ok(sections.with_names(names))
 }
@@ -73,9 +74,11 @@ fn read_sections<F: ByteFeed>(
     requires few { header.greatest < 2 ^ 31 }
     requires good { is_good header.kind (numbers_of header) ≡ true }
     requires enough { header.inputs + header.latches + header.gates ≤ header.greatest }
-    ensures exact { Makes OnRefusal (λ sections x. IsCircuitOf (file_by header x) sections) (F.coming f.old) (F.coming f.new) result (fitting_sections_at header.kind (numbers_of header)) }
-    ensures inputs { IfOk result (λ sections. vec_len sections.inputs ≡ header.inputs) }
-    ensures latchs { IfOk result (λ sections. vec_len sections.latchs ≡ header.latches) }
+    ensures exact { Makes OnRefusal (λ sections x. IsCircuitOf (file_by header x) sections)
+        (F.coming f.old) (F.coming f.new) result
+        (fitting_sections_at header.kind (numbers_of header)) }
+    ensures inputs { IfOk result (λ sections. vec_len sections.lists.inputs ≡ header.inputs) }
+    ensures latchs { IfOk result (λ sections. vec_len sections.lists.latchs ≡ header.latches) }
     ensures fault { IfErr result IsSectionFault }
     ensures stream { IsErrOf result ReadError.Stream → F.failed f.new ≡ true }
     ensures same { F.behind f.new ≡ F.behind f.old }

@@ -2,7 +2,7 @@
 
 ghost use Rattle.std.specs.Prelude.{◌≡◌};
 ghost use Rattle.aig_circuit.specs.View.{lists_circuit, names_of};
-ghost use Rattle.aig_reader.specs.Sections.{circuit_with, sections_of};
+ghost use Rattle.aig_reader.specs.Sections.{circuit_with};
 
 use crate::properties::Properties;
 use aig_circuit::{AigLatch, AigNode, CircuitLists};
@@ -24,31 +24,8 @@ pub struct Lists {
 pub struct Sections {
     /// The nodes, the first of which is false.
     pub nodes: Vec<AigNode>,
-    /// The numbers of the inputs, in the file's order.
-    pub inputs: Vec<usize>,
-    /// The latches, in the file's order.
-    pub latchs: Vec<AigLatch>,
-    /// The property lists.
-    pub properties: Properties,
-}
-
-impl Lists {
-    /// The lists, with these nodes.
-    pub fn with_nodes(self, nodes: Vec<AigNode>) -> Sections
-        ensures { result ≡ sections_of nodes self }
-    {
-        let Lists {
-            inputs,
-            latchs,
-            properties,
-        } = self;
-        Sections {
-            nodes,
-            inputs,
-            latchs,
-            properties,
-        }
-    }
+    /// The lists.
+    pub lists: Lists,
 }
 
 impl Sections {
@@ -56,12 +33,12 @@ impl Sections {
     pub fn with_names(self, names: HashMap<usize, String>) -> CircuitLists
         ensures { lists_circuit result ≡ circuit_with self (names_of names.entries) }
     {
-        let Sections {
-            nodes,
+        let Sections { nodes, lists } = self;
+        let Lists {
             inputs,
             latchs,
             properties,
-        } = self;
+        } = lists;
         let Properties {
             outputs,
             bads,

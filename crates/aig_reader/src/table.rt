@@ -57,7 +57,7 @@ fn gate_of(kind: AigNodeType) -> Option<Operands>
 }
 
 /// The table of these nodes, each at the place of its variable.
-pub fn table_of(alloc: Global, nodes: &[AigNode]) -> Result<Vec<Option<Operands>>, AllocError>
+fn table_of(alloc: Global, nodes: &[AigNode]) -> Result<Vec<Option<Operands>>, AllocError>
     requires { All (λ node. IfAnd node.typ (λ id. id < 2 ^ 31)) nodes.now }
     ensures { IfOk result (λ table. table.items ≡ map (λ node. gate_in node.typ) nodes.now) }
 {
@@ -152,15 +152,20 @@ impl Table {
         Ok(())
     }
 
-    /// Puts the gates that wait in their places, and appends entries without a gate until there are so many.
-    pub fn complete(&mut self, len: usize) -> Result<(), AllocError>
+    /// The entries of so many variables, with the gates that wait in their places.
+    pub fn into_entries(mut self, len: usize) -> Result<Vec<Option<Operands>>, AllocError>
         requires few { len ≤ 2 ^ 31 }
-        requires space { HasSpace len (held.Table self.old) }
-        ensures nodes { (gates : List GateLine) → AreWaiting gates self.old → OnOk result (AreFirstNodes gates (nodes_in self.new.entries.items)) }
-        ensures late { OnOk result (self.new.late.items ≡ []) }
-        ensures len { OnOk result (vec_len self.new.entries ≡ len) }
+        requires space { HasSpace len (held.Table self) }
+        ensures nodes { (gates : List GateLine) → AreWaiting gates self
+            → IfOk result (λ entries. AreFirstNodes gates (nodes_in entries.items)) }
+        ensures len { IfOk result (λ entries. vec_len entries ≡ len) }
     {
         self.settle()?;
-        add_entries(&mut self.entries, len)
+        let Table {
+            mut entries,
+            late: _,
+        } = self;
+        add_entries(&mut entries, len)?;
+        Ok(entries)
     }
 }

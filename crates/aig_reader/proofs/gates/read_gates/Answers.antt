@@ -11,7 +11,6 @@ use Rattle.aig_reader.specs.Faults.{OnLine}
 use Rattle.aig_reader.specs.Variables.{AreDefined, HasRoom, kind_by}
 use Rattle.aig_reader.proofs.BothKinds.{gates_is}
 use Rattle.aig_reader.proofs.Entries.{entries_at, takes_more, misses_more}
-use Rattle.aig_reader.proofs.PlacedNodes.{first_all}
 use Rattle.aig_reader.proofs.Rooms.{room_for, room_more}
 use Rattle.aig_reader.proofs.TestedLines.{on_line-weaker}
 use Rattle.aig_reader.proofs.gates.read_gates.Goals as goal
@@ -81,9 +80,9 @@ returns-clause-exact g c = λ leaves count_is defined.
     let greatest = c.args.header.greatest in
     let count = c.args.header.gates in
     let ns = numbers_of c.args.header in
-    let placed = c.in_ok-add_leaves.ensures.placed greatest leaves h.0 h.1.placed in (
+    (
       h.0,
-      (record { defined = h.1.defined; placed = placed.0 }, first_all greatest h.0 _ placed.1 c.in_ok-add_leaves.ensures.len),
+      h.1,
       takes_same (entries_at (gate_at kind greatest leaves) [] count) (fitting_gates_at kind ns leaves) _ _ h.0
           (subst (λ (n : ℕ). Takes (entries_at (gate_at kind greatest leaves) [] n) (g.F.ByteFeed.coming c.args.f.now) (g.F.ByteFeed.coming c.loop.f) h.0) done h.2) (λ bs. gates_is kind ns leaves bs count_is),
     )

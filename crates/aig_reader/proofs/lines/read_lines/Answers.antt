@@ -1,4 +1,4 @@
-use Rattle.std.proofs.Common.{◌∙◌, ◌++◌, ◌+◌, [], ℕ, ap, sym, subst, arith}
+use Rattle.std.proofs.Common.{◌∙◌, ◌++◌, ◌+◌, [], ℕ, refl, ap, sym, subst, arith}
 use Rattle.std.specs.Prelude.{◌==◌}
 use Rattle.std.proofs.lemmas.Result.{err_from_is_err_and}
 use Rattle.aig_parsing.specs.Fitting.{fitting_gates_at}
@@ -9,6 +9,7 @@ use Rattle.aig_lexer.specs.Header.{numbers_of}
 use Rattle.aig_lexer.specs.Takes.{Misses, Takes}
 use Rattle.aig_reader.specs.declared.error.Section.TheVariants.{Inputs, Latches}
 use Rattle.aig_reader.specs.Faults.{OnRefusal, error_in, gate_error_in}
+use Rattle.aig_reader.specs.Gates.{HasSpace}
 use Rattle.aig_reader.specs.Sections.{file_by}
 use Rattle.aig_reader.specs.Variables.{HasRoom}
 use Rattle.aig_reader.proofs.NewerGates.{older_held}
@@ -104,18 +105,18 @@ returns-clause-exact g c =
     let f = file_by header y in
     let taken = takes_sections kind ns _ _ leaves.literals leaves.takes_inputs _ leaves.lines leaves.takes_latchs _ x properties.2 _ gates.0 hg in
     let tell = lines_tell kind ns y (taken.taken ++ []) [] c.requires.good (taken.reads []) in
-    let enough = c.requires.enough in
     let p = properties.1 in (
       y,
       record {
-        good = record { definable = tell.variables.definable; distinct = tell.variables.distinct; in_range = tell.in_range; binary = tell.older };
-        lists = record { inputs = leaves.inputs_are; latchs = leaves.latchs_are; properties = record { outputs = p.outputs; bads = p.bads; constraints = p.constraints; justice = p.justice; fairness = p.fairness } };
-        gates = gates.1.0.placed;
-        nodes = record { placed = gates.1.1; definable = tell.variables.definable; operands = tell.variables.operands; few = omega (arith, tell.counts.gates, enough) };
-        defined = gates.1.0.defined;
-        kind = c.read_gates-gates.ensures.kind ∙ same;
-        older = older_held f c.is_complete.result c.in_ok-gates.gates (c.is_complete.ensures ∙ ap (λ (n : ℕ). header.greatest == n) (sym tell.count)) tell.variables.definable tell.variables.distinct gates.1.0.placed.form;
+        good = record { definable = tell.variables.definable; distinct = tell.variables.distinct; enough = tell.enough; in_range = tell.in_range; binary = tell.older };
+        greatest = refl;
         few = c.requires.few;
+        kind = c.read_gates-gates.ensures.kind ∙ same;
+        defined = gates.1.defined;
+        lists = record { inputs = leaves.inputs_are; latchs = leaves.latchs_are; properties = record { outputs = p.outputs; bads = p.bads; constraints = p.constraints; justice = p.justice; fairness = p.fairness } };
+        gates = gates.1.placed;
+        space = if_ok_in (gate_error_in kind) (HasSpace (header.greatest + 1)) c.read_gates-gates.result c.gates_result.result c.in_ok-gates.gates c.gates_result.ensures c.in_ok-gates.was c.read_gates-gates.ensures.space;
+        older = older_held f c.is_complete.result c.in_ok-gates.gates (c.is_complete.ensures ∙ ap (λ (n : ℕ). header.greatest == n) (sym tell.count)) tell.variables.definable tell.variables.distinct gates.1.placed.form;
       },
       taken,
     )

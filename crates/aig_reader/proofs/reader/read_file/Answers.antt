@@ -60,8 +60,8 @@ returns-clause-circuit g c =
     let fits = accepted c.args.limit _ _ body taken names.0 names.2 names.3 in
     let s = c.in_ok-sections.sections in
     let map = names_of c.in_ok-names.names.entries in
-    let kept : map ≡ kept_names s.inputs.items (latch_leaves s.latchs.items) names.0 =
-    names.1 ∙ ap (λ (ns : List ℕ). kept_names ns (latch_leaves c.deref-2.result.now) names.0) c.deref.ensures.value ∙ ap (λ (ls : List AigLatch). kept_names s.inputs.items (latch_leaves ls) names.0) c.deref-2.ensures.value in record {
+    let kept : map ≡ kept_names s.lists.inputs.items (latch_leaves s.lists.latchs.items) names.0 =
+    names.1 ∙ ap (λ (ns : List ℕ). kept_names ns (latch_leaves c.deref-2.result.now) names.0) c.deref.ensures.value ∙ ap (λ (ls : List AigLatch). kept_names s.lists.inputs.items (latch_leaves ls) names.0) c.deref-2.ensures.value in record {
       file = file_from body names.0;
       bytes = taken.taken ++ names.2;
       holds = fits;

@@ -1,21 +1,41 @@
-use Rattle.std.proofs.Common.{◌≡◌, ◌∙◌, true, refl, sym, ap, length, subst, arith}
+use Rattle.std.proofs.Common.{◌≡◌, ◌+◌, ◌∙◌, true, false, length, refl, sym, arith}
+use Rattle.aig_format.specs.File.{File}
 use Rattle.aig_format.specs.Numbering.{is_older}
+use Rattle.aig_ordering.specs.Gates.{nodes_in}
+use Rattle.aig_ordering.specs.Tables.{AreKnownOf, AreNodesOf}
 use Rattle.aig_ordering.proofs.NodesIn.{length-nodes_in}
-use Rattle.aig_ordering.proofs.Tables.{count-nodes}
-use Rattle.aig_reader.specs.Numbered.{IsCircuitOf}
-use Rattle.aig_reader.proofs.Steps.{older_judged}
+use Rattle.aig_reader.specs.Sections.{AreLinesOf}
+use Rattle.aig_reader.proofs.Steps.{newer_judged, nodes_placed, older_judged}
 use Rattle.aig_reader.proofs.lines.Lines.numbered.Goals as goal
-
-pub by_level-requires-clause-few : goal.by_level-requires-clause-few
-by_level-requires-clause-few c =
-    let f = c.requires.0 in
-    let h = c.requires.1 in
-    let table = c.in_ok-gates.gates in
-    let same = ap length c.in_ok-gates.ensures in
-    omega (arith, h.few, same, length-nodes_in table.items, count-nodes f _ h.nodes, table.ok.0)
+use Rattle.aig_reader.proofs.lines.Lines.numbered.Goals.{After-deref-2, else-is_complete-via-else-is_complete, else-is_complete-via-then-is_complete+else-are_rising}
 
 pub returns-then-are_rising-clause-exact : goal.returns-then-are_rising-clause-exact
 returns-then-are_rising-clause-exact c = λ f h.
     let older : is_older f ≡ true = sym h.older ∙ rw (c.if-is_complete.true, sym c.are_rising.ensures, c.if-are_rising.true) refl in
-    let judged = older_judged f c.args.self c.into_nodes.result h c.into_nodes.ensures older in
-    (judged.0, subst (IsCircuitOf f) (sym c.with_nodes.ensures) judged.1)
+    older_judged f record { nodes = c.into_nodes-nodes.result; lists = c.args.self.lists } h.good h.lists (c.into_nodes-nodes.ensures.nodes f.greatest _ f.gates h.gates) (omega (arith, c.into_nodes-nodes.ensures.len, h.greatest)) older
+
+-- where not all gates rise, or a variable is missing: what the tables tell
+module _ (c : After-deref-2) (f : File) (h : AreLinesOf f c.args.self) where
+  gates_are : AreNodesOf f (nodes_in c.deref.result.now)
+  gates_are =
+      let gates = c.in_ok-gates.gates in
+      let all : length (nodes_in gates.items) ≡ f.greatest + 1 = omega (arith, length-nodes_in gates.items, gates.ok.0, c.in_ok-gates.ensures.len, h.greatest) in
+      rw c.deref.ensures.value (nodes_placed f h.good (nodes_in gates.items) (c.in_ok-gates.ensures.nodes f.greatest _ f.gates h.gates) all)
+
+  known_are : AreKnownOf f c.deref-2.result.now
+  known_are = rw c.deref-2.ensures.value (c.in_ok-known-in-Marked.ensures f (rw c.in-Marked.is at h.defined))
+
+  newer : is_older f ≡ false
+  newer = sym h.older ∙ elim c.else-is_complete.branch [
+    | else-is_complete-via-then-is_complete+else-are_rising w ↦ rw (w.if-is_complete.true, sym w.are_rising.ensures) w.if-are_rising.false
+    | else-is_complete-via-else-is_complete w ↦ rw w.if-is_complete.false refl
+  ]
+
+pub by_level-requires-clause-tables : goal.by_level-requires-clause-tables
+by_level-requires-clause-tables c = (c.requires.0, gates_are c c.requires.0 c.requires.1, known_are c c.requires.0 c.requires.1)
+
+pub returns-clause-exact : goal.returns-clause-exact
+returns-clause-exact c = λ f h.
+    let here = (goal.at.returns-clause-exact c).After-deref-2 in
+    newer_judged f c.by_level.result (sym h.kind ∙ rw c.in-Marked.is refl) (newer here f h)
+    (c.by_level.ensures.exact f h.good (gates_are here f h) (known_are here f h) h.lists (newer here f h))

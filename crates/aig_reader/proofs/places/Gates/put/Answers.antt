@@ -3,21 +3,19 @@ use Rattle.std.specs.Prelude.{All}
 use Rattle.std.proofs.lemmas.List.{length-map}
 use Rattle.std.proofs.lemmas.List.Elements.{All-nil}
 use Rattle.std.proofs.lemmas.Result.{on_ok_weaker}
-use Rattle.aig_ordering.specs.Gates.{nodes_in}
 use Rattle.aig_circuit.specs.declared.node.AigNode.{AigNode}
 use Rattle.aig_reader.specs.declared.places.Gates.TheVariants as held
 use Rattle.aig_reader.specs.declared.table.Late.{Late}
-use Rattle.aig_reader.specs.Gates.{AreFirstNodes, HasSpace, gate_in}
+use Rattle.aig_reader.specs.Gates.{HasSpace, gate_in}
 use Rattle.aig_reader.proofs.GateLines.{passes_over, rises_no_more, rises_still, still_in_table}
-use Rattle.aig_reader.proofs.TableEntries.{HasSmall, small_nodes, table-back}
+use Rattle.aig_reader.proofs.TableEntries.{HasSmall, small_nodes}
 use Rattle.aig_reader.proofs.Waiting.{none_waits}
 use Rattle.aig_reader.proofs.places.Gates.put.Goals as goal
 
 pub new-requires : goal.new-requires
 new-requires c =
-    let nodes = c.in-Rising.rising.nodes.items in
     let h = rw c.in-Rising.is at c.requires.placed.3 in
-    subst (All HasSmall) (sym c.deref.ensures.value) (small_nodes c.requires.placed.2 _ 0 nodes h.form.words h.nodes.placed)
+    subst (All HasSmall) (sym c.deref.ensures.value) (small_nodes c.requires.placed.2 c.in-Rising.rising h.form h.nodes)
 
 pub returns-then-is_next-clause-placed : goal.returns-then-is_next-clause-placed
 returns-then-is_next-clause-placed c = λ greatest leaves before h defined new own.
@@ -32,8 +30,8 @@ returns-in_ok-push-in-Rising-clause-placed c = λ greatest leaves before h defin
     let placed = rw c.in-Rising.is at h in
     let made = c.in_ok-table-in-Rising.ensures in
     let entries = rw c.deref.ensures.value at made.entries in
-    let nodes = subst (AreFirstNodes before) (sym (ap nodes_in entries ∙ table-back before rising.nodes.items placed.nodes)) placed.nodes in
-    let all = c.in_ok-push-in-Rising.ensures.waiting before (none_waits before c.in_ok-table-in-Rising.table nodes made.late) new own in
+    let waiting = none_waits before rising.nodes.items c.in_ok-table-in-Rising.table placed.nodes entries made.late in
+    let all = c.in_ok-push-in-Rising.ensures.waiting before waiting new own in
     let some = placed.nodes.some in
     elim (c.is_next.ensures.other c.if-is_next.false) [
       | inl other ↦ rises_no_more greatest leaves before c.args.lhs c.args.operands own rising now placed other all
