@@ -14,10 +14,12 @@ use Rattle.aig_reader.specs.Sections.{file_by}
 use Rattle.aig_reader.specs.Variables.{HasRoom}
 use Rattle.aig_reader.proofs.NewerGates.{older_held}
 use Rattle.aig_reader.proofs.Body.{in_gates, made_in, missed_in, misses_gates, misses_properties, on_refusal-weaker, takes_sections}
-use Rattle.aig_reader.proofs.ReadLeaves.{leaves_read, literals_with}
+use Rattle.aig_reader.proofs.ReadLeaves.{LeavesRead, leaves_read, literals_with}
 use Rattle.aig_reader.proofs.ReadNames.{if_ok_in}
 use Rattle.aig_reader.proofs.Rooms.{room_weaker}
 use Rattle.aig_reader.proofs.lines.read_lines.Goals as goal
+use Rattle.aig_reader.proofs.lines.read_lines.Goals.{In_ok-inputs, In_ok-latchs}
+use Rattle.aig_reader.proofs.lines.read_lines.Given as given
 
 pub read_inputs-inputs-requires-clause-room : goal.read_inputs-inputs-requires-clause-room
 read_inputs-inputs-requires-clause-room g c =
@@ -25,8 +27,9 @@ read_inputs-inputs-requires-clause-room g c =
     let enough = c.requires.enough in
     room_weaker _ (header.greatest + 1) header.inputs header.greatest (omega (arith, enough)) c.new-variables.ensures.room
 
-pub read_latches-latchs-requires-clause-room : goal.read_latches-latchs-requires-clause-room
-read_latches-latchs-requires-clause-room g c =
+-- the room that the inputs leave
+room_left : (g : given.Over) (c : In_ok-inputs g) → HasRoom (c.args.header.greatest + 1) c.read_inputs-inputs.new.variables (c.args.header.gates + c.args.header.latches)
+room_left g c =
     let header = c.args.header in
     let enough = c.requires.enough in
     let size = header.greatest + 1 in
@@ -34,37 +37,37 @@ read_latches-latchs-requires-clause-room g c =
     let all = room_weaker c.new-variables.result size (rest + header.inputs) header.greatest (omega (arith, enough)) c.new-variables.ensures.room in
     let left = if_ok_in (error_in Inputs) (λ _. (size k : ℕ) → HasRoom size c.new-variables.result (k + header.inputs) → HasRoom size c.read_inputs-inputs.new.variables k) c.read_inputs-inputs.result c.result_of.result c.in_ok-inputs.inputs
     c.result_of.ensures c.in_ok-inputs.was c.read_inputs-inputs.ensures.room in
-    room_weaker _ size header.latches rest (omega arith) (left size rest all)
+    left size rest all
+
+pub read_latches-latchs-requires-clause-room : goal.read_latches-latchs-requires-clause-room
+read_latches-latchs-requires-clause-room g c =
+    let header = c.args.header in
+    room_weaker _ (header.greatest + 1) header.latches (header.gates + header.latches) (omega arith) (room_left g (goal.at.read_latches-latchs-requires-clause-room g c).In_ok-inputs)
 
 pub read_gates-gates-requires-clause-room : goal.read_gates-gates-requires-clause-room
 read_gates-gates-requires-clause-room g c =
     let header = c.args.header in
-    let enough = c.requires.enough in
-    let size = header.greatest + 1 in
-    let rest = header.gates + header.latches in
-    let all = room_weaker c.new-variables.result size (rest + header.inputs) header.greatest (omega (arith, enough)) c.new-variables.ensures.room in
-    let left = if_ok_in (error_in Inputs) (λ _. (size k : ℕ) → HasRoom size c.new-variables.result (k + header.inputs) → HasRoom size c.read_inputs-inputs.new.variables k) c.read_inputs-inputs.result c.result_of.result c.in_ok-inputs.inputs
-    c.result_of.ensures c.in_ok-inputs.was c.read_inputs-inputs.ensures.room in
-    let more = if_ok_in (error_in Latches) (λ _. (size k : ℕ) → HasRoom size c.read_inputs-inputs.new.variables (k + header.latches) → HasRoom size c.read_latches-latchs.new.variables k) c.read_latches-latchs.result c.result_of-2.result c.in_ok-latchs.latchs
+    let left = if_ok_in (error_in Latches) (λ _. (size k : ℕ) → HasRoom size c.read_inputs-inputs.new.variables (k + header.latches) → HasRoom size c.read_latches-latchs.new.variables k) c.read_latches-latchs.result c.result_of-2.result c.in_ok-latchs.latchs
     c.result_of-2.ensures c.in_ok-latchs.was c.read_latches-latchs.ensures.room in
-    more size header.gates (left size rest all)
+    left (header.greatest + 1) header.gates (room_left g (goal.at.read_gates-gates-requires-clause-room g c).In_ok-inputs)
+
+-- inputs and latches, as they were read
+leaves_of : (g : given.Over) (c : In_ok-latchs g) → LeavesRead c.args.header c.args.header.kind (g.F.ByteFeed.coming c.args.f.now) (g.F.ByteFeed.coming c.read_inputs-inputs.new.f) (g.F.ByteFeed.coming c.read_latches-latchs.new.f) c.read_latches-latchs.new.variables c.in_ok-inputs.inputs.items c.in_ok-latchs.latchs.items
+leaves_of g c =
+    let inputs = c.read_inputs-inputs.ensures in
+    let latchs = c.read_latches-latchs.ensures in
+    leaves_read c.args.header c.args.header.kind _ _ _ _ _ _ _ _ _ _ _ _ c.new-variables.ensures.kind inputs.kind c.result_of.ensures c.in_ok-inputs.was (inputs.exact c.new-variables.ensures.defined) inputs.count c.result_of-2.ensures c.in_ok-latchs.was latchs.exact latchs.count
 
 pub read_gates-gates-requires-clause-defined : goal.read_gates-gates-requires-clause-defined
 read_gates-gates-requires-clause-defined g c =
-    let header = c.args.header in
-    let kind = header.kind in
-    let inputs = c.read_inputs-inputs.ensures in
-    let latchs = c.read_latches-latchs.ensures in
-    let leaves = leaves_read header kind _ _ _ _ _ _ _ _ _ _ _ _ c.new-variables.ensures.kind inputs.kind c.result_of.ensures c.in_ok-inputs.was (inputs.exact c.new-variables.ensures.defined) inputs.count c.result_of-2.ensures c.in_ok-latchs.was latchs.exact latchs.count in
+    let leaves = leaves_of g (goal.at.read_gates-gates-requires-clause-defined g c).In_ok-latchs in
     (literals_with leaves.literals leaves.lines, leaves.defined)
 
 pub returns-in_err-properties-clause-exact : goal.returns-in_err-properties-clause-exact
 returns-in_err-properties-clause-exact g c =
     let header = c.args.header in
     let kind = header.kind in
-    let inputs = c.read_inputs-inputs.ensures in
-    let latchs = c.read_latches-latchs.ensures in
-    let leaves = leaves_read header kind _ _ _ _ _ _ _ _ _ _ _ _ c.new-variables.ensures.kind inputs.kind c.result_of.ensures c.in_ok-inputs.was (inputs.exact c.new-variables.ensures.defined) inputs.count c.result_of-2.ensures c.in_ok-latchs.was latchs.exact latchs.count in
+    let leaves = leaves_of g (goal.at.returns-in_err-properties-clause-exact g c).In_ok-latchs in
     let p = err_from_is_err_and c.from_residual-in_err-properties.result c.from_residual-in_err-properties.ensures.1 in
     let e = c.in_err-properties.field-0.0 in
     rw (p.1, p.2) (on_refusal-weaker e _ _ (misses_properties kind (numbers_of header) _ _ leaves.literals leaves.takes_inputs _ leaves.lines leaves.takes_latchs) c.in_err-properties.ensures.exact)
@@ -76,7 +79,7 @@ returns-in_err-gates-clause-exact g c =
     let start = c.new-variables.ensures.kind in
     let inputs = c.read_inputs-inputs.ensures in
     let latchs = c.read_latches-latchs.ensures in
-    let leaves = leaves_read header kind _ _ _ _ _ _ _ _ _ _ _ _ start inputs.kind c.result_of.ensures c.in_ok-inputs.was (inputs.exact c.new-variables.ensures.defined) inputs.count c.result_of-2.ensures c.in_ok-latchs.was latchs.exact latchs.count in
+    let leaves = leaves_of g (goal.at.returns-in_err-gates-clause-exact g c).In_ok-latchs in
     let properties = c.in_ok-properties.ensures.exact in
     let gates = c.read_gates-gates.ensures.exact (literals_with leaves.literals leaves.lines) leaves.count leaves.defined in
     let e = c.in_err-gates.field-0.0 in
@@ -93,7 +96,7 @@ returns-clause-exact g c =
     let start = c.new-variables.ensures.kind in
     let inputs = c.read_inputs-inputs.ensures in
     let latchs = c.read_latches-latchs.ensures in
-    let leaves = leaves_read header kind _ _ _ _ _ _ _ _ _ _ _ _ start inputs.kind c.result_of.ensures c.in_ok-inputs.was (inputs.exact c.new-variables.ensures.defined) inputs.count c.result_of-2.ensures c.in_ok-latchs.was latchs.exact latchs.count in
+    let leaves = leaves_of g (goal.at.returns-clause-exact g c).In_ok-latchs in
     let properties = c.in_ok-properties.ensures.exact in
     let defined = literals_with leaves.literals leaves.lines in
     let gates = made_in (gate_error_in kind) (in_gates kind) _ _ _ _ c.read_gates-gates.result c.gates_result.result c.in_ok-gates.gates c.gates_result.ensures c.in_ok-gates.was (c.read_gates-gates.ensures.exact defined leaves.count leaves.defined) in
