@@ -43,8 +43,12 @@ impl Rising {
     /// Whether a gate may be the next one of a file in which no variable is missing and gates rise, each above its operands:
     /// the variables that it passes over are defined.
     fn is_next(&self, variables: &Variables, lhs: u32, operands: Operands) -> bool
-        ensures next { result ≡ true → (nat_lt self.now.last lhs && is_ordered (line_of lhs operands)) ≡ true }
-        ensures other { result ≡ false → ((nat_lt self.now.last lhs && is_ordered (line_of lhs operands)) ≡ false)
+        ensures next { result ≡ true
+            → (nat_lt self.now.last lhs && is_ordered (line_of lhs operands)) ≡ true }
+        ensures defined { result ≡ true
+            → (v : ℕ) → vec_len self.now.nodes ≤ v → v < lhs / 2 → is_marked variables.now v ≡ true }
+        ensures other { result ≡ false
+            → ((nat_lt self.now.last lhs && is_ordered (line_of lhs operands)) ≡ false)
             ⊎ ((v : ℕ) × (vec_len self.now.nodes ≤ v) × (v < lhs / 2) × (is_marked variables.now v ≡ false)) }
     {
         self.is_above(lhs, operands)

@@ -79,8 +79,7 @@ returns-clause-exact g c = λ leaves count_is defined.
     let kind = kind_by c.args.variables.now in
     let greatest = c.args.header.greatest in
     let count = c.args.header.gates in
-    let ns = numbers_of c.args.header in
-    (
+    let ns = numbers_of c.args.header in (
       h.0,
       h.1,
       takes_same (entries_at (gate_at kind greatest leaves) [] count) (fitting_gates_at kind ns leaves) _ _ h.0
