@@ -13,7 +13,8 @@ use std::alloc::Global;
 
 /// The node with this number for a variable that has this gate, or none. A gate's operands get their numbers.
 fn node(numbers: &[u32], id: usize, variable: usize, gate: Option<Operands>) -> Option<AigNode>
-    ensures { result ≡ option_map (node_of id) (kind_by (number_at numbers.now) (kind_in variable gate)) }
+    ensures { result
+        ≡ option_map (node_of id) (kind_by (number_at numbers.now) (kind_in variable gate)) }
 {
     match gate {
         Some(operands) => {
@@ -34,7 +35,10 @@ pub fn nodes(
     order: &[u32],
 ) -> Result<Vec<AigNode>, OrderError>
     requires within { All (λ v. v < length gates.now) order.now }
-    ensures { MakesAll (λ new. new.items) (option_map (numbered 0) (all_by (λ v. option_and_then (kind_by (number_at numbers.now)) (kind_at (nodes_in gates.now) v)) order.now)) result }
+    ensures { MakesAll (λ new. new.items)
+        (option_map (numbered 0) (all_by
+        (λ v. option_and_then (kind_by (number_at numbers.now)) (kind_at (nodes_in gates.now) v))
+        order.now)) result }
 {
     let mut new = Vec::with_capacity(alloc, order.len())?;
     for variable in order {

@@ -54,7 +54,8 @@ fn task_of(levels: &[u32], kind: AigNodeType) -> Task
 impl Search {
     /// A search in which no level is known.
     fn new(alloc: Global, count: usize) -> Result<Self, OrderError>
-        ensures rest { IfOk result (λ search. (f : File) → count ≡ f.greatest + 1 → IsAtRest f search) }
+        ensures rest { IfOk result
+            (λ search. (f : File) → count ≡ f.greatest + 1 → IsAtRest f search) }
         ensures err { IfErr result (λ e. e ≡ OrderError.Memory) }
     {
         Ok(Search {
@@ -68,7 +69,8 @@ impl Search {
     fn open(&mut self, variable: usize, operand: usize) -> Result<usize, OrderError>
         requires { operand < vec_len self.old.opened }
         ensures ok { IfOk result (λ at. (at ≡ operand) × Opens self.old self.new variable operand) }
-        ensures err { IfErr result (λ e. OnOrder e (slice_index_or self.old.opened.items operand false ≡ true)) }
+        ensures err { IfErr result
+            (λ e. OnOrder e (slice_index_or self.old.opened.items operand false ≡ true)) }
     {
         if self.opened[operand] {
             return Err(OrderError::Variable);
@@ -88,9 +90,13 @@ impl Search {
         requires few { length gates.now ≤ 2 ^ 31 }
         requires within { variable < length gates.now }
         requires at { (f : File) → AreNodesOf f (nodes_in gates.now) → IsAt f self.old variable }
-        ensures at { (f : File) → AreNodesOf f (nodes_in gates.now) → MatchResult result (IsAtSome f self.new) (λ e. OnOrder e (all_have_levels f ≡ false)) }
+        ensures at { (f : File) → AreNodesOf f (nodes_in gates.now) → MatchResult result
+            (IsAtSome f self.new)
+            (λ e. OnOrder e (all_have_levels f ≡ false)) }
         ensures stays { OnOk result (StaysOpen self.old self.new) }
-        ensures fewer { IfOk result (λ at. MatchOption at (work_of self.new ≤ work_of self.old) (λ _. work_of self.new < work_of self.old)) }
+        ensures fewer { IfOk result (λ at. MatchOption at
+            (work_of self.new ≤ work_of self.old)
+            (λ _. work_of self.new < work_of self.old)) }
     {
         let kind = *variable_node(variable, gates[variable]).typ();
         match task_of(&self.levels, kind) {
@@ -108,7 +114,9 @@ impl Search {
         requires few { length gates.now ≤ 2 ^ 31 }
         requires start { start < length gates.now }
         requires rest { (f : File) → AreNodesOf f (nodes_in gates.now) → IsAtRest f self.old }
-        ensures rest { (f : File) → AreNodesOf f (nodes_in gates.now) → MatchResult result (λ _. IsAtRest f self.new) (λ e. OnOrder e (all_have_levels f ≡ false)) }
+        ensures rest { (f : File) → AreNodesOf f (nodes_in gates.now) → MatchResult result
+            (λ _. IsAtRest f self.new)
+            (λ e. OnOrder e (all_have_levels f ≡ false)) }
         ensures stays { OnOk result (StaysOpen self.old self.new) }
         ensures started { OnOk result (slice_index_or self.new.opened.items start false ≡ true) }
     {
@@ -128,7 +136,8 @@ impl Search {
 pub fn find_levels(alloc: Global, gates: &[Option<Operands>]) -> Result<Vec<u32>, OrderError>
     requires nodes { (f : File) × AreNodesOf f (nodes_in gates.now) }
     requires few { length gates.now ≤ 2 ^ 31 }
-    ensures { (f : File) → AreNodesOf f (nodes_in gates.now) → IfLevels f (λ levels. AreLevelsOf f levels.items) result }
+    ensures { (f : File) → AreNodesOf f (nodes_in gates.now)
+        → IfLevels f (λ levels. AreLevelsOf f levels.items) result }
 {
     let mut search = Search::new(alloc, gates.len())?;
     for variable in 0..gates.len() {
