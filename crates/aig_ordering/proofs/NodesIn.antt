@@ -1,5 +1,5 @@
 -- The nodes that a table of gates tells.
-use Rattle.std.proofs.Common.{◌≡◌, ℕ, zero, suc, ◌+◌, ◌<◌, List, [], ◌∷◌, length, get_or, Option, Some, refl, sym, ap, ◌∙◌, arith}
+use Rattle.std.proofs.Common.{◌≡◌, ℕ, zero, suc, ◌+◌, ◌<◌, List, [], ◌∷◌, length, get_or, Option, refl, sym, ap, ◌∙◌, arith}
 use Rattle.std.specs.Prelude.{option_and_then}
 use Rattle.aig_circuit.specs.declared.node.AigNode.{AigNode}
 use Rattle.aig_circuit.specs.declared.node.AigNodeType.{AigNodeType}
@@ -34,11 +34,15 @@ length-nodes_in gates = length-from 0 gates
 pub nodes_in-at : (gates : List (Option Operands)) (v : ℕ) (d : AigNode) (e : Option Operands) → v < length gates → get_or (nodes_in gates) v d ≡ node_in v (get_or gates v e)
 nodes_in-at gates v d e h = let same : 0 + v ≡ v = omega arith in at_from 0 v gates d e h ∙ ap (λ u. node_in u (get_or gates v e)) same
 
--- and so is its kind
-pub nodes_in-kind : (gates : List (Option Operands)) (v : ℕ) (e : Option Operands) → v < length gates → kind_at (nodes_in gates) v ≡ Some (kind_in v (get_or gates v e))
-nodes_in-kind gates v e h =
+-- the kind of a variable under the numbers
+abbrev pub kind_under : List ℕ → List (Option Operands) → ℕ → Option AigNodeType
+kind_under numbers gates v = option_and_then (kind_by (number_at numbers)) (kind_at (nodes_in gates) v)
+
+-- it is told by the variable's gate
+pub kind_under-gate : (numbers : List ℕ) (gates : List (Option Operands)) (v : ℕ) (e : Option Operands) → v < length gates → kind_under numbers gates v ≡ kind_by (number_at numbers) (kind_in v (get_or gates v e))
+kind_under-gate numbers gates v e h =
     let d = node_in v (get_or gates v e) in
-    kind_at-read (nodes_in gates) v d (kind_in v (get_or gates v e)) (omega (arith, length-nodes_in gates)) (sym (ap (λ (node : AigNode). node.typ) (nodes_in-at gates v d e h)))
+    ap (option_and_then (kind_by (number_at numbers))) (kind_at-read (nodes_in gates) v d (kind_in v (get_or gates v e)) (omega (arith, length-nodes_in gates)) (sym (ap (λ (node : AigNode). node.typ) (nodes_in-at gates v d e h))))
 
 module _ (f : File) (gates : List (Option Operands)) (are : AreNodesOf f (nodes_in gates)) where
   -- the table has each variable of the file
@@ -50,7 +54,3 @@ module _ (f : File) (gates : List (Option Operands)) (are : AreNodesOf f (nodes_
   kind_told v e node kind h is has =
       let typ = λ (n : AigNode). n.typ in
       sym (ap typ (node_at f (nodes_in gates) are v node (omega (arith, length-nodes_in gates)))) ∙ ap typ (nodes_in-at gates v node e h) ∙ sym (has ∙ ap typ is)
-
--- the kind of a variable under the numbers
-abbrev pub kind_under : List ℕ → List (Option Operands) → ℕ → Option AigNodeType
-kind_under numbers gates v = option_and_then (kind_by (number_at numbers)) (kind_at (nodes_in gates) v)

@@ -66,7 +66,7 @@ length-numbered n [] = refl
 length-numbered n (kind ∷ kinds) = ap suc (length-numbered (n + 1) kinds)
 
 -- the node of one kind more
-pub numbered-more : (kinds : List AigNodeType) (kind : AigNodeType) (nodes : List AigNode) (node : AigNode) (id : ℕ) → id ≡ length nodes → node ≡ node_of id kind → nodes ≡ numbered 0 kinds → nodes ++ node ∷ [] ≡ numbered 0 (kinds ++ kind ∷ [])
-numbered-more kinds kind nodes node id last is are =
+pub numbered-more : (kinds : List AigNodeType) (kind : AigNodeType) (nodes : List AigNode) (id : ℕ) → id ≡ length nodes → nodes ≡ numbered 0 kinds → nodes ++ node_of id kind ∷ [] ≡ numbered 0 (kinds ++ kind ∷ [])
+numbered-more kinds kind nodes id last are =
     let place : id ≡ 0 + length kinds = omega (arith, last, ap length are, length-numbered 0 kinds) in
-    ap (λ (ns : List AigNode). ns ++ node ∷ []) are ∙ ap (λ (n : AigNode). numbered 0 kinds ++ n ∷ []) (is ∙ ap (λ n. node_of n kind) place) ∙ sym (numbered-push 0 kinds kind)
+    ap (λ (ns : List AigNode). ns ++ node_of id kind ∷ []) are ∙ ap (λ n. numbered 0 kinds ++ node_of n kind ∷ []) place ∙ sym (numbered-push 0 kinds kind)

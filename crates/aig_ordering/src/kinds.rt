@@ -1,6 +1,6 @@
 //! The nodes of a circuit under the numbers of its variables.
 
-ghost use Rattle.std.specs.Prelude.{◌≡◌, ◌<◌, All, length, option_and_then, option_map};
+ghost use Rattle.std.specs.Prelude.{◌≡◌, ◌<◌, [], ◌∷◌, ◌++◌, All, length, option_and_then, option_map, vec_len};
 ghost use Rattle.aig_circuit.specs.Node.{kind_at};
 ghost use Rattle.aig_ordering.specs.Gates.{kind_in, nodes_in};
 ghost use Rattle.aig_ordering.specs.Numbers.{MakesAll, all_by, kind_by, node_of, number_at, numbered};
@@ -11,20 +11,31 @@ use crate::lists::edge;
 use aig_circuit::{AigNode, false_node, gate_node, leaf_node};
 use std::alloc::Global;
 
-/// The node with this number for a variable that has this gate, or none. A gate's operands get their numbers.
-fn node(numbers: &[u32], id: usize, variable: usize, gate: Option<Operands>) -> Option<AigNode>
-    ensures { result
-        ≡ option_map (node_of id) (kind_by (number_at numbers.now) (kind_in variable gate)) }
+/// Puts the node of a variable, which has this gate or none, behind the others. A gate's operands get their numbers.
+fn push_node(
+    new: &mut Vec<AigNode>,
+    numbers: &[u32],
+    variable: usize,
+    gate: Option<Operands>,
+) -> Result<(), OrderError>
+    ensures { MakesAll (λ _. new.new.items)
+        (option_map (λ kind. new.old.items ++ node_of (vec_len new.old) kind ∷ [])
+        (kind_by (number_at numbers.now) (kind_in variable gate))) result }
 {
     match gate {
         Some(operands) => {
-            let first = edge(numbers, edge_of(operands.first))?;
-            let second = edge(numbers, edge_of(operands.second))?;
-            Some(gate_node(id, first, second))
+            let Some(first) = edge(numbers, edge_of(operands.first)) else {
+                return Err(OrderError::Variable);
+            };
+            let Some(second) = edge(numbers, edge_of(operands.second)) else {
+                return Err(OrderError::Variable);
+            };
+            new.push(gate_node(new.len(), first, second))?;
         }
-        None if variable == 0 => Some(false_node()),
-        None => Some(leaf_node(id)),
+        None if variable == 0 => new.push(false_node())?,
+        None => new.push(leaf_node(new.len()))?,
     }
+    Ok(())
 }
 
 /// The nodes of the order's variables, with operands under their numbers.
@@ -43,10 +54,7 @@ pub fn nodes(
     let mut new = Vec::with_capacity(alloc, order.len())?;
     for variable in order {
         let variable = *variable as usize;
-        let Some(made) = node(numbers, new.len(), variable, gates[variable]) else {
-            return Err(OrderError::Variable);
-        };
-        new.push(made)?;
+        push_node(&mut new, numbers, variable, gates[variable])?;
     }
     Ok(new)
 }
