@@ -119,7 +119,8 @@ impl Aig {
         requires some { 1 ≤ limit }
         requires few { limit ≤ 2 ^ 31 }
         // The circuit is that of a file that is accepted.
-        ensures circuit { IfOk result (λ aig. (file : File) × (bytes : List ℕ) × Accepts bytes limit file × (aig ≡ circuit_of file)) }
+        ensures circuit { IfOk result (λ aig. (file : File) × (bytes : List ℕ)
+            × Accepts bytes limit file × (aig ≡ circuit_of file)) }
         // The limit is on its nodes.
         ensures few { IfOk result (λ aig. length aig.nodes ≤ limit) }
     {
@@ -135,11 +136,14 @@ impl Aig {
     pub fn write_text<W: Sink>(&self, w: &mut W) -> Result<(), WriteError>
         ensures tells { TellsOf self.now result }
         // All of the text was written, and the writer has not failed.
-        ensures ok { OnOk result (Appends (W.held w.old) (W.held w.new) (text_of self.now) × (W.failed w.new ≡ false)) }
+        ensures ok { OnOk result
+            (Appends (W.held w.old) (W.held w.new) (text_of self.now) × (W.failed w.new ≡ false)) }
         // What was written is read again, within any limit from the count of nodes up.
         ensures again { OnOk result (IsReadAgain self.now (file_of Text self.now)) }
         // A beginning of the text was written, and the writer has failed in this call.
-        ensures stream { IsErrOf result WriteError.Stream → AppendsBeginning (W.held w.old) (W.held w.new) (text_of self.now) × IsTrue (W.failed w.new) }
+        ensures stream { IsErrOf result WriteError.Stream
+            → AppendsBeginning (W.held w.old) (W.held w.new) (text_of self.now)
+            × IsTrue (W.failed w.new) }
         // Every other refusal comes before the first byte, and leaves the writer as it was.
         ensures kept { IfErr result (λ e. e ≢ WriteError.Stream → w.new ≡ w.old) }
         // No memory is asked for, and no file.
@@ -157,11 +161,15 @@ impl Aig {
     pub fn write_binary<W: Sink>(&self, w: &mut W) -> Result<(), WriteError>
         ensures tells { TellsOf self.now result }
         // All of the bytes were written, and the writer has not failed.
-        ensures ok { OnOk result (Appends (W.held w.old) (W.held w.new) (binary_of self.now) × (W.failed w.new ≡ false)) }
+        ensures ok { OnOk result (Appends (W.held w.old) (W.held w.new) (binary_of self.now)
+            × (W.failed w.new ≡ false)) }
         // What was written is read again as the re-encoded circuit, within any limit from the count of nodes up.
-        ensures again { OnOk result (IsReadAgain (reencoded self.now) (file_of Binary (reencoded self.now))) }
+        ensures again { OnOk result
+            (IsReadAgain (reencoded self.now) (file_of Binary (reencoded self.now))) }
         // A beginning of the bytes was written, and the writer has failed in this call.
-        ensures stream { IsErrOf result WriteError.Stream → AppendsBeginning (W.held w.old) (W.held w.new) (binary_of self.now) × IsTrue (W.failed w.new) }
+        ensures stream { IsErrOf result WriteError.Stream
+            → AppendsBeginning (W.held w.old) (W.held w.new) (binary_of self.now)
+            × IsTrue (W.failed w.new) }
         // Every other refusal comes before the first byte, and leaves the writer as it was.
         ensures kept { IfErr result (λ e. e ≢ WriteError.Stream → w.new ≡ w.old) }
         ensures never_open { IsErrOf result WriteError.Open → ⊥ }
@@ -189,7 +197,8 @@ impl Aig {
     /// The table of new numbers that a form is written through: none for the text form.
     fn form_numbers(&self, ascii: bool) -> Result<Vec<usize>, MemoryError>
         requires { IsClosed self.now }
-        ensures numbers { IfOk result (λ numbers. ascii ≡ false → IsBinaryNumbering self.now numbers.items) }
+        ensures numbers { IfOk result
+            (λ numbers. ascii ≡ false → IsBinaryNumbering self.now numbers.items) }
         ensures no_memory { ascii ≡ true → IsOk result }
     {
         if ascii {

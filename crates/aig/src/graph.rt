@@ -47,7 +47,8 @@ impl Model for Aig {
     ghost use Rattle.std.specs.FinMap as finite_map;
     ghost use Rattle.std.specs.Ordering.{nat_cmp};
 
-    ghost coded = { Prim.hlevel (codes, finite_map.code {R = nat_cmp} coded_ℕ (coded_list coded_ℕ)) };
+    ghost coded = { Prim.hlevel
+        (codes, finite_map.code {R = nat_cmp} coded_ℕ (coded_list coded_ℕ)) };
 
     ghost use Rattle.aig.specs.View.{held_circuit};
 
@@ -103,7 +104,8 @@ impl Aig {
     /// Adds a free leaf, and answers its number.
     pub fn new_leaf_node(&mut self) -> Result<usize, MemoryError>
         ensures number { IfOk result (λ id. id ≡ length self.old.nodes) }
-        ensures ok { OnOk result (self.new ≡ record self.old { nodes = with_node self.old.nodes Leaf }) }
+        ensures ok { OnOk result
+            (self.new ≡ record self.old { nodes = with_node self.old.nodes Leaf }) }
         ensures err { OnErr result (self.new ≡ self.old) }
     {
         build::new_leaf_node(&mut self.lists.nodes)
@@ -112,7 +114,8 @@ impl Aig {
     /// Adds a leaf that is an input, and answers its number.
     pub fn new_input(&mut self) -> Result<usize, MemoryError>
         ensures number { IfOk result (λ id. id ≡ length self.old.nodes) }
-        ensures ok { IfOk result (λ id. self.new ≡ record self.old { nodes = with_node self.old.nodes Leaf; inputs = self.old.inputs ++ id ∷ [] }) }
+        ensures ok { IfOk result (λ id. self.new ≡ record self.old
+            { nodes = with_node self.old.nodes Leaf; inputs = self.old.inputs ++ id ∷ [] }) }
         ensures err { OnErr result (self.new ≡ self.old) }
     {
         self.lists.inputs.reserve(1)?;
@@ -125,7 +128,8 @@ impl Aig {
     pub fn add_input(&mut self, id: usize) -> Result<(), MemoryError>
         requires leaf { IsLeaf self.old.nodes id }
         requires free { IsFree self.old.inputs self.old.latchs id }
-        ensures ok { OnOk result (self.new ≡ record self.old { inputs = self.old.inputs ++ id ∷ [] }) }
+        ensures ok { OnOk result
+            (self.new ≡ record self.old { inputs = self.old.inputs ++ id ∷ [] }) }
         ensures err { OnErr result (self.new ≡ self.old) }
     {
         self.lists.inputs.push(id)?;
@@ -138,7 +142,8 @@ impl Aig {
         requires next_edge { IsInRange self.old.nodes next }
         requires init_edge { IfSome init (IsInRange self.old.nodes) }
         ensures number { IfOk result (λ id. id ≡ length self.old.nodes) }
-        ensures ok { IfOk result (λ id. self.new ≡ record self.old { nodes = with_node self.old.nodes Leaf; latchs = self.old.latchs ++ record { input = id; next = next; init = init } ∷ [] }) }
+        ensures ok { IfOk result (λ id. self.new ≡ record self.old
+            { nodes = with_node self.old.nodes Leaf; latchs = self.old.latchs ++ record { input = id; next = next; init = init } ∷ [] }) }
         ensures err { OnErr result (self.new ≡ self.old) }
     {
         self.lists.latchs.reserve(1)?;
@@ -159,7 +164,8 @@ impl Aig {
         requires free { IsFree self.old.inputs self.old.latchs id }
         requires next_edge { IsInRange self.old.nodes next }
         requires init_edge { IfSome init (IsInRange self.old.nodes) }
-        ensures ok { OnOk result (self.new ≡ record self.old { latchs = self.old.latchs ++ record { input = id; next = next; init = init } ∷ [] }) }
+        ensures ok { OnOk result (self.new ≡ record self.old
+            { latchs = self.old.latchs ++ record { input = id; next = next; init = init } ∷ [] }) }
         ensures err { OnErr result (self.new ≡ self.old) }
     {
         self.lists.latchs.push(AigLatch::new(id, next, init))?;
@@ -288,7 +294,8 @@ impl Aig {
 
     /// Whether the node of this number is a leaf that is neither an input nor a latch's.
     pub fn is_free_leaf(&self, id: usize) -> bool
-        ensures { IsTrue result ↔ (IsLeaf self.now.nodes id × IsFree self.now.inputs self.now.latchs id) }
+        ensures { IsTrue result
+            ↔ (IsLeaf self.now.nodes id × IsFree self.now.inputs self.now.latchs id) }
     {
         leaves::is_free_leaf(
             &self.lists.nodes,

@@ -21,7 +21,8 @@ impl Aig {
     /// its next edge (crate aig, `coi`). Initial edges aren't followed. Requires `has_node` of each number.
     pub fn coi(&self, root: &[usize]) -> Result<HashSet<usize>, MemoryError>
         requires { All (λ n. n < length self.now.nodes) root.now }
-        ensures { IfOk result (λ cone. (n : ℕ) → Contains cone.keys n ↔ IsInCone self.now root.now n) }
+        ensures { IfOk result
+            (λ cone. (n : ℕ) → Contains cone.keys n ↔ IsInCone self.now root.now n) }
     {
         aig_cone::coi(self.allocator(), &self.view(), root)
     }
@@ -45,7 +46,8 @@ impl Aig {
     pub fn merge(&mut self, other: &Aig) -> Result<(), MemoryError>
         ensures exact { OnOk result (self.new ≡ merged self.old other.now) }
         // A run is a pair of runs, one of each circuit, and a start a pair of starts; edges keep their values.
-        ensures runs { OnOk result (PairsRuns self.old other.now self.new (shifted (length self.old.nodes))) }
+        ensures runs { OnOk result
+            (PairsRuns self.old other.now self.new (shifted (length self.old.nodes))) }
         ensures err { OnErr result (self.new ≡ self.old) }
     {
         aig_change::merge(&mut self.lists, &other.view())

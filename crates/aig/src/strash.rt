@@ -17,7 +17,8 @@ impl Aig {
     pub fn strash(&self) -> Result<Aig, MemoryError>
         ensures exact { IfOk result (λ made. made ≡ strashed self.now) }
         // The new number of a node is the count of kept nodes before its first, the least node with its tree.
-        ensures numbers { IfOk result (λ made. NumbersFirsts self.now.nodes (image_of self.now.nodes)) }
+        ensures numbers { IfOk result
+            (λ made. NumbersFirsts self.now.nodes (image_of self.now.nodes)) }
         // Kept nodes have their kinds and their names.
         ensures kept { IfOk result (λ made. KeepsFirsts self.now made (image_of self.now.nodes)) }
         // Gates share a node exactly where their trees are equal up to exchange, and each has its image's tree.

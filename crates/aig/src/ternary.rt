@@ -23,7 +23,8 @@ impl Aig {
     ) -> Result<Vec<Lbool>, MemoryError>
         requires inputs { length inputs.now ≡ length self.now.inputs }
         requires latchs { length latchs.now ≡ length self.now.latchs }
-        ensures { IfOk result (λ values. values.items ≡ three_values self.now (given_values self.now inputs.now latchs.now)) }
+        ensures { IfOk result (λ values. values.items
+            ≡ three_values self.now (given_values self.now inputs.now latchs.now)) }
     {
         aig_ternary::ternary_simulate(&self.view(), inputs, latchs)
     }
@@ -46,7 +47,8 @@ impl<'a> Model for TernarySimulate<'a> {
     ghost use Rattle.std.specs.FinMap as finite_map;
     ghost use Rattle.std.specs.Ordering.{nat_cmp};
 
-    ghost coded = { Prim.hlevel (codes, finite_map.code {R = nat_cmp} coded_ℕ (coded_list coded_ℕ)) };
+    ghost coded = { Prim.hlevel
+        (codes, finite_map.code {R = nat_cmp} coded_ℕ (coded_list coded_ℕ)) };
 
     ghost view = { λ s. s.simulator };
 }
@@ -98,7 +100,8 @@ impl<'a> TernarySimulate<'a> {
         inputs: Vec<Vec<Lbool>>,
         e: AigEdge,
     ) -> Result<Vec<Lbool>, MemoryError>
-        requires lengths { All (λ list. length list.items ≡ length self.old.circuit.inputs) inputs.items }
+        requires lengths { All (λ list. length list.items ≡ length self.old.circuit.inputs)
+            inputs.items }
         requires edge { IsInRange self.old.circuit.nodes e }
         // The three-valued value of the edge at each step.
         ensures values { IfOk result (λ answers.
@@ -108,7 +111,8 @@ impl<'a> TernarySimulate<'a> {
             IfOk result (λ answers.
             KnownValuesHold self.old.circuit e self.old.state steps answers.items) }
         // It leaves the values of the last step, and the state after it.
-        ensures ok { OnOk result (self.new ≡ stepped_all self.old (map (λ list. list.items) inputs.items)) }
+        ensures ok { OnOk result
+            (self.new ≡ stepped_all self.old (map (λ list. list.items) inputs.items)) }
         ensures err { OnErr result (self.new ≡ self.old) }
         ensures none { inputs.items ≡ [] → IsOk result }
     {

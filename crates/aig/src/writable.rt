@@ -41,7 +41,8 @@ fn input_has_line_feed(symbols: &HashMap<usize, String>, ids: &[usize]) -> bool
 
 /// Whether the leaf of one of the latches has a name that holds a line feed.
 fn latch_has_line_feed(symbols: &HashMap<usize, String>, latchs: &[AigLatch]) -> bool
-    ensures { IsTrue result ↔ Any (λ latch. HasLineFeed (names_of symbols.now.entries) latch.input) latchs.now }
+    ensures { IsTrue result
+        ↔ Any (λ latch. HasLineFeed (names_of symbols.now.entries) latch.input) latchs.now }
 {
     latchs
         .iter()

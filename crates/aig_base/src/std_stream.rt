@@ -55,8 +55,10 @@ impl<R: Read> Source for FromRead<R> {
 
     fn pull(&mut self, buf: &mut [u8]) -> Result<usize, StreamFault>
         ensures bound { IfOk result (λ n. n ≤ length buf.new) }
-        ensures moved { IfOk result (λ n. Consumes (⟦<FromRead<R> as Source>⟧.left self.old) (⟦<FromRead<R> as Source>⟧.left self.new) (take n buf.new)) }
-        ensures end { IfOk result (λ n. n ≡ 0 → 0 < length buf.new → IsAtEnd (⟦<FromRead<R> as Source>⟧.left self.new)) }
+        ensures moved { IfOk result (λ n. Consumes (⟦<FromRead<R> as Source>⟧.left self.old)
+            (⟦<FromRead<R> as Source>⟧.left self.new) (take n buf.new)) }
+        ensures end { IfOk result
+            (λ n. n ≡ 0 → 0 < length buf.new → IsAtEnd (⟦<FromRead<R> as Source>⟧.left self.new)) }
         ensures fewer { IfOk result (λ n. 0 < n → pulls_of self.new < pulls_of self.old) }
         ensures tells { read_failed self.new ≡ is_err result }
         ensures for_good { IsTrue (read_failed self.old) → IsErr result }

@@ -55,7 +55,8 @@ impl Source for Parts {
 
     fn pull(&mut self, buf: &mut [u8]) -> Result<usize, StreamFault>
         ensures bound { IfOk result (λ n. n ≤ length buf.new) }
-        ensures moved { IfOk result (λ n. Consumes (left_of self.old) (left_of self.new) (take n buf.new)) }
+        ensures moved { IfOk result
+            (λ n. Consumes (left_of self.old) (left_of self.new) (take n buf.new)) }
         ensures end { IfOk result (λ n. n ≡ 0 → 0 < length buf.new → IsAtEnd (left_of self.new)) }
         ensures fewer { IfOk result (λ n. 0 < n → left_count self.new < left_count self.old) }
         ensures tells { source_failed self.new ≡ is_err result }
@@ -66,9 +67,12 @@ impl Source for Parts {
         ensures counted { IfOk result (λ n. given_of self.new ≡ given_of self.old + n) }
 
         // It fails once it gave j bytes, never gives more, and fails for no other reason.
-        ensures within { IfOk result (λ n. ForSome (fails_after self.old) (λ j. given_of self.new ≤ j)) }
-        ensures spent { IsSomeAnd (fails_after self.old) (λ j. j ≤ given_of self.old) → IsErr result }
-        ensures reason { OnErr result (IsTrue (source_failed self.old) ⊎ IsSomeAnd (fails_after self.old) (λ j. j ≤ given_of self.old)) }
+        ensures within { IfOk result
+            (λ n. ForSome (fails_after self.old) (λ j. given_of self.new ≤ j)) }
+        ensures spent { IsSomeAnd (fails_after self.old) (λ j. j ≤ given_of self.old)
+            → IsErr result }
+        ensures reason { OnErr result (IsTrue (source_failed self.old)
+            ⊎ IsSomeAnd (fails_after self.old) (λ j. j ≤ given_of self.old)) }
         ensures same_most { most_given self.new ≡ most_given self.old }
         ensures same_limit { fails_after self.new ≡ fails_after self.old }
     {
@@ -141,7 +145,8 @@ impl Sink for Taker {
 
     fn put(&mut self, piece: &[u8]) -> Result<usize, StreamFault>
         ensures bound { IfOk result (λ n. n ≤ length piece.now) }
-        ensures moved { IfOk result (λ n. Appends (held_by self.old) (held_by self.new) (take n piece.now)) }
+        ensures moved { IfOk result
+            (λ n. Appends (held_by self.old) (held_by self.new) (take n piece.now)) }
         ensures some { IfOk result (λ n. n ≡ 0 → length piece.now ≡ 0) }
         ensures kept { OnErr result (Keeps (held_by self.old) (held_by self.new)) }
         ensures tells { sink_failed self.new ≡ is_err result }
@@ -153,7 +158,8 @@ impl Sink for Taker {
 
         // It fails at a byte past the j that it took, and for no other reason.
         ensures full { 0 < length piece.now → room_of self.old ≡ 0 → IsErr result }
-        ensures reason { OnErr result (IsTrue (sink_failed self.old) ⊎ (room_of self.old ≡ 0) × (0 < length piece.now)) }
+        ensures reason { OnErr result
+            (IsTrue (sink_failed self.old) ⊎ (room_of self.old ≡ 0) × (0 < length piece.now)) }
         ensures same_most { most_taken self.new ≡ most_taken self.old }
     {
         if self.failed || (self.room == 0 && !piece.is_empty()) {

@@ -81,7 +81,8 @@ pub(crate) fn sets(
 ) -> Result<Vec<Vec<AigEdge>>, MemoryError>
     requires bound { count + size < 2 ^ 64 }
     requires below { All (All (IsEdgeBelow size)) (map (λ set. set.items) old.now) }
-    ensures { IfOk result (λ new. map (λ set. set.items) new.items ≡ map (map (renumbered_edge (shifted count))) (map (λ set. set.items) old.now)) }
+    ensures { IfOk result (λ new. map (λ set. set.items) new.items
+        ≡ map (map (renumbered_edge (shifted count))) (map (λ set. set.items) old.now)) }
 {
     let mut new = Vec::with_capacity(alloc, old.len())?;
     for set in old {
@@ -123,7 +124,8 @@ fn node(count: usize, size: usize, id: usize, old: &AigNode) -> AigNode
     requires bound { count + size < 2 ^ 64 }
     requires operands { IfAnd old.now.typ (λ n. n < size) }
     requires number { old.now.typ ≡ False → id ≡ 0 }
-    ensures { result ≡ record { node_id = id; typ = renumbered_kind (shifted count) (Some old.now.typ) } }
+    ensures { result
+        ≡ record { node_id = id; typ = renumbered_kind (shifted count) (Some old.now.typ) } }
 {
     match *old.typ() {
         AigNodeType::And(fanin0, fanin1) => {
@@ -139,7 +141,8 @@ pub(crate) fn nodes(all: &mut Vec<AigNode>, added: &[AigNode])
     requires sound { AreNodes added.now }
     requires bound { length all.old.items + length added.now < 2 ^ 64 }
     requires room { vec_len all.old + length added.now ≤ vec_capacity all.old }
-    ensures { all.new.items ≡ all.old.items ++ nodes_in_order added.now (shifted (length all.old.items)) (length all.old.items) (numbers_but_0 added.now) }
+    ensures { all.new.items ≡ all.old.items ++ nodes_in_order added.now
+        (shifted (length all.old.items)) (length all.old.items) (numbers_but_0 added.now) }
 {
     let count = all.len();
     for i in 1..added.len() {

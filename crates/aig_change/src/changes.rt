@@ -21,7 +21,8 @@ use std::mem;
 /// `Err`, which is refused memory, the circuit is as it was.
 pub fn merge(first: &mut CircuitLists, other: &CircuitView<'_>) -> Result<(), MemoryError>
     requires { IsCircuit (lists_circuit first.old) }
-    ensures merged { IfOk result (λ _. lists_circuit first.new ≡ merged (lists_circuit first.old) other.now) }
+    ensures merged { IfOk result
+        (λ _. lists_circuit first.new ≡ merged (lists_circuit first.old) other.now) }
     ensures err { OnErr result (lists_circuit first.new ≡ lists_circuit first.old) }
 {
     let count = first.nodes.len();
@@ -65,7 +66,8 @@ pub fn aig_move(circuit: &CircuitView<'_>) -> Result<CircuitLists, MemoryError>
 pub fn compress_property(lists: &mut CircuitLists) -> Result<Vec<AigEdge>, MemoryError>
     requires { IsCircuit (lists_circuit lists.old) }
     ensures circuit { IsCircuit (lists_circuit lists.new) }
-    ensures compresses { IfOk result (λ _. CompressesBads (lists_circuit lists.old) (lists_circuit lists.new)) }
+    ensures compresses { IfOk result
+        (λ _. CompressesBads (lists_circuit lists.old) (lists_circuit lists.new)) }
     ensures old { IfOk result (λ bads. bads.items ≡ (lists_circuit lists.old).bads) }
     ensures err { OnErr result (lists_circuit lists.new ≡ lists_circuit lists.old) }
 {
@@ -82,7 +84,8 @@ pub fn compress_property(lists: &mut CircuitLists) -> Result<Vec<AigEdge>, Memor
 pub fn gate_init_to_constraint(lists: &mut CircuitLists) -> Result<(), MemoryError>
     requires { IsCircuit (lists_circuit lists.old) }
     ensures circuit { IsCircuit (lists_circuit lists.new) }
-    ensures starts { IfOk result (λ _. GatesStarts (lists_circuit lists.old) (lists_circuit lists.new)) }
+    ensures starts { IfOk result
+        (λ _. GatesStarts (lists_circuit lists.old) (lists_circuit lists.new)) }
     // Where there is nothing to change no memory is taken.
     ensures plain { All HasPlainInit (lists_circuit lists.old).latchs → IsOk result }
     ensures err { OnErr result (lists_circuit lists.new ≡ lists_circuit lists.old) }

@@ -21,7 +21,8 @@ pub(crate) fn join_first(
     requires next_edge { IsInRange nodes.old.items next }
     requires edges { All (IsInRange nodes.old.items) edges.old.items }
     ensures gates { IfOk result (λ _. AddsGates nodes.old.items nodes.new.items) }
-    ensures joins { IfOk result (λ _. JoinsFirst nodes.old.items nodes.new.items next edges.old.items edges.new.items) }
+    ensures joins { IfOk result
+        (λ _. JoinsFirst nodes.old.items nodes.new.items next edges.old.items edges.new.items) }
 {
     if edges.is_empty() {
         return Ok(());

@@ -6,12 +6,14 @@ ghost use Rattle.aig_change.specs.Merge.{PairsRuns, merged, shifted};
 
 /// Law: two circuits merged are a circuit.
 pub fn merging_is_circuit()
-    ensures { (first second : Circuit) → IsCircuit first → IsCircuit second → IsCircuit (merged first second) }
+    ensures { (first second : Circuit) → IsCircuit first → IsCircuit second
+        → IsCircuit (merged first second) }
 {}
 
 /// Law: a run of two circuits merged is a pair of runs, and a start a pair of starts.
 pub fn merging_pairs_runs()
-    ensures { (first second : Circuit) → IsCircuit first → IsCircuit second → PairsRuns first second (merged first second) (shifted (length first.nodes)) }
+    ensures { (first second : Circuit) → IsCircuit first → IsCircuit second
+        → PairsRuns first second (merged first second) (shifted (length first.nodes)) }
 {}
 
 /// Law: the circuit of the false node alone adds nothing.

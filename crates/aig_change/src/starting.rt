@@ -50,7 +50,8 @@ fn constrain(
     requires first_edge { IsInRange nodes.old.items first }
     requires latch { IsLatch nodes.old.items latch }
     ensures gates { AddsGates nodes.old.items nodes.new.items }
-    ensures constrains { IfOk result (λ _. Constrains nodes.old.items nodes.new.items first (latch ∷ []) constraints.old.items constraints.new.items) }
+    ensures constrains { IfOk result (λ _. Constrains nodes.old.items nodes.new.items first
+        (latch ∷ []) constraints.old.items constraints.new.items) }
     ensures err { OnErr result (constraints.new.items ≡ constraints.old.items) }
 {
     if let Some(start) = latch.init() {
@@ -75,8 +76,10 @@ fn constrain_all(
     requires first_edge { IsInRange nodes.old.items first }
     requires latchs { All (IsLatch nodes.old.items) latchs.now }
     ensures gates { AddsGates nodes.old.items nodes.new.items }
-    ensures constrains { IfOk result (λ _. Constrains nodes.old.items nodes.new.items first latchs.now constraints.old.items constraints.new.items) }
-    ensures kept { take (length constraints.old.items) constraints.new.items ≡ constraints.old.items }
+    ensures constrains { IfOk result (λ _. Constrains nodes.old.items nodes.new.items first
+        latchs.now constraints.old.items constraints.new.items) }
+    ensures kept { take (length constraints.old.items) constraints.new.items
+        ≡ constraints.old.items }
 {
     for latch in latchs {
         constrain(nodes, constraints, first, *latch)?;
@@ -95,8 +98,11 @@ pub(crate) fn constrain_starts(
     requires latchs { All (IsLatch nodes.old.items) latchs.now }
     ensures leaf { IfOk result (λ leaf. leaf ≡ length nodes.old.items) }
     ensures gates { IfOk result (λ _. AddsGates (with_node nodes.old.items Leaf) nodes.new.items) }
-    ensures constrains { IfOk result (λ leaf. Constrains (with_node nodes.old.items Leaf) nodes.new.items (edge_to leaf false) latchs.now constraints.old.items constraints.new.items) }
-    ensures err { OnErr result ((nodes.new.items ≡ nodes.old.items) × (constraints.new.items ≡ constraints.old.items)) }
+    ensures constrains { IfOk result
+        (λ leaf. Constrains (with_node nodes.old.items Leaf) nodes.new.items
+        (edge_to leaf false) latchs.now constraints.old.items constraints.new.items) }
+    ensures err { OnErr result
+        ((nodes.new.items ≡ nodes.old.items) × (constraints.new.items ≡ constraints.old.items)) }
 {
     let count = nodes.len();
     let before = constraints.len();

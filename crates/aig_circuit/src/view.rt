@@ -51,7 +51,8 @@ impl<'a> Model for CircuitView<'a> {
     ghost use Rattle.std.specs.FinMap as finite_map;
     ghost use Rattle.std.specs.Ordering.{nat_cmp};
 
-    ghost coded = { Prim.hlevel (codes, finite_map.code {R = nat_cmp} coded_ℕ (coded_list coded_ℕ)) };
+    ghost coded = { Prim.hlevel
+        (codes, finite_map.code {R = nat_cmp} coded_ℕ (coded_list coded_ℕ)) };
 
     ghost use Rattle.aig_circuit.specs.View.{lists_circuit};
 

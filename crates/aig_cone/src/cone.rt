@@ -51,7 +51,8 @@ fn mark_operands(marks: &mut [bool], nodes: &[AigNode], id: usize)
     requires sound { AreNodes nodes.now }
     requires lengths { length marks.old ≡ length nodes.now }
     requires there { id < length nodes.now }
-    ensures { MarksAlso marks.old marks.new (λ n. IsMarked marks.old id × IsOperand nodes.now id n) }
+    ensures { MarksAlso marks.old marks.new
+        (λ n. IsMarked marks.old id × IsOperand nodes.now id n) }
 {
     if marks[id]
         && let AigNodeType::And(fanin0, fanin1) = *nodes[id].typ()
@@ -70,7 +71,8 @@ pub fn coi(
     root: &[usize],
 ) -> Result<HashSet<usize>, MemoryError>
     requires there { All (λ n. n < length circuit.now.nodes) root.now }
-    ensures { IfOk result (λ cone. (n : ℕ) → Contains cone.keys n ↔ IsInCone circuit.now root.now n) }
+    ensures { IfOk result
+        (λ cone. (n : ℕ) → Contains cone.keys n ↔ IsInCone circuit.now root.now n) }
 {
     let marks = cone_marks(alloc, circuit, root)?;
     marked_set(alloc, &marks)

@@ -6,7 +6,8 @@ ghost use Rattle.aig_cone.specs.Refine.{AreKept, CutsRuns, all_numbers, refined}
 
 /// Law: the refined circuit is a circuit.
 pub fn refining_is_circuit()
-    ensures { (c : Circuit) (kept : List ℕ) → IsCircuit c → AreKept c kept → IsCircuit (refined kept c) }
+    ensures { (c : Circuit) (kept : List ℕ) → IsCircuit c → AreKept c kept
+        → IsCircuit (refined kept c) }
 {}
 
 /// Law: its runs are those of the old circuit, cut to the kept leaves.

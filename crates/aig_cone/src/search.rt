@@ -111,7 +111,8 @@ fn visit_next(
     id: usize,
 ) -> Result<(), MemoryError>
     requires there { id < length next_states.now }
-    requires within { (m : ℕ) → slice_index_or next_states.now id None ≡ Some m → m < length marks.old }
+    requires within { (m : ℕ) → slice_index_or next_states.now id None ≡ Some m
+        → m < length marks.old }
     ensures { OnOk result (Visits marks.old marks.new stack.old.items stack.new.items
         (λ m. slice_index_or next_states.now id None ≡ Some m)) }
 {

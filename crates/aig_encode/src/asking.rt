@@ -28,14 +28,17 @@ pub fn query<R: Source>(
     requires some { 1 ≤ limit }
     requires few { limit ≤ 2 ^ 31 }
     // The bytes that were read are a file within the limit, and that file is encoded and asked for.
-    ensures answer { IfOk result (IsOfFile (IsWithin limit k) (IsQuery k optimize) (R.left r.old) (R.left r.new)) }
+    ensures answer { IfOk result
+        (IsOfFile (IsWithin limit k) (IsQuery k optimize) (R.left r.old) (R.left r.new)) }
     // Memory and stream aside, there is an answer exactly where the bytes are such a file, and TooMany and TooLarge
     // come exactly where they apply.
     ensures exact { IfSome (R.left r.old) (λ bytes.
         UnlessInterrupted result (AnswersExactly (IsQuery k optimize) limit k result bytes)) }
     // Memory comes only after a file within the limit was read, and TooLarge only after one beyond it.
-    ensures memory { IsErrOf result EncodeError.Memory → TookFile (IsWithin limit k) (R.left r.old) (R.left r.new) }
-    ensures large { IsErrOf result EncodeError.TooLarge → TookFile (IsBeyond limit k) (R.left r.old) (R.left r.new) }
+    ensures memory { IsErrOf result EncodeError.Memory
+        → TookFile (IsWithin limit k) (R.left r.old) (R.left r.new) }
+    ensures large { IsErrOf result EncodeError.TooLarge
+        → TookFile (IsBeyond limit k) (R.left r.old) (R.left r.new) }
     // Unless the bytes were refused, no read failed and the stream was read to its end.
     ensures whole { PassesReading result → (R.failed r.new ≡ false) × IsAtEnd (R.left r.new) }
     // Stream only where a read failed in this call.

@@ -39,14 +39,17 @@ pub fn encode<R: Source>(
     requires some { 1 ≤ limit }
     requires few { limit ≤ 2 ^ 31 }
     // The bytes that were read are a file within the limit, and that file is encoded.
-    ensures answer { IfOk result (IsOfFile (IsWithin limit k) (IsEncoding k optimize) (R.left r.old) (R.left r.new)) }
+    ensures answer { IfOk result
+        (IsOfFile (IsWithin limit k) (IsEncoding k optimize) (R.left r.old) (R.left r.new)) }
     // Memory and stream aside, there is an answer exactly where the bytes are such a file, and TooMany and TooLarge
     // come exactly where they apply.
     ensures exact { IfSome (R.left r.old) (λ bytes.
         UnlessInterrupted result (AnswersExactly (IsEncoding k optimize) limit k result bytes)) }
     // Memory comes only after a file within the limit was read, and TooLarge only after one beyond it.
-    ensures memory { IsErrOf result EncodeError.Memory → TookFile (IsWithin limit k) (R.left r.old) (R.left r.new) }
-    ensures large { IsErrOf result EncodeError.TooLarge → TookFile (IsBeyond limit k) (R.left r.old) (R.left r.new) }
+    ensures memory { IsErrOf result EncodeError.Memory
+        → TookFile (IsWithin limit k) (R.left r.old) (R.left r.new) }
+    ensures large { IsErrOf result EncodeError.TooLarge
+        → TookFile (IsBeyond limit k) (R.left r.old) (R.left r.new) }
     // Unless the bytes were refused, no read failed and the stream was read to its end.
     ensures whole { PassesReading result → (R.failed r.new ≡ false) × IsAtEnd (R.left r.new) }
     // Stream only where a read failed in this call.
@@ -67,9 +70,11 @@ fn encode_circuit(
     requires few { limit ≤ 2 ^ 31 }
     ensures circuit { IfOk result (λ encoded. encoded.circuit ≡ circuit) }
     ensures steps { IfOk result (λ encoded. UnrollsTo circuit k encoded.unrolled) }
-    ensures clauses { IfOk result (λ encoded. HasClauses encoded.unrolled optimize encoded.clauses) }
+    ensures clauses { IfOk result
+        (λ encoded. HasClauses encoded.unrolled optimize encoded.clauses) }
     ensures fixes { IfOk result (λ encoded. FixesRoots encoded.unrolled encoded.clauses) }
-    ensures satisfied { IfOk result (λ encoded. NodeValuesSatisfy encoded.unrolled encoded.clauses) }
+    ensures satisfied { IfOk result
+        (λ encoded. NodeValuesSatisfy encoded.unrolled encoded.clauses) }
     ensures large { IsErrOf result EncodeError.TooLarge ↔ (limit < unrolled_size circuit k) }
     ensures err { IfErr result (λ e. (e ≡ EncodeError.Memory) ⊎ (e ≡ EncodeError.TooLarge)) }
 {

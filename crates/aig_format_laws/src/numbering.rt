@@ -35,6 +35,7 @@ pub fn numbers_follow_levels()
     ensures each { (f : File) (limit n : ℕ) → Fits f limit → n < length (circuit_of f).nodes
         → (v : ℕ) × IsTrue (is_known f v) × (number_of f v ≡ n) }
     ensures older { (f : File) (v : ℕ) → FitsOlder f → v ≤ f.greatest → number_of f v ≡ v }
-    ensures newer { (f : File) (limit u v : ℕ) → Fits f limit → ¬ FitsOlder f → IsTrue (is_defined f u)
-        → IsTrue (is_defined f v) → ComesFirst f u v → number_of f u < number_of f v }
+    ensures newer { (f : File) (limit u v : ℕ) → Fits f limit → ¬ FitsOlder f
+        → IsTrue (is_defined f u) → IsTrue (is_defined f v) → ComesFirst f u v
+        → number_of f u < number_of f v }
 {}

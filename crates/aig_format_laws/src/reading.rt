@@ -23,19 +23,22 @@ pub fn files_are_circuits()
     ensures within { (f : File) (limit : ℕ) → Fits f limit → length (circuit_of f).nodes ≤ limit }
     ensures known { (f : File) (limit : ℕ) → Fits f limit → AllByRecursion (IsKnown f) (used f) }
     ensures texts { (f : File) (limit : ℕ) → Fits f limit → AreTexts (circuit_of f).names }
-    ensures writable { (f : File) (limit : ℕ) (bytes : List ℕ) → limit ≤ 2 ^ 31 → Accepts bytes limit f
-        → IsWritable (circuit_of f) }
+    ensures writable { (f : File) (limit : ℕ) (bytes : List ℕ) → limit ≤ 2 ^ 31
+        → Accepts bytes limit f → IsWritable (circuit_of f) }
 {}
 
 /// Law: each run of the machine has leaf values that are a run of the circuit, whose nodes have the variables' values; the
 /// values that each run of the circuit gives the nodes of the variables are a run of the machine; starts are starts; and a
 /// literal has the value of its edge.
 pub fn joins_runs()
-    ensures forth { (f : File) (limit last : ℕ) (run : ℕ → ℕ → Bool) → Fits f limit → machine.IsRun f last run
+    ensures forth { (f : File) (limit last : ℕ) (run : ℕ → ℕ → Bool)
+        → Fits f limit → machine.IsRun f last run
         → (x : ℕ → ℕ → Bool) × IsRun (circuit_of f) last x × HasNodeValues f last x run }
-    ensures back { (f : File) (limit last : ℕ) (x : ℕ → ℕ → Bool) → Fits f limit → IsRun (circuit_of f) last x
+    ensures back { (f : File) (limit last : ℕ) (x : ℕ → ℕ → Bool)
+        → Fits f limit → IsRun (circuit_of f) last x
         → machine.IsRun f last (values_over f x) }
-    ensures starts { (f : File) (limit last : ℕ) (x run : ℕ → ℕ → Bool) → Fits f limit → HasNodeValues f last x run
+    ensures starts { (f : File) (limit last : ℕ) (x run : ℕ → ℕ → Bool)
+        → Fits f limit → HasNodeValues f last x run
         → machine.IsStart f run ↔ IsStart (circuit_of f) (x 0) }
     ensures literals { (f : File) (last : ℕ) (x run : ℕ → ℕ → Bool) → HasNodeValues f last x run
         → (t e : ℕ) → t ≤ last → IsKnown f e

@@ -22,8 +22,10 @@ pub trait ByteFeed {
 
     /// The next byte, or none at the end.
     fn next(&mut self) -> Result<Option<u8>, StreamFault>
-        ensures byte { IfOk result (λ o. Consumes (coming self.old) (coming self.new) (option_to_list o)) }
-        ensures end { IfOk result (λ o. o ≡ None → IsAtEnd (coming self.new) × (failed self.new ≡ false)) }
+        ensures byte { IfOk result
+            (λ o. Consumes (coming self.old) (coming self.new) (option_to_list o)) }
+        ensures end { IfOk result
+            (λ o. o ≡ None → IsAtEnd (coming self.new) × (failed self.new ≡ false)) }
         ensures err { OnErr result (failed self.new ≡ true) }
         ensures fewer { IfOk result (λ o. OnSome o (turns self.new < turns self.old)) }
         ensures same { behind self.new ≡ behind self.old };
@@ -48,7 +50,8 @@ impl<'a, R: Source> Buffered<'a, R> {
     /// Reads `source` from where it is, through `window`, whose bytes are overwritten. Asks that it has `WINDOW_SIZE` bytes.
     pub fn new(source: &'a mut R, window: &'a mut [u8]) -> Self
         requires { length window.old ≡ WINDOW_SIZE }
-        ensures bytes { coming_of result.window.now result.at result.end (R.left result.source.now) ≡ R.left source.entry.now }
+        ensures bytes { coming_of result.window.now result.at result.end (R.left result.source.now)
+            ≡ R.left source.entry.now }
         ensures same { result.source.ghost_name ≡ source.entry.ghost_name }
     {
         Buffered {

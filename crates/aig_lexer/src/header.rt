@@ -43,7 +43,8 @@ pub struct Header {
 ///
 /// Answers `Shape` where the bytes are no such line, or end in it, and `Stream` where a read failed.
 pub fn header_line<F: ByteFeed>(f: &mut F) -> Result<Header, LexError>
-    ensures exact { Gives OnShape (λ h. (h.kind, numbers_of h)) (F.coming f.old) (F.coming f.new) result header_at }
+    ensures exact { Gives OnShape (λ h. (h.kind, numbers_of h))
+        (F.coming f.old) (F.coming f.new) result header_at }
     ensures stream { IsErrOf result LexError.Stream → F.failed f.new ≡ true }
     ensures same { F.behind f.new ≡ F.behind f.old }
     ensures fewer { OnOk result (F.turns f.new < F.turns f.old) }
@@ -89,7 +90,8 @@ fn kind_word<F: ByteFeed>(f: &mut F) -> Result<FileKind, LexError>
 
 /// Reads the byte that tells the kind.
 fn kind_byte<F: ByteFeed>(f: &mut F) -> Result<FileKind, LexError>
-    ensures exact { Gives OnShape (λ kind. kind) (F.coming f.old) (F.coming f.new) result kind_byte_at }
+    ensures exact { Gives OnShape (λ kind. kind)
+        (F.coming f.old) (F.coming f.new) result kind_byte_at }
     ensures stream { IsErrOf result LexError.Stream → F.failed f.new ≡ true }
     ensures same { F.behind f.new ≡ F.behind f.old }
     ensures fewer { OnOk result (F.turns f.new < F.turns f.old) }
@@ -109,7 +111,8 @@ const MOST: usize = 9;
 
 /// Reads a line of five to nine numbers; those that are not written are 0.
 fn header_numbers<F: ByteFeed>(f: &mut F) -> Result<[u32; MOST], LexError>
-    ensures exact { Gives OnShape header_from (F.coming f.old) (F.coming f.new) result header_numbers_at }
+    ensures exact { Gives OnShape header_from
+        (F.coming f.old) (F.coming f.new) result header_numbers_at }
     ensures stream { IsErrOf result LexError.Stream → F.failed f.new ≡ true }
     ensures same { F.behind f.new ≡ F.behind f.old }
     ensures fewer { OnOk result (F.turns f.new < F.turns f.old) }

@@ -12,7 +12,8 @@ use crate::feed::ByteFeed;
 
 /// Reads this byte.
 pub(crate) fn expect<F: ByteFeed>(f: &mut F, byte: u8) -> Result<(), LexError>
-    ensures exact { Gives OnShape (λ _. byte) (F.coming f.old) (F.coming f.new) result (expect_at byte) }
+    ensures exact { Gives OnShape (λ _. byte)
+        (F.coming f.old) (F.coming f.new) result (expect_at byte) }
     ensures stream { IsErrOf result LexError.Stream → F.failed f.new ≡ true }
     ensures same { F.behind f.new ≡ F.behind f.old }
     ensures fewer { OnOk result (F.turns f.new < F.turns f.old) }
@@ -28,7 +29,8 @@ pub(crate) fn expect<F: ByteFeed>(f: &mut F, byte: u8) -> Result<(), LexError>
 /// A number is one or more decimal digits (AIGER format 20071012, "Header"); zeros may lead, and its value is below 2^32.
 /// Answers `Shape` where there is no such number, or the bytes end in it, and `Stream` where a read failed.
 pub fn number_from<F: ByteFeed>(f: &mut F, first: u8) -> Result<(u32, u8), LexError>
-    ensures exact { Gives OnShape (λ x. (x.0, x.1)) (F.coming f.old) (F.coming f.new) result (number_from_at first) }
+    ensures exact { Gives OnShape (λ x. (x.0, x.1))
+        (F.coming f.old) (F.coming f.new) result (number_from_at first) }
     ensures stream { IsErrOf result LexError.Stream → F.failed f.new ≡ true }
     ensures same { F.behind f.new ≡ F.behind f.old }
     ensures fewer { OnOk result (F.turns f.new < F.turns f.old) }
@@ -51,7 +53,8 @@ pub fn number_from<F: ByteFeed>(f: &mut F, first: u8) -> Result<(u32, u8), LexEr
 
 /// Reads a number as `number_from` does, its first byte included: its value, and the byte that ends it.
 pub(crate) fn number<F: ByteFeed>(f: &mut F) -> Result<(u32, u8), LexError>
-    ensures exact { Gives OnShape (λ x. (x.0, x.1)) (F.coming f.old) (F.coming f.new) result number_at }
+    ensures exact { Gives OnShape (λ x. (x.0, x.1))
+        (F.coming f.old) (F.coming f.new) result number_at }
     ensures stream { IsErrOf result LexError.Stream → F.failed f.new ≡ true }
     ensures same { F.behind f.new ≡ F.behind f.old }
     ensures fewer { OnOk result (F.turns f.new < F.turns f.old) }
@@ -83,7 +86,8 @@ pub fn ended<F: ByteFeed>(f: &mut F, end: u8) -> Result<u32, LexError>
 ///
 /// Answers `Shape` where there is no such line, and `Stream` where a read failed.
 pub fn pair<F: ByteFeed>(f: &mut F) -> Result<(u32, u32), LexError>
-    ensures exact { Gives OnShape (λ x. (x.0, x.1)) (F.coming f.old) (F.coming f.new) result pair_at }
+    ensures exact { Gives OnShape (λ x. (x.0, x.1))
+        (F.coming f.old) (F.coming f.new) result pair_at }
     ensures stream { IsErrOf result LexError.Stream → F.failed f.new ≡ true }
     ensures same { F.behind f.new ≡ F.behind f.old }
     ensures fewer { OnOk result (F.turns f.new < F.turns f.old) }
@@ -99,7 +103,8 @@ pub fn pair<F: ByteFeed>(f: &mut F) -> Result<(u32, u32), LexError>
 /// Answers `Shape` where there is no such line, and `Stream` where a read failed. Which resets a latch may have is not
 /// tested here.
 pub fn next_line<F: ByteFeed>(f: &mut F) -> Result<(u32, Option<u32>), LexError>
-    ensures exact { Gives OnShape (λ x. (x.0, x.1)) (F.coming f.old) (F.coming f.new) result next_at }
+    ensures exact { Gives OnShape (λ x. (x.0, x.1))
+        (F.coming f.old) (F.coming f.new) result next_at }
     ensures stream { IsErrOf result LexError.Stream → F.failed f.new ≡ true }
     ensures same { F.behind f.new ≡ F.behind f.old }
     ensures fewer { OnOk result (F.turns f.new < F.turns f.old) }
@@ -149,7 +154,8 @@ pub fn delta<F: ByteFeed>(f: &mut F) -> Result<u32, LexError>
 
 /// Reads the bytes of a word.
 pub(crate) fn word<F: ByteFeed>(f: &mut F, text: &[u8]) -> Result<(), LexError>
-    ensures exact { Gives OnShape (λ _. tt {0}) (F.coming f.old) (F.coming f.new) result (word_at text.now) }
+    ensures exact { Gives OnShape (λ _. tt {0})
+        (F.coming f.old) (F.coming f.new) result (word_at text.now) }
     ensures stream { IsErrOf result LexError.Stream → F.failed f.new ≡ true }
     ensures same { F.behind f.new ≡ F.behind f.old }
     ensures fewer { OnOk result (F.turns f.new + length text.now ≤ F.turns f.old) }

@@ -29,7 +29,8 @@ pub fn edge(numbers: &[u32], e: AigEdge) -> Option<AigEdge>
 
 /// The edges to the numbers of their variables.
 pub fn edges(alloc: Global, numbers: &[u32], old: &[AigEdge]) -> Result<Vec<AigEdge>, OrderError>
-    ensures { MakesAll (λ new. new.items) (all_by (edge_by (number_at numbers.now)) old.now) result }
+    ensures { MakesAll (λ new. new.items)
+        (all_by (edge_by (number_at numbers.now)) old.now) result }
 {
     let mut new = Vec::with_capacity(alloc, old.len())?;
     for e in old {
@@ -47,7 +48,9 @@ pub fn sets(
     numbers: &[u32],
     old: &[Vec<AigEdge>],
 ) -> Result<Vec<Vec<AigEdge>>, OrderError>
-    ensures { MakesAll (λ new. map (λ set. set.items) new.items) (all_by (all_by (edge_by (number_at numbers.now))) (map (λ set. set.items) old.now)) result }
+    ensures { MakesAll (λ new. map (λ set. set.items) new.items)
+        (all_by (all_by (edge_by (number_at numbers.now))) (map (λ set. set.items) old.now))
+        result }
 {
     let mut new = Vec::with_capacity(alloc, old.len())?;
     for set in old {
@@ -82,7 +85,8 @@ fn latch(numbers: &[u32], old: AigLatch) -> Option<AigLatch>
 
 /// The latches with the numbers of their leaves, and their next edges to the numbers of their variables.
 pub fn latchs(alloc: Global, numbers: &[u32], old: &[AigLatch]) -> Result<Vec<AigLatch>, OrderError>
-    ensures { MakesAll (λ new. new.items) (all_by (latch_by (number_at numbers.now)) old.now) result }
+    ensures { MakesAll (λ new. new.items)
+        (all_by (latch_by (number_at numbers.now)) old.now) result }
 {
     let mut new = Vec::with_capacity(alloc, old.len())?;
     for l in old {

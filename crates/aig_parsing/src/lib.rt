@@ -24,11 +24,14 @@ pub fn writes_spelled()
 
 /// Whether a header line is good and passes the limit can be read from the front.
 pub fn tells_too_many()
-    ensures { (bytes : List ℕ) (limit : ℕ) → (too_many_at limit bytes ≡ true) ↔ TooMany bytes limit }
+    ensures { (bytes : List ℕ) (limit : ℕ)
+        → (too_many_at limit bytes ≡ true) ↔ TooMany bytes limit }
 {}
 
 /// What is read with each line tested beside those before it is accepted, and what is accepted is read.
 pub fn reads_fitting()
-    ensures sound { (limit : ℕ) (bytes : List ℕ) (f : File) → fitting_at limit bytes ≡ Some f → Accepts bytes limit f }
-    ensures complete { (limit : ℕ) (bytes : List ℕ) (f : File) → Accepts bytes limit f → fitting_at limit bytes ≡ Some f }
+    ensures sound { (limit : ℕ) (bytes : List ℕ) (f : File) → fitting_at limit bytes ≡ Some f
+        → Accepts bytes limit f }
+    ensures complete { (limit : ℕ) (bytes : List ℕ) (f : File) → Accepts bytes limit f
+        → fitting_at limit bytes ≡ Some f }
 {}

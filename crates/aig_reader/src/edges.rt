@@ -27,7 +27,8 @@ pub fn edge_within(greatest: u32, literal: u32) -> Result<AigEdge, LineError>
 
 /// Reads a line of one literal.
 fn edge_line<F: ByteFeed>(f: &mut F, greatest: u32) -> Result<AigEdge, LineError>
-    ensures exact { Makes OnLine (λ edge literal. edge ≡ edge_from literal) (F.coming f.old) (F.coming f.new) result (tested_at (ended_at 10) (is_literal greatest)) }
+    ensures exact { Makes OnLine (λ edge literal. edge ≡ edge_from literal)
+        (F.coming f.old) (F.coming f.new) result (tested_at (ended_at 10) (is_literal greatest)) }
     ensures stream { IsErrOf result LineError.Stream → F.failed f.new ≡ true }
     ensures same { F.behind f.new ≡ F.behind f.old }
 {
@@ -42,7 +43,8 @@ pub fn read_edges<F: ByteFeed>(
     count: u32,
     greatest: u32,
 ) -> Result<Vec<AigEdge>, LineError>
-    ensures exact { Makes OnLine (λ edges literals. edges.items ≡ map edge_from literals) (F.coming f.old) (F.coming f.new) result (literals_at greatest count) }
+    ensures exact { Makes OnLine (λ edges literals. edges.items ≡ map edge_from literals)
+        (F.coming f.old) (F.coming f.new) result (literals_at greatest count) }
     ensures stream { IsErrOf result LineError.Stream → F.failed f.new ≡ true }
     ensures same { F.behind f.new ≡ F.behind f.old }
 {

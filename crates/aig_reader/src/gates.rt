@@ -21,7 +21,8 @@ use std::alloc::Global;
 
 /// Reads two differences: from a gate's literal to its first operand, and from this to its second.
 fn differences<F: ByteFeed>(f: &mut F, lhs: u32) -> Result<(u32, u32), LexError>
-    ensures exact { Gives OnShape (λ x. (x.0, x.1)) (F.coming f.old) (F.coming f.new) result (operands_at Binary lhs) }
+    ensures exact { Gives OnShape (λ x. (x.0, x.1))
+        (F.coming f.old) (F.coming f.new) result (operands_at Binary lhs) }
     ensures stream { IsErrOf result LexError.Stream → F.failed f.new ≡ true }
     ensures same { F.behind f.new ≡ F.behind f.old }
 {
@@ -35,7 +36,8 @@ fn differences<F: ByteFeed>(f: &mut F, lhs: u32) -> Result<(u32, u32), LexError>
 
 /// Reads the operands of the gate that defines this literal.
 fn operands<F: ByteFeed>(f: &mut F, variables: &Variables, lhs: u32) -> Result<(u32, u32), LexError>
-    ensures exact { Gives OnShape (λ x. (x.0, x.1)) (F.coming f.old) (F.coming f.new) result (operands_at (kind_by variables.now) lhs) }
+    ensures exact { Gives OnShape (λ x. (x.0, x.1))
+        (F.coming f.old) (F.coming f.new) result (operands_at (kind_by variables.now) lhs) }
     ensures stream { IsErrOf result LexError.Stream → F.failed f.new ≡ true }
     ensures same { F.behind f.new ≡ F.behind f.old }
 {
@@ -66,14 +68,20 @@ fn gate_line<F: ByteFeed>(
     variables: &mut Variables,
     gates: &mut Gates,
 ) -> Result<(), LineError>
-    requires space { (size : ℕ) × (size ≤ 2 ^ 31) × HasRoom size variables.old 1 × HasSpace size gates.old }
-    requires gates { (greatest : ℕ) × (leaves : List ℕ) × (before : List GateLine) × AreGates greatest leaves before variables.old gates.old }
+    requires space { (size : ℕ) × (size ≤ 2 ^ 31) × HasRoom size variables.old 1
+        × HasSpace size gates.old }
+    requires gates { (greatest : ℕ) × (leaves : List ℕ) × (before : List GateLine)
+        × AreGates greatest leaves before variables.old gates.old }
     ensures exact { (greatest : ℕ) (leaves : List ℕ) (before : List GateLine)
         → AreGates greatest leaves before variables.old gates.old
-        → Makes OnLine (λ _ gate. AreGates greatest leaves (before ++ gate ∷ []) variables.new gates.new)
-        (F.coming f.old) (F.coming f.new) result (gate_at (kind_by variables.old) greatest leaves before) }
-    ensures space { IfOk result (λ _. (size : ℕ) → HasRoom size variables.old 1 → HasSpace size gates.old → HasSpace size gates.new) }
-    ensures room { IfOk result (λ _. (size k : ℕ) → HasRoom size variables.old (k + 1) → HasRoom size variables.new k) }
+        → Makes OnLine
+        (λ _ gate. AreGates greatest leaves (before ++ gate ∷ []) variables.new gates.new)
+        (F.coming f.old) (F.coming f.new) result
+        (gate_at (kind_by variables.old) greatest leaves before) }
+    ensures space { IfOk result (λ _. (size : ℕ) → HasRoom size variables.old 1
+        → HasSpace size gates.old → HasSpace size gates.new) }
+    ensures room { IfOk result
+        (λ _. (size k : ℕ) → HasRoom size variables.old (k + 1) → HasRoom size variables.new k) }
     ensures kind { kind_by variables.new ≡ kind_by variables.old }
     ensures stream { IsErrOf result LineError.Stream → F.failed f.new ≡ true }
     ensures same { F.behind f.new ≡ F.behind f.old }

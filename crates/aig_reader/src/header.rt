@@ -15,7 +15,8 @@ use aig_lexer::{ByteFeed, FileKind, Header, header_line};
 /// file has none but those.
 fn has_enough(header: Header) -> bool
     ensures good { result ≡ is_good header.kind (numbers_of header) }
-    ensures enough { result ≡ true → header.inputs + header.latches + header.gates ≤ header.greatest }
+    ensures enough { result ≡ true
+        → header.inputs + header.latches + header.gates ≤ header.greatest }
 {
     let defined = header.inputs as u64 + header.latches as u64 + header.gates as u64;
     match header.kind {
@@ -26,8 +27,10 @@ fn has_enough(header: Header) -> bool
 
 /// Reads the header line, which is good, and within the limit of `limit` variables, the false one counted.
 pub fn read_header<F: ByteFeed>(f: &mut F, limit: usize) -> Result<Header, ReadError>
-    ensures exact { Gives OnRefusal (λ h. (h.kind, numbers_of h)) (F.coming f.old) (F.coming f.new) result (fitting_header_at limit) }
-    ensures too_many { IfSome (F.coming f.old) (λ bytes. UnlessInterrupted result (IsErrOf result ReadError.TooMany ↔ (too_many_at limit bytes ≡ true))) }
+    ensures exact { Gives OnRefusal (λ h. (h.kind, numbers_of h))
+        (F.coming f.old) (F.coming f.new) result (fitting_header_at limit) }
+    ensures too_many { IfSome (F.coming f.old) (λ bytes. UnlessInterrupted result
+        (IsErrOf result ReadError.TooMany ↔ (too_many_at limit bytes ≡ true))) }
     ensures within { IfOk result (λ h. h.greatest + 1 ≤ limit) }
     ensures good { IfOk result (λ h. is_good h.kind (numbers_of h) ≡ true) }
     ensures enough { IfOk result (λ h. h.inputs + h.latches + h.gates ≤ h.greatest) }

@@ -17,8 +17,13 @@ use std::alloc::Global;
 /// Reads an input, and defines its variable.
 fn input_line<F: ByteFeed>(f: &mut F, variables: &mut Variables) -> Result<usize, LineError>
     requires { (size : ℕ) × (size ≤ 2 ^ 31) × HasRoom size variables.old 1 }
-    ensures exact { (greatest : ℕ) (before : List ℕ) → AreDefined greatest variables.old before → Makes OnLine (λ id literal. (id ≡ variable_of literal) × AreDefined greatest variables.new (before ++ literal ∷ [])) (F.coming f.old) (F.coming f.new) result (input_at (kind_by variables.old) greatest before) }
-    ensures room { IfOk result (λ _. (size k : ℕ) → HasRoom size variables.old (k + 1) → HasRoom size variables.new k) }
+    ensures exact { (greatest : ℕ) (before : List ℕ) → AreDefined greatest variables.old before
+        → Makes OnLine (λ id literal. (id ≡ variable_of literal)
+        × AreDefined greatest variables.new (before ++ literal ∷ []))
+        (F.coming f.old) (F.coming f.new) result
+        (input_at (kind_by variables.old) greatest before) }
+    ensures room { IfOk result
+        (λ _. (size k : ℕ) → HasRoom size variables.old (k + 1) → HasRoom size variables.new k) }
     ensures kind { kind_by variables.new ≡ kind_by variables.old }
     ensures stream { IsErrOf result LineError.Stream → F.failed f.new ≡ true }
     ensures same { F.behind f.new ≡ F.behind f.old }
@@ -36,9 +41,14 @@ pub fn read_inputs<F: ByteFeed>(
 ) -> Result<Vec<usize>, LineError>
     requires few { header.greatest < 2 ^ 31 }
     requires room { HasRoom (header.greatest + 1) variables.old header.inputs }
-    ensures exact { AreDefined header.greatest variables.old [] → Makes OnLine (λ inputs literals. (inputs.items ≡ map variable_of literals) × AreDefined header.greatest variables.new literals) (F.coming f.old) (F.coming f.new) result (fitting_inputs_at (kind_by variables.old) (numbers_of header)) }
+    ensures exact { AreDefined header.greatest variables.old []
+        → Makes OnLine (λ inputs literals. (inputs.items ≡ map variable_of literals)
+        × AreDefined header.greatest variables.new literals)
+        (F.coming f.old) (F.coming f.new) result
+        (fitting_inputs_at (kind_by variables.old) (numbers_of header)) }
     ensures count { IfOk result (λ inputs. vec_len inputs ≡ header.inputs) }
-    ensures room { IfOk result (λ _. (size k : ℕ) → HasRoom size variables.old (k + header.inputs) → HasRoom size variables.new k) }
+    ensures room { IfOk result (λ _. (size k : ℕ) → HasRoom size variables.old (k + header.inputs)
+        → HasRoom size variables.new k) }
     ensures kind { kind_by variables.new ≡ kind_by variables.old }
     ensures stream { IsErrOf result LineError.Stream → F.failed f.new ≡ true }
     ensures same { F.behind f.new ≡ F.behind f.old }

@@ -15,7 +15,8 @@ use std::alloc::Global;
 
 /// Reads so many lines of one size each.
 pub fn read_sizes<F: ByteFeed>(alloc: Global, f: &mut F, count: u32) -> Result<Vec<u32>, LineError>
-    ensures exact { Makes OnLine (λ sizes numbers. sizes.items ≡ numbers) (F.coming f.old) (F.coming f.new) result (numbers_at count) }
+    ensures exact { Makes OnLine (λ sizes numbers. sizes.items ≡ numbers)
+        (F.coming f.old) (F.coming f.new) result (numbers_at count) }
     ensures stream { IsErrOf result LineError.Stream → F.failed f.new ≡ true }
     ensures same { F.behind f.new ≡ F.behind f.old }
 {
@@ -34,7 +35,9 @@ pub fn read_sets<F: ByteFeed>(
     sizes: &[u32],
     greatest: u32,
 ) -> Result<Vec<Vec<AigEdge>>, LineError>
-    ensures exact { Makes OnLine (λ sets literals. map (λ set. set.items) sets.items ≡ map (map edge_from) literals) (F.coming f.old) (F.coming f.new) result (literal_sets_at greatest sizes.now) }
+    ensures exact { Makes OnLine
+        (λ sets literals. map (λ set. set.items) sets.items ≡ map (map edge_from) literals)
+        (F.coming f.old) (F.coming f.new) result (literal_sets_at greatest sizes.now) }
     ensures stream { IsErrOf result LineError.Stream → F.failed f.new ≡ true }
     ensures same { F.behind f.new ≡ F.behind f.old }
 {

@@ -20,7 +20,9 @@ use std::alloc::Global;
 
 /// The initial edge of a latch with this literal and reset: false where the reset is 0 or none, true where it is 1, and none where it is the latch's literal.
 fn initial_edge(literal: u32, reset: Option<u32>) -> Result<Option<AigEdge>, LineError>
-    ensures exact { (next : ℕ) → Tested (is_reset literal reset) (λ init. init ≡ initial_of (record { literal = literal; next = next; reset = reset })) result }
+    ensures exact { (next : ℕ) → Tested (is_reset literal reset)
+        (λ init. init ≡ initial_of (record { literal = literal; next = next; reset = reset }))
+        result }
     ensures fault { IfErr result (λ e. e ≡ LineError.Literal) }
 {
     let reset = reset.unwrap_or(0);
@@ -40,8 +42,15 @@ fn latch_line<F: ByteFeed>(
     variables: &mut Variables,
 ) -> Result<AigLatch, LineError>
     requires { (size : ℕ) × (size ≤ 2 ^ 31) × HasRoom size variables.old 1 }
-    ensures exact { (inputs : List ℕ) (before : List LatchLine) → AreDefined greatest variables.old (inputs ++ map (λ l. l.literal) before) → Makes OnLine (λ latch line. (latch ≡ latch_from line) × AreDefined greatest variables.new ((inputs ++ map (λ l. l.literal) before) ++ line.literal ∷ [])) (F.coming f.old) (F.coming f.new) result (latch_at (kind_by variables.old) greatest inputs before) }
-    ensures room { IfOk result (λ _. (size k : ℕ) → HasRoom size variables.old (k + 1) → HasRoom size variables.new k) }
+    ensures exact { (inputs : List ℕ) (before : List LatchLine)
+        → AreDefined greatest variables.old (inputs ++ map (λ l. l.literal) before)
+        → Makes OnLine (λ latch line. (latch ≡ latch_from line)
+        × AreDefined greatest variables.new
+        ((inputs ++ map (λ l. l.literal) before) ++ line.literal ∷ []))
+        (F.coming f.old) (F.coming f.new) result
+        (latch_at (kind_by variables.old) greatest inputs before) }
+    ensures room { IfOk result
+        (λ _. (size k : ℕ) → HasRoom size variables.old (k + 1) → HasRoom size variables.new k) }
     ensures kind { kind_by variables.new ≡ kind_by variables.old }
     ensures stream { IsErrOf result LineError.Stream → F.failed f.new ≡ true }
     ensures same { F.behind f.new ≡ F.behind f.old }
@@ -63,9 +72,15 @@ pub fn read_latches<F: ByteFeed>(
 ) -> Result<Vec<AigLatch>, LineError>
     requires few { header.greatest < 2 ^ 31 }
     requires room { HasRoom (header.greatest + 1) variables.old header.latches }
-    ensures exact { (inputs : List ℕ) → length inputs ≡ header.inputs → AreDefined header.greatest variables.old inputs → Makes OnLine (λ latchs lines. (latchs.items ≡ map latch_from lines) × AreDefined header.greatest variables.new (inputs ++ map (λ l. l.literal) lines)) (F.coming f.old) (F.coming f.new) result (fitting_latches_at (kind_by variables.old) (numbers_of header) inputs) }
+    ensures exact { (inputs : List ℕ) → length inputs ≡ header.inputs
+        → AreDefined header.greatest variables.old inputs
+        → Makes OnLine (λ latchs lines. (latchs.items ≡ map latch_from lines)
+        × AreDefined header.greatest variables.new (inputs ++ map (λ l. l.literal) lines))
+        (F.coming f.old) (F.coming f.new) result
+        (fitting_latches_at (kind_by variables.old) (numbers_of header) inputs) }
     ensures count { IfOk result (λ latchs. vec_len latchs ≡ header.latches) }
-    ensures room { IfOk result (λ _. (size k : ℕ) → HasRoom size variables.old (k + header.latches) → HasRoom size variables.new k) }
+    ensures room { IfOk result (λ _. (size k : ℕ) → HasRoom size variables.old (k + header.latches)
+        → HasRoom size variables.new k) }
     ensures kind { kind_by variables.new ≡ kind_by variables.old }
     ensures stream { IsErrOf result LineError.Stream → F.failed f.new ≡ true }
     ensures same { F.behind f.new ≡ F.behind f.old }

@@ -48,7 +48,8 @@ pub fn read_lines<F: ByteFeed>(alloc: Global, f: &mut F, header: Header) -> Resu
     requires good { is_good header.kind (numbers_of header) ≡ true }
     requires enough { header.inputs + header.latches + header.gates ≤ header.greatest }
     ensures exact { Makes OnRefusal (λ lines x. AreLinesOf (file_by header x) lines)
-        (F.coming f.old) (F.coming f.new) result (section_lines_at header.kind (numbers_of header)) }
+        (F.coming f.old) (F.coming f.new) result
+        (section_lines_at header.kind (numbers_of header)) }
     ensures fault { IfErr result IsSectionFault }
     ensures stream { IsErrOf result ReadError.Stream → F.failed f.new ≡ true }
     ensures same { F.behind f.new ≡ F.behind f.old }

@@ -32,7 +32,8 @@ use text::{kept_text, skip_rest, skip_text};
 /// A `c` that ends the stream or has no digit behind it begins the comment.
 fn name_start<F: ByteFeed>(f: &mut F) -> Result<Option<(NamedSection, u8)>, LexError>
     ensures exact { NameStarts (F.coming f.old) (F.coming f.new) result }
-    ensures whole { IfOk result (λ x. x ≡ None → (F.failed f.new ≡ false) × IsAtEnd (F.coming f.new)) }
+    ensures whole { IfOk result
+        (λ x. x ≡ None → (F.failed f.new ≡ false) × IsAtEnd (F.coming f.new)) }
     ensures stream { IsErrOf result LexError.Stream → F.failed f.new ≡ true }
     ensures same { F.behind f.new ≡ F.behind f.old }
     ensures fewer { IfOk result (λ x. OnSome x (F.turns f.new < F.turns f.old)) }
@@ -63,7 +64,10 @@ fn read_name<F: ByteFeed>(
     node: Option<usize>,
     names: &mut HashMap<usize, String>,
 ) -> Result<(), NameError>
-    ensures exact { Makes OnName (λ _ name. names_of names.new.entries ≡ with_name node name (names_of names.old.entries)) (F.coming f.old) (F.coming f.new) result (tested_at text_at (λ name. not (is_some node) || is_utf8 name)) }
+    ensures exact { Makes OnName
+        (λ _ name. names_of names.new.entries ≡ with_name node name (names_of names.old.entries))
+        (F.coming f.old) (F.coming f.new) result
+        (tested_at text_at (λ name. not (is_some node) || is_utf8 name)) }
     ensures stream { IsErrOf result NameError.Stream → F.failed f.new ≡ true }
     ensures same { F.behind f.new ≡ F.behind f.old }
     ensures fewer { OnOk result (F.turns f.new < F.turns f.old) }
@@ -96,7 +100,9 @@ pub fn read_names<F: ByteFeed>(
     requires inputs { length inputs.now ≡ header.now.inputs }
     requires latchs { length latchs.now ≡ header.now.latches }
     requires distinct { AllPairs (λ m n. m ≢ n) (inputs.now ++ latch_leaves latchs.now) }
-    ensures exact { EndsWith OnName (λ map names. names_of map.entries ≡ kept_names inputs.now (latch_leaves latchs.now) names) (F.coming f.old) (F.coming f.new) result (tail_of (numbers_of header.now)) }
+    ensures exact { EndsWith OnName
+        (λ map names. names_of map.entries ≡ kept_names inputs.now (latch_leaves latchs.now) names)
+        (F.coming f.old) (F.coming f.new) result (tail_of (numbers_of header.now)) }
     ensures whole { OnOk result ((F.failed f.new ≡ false) × IsAtEnd (F.coming f.new)) }
     ensures stream { IsErrOf result NameError.Stream → F.failed f.new ≡ true }
     ensures same { F.behind f.new ≡ F.behind f.old }

@@ -46,10 +46,12 @@ impl Rising {
         ensures next { result ≡ true
             → (nat_lt self.now.last lhs && is_ordered (line_of lhs operands)) ≡ true }
         ensures defined { result ≡ true
-            → (v : ℕ) → vec_len self.now.nodes ≤ v → v < lhs / 2 → is_marked variables.now v ≡ true }
+            → (v : ℕ) → vec_len self.now.nodes ≤ v → v < lhs / 2
+            → is_marked variables.now v ≡ true }
         ensures other { result ≡ false
             → ((nat_lt self.now.last lhs && is_ordered (line_of lhs operands)) ≡ false)
-            ⊎ ((v : ℕ) × (vec_len self.now.nodes ≤ v) × (v < lhs / 2) × (is_marked variables.now v ≡ false)) }
+            ⊎ ((v : ℕ) × (vec_len self.now.nodes ≤ v) × (v < lhs / 2)
+            × (is_marked variables.now v ≡ false)) }
     {
         self.is_above(lhs, operands)
             && variables
@@ -77,7 +79,8 @@ impl Rising {
 impl Gates {
     /// No gates, with room for those of the variables up to the greatest.
     pub fn new(alloc: Global, greatest: u32) -> Result<Self, AllocError>
-        ensures placed { IfOk result (λ gates. (leaves : List ℕ) → ArePlaced greatest leaves [] gates) }
+        ensures placed { IfOk result
+            (λ gates. (leaves : List ℕ) → ArePlaced greatest leaves [] gates) }
         ensures space { IfOk result (HasSpace (greatest + 1)) }
     {
         Ok(Gates::Rising(Rising {
@@ -96,12 +99,16 @@ impl Gates {
         operands: Operands,
     ) -> Result<(), AllocError>
         requires space { (size : ℕ) × (size ≤ 2 ^ 31) × (lhs / 2 < size) × HasSpace size self.old }
-        requires placed { (greatest : ℕ) × (leaves : List ℕ) × (before : List GateLine) × ArePlaced greatest leaves before self.old }
-        ensures placed { (greatest : ℕ) (leaves : List ℕ) (before : List GateLine) → ArePlaced greatest leaves before self.old
+        requires placed { (greatest : ℕ) × (leaves : List ℕ) × (before : List GateLine)
+            × ArePlaced greatest leaves before self.old }
+        ensures placed { (greatest : ℕ) (leaves : List ℕ) (before : List GateLine)
+            → ArePlaced greatest leaves before self.old
             → AreDefined greatest variables.now ((leaves ++ literals_of before) ++ lhs ∷ [])
             → IsNewAmong (literals_of before) lhs → 2 ≤ lhs
-            → OnOk result (ArePlaced greatest leaves (before ++ line_of lhs operands ∷ []) self.new) }
-        ensures space { OnOk result ((size : ℕ) → lhs / 2 < size → HasSpace size self.old → HasSpace size self.new) }
+            → OnOk result
+            (ArePlaced greatest leaves (before ++ line_of lhs operands ∷ []) self.new) }
+        ensures space { OnOk result
+            ((size : ℕ) → lhs / 2 < size → HasSpace size self.old → HasSpace size self.new) }
     {
         match self {
             Gates::Rising(rising) => {

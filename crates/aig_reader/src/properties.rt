@@ -35,7 +35,8 @@ pub fn read_properties<F: ByteFeed>(
     f: &mut F,
     header: Header,
 ) -> Result<Properties, ReadError>
-    ensures exact { Makes OnRefusal ArePropertiesOf (F.coming f.old) (F.coming f.new) result (fitting_properties_at (numbers_of header)) }
+    ensures exact { Makes OnRefusal ArePropertiesOf
+        (F.coming f.old) (F.coming f.new) result (fitting_properties_at (numbers_of header)) }
     ensures fault { IfErr result IsSectionFault }
     ensures stream { IsErrOf result ReadError.Stream → F.failed f.new ≡ true }
     ensures same { F.behind f.new ≡ F.behind f.old }

@@ -29,7 +29,8 @@ pub fn read<R: Source>(alloc: Global, r: &mut R, limit: usize) -> Result<Circuit
     requires some { 1 ≤ limit }
     requires few { limit ≤ 2 ^ 31 }
     // The bytes that were read are a file that is accepted, and the lists are those of its circuit.
-    ensures circuit { IfOk result (IsOfFile (λ bytes. Accepts bytes limit) AreListsOf (R.left r.old) (R.left r.new)) }
+    ensures circuit { IfOk result
+        (IsOfFile (λ bytes. Accepts bytes limit) AreListsOf (R.left r.old) (R.left r.new)) }
     // Of known bytes, memory and stream aside: where they are a file that is accepted, the lists are those of its
     // circuit; else there is a refusal, TooMany exactly where the header line is good and passes the limit.
     ensures exact { IfSome (R.left r.old) (λ bytes.

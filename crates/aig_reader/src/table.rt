@@ -88,9 +88,11 @@ fn put_operands(
     operands: Operands,
 ) -> Result<(), AllocError>
     requires { variable < 2 ^ 31 }
-    ensures exact { (gates : List GateLine) (lhs : ℕ) → variable ≡ lhs / 2 → AreFirstNodes gates (nodes_in table.old.items)
+    ensures exact { (gates : List GateLine) (lhs : ℕ) → variable ≡ lhs / 2
+        → AreFirstNodes gates (nodes_in table.old.items)
         → IsNewAmong (literals_of gates) lhs → 2 ≤ lhs
-        → OnOk result (AreFirstNodes (gates ++ line_of lhs operands ∷ []) (nodes_in table.new.items)) }
+        → OnOk result
+        (AreFirstNodes (gates ++ line_of lhs operands ∷ []) (nodes_in table.new.items)) }
     ensures len { OnOk result (vec_len table.new ≡ max (vec_len table.old) (variable + 1)) }
 {
     add_entries(table, variable + 1)?;
@@ -102,7 +104,8 @@ impl Table {
     /// The table of these nodes, each at the place of its variable. No gate waits.
     pub fn new(alloc: Global, nodes: &[AigNode]) -> Result<Self, AllocError>
         requires { All (λ node. IfAnd node.typ (λ id. id < 2 ^ 31)) nodes.now }
-        ensures entries { IfOk result (λ table. table.entries.items ≡ map (λ node. gate_in node.typ) nodes.now) }
+        ensures entries { IfOk result
+            (λ table. table.entries.items ≡ map (λ node. gate_in node.typ) nodes.now) }
         ensures late { IfOk result (λ table. table.late.items ≡ []) }
     {
         Ok(Table {
@@ -115,9 +118,11 @@ impl Table {
     fn settle(&mut self) -> Result<(), AllocError>
         requires { (size : ℕ) × (size ≤ 2 ^ 31) × HasSpace size (held.Table self.old) }
         ensures nodes { (gates : List GateLine) → AreWaiting gates self.old
-            → OnOk result (AreFirstNodes gates (nodes_in self.new.entries.items) × (self.new.late.items ≡ [])) }
+            → OnOk result
+            (AreFirstNodes gates (nodes_in self.new.entries.items) × (self.new.late.items ≡ [])) }
         ensures late { OnOk result (self.new.late.items ≡ []) }
-        ensures space { OnOk result ((size : ℕ) → HasSpace size (held.Table self.old) → HasSpace size (held.Table self.new)) }
+        ensures space { OnOk result ((size : ℕ) → HasSpace size (held.Table self.old)
+            → HasSpace size (held.Table self.new)) }
     {
         let Table { entries, late } = self;
         for gate in late.iter() {
@@ -130,8 +135,10 @@ impl Table {
     /// Makes room for one more gate that waits.
     fn make_room(&mut self) -> Result<(), AllocError>
         requires { (size : ℕ) × (size ≤ 2 ^ 31) × HasSpace size (held.Table self.old) }
-        ensures waiting { (gates : List GateLine) → AreWaiting gates self.old → OnOk result (AreWaiting gates self.new) }
-        ensures space { OnOk result ((size : ℕ) → HasSpace size (held.Table self.old) → HasSpace size (held.Table self.new)) }
+        ensures waiting { (gates : List GateLine) → AreWaiting gates self.old
+            → OnOk result (AreWaiting gates self.new) }
+        ensures space { OnOk result ((size : ℕ) → HasSpace size (held.Table self.old)
+            → HasSpace size (held.Table self.new)) }
     {
         if self.late.len() >= WAITING {
             self.settle()
@@ -143,9 +150,11 @@ impl Table {
     /// Takes a gate, which waits for its place.
     pub fn push(&mut self, lhs: u32, operands: Operands) -> Result<(), AllocError>
         requires { (size : ℕ) × (size ≤ 2 ^ 31) × HasSpace size (held.Table self.old) }
-        ensures waiting { (gates : List GateLine) → AreWaiting gates self.old → IsNewAmong (literals_of gates) lhs → 2 ≤ lhs
+        ensures waiting { (gates : List GateLine) → AreWaiting gates self.old
+            → IsNewAmong (literals_of gates) lhs → 2 ≤ lhs
             → OnOk result (AreWaiting (gates ++ line_of lhs operands ∷ []) self.new) }
-        ensures space { OnOk result ((size : ℕ) → lhs / 2 < size → HasSpace size (held.Table self.old) → HasSpace size (held.Table self.new)) }
+        ensures space { OnOk result ((size : ℕ) → lhs / 2 < size
+            → HasSpace size (held.Table self.old) → HasSpace size (held.Table self.new)) }
     {
         self.make_room()?;
         self.late.push(Late { lhs, operands })?;

@@ -48,7 +48,10 @@ fn cover(marked: &mut Vec<u64>, variable: usize) -> Result<(), AllocError>
 impl Marks {
     /// Marks the variable of a literal, which is even, is that of a variable from 1 to the greatest, and is not marked yet.
     fn mark(&mut self, literal: u32) -> Result<usize, LineError>
-        ensures exact { (greatest : ℕ) (before : List ℕ) → AreMarks greatest self.old before → Tested (defines greatest before literal) (λ id. (id ≡ literal / 2) × AreMarks greatest self.new (before ++ literal ∷ [])) result }
+        ensures exact { (greatest : ℕ) (before : List ℕ) → AreMarks greatest self.old before
+            → Tested (defines greatest before literal)
+            (λ id. (id ≡ literal / 2) × AreMarks greatest self.new (before ++ literal ∷ []))
+            result }
         ensures fault { IfErr result IsLiteralFault }
         ensures own { IfOk result (λ _. IsOwn (self.old.greatest + 1) literal) }
         ensures greatest { self.new.greatest ≡ self.old.greatest }
@@ -68,7 +71,8 @@ impl Marks {
 
     /// For each variable up to the greatest, whether it is 0 or defined.
     pub fn known(self, alloc: Global) -> Result<Vec<bool>, AllocError>
-        ensures { (f : File) → AreMarks f.greatest self (defined f) → IfOk result (λ known. AreKnownOf f known.items) }
+        ensures { (f : File) → AreMarks f.greatest self (defined f)
+            → IfOk result (λ known. AreKnownOf f known.items) }
     {
         let Marks { greatest, marked } = self;
         let len = greatest as usize + 1;
@@ -99,7 +103,9 @@ impl Variables {
     /// The literal that the next entry defines. In a text file it is read, with this byte behind it.
     pub fn own_literal<F: ByteFeed>(&self, f: &mut F, end: u8) -> Result<u32, LexError>
         requires { (size : ℕ) × (size ≤ 2 ^ 31) × HasRoom size self.now 1 }
-        ensures exact { (greatest : ℕ) (before : List ℕ) → AreDefined greatest self.now before → Gives OnShape (λ e. e) (F.coming f.old) (F.coming f.new) result (own_at (kind_by self.now) end before) }
+        ensures exact { (greatest : ℕ) (before : List ℕ) → AreDefined greatest self.now before
+            → Gives OnShape (λ e. e)
+            (F.coming f.old) (F.coming f.new) result (own_at (kind_by self.now) end before) }
         ensures next { IfOk result (λ e. IsNext self.now e) }
         ensures stream { IsErrOf result LexError.Stream → F.failed f.new ≡ true }
         ensures same { F.behind f.new ≡ F.behind f.old }
@@ -113,12 +119,17 @@ impl Variables {
     /// Defines the variable of a literal, that of the next entry: it is even, is not that of variable 0, and is not defined yet.
     pub fn define(&mut self, literal: u32) -> Result<usize, LineError>
         requires { IsNext self.old literal }
-        ensures exact { (greatest : ℕ) (before : List ℕ) → AreDefined greatest self.old before → Tested (may_define (kind_by self.old) greatest before literal) (λ id. (id ≡ literal / 2) × AreDefined greatest self.new (before ++ literal ∷ [])) result }
+        ensures exact { (greatest : ℕ) (before : List ℕ) → AreDefined greatest self.old before
+            → Tested (may_define (kind_by self.old) greatest before literal)
+            (λ id. (id ≡ literal / 2) × AreDefined greatest self.new (before ++ literal ∷ []))
+            result }
         ensures fault { IfErr result IsLiteralFault }
         ensures own { IfOk result (λ _. (size : ℕ) → HasRoom size self.old 1 → IsOwn size literal) }
-        ensures new { IfOk result (λ _. (greatest : ℕ) (before : List ℕ) → AreDefined greatest self.old before → IsNewAmong before literal) }
+        ensures new { IfOk result (λ _. (greatest : ℕ) (before : List ℕ)
+            → AreDefined greatest self.old before → IsNewAmong before literal) }
         ensures id { IfOk result (λ id. id ≡ literal / 2) }
-        ensures room { IfOk result (λ _. (size k : ℕ) → HasRoom size self.old (k + 1) → HasRoom size self.new k) }
+        ensures room { IfOk result
+            (λ _. (size k : ℕ) → HasRoom size self.old (k + 1) → HasRoom size self.new k) }
         ensures kind { kind_by self.new ≡ kind_by self.old }
     {
         match self {
@@ -142,7 +153,8 @@ impl Variables {
 
     /// The first of the variables from one to below another that isn't defined, if there is one. None of them is 0.
     pub fn first_undefined(&self, from: usize, to: usize) -> Option<usize>
-        ensures { MatchOption result ((v : ℕ) → from ≤ v → v < to → is_marked self.now v ≡ true) (λ v. (from ≤ v) × (v < to) × (is_marked self.now v ≡ false)) }
+        ensures { MatchOption result ((v : ℕ) → from ≤ v → v < to → is_marked self.now v ≡ true)
+            (λ v. (from ≤ v) × (v < to) × (is_marked self.now v ≡ false)) }
     {
         for variable in from..to {
             if !self.is_defined(variable) {

@@ -24,9 +24,11 @@ pub fn renumber(
     requires table { length numbers.now ≡ length circuit.now.nodes }
     requires there { All (λ n. n < length circuit.now.nodes) kept.now }
     requires within { All (λ n. n < length kept.now) numbers.now }
-    requires places { (i : ℕ) → i < length kept.now → slice_index numbers.now (slice_index kept.now i) ≡ i }
+    requires places { (i : ℕ) → i < length kept.now
+        → slice_index numbers.now (slice_index kept.now i) ≡ i }
     requires false_first { (0 < length kept.now) × (slice_index kept.now 0 ≡ 0) }
-    ensures { IfOk result (λ lists. lists_circuit lists ≡ kept_circuit (slice_index numbers.now) kept.now circuit.now) }
+    ensures { IfOk result (λ lists. lists_circuit lists
+        ≡ kept_circuit (slice_index numbers.now) kept.now circuit.now) }
 {
     Ok(CircuitLists {
         nodes: nodes_in_order(alloc, circuit.nodes(), numbers, kept)?,

@@ -25,5 +25,6 @@ pub fn reencoding_keeps_runs()
 /// Law: a placed circuit is its own re-encoding, and so is every circuit that was re-encoded.
 pub fn reencoding_twice()
     ensures placed { (c : Circuit) → IsCircuit c → IsClosed c → IsReencoded c → reencoded c ≡ c }
-    ensures twice { (c : Circuit) → IsCircuit c → IsClosed c → reencoded (reencoded c) ≡ reencoded c }
+    ensures twice { (c : Circuit) → IsCircuit c → IsClosed c
+        → reencoded (reencoded c) ≡ reencoded c }
 {}

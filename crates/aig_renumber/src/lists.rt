@@ -26,7 +26,8 @@ pub(crate) fn edges(
     old: &[AigEdge],
 ) -> Result<Vec<AigEdge>, MemoryError>
     requires { All (IsEdgeIn (IsIndex numbers.now)) old.now }
-    ensures { IfOk result (λ new. new.items ≡ map (renumbered_edge (slice_index numbers.now)) old.now) }
+    ensures { IfOk result
+        (λ new. new.items ≡ map (renumbered_edge (slice_index numbers.now)) old.now) }
 {
     let mut new = Vec::with_capacity(alloc, old.len())?;
     for e in old {
@@ -42,7 +43,8 @@ pub(crate) fn sets(
     old: &[Vec<AigEdge>],
 ) -> Result<Vec<Vec<AigEdge>>, MemoryError>
     requires { All (All (IsEdgeIn (IsIndex numbers.now))) (map (λ set. set.items) old.now) }
-    ensures { IfOk result (λ new. map (λ set. set.items) new.items ≡ map (map (renumbered_edge (slice_index numbers.now))) (map (λ set. set.items) old.now)) }
+    ensures { IfOk result (λ new. map (λ set. set.items) new.items
+        ≡ map (map (renumbered_edge (slice_index numbers.now))) (map (λ set. set.items) old.now)) }
 {
     let mut new = Vec::with_capacity(alloc, old.len())?;
     for set in old {
@@ -69,7 +71,8 @@ pub(crate) fn inputs(
 ) -> Result<Vec<usize>, MemoryError>
     requires there { All (IsIndex numbers.now) old.now }
     requires places { HavePlaces numbers.now kept.now }
-    ensures { IfOk result (λ new. new.items ≡ map (slice_index numbers.now) (filter (is_in kept.now) old.now)) }
+    ensures { IfOk result
+        (λ new. new.items ≡ map (slice_index numbers.now) (filter (is_in kept.now) old.now)) }
 {
     let mut new = Vec::with_capacity(alloc, old.len())?;
     for input in old {
@@ -96,7 +99,8 @@ pub(crate) fn latchs(
     old: &[AigLatch],
 ) -> Result<Vec<AigLatch>, MemoryError>
     requires { All (IsLatchIn (IsIndex numbers.now)) old.now }
-    ensures { IfOk result (λ new. new.items ≡ map (renumbered_latch (slice_index numbers.now)) old.now) }
+    ensures { IfOk result
+        (λ new. new.items ≡ map (renumbered_latch (slice_index numbers.now)) old.now) }
 {
     let mut new = Vec::with_capacity(alloc, old.len())?;
     for l in old {
@@ -114,7 +118,8 @@ pub(crate) fn names(
 ) -> Result<HashMap<usize, String>, MemoryError>
     requires there { All (λ entry. IsIndex numbers.now entry.0) old.now.entries }
     requires places { HavePlaces numbers.now kept.now }
-    ensures { IfOk result (λ new. names_of new.entries ≡ renumbered_names (slice_index numbers.now) (retain_keys (names_of old.now.entries) (is_in kept.now))) }
+    ensures { IfOk result (λ new. names_of new.entries ≡ renumbered_names (slice_index numbers.now)
+        (retain_keys (names_of old.now.entries) (is_in kept.now))) }
 {
     let mut new = HashMap::new(alloc);
     for (id, name) in old {

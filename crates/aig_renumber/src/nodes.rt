@@ -16,7 +16,8 @@ use std::alloc::Global;
 fn renumbered_node(numbers: &[usize], id: usize, node: &AigNode) -> AigNode
     requires operands { IfAnd node.now.typ (IsIndex numbers.now) }
     requires number { node.now.typ ≡ False → id ≡ 0 }
-    ensures { result ≡ record { node_id = id; typ = renumbered_kind (slice_index numbers.now) (Some node.now.typ) } }
+    ensures { result ≡ record
+        { node_id = id; typ = renumbered_kind (slice_index numbers.now) (Some node.now.typ) } }
 {
     match *node.typ() {
         AigNodeType::And(fanin0, fanin1) => {
@@ -38,7 +39,8 @@ pub(crate) fn nodes_in_order(
     requires table { length numbers.now ≡ length nodes.now }
     requires there { All (λ n. n < length nodes.now) order.now }
     requires false_first { (i : ℕ) → i < length order.now → slice_index order.now i ≡ 0 → i ≡ 0 }
-    ensures { IfOk result (λ new. new.items ≡ nodes_of_order nodes.now (slice_index numbers.now) 0 order.now) }
+    ensures { IfOk result
+        (λ new. new.items ≡ nodes_of_order nodes.now (slice_index numbers.now) 0 order.now) }
 {
     let mut new = Vec::with_capacity(alloc, order.len())?;
     for (i, n) in order.iter().enumerate() {

@@ -47,7 +47,8 @@ fn push_leaves(order: &mut Vec<usize>, latchs: &[AigLatch]) -> Result<(), Memory
 
 /// Appends the numbers of the gates, in rising number.
 fn push_gates(order: &mut Vec<usize>, nodes: &[AigNode]) -> Result<(), MemoryError>
-    ensures { IfOk result (λ _. order.new.items ≡ order.old.items ++ filter_map gate_number nodes.now) }
+    ensures { IfOk result
+        (λ _. order.new.items ≡ order.old.items ++ filter_map gate_number nodes.now) }
 {
     for node in nodes {
         if node.is_and() {
@@ -62,7 +63,8 @@ fn places(alloc: Global, order: &[usize]) -> Result<Vec<usize>, MemoryError>
     requires distinct { AllPairs (λ m n. m ≢ n) order.now }
     requires within { All (λ n. n < length order.now) order.now }
     ensures count { IfOk result (λ numbers. length numbers.items ≡ length order.now) }
-    ensures places { IfOk result (λ numbers. (i : ℕ) → i < length order.now → slice_index numbers.items (slice_index order.now i) ≡ i) }
+    ensures places { IfOk result (λ numbers. (i : ℕ) → i < length order.now
+        → slice_index numbers.items (slice_index order.now i) ≡ i) }
 {
     let mut numbers = vec![in alloc; 0; order.len()]?;
     for (i, n) in order.iter().enumerate() {

@@ -15,7 +15,8 @@ ghost use Rattle.aig_runs.specs.Queries.{Asks, IsRefuted, IsSafeTo, query_clause
 /// Law: of every circuit, assignments that satisfy the clauses of its unrolled circuit are runs, and runs are assignments.
 pub fn clauses_are_circuit_runs()
     ensures assignments { (c unrolled : Circuit) (k : ℕ) (clauses : List (List (List Lit)))
-        → UnrollsTo c k unrolled → FixesRoots unrolled clauses → AssignmentsAreRuns c unrolled k clauses }
+        → UnrollsTo c k unrolled → FixesRoots unrolled clauses
+        → AssignmentsAreRuns c unrolled k clauses }
     ensures runs { (c unrolled : Circuit) (k : ℕ) (clauses : List (List (List Lit)))
         → IsCircuit c → UnrollsTo c k unrolled → NodeValuesSatisfy unrolled clauses
         → RunsAreAssignments c unrolled k clauses }
@@ -23,7 +24,8 @@ pub fn clauses_are_circuit_runs()
 
 /// Law: of every file that fits, the same holds of the runs of its machine.
 pub fn clauses_are_file_runs()
-    ensures { (f : File) (limit k : ℕ) (optimize : Bool) (unrolled : Circuit) (clauses : List (List (List Lit)))
+    ensures { (f : File) (limit k : ℕ) (optimize : Bool) (unrolled : Circuit)
+        (clauses : List (List (List Lit)))
         → Fits f limit → UnrollsTo (circuit_of f) k unrolled → HasClauses unrolled optimize clauses
         → FixesRoots unrolled clauses → NodeValuesSatisfy unrolled clauses
         → Encodes f k optimize (circuit_of f) unrolled clauses }
@@ -31,7 +33,8 @@ pub fn clauses_are_file_runs()
 
 /// Law: the further clauses of an encoded file ask for the witnesses of its machine.
 pub fn queries_ask()
-    ensures { (f : File) (limit k : ℕ) (optimize : Bool) (circuit unrolled : Circuit) (clauses : List (List (List Lit)))
+    ensures { (f : File) (limit k : ℕ) (optimize : Bool) (circuit unrolled : Circuit)
+        (clauses : List (List (List Lit)))
         → Fits f limit → Encodes f k optimize circuit unrolled clauses
         → Asks f k circuit unrolled clauses (query_clauses circuit k unrolled) }
 {}

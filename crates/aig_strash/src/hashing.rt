@@ -32,7 +32,8 @@ pub fn strash(circuit: &CircuitView<'_>) -> Result<CircuitLists, MemoryError>
 /// Returns the new number of each node, and the old numbers of the kept nodes.
 fn number_nodes(alloc: Global, nodes: &[AigNode]) -> Result<(Vec<usize>, Vec<usize>), MemoryError>
     requires { AreNodes nodes.now }
-    ensures numbers { IfOk result (λ tables. tables.0.items ≡ map (image_of nodes.now) (node_numbers nodes.now)) }
+    ensures numbers { IfOk result
+        (λ tables. tables.0.items ≡ map (image_of nodes.now) (node_numbers nodes.now)) }
     ensures kept { IfOk result (λ tables. tables.1.items ≡ kept_nodes nodes.now) }
 {
     let mut numbering = Numbering::with_room(alloc, nodes)?;
@@ -131,7 +132,8 @@ fn new_literals(tables: &Tables, fanin0: AigEdge, fanin1: AigEdge) -> (usize, us
 /// Returns the literal of an edge under the new numbers: twice its node's number, and one more where it is inverted.
 fn new_literal(tables: &Tables, edge: AigEdge) -> usize
     requires { HasSmallLiteral tables.now edge }
-    ensures literal { result ≡ literal_of (renumbered_edge (slice_index (numbers_of tables.now)) edge) }
+    ensures literal { result
+        ≡ literal_of (renumbered_edge (slice_index (numbers_of tables.now)) edge) }
     ensures small { result < literal_limit tables.now }
 {
     2 * tables.number(edge.node_id()) + usize::from(edge.compl())

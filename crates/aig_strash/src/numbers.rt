@@ -85,7 +85,8 @@ impl Tables {
         requires first { literals.0 < literal_limit self.old }
         requires second { literals.1 < literal_limit self.old }
         requires next { next < literal_limit self.old }
-        ensures gates { IfOk result (PutsIfAbsent are_same (gates_of self.old) (gates_of self.new) literals next) }
+        ensures gates { IfOk result
+            (PutsIfAbsent are_same (gates_of self.old) (gates_of self.new) literals next) }
         ensures numbers { numbers_of self.new ≡ numbers_of self.old }
         ensures limit { literal_limit self.new ≡ literal_limit self.old }
     {

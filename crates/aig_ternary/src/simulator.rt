@@ -28,7 +28,8 @@ impl<'a> Model for Simulator<'a> {
     ghost use Rattle.std.specs.FinMap as finite_map;
     ghost use Rattle.std.specs.Ordering.{nat_cmp};
 
-    ghost coded = { Prim.hlevel (codes, finite_map.code {R = nat_cmp} coded_ℕ (coded_list coded_ℕ)) };
+    ghost coded = { Prim.hlevel
+        (codes, finite_map.code {R = nat_cmp} coded_ℕ (coded_list coded_ℕ)) };
 
     ghost view = { λ s.
         record { circuit = s.circuit; state = s.state.items; values = s.values.items } };

@@ -132,11 +132,14 @@ pub(crate) fn append_step(
         ≡ lists.old.inputs.items ++ leaves_behind start lists.old.nodes.items }
     ensures latchs { HaveNextImages images.now from.now.latchs
         lists.old.latchs.items lists.new.latchs.items }
-    ensures outputs { Appends images.now from.now.outputs lists.old.outputs.items lists.new.outputs.items }
+    ensures outputs { Appends images.now from.now.outputs
+        lists.old.outputs.items lists.new.outputs.items }
     ensures bads { Appends images.now from.now.bads lists.old.bads.items lists.new.bads.items }
-    ensures constraints { Appends images.now from.now.constraints lists.old.constraints.items lists.new.constraints.items }
+    ensures constraints { Appends images.now from.now.constraints
+        lists.old.constraints.items lists.new.constraints.items }
     ensures justice { lists.new.justice.items ≡ lists.old.justice.items }
-    ensures fairness { Appends images.now from.now.fairness lists.old.fairness.items lists.new.fairness.items }
+    ensures fairness { Appends images.now from.now.fairness
+        lists.old.fairness.items lists.new.fairness.items }
     ensures names { lists.new.names ≡ lists.old.names }
 {
     append_leaves(&mut lists.inputs, &lists.nodes, start);

@@ -51,7 +51,8 @@ fn write_sections<W: Sink>(
     requires table { All IsSmall numbers.now }
     requires few { length circuit.now.nodes ≤ 2 ^ 63 }
     requires binary { kind ≡ FileKind.Binary → FitsBinary circuit.now numbers.now }
-    ensures writes { let text = spelling_of (numbered_file (number_in numbers.now) kind circuit.now) in
+    ensures writes { let text = spelling_of
+        (numbered_file (number_in numbers.now) kind circuit.now) in
         BuffersOrStops W.held W.failed buffer.old w.old result text buffer.new w.new }
     ensures circuit { IsCircuit circuit.now }
 {
@@ -73,7 +74,8 @@ fn write_form<W: Sink>(
     requires table { All IsSmall numbers.now }
     requires few { length circuit.now.nodes ≤ 2 ^ 63 }
     requires binary { kind ≡ FileKind.Binary → FitsBinary circuit.now numbers.now }
-    ensures writes { let text = spelling_of (numbered_file (number_in numbers.now) kind circuit.now) in
+    ensures writes { let text = spelling_of
+        (numbered_file (number_in numbers.now) kind circuit.now) in
         WritesOrStops W.held W.failed w.old result text w.new }
     ensures circuit { IsCircuit circuit.now }
 {

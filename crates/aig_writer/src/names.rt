@@ -30,7 +30,8 @@ fn write_name_line<W: Sink>(
     position: usize,
     name: &[u8],
 ) -> Result<(), StreamFault>
-    ensures { let text = name_of (record { letter = letter; position = position; name = name.now }) in
+    ensures { let text = name_of
+        (record { letter = letter; position = position; name = name.now }) in
         BuffersOrStops W.held W.failed buffer.old w.old result text buffer.new w.new }
 {
     buffer.write_bytes(w, &[letter])?;
@@ -82,7 +83,8 @@ fn write_latch_names<W: Sink>(
     latchs: &[AigLatch],
 ) -> Result<(), StreamFault>
     ensures { let leaves = latch_leaves latchs.now in
-        let text = flat_map name_of (name_lines LATCH 0 leaves (get (names_of names.now.entries))) in
+        let text = flat_map name_of
+        (name_lines LATCH 0 leaves (get (names_of names.now.entries))) in
         BuffersOrStops W.held W.failed buffer.old w.old result text buffer.new w.new }
 {
     for (i, latch) in latchs.iter().enumerate() {

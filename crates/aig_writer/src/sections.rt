@@ -140,7 +140,8 @@ pub(crate) fn write_sets<W: Sink>(
 ) -> Result<(), StreamFault>
     requires table { All IsSmall numbers.now }
     requires sets { All (λ set. All IsSmallEdge set.items) sets.now }
-    ensures { let written = map (map (renumbered_edge (number_in numbers.now))) (edges_of sets.now) in
+    ensures { let written = map (map (renumbered_edge (number_in numbers.now)))
+        (edges_of sets.now) in
         let text = flat_map lines_of (map (map literal_of) written) in
         BuffersOrStops W.held W.failed buffer.old w.old result text buffer.new w.new }
 {
@@ -201,7 +202,8 @@ fn write_node<W: Sink>(
 ) -> Result<(), StreamFault>
     requires table { All IsSmall numbers.now }
     requires small { IsSmallNode node.now }
-    requires falls { kind ≡ FileKind.Binary → FallsBelow (renumbered_node (number_in numbers.now) node.now) }
+    requires falls { kind ≡ FileKind.Binary
+        → FallsBelow (renumbered_node (number_in numbers.now) node.now) }
     ensures { let written = renumbered_node (number_in numbers.now) node.now in
         let text = flat_map (gate_of kind) (option_to_list (gate_line written)) in
         BuffersOrStops W.held W.failed buffer.old w.old result text buffer.new w.new }

@@ -24,7 +24,8 @@ impl Aig {
         requires second { IsInRange self.old.nodes fanin1 }
         ensures gate { IfOk result (λ e. AddsGate self.old.nodes self.new.nodes fanin0 fanin1 e) }
         ensures edge { IfOk result (λ e. IsInRange self.new.nodes e) }
-        ensures value { IfOk result (λ e. (x : ℕ → Bool) → edge_value self.new.nodes x e ≡ (edge_value self.old.nodes x fanin0 && edge_value self.old.nodes x fanin1)) }
+        ensures value { IfOk result (λ e. (x : ℕ → Bool) → edge_value self.new.nodes x e
+            ≡ (edge_value self.old.nodes x fanin0 && edge_value self.old.nodes x fanin1)) }
         // Gates alone are added, after the old nodes: edges to old nodes keep their values, and lists and names stay.
         ensures gates { AddsOnlyGates self.old self.new }
         ensures err { OnErr result (self.new ≡ self.old) }
@@ -38,10 +39,12 @@ impl Aig {
     pub fn new_and_node(&mut self, fanin0: AigEdge, fanin1: AigEdge) -> Result<AigEdge, MemoryError>
         requires first { IsInRange self.old.nodes fanin0 }
         requires second { IsInRange self.old.nodes fanin1 }
-        ensures rule { IfOk result (λ e. FoldsOrAdds self.old.nodes self.new.nodes fanin0 fanin1 e) }
+        ensures rule { IfOk result
+            (λ e. FoldsOrAdds self.old.nodes self.new.nodes fanin0 fanin1 e) }
         ensures folds { (f : AigEdge) → Folds fanin0 fanin1 f → IsOk result }
         ensures edge { IfOk result (λ e. IsInRange self.new.nodes e) }
-        ensures value { IfOk result (λ e. (x : ℕ → Bool) → edge_value self.new.nodes x e ≡ (edge_value self.old.nodes x fanin0 && edge_value self.old.nodes x fanin1)) }
+        ensures value { IfOk result (λ e. (x : ℕ → Bool) → edge_value self.new.nodes x e
+            ≡ (edge_value self.old.nodes x fanin0 && edge_value self.old.nodes x fanin1)) }
         // Gates alone are added, after the old nodes: edges to old nodes keep their values, and lists and names stay.
         ensures gates { AddsOnlyGates self.old self.new }
         ensures err { OnErr result (self.new ≡ self.old) }
@@ -57,9 +60,11 @@ impl Aig {
     ) -> Result<AigEdge, MemoryError>
         requires first { IsInRange self.old.nodes fanin0 }
         requires second { IsInRange self.old.nodes fanin1 }
-        ensures gate { IfOk result (λ e. AddsGate self.old.nodes self.new.nodes (inverse fanin0) (inverse fanin1) (inverse e)) }
+        ensures gate { IfOk result (λ e. AddsGate self.old.nodes self.new.nodes
+            (inverse fanin0) (inverse fanin1) (inverse e)) }
         ensures edge { IfOk result (λ e. IsInRange self.new.nodes e) }
-        ensures value { IfOk result (λ e. (x : ℕ → Bool) → edge_value self.new.nodes x e ≡ (edge_value self.old.nodes x fanin0 || edge_value self.old.nodes x fanin1)) }
+        ensures value { IfOk result (λ e. (x : ℕ → Bool) → edge_value self.new.nodes x e
+            ≡ (edge_value self.old.nodes x fanin0 || edge_value self.old.nodes x fanin1)) }
         // Gates alone are added, after the old nodes: edges to old nodes keep their values, and lists and names stay.
         ensures gates { AddsOnlyGates self.old self.new }
         ensures err { OnErr result (self.new ≡ self.old) }
@@ -71,10 +76,12 @@ impl Aig {
     pub fn new_or_node(&mut self, fanin0: AigEdge, fanin1: AigEdge) -> Result<AigEdge, MemoryError>
         requires first { IsInRange self.old.nodes fanin0 }
         requires second { IsInRange self.old.nodes fanin1 }
-        ensures rule { IfOk result (λ e. FoldsOrAdds self.old.nodes self.new.nodes (inverse fanin0) (inverse fanin1) (inverse e)) }
+        ensures rule { IfOk result (λ e. FoldsOrAdds self.old.nodes self.new.nodes
+            (inverse fanin0) (inverse fanin1) (inverse e)) }
         ensures folds { (f : AigEdge) → Folds (inverse fanin0) (inverse fanin1) f → IsOk result }
         ensures edge { IfOk result (λ e. IsInRange self.new.nodes e) }
-        ensures value { IfOk result (λ e. (x : ℕ → Bool) → edge_value self.new.nodes x e ≡ (edge_value self.old.nodes x fanin0 || edge_value self.old.nodes x fanin1)) }
+        ensures value { IfOk result (λ e. (x : ℕ → Bool) → edge_value self.new.nodes x e
+            ≡ (edge_value self.old.nodes x fanin0 || edge_value self.old.nodes x fanin1)) }
         // Gates alone are added, after the old nodes: edges to old nodes keep their values, and lists and names stay.
         ensures gates { AddsOnlyGates self.old self.new }
         ensures err { OnErr result (self.new ≡ self.old) }
@@ -91,10 +98,12 @@ impl Aig {
     ) -> Result<AigEdge, MemoryError>
         requires first { IsInRange self.old.nodes fanin0 }
         requires second { IsInRange self.old.nodes fanin1 }
-        ensures rule { IfOk result (λ e. FoldsOrAdds self.old.nodes self.new.nodes fanin0 (inverse fanin1) (inverse e)) }
+        ensures rule { IfOk result
+            (λ e. FoldsOrAdds self.old.nodes self.new.nodes fanin0 (inverse fanin1) (inverse e)) }
         ensures folds { (f : AigEdge) → Folds fanin0 (inverse fanin1) f → IsOk result }
         ensures edge { IfOk result (λ e. IsInRange self.new.nodes e) }
-        ensures value { IfOk result (λ e. (x : ℕ → Bool) → edge_value self.new.nodes x e ≡ (not (edge_value self.old.nodes x fanin0) || edge_value self.old.nodes x fanin1)) }
+        ensures value { IfOk result (λ e. (x : ℕ → Bool) → edge_value self.new.nodes x e
+            ≡ (not (edge_value self.old.nodes x fanin0) || edge_value self.old.nodes x fanin1)) }
         // Gates alone are added, after the old nodes: edges to old nodes keep their values, and lists and names stay.
         ensures gates { AddsOnlyGates self.old self.new }
         ensures err { OnErr result (self.new ≡ self.old) }
@@ -108,9 +117,11 @@ impl Aig {
         requires first { IsInRange self.old.nodes fanin0 }
         requires second { IsInRange self.old.nodes fanin1 }
         // The and of the two, the and of their inverses, and the or of these, each of which folds or adds one gate.
-        ensures rule { IfOk result (λ e. FoldsOrAddsEq self.old.nodes self.new.nodes fanin0 fanin1 e) }
+        ensures rule { IfOk result
+            (λ e. FoldsOrAddsEq self.old.nodes self.new.nodes fanin0 fanin1 e) }
         ensures edge { IfOk result (λ e. IsInRange self.new.nodes e) }
-        ensures value { IfOk result (λ e. (x : ℕ → Bool) → IsTrue (edge_value self.new.nodes x e) ↔ (edge_value self.old.nodes x fanin0 ≡ edge_value self.old.nodes x fanin1)) }
+        ensures value { IfOk result (λ e. (x : ℕ → Bool) → IsTrue (edge_value self.new.nodes x e)
+            ↔ (edge_value self.old.nodes x fanin0 ≡ edge_value self.old.nodes x fanin1)) }
         // Gates alone are added, after the old nodes: edges to old nodes keep their values, and lists and names stay.
         ensures gates { AddsOnlyGates self.old self.new }
         ensures err { OnErr result (self.new ≡ self.old) }
@@ -125,10 +136,15 @@ impl Aig {
         &mut self,
         fanin: I,
     ) -> Result<AigEdge, MemoryError>
-        requires ends { IsFiniteIterable I.into_iter_gives I.IntoIter.can_next I.IntoIter.remaining fanin }
-        requires edges { ForItems I.into_iter_gives I.IntoIter.next_gives fanin (All (IsInRange self.old.nodes)) }
-        ensures joins { IfOk result (λ e. TakesItems I.into_iter_gives I.IntoIter.next_gives fanin (λ es.
-            AddsGateForEach self.old.nodes es self.new.nodes e × JoinsByAnd self.old.nodes self.new.nodes es e × AddsOneEach self.old.nodes self.new.nodes es)) }
+        requires ends { IsFiniteIterable I.into_iter_gives
+            I.IntoIter.can_next I.IntoIter.remaining fanin }
+        requires edges { ForItems I.into_iter_gives I.IntoIter.next_gives fanin
+            (All (IsInRange self.old.nodes)) }
+        ensures joins { IfOk result
+            (λ e. TakesItems I.into_iter_gives I.IntoIter.next_gives fanin (λ es.
+            AddsGateForEach self.old.nodes es self.new.nodes e
+            × JoinsByAnd self.old.nodes self.new.nodes es e
+            × AddsOneEach self.old.nodes self.new.nodes es)) }
         // Gates alone are added, after the old nodes: edges to old nodes keep their values, and lists and names stay.
         ensures gates { AddsOnlyGates self.old self.new }
         ensures err { OnErr result (self.new ≡ self.old) }
@@ -143,10 +159,14 @@ impl Aig {
         &mut self,
         fanin: I,
     ) -> Result<AigEdge, MemoryError>
-        requires ends { IsFiniteIterable I.into_iter_gives I.IntoIter.can_next I.IntoIter.remaining fanin }
-        requires edges { ForItems I.into_iter_gives I.IntoIter.next_gives fanin (All (IsInRange self.old.nodes)) }
-        ensures joins { IfOk result (λ e. TakesItems I.into_iter_gives I.IntoIter.next_gives fanin (λ es.
-            FoldsOrAddsAll self.old.nodes es self.new.nodes e × JoinsByAnd self.old.nodes self.new.nodes es e)) }
+        requires ends { IsFiniteIterable I.into_iter_gives
+            I.IntoIter.can_next I.IntoIter.remaining fanin }
+        requires edges { ForItems I.into_iter_gives I.IntoIter.next_gives fanin
+            (All (IsInRange self.old.nodes)) }
+        ensures joins { IfOk result
+            (λ e. TakesItems I.into_iter_gives I.IntoIter.next_gives fanin (λ es.
+            FoldsOrAddsAll self.old.nodes es self.new.nodes e
+            × JoinsByAnd self.old.nodes self.new.nodes es e)) }
         // Gates alone are added, after the old nodes: edges to old nodes keep their values, and lists and names stay.
         ensures gates { AddsOnlyGates self.old self.new }
         ensures err { OnErr result (self.new ≡ self.old) }
@@ -161,10 +181,15 @@ impl Aig {
         &mut self,
         fanin: I,
     ) -> Result<AigEdge, MemoryError>
-        requires ends { IsFiniteIterable I.into_iter_gives I.IntoIter.can_next I.IntoIter.remaining fanin }
-        requires edges { ForItems I.into_iter_gives I.IntoIter.next_gives fanin (All (IsInRange self.old.nodes)) }
-        ensures joins { IfOk result (λ e. TakesItems I.into_iter_gives I.IntoIter.next_gives fanin (λ es.
-            AddsGateForEach self.old.nodes (map inverse es) self.new.nodes (inverse e) × JoinsByOr self.old.nodes self.new.nodes es e × AddsOneEach self.old.nodes self.new.nodes es)) }
+        requires ends { IsFiniteIterable I.into_iter_gives
+            I.IntoIter.can_next I.IntoIter.remaining fanin }
+        requires edges { ForItems I.into_iter_gives I.IntoIter.next_gives fanin
+            (All (IsInRange self.old.nodes)) }
+        ensures joins { IfOk result
+            (λ e. TakesItems I.into_iter_gives I.IntoIter.next_gives fanin (λ es.
+            AddsGateForEach self.old.nodes (map inverse es) self.new.nodes (inverse e)
+            × JoinsByOr self.old.nodes self.new.nodes es e
+            × AddsOneEach self.old.nodes self.new.nodes es)) }
         // Gates alone are added, after the old nodes: edges to old nodes keep their values, and lists and names stay.
         ensures gates { AddsOnlyGates self.old self.new }
         ensures err { OnErr result (self.new ≡ self.old) }
@@ -179,10 +204,14 @@ impl Aig {
         &mut self,
         fanin: I,
     ) -> Result<AigEdge, MemoryError>
-        requires ends { IsFiniteIterable I.into_iter_gives I.IntoIter.can_next I.IntoIter.remaining fanin }
-        requires edges { ForItems I.into_iter_gives I.IntoIter.next_gives fanin (All (IsInRange self.old.nodes)) }
-        ensures joins { IfOk result (λ e. TakesItems I.into_iter_gives I.IntoIter.next_gives fanin (λ es.
-            FoldsOrAddsAll self.old.nodes (map inverse es) self.new.nodes (inverse e) × JoinsByOr self.old.nodes self.new.nodes es e)) }
+        requires ends { IsFiniteIterable I.into_iter_gives
+            I.IntoIter.can_next I.IntoIter.remaining fanin }
+        requires edges { ForItems I.into_iter_gives I.IntoIter.next_gives fanin
+            (All (IsInRange self.old.nodes)) }
+        ensures joins { IfOk result
+            (λ e. TakesItems I.into_iter_gives I.IntoIter.next_gives fanin (λ es.
+            FoldsOrAddsAll self.old.nodes (map inverse es) self.new.nodes (inverse e)
+            × JoinsByOr self.old.nodes self.new.nodes es e)) }
         // Gates alone are added, after the old nodes: edges to old nodes keep their values, and lists and names stay.
         ensures gates { AddsOnlyGates self.old self.new }
         ensures err { OnErr result (self.new ≡ self.old) }
@@ -198,7 +227,8 @@ fn collect_edges<I: IntoIterator<Item = AigEdge>>(
     edges: I,
 ) -> Result<Vec<AigEdge>, MemoryError>
     requires { IsFiniteIterable I.into_iter_gives I.IntoIter.can_next I.IntoIter.remaining edges }
-    ensures { IfOk result (λ items. TakesItems I.into_iter_gives I.IntoIter.next_gives edges (λ es. items.items ≡ es)) }
+    ensures { IfOk result (λ items. TakesItems I.into_iter_gives I.IntoIter.next_gives edges
+        (λ es. items.items ≡ es)) }
 {
     Ok(edges.into_iter().collect(alloc)?)
 }

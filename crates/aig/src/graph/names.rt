@@ -20,7 +20,8 @@ impl Aig {
     /// Names a node, in place of an older name. Asks `has_node`.
     pub fn set_symbol(&mut self, id: usize, name: &str) -> Result<(), MemoryError>
         requires { id < length self.old.nodes }
-        ensures ok { OnOk result (self.new ≡ record self.old { names = insert self.old.names id name.now }) }
+        ensures ok { OnOk result
+            (self.new ≡ record self.old { names = insert self.old.names id name.now }) }
         ensures err { OnErr result (self.new ≡ self.old) }
     {
         let text = String::from_str(self.allocator(), name)?;

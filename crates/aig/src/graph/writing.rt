@@ -14,7 +14,8 @@ impl Aig {
     /// Appends an edge to a list. Asks `has_edge`.
     pub fn push_edge(&mut self, list: PropList, e: AigEdge) -> Result<(), MemoryError>
         requires { IsInRange self.old.nodes e }
-        ensures ok { OnOk result (self.new ≡ with_edges list self.old (edges_of list self.old ++ e ∷ [])) }
+        ensures ok { OnOk result
+            (self.new ≡ with_edges list self.old (edges_of list self.old ++ e ∷ [])) }
         ensures err { OnErr result (self.new ≡ self.old) }
     {
         match list {
@@ -55,7 +56,8 @@ impl Aig {
     /// Appends a justice property, a set of edges. Asks `has_edge` of each.
     pub fn push_justice(&mut self, set: Vec<AigEdge>) -> Result<(), MemoryError>
         requires { All (IsInRange self.old.nodes) set.items }
-        ensures ok { OnOk result (self.new ≡ record self.old { justice = self.old.justice ++ set.items ∷ [] }) }
+        ensures ok { OnOk result
+            (self.new ≡ record self.old { justice = self.old.justice ++ set.items ∷ [] }) }
         ensures err { OnErr result (self.new ≡ self.old) }
     {
         self.lists.justice.push(set)?;
@@ -73,7 +75,9 @@ impl Aig {
     pub fn set_next(&mut self, i: usize, e: AigEdge)
         requires place { i < length self.old.latchs }
         requires edge { IsInRange self.old.nodes e }
-        ensures { (latch : AigLatch) → slice_get self.old.latchs i ≡ Some latch → self.new ≡ record self.old { latchs = slice_set self.old.latchs i (record latch { next = e }) } }
+        ensures { (latch : AigLatch) → slice_get self.old.latchs i ≡ Some latch
+            → self.new ≡ record self.old
+            { latchs = slice_set self.old.latchs i (record latch { next = e }) } }
     {
         let latch = self.lists.latchs[i];
         self.lists.latchs[i] = AigLatch::new(latch.input(), e, latch.init());
@@ -84,7 +88,9 @@ impl Aig {
     pub fn set_init(&mut self, i: usize, e: Option<AigEdge>)
         requires place { i < length self.old.latchs }
         requires edge { IfSome e (IsInRange self.old.nodes) }
-        ensures { (latch : AigLatch) → slice_get self.old.latchs i ≡ Some latch → self.new ≡ record self.old { latchs = slice_set self.old.latchs i (record latch { init = e }) } }
+        ensures { (latch : AigLatch) → slice_get self.old.latchs i ≡ Some latch
+            → self.new ≡ record self.old
+            { latchs = slice_set self.old.latchs i (record latch { init = e }) } }
     {
         let latch = self.lists.latchs[i];
         self.lists.latchs[i] = AigLatch::new(latch.input(), latch.next(), e);

@@ -80,7 +80,8 @@ impl LitVvec {
 
     /// Appends the clause of one literal and the inverses of others.
     fn push_inverses(&mut self, first: Lit, others: &[Lit]) -> Result<(), MemoryError>
-        ensures ok { OnOk result (self.new ≡ self.old ++ (first ∷ map inverse_lit others.now) ∷ []) }
+        ensures ok { OnOk result
+            (self.new ≡ self.old ++ (first ∷ map inverse_lit others.now) ∷ []) }
         ensures err { OnErr result (self.new ≡ self.old) }
     {
         self.ends.reserve(1)?;
@@ -94,7 +95,8 @@ impl LitVvec {
     /// The clauses that hold exactly where `n` is the and of the literals.
     pub fn cnf_and(alloc: Global, n: Lit, lits: &[Lit]) -> Result<LitVvec, MemoryError>
         ensures clauses { IfOk result (λ rel. rel ≡ and_clauses n lits.now) }
-        ensures relation { IfOk result (λ rel. (v : ℕ → Bool) → IsTrue (are_true v rel) ↔ (literal_value v n ≡ list_all (literal_value v) lits.now)) }
+        ensures relation { IfOk result (λ rel. (v : ℕ → Bool) → IsTrue (are_true v rel)
+            ↔ (literal_value v n ≡ list_all (literal_value v) lits.now)) }
     {
         let mut rel = LitVvec::new(alloc);
         for lit in lits {
@@ -107,7 +109,9 @@ impl LitVvec {
     /// The clauses that hold exactly where `n` is `x` exclusive or `y`.
     pub fn cnf_xor(alloc: Global, n: Lit, x: Lit, y: Lit) -> Result<LitVvec, MemoryError>
         ensures clauses { IfOk result (λ rel. rel ≡ xor_clauses n x y) }
-        ensures relation { IfOk result (λ rel. (v : ℕ → Bool) → IsTrue (are_true v rel) ↔ (literal_value v n ≡ (if literal_value v x then not (literal_value v y) else literal_value v y))) }
+        ensures relation { IfOk result (λ rel. (v : ℕ → Bool) → IsTrue (are_true v rel)
+            ↔ (literal_value v n
+            ≡ (if literal_value v x then not (literal_value v y) else literal_value v y))) }
     {
         let mut rel = LitVvec::new(alloc);
         rel.push(&[!n, x, y])?;
@@ -120,7 +124,9 @@ impl LitVvec {
     /// The clauses that hold exactly where `n` is `t` if `c` is true, and else `e`.
     pub fn cnf_ite(alloc: Global, n: Lit, c: Lit, t: Lit, e: Lit) -> Result<LitVvec, MemoryError>
         ensures clauses { IfOk result (λ rel. rel ≡ ite_clauses n c t e) }
-        ensures relation { IfOk result (λ rel. (v : ℕ → Bool) → IsTrue (are_true v rel) ↔ (literal_value v n ≡ (if literal_value v c then literal_value v t else literal_value v e))) }
+        ensures relation { IfOk result (λ rel. (v : ℕ → Bool) → IsTrue (are_true v rel)
+            ↔ (literal_value v n
+            ≡ (if literal_value v c then literal_value v t else literal_value v e))) }
     {
         let mut rel = LitVvec::new(alloc);
         rel.push(&[!c, !t, n])?;

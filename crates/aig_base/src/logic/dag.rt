@@ -58,7 +58,8 @@ impl DagCnf {
     pub fn add_rel(&mut self, var: Var, rel: &LitVvec) -> Result<(), MemoryError>
         requires var { number_of var < length self.old }
         requires rel { AreBelow (length self.old) rel.now }
-        ensures ok { OnOk result (self.new ≡ slice_set self.old (number_of var) (slice_index_or self.old (number_of var) [] ++ rel.now)) }
+        ensures ok { OnOk result (self.new ≡ slice_set self.old (number_of var)
+            (slice_index_or self.old (number_of var) [] ++ rel.now)) }
         ensures err { OnErr result (self.new ≡ self.old) }
     {
         let i = usize::from(var);

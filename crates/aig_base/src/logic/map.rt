@@ -42,7 +42,8 @@ impl VarVMap {
     /// Maps a variable, and answers the one that it was mapped to before, if any.
     pub fn insert(&mut self, k: Var, v: Var) -> Result<Option<Var>, MemoryError>
         ensures before { IfOk result (λ before. before ≡ finite_map.get self.old (number_of k)) }
-        ensures ok { OnOk result (self.new ≡ finite_map.insert self.old (number_of k) (number_of v)) }
+        ensures ok { OnOk result
+            (self.new ≡ finite_map.insert self.old (number_of k) (number_of v)) }
         ensures err { OnErr result (self.new ≡ self.old) }
     {
         Ok(self.entries.insert(k.number(), v)?)

@@ -26,7 +26,8 @@ pub struct Place {
 
 /// Reads the rest of a number whose first byte is `first`, up to the space that ends it.
 fn position<F: ByteFeed>(f: &mut F, first: u8) -> Result<u32, LexError>
-    ensures exact { Gives OnShape (λ x. x) (F.coming f.old) (F.coming f.new) result (position_at first) }
+    ensures exact { Gives OnShape (λ x. x)
+        (F.coming f.old) (F.coming f.new) result (position_at first) }
     ensures stream { IsErrOf result LexError.Stream → F.failed f.new ≡ true }
     ensures same { F.behind f.new ≡ F.behind f.old }
     ensures fewer { OnOk result (F.turns f.new < F.turns f.old) }
@@ -46,7 +47,10 @@ pub fn read_place<F: ByteFeed>(
     section: NamedSection,
     first: u8,
 ) -> Result<Place, LexError>
-    ensures exact { Gives OnShape (λ place. place.position) (F.coming f.old) (F.coming f.new) result (tested_at (position_at first) (λ n. nat_lt n (count_of (numbers_of header.now) (letter_of section)))) }
+    ensures exact { Gives OnShape (λ place. place.position)
+        (F.coming f.old) (F.coming f.new) result
+        (tested_at (position_at first)
+        (λ n. nat_lt n (count_of (numbers_of header.now) (letter_of section)))) }
     ensures section { IfOk result (λ place. place.section ≡ section) }
     ensures stream { IsErrOf result LexError.Stream → F.failed f.new ≡ true }
     ensures same { F.behind f.new ≡ F.behind f.old }
@@ -63,7 +67,8 @@ pub fn read_place<F: ByteFeed>(
 pub fn named_node(place: Place, inputs: &[usize], latchs: &[AigLatch]) -> Option<usize>
     requires inputs { place.section ≡ sections.Inputs → place.position < length inputs.now }
     requires latchs { place.section ≡ sections.Latches → place.position < length latchs.now }
-    ensures { result ≡ node_at inputs.now (latch_leaves latchs.now) (letter_of place.section) place.position }
+    ensures { result
+        ≡ node_at inputs.now (latch_leaves latchs.now) (letter_of place.section) place.position }
 {
     match place.section {
         NamedSection::Inputs => Some(inputs[place.position as usize]),

@@ -30,7 +30,8 @@ pub enum NamedSection {
 impl NamedSection {
     /// The section whose names begin with this letter, if there is one.
     pub fn of_letter(letter: u8) -> Option<Self>
-        ensures { MatchOption result (is_letter letter ≡ false) (λ section. letter_of section ≡ letter) }
+        ensures { MatchOption result (is_letter letter ≡ false)
+            (λ section. letter_of section ≡ letter) }
     {
         match letter {
             b'i' => Some(NamedSection::Inputs),

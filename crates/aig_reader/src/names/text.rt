@@ -15,7 +15,8 @@ use std::alloc::Global;
 
 /// Reads the bytes of a name, up to the line feed, which is not one of them.
 fn name_bytes<F: ByteFeed>(alloc: Global, f: &mut F) -> Result<Vec<u8>, NameError>
-    ensures exact { Gives OnName (λ text. text.items) (F.coming f.old) (F.coming f.new) result text_at }
+    ensures exact { Gives OnName (λ text. text.items)
+        (F.coming f.old) (F.coming f.new) result text_at }
     ensures stream { IsErrOf result NameError.Stream → F.failed f.new ≡ true }
     ensures same { F.behind f.new ≡ F.behind f.old }
     ensures fewer { OnOk result (F.turns f.new < F.turns f.old) }
@@ -32,7 +33,8 @@ fn name_bytes<F: ByteFeed>(alloc: Global, f: &mut F) -> Result<Vec<u8>, NameErro
 
 /// Reads a name that is kept, up to the line feed: it has to be UTF-8.
 pub fn kept_text<F: ByteFeed>(alloc: Global, f: &mut F) -> Result<String, NameError>
-    ensures exact { Gives OnName (λ text. string_bytes text) (F.coming f.old) (F.coming f.new) result (tested_at text_at is_utf8) }
+    ensures exact { Gives OnName (λ text. string_bytes text)
+        (F.coming f.old) (F.coming f.new) result (tested_at text_at is_utf8) }
     ensures stream { IsErrOf result NameError.Stream → F.failed f.new ≡ true }
     ensures same { F.behind f.new ≡ F.behind f.old }
     ensures fewer { OnOk result (F.turns f.new < F.turns f.old) }
@@ -43,7 +45,8 @@ pub fn kept_text<F: ByteFeed>(alloc: Global, f: &mut F) -> Result<String, NameEr
 
 /// Reads a name that is dropped, up to the line feed, and holds none of it.
 pub fn skip_text<F: ByteFeed>(f: &mut F) -> Result<(), LexError>
-    ensures exact { Makes OnShape (λ _ _. Unit {0}) (F.coming f.old) (F.coming f.new) result text_at }
+    ensures exact { Makes OnShape (λ _ _. Unit {0})
+        (F.coming f.old) (F.coming f.new) result text_at }
     ensures stream { IsErrOf result LexError.Stream → F.failed f.new ≡ true }
     ensures same { F.behind f.new ≡ F.behind f.old }
     ensures fewer { OnOk result (F.turns f.new < F.turns f.old) }
@@ -58,7 +61,8 @@ pub fn skip_text<F: ByteFeed>(f: &mut F) -> Result<(), LexError>
 
 /// Reads up to the end of the stream.
 pub fn skip_rest<F: ByteFeed>(f: &mut F) -> Result<(), StreamFault>
-    ensures taken { OnOk result ((taken : List ℕ) × Consumes (F.coming f.old) (F.coming f.new) taken) }
+    ensures taken { OnOk result
+        ((taken : List ℕ) × Consumes (F.coming f.old) (F.coming f.new) taken) }
     ensures whole { OnOk result ((F.failed f.new ≡ false) × IsAtEnd (F.coming f.new)) }
     ensures stream { OnErr result (F.failed f.new ≡ true) }
     ensures same { F.behind f.new ≡ F.behind f.old }

@@ -31,7 +31,8 @@ fn write_name_line<W: Write>(
     f: &mut Formatter<W>,
 ) -> fmt::Result
     requires { letter < 128 }
-    ensures { let text = name_of (record { letter = letter; position = position; name = name.now }) in
+    ensures { let text = name_of
+        (record { letter = letter; position = position; name = name.now }) in
         WritesStyledOnOk W.write_str_gives f.old result text f.new }
 {
     f.write_char(letter)?;
