@@ -142,8 +142,10 @@ impl Aig {
         requires next_edge { IsInRange self.old.nodes next }
         requires init_edge { IfSome init (IsInRange self.old.nodes) }
         ensures number { IfOk result (λ id. id ≡ length self.old.nodes) }
-        ensures ok { IfOk result (λ id. self.new ≡ record self.old
-            { nodes = with_node self.old.nodes Leaf; latchs = self.old.latchs ++ record { input = id; next = next; init = init } ∷ [] }) }
+        ensures ok { IfOk result (λ id. self.new ≡ record self.old {
+          nodes = with_node self.old.nodes Leaf;
+          latchs = self.old.latchs ++ record { input = id; next = next; init = init } ∷ [];
+        }) }
         ensures err { OnErr result (self.new ≡ self.old) }
     {
         self.lists.latchs.reserve(1)?;

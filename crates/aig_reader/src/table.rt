@@ -7,6 +7,7 @@ ghost use Rattle.aig_format.specs.File.{GateLine};
 ghost use Rattle.aig_ordering.specs.Gates.{nodes_in};
 ghost use Rattle.aig_reader.specs.Gates.{AreFirstNodes, AreWaiting, HasSpace, gate_in, line_of, literals_of};
 ghost use Rattle.aig_reader.specs.declared.places.Gates.TheVariants as held;
+ghost use Rattle.aig_reader.specs.declared.table.TheConstants.{WAITING};
 ghost use Rattle.aig_reader.specs.Variables.{IsNewAmong};
 
 use aig_circuit::{AigEdge, AigNode, AigNodeType};
@@ -139,6 +140,7 @@ impl Table {
             → OnOk result (AreWaiting gates self.new) }
         ensures space { OnOk result ((size : ℕ) → HasSpace size (held.Table self.old)
             → HasSpace size (held.Table self.new)) }
+        ensures room { OnOk result (vec_len self.new.late < WAITING) }
     {
         if self.late.len() >= WAITING {
             self.settle()
@@ -155,6 +157,7 @@ impl Table {
             → OnOk result (AreWaiting (gates ++ line_of lhs operands ∷ []) self.new) }
         ensures space { OnOk result ((size : ℕ) → lhs / 2 < size
             → HasSpace size (held.Table self.old) → HasSpace size (held.Table self.new)) }
+        ensures few { OnOk result (vec_len self.new.late ≤ WAITING) }
     {
         self.make_room()?;
         self.late.push(Late { lhs, operands })?;
