@@ -4,3 +4,4 @@ pub mod NodesIn
 pub mod Searching
 pub mod Leveling
 pub mod Numbering
+pub mod Written

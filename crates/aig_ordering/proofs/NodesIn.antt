@@ -34,6 +34,10 @@ length-nodes_in gates = length-from 0 gates
 pub nodes_in-at : (gates : List (Option Operands)) (v : ℕ) (d : AigNode) (e : Option Operands) → v < length gates → get_or (nodes_in gates) v d ≡ node_in v (get_or gates v e)
 nodes_in-at gates v d e h = let same : 0 + v ≡ v = omega arith in at_from 0 v gates d e h ∙ ap (λ u. node_in u (get_or gates v e)) same
 
+-- the kind of a node under the numbers
+abbrev pub node_under : List ℕ → AigNode → Option AigNodeType
+node_under numbers node = kind_by (number_at numbers) node.typ
+
 -- the kind of a variable under the numbers
 abbrev pub kind_under : List ℕ → List (Option Operands) → ℕ → Option AigNodeType
 kind_under numbers gates v = option_and_then (kind_by (number_at numbers)) (kind_at (nodes_in gates) v)

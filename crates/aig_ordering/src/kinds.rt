@@ -1,7 +1,6 @@
-//! The nodes of a circuit under the numbers of its variables.
+//! The nodes of gates in the order of their variables.
 
-ghost use Rattle.std.specs.Prelude.{◌≡◌, ◌<◌, [], ◌∷◌, ◌++◌, All, length, option_and_then, option_map, vec_len};
-ghost use Rattle.aig_circuit.specs.Node.{kind_at};
+ghost use Rattle.std.specs.Prelude.{◌≡◌, [], ◌∷◌, ◌++◌, option_map, vec_len};
 ghost use Rattle.aig_ordering.specs.Gates.{kind_in, nodes_in};
 ghost use Rattle.aig_ordering.specs.Numbers.{MakesAll, all_by, kind_by, node_of, number_at, numbered};
 
@@ -11,16 +10,15 @@ use crate::lists::edge;
 use aig_circuit::{AigNode, false_node, gate_node, leaf_node};
 use std::alloc::Global;
 
-/// Puts the node of a variable, which has this gate or none, behind the others. A gate's operands get their numbers.
+/// Puts the node of the next place, which has this gate or none, behind the others. A gate's operands get their numbers.
 fn push_node(
     new: &mut Vec<AigNode>,
     numbers: &[u32],
-    variable: usize,
     gate: Option<Operands>,
 ) -> Result<(), OrderError>
     ensures { MakesAll (λ _. new.new.items)
         (option_map (λ kind. new.old.items ++ node_of (vec_len new.old) kind ∷ [])
-        (kind_by (number_at numbers.now) (kind_in variable gate))) result }
+        (kind_by (number_at numbers.now) (kind_in (vec_len new.old) gate))) result }
 {
     match gate {
         Some(operands) => {
@@ -32,29 +30,25 @@ fn push_node(
             };
             new.push(gate_node(new.len(), first, second))?;
         }
-        None if variable == 0 => new.push(false_node())?,
+        None if new.is_empty() => new.push(false_node())?,
         None => new.push(leaf_node(new.len()))?,
     }
     Ok(())
 }
 
-/// The nodes of the order's variables, with operands under their numbers.
+/// The nodes of gates in their order, with operands under their numbers. What has no gate is a leaf, but at place 0 false.
 pub fn nodes(
     alloc: Global,
     numbers: &[u32],
     gates: &[Option<Operands>],
-    order: &[u32],
 ) -> Result<Vec<AigNode>, OrderError>
-    requires within { All (λ v. v < length gates.now) order.now }
     ensures { MakesAll (λ new. new.items)
-        (option_map (numbered 0) (all_by
-        (λ v. option_and_then (kind_by (number_at numbers.now)) (kind_at (nodes_in gates.now) v))
-        order.now)) result }
+        (option_map (numbered 0)
+        (all_by (λ node. kind_by (number_at numbers.now) node.typ) (nodes_in gates.now))) result }
 {
-    let mut new = Vec::with_capacity(alloc, order.len())?;
-    for variable in order {
-        let variable = *variable as usize;
-        push_node(&mut new, numbers, variable, gates[variable])?;
+    let mut new = Vec::with_capacity(alloc, gates.len())?;
+    for gate in gates {
+        push_node(&mut new, numbers, *gate)?;
     }
     Ok(new)
 }

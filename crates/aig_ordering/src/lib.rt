@@ -14,4 +14,4 @@ pub use error::OrderError;
 pub use gates::{Operands, edge_of, variable_node};
 pub use kinds::nodes;
 pub use lists::{edges, latchs, sets, variables};
-pub use order::{numbers, order_by_level};
+pub use order::{Ordered, order_by_level};

@@ -23,7 +23,7 @@ use crate::sections::{Lists, Sections};
 use crate::variables::Variables;
 use aig_circuit::AigNode;
 use aig_ordering::{
-    Operands, OrderError, edges, latchs, nodes, numbers, order_by_level, sets, variables,
+    Operands, OrderError, Ordered, edges, latchs, nodes, order_by_level, sets, variables,
 };
 use std::alloc::Global;
 
@@ -40,9 +40,8 @@ fn number_nodes(
         → JudgedOrder (list_all (has_level f) f.gates && have_operands f)
         (λ x. (x.0.items ≡ (circuit_of f).nodes) × AreNumbersOf f x.1.items) result }
 {
-    let order = order_by_level(alloc, gates, known)?;
-    let numbers = numbers(alloc, &order, gates.len())?;
-    let nodes = nodes(alloc, &numbers, gates, &order)?;
+    let Ordered { numbers, gates } = order_by_level(alloc, gates, known)?;
+    let nodes = nodes(alloc, &numbers, &gates)?;
     Ok((nodes, numbers))
 }
 

@@ -1,12 +1,15 @@
 use Rattle.std.proofs.Common.{◌≡◌, List, Some, take}
+use Rattle.std.specs.Prelude.{vec_len}
 use Rattle.aig_circuit.specs.declared.node.AigNodeType.{AigNodeType}
+use Rattle.aig_ordering.specs.Gates.{nodes_in}
 use Rattle.aig_ordering.specs.Numbers.{all_by, numbered}
-use Rattle.aig_ordering.proofs.NodesIn.{kind_under}
+use Rattle.aig_ordering.proofs.NodesIn.{node_under}
 use Rattle.aig_ordering.proofs.kinds.nodes.Given as goal
 
-abbrev pub invariant-loop-variable : goal.invariant-loop-variable
-invariant-loop-variable l = record {
+abbrev pub invariant-loop-gate : goal.invariant-loop-gate
+invariant-loop-gate l = record {
+  count : vec_len l.new ≡ l.gate-index;
   kinds : List AigNodeType;
-  are : all_by (kind_under l.numbers l.gates) (take l.variable-index l.order) ≡ Some kinds;
+  are : all_by (node_under l.numbers) (take l.gate-index (nodes_in l.gates)) ≡ Some kinds;
   made : l.new.items ≡ numbered 0 kinds;
 }
