@@ -30,18 +30,23 @@ use std::alloc::Global;
 /// The nodes by level, and the number of each variable that is 0 or defined.
 fn number_nodes(
     alloc: Global,
-    gates: &[Option<Operands>],
+    gates: Vec<Option<Operands>>,
     known: &[bool],
 ) -> Result<(Vec<AigNode>, Vec<u32>), OrderError>
-    requires tables { (f : File) × AreNodesOf f (nodes_in gates.now) × AreKnownOf f known.now }
-    requires few { length gates.now ≤ 2 ^ 31 }
-    ensures { (f : File) → HasGoodLines f → AreNodesOf f (nodes_in gates.now)
+    requires tables { (f : File) × AreNodesOf f (nodes_in gates.items) × AreKnownOf f known.now }
+    requires few { vec_len gates ≤ 2 ^ 31 }
+    ensures { (f : File) → HasGoodLines f → AreNodesOf f (nodes_in gates.items)
         → AreKnownOf f known.now → is_older f ≡ false
         → JudgedOrder (list_all (has_level f) f.gates && have_operands f)
         (λ x. (x.0.items ≡ (circuit_of f).nodes) × AreNumbersOf f x.1.items) result }
 {
-    let Ordered { numbers, gates } = order_by_level(alloc, gates, known)?;
-    let nodes = nodes(alloc, &numbers, &gates)?;
+    let Ordered {
+        numbers,
+        gates: sorted,
+    } = order_by_level(alloc, &gates, known)?;
+    // The nodes take four times the memory of this table.
+    drop(gates);
+    let nodes = nodes(alloc, &numbers, &sorted)?;
     Ok((nodes, numbers))
 }
 
@@ -96,12 +101,12 @@ impl Lists {
     fn by_level(
         &self,
         alloc: Global,
-        gates: &[Option<Operands>],
+        gates: Vec<Option<Operands>>,
         known: &[bool],
     ) -> Result<Sections, ReadError>
-        requires tables { (f : File) × AreNodesOf f (nodes_in gates.now) × AreKnownOf f known.now }
-        requires few { length gates.now ≤ 2 ^ 31 }
-        ensures exact { (f : File) → HasGoodLines f → AreNodesOf f (nodes_in gates.now)
+        requires tables { (f : File) × AreNodesOf f (nodes_in gates.items) × AreKnownOf f known.now }
+        requires few { vec_len gates ≤ 2 ^ 31 }
+        ensures exact { (f : File) → HasGoodLines f → AreNodesOf f (nodes_in gates.items)
             → AreKnownOf f known.now → AreListsByVariable self.now f → is_older f ≡ false
             → Judged (uses_known f && list_all (has_level f) f.gates) (IsCircuitOf f) result }
         ensures fault { IfErr result IsNumberFault }
@@ -138,6 +143,6 @@ impl Lines {
             Variables::Marked(marks) => marks.known(alloc)?,
             Variables::Counted(_) => unreachable!(),
         };
-        lists.by_level(alloc, &gates, &known)
+        lists.by_level(alloc, gates, &known)
     }
 }

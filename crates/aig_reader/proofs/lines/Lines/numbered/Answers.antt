@@ -7,7 +7,7 @@ use Rattle.aig_ordering.proofs.NodesIn.{length-nodes_in}
 use Rattle.aig_reader.specs.Sections.{AreLinesOf}
 use Rattle.aig_reader.proofs.Steps.{newer_judged, nodes_placed, older_judged}
 use Rattle.aig_reader.proofs.lines.Lines.numbered.Goals as goal
-use Rattle.aig_reader.proofs.lines.Lines.numbered.Goals.{After-deref-2, else-is_complete-via-else-is_complete, else-is_complete-via-then-is_complete+else-are_rising}
+use Rattle.aig_reader.proofs.lines.Lines.numbered.Goals.{After-deref, else-is_complete-via-else-is_complete, else-is_complete-via-then-is_complete+else-are_rising}
 
 pub returns-then-are_rising-clause-exact : goal.returns-then-are_rising-clause-exact
 returns-then-are_rising-clause-exact c = λ f h.
@@ -15,15 +15,15 @@ returns-then-are_rising-clause-exact c = λ f h.
     older_judged f record { nodes = c.into_nodes-nodes.result; lists = c.args.self.lists } h.good h.lists (c.into_nodes-nodes.ensures.nodes f.greatest _ f.gates h.gates) (omega (arith, c.into_nodes-nodes.ensures.len, h.greatest)) older
 
 -- where not all gates rise, or a variable is missing: what the tables tell
-module _ (c : After-deref-2) (f : File) (h : AreLinesOf f c.args.self) where
-  gates_are : AreNodesOf f (nodes_in c.deref.result.now)
+module _ (c : After-deref) (f : File) (h : AreLinesOf f c.args.self) where
+  gates_are : AreNodesOf f (nodes_in c.in_ok-gates.gates.items)
   gates_are =
       let gates = c.in_ok-gates.gates in
       let all : length (nodes_in gates.items) ≡ f.greatest + 1 = omega (arith, length-nodes_in gates.items, gates.ok.0, c.in_ok-gates.ensures.len, h.greatest) in
-      rw c.deref.ensures.value (nodes_placed f h.good (nodes_in gates.items) (c.in_ok-gates.ensures.nodes f.greatest _ f.gates h.gates) all)
+      nodes_placed f h.good (nodes_in gates.items) (c.in_ok-gates.ensures.nodes f.greatest _ f.gates h.gates) all
 
-  known_are : AreKnownOf f c.deref-2.result.now
-  known_are = rw c.deref-2.ensures.value (c.in_ok-known-in-Marked.ensures f (rw c.in-Marked.is at h.defined))
+  known_are : AreKnownOf f c.deref.result.now
+  known_are = rw c.deref.ensures.value (c.in_ok-known-in-Marked.ensures f (rw c.in-Marked.is at h.defined))
 
   newer : is_older f ≡ false
   newer = sym h.older ∙ elim c.else-is_complete.branch [
@@ -36,6 +36,6 @@ by_level-requires-clause-tables c = (c.requires.0, gates_are c c.requires.0 c.re
 
 pub returns-clause-exact : goal.returns-clause-exact
 returns-clause-exact c = λ f h.
-    let here = (goal.at.returns-clause-exact c).After-deref-2 in
+    let here = (goal.at.returns-clause-exact c).After-deref in
     newer_judged f c.by_level.result (sym h.kind ∙ rw c.in-Marked.is refl) (newer here f h)
     (c.by_level.ensures.exact f h.good (gates_are here f h) (known_are here f h) h.lists (newer here f h))

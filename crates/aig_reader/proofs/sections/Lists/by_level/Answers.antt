@@ -26,7 +26,7 @@ module _ (f : File) where
   abbrev levels : Bool
   levels = list_all (has_level f) f.gates
 
-  nodes_judged : (c : After-numbered) → HasGoodLines f → AreNodesOf f (nodes_in c.args.gates.now) → AreKnownOf f c.args.known.now → is_older f ≡ false → Judged (levels && have_operands f) NodesAre c.numbered.result
+  nodes_judged : (c : After-numbered) → HasGoodLines f → AreNodesOf f (nodes_in c.args.gates.items) → AreKnownOf f c.args.known.now → is_older f ≡ false → Judged (levels && have_operands f) NodesAre c.numbered.result
   nodes_judged c good are known newer = judged_by (levels && have_operands f) NodesAre Gates c.number_nodes-nodes.result c.numbered.result (c.number_nodes-nodes.ensures f good are known newer) c.numbered.ensures
 
   lists_judged : (c : After-numbered-2) → AreNumbersOf f c.in_ok-nodes.numbers.items → AreListsByVariable c.args.self.now f → Judged (knows_lists f) (AreListsByNumber f) c.numbered-2.result
