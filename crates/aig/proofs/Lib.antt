@@ -2,3 +2,4 @@ pub mod Gates
 pub mod Results
 pub mod Refusing
 pub mod Texts
+pub mod Strashed

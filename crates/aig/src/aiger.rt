@@ -1,6 +1,6 @@
 //! Reading and writing AIGER.
 
-ghost use Rattle.std.specs.Prelude.{◌≡◌, ◌≢◌, ◌⊎◌, ◌<◌, ◌≤◌, ◌^◌, ℕ, List, Some, false, length, IfErr, IfOk, IfSome, IsErrOf, IsOk, IsTrue, OnOk, true, if◌then◌else◌};
+ghost use Rattle.std.specs.Prelude.{◌≡◌, ◌≢◌, ◌⊎◌, ◌<◌, ◌≤◌, ◌^◌, ℕ, Err, List, Some, false, length, IfErr, IfOk, IfSome, IsErrOf, IsOk, IsTrue, OnOk, true, if◌then◌else◌};
 ghost use Rattle.std.specs.Io.KnownBytes.{Appends, IsAtEnd};
 ghost use Rattle.aig_circuit.specs.Reencode.{reencoded};
 ghost use Rattle.aig_format.specs.Circuit.{binary_of, circuit_of, file_of, text_of, IsReadAgain};
@@ -190,8 +190,45 @@ impl Aig {
     {
         self.refusal()?;
         let numbers = self.form_numbers(ascii)?;
-        let mut file = create_file(rt, f)?;
-        Ok(self.write_form(&mut file, ascii, &numbers)?)
+        self.write_file(rt, f, ascii, &numbers)
+    }
+
+    /// Makes the file of a path anew, and writes a form to it. The table of new numbers is there
+    /// before the file is made.
+    fn write_file(
+        &self,
+        rt: &impl Files,
+        f: Path<'_>,
+        ascii: bool,
+        numbers: &[usize],
+    ) -> Result<(), WriteError>
+        requires closed { IsClosed self.now }
+        requires few { length self.now.nodes ≤ 2 ^ 31 }
+        requires numbers { ascii ≡ false → IsBinaryNumbering self.now numbers.now }
+        ensures faults { IfErr result (λ e. (e ≡ WriteError.Open) ⊎ (e ≡ WriteError.Stream)) }
+    {
+        self.write_made(create_file(rt, f), ascii, numbers)
+    }
+
+    /// Writes a form to a file that was made, if one was.
+    fn write_made<W: Sink + Drop>(
+        &self,
+        made: Result<W, WriteError>,
+        ascii: bool,
+        numbers: &[usize],
+    ) -> Result<(), WriteError>
+        requires closed { IsClosed self.now }
+        requires few { length self.now.nodes ≤ 2 ^ 31 }
+        requires numbers { ascii ≡ false → IsBinaryNumbering self.now numbers.now }
+        ensures open { IfErr made (λ e. result ≡ Err e) }
+        // The whole form was written to it, or a beginning and then it failed.
+        ensures writes { IfOk made (λ file.
+            let form = if ascii then text_of self.now else binary_of self.now in
+            (written : W) × WritesOrStops W.held W.failed file result form written) }
+        ensures stream { IfOk made (λ _. IfErr result (λ e. e ≡ WriteError.Stream)) }
+    {
+        let mut file = made?;
+        Ok(self.write_form(&mut file, ascii, numbers)?)
     }
 
     /// The table of new numbers that a form is written through: none for the text form.

@@ -2,6 +2,7 @@
 
 ghost use Rattle.std.specs.Prelude.{◌≡◌, IfOk};
 ghost use Rattle.aig_circuit.specs.Runs.{KeepsRuns};
+ghost use Rattle.aig_format.specs.Writable.{IsWritable};
 ghost use Rattle.aig_strash.specs.Exchange.{image_of};
 ghost use Rattle.aig_strash.specs.Strash.{KeepsFirsts, MergesTrees, NumbersFirsts, strashed};
 
@@ -25,6 +26,8 @@ impl Aig {
         ensures merges { IfOk result (λ made. MergesTrees self.now made (image_of self.now.nodes)) }
         // Runs, starts and all values stay, both ways.
         ensures runs { IfOk result (λ made. KeepsRuns self.now made (image_of self.now.nodes)) }
+        // What has a written form keeps one.
+        ensures writable { IsWritable self.now → IfOk result IsWritable }
         ensures twice { IfOk result (λ made. strashed made ≡ made) }
     {
         let lists = aig_strash::strash(&self.view())?;

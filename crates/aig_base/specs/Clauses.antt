@@ -1,6 +1,6 @@
 -- Variables, literals and clauses.
-use Rattle.std.specs.Prelude.{ℕ, ◌+◌, ◌*◌, ◌/◌, ◌%◌, ◌^◌, ◌<◌, ◌≤◌, ◌==◌, Bool, true, false, not, if◌then◌else◌, List, [], ◌∷◌, ◌++◌, length, map, IsTrue, All}
-use Rattle.std.specs.List.{list_any, list_all}
+use Rattle.std.specs.Prelude.{◌≡◌, ℕ, ◌+◌, ◌*◌, ◌/◌, ◌%◌, ◌^◌, ◌<◌, ◌≤◌, ◌==◌, Bool, true, false, not, if◌then◌else◌, List, [], ◌∷◌, ◌++◌, length, map, IsTrue, All}
+use Rattle.std.specs.List.{list_any, list_all, sum_by}
 use Rattle.aig_base.specs.declared.logic.literal.Var.{Var}
 use Rattle.aig_base.specs.declared.logic.literal.Lit.{Lit}
 
@@ -62,6 +62,11 @@ pub record AreRelations (lists : List (List (List Lit))) : Type 0 where
   pub some : 0 < length lists
   pub few : length lists ≤ 2 ^ 31
   pub below : All (AreBelow (length lists)) lists
+
+-- so many clauses have the lists together, and 2^63 at most
+pub record IsCount (lists : List (List (List Lit))) (count : ℕ) : Type 0 where
+  pub sum : count ≡ sum_by length lists
+  pub few : count ≤ 2 ^ 63
 
 -- n is the and of the literals
 abbrev pub and_clauses : Lit → List Lit → List (List Lit)

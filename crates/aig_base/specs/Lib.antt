@@ -3,3 +3,4 @@ pub mod Devices
 pub mod Clauses
 pub mod Cut
 pub mod Three
+pub mod Formula

@@ -12,17 +12,17 @@ use Rattle.aig_circuit.specs.declared.node.AigLatch.{AigLatch}
 use Rattle.aig_circuit.specs.Edge.{edge_to, inverse}
 use Rattle.aig_circuit.specs.Tree.{edge_value}
 use Rattle.aig_circuit.specs.Circuit.{AreNodes, Circuit, IsCircuit, IsFree, IsInRange, IsLatch, latch_leaves}
-use Rattle.aig_circuit.specs.Build.{AddsGates, Grows, with_node}
+use Rattle.aig_circuit.specs.Build.{AddsGates, FoldsOrAdds, FoldsOrAddsEq, Grows, with_node}
 use Rattle.aig_change.specs.Runs.{IsAllowedRun}
 use Rattle.aig_circuit.proofs.Building.{Grows-itself, Grows-leaf, edge_value-Grows}
 use Rattle.aig_circuit.proofs.Circuits.{IsCircuit-grown, IsFree-fresh}
-use Rattle.aig_circuit.proofs.Joining.{edge_value-inverse}
+use Rattle.aig_circuit.proofs.Joining.{edge_value-inverse, inverse_twice}
 use Rattle.aig_circuit.proofs.Trees.{kind_at-last, kind_at-within, node_value-leaf}
 use Rattle.aig_circuit.proofs.Writing.{IsCircuit-add_latch, IsCircuit-latchs}
 use Rattle.aig_circuit.specs.Edges.{HasPlainInit}
 use Rattle.aig_renumber.proofs.Places.{map-same}
 use Rattle.aig_change.specs.Changes.{GatesStarts, constant_start, first_step_latch, with_constant_start}
-use Rattle.aig_change.specs.Starting.{Constrains, OpenBegins, SaysStart, is_variable, variable_latchs}
+use Rattle.aig_change.specs.Starting.{Constrains, OpenBegins, SayInSteps, SaysStart, is_variable, variable_latchs}
 use Rattle.aig_change.proofs.FirstStep.{AddsFirst, AreOldRuns-gated, AreOldRuns-itself}
 use Rattle.aig_change.proofs.Grown.{AddsLeaf-gates}
 use Rattle.aig_circuit.proofs.Lists.{All-first, All-second}
@@ -48,16 +48,38 @@ module _ (old new : List AigNode) (are : AreNodes old) (grows : Grows old new) (
   open_back (Some e) s h = λ differs. edge_value-Grows old new are grows x e s ∙ h differs
   open_back None s h = tt
 
+-- some constraints and then others
+SayInSteps-append : (old mid new : List AigNode) (first : AigEdge) (cs : List AigEdge) (ls : List AigLatch) (ds : List AigEdge) (ms : List AigLatch)
+    → SayInSteps old first cs ls mid → SayInSteps mid first ds ms new → SayInSteps old first (cs ++ ds) (ls ++ ms) new
+SayInSteps-append old mid new first [] [] ds ms same more = subst (λ nodes. SayInSteps nodes first ds ms new) same more
+SayInSteps-append old mid new first [] (l ∷ ls) ds ms none more = elim none [ ]
+SayInSteps-append old mid new first (c ∷ cs) [] ds ms none more = elim none [ ]
+SayInSteps-append old mid new first (c ∷ cs) (l ∷ ls) ds ms steps more =
+    (steps.0, steps.1, SayInSteps-append steps.0 mid new first cs ls ds ms steps.2 more)
+
 -- the constraint of one latch
 pub constrained_one : (old one two : List AigNode) (first equal implied not_first leaf_edge start : AigEdge) (latch : AigLatch) (before after : List AigEdge)
     → AreNodes old → IsInRange old first → IsLatch old latch → latch.init ≡ Some start → start.node_id ≢ 0
     → AddsGates old one → ((x : ℕ → Bool) → IsTrue (edge_value one x equal) ↔ (edge_value old x leaf_edge ≡ edge_value old x start)) → leaf_edge ≡ edge_to latch.input false
+    → FoldsOrAddsEq old one leaf_edge start equal → FoldsOrAdds one two (inverse not_first) (inverse equal) (inverse implied)
     → IsInRange two implied → ((x : ℕ → Bool) → edge_value two x implied ≡ (edge_value one x not_first || edge_value one x equal)) → not_first ≡ inverse first
     → after ≡ before ++ implied ∷ [] → Constrains old two first (latch ∷ []) before after
-constrained_one old one two first equal implied not_first leaf_edge start latch before after are there is init_is differs gates says edge_is implied_there value not_is appended = record {
+constrained_one old one two first equal implied not_first leaf_edge start latch before after are there is init_is differs gates says edge_is equal_rule implied_rule implied_there value not_is appended = record {
   constrained = implied ∷ [];
   appended = appended;
   there = All-one (IsInRange two) implied implied_there;
+  steps = subst (λ b. SayInSteps old first (implied ∷ []) (cond b (latch ∷ []) []) two) (sym variable) (
+    two,
+    record {
+      start = start;
+      is_start = init_is;
+      mid = one;
+      equal = equal;
+      compares = subst (λ e. FoldsOrAddsEq old one e start equal) edge_is equal_rule;
+      implies = subst (λ e. FoldsOrAdds one two e (inverse equal) (inverse implied)) (ap inverse not_is ∙ inverse_twice first) implied_rule;
+    },
+    refl,
+  );
   each = subst (λ b. AllZip (SaysStart old two first) (implied ∷ []) (cond b (latch ∷ []) [])) (sym variable)
       (λ x. (λ h. (says_one x).0 (All-one (λ e. IsTrue (edge_value two x e)) implied h), λ f. (says_one x).1 f 0 implied (omega arith)), tt);
   says = λ x. (λ all holds. All-one (OpenBegins old x) latch ((says_one x).0 all holds), λ all. (says_one x).1 (λ holds. all holds 0 latch (omega arith)));
@@ -90,6 +112,8 @@ Constrains-push old mid new first latchs latch before between after are there is
   constrained = p.constrained ++ q.constrained;
   appended = q.appended ∙ ap (λ l. l ++ q.constrained) p.appended ∙ append_assoc before p.constrained q.constrained;
   there = All-append (IsInRange new) p.constrained q.constrained (All-grown mid new p.constrained more.grows p.there) q.there;
+  steps = subst (λ ls. SayInSteps old first (p.constrained ++ q.constrained) ls new) (sym (filter-append (λ (l : AigLatch). is_variable l.init) latchs (latch ∷ [])))
+      (SayInSteps-append old mid new first p.constrained (variable_latchs latchs) q.constrained (variable_latchs (latch ∷ [])) p.steps q.steps);
   each = subst (AllZip (SaysStart old new first) (p.constrained ++ q.constrained)) (sym (filter-append (λ (l : AigLatch). is_variable l.init) latchs (latch ∷ [])))
       (AllZip-append (SaysStart old new first) p.constrained (variable_latchs latchs) q.constrained (variable_latchs (latch ∷ []))
       (AllZip-weaker (SaysStart old mid first) (SaysStart old new first) (IsInRange mid) (λ l. Unit {0}) (λ e l low any says x. (
@@ -174,6 +198,7 @@ module _ (old : Circuit) (is : IsCircuit old) (new : List AigNode) (constraints 
     rest = refl;
     some = λ variable. (refl, adds);
     each = λ variable. c.each;
+    steps = λ variable. c.steps;
     runs = AreOldRuns-gated old gated leaf c.constrained is adds_first;
     none = λ all. absurd (some_open all);
   }
@@ -207,6 +232,7 @@ GatesStarts-plain c is plain = record {
   rest = refl;
   some = λ variable. absurd (variable plain);
   each = λ variable. absurd (variable plain);
+  steps = λ variable. absurd (variable plain);
   runs = AreOldRuns-itself c (IsAllowedRun c);
   none = λ all. refl;
 }

@@ -10,3 +10,4 @@ mod Moving
 mod Compressing
 mod Constraining
 mod Examples
+mod Refuted

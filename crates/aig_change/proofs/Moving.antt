@@ -11,7 +11,7 @@ use Rattle.aig_circuit.specs.declared.node.AigLatch.{AigLatch}
 use Rattle.aig_circuit.specs.Edge.{edge_to}
 use Rattle.aig_circuit.specs.Tree.{edge_value}
 use Rattle.aig_circuit.specs.Circuit.{Circuit, IsCircuit, IsInRange}
-use Rattle.aig_circuit.specs.Build.{AddsGates, FoldsOrAdds, Grows, JoinsByAnd, with_node}
+use Rattle.aig_circuit.specs.Build.{AddsGates, FoldsOrAdds, FoldsOrAddsAll, Grows, JoinsByAnd, with_node}
 use Rattle.std.specs.List.{list_all}
 use Rattle.aig_circuit.proofs.Building.{AddsGates-then, Grows-itself, Grows-leaf, Grows-longer, edge_value-Grows}
 use Rattle.aig_circuit.proofs.Circuits.{IsCircuit-grown, IsFree-fresh}
@@ -107,16 +107,17 @@ All-grown xs ys es grows all k d h = let low = all k d h in omega (arith, Grows-
 
 -- what is built over a copy of the old circuit's lists
 pub moved_copy : (old lists : Circuit) → lists ≡ old → IsCircuit old → (zero one two three four : List AigNode) (id : ℕ) (leaf_edge constraint next : AigEdge) (latch : AigLatch) (latchs : List AigLatch) (bads outputs constraints : List AigEdge)
-    → id ≡ length lists.nodes → zero ≡ with_node lists.nodes Leaf → AddsGates zero one → JoinsByAnd zero one lists.constraints constraint → leaf_edge ≡ edge_to id false
+    → id ≡ length lists.nodes → zero ≡ with_node lists.nodes Leaf → AddsGates zero one → FoldsOrAddsAll zero lists.constraints one constraint → JoinsByAnd zero one lists.constraints constraint → leaf_edge ≡ edge_to id false
     → AddsGates one two → FoldsOrAdds one two leaf_edge constraint next → IsInRange two next → ((x : ℕ → Bool) → edge_value two x next ≡ (edge_value one x leaf_edge && edge_value one x constraint))
     → AddsGates two three → JoinsFirst two three next lists.bads bads → AddsGates three four → JoinsFirst three four next lists.outputs outputs
     → latch ≡ held_latch id next → latchs ≡ lists.latchs ++ latch ∷ [] → constraints ≡ []
     → IsCircuit (record lists { nodes = four; latchs = latchs; outputs = outputs; bads = bads; constraints = constraints })
     × MovesConstraints old (record lists { nodes = four; latchs = latchs; outputs = outputs; bads = bads; constraints = constraints })
-moved_copy old lists same is zero one two three four id leaf_edge constraint next latch latchs bads outputs constraints leaf_is zero_is first joins edge_is second rule there value third joins_bads fourth joins_outputs latch_is latchs_are none =
+moved_copy old lists same is zero one two three four id leaf_edge constraint next latch latchs bads outputs constraints leaf_is zero_is first joins_rule joins edge_is second rule there value third joins_bads fourth joins_outputs latch_is latchs_are none =
     let was : IsCircuit lists = subst IsCircuit (sym same) is in
     let builds : JoinsInSteps lists one two three four constraint next bads outputs = record {
       first = subst (λ z. AddsGates z one) zero_is first;
+      joins_rule = subst (λ z. FoldsOrAddsAll z lists.constraints one constraint) zero_is joins_rule;
       joins = subst (λ z. JoinsByAnd z one lists.constraints constraint) zero_is joins;
       second = second;
       rule = subst (λ e. FoldsOrAdds one two e constraint next) (edge_is ∙ ap (λ n. edge_to n false) leaf_is) rule;

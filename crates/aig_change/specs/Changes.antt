@@ -3,15 +3,15 @@ use Rattle.std.specs.Prelude.{◌≡◌, ℕ, ◌≤◌, ◌==◌, ◌↔◌, if
 use Rattle.aig_circuit.specs.declared.edge.AigEdge.{AigEdge}
 use Rattle.aig_circuit.specs.declared.node.AigLatch.{AigLatch}
 use Rattle.aig_circuit.specs.declared.node.AigNodeType.TheVariants.{Leaf}
-use Rattle.aig_circuit.specs.Edge.{edge_to}
+use Rattle.aig_circuit.specs.Edge.{edge_to, inverse}
 use Rattle.aig_circuit.specs.Tree.{edge_value}
 use Rattle.aig_circuit.specs.Circuit.{Circuit}
-use Rattle.aig_circuit.specs.Build.{AddsGates, Grows, JoinsByOr, with_node}
+use Rattle.aig_circuit.specs.Build.{AddsGates, FoldsOrAddsAll, Grows, JoinsByOr, with_node}
 use Rattle.aig_circuit.specs.Edges.{HasPlainInit}
 use Rattle.std.specs.List.{AllZip}
 use Rattle.aig_circuit.specs.declared.node.AigNode.{AigNode}
 use Rattle.aig_change.specs.Joining.{JoinsInSteps}
-use Rattle.aig_change.specs.Starting.{SaysStart, variable_latchs}
+use Rattle.aig_change.specs.Starting.{SayInSteps, SaysStart, variable_latchs}
 use Rattle.aig_change.specs.Runs.{AreOldRuns, ConstraintsHoldUpTo, IsAllowedRun, IsRunFromStart}
 
 -- On every run from a start the first edge holds at a step exactly where the old one holds there and every old constraint holds at each
@@ -39,11 +39,12 @@ pub record MovesConstraints (old new : Circuit) : Type 0 where
   pub rest : new ≡ record old { nodes = new.nodes; latchs = new.latchs; outputs = new.outputs; bads = new.bads; constraints = new.constraints }
   pub runs : AreOldRuns old new (IsRunFromStart new) (IsRunFromStart old)
 
--- The one bad edge is the or of the old ones.
+-- The one bad edge is the or of the old ones, joined by the rule of `new_ors_node`.
 pub record CompressesBads (old new : Circuit) : Type 0 where
   pub bad : AigEdge
   pub bads : new.bads ≡ bad ∷ []
   pub gates : AddsGates old.nodes new.nodes
+  pub rule : FoldsOrAddsAll old.nodes (map inverse old.bads) new.nodes (inverse bad)
   pub value : JoinsByOr old.nodes new.nodes old.bads bad
   pub rest : new ≡ record old { nodes = new.nodes; bads = new.bads }
 
@@ -73,6 +74,8 @@ pub record GatesStarts (old new : Circuit) : Type 0 where
   pub some : ¬ All HasPlainInit old.latchs → (leaf ≡ Some (length old.nodes)) × AddsGates (with_node old.nodes Leaf) new.nodes
   -- a constraint for each latch that loses its initial edge: where the added latch is true, the two are equal
   pub each : ¬ All HasPlainInit old.latchs → AllZip (SaysStart (with_node old.nodes Leaf) new.nodes (edge_to (length old.nodes) false)) constrained (variable_latchs old.latchs)
+  -- and it is made by the builders' rules
+  pub steps : ¬ All HasPlainInit old.latchs → SayInSteps (with_node old.nodes Leaf) (edge_to (length old.nodes) false) constrained (variable_latchs old.latchs) new.nodes
   pub runs : AreOldRuns old new (IsAllowedRun new) (IsAllowedRun old)
   -- where all initial edges are constant or none, nothing changes
   pub none : All HasPlainInit old.latchs → new ≡ old

@@ -6,7 +6,7 @@ use Rattle.aig_circuit.specs.declared.node.AigNodeType.TheVariants.{Leaf}
 use Rattle.aig_circuit.specs.Edge.{edge_to}
 use Rattle.aig_circuit.specs.Tree.{edge_value}
 use Rattle.aig_circuit.specs.Circuit.{Circuit, IsInRange}
-use Rattle.aig_circuit.specs.Build.{AddsGates, FoldsOrAdds, JoinsByAnd, with_node}
+use Rattle.aig_circuit.specs.Build.{AddsGates, FoldsOrAdds, FoldsOrAddsAll, JoinsByAnd, with_node}
 
 -- the first edge, where there is one, becomes the and of itself and of the edge `next`; the others stay
 pub record JoinsFirst (old new : List AigNode) (next : AigEdge) (edges joined : List AigEdge) : Type 0 where
@@ -17,9 +17,10 @@ pub record JoinsFirst (old new : List AigNode) (next : AigEdge) (edges joined : 
   pub rule : (e f : AigEdge) → slice_get edges 0 ≡ Some e → slice_get joined 0 ≡ Some f → FoldsOrAdds old new e next f
   pub value : (e f : AigEdge) → slice_get edges 0 ≡ Some e → slice_get joined 0 ≡ Some f → (x : ℕ → Bool) → edge_value new x f ≡ (edge_value old x e && edge_value old x next)
 
--- What is added step by step: a leaf, the and of all constraints, the and `next` of the two, and the joined edges.
+-- What is added step by step by the builders' rules: a leaf, the and of all constraints, the and `next` of the two, and the joined edges.
 pub record JoinsInSteps (old : Circuit) (one two three four : List AigNode) (constraint next : AigEdge) (bads outputs : List AigEdge) : Type 0 where
   pub first : AddsGates (with_node old.nodes Leaf) one
+  pub joins_rule : FoldsOrAddsAll (with_node old.nodes Leaf) old.constraints one constraint
   pub joins : JoinsByAnd (with_node old.nodes Leaf) one old.constraints constraint
   pub second : AddsGates one two
   pub rule : FoldsOrAdds one two (edge_to (length old.nodes) false) constraint next

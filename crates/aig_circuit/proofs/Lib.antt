@@ -11,3 +11,4 @@ pub mod Lists
 pub mod Marking
 pub mod Values
 pub mod Edges
+mod Refuted

@@ -6,3 +6,4 @@ pub mod Fixing
 pub mod Marking
 pub mod Adding
 mod Examples
+mod Refuted

@@ -6,3 +6,4 @@ mod Numbers
 pub mod Refining
 mod Searching
 pub mod Twice
+mod Refuted

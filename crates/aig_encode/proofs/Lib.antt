@@ -1,2 +1,3 @@
-mod Exactly
+pub mod Exactly
 mod Promised
+pub mod Below

@@ -1,7 +1,8 @@
 //! From bytes to the clauses of a query.
 
-ghost use Rattle.std.specs.Prelude.{◌≡◌, ◌^◌, ◌≤◌, false, IfOk, IfSome, IsErrOf, IsTrue};
+ghost use Rattle.std.specs.Prelude.{◌≡◌, ◌^◌, ◌≤◌, false, IfOk, IfSome, IsErrOf, IsTrue, length};
 ghost use Rattle.std.specs.Io.KnownBytes.{IsAtEnd};
+ghost use Rattle.aig_base.specs.Clauses.{AreBelow};
 ghost use Rattle.aig_reader.specs.Reading.{IsOfFile};
 ghost use Rattle.aig_encode.specs.Encoding.{AnswersExactly, IsBeyond, IsQuery, IsWithin, PassesReading, TookFile, UnlessInterrupted};
 
@@ -30,6 +31,8 @@ pub fn query<R: Source>(
     // The bytes that were read are a file within the limit, and that file is encoded and asked for.
     ensures answer { IfOk result
         (IsOfFile (IsWithin limit k) (IsQuery k optimize) (R.left r.old) (R.left r.new)) }
+    // The further clauses are of variables that are there.
+    ensures below { IfOk result (λ q. AreBelow (length q.encoded.clauses) q.extra) }
     // Memory and stream aside, there is an answer exactly where the bytes are such a file, and TooMany and TooLarge
     // come exactly where they apply.
     ensures exact { IfSome (R.left r.old) (λ bytes.

@@ -2,6 +2,7 @@
 
 ghost use Rattle.std.specs.Prelude.{◌≡◌, ◌+◌, ◌*◌, ◌<◌, ◌≤◌, ◌^◌, ◌++◌, ◌∷◌, [], All, IfOk, OnOk, length, map};
 ghost use Rattle.std.specs.List.{flat_map};
+ghost use Rattle.aig_base.specs.Clauses.{AreBelow};
 ghost use Rattle.aig_circuit.specs.Edge.{lit_of};
 ghost use Rattle.aig_runs.specs.Queries.{query_clauses, start_clauses, unit_clauses};
 
@@ -69,7 +70,9 @@ pub(crate) fn further_clauses(
     requires few { length circuit.now.nodes ≤ 2 ^ 31 }
     requires few_unrolled { length unrolled.now.nodes ≤ 2 ^ 31 }
     requires bads { length unrolled.now.bads ≡ (k + 1) * length circuit.now.bads }
-    ensures { IfOk result (λ extra. extra ≡ query_clauses circuit.now k unrolled.now) }
+    requires longer { length circuit.now.nodes ≤ length unrolled.now.nodes }
+    ensures exact { IfOk result (λ extra. extra ≡ query_clauses circuit.now k unrolled.now) }
+    ensures below { IfOk result (AreBelow (length unrolled.now.nodes)) }
 {
     let mut extra = LitVvec::new(alloc);
     push_starts(&mut extra, circuit.latchs())?;

@@ -36,7 +36,7 @@ pub const WINDOW_SIZE: usize = 4096;
 
 /// A source that is read through a window of `WINDOW_SIZE` bytes.
 #[derive(Drop)]
-pub struct Buffered<'a, R> {
+pub struct Buffered<'a, R: Source> {
     source: &'a mut R,
     window: &'a mut [u8],
     at: usize,
@@ -44,6 +44,8 @@ pub struct Buffered<'a, R> {
     ghost size: { length window.now ≡ 4096 },
     ghost low: { at ≤ end },
     ghost high: { end ≤ 4096 },
+    // After a failed read no byte is left in the window, so that none is given again.
+    ghost spent: { R.failed source.now ≡ true → at ≡ end },
 }
 
 impl<'a, R: Source> Buffered<'a, R> {

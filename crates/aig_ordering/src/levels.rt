@@ -1,6 +1,6 @@
 //! The levels of variables.
 
-ghost use Rattle.std.specs.Prelude.{◌≡◌, ℕ, ◌+◌, ◌^◌, ◌<◌, ◌≤◌, false, length, slice_index_or, true, vec_len, IfErr, IfOk, MatchOption, MatchResult, OnOk};
+ghost use Rattle.std.specs.Prelude.{◌≡◌, ℕ, ◌+◌, ◌^◌, ◌<◌, ◌≤◌, false, length, slice_index_or, true, vec_capacity, vec_len, IfErr, IfOk, MatchOption, MatchResult, OnOk};
 ghost use Rattle.aig_circuit.specs.Node.{IfAnd};
 ghost use Rattle.aig_format.specs.File.{File};
 ghost use Rattle.aig_ordering.specs.Gates.{nodes_in};
@@ -56,6 +56,8 @@ impl Search {
     fn new(alloc: Global, count: usize) -> Result<Self, OrderError>
         ensures rest { IfOk result
             (λ search. (f : File) → count ≡ f.greatest + 1 → IsAtRest f search) }
+        // The path takes memory as it grows.
+        ensures path { IfOk result (λ search. vec_capacity search.path ≡ 0) }
         ensures err { IfErr result (λ e. e ≡ OrderError.Memory) }
     {
         Ok(Search {

@@ -29,3 +29,4 @@ pub mod KeptNames
 pub mod NameFaults
 pub mod SoFar
 pub mod Reading
+mod Refuted

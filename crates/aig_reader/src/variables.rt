@@ -37,6 +37,9 @@ pub enum Variables {
 fn cover(marked: &mut Vec<u64>, variable: usize) -> Result<(), AllocError>
     ensures same { (v : ℕ) → bit_told marked.new.items v ≡ bit_told marked.old.items v }
     ensures len { OnOk result (variable / 64 < vec_len marked.new) }
+    // No word behind it is made.
+    ensures within { (most : ℕ) → variable / 64 < most → vec_len marked.old ≤ most
+        → vec_len marked.new ≤ most }
 {
     let word = variable / 64;
     if word >= marked.len() {
@@ -55,6 +58,9 @@ impl Marks {
         ensures fault { IfErr result IsLiteralFault }
         ensures own { IfOk result (λ _. IsOwn (self.old.greatest + 1) literal) }
         ensures greatest { self.new.greatest ≡ self.old.greatest }
+        // A literal of no variable takes no room: there are words up to that of the greatest one.
+        ensures within { vec_len self.old.marked ≤ self.old.greatest / 64 + 1
+            → vec_len self.new.marked ≤ self.old.greatest / 64 + 1 }
         ensures id { IfOk result (λ id. id ≡ literal / 2) }
     {
         let variable = literal as usize / 2;

@@ -67,7 +67,7 @@ or_false true = refl
 or_false false = refl
 
 -- the unit clauses of edges hold exactly where each edge is true
-units_say : (v : ℕ → Bool) (es : List AigEdge) → AllByRecursion (Holds v) (unit_clauses es) ↔ AllByRecursion (λ e. IsTrue (edge_in v e)) es
+pub units_say : (v : ℕ → Bool) (es : List AigEdge) → AllByRecursion (Holds v) (unit_clauses es) ↔ AllByRecursion (λ e. IsTrue (edge_in v e)) es
 units_say v [] = (λ h. tt, λ h. tt)
 units_say v (e ∷ es) =
     let r = units_say v es in
@@ -75,7 +75,7 @@ units_say v (e ∷ es) =
     (λ h. (sym one ∙ h.0, r.0 h.1), λ h. (one ∙ h.0, r.1 h.1))
 
 -- the clause of edges holds exactly where some edge is true
-clause_says : (v : ℕ → Bool) (es : List AigEdge) → is_true_clause v (map lit_of es) ≡ list_any (edge_in v) es
+pub clause_says : (v : ℕ → Bool) (es : List AigEdge) → is_true_clause v (map lit_of es) ≡ list_any (edge_in v) es
 clause_says v [] = refl
 clause_says v (e ∷ es) = ap (λ b. b || list_any (literal_value v) (map lit_of es)) (literal_value-lit_of v e) ∙ ap (λ b. edge_in v e || b) (clause_says v es)
 

@@ -1,9 +1,10 @@
-mod Standing
+pub mod Standing
 mod Leaves
-mod CircuitRuns
+pub mod CircuitRuns
 pub mod FileRuns
-mod Rows
-mod Further
+pub mod Rows
+pub mod Further
 pub mod Queries
-mod Safety
+pub mod Safety
 mod Examples
+mod Refuted

@@ -10,12 +10,12 @@ use Rattle.aig_runs.specs.Queries.{Asks, IsRefuted, IsSafeTo, IsWitness}
 use Rattle.aig_runs.proofs.Rows.{any_none}
 
 -- a run's first steps are a run
-run_cut : (f : File) (last t : ℕ) (run : ℕ → ℕ → Bool) → IsRun f last run → t ≤ last → IsRun f t run
+pub run_cut : (f : File) (last t : ℕ) (run : ℕ → ℕ → Bool) → IsRun f last run → t ≤ last → IsRun f t run
 run_cut f last t run is h = record { steps = λ s l. is.steps s (omega arith); moves = λ s l. is.moves s (omega arith) }
 
 module _ (f : File) (n : ℕ) where
   -- no run of the machine is a witness exactly where it is safe
-  safe_is : ((k : ℕ) → k ≤ n → ¬ ((run : ℕ → ℕ → Bool) × IsWitness f k run)) ↔ IsSafeTo f n
+  pub safe_is : ((k : ℕ) → k ≤ n → ¬ ((run : ℕ → ℕ → Bool) × IsWitness f k run)) ↔ IsSafeTo f n
   safe_is = (
     λ none last t run is start low h constraints.
         (any_none (literal_value (run t)) f.bads).0 (false_from_ne_true (list_any (literal_value (run t)) f.bads) (λ bad.

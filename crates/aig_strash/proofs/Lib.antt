@@ -11,3 +11,4 @@ mod Numbered
 pub mod Strashing
 mod Tables
 pub mod Twice
+mod Refuted

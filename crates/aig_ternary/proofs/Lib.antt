@@ -1,3 +1,4 @@
 mod Examples
 mod Known
 mod Stepping
+mod Refuted

@@ -13,3 +13,4 @@ pub mod Table
 pub mod Counted
 pub mod Stepped
 pub mod Exactly
+mod Refuted

@@ -9,3 +9,4 @@ mod Differences
 pub mod Printing
 pub mod Numbered
 mod Tables
+mod Refuted

@@ -1,6 +1,10 @@
 //! The commands, and the words that give them.
 
-ghost use Rattle.std.specs.Prelude.{◌≡◌, ◌≤◌, IfSome, length};
+ghost use Rattle.std.specs.Prelude.{◌≡◌, ◌↔◌, ◌≤◌, ℕ, Bool, true, false, Some, [], ◌∷◌, IfSome, codes, length, map, string_bytes};
+ghost use Rattle.aigtool.specs.Words.{Give, IsUnrolling};
+ghost use Rattle.aigtool.specs.declared.command.Command.{Command};
+
+use aig_words::steps;
 
 /// What the program is asked to do.
 #[derive(Clone, Copy, Debug, PartialEq, Eq)]
@@ -27,16 +31,11 @@ pub enum Command {
     },
 }
 
-/// The number of steps that a word gives: one or more decimal digits, with a value of at most 2^32 - 1.
-fn steps(word: &str) -> Option<usize> {
-    if !word.bytes().all(|b| b.is_ascii_digit()) {
-        return None;
-    }
-    word.parse::<u32>().ok().map(|k| k as usize)
-}
-
 /// The number of steps, and whether to optimise clauses, that the words after FILE give: K, and `raw` or nothing.
-fn unrolling(words: &[String]) -> Option<(usize, bool)> {
+fn unrolling(words: &[String]) -> Option<(usize, bool)>
+    ensures { (k : ℕ) → (optimize : Bool) → (result ≡ Some (k, optimize))
+        ↔ IsUnrolling k optimize (map string_bytes words.now) }
+{
     match words {
         [k] => Some((steps(k.as_str())?, true)),
         [k, raw] if raw.as_str() == "raw" => Some((steps(k.as_str())?, false)),
@@ -48,21 +47,39 @@ fn unrolling(words: &[String]) -> Option<(usize, bool)> {
 ///
 /// The word after the command's name is FILE, and of `binary` the word after that is OUT. It takes no memory.
 pub fn parse(words: &[String]) -> Option<Command>
+    ensures exact { (c : Command) → (result ≡ Some c) ↔ Give (map string_bytes words.now) c }
     ensures file { IfSome result (λ _. 2 ≤ length words.now) }
     ensures out { IfSome result (λ c. c ≡ Command.Binary → 3 ≤ length words.now) }
 {
-    match words {
-        [name, _] if name.as_str() == "text" => Some(Command::Text),
-        [name, _, _] if name.as_str() == "binary" => Some(Command::Binary),
-        [name, _] if name.as_str() == "strash" => Some(Command::Strash),
-        [name, _, rest @ ..] if name.as_str() == "cnf" => {
-            let (k, optimize) = unrolling(rest)?;
-            Some(Command::Cnf { k, optimize })
-        }
-        [name, _, rest @ ..] if name.as_str() == "query" => {
-            let (k, optimize) = unrolling(rest)?;
-            Some(Command::Query { k, optimize })
-        }
-        _ => None,
+    let [name, _, rest @ ..] = words else {
+        return None;
+    };
+    let name = name.as_str();
+    if name == "text" {
+        return match rest {
+            [] => Some(Command::Text),
+            _ => None,
+        };
     }
+    if name == "binary" {
+        return match rest {
+            [_] => Some(Command::Binary),
+            _ => None,
+        };
+    }
+    if name == "strash" {
+        return match rest {
+            [] => Some(Command::Strash),
+            _ => None,
+        };
+    }
+    if name == "cnf" {
+        let (k, optimize) = unrolling(rest)?;
+        return Some(Command::Cnf { k, optimize });
+    }
+    if name == "query" {
+        let (k, optimize) = unrolling(rest)?;
+        return Some(Command::Query { k, optimize });
+    }
+    None
 }

@@ -2,18 +2,17 @@
 #![tactic(auto)]
 
 mod command;
-mod dimacs;
+mod output;
 #[cfg(test)]
 mod tests;
 mod tool;
 
-use crate::tool::LIMIT;
-use aig::{Aig, ReadError, WriteError};
-use aig_base::{FromRead, ToWrite};
+use crate::output::Output;
+use aig::{ReadError, WriteError};
+use aig_base::{FromRead, Sink, ToWrite};
 pub use command::{Command, parse};
 use std::fs::File;
 use std::io::{ErrorKind, Write};
-use std::path::Path;
 use std::process::ExitCode;
 use std::rt::{Env, Files};
 use std::{env, io};
@@ -31,18 +30,27 @@ fn words(rt: &(impl Env + AllocGlobal)) -> io::Result<Vec<String>> {
     Ok(words)
 }
 
-/// Runs a command on a file, and prints to standard output.
-fn execute(
-    rt: &(impl Files + Print + AllocGlobal),
-    c: Command,
+/// Runs a command on a file.
+fn run_on<W: Sink>(
+    rt: &(impl Files + AllocGlobal),
+    command: Command,
     file: &str,
+    w: &mut W,
 ) -> Result<(), ToolError> {
     let Ok(file) = File::open(rt, file) else {
         return Err(ToolError::Read(ReadError::Open));
     };
-    let mut source = FromRead::new(file);
+    run(rt.alloc(), command, &mut FromRead::new(file), w)
+}
+
+/// Runs a command on a file, and prints to standard output.
+fn print(
+    rt: &(impl Files + Print + AllocGlobal),
+    command: Command,
+    file: &str,
+) -> Result<(), ToolError> {
     let mut sink = ToWrite::new(io::writer(rt));
-    run(rt.alloc(), c, &mut source, &mut sink)?;
+    run_on(rt, command, file, &mut sink)?;
     match sink.into_inner().flush() {
         Ok(()) => Ok(()),
         Err(_) => Err(ToolError::Write(WriteError::Stream)),
@@ -50,13 +58,15 @@ fn execute(
 }
 
 /// Writes the binary form of a file to another, which is made only after the first was read whole.
-fn convert(
-    rt: &(impl Files + AllocGlobal),
-    file: Path<'_>,
-    out: Path<'_>,
-) -> Result<(), ToolError> {
-    let circuit = Aig::from_file(rt, rt.alloc(), file, LIMIT)?;
-    Ok(circuit.to_file(rt, out, false)?)
+fn convert(rt: &(impl Files + AllocGlobal), file: &str, out: &str) -> Result<(), ToolError> {
+    let mut output = Output::new(rt, out)?;
+    match run_on(rt, Command::Binary, file, &mut output) {
+        Ok(()) => Ok(output.commit()?),
+        Err(fault) => match output.discard() {
+            true => Err(ToolError::Write(WriteError::Open)),
+            false => Err(fault),
+        },
+    }
 }
 
 fn main(rt: HostRuntime) -> ExitCode {
@@ -75,8 +85,8 @@ fn main(rt: HostRuntime) -> ExitCode {
     };
     let file = words[1].as_str();
     let done = match command {
-        Command::Binary => convert(&rt, Path::new(file), Path::new(words[2].as_str())),
-        _ => execute(&rt, command, file),
+        Command::Binary => convert(&rt, file, words[2].as_str()),
+        _ => print(&rt, command, file),
     };
     match done {
         Ok(()) => ExitCode::SUCCESS,

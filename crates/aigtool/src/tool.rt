@@ -1,9 +1,14 @@
 //! What the commands do with the bytes of a file.
 
+ghost use Rattle.std.specs.Prelude.{◌≡◌};
+ghost use Rattle.aig.specs.declared.aiger.WriteError.TheVariants as write;
+ghost use Rattle.aigtool.specs.declared.tool.ToolError.TheVariants as errors;
+ghost use Rattle.aigtool.specs.Running.{Runs};
+
 use crate::command::Command;
-use crate::dimacs;
 use aig::{Aig, ReadError, WriteError};
 use aig_base::{LitVvec, MemoryError, Sink, Source, StreamFault};
+use aig_dimacs::write_dimacs;
 use aig_encode::{EncodeError, encode, query};
 use std::alloc::Global;
 use thiserror::Error;
@@ -16,48 +21,133 @@ pub const LIMIT: usize = 1 << 24;
 pub enum ToolError {
     /// FILE was refused.
     #[error("{0}")]
-    Read(#[from] ReadError),
+    Read(ReadError),
     /// FILE was refused, or there are no clauses of it.
     #[error("{0}")]
-    Encode(#[from] EncodeError),
+    Encode(EncodeError),
     /// Memory ran out outside reading, encoding and writing.
     #[error("out of memory")]
     Memory,
     /// The answer wasn't written.
     #[error("{0}")]
-    Write(#[from] WriteError),
+    Write(WriteError),
+}
+
+impl From<ReadError> for ToolError {
+    ghost from_gives = { λ e r. r ≡ errors.Read e };
+
+    fn from(error: ReadError) -> ToolError {
+        ToolError::Read(error)
+    }
+}
+
+impl From<EncodeError> for ToolError {
+    ghost from_gives = { λ e r. r ≡ errors.Encode e };
+
+    fn from(error: EncodeError) -> ToolError {
+        ToolError::Encode(error)
+    }
+}
+
+impl From<WriteError> for ToolError {
+    ghost from_gives = { λ e r. r ≡ errors.Write e };
+
+    fn from(error: WriteError) -> ToolError {
+        ToolError::Write(error)
+    }
 }
 
 impl From<MemoryError> for ToolError {
+    ghost from_gives = { λ _ r. r ≡ errors.Memory };
+
     fn from(_error: MemoryError) -> ToolError {
         ToolError::Memory
     }
 }
 
 impl From<StreamFault> for ToolError {
+    ghost from_gives = { λ _ r. r ≡ errors.Write write.Stream };
+
     fn from(_fault: StreamFault) -> ToolError {
         ToolError::Write(WriteError::Stream)
     }
 }
 
+/// Prints the text form of a file.
+fn print_text<R: Source, W: Sink>(alloc: Global, r: &mut R, w: &mut W) -> Result<(), ToolError>
+    ensures { let command = Command.Text in
+        Runs R.left R.failed W.held W.failed command LIMIT r.old w.old result r.new w.new }
+{
+    let circuit = Aig::from_aiger(alloc, r, LIMIT)?;
+    Ok(circuit.write_text(w)?)
+}
+
+/// Writes the binary form of a file.
+fn print_binary<R: Source, W: Sink>(alloc: Global, r: &mut R, w: &mut W) -> Result<(), ToolError>
+    ensures { let command = Command.Binary in
+        Runs R.left R.failed W.held W.failed command LIMIT r.old w.old result r.new w.new }
+{
+    let circuit = Aig::from_aiger(alloc, r, LIMIT)?;
+    Ok(circuit.write_binary(w)?)
+}
+
+/// Prints the text form of a file's circuit after structural hashing.
+fn print_strashed<R: Source, W: Sink>(alloc: Global, r: &mut R, w: &mut W) -> Result<(), ToolError>
+    ensures { let command = Command.Strash in
+        Runs R.left R.failed W.held W.failed command LIMIT r.old w.old result r.new w.new }
+{
+    let circuit = Aig::from_aiger(alloc, r, LIMIT)?;
+    let strashed = circuit.strash()?;
+    Ok(strashed.write_text(w)?)
+}
+
+/// Prints the clauses of a file's circuit that is unrolled by `k` steps.
+fn print_cnf<R: Source, W: Sink>(
+    alloc: Global,
+    k: usize,
+    optimize: bool,
+    r: &mut R,
+    w: &mut W,
+) -> Result<(), ToolError>
+    ensures { let command = Command.Cnf k optimize in
+        Runs R.left R.failed W.held W.failed command LIMIT r.old w.old result r.new w.new }
+{
+    let encoded = encode(alloc, r, LIMIT, k, optimize)?;
+    Ok(write_dimacs(w, &encoded.clauses, &LitVvec::new(alloc))?)
+}
+
+/// Prints clauses that ask for a run to a bad state after `k` steps.
+fn print_query<R: Source, W: Sink>(
+    alloc: Global,
+    k: usize,
+    optimize: bool,
+    r: &mut R,
+    w: &mut W,
+) -> Result<(), ToolError>
+    ensures { let command = Command.Query k optimize in
+        Runs R.left R.failed W.held W.failed command LIMIT r.old w.old result r.new w.new }
+{
+    let asked = query(alloc, r, LIMIT, k, optimize)?;
+    Ok(write_dimacs(w, &asked.encoded.clauses, &asked.extra)?)
+}
+
 /// Reads FILE's bytes from `r`, and writes to `w` what the command prints, or for `Binary` what it puts into OUT.
+///
+/// After `Ok` the writer holds what it held and the command's answer to the file that was read, and after a failed write a
+/// beginning of that. Every other refusal leaves it as it was.
 pub fn run<R: Source, W: Sink>(
     alloc: Global,
     c: Command,
     r: &mut R,
     w: &mut W,
-) -> Result<(), ToolError> {
+) -> Result<(), ToolError>
+    ensures { Runs R.left R.failed W.held W.failed c LIMIT r.old w.old result r.new w.new }
+{
     match c {
-        Command::Text => Ok(Aig::from_aiger(alloc, r, LIMIT)?.write_text(w)?),
-        Command::Binary => Ok(Aig::from_aiger(alloc, r, LIMIT)?.write_binary(w)?),
-        Command::Strash => Ok(Aig::from_aiger(alloc, r, LIMIT)?.strash()?.write_text(w)?),
-        Command::Cnf { k, optimize } => {
-            let encoded = encode(alloc, r, LIMIT, k, optimize)?;
-            Ok(dimacs::write(w, &encoded.clauses, &LitVvec::new(alloc))?)
-        }
-        Command::Query { k, optimize } => {
-            let asked = query(alloc, r, LIMIT, k, optimize)?;
-            Ok(dimacs::write(w, &asked.encoded.clauses, &asked.extra)?)
-        }
+        Command::Text => print_text(alloc, r, w),
+        Command::Binary => print_binary(alloc, r, w),
+        Command::Strash => print_strashed(alloc, r, w),
+        Command::Cnf { k, optimize } => print_cnf(alloc, k, optimize, r, w),
+        Command::Query { k, optimize } => print_query(alloc, k, optimize, r, w),
     }
 }

@@ -53,7 +53,8 @@ impl LitVvec {
 
     /// How many clauses there are.
     pub fn len(&self) -> usize
-        ensures { result ≡ length self.now }
+        ensures count { result ≡ length self.now }
+        ensures few { result < 2 ^ 63 }
     {
         self.ends.len()
     }

@@ -1,6 +1,6 @@
 //! Clauses by the variable that they are given to.
 
-ghost use Rattle.std.specs.Prelude.{◌≡◌, ◌<◌, ◌^◌, ◌++◌, ◌∷◌, [], Some, length, false, sum_by, slice_get, slice_set, slice_index_or, IfOk, OnOk, OnErr};
+ghost use Rattle.std.specs.Prelude.{◌≡◌, ◌<◌, ◌≤◌, ◌^◌, ◌++◌, ◌∷◌, [], Some, length, false, sum_by, slice_get, slice_set, slice_index_or, IfOk, OnOk, OnErr};
 ghost use Rattle.aig_base.specs.Clauses.{AreBelow, AreRelations, lit_to, number_of, var_of};
 
 use crate::logic::clauses::LitVvec;
@@ -9,24 +9,28 @@ use crate::memory::MemoryError;
 use std::alloc::Global;
 use std::marker::Model;
 
+/// How many clauses all lists have together at most, which is more than memory holds.
+const MOST_CLAUSES: usize = 1 << 63;
+
 /// Clauses in one list for each variable, which are numbered from 0.
 ///
 /// There is one variable at least, and 2^31 at most. Every literal is one of a variable that is there.
 #[derive(Drop)]
 pub struct DagCnf {
     relations: Vec<LitVvec>,
+    clauses: usize,
 }
 
 impl Model for DagCnf {
     ghost use Rattle.std.specs.Prelude.{List};
     ghost use Rattle.aig_base.specs.declared.logic.literal.Lit.{Lit};
-    ghost use Rattle.aig_base.specs.Clauses.{AreRelations};
+    ghost use Rattle.aig_base.specs.Clauses.{AreRelations, IsCount};
 
     ghost Value = { List (List (List Lit)) };
 
     ghost view = { λ a. a.relations.items };
 
-    ghost invariant = { λ a. AreRelations a.relations.items };
+    ghost invariant = { λ a. AreRelations a.relations.items × IsCount a.relations.items a.clauses };
 }
 
 impl DagCnf {
@@ -38,7 +42,10 @@ impl DagCnf {
         unit.push(&[!Var::new(0).lit()])?;
         let mut relations = Vec::new(alloc);
         relations.push(unit)?;
-        Ok(DagCnf { relations })
+        Ok(DagCnf {
+            relations,
+            clauses: 1,
+        })
     }
 
     /// Adds a variable without clauses, and answers it. Asks that there are fewer than 2^31.
@@ -62,8 +69,13 @@ impl DagCnf {
             (slice_index_or self.old (number_of var) [] ++ rel.now)) }
         ensures err { OnErr result (self.new ≡ self.old) }
     {
+        if rel.len() > MOST_CLAUSES - self.clauses {
+            return Err(MemoryError::Memory);
+        }
         let i = usize::from(var);
-        self.relations[i].append(rel)
+        self.relations[i].append(rel)?;
+        self.clauses += rel.len();
+        Ok(())
     }
 
     /// How many variables there are.
@@ -76,13 +88,10 @@ impl DagCnf {
 
     /// How many clauses all lists have together.
     pub fn num_clauses(&self) -> usize
-        ensures { sum_by length self.now < 2 ^ 64 → result ≡ sum_by length self.now }
+        ensures count { result ≡ sum_by length self.now }
+        ensures few { result ≤ 2 ^ 63 }
     {
-        let mut count: usize = 0;
-        for relation in &self.relations {
-            count = count.saturating_add(relation.len());
-        }
-        count
+        self.clauses
     }
 
     /// The clauses of a variable. Asks that it is there.

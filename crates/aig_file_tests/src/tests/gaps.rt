@@ -2,7 +2,7 @@
 
 use super::reading::{are_read, are_refused};
 use aig::{AigEdge, ReadError, Section};
-use aig_testing::{LIMIT, read};
+use aig_testing::{LIMIT, is_written, read, read_parts};
 use std::alloc::Global;
 use std::fmt::Write;
 use std::test::Fail;
@@ -12,12 +12,16 @@ const CHAIN: usize = 100_000;
 
 #[test]
 fn numbers_nodes_by_level(rt: HostRuntime) -> Result<(), Fail> {
-    let rows: [(&str, &str); 6] = [
+    let rows: [(&str, &str); 7] = [
         ("aag 3 1 0 0 1\n2\n6 2 2\n", "aag 2 1 0 0 1\n2\n4 2 2\n"),
         ("aag 2 1 0 0 0\n2\n", "aag 1 1 0 0 0\n2\n"),
         (
             "aag 3 1 0 0 2\n2\n6 2 2\n4 2 2\n",
             "aag 3 1 0 0 2\n2\n4 2 2\n6 2 2\n",
+        ),
+        (
+            "aag 3 1 0 1 1\n6\n4\n4 6 6\n",
+            "aag 2 1 0 1 1\n2\n4\n4 2 2\n",
         ),
         (
             "aag 3 1 0 1 1\n6\n4\n4 6 6\ni0 x\n",
@@ -48,7 +52,8 @@ fn refuses_gaps(rt: HostRuntime) -> Result<(), Fail> {
     for (bytes, fault) in rows {
         are_refused(&rt, rt.alloc(), bytes, 3, fault)?;
     }
-    Ok(())
+    let least = read_parts(rt.alloc(), b"aag 3 1 0 0 1\n2\n6 2 2\n", 1, None, 4)??;
+    is_written(rt.alloc(), &least, "aag 2 1 0 0 1\n2\n4 2 2\n")
 }
 
 // What is not defined, gates that stand on themselves, and what is defined twice.

@@ -212,7 +212,7 @@ fn refuses_lines(rt: HostRuntime) -> Result<(), Fail> {
 
 #[test]
 fn refuses_literals(rt: HostRuntime) -> Result<(), Fail> {
-    let rows: [(&[u8], Section); 12] = [
+    let rows: [(&[u8], Section); 14] = [
         (b"aag 1 1 0 0 0\n3\n", Section::Inputs),
         (b"aag 2 2 0 0 0\n2\n2\n", Section::Inputs),
         (b"aag 1 1 0 0 0\n4\n", Section::Inputs),
@@ -225,6 +225,8 @@ fn refuses_literals(rt: HostRuntime) -> Result<(), Fail> {
         (b"aag 0 0 0 0 0 0 0 1\n1\n2\n", Section::Justice),
         (b"aag 0 0 0 0 0 0 0 0 1\n2\n", Section::Fairness),
         (b"aag 2 1 0 0 1\n2\n4 4 2\n", Section::Gates),
+        (b"aag 2 1 0 0 1\n2\n4 6 2\n", Section::Gates),
+        (b"aag 2 1 0 0 1\n2\n4 2 6\n", Section::Gates),
     ];
     for (bytes, section) in rows {
         are_refused(&rt, rt.alloc(), bytes, LIMIT, ReadError::Literal(section))?;
@@ -278,6 +280,19 @@ fn refuses_names(rt: HostRuntime) -> Result<(), Fail> {
     ];
     for row in rows {
         let mut bytes = b"aag 1 1 0 1 0\n2\n2\n".to_vec(rt.alloc())?;
+        bytes.extend_from_slice(row)?;
+        are_refused(&rt, rt.alloc(), &bytes, LIMIT, ReadError::Name)?;
+    }
+    let behind_inputs: [&[u8]; 6] = [
+        b"i0 a\ni0 b\n",
+        b"i1 a\n",
+        b"i0 \xff\n",
+        b"i0\n",
+        b"c0 x\n",
+        b"i00 a\ni0 b\n",
+    ];
+    for row in behind_inputs {
+        let mut bytes = b"aag 1 1 0 0 0\n2\n".to_vec(rt.alloc())?;
         bytes.extend_from_slice(row)?;
         are_refused(&rt, rt.alloc(), &bytes, LIMIT, ReadError::Name)?;
     }

@@ -1,6 +1,10 @@
 //! Sources and sinks of bytes.
 
+use aig::{Aig, ReadError, WriteError};
 use aig_base::{FromRead, Parts, Sink, Source, StreamFault, Taker, ToWrite};
+use aig_encode::{EncodeError, encode, query};
+use aig_testing::{AND, BINARY_AND, LIMIT, read};
+use std::alloc::Global;
 use std::io;
 use std::io::{ErrorKind, Read, Write};
 use std::test::Fail;
@@ -27,7 +31,7 @@ impl Write for Interrupted {
 
 /// A writer that takes no byte.
 #[derive(Drop)]
-pub(super) struct Idle;
+struct Idle;
 
 impl Write for Idle {
     fn write(&mut self, _piece: &[u8]) -> io::Result<usize> {
@@ -145,5 +149,70 @@ fn takes_parts(rt: HostRuntime) -> Result<(), Fail> {
     assert_eq!(rt; put_once(&mut sink, b"de"), Err(StreamFault::Failed));
     assert_eq!(rt; put_once(&mut sink, b""), Err(StreamFault::Failed));
     assert_eq!(rt; sink.bytes(), b"abc".as_slice());
+    Ok(())
+}
+
+/// A reader that gives its bytes, then its end if it ends, and is interrupted from then on.
+#[derive(Drop)]
+struct Breaking<'a> {
+    bytes: &'a [u8],
+    ends: bool,
+}
+
+impl<'a> Read for Breaking<'a> {
+    fn read(&mut self, buf: &mut [u8]) -> io::Result<usize> {
+        if !self.bytes.is_empty() {
+            return self.bytes.read(buf);
+        }
+        if !self.ends {
+            return Err(io::Error::from(ErrorKind::Interrupted));
+        }
+        self.ends = false;
+        Ok(0)
+    }
+}
+
+/// Why a circuit isn't read, encoded and asked for, if it isn't, where the reader breaks.
+fn faults(
+    alloc: Global,
+    bytes: &[u8],
+    ends: bool,
+) -> (Option<ReadError>, Option<EncodeError>, Option<EncodeError>) {
+    let mut reading = FromRead::new(Breaking { bytes, ends });
+    let mut encoding = FromRead::new(Breaking { bytes, ends });
+    let mut asking = FromRead::new(Breaking { bytes, ends });
+    (
+        Aig::from_aiger(alloc, &mut reading, LIMIT).err(),
+        encode(alloc, &mut encoding, LIMIT, 1, true).err(),
+        query(alloc, &mut asking, LIMIT, 1, true).err(),
+    )
+}
+
+// A reader that breaks after its end isn't asked again.
+#[test]
+fn tells_a_reader_that_breaks(rt: HostRuntime) {
+    let fault = ReadError::Stream;
+    let refused = Some(EncodeError::Read(fault));
+    for bytes in [AND.as_bytes(), BINARY_AND] {
+        for j in 0..bytes.len() + 1 {
+            let broken = faults(rt.alloc(), &bytes[..j], false);
+            assert_eq!(rt; broken, (Some(fault), refused, refused), "after {j} bytes");
+        }
+        assert_eq!(rt; faults(rt.alloc(), bytes, true), (None, None, None));
+    }
+}
+
+#[test]
+fn tells_a_writer_that_breaks(rt: HostRuntime) -> Result<(), Fail> {
+    let circuit = read(rt.alloc(), AND)?;
+    let fault = Err(WriteError::Stream);
+    let mut broken = ToWrite::new(Interrupted);
+    assert_eq!(rt; circuit.write_text(&mut broken), fault);
+    let mut broken = ToWrite::new(Interrupted);
+    assert_eq!(rt; circuit.write_binary(&mut broken), fault);
+    let mut idle = ToWrite::new(Idle);
+    assert_eq!(rt; circuit.write_text(&mut idle), fault);
+    let mut idle = ToWrite::new(Idle);
+    assert_eq!(rt; circuit.write_binary(&mut idle), fault);
     Ok(())
 }

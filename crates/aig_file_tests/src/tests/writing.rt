@@ -2,9 +2,8 @@
 
 ghost use Rattle.std.specs.Prelude.{◌<◌};
 
-use super::streams::Idle;
 use aig::{Aig, WriteError};
-use aig_base::{Taker, ToWrite};
+use aig_base::Taker;
 use aig_testing::{AND, BINARY_AND, LIMIT, Step, built, is_written, read};
 use std::alloc::Global;
 use std::fmt::Write;
@@ -102,14 +101,6 @@ fn is_written_in_pieces(rt: &impl Abort, alloc: Global, text: &str) -> Result<()
 #[test]
 fn writes_more_than_a_block(rt: HostRuntime) -> Result<(), Fail> {
     is_written_in_pieces(&rt, rt.alloc(), &long_file(rt.alloc())?)
-}
-
-#[test]
-fn tells_a_writer_that_takes_nothing(rt: HostRuntime) -> Result<(), Fail> {
-    let circuit = read(rt.alloc(), AND)?;
-    let mut idle = ToWrite::new(Idle);
-    assert_eq!(rt; circuit.write_text(&mut idle), Err(WriteError::Stream));
-    Ok(())
 }
 
 /// A circuit that is refused so leaves a sink as it was.

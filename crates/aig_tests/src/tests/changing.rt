@@ -18,7 +18,22 @@ fn appends_a_circuit(rt: HostRuntime) -> Result<(), Fail> {
     )?;
     both.merge(&Aig::new(rt.alloc())?)?;
     assert_eq!(rt; both.num_nodes(), 7);
-    Ok(())
+    let held = [Step::Input, Step::Leaf, Step::AddLatch(2, 4, Some(2))];
+    let mut twice = built(rt.alloc(), &held)?;
+    twice.merge(&built(rt.alloc(), &held)?)?;
+    is_described(
+        rt.alloc(),
+        &twice,
+        "nodes F L L L L\n\
+         inputs 1 3\n\
+         latches 2:2:1 4:4:3\n\
+         outputs\n\
+         bads\n\
+         constraints\n\
+         justice\n\
+         fairness\n\
+         names",
+    )
 }
 
 // Initial edges get their new numbers, and no names come along.

@@ -3,7 +3,7 @@
 use super::whole::is_described;
 use aig::{Aig, AigEdge, PropList};
 use aig_base::{Var, VarVMap};
-use aig_testing::{Pair, Step, built, is_written};
+use aig_testing::{AND, Pair, Step, built, is_written, read};
 use std::alloc::Global;
 use std::collections::HashSet;
 use std::process::Abort;
@@ -70,6 +70,12 @@ fn marks_cones(rt: HostRuntime) -> Result<(), Fail> {
     for (id, marks) in rows {
         assert_eq!(rt; cone_of(&aig, id)?.as_slice(), marks.as_slice());
     }
+    let and = read(rt.alloc(), AND)?;
+    assert_eq!(rt;
+        cone_of(&and, 3)?.as_slice(),
+        [false, true, true, true].as_slice()
+    );
+    assert!(rt; are_exactly(&reached(&and, &[3])?, &[0, 1, 2, 3]));
     Ok(())
 }
 
@@ -140,6 +146,25 @@ fn refines(rt: HostRuntime) -> Result<(), Fail> {
 // An initial edge that isn't constant keeps its nodes, free leaves among them.
 #[test]
 fn refines_by_initial_edges(rt: HostRuntime) -> Result<(), Fail> {
+    let held = built(
+        rt.alloc(),
+        &[Step::Input, Step::Leaf, Step::AddLatch(2, 4, Some(2))],
+    )?;
+    let (made, map) = refined(&held)?;
+    assert!(rt; gives_old_numbers(&map, &[0, 1, 2]));
+    is_described(
+        rt.alloc(),
+        &made,
+        "nodes F L L\n\
+         inputs 1\n\
+         latches 2:2:1\n\
+         outputs\n\
+         bads\n\
+         constraints\n\
+         justice\n\
+         fairness\n\
+         names",
+    )?;
     let steps = [
         Step::Leaf,
         Step::Leaf,

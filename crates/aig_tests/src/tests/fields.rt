@@ -1,6 +1,6 @@
 //! Edges, nodes, and the calls that read a circuit.
 
-use aig::{AigEdge, AigNode, AigNodeType};
+use aig::{Aig, AigEdge, AigNode, AigNodeType};
 use aig_testing::{AND, Step, built, is_latch, read};
 use std::test::Fail;
 
@@ -40,6 +40,9 @@ fn circuits_are_read_by_calls(rt: HostRuntime) -> Result<(), Fail> {
     assert_eq!(rt; (aig.num_nodes(), aig.nodes().len()), (4, 4));
     assert_eq!(rt; aig.nodes_range(), 1..4);
     assert_eq!(rt; aig.nodes_range_with_false(), 0..4);
+    let empty = Aig::new(rt.alloc())?;
+    assert_eq!(rt; (empty.num_nodes(), empty.nodes_range()), (1, 1..1));
+    assert_eq!(rt; empty.nodes_range_with_false(), 0..1);
     assert_eq!(rt; aig.inputs(), [1, 2].as_slice());
     assert_eq!(rt; aig.outputs(), [AigEdge::from(3)].as_slice());
     assert!(rt; aig.has_node(3) && !aig.has_node(4) && !aig.has_edge(AigEdge::from(4)));

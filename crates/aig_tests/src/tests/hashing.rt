@@ -5,7 +5,7 @@ ghost use Rattle.std.specs.Prelude.{◌<◌};
 use super::whole::is_described;
 use aig::{Aig, AigEdge, AigNodeType, PropList};
 use aig_base::MemoryError;
-use aig_testing::{Pair, Step, built, is_written};
+use aig_testing::{Pair, Step, built, is_written, read};
 use std::alloc::Global;
 use std::process::Abort;
 use std::test::Fail;
@@ -107,6 +107,29 @@ fn merges_equal_trees(rt: HostRuntime) -> Result<(), Fail> {
     Ok(())
 }
 
+/// Of names of equal gates 3 and 4 the first alone is kept.
+fn names_the_first(alloc: Global, aig: &Aig) -> Result<(), Fail> {
+    let mut named = aig.clone()?;
+    if !named.has_node(3) || !named.has_node(4) {
+        return Err(Fail::from("another circuit"));
+    }
+    named.set_symbol(3, "kept")?;
+    named.set_symbol(4, "dropped")?;
+    is_described(
+        alloc,
+        &named.strash()?,
+        "nodes F L L 1&2 3&!3\n\
+         inputs 1 2\n\
+         latches\n\
+         outputs 4\n\
+         bads\n\
+         constraints\n\
+         justice\n\
+         fairness\n\
+         names 3=kept",
+    )
+}
+
 #[test]
 fn keeps_lists_and_first_names(rt: HostRuntime) -> Result<(), Fail> {
     let steps = [
@@ -139,6 +162,13 @@ fn keeps_lists_and_first_names(rt: HostRuntime) -> Result<(), Fail> {
     )?;
     let again = aig.strash()?;
     assert_eq!(rt; again.num_nodes(), 5);
+    names_the_first(
+        rt.alloc(),
+        &read(
+            rt.alloc(),
+            "aag 5 2 0 1 3\n2\n4\n10\n6 4 2\n8 4 2\n10 8 7\n",
+        )?,
+    )?;
     let closed = [Step::Input, Step::Gate(Pair::TrivialAnd, 2, 2)];
     let own = built(rt.alloc(), &closed)?.strash()?;
     is_written(rt.alloc(), &own, "aag 2 1 0 0 1\n2\n4 2 2\n")

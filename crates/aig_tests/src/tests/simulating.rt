@@ -81,6 +81,13 @@ fn over_steps(
     Ok(simulation.simulate_all(inputs, e)?)
 }
 
+/// Whether a node has a value before any step.
+fn begins_with_value(alloc: Global, aig: &Aig, id: usize) -> Result<bool, Fail> {
+    let state = vec![in alloc; F; aig.latchs().len()]?;
+    let simulation = TernarySimulate::new(aig, state);
+    Ok(simulation.has_value(AigEdge::from(id)))
+}
+
 #[test]
 fn simulates_runs(rt: HostRuntime) -> Result<(), Fail> {
     let held = read(rt.alloc(), "aag 3 1 1 1 1\n2\n4 6\n6\n6 4 2\n")?;
@@ -94,6 +101,7 @@ fn simulates_runs(rt: HostRuntime) -> Result<(), Fail> {
         let answers = over_steps(rt.alloc(), &held, &[state], given, 3)?;
         assert_eq!(rt; answers.as_slice(), values);
     }
+    assert_eq!(rt; begins_with_value(rt.alloc(), &held, 3)?, false);
     let toggle = read(rt.alloc(), "aag 1 0 1 1 0\n2 3\n2\n")?;
     let empty = vec![in rt.alloc(); Vec::new(rt.alloc()), Vec::new(rt.alloc())]?;
     let answers = over_steps(rt.alloc(), &toggle, &[F], empty, 1)?;

@@ -32,11 +32,12 @@ fn asked(k: usize, optimize: bool) -> Option<Command> {
 
 #[test]
 fn parses_words(rt: HostRuntime) -> Result<(), Fail> {
-    let rows: [(&[&str], Option<Command>); 22] = [
+    let rows: [(&[&str], Option<Command>); 23] = [
         (&[], None),
         (&["text"], None),
         (&["text", "and.aag"], Some(Command::Text)),
         (&["text", "and.aag", "more"], None),
+        (&["TEXT", "and.aag"], None),
         (&["binary", "and.aag"], None),
         (&["binary", "and.aag", "and.aig"], Some(Command::Binary)),
         (&["strash", "and.aag"], Some(Command::Strash)),

@@ -23,7 +23,7 @@ both c =
     compressed (lists_circuit c.args.lists.now) c.requires
     c.new_ands_node.new.nodes.items c.deref-2.result.now c.in_ok-new_ands_node.field-0 c.not.result c.replace.new.dest.items
     (c.deref-2.ensures.value ∙ c.in_ok-inverted.ensures ∙ ap (map inverse) c.deref.ensures.value)
-    c.in_ok-new_ands_node.ensures.gates c.in_ok-new_ands_node.ensures.joins c.not.ensures
+    c.in_ok-new_ands_node.ensures.gates c.in_ok-new_ands_node.ensures.rule c.in_ok-new_ands_node.ensures.joins c.not.ensures
     (ap (λ (v : Vec AigEdge Global). v.items) c.replace.ensures.after ∙ ap (λ l. set l 0 c.not.result) (c.in_ok-bads.ensures.items_if_clones_equal (λ y e. e)))
 
 pub returns-clause-circuit : goal.returns-clause-circuit

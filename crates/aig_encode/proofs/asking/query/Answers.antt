@@ -1,5 +1,6 @@
 use Rattle.std.proofs.Common.{◌≡◌, ℕ, Bool, false, List, sym, subst}
 use Rattle.std.proofs.lemmas.Result.{err_from_is_err_and}
+use Rattle.aig_base.specs.Clauses.{AreBelow}
 use Rattle.aig_format.specs.File.{File}
 use Rattle.aig_runs.specs.Queries.{Asks, query_clauses}
 use Rattle.aig_runs.proofs.Queries.{queries_ask}
@@ -24,6 +25,16 @@ further_clauses-requires-clause-bads g c =
     let r = steps.run_of y in
     (steps.same y r.0 r.1 r.2).bads.count
 
+-- its nodes stay
+pub further_clauses-requires-clause-longer : goal.further_clauses-requires-clause-longer
+further_clauses-requires-clause-longer g c = c.in_ok-encoded.ensures.answer.means.steps.keeps.nodes.longer
+
+-- a variable is a node
+pub returns-clause-below : goal.returns-clause-below
+returns-clause-below g c =
+    let encodes = c.in_ok-encoded.ensures.answer.means in
+    subst (λ n. AreBelow n c.in_ok-extra.extra) (sym encodes.has_clauses.count) c.in_ok-extra.ensures.below
+
 pub returns-in_err-encoded-clause-exact : goal.returns-in_err-encoded-clause-exact
 returns-in_err-encoded-clause-exact g c =
     let p = err_from_is_err_and c.from_residual.result c.from_residual.ensures.1 in
@@ -33,10 +44,10 @@ pub returns-clause-answer : goal.returns-clause-answer
 returns-clause-answer g c =
     let o = c.in_ok-encoded.ensures.answer in
     let q : Query = record { encoded = c.in_ok-encoded.encoded; extra = c.in_ok-extra.extra } in
-    record { file = o.file; bytes = o.bytes; holds = o.holds; means = asked o.file c.args.limit c.args.k c.args.optimize o.bytes q c.in_ok-extra.ensures o.holds o.means; taken = o.taken }
+    record { file = o.file; bytes = o.bytes; holds = o.holds; means = asked o.file c.args.limit c.args.k c.args.optimize o.bytes q c.in_ok-extra.ensures.exact o.holds o.means; taken = o.taken }
 
 pub returns-clause-exact : goal.returns-clause-exact
 returns-clause-exact g c =
     let q : Query = record { encoded = c.in_ok-encoded.encoded; extra = c.in_ok-extra.extra } in
     answered_again Encoded Query (IsEncoding c.args.k c.args.optimize) (IsQuery c.args.k c.args.optimize) c.args.limit c.args.k c.in_ok-encoded.encoded q _
-    (λ f bytes within encodes. asked f c.args.limit c.args.k c.args.optimize bytes q c.in_ok-extra.ensures within encodes) c.in_ok-encoded.ensures.exact
+    (λ f bytes within encodes. asked f c.args.limit c.args.k c.args.optimize bytes q c.in_ok-extra.ensures.exact within encodes) c.in_ok-encoded.ensures.exact

@@ -8,6 +8,8 @@ use Rattle.aig_strash.proofs.Keeping.{KeepsFirsts-strashed, NumbersFirsts-images
 use Rattle.aig_strash.proofs.Merged.{MergesTrees-strashed}
 use Rattle.aig_strash.proofs.Strashing.{IsCircuit-strashed, KeepsRuns-strashed}
 use Rattle.aig_strash.proofs.Twice.{strashed-twice}
+use Rattle.aig_format.specs.Writable.{IsWritable}
+use Rattle.aig.proofs.Strashed.{IsWritable-strashed}
 use Rattle.aig.proofs.graph.Aig.strash.Goals as goal
 
 pub from_lists-requires : goal.from_lists-requires
@@ -39,3 +41,8 @@ pub returns-clause-twice : goal.returns-clause-twice
 returns-clause-twice c =
     let made = c.from_lists.ensures ∙ c.in_ok-lists.ensures ∙ ap strashed c.view.ensures.value in
     subst (λ (d : Circuit). strashed d ≡ d) (sym made) (strashed-twice c.args.self.now c.view.ensures.circuit)
+
+pub returns-clause-writable : goal.returns-clause-writable
+returns-clause-writable c writable =
+    let made = c.from_lists.ensures ∙ c.in_ok-lists.ensures ∙ ap strashed c.view.ensures.value in
+    subst IsWritable (sym made) (IsWritable-strashed c.args.self.now c.view.ensures.circuit writable)

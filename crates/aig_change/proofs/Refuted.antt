@@ -1,0 +1,149 @@
+-- Wrong results of changes of small circuits, of which the definitions are false.
+use Rattle.std.proofs.Common.{◌≡◌, ◌≢◌, ℕ, zero, suc, Bool, true, false, Option, Some, None, List, [], ◌∷◌, length, refl, sym, ap, subst, ◌∙◌, inl, inr, arith}
+use Rattle.std.specs.Prelude.{◌==◌, if◌then◌else◌, All, slice_get, unwrap_or}
+use Rattle.std.specs.List.{AllZip}
+use Rattle.std.specs.FinMap.{empty}
+use Rattle.std.proofs.lemmas.Bool.{false≢true}
+use Rattle.aig_circuit.specs.declared.edge.AigEdge.{AigEdge}
+use Rattle.aig_circuit.specs.declared.node.AigNodeType.{AigNodeType}
+use Rattle.aig_circuit.specs.declared.node.AigNodeType.TheVariants.{False, Leaf, And}
+use Rattle.aig_circuit.specs.declared.node.AigNode.{AigNode}
+use Rattle.aig_circuit.specs.declared.node.AigLatch.{AigLatch}
+use Rattle.aig_circuit.specs.Build.{Folds, FoldsOrAdds, false_second, true_first, with_node}
+use Rattle.aig_circuit.specs.Circuit.{Circuit}
+use Rattle.aig_circuit.specs.Edge.{edge_to}
+use Rattle.aig_circuit.specs.Edges.{HasPlainInit}
+use Rattle.aig_circuit.specs.Runs.{IsRun, IsStart}
+use Rattle.aig_circuit.specs.Tree.{node_value, tree_of}
+use Rattle.aig_change.specs.Merge.{merged}
+use Rattle.aig_change.specs.Changes.{CompressesBads, GatesStarts, MovesConstraints, held_latch}
+use Rattle.aig_change.specs.Runs.{IsRunFromStart}
+use Rattle.aig_change.specs.Starting.{SaysStart}
+
+abbrev node : ℕ → AigNodeType → AigNode
+node n kind = record { node_id = n; typ = kind }
+
+abbrev and_of : ℕ → Bool → ℕ → Bool → AigNodeType
+and_of a i b j = And (edge_to a i) (edge_to b j)
+
+-- a circuit of these nodes, inputs, latches, bads and constraints
+abbrev circuit_with : List AigNode → List ℕ → List AigLatch → List AigEdge → List AigEdge → Circuit
+circuit_with nodes inputs latchs bads constraints =
+    record { nodes = nodes; inputs = inputs; latchs = latchs; outputs = []; bads = bads; constraints = constraints; justice = []; fairness = []; names = empty }
+
+-- ---- merging
+
+-- input 1, latch 2 with next 2 and initial edge 1
+abbrev started_by_input : Circuit
+started_by_input = circuit_with (node 0 False ∷ node 1 Leaf ∷ node 2 Leaf ∷ []) (1 ∷ []) (record { input = 2; next = edge_to 2 false; init = Some (edge_to 1 false) } ∷ []) [] []
+
+-- the second copy's latch starts by the first copy's input
+abbrev not_mapped : Circuit
+not_mapped = circuit_with (node 0 False ∷ node 1 Leaf ∷ node 2 Leaf ∷ node 3 Leaf ∷ node 4 Leaf ∷ []) (1 ∷ 3 ∷ [])
+    (record { input = 2; next = edge_to 2 false; init = Some (edge_to 1 false) } ∷ record { input = 4; next = edge_to 4 false; init = Some (edge_to 1 false) } ∷ []) [] []
+
+-- the node of the second latch's initial edge
+abbrev second_start : Circuit → ℕ
+second_start c = by (slice_get c.latchs 1)
+  where
+    by : Option AigLatch → ℕ
+    by (Some latch) = (unwrap_or latch.init (edge_to 0 false)).node_id
+    by None = 0
+
+no_start_of_the_first : merged started_by_input started_by_input ≢ not_mapped
+no_start_of_the_first e = let n : ◌≡◌ {A = ℕ} 3 1 = ap second_start e in absurd (omega arith)
+
+-- ---- another list is emptied
+
+abbrev one_leaf : List AigNode
+one_leaf = node 0 False ∷ node 1 Leaf ∷ []
+
+-- justice set and output 1
+abbrev with_properties : Circuit
+with_properties = record (circuit_with one_leaf (1 ∷ []) [] [] []) { outputs = edge_to 1 false ∷ []; justice = (edge_to 1 false ∷ []) ∷ [] }
+
+not_without_justice : (new : Circuit) → new.justice ≡ [] → ¬ MovesConstraints with_properties new
+not_without_justice new none m = let was = ap (λ (c : Circuit). c.justice) m.rest in let no : ◌≡◌ {A = List (List AigEdge)} [] ((edge_to 1 false ∷ []) ∷ []) = sym none ∙ was in cc
+
+not_without_outputs : (new : Circuit) → new.outputs ≡ [] → ¬ CompressesBads with_properties new
+not_without_outputs new none m = let was = ap (λ (c : Circuit). c.outputs) m.rest in let no : ◌≡◌ {A = List AigEdge} [] (edge_to 1 false ∷ []) = sym none ∙ was in cc
+
+not_without_properties : (new : Circuit) → new.outputs ≡ [] → ¬ GatesStarts with_properties new
+not_without_properties new none m = let was = ap (λ (c : Circuit). c.outputs) m.rest in let no : ◌≡◌ {A = List AigEdge} [] (edge_to 1 false ∷ []) = sym none ∙ was in cc
+
+-- ---- bads that fold
+
+-- where two edges fold, no node is added
+none_added : (old new : List AigNode) (a b e f : AigEdge) → Folds a b f → FoldsOrAdds old new a b e → new ≡ old
+none_added old new a b e f folds (inl p) = p.1
+none_added old new a b e f folds (inr p) = absurd (p.0 f folds)
+
+-- the bads 1 and true: both fold, and a gate of theirs is wrong
+abbrev true_bad : Circuit
+true_bad = circuit_with one_leaf (1 ∷ []) [] (edge_to 1 false ∷ edge_to 0 true ∷ []) []
+
+not_unfolded : (new : Circuit) → length new.nodes ≡ 3 → ¬ CompressesBads true_bad new
+not_unfolded new count m =
+    let first = m.rule.2 in
+    let second = m.rule.3.2 in
+    let one = none_added one_leaf m.rule.0 (edge_to 0 true) (edge_to 1 true) m.rule.1 (edge_to 1 true) (true_first refl refl) first in
+    let two = none_added m.rule.0 m.rule.3.0 m.rule.1 (edge_to 0 false) m.rule.3.1 (edge_to 0 false) (false_second refl refl) second in
+    let all : new.nodes ≡ one_leaf = m.rule.3.3.0 ∙ two ∙ one in
+    let n : ◌≡◌ {A = ℕ} 3 2 = sym count ∙ ap length all in
+    absurd (omega arith)
+
+-- ---- constraints at the present step alone
+
+-- input 1 is a constraint, and true is bad
+abbrev always_bad : Circuit
+always_bad = circuit_with one_leaf (1 ∷ []) [] (edge_to 0 true ∷ []) (edge_to 1 false ∷ [])
+
+-- the bad edge is the constraint: it holds at a step though the constraint failed before
+abbrev present_alone : Circuit
+present_alone = circuit_with (node 0 False ∷ node 1 Leaf ∷ node 2 Leaf ∷ node 3 (and_of 1 false 2 false) ∷ []) (1 ∷ []) (held_latch 2 (edge_to 3 false) ∷ []) (edge_to 1 false ∷ []) []
+
+-- input 1 from step 1 on, and the latch at step 0
+abbrev fails_once : ℕ → ℕ → Bool
+fails_once t n = if t == 0 then n == 2 else n == 1
+
+not_present_alone : ¬ MovesConstraints always_bad present_alone
+unfolding node_value tree_of
+not_present_alone m =
+    let says = m.bads.first 1 fails_once from_start 1 (edge_to 0 true) (edge_to 1 false) (omega arith) refl refl in
+    let held = (says.0 refl).1 0 (omega arith) 0 (edge_to 1 false) (omega arith) in
+    false≢true held
+  where
+    from_start : IsRunFromStart present_alone 1 fails_once
+    from_start = record { run = runs; start = starts }
+      where
+        starts : IsStart present_alone (fails_once 0)
+        starts zero d h = refl
+        starts (suc k) d h = absurd (omega arith)
+
+        runs : IsRun present_alone 1 fails_once
+        runs zero lt zero d h = refl
+        runs zero lt (suc k) d h = absurd (omega arith)
+        runs (suc t) lt k d h = absurd (omega arith)
+
+-- ---- the initial edge's equality at every step
+
+-- the constraint that latch 2 equals input 1: !6 with 4 = and(1,2), 5 = and(!1,!2) and 6 = and(!4,!5)
+abbrev always_equal : Circuit
+always_equal = circuit_with
+    (node 0 False ∷ node 1 Leaf ∷ node 2 Leaf ∷ node 3 Leaf ∷ node 4 (and_of 1 false 2 false) ∷ node 5 (and_of 1 true 2 true) ∷ node 6 (and_of 4 true 5 true) ∷ [])
+    (1 ∷ []) (record { input = 2; next = edge_to 2 false; init = None } ∷ record { input = 3; next = edge_to 0 false; init = Some (edge_to 0 true) } ∷ [])
+    [] (edge_to 6 true ∷ [])
+
+-- input 1 alone
+abbrev one_alone : ℕ → Bool
+one_alone n = n == 1
+
+not_always_equal : ¬ GatesStarts started_by_input always_equal
+unfolding node_value tree_of
+not_always_equal m =
+    let each = subst (λ constrained. AllZip (SaysStart (with_node started_by_input.nodes Leaf) always_equal.nodes (edge_to 3 false)) constrained started_by_input.latchs) (sym m.constraints) (m.each variable) in
+    let says : false ≡ true = (each.0 one_alone).1 (λ (not_first : false ≡ true). absurd (false≢true not_first)) in
+    false≢true says
+  where
+    variable : ¬ All HasPlainInit started_by_input.latchs
+    variable all = let e : ◌≡◌ {A = ℕ} 1 0 = all 0 (record { input = 0; next = edge_to 0 false; init = None }) (omega arith) in absurd (omega arith)

@@ -1,0 +1,4 @@
+pub mod Words
+pub mod Reading
+pub mod Pieces
+mod Examples

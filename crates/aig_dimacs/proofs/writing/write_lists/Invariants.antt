@@ -1,0 +1,8 @@
+use Rattle.std.proofs.Common.{take}
+use Rattle.std.specs.List.{flat_map}
+use Rattle.aig_writer.specs.Sinks.{Buffers}
+use Rattle.aig_dimacs.specs.Text.{clause_line}
+use Rattle.aig_dimacs.proofs.writing.write_lists.Given as goal
+
+abbrev pub invariant-loop-v : goal.invariant-loop-v
+invariant-loop-v g l = Buffers l.fn.buffer (g.W.Sink.held l.fn.w) l.buffer (g.W.Sink.held l.w) (flat_map (flat_map clause_line) (take l.v l.clauses))

@@ -1,0 +1,10 @@
+//! Clauses in DIMACS form, written to any sink.
+#![tactic(auto)]
+
+mod laws;
+#[cfg(test)]
+mod tests;
+mod writing;
+
+pub use laws::{formulas_are_read, texts_tell_formulas};
+pub use writing::write_dimacs;

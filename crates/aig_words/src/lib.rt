@@ -1,0 +1,6 @@
+//! Words of a command line.
+#![tactic(auto)]
+
+mod number;
+
+pub use number::steps;

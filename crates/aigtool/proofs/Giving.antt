@@ -1,0 +1,147 @@
+-- The words of a command.
+use Rattle.std.proofs.Common.{◌≡◌, ◌↔◌, ℕ, ◌-◌, ◌<◌, ◌≤◌, Bool, true, false, List, [], ◌∷◌, length, map, get_or, drop, take, Option, Some, None, refl, sym, ap, subst, ◌∙◌, Global, arith}
+use Rattle.std.specs.Prelude.{String, codes, string_bytes}
+use Rattle.std.proofs.lemmas.List.{take_all}
+use Rattle.std.proofs.lemmas.Option.{same_Some}
+use Rattle.aig_format.specs.Text.{IsNumber, value_of}
+use Rattle.aigtool.specs.declared.command.Command.{Command}
+use Rattle.aigtool.specs.declared.command.Command.TheVariants as commands
+use Rattle.aigtool.specs.Words.{Give, IsUnrolling, setting_words}
+
+-- ---- one command
+
+same_setting : (a b : List ℕ) (o p : Bool) → a ∷ setting_words o ≡ b ∷ setting_words p → (a ≡ b) × (o ≡ p)
+same_setting a b true true is = (cc, refl)
+same_setting a b false false is = (cc, refl)
+same_setting a b true false is = cc
+same_setting a b false true is = cc
+
+same_unrolling : (words : List (List ℕ)) (k m : ℕ) (o p : Bool) → IsUnrolling k o words → IsUnrolling m p words → (k ≡ m) × (o ≡ p)
+same_unrolling words k m o p h i =
+    let same = same_setting h.steps i.steps o p (sym h.spelled ∙ i.spelled) in
+    (sym h.number.value ∙ ap value_of same.0 ∙ i.number.value, same.1)
+
+-- words that begin otherwise give no unrolling
+pub no_unrolling : (words : List (List ℕ)) (first : List ℕ) (o : Bool) → words ≡ first ∷ setting_words o → ((k : ℕ) → ¬ IsNumber k first) → (m : ℕ) (p : Bool) → ¬ IsUnrolling m p words
+no_unrolling words first o is not m p h =
+    let same = same_setting h.steps first p o (sym h.spelled ∙ is) in
+    not m (subst (IsNumber m) same.0 h.number)
+
+-- words give one command at the most
+pub one_command : (words : List (List ℕ)) (c d : Command) → Give words c → Give words d → c ≡ d
+one_command words commands.Text commands.Text g h = refl
+one_command words commands.Text commands.Binary g h = let is = sym g.1 ∙ h.2 in cc
+one_command words commands.Text commands.Strash g h = let is = sym g.1 ∙ h.1 in cc
+one_command words commands.Text (commands.Cnf m p) g h = let is = sym g.1 ∙ h.2 in cc
+one_command words commands.Text (commands.Query m p) g h = let is = sym g.1 ∙ h.2 in cc
+one_command words commands.Binary commands.Text g h = let is = sym g.2 ∙ h.1 in cc
+one_command words commands.Binary commands.Binary g h = refl
+one_command words commands.Binary commands.Strash g h = let is = sym g.2 ∙ h.1 in cc
+one_command words commands.Binary (commands.Cnf m p) g h = let is = sym g.2 ∙ h.2 in cc
+one_command words commands.Binary (commands.Query m p) g h = let is = sym g.2 ∙ h.2 in cc
+one_command words commands.Strash commands.Text g h = let is = sym g.1 ∙ h.1 in cc
+one_command words commands.Strash commands.Binary g h = let is = sym g.1 ∙ h.2 in cc
+one_command words commands.Strash commands.Strash g h = refl
+one_command words commands.Strash (commands.Cnf m p) g h = let is = sym g.1 ∙ h.2 in cc
+one_command words commands.Strash (commands.Query m p) g h = let is = sym g.1 ∙ h.2 in cc
+one_command words (commands.Cnf k o) commands.Text g h = let is = sym g.2 ∙ h.1 in cc
+one_command words (commands.Cnf k o) commands.Binary g h = let is = sym g.2 ∙ h.2 in cc
+one_command words (commands.Cnf k o) commands.Strash g h = let is = sym g.2 ∙ h.1 in cc
+one_command words (commands.Cnf k o) (commands.Cnf m p) g h =
+    let is = sym g.2 ∙ h.2 in
+    let rest : g.1 ≡ h.1 = cc in
+    let same = same_unrolling h.1 k m o p (subst (IsUnrolling k o) rest g.3) h.3 in
+    let one = same.0 in
+    let two = same.1 in
+    cc
+one_command words (commands.Cnf k o) (commands.Query m p) g h = let is = sym g.2 ∙ h.2 in cc
+one_command words (commands.Query k o) commands.Text g h = let is = sym g.2 ∙ h.1 in cc
+one_command words (commands.Query k o) commands.Binary g h = let is = sym g.2 ∙ h.2 in cc
+one_command words (commands.Query k o) commands.Strash g h = let is = sym g.2 ∙ h.1 in cc
+one_command words (commands.Query k o) (commands.Cnf m p) g h = let is = sym g.2 ∙ h.2 in cc
+one_command words (commands.Query k o) (commands.Query m p) g h =
+    let is = sym g.2 ∙ h.2 in
+    let rest : g.1 ≡ h.1 = cc in
+    let same = same_unrolling h.1 k m o p (subst (IsUnrolling k o) rest g.3) h.3 in
+    let one = same.0 in
+    let two = same.1 in
+    cc
+
+-- so what they give is told exactly
+pub gives_exactly : (words : List (List ℕ)) (c : Command) → Give words c → (d : Command) → (Some c ≡ Some d) ↔ Give words d
+gives_exactly words c g d = (λ is. subst (Give words) (same_Some _ _ is) g, λ h. ap Some (one_command words c d g h))
+
+pub unrolls_exactly : (words : List (List ℕ)) (k : ℕ) (o : Bool) → IsUnrolling k o words → (m : ℕ) (p : Bool) → ◌≡◌ {A = Option (ℕ × Bool)} (Some (k, o)) (Some (m, p)) ↔ IsUnrolling m p words
+unrolls_exactly words k o g m p = (
+  λ is.
+      let same : (k, o) ≡ (m, p) = same_Some _ _ is in
+      subst (λ (x : ℕ × Bool). IsUnrolling x.0 x.1 words) same g,
+  λ h. let same = same_unrolling words k m o p g h in let one = same.0 in let two = same.1 in cc,
+)
+
+-- ---- words in a list
+
+pub words_of_one : (words : List (String Global)) (first : String Global) → 1 ≤ length words → length words < 2 → first ≡ get_or words 0 first → map string_bytes words ≡ string_bytes first ∷ []
+words_of_one [] first low high at = absurd (omega arith)
+words_of_one (w ∷ []) first low high at = ap (λ x. string_bytes x ∷ []) (sym at)
+words_of_one (w ∷ x ∷ ws) first low high at = absurd (omega arith)
+
+abbrev pub behind : List (String Global) → List (String Global)
+behind words = take (length words - 2) (drop 2 words)
+
+pub with_rest : (words : List (String Global)) (first : String Global) (name : List ℕ) → 2 ≤ length words → first ≡ get_or words 0 first → string_bytes first ≡ name
+    → (file : List ℕ) × (map string_bytes words ≡ name ∷ file ∷ map string_bytes (behind words))
+with_rest [] first name low at is = absurd (omega arith)
+with_rest (w ∷ []) first name low at is = absurd (omega arith)
+with_rest (w ∷ x ∷ ws) first name low at is =
+    (string_bytes x, ap (λ y. string_bytes y ∷ string_bytes x ∷ map string_bytes ws) (sym at) ∙ ap (λ n. n ∷ string_bytes x ∷ map string_bytes ws) is ∙ ap (λ l. name ∷ string_bytes x ∷ map string_bytes l) (sym (take_all (length (w ∷ x ∷ ws) - 2) ws (omega arith))))
+
+none_behind : (ws : List (String Global)) → length ws < 1 → map string_bytes ws ≡ []
+none_behind [] low = refl
+none_behind (w ∷ ws) low = absurd (omega arith)
+
+one_behind : (ws : List (String Global)) → 1 ≤ length ws → length ws < 2 → (out : List ℕ) × (map string_bytes ws ≡ out ∷ [])
+one_behind [] low high = absurd (omega arith)
+one_behind (w ∷ []) low high = (string_bytes w, refl)
+one_behind (w ∷ x ∷ ws) low high = absurd (omega arith)
+
+pub with_nothing : (words : List (String Global)) (first : String Global) (name : List ℕ) → 2 ≤ length words → first ≡ get_or words 0 first → string_bytes first ≡ name → length (behind words) < 1
+    → (file : List ℕ) × (map string_bytes words ≡ name ∷ file ∷ [])
+with_nothing words first name low at is none =
+    let all = with_rest words first name low at is in
+    (all.0, all.1 ∙ ap (λ l. name ∷ all.0 ∷ l) (none_behind (behind words) none))
+
+pub with_one : (words : List (String Global)) (first : String Global) (name : List ℕ) → 2 ≤ length words → first ≡ get_or words 0 first → string_bytes first ≡ name → 1 ≤ length (behind words) → length (behind words) < 2
+    → (file out : List ℕ) × (map string_bytes words ≡ name ∷ file ∷ out ∷ [])
+with_one words first name low at is some few =
+    let all = with_rest words first name low at is in
+    let one = one_behind (behind words) some few in
+    (all.0, one.0, all.1 ∙ ap (λ l. name ∷ all.0 ∷ l) one.1)
+
+pub words_of_pair : (words : List (String Global)) (first second : String Global) → 2 ≤ length words → length words < 3 → first ≡ get_or words 0 first → second ≡ get_or words 1 second
+    → map string_bytes words ≡ string_bytes first ∷ string_bytes second ∷ []
+words_of_pair [] first second low high at next = absurd (omega arith)
+words_of_pair (w ∷ []) first second low high at next = absurd (omega arith)
+words_of_pair (w ∷ x ∷ []) first second low high at next = rw (sym at, sym next) refl
+words_of_pair (w ∷ x ∷ y ∷ ws) first second low high at next = absurd (omega arith)
+
+-- ---- words behind a name
+
+module _ (words : List (List ℕ)) (file : List ℕ) (rest : List (List ℕ)) where
+  pub by_cnf : (d : Command) → words ≡ codes "cnf" ∷ file ∷ rest → Give words d → (k : ℕ) × (o : Bool) × (d ≡ commands.Cnf k o) × IsUnrolling k o rest
+  by_cnf commands.Text is g = let same = sym g.1 ∙ is in cc
+  by_cnf commands.Binary is g = let same = sym g.2 ∙ is in cc
+  by_cnf commands.Strash is g = let same = sym g.1 ∙ is in cc
+  by_cnf (commands.Cnf k o) is g = let same = sym g.2 ∙ is in let these : g.1 ≡ rest = cc in (k, o, refl, subst (IsUnrolling k o) these g.3)
+  by_cnf (commands.Query k o) is g = let same = sym g.2 ∙ is in cc
+
+  pub by_query : (d : Command) → words ≡ codes "query" ∷ file ∷ rest → Give words d → (k : ℕ) × (o : Bool) × (d ≡ commands.Query k o) × IsUnrolling k o rest
+  by_query commands.Text is g = let same = sym g.1 ∙ is in cc
+  by_query commands.Binary is g = let same = sym g.2 ∙ is in cc
+  by_query commands.Strash is g = let same = sym g.1 ∙ is in cc
+  by_query (commands.Cnf k o) is g = let same = sym g.2 ∙ is in cc
+  by_query (commands.Query k o) is g = let same = sym g.2 ∙ is in let these : g.1 ≡ rest = cc in (k, o, refl, subst (IsUnrolling k o) these g.3)
+
+-- nothing was given
+pub nothing_given : (words : List (List ℕ)) (r : Option Command) → r ≡ None → ((d : Command) → ¬ Give words d) → (d : Command) → (r ≡ Some d) ↔ Give words d
+nothing_given words r none not d = (λ is. cc, λ g. absurd (not d g))

@@ -1,0 +1,4 @@
+pub mod Running
+pub mod Answering
+pub mod Giving
+pub mod Outcomes

@@ -1,0 +1,93 @@
+-- What a command does, at each way out of it.
+use Rattle.std.proofs.Common.{◌≡◌, ℕ, Bool, false, Option, Some, None, Ok, Err, List, refl, sym, ap, subst, IsTrue}
+use Rattle.std.specs.Prelude.{IsErrOf}
+use Rattle.std.specs.Io.KnownBytes.{Appends, IsAtEnd}
+use Rattle.aig_format.specs.File.{File}
+use Rattle.aig_reader.specs.declared.error.ReadError.{ReadError}
+use Rattle.aig_reader.specs.declared.error.ReadError.TheVariants as read
+use Rattle.aig_writer.specs.Sinks.{AppendsBeginning}
+use Rattle.aig.specs.declared.aiger.WriteError.{WriteError}
+use Rattle.aig.specs.declared.aiger.WriteError.TheVariants as write
+use Rattle.aig_encode.specs.declared.error.EncodeError.{EncodeError}
+use Rattle.aig_encode.specs.declared.error.EncodeError.TheVariants as encode
+use Rattle.aig_encode.specs.Encoding.{IsBeyond, IsWithin, TookFile}
+use Rattle.aigtool.specs.declared.command.Command.{Command}
+use Rattle.aigtool.specs.declared.tool.ToolError.{ToolError}
+use Rattle.aigtool.specs.declared.tool.ToolError.TheVariants as errors
+use Rattle.aigtool.specs.Running.{Answered, AnswersFile, ExceedsBy, Passes, Refused, Runs, Says, Short, Stopped, TakesBy, refused_as, steps_of}
+use Rattle.aigtool.proofs.Running.{Encodes, Reads, Tell, answered, encoded, err_of, passes_in_encoding, refused_in_encoding, refused_in_reading}
+
+module _ {R W : Type 0} (left : R → Option (List ℕ)) (read_failed : R → Bool) (held : W → Option (List ℕ)) (write_failed : W → Bool) (c : Command) (limit : ℕ) (r : R) (w : W) (rest : R) where
+  -- the bytes were refused
+  module _ (steps : Option ℕ) (e : ReadError) (is : steps_of c ≡ steps) (exact : Tell steps limit (Refused e) (left r)) (stream : e ≡ read.Stream → IsTrue (read_failed rest)) (opened : e ≡ read.Open → ⊥) where
+    refuses : Runs left read_failed held write_failed c limit r w (Err (refused_as steps e)) rest w
+    refuses = record {
+      outcome = Refused e;
+      says = ap (λ steps. Err (refused_as steps e)) (sym is);
+      tells = (stream, opened);
+      exact = subst (λ steps. Tell steps limit (Refused e) (left r)) (sym is) exact;
+      kept = λ not stopped. refl;
+      whole = λ not. absurd (not e refl);
+    }
+
+  pub not_read : {X : Type 0} (Means : File → X → Type 0) (e : ReadError) → steps_of c ≡ None → Reads {X = X} Means limit (Err e) (left r) → (IsErrOf {T = X} (Err e) read.Stream → IsTrue (read_failed rest)) → (IsErrOf {T = X} (Err e) read.Open → ⊥)
+      → Runs left read_failed held write_failed c limit r w (Err (errors.Read e)) rest w
+  not_read {X} Means e none exact stream opened =
+      refuses None e none (refused_in_reading X Means limit e (left r) exact) (λ is. stream (err_of {T = X} e read.Stream is)) (λ is. opened (err_of {T = X} e read.Open is))
+
+  -- the bytes were refused, or memory ran out, or further steps may pass the limit
+  pub not_encoded : {X : Type 0} (Means : File → X → Type 0) (k : ℕ) (e : EncodeError) → steps_of c ≡ Some k → Says c Short (Err (errors.Encode encode.Memory)) → Encodes {X = X} Means limit k (Err e) (left r)
+      → (IsErrOf {T = X} (Err e) encode.Memory → TookFile (IsWithin limit k) (left r) (left rest)) → (IsErrOf {T = X} (Err e) encode.TooLarge → TookFile (IsBeyond limit k) (left r) (left rest))
+      → ((e ≡ encode.Memory) → (read_failed rest ≡ false) × IsAtEnd (left rest)) → ((e ≡ encode.TooLarge) → (read_failed rest ≡ false) × IsAtEnd (left rest))
+      → (IsErrOf {T = X} (Err e) (encode.Read read.Stream) → IsTrue (read_failed rest)) → (IsErrOf {T = X} (Err e) (encode.Read read.Open) → ⊥)
+      → Runs left read_failed held write_failed c limit r w (Err (errors.Encode e)) rest w
+  not_encoded {X} Means k encode.Memory some short exact memory large whole beyond stream opened = record {
+    outcome = Short;
+    says = short;
+    tells = subst (λ steps. TookFile (TakesBy steps limit) (left r) (left rest)) (sym some) (memory refl);
+    exact = λ not. absurd (not tt);
+    kept = λ not stopped. refl;
+    whole = λ not. whole refl;
+  }
+  not_encoded {X} Means k encode.TooLarge some short exact memory large whole beyond stream opened = record {
+    outcome = Passes;
+    says = (λ none. let is = some in cc, refl);
+    tells = subst (λ steps. TookFile (ExceedsBy steps limit) (left r) (left rest)) (sym some) (large refl);
+    exact = subst (λ steps. Tell steps limit Passes (left r)) (sym some) (passes_in_encoding X Means limit k (left r) exact);
+    kept = λ not stopped. refl;
+    whole = λ not. beyond refl;
+  }
+  not_encoded {X} Means k (encode.Read e) some short exact memory large whole beyond stream opened =
+      refuses (Some k) e some (refused_in_encoding X Means limit k e (left r) exact) (λ is. stream (wrapped read.Stream is)) (λ is. opened (wrapped read.Open is))
+    where
+      wrapped : (x : ReadError) → e ≡ x → IsErrOf {T = X} (Err (encode.Read e)) (encode.Read x)
+      wrapped x is = err_of {T = X} (encode.Read e) (encode.Read x) (ap (λ y. encode.Read y) is)
+
+  -- memory ran out after the reading
+  module _ (e : ToolError) (made : W) where
+    pub no_memory : Says c Short (Err e) → TookFile (TakesBy (steps_of c) limit) (left r) (left rest) → (read_failed rest ≡ false) × IsAtEnd (left rest) → made ≡ w → Runs left read_failed held write_failed c limit r w (Err e) rest made
+    no_memory says took whole kept = record { outcome = Short; says = says; tells = took; exact = λ not. absurd (not tt); kept = λ not stopped. kept; whole = λ not. whole }
+
+  module _ (made : W) where
+    -- the writer failed after a beginning of the answer
+    pub stopped : (e : WriteError) → e ≡ write.Stream → AnswersFile c limit (left r) (left rest) (AppendsBeginning (held w) (held made)) → IsTrue (write_failed made) → (read_failed rest ≡ false) × IsAtEnd (left rest)
+        → Runs left read_failed held write_failed c limit r w (Err (errors.Write e)) rest made
+    stopped e same answers failed whole = record {
+      outcome = Stopped;
+      says = ap (λ y. Err (errors.Write y)) same;
+      tells = (answers, failed);
+      exact = λ not. absurd (not tt);
+      kept = λ not stopped. absurd (stopped refl);
+      whole = λ not. whole;
+    }
+
+    -- the answer was written
+    module _ (u : Unit {0}) (answers : AnswersFile c limit (left r) (left rest) (Appends (held w) (held made))) (sound : write_failed made ≡ false) (whole : (read_failed rest ≡ false) × IsAtEnd (left rest)) where
+      answers_all : Tell (steps_of c) limit Answered (left r) → Runs left read_failed held write_failed c limit r w (Ok u) rest made
+      answers_all exact = record { outcome = Answered; says = refl; tells = (answers, sound); exact = exact; kept = λ not. absurd (not refl); whole = λ not. whole }
+
+      pub printed : {X : Type 0} (Means : File → X → Type 0) (x : X) → steps_of c ≡ None → Reads Means limit (Ok x) (left r) → Runs left read_failed held write_failed c limit r w (Ok u) rest made
+      printed {X} Means x none exact = answers_all (subst (λ steps. Tell steps limit Answered (left r)) (sym none) (answered X Means limit x (left r) exact))
+
+      pub clauses_printed : {X : Type 0} (Means : File → X → Type 0) (k : ℕ) (x : X) → steps_of c ≡ Some k → Encodes Means limit k (Ok x) (left r) → Runs left read_failed held write_failed c limit r w (Ok u) rest made
+      clauses_printed {X} Means k x some exact = answers_all (subst (λ steps. Tell steps limit Answered (left r)) (sym some) (encoded X Means limit k x (left r) exact))

@@ -1,0 +1,34 @@
+use Rattle.std.proofs.Common.{refl}
+use Rattle.std.specs.Io.KnownBytes.{Appends}
+use Rattle.std.proofs.lemmas.Result.{err_from_is_err_and}
+use Rattle.aig_circuit.specs.Circuit.{Circuit}
+use Rattle.aig_writer.specs.Sinks.{AppendsBeginning}
+use Rattle.aig.specs.declared.aiger.WriteError.TheVariants as write
+use Rattle.aig.specs.Reading.{IsFileCircuit}
+use Rattle.aigtool.specs.declared.command.Command.TheVariants as commands
+use Rattle.aigtool.proofs.Answering.{text_answers}
+use Rattle.aigtool.proofs.Outcomes.{not_read, printed, stopped}
+use Rattle.aigtool.proofs.Running.{err_of, only_stopped}
+use Rattle.aigtool.proofs.tool.print_text.Goals as goal
+
+pub returns-in_err-circuit : goal.returns-in_err-circuit
+returns-in_err-circuit g c =
+    let p = err_from_is_err_and c.from_residual.result c.from_residual.ensures.1 in
+    let told = c.in_err-circuit.ensures in
+    rw (p.1, p.2) (not_read g.R.Source.left g.R.Source.failed g.W.Sink.held g.W.Sink.failed commands.Text _ c.args.r.now c.args.w.now _ {X = Circuit} IsFileCircuit c.in_err-circuit.field-0.0 refl told.exact told.stream told.never_open)
+
+pub returns-in_err-write_text : goal.returns-in_err-write_text
+returns-in_err-write_text g c =
+    let p = err_from_is_err_and c.from_residual-in_err-write_text.result c.from_residual-in_err-write_text.ensures.1 in
+    let read = c.in_ok-circuit.ensures in
+    let told = c.in_err-write_text.ensures in
+    let e = c.in_err-write_text.field-0.0 in
+    let is = only_stopped c.in_ok-circuit.circuit e read.writable told.tells told.faults in
+    let done = told.stream (err_of e write.Stream is) in
+    rw (p.1, p.2) (stopped g.R.Source.left g.R.Source.failed g.W.Sink.held g.W.Sink.failed commands.Text _ c.args.r.now c.args.w.now _ _ e is (text_answers _ _ _ (AppendsBeginning _ _) c.in_ok-circuit.circuit read.circuit done.0) done.1 read.whole)
+
+pub returns : goal.returns
+returns g c =
+    let read = c.in_ok-circuit.ensures in
+    let told = c.in_ok-write_text.ensures in
+    printed g.R.Source.left g.R.Source.failed g.W.Sink.held g.W.Sink.failed commands.Text _ c.args.r.now c.args.w.now _ _ _ (text_answers _ _ _ (Appends _ _) c.in_ok-circuit.circuit read.circuit told.ok.0) told.ok.1 read.whole {X = Circuit} IsFileCircuit c.in_ok-circuit.circuit refl read.exact
