@@ -1,0 +1,271 @@
+#!/usr/bin/env python3
+"""Refuses each request for memory in turn, and counts requests.
+
+Every call that takes memory is made by the program aig_memory, once for each of its own requests for memory, with that request
+refused, upwards until a run ends without a refusal. A refused call answers that memory ran out and nothing else, and leaves its
+receiver as it was; the last run answers what ample memory answers. The same of each command of aigtool, which says `aigtool:
+out of memory`, ends with status 1, prints at most a beginning, and leaves an old OUT as it was.
+
+Requests are counted as well: long lines and comments make none, and no number of a file makes a large one, but for the room for
+nodes, which is reserved within the limit.
+
+The shim memory/refuse.c is built with the C compiler and loaded by LD_PRELOAD.
+"""
+import argparse
+import concurrent.futures
+import itertools
+import os
+import pathlib
+import shutil
+import subprocess
+import sys
+import tempfile
+
+HERE = pathlib.Path(__file__).resolve().parent
+CRATES = HERE.parent / "crates"
+
+# Calls that ask for no memory, though they answer a result.
+ASK_NOTHING = {"write_text", "to_file"}
+# Calls that first ask for as much as an iterator hints at, and then, if that is refused, for less.
+ASK_AGAIN = {"trivial_new_ands_node", "new_ands_node", "trivial_new_ors_node", "new_ors_node"}
+# What a refused call answers, where it isn't `Err(Memory)`.
+REFUSALS = {"clone": "Err(AllocError)"}
+# Calls that read a file first, and the call that reads the same file alone.
+READ_FIRST = {
+    "encode": "from_aiger",
+    "query": "from_aiger",
+    "encode shuffled": "from_aiger shuffled",
+    "query shuffled": "from_aiger shuffled",
+}
+
+AND = b"aag 3 2 0 1 1\n2\n4\n6\n6 4 2\n"
+# Two latches, an exclusive or, all kinds of properties, names, a comment, and gates in falling order with a gap.
+WHOLE = (
+    b"aag 12 2 2 1 4 1 1 2 1\n4\n2\n6 20 1\n8 7 8\n21\n20\n7\n2\n0\n20\n8\n9\n"
+    b"20 19 17\n18 5 3\n16 4 2\n14 8 6\ni0 a\nl1 state\no0 out\nccomment\n"
+)
+COMMANDS = [["text"], ["strash"], ["cnf", "2"], ["cnf", "2", "raw"], ["query", "1"], ["query", "1", "raw"]]
+
+# Where a file has a few nodes all requests together stay below this, and room for nodes within the limit is reserved.
+ASKED_FOR_LITTLE = 20_000
+BYTES_OF_A_NODE = 48
+
+
+class Failures:
+    """Counts checks, and prints those that fail."""
+
+    def __init__(self):
+        self.passed = self.failed = 0
+
+    def check(self, holds, what):
+        if holds:
+            self.passed += 1
+        else:
+            self.failed += 1
+            print(f"FAILED: {what}")
+
+
+class Ended:
+    """How a program ended, and what it asked for."""
+
+    def __init__(self, run, told):
+        self.status, self.out, self.err = run.returncode, run.stdout, run.stderr
+        self.requests, self.greatest, self.sum = told
+
+    def whole(self):
+        return self.status, self.out, self.err
+
+
+class Shim:
+    """Runs programs with requests for memory that are counted and refused."""
+
+    def __init__(self, compiler, folder):
+        self.library = folder / "refuse.so"
+        source = HERE / "memory" / "refuse.c"
+        subprocess.run([compiler, "-O2", "-shared", "-fPIC", "-o", self.library, source, "-ldl"], check=True)
+
+    def run(self, words, folder, refused=0, between=None):
+        """Runs a program in a folder, with the request of this number refused; requests count between these lines."""
+        told = folder / ".told"
+        env = {"LD_PRELOAD": str(self.library), "REFUSE": str(refused), "REFUSE_TELL": str(told)}
+        if between:
+            env["REFUSE_AFTER"], env["REFUSE_UNTIL"] = between
+        run = subprocess.run(words, cwd=folder, env=env, capture_output=True, timeout=60)
+        counts = tuple(map(int, told.read_text().split()))
+        told.unlink()
+        return Ended(run, counts)
+
+
+def parts(out):
+    """The receiver before the call, the answer, and the receiver after it."""
+    before, rest = out.decode().split("call\n", 1)
+    answer, after = rest.split("answer\n", 1)[1].split("after\n", 1)
+    return before, answer, after
+
+
+class Calls:
+    """The calls of the library, one by one."""
+
+    def __init__(self, shim, program, folder):
+        self.shim, self.program, self.folder = shim, program, folder
+
+    def names(self):
+        """The names of all calls."""
+        run = subprocess.run([self.program], stdout=subprocess.PIPE, check=True, encoding="utf-8")
+        return run.stdout.splitlines()
+
+    def run(self, name, room, refused=0):
+        return self.shim.run([self.program, name], room, refused, ("call", "answer"))
+
+    def room(self, name):
+        """A folder of the call's own."""
+        room = self.folder / name.replace(":", "-").replace(" ", "_")
+        room.mkdir(exist_ok=True)
+        return room
+
+    def reading(self, name):
+        """How many requests a call makes while it reads."""
+        if name not in READ_FIRST:
+            return 0
+        return self.run(READ_FIRST[name], self.room("reads " + name)).requests
+
+    def refusal(self, name, refused, reading):
+        """What the call answers where this request is refused."""
+        if name in READ_FIRST and refused <= reading:
+            return "Err(Read(Memory))\n"
+        return REFUSALS.get(name, "Err(Memory)") + "\n"
+
+    def check(self, name):
+        """Failures of a call, one line each, and the count of checks."""
+        room, reading, wrong = self.room(name), self.reading(name), []
+        ample = subprocess.run([self.program, name], cwd=room, capture_output=True)
+        if ample.returncode or ample.stderr:
+            return 1, [f"{name}: status {ample.returncode}, {ample.stderr}"]
+        receiver, refusals = parts(ample.stdout)[0], 0
+        for refused in itertools.count(1):
+            ended = self.run(name, room, refused)
+            if ended.requests < refused:
+                break
+            wanted = (receiver, self.refusal(name, refused, reading), receiver)
+            if not ended.status and not ended.err and parts(ended.out) == wanted:
+                refusals += 1
+            elif name not in ASK_AGAIN or ended.whole() != (0, ample.stdout, b""):
+                wrong.append(f"{name}, request {refused}: status {ended.status}, {ended.out[-300:]}, {ended.err}")
+        if ended.whole() != (0, ample.stdout, b""):
+            wrong.append(f"{name}: another answer without a refusal")
+        if (refusals == 0) != (name in ASK_NOTHING):
+            wrong.append(f"{name}: {refused - 1} requests, {refusals} answered as refused")
+        return refused + 1, wrong
+
+
+class Tool:
+    """The commands of aigtool, one by one."""
+
+    def __init__(self, shim, tool, folder):
+        self.shim, self.tool, self.folder = shim, tool, folder
+
+    def cases(self):
+        """Each command on a text and on its binary form, and `binary` over an old file and none."""
+        for form, (command, *further) in itertools.product(["whole.aag", "whole.aig"], COMMANDS):
+            yield [command, form, *further], None
+        for form, old in itertools.product(["whole.aag", "whole.aig"], [None, b"old"]):
+            yield ["binary", form, "out"], old
+
+    def files(self, room, old):
+        """Makes a folder with the files that the commands read, and an old OUT."""
+        room.mkdir()
+        (room / "whole.aag").write_bytes(WHOLE)
+        subprocess.run([self.tool, "binary", "whole.aag", "whole.aig"], cwd=room, check=True)
+        if old is not None:
+            (room / "out").write_bytes(old)
+
+    def contents(self, room):
+        return {path.name: path.read_bytes() for path in room.iterdir()}
+
+    def check(self, number, words, old):
+        """Failures of a command, one line each, and the count of checks."""
+        room, wrong = self.folder / f"tool{number}", []
+        self.files(room, old)
+        before = self.contents(room)
+        name = " ".join(words)
+        ample = subprocess.run([self.tool, *words], cwd=room, capture_output=True)
+        made = self.contents(room)
+        for refused in itertools.count(1):
+            shutil.rmtree(room)
+            self.files(room, old)
+            ended = self.shim.run([self.tool, *words], room, refused)
+            if ended.requests < refused:
+                break
+            if (ended.status, ended.err) != (1, b"aigtool: out of memory\n") or not ample.stdout.startswith(ended.out):
+                wrong.append(f"{name}, request {refused}: status {ended.status}, {ended.err}")
+            if self.contents(room) != before:
+                wrong.append(f"{name}, request {refused}: files {self.contents(room)}")
+        if ended.whole() != (0, ample.stdout, b"") or ample.returncode or self.contents(room) != made:
+            wrong.append(f"{name}: another answer without a refusal")
+        return refused, wrong
+
+
+def sizes(shim, tool, folder, failures):
+    """What is read in pieces makes no further requests, and no count in a file makes a large one."""
+
+    def asks(words, data):
+        (folder / "file").write_bytes(data)
+        return shim.run([tool, *words], folder)
+
+    def makes_as_many(data, other, what):
+        few, same = asks(["text", "file"], other), asks(["text", "file"], data)
+        counts = (few.requests, few.greatest, few.sum)
+        failures.check(few.status == 0 and few.whole() == same.whole(), f"{what}: another answer")
+        failures.check(counts == (same.requests, same.greatest, same.sum), f"{what}: {same.requests} requests, not {counts}")
+
+    makes_as_many(b"aag " + b"0" * 5_000 + b" 0 0 0 0\n", b"aag 0 0 0 0 0\n", "5,000 digits")
+    makes_as_many(AND + b"c" + bytes(1_000_000), AND, "a comment of 1,000,000 bytes")
+    for data, fault, nodes in [
+        (b"aag 16777215 0 0 0 16777215\n", "bad line in gates", 16_777_216),
+        (b"aag 16777215 0 0 0 16777215", "bad header line", 0),
+        (b"aag 1 1 0 0 0\n4294967294\n", "bad literal in inputs", 0),
+        (b"aag 0 0 0 4294967295 0\n0\n", "bad line in outputs", 0),
+        (b"aag 0 0 0 0 0 0 0 2\n4294967295\n4294967295\n0\n", "bad line in justice", 0),
+    ]:
+        ended = asks(["text", "file"], data)
+        failures.check(ended.err == f"aigtool: {fault}\n".encode(), f"{data}: {ended.err}")
+        most = ASKED_FOR_LITTLE + nodes * BYTES_OF_A_NODE
+        failures.check(ended.sum <= most, f"{data}: asks for {ended.sum} bytes, {ended.greatest} at once")
+
+
+def c_compiler():
+    """A C compiler that is installed."""
+    names = [os.environ.get("CC", "cc"), "clang", "gcc"]
+    return next(filter(shutil.which, names), names[0])
+
+
+def main():
+    parser = argparse.ArgumentParser(description=__doc__, formatter_class=argparse.RawDescriptionHelpFormatter)
+    program = CRATES / "aig_memory" / "out" / "aig_memory"
+    parser.add_argument("--program", type=pathlib.Path, default=program, help="the program aig_memory")
+    parser.add_argument("--tool", type=pathlib.Path, default=CRATES / "aigtool" / "out" / "aigtool", help="the program aigtool")
+    parser.add_argument("--compiler", default=c_compiler(), help="the C compiler (%(default)s)")
+    parser.add_argument("names", nargs="*", help="the calls to make (all, and the commands)")
+    given = parser.parse_args()
+    failures = Failures()
+    with tempfile.TemporaryDirectory() as name:
+        folder = pathlib.Path(name)
+        shim = Shim(given.compiler, folder)
+        calls = Calls(shim, given.program.resolve(), folder)
+        tool = Tool(shim, given.tool.resolve(), folder)
+        with concurrent.futures.ThreadPoolExecutor(os.cpu_count()) as pool:
+            running = [pool.submit(calls.check, call) for call in given.names or calls.names()]
+            if not given.names:
+                running += [pool.submit(tool.check, i, *case) for i, case in enumerate(tool.cases())]
+                sizes(shim, tool.tool, folder, failures)
+        for count, wrong in (run.result() for run in running):
+            failures.passed += count - len(wrong)
+            failures.failed += len(wrong)
+            for line in wrong[:3]:
+                print(f"FAILED: {line}")
+    print(f"{failures.passed} passed, {failures.failed} failed")
+    return failures.failed > 0
+
+
+if __name__ == "__main__":
+    sys.exit(main())
