@@ -1,11 +1,11 @@
 #!/usr/bin/env python3
-"""Compares bounded model checks of random files: bounded_checks.py AIGTOOL [FILES [SEED]]
+"""Compares model checks of random files: bounded_checks.py [FILES [SEED]]
 
-For each of FILES (50) small files it asks at which step a bad state is first reached: examples/bmc.py, with each of the solvers
-that is installed, a search over all states, and ABC's bmc3, where that is installed. It ends where two of them differ.
+For each of FILES (50) small files it asks at which step a bad state is first reached, if ever: examples/prove.py with windows of
+both forms, a search over all states, and ABC's bmc3, where that is installed. It ends where two of them differ.
 
-AIGTOOL is the built program, crates/aigtool/out/aigtool after `rt run` in crates/aigtool. Solvers and ABC are the Debian packages
-cadical, picosat, kissat and berkeley-abc. It is no part of the gate.
+The programs are those that were built last, below crates/. The solver and ABC are the Debian packages cadical and berkeley-abc.
+It is no part of the gate.
 """
 import itertools
 import os
@@ -16,9 +16,10 @@ import subprocess
 import sys
 import tempfile
 
-BMC = os.path.join(os.path.dirname(os.path.abspath(__file__)), "..", "examples", "bmc.py")
+TOP = os.path.join(os.path.dirname(os.path.abspath(__file__)), "..")
+PROVE = os.path.join(TOP, "examples", "prove.py")
+TOOL = os.path.join(TOP, "crates", "aigtool", "out", "aigtool")
 BOUND = 6
-SOLVERS = [["cadical", "-q"], ["picosat"], ["kissat", "-q"]]
 
 
 class RandomFile:
@@ -79,9 +80,9 @@ class RandomFile:
         return set(itertools.product(*choices))
 
     def first_bad(self):
-        """The first step of the bound at which a bad state is reached."""
-        states = self.starts()
-        for k in range(BOUND + 1):
+        """The first step at which a bad state is reached, if ever."""
+        states, seen, k = self.starts(), set(), 0
+        while states:
             after = set()
             for state in states:
                 for inputs in itertools.product([False, True], repeat=len(self.inputs)):
@@ -91,7 +92,8 @@ class RandomFile:
                     if any(values[literal] for literal in self.bads):
                         return k
                     after.add(tuple(values[latch[1]] for latch in self.latches))
-            states = after
+            seen |= states
+            states, k = after - seen, k + 1
         return None
 
 
@@ -100,13 +102,21 @@ def output(words):
     return subprocess.run(words, stdout=subprocess.PIPE, encoding="utf-8").stdout
 
 
-def first_bad_by_bmc(tool, file, solver):
-    """What the example finds."""
-    printed = output([BMC, tool, file, str(BOUND), *solver])
+def first_bad_proved(file, options):
+    """What the example finds: a step, none at all, or nothing up to the bound."""
+    printed = output([PROVE, *options, file, str(BOUND)])
+    last = printed.split("\n")[-2] if printed else ""
     found = re.search(r"^a bad state at step (\d+)$", printed, re.MULTILINE)
-    if found is None and f"no bad state at step {BOUND}\n" not in printed:
+    if found is None and last not in ("no bad state at any step", f"no bad state up to step {BOUND}"):
         sys.exit(f"no answer about {file}")
-    return found and int(found.group(1))
+    return int(found.group(1)) if found else last
+
+
+def agree(found, wanted):
+    """Whether an answer is that of the search over all states."""
+    if wanted is None:
+        return not isinstance(found, int)
+    return found == wanted if wanted <= BOUND else found == f"no bad state up to step {BOUND}"
 
 
 def answer_of_abc(binary):
@@ -121,37 +131,34 @@ def answer_of_abc(binary):
     return {"ABC": found and int(found.group(1))}
 
 
-def compare(tool, made, folder):
+def compare(made, folder):
     """What all agree on about a file."""
     text, binary = (os.path.join(folder, name) for name in ["made.aag", "made.aig"])
     with open(text, "w") as out:
         out.write(made.text())
-    subprocess.run([tool, "binary", text, binary], check=True)
+    subprocess.run([TOOL, "binary", text, binary], check=True)
     wanted = made.first_bad()
-    found = {}
-    for solver in SOLVERS:
-        if shutil.which(solver[0]):
-            found[solver[0]] = first_bad_by_bmc(tool, text, solver)
-            found[f"{solver[0]}, binary"] = first_bad_by_bmc(tool, binary, solver)
+    answers = {"plain": first_bad_proved(text, []), "distinct, binary": first_bad_proved(binary, ["--distinct"])}
+    for name, found in answers.items():
+        if not agree(found, wanted):
+            sys.exit(f"{name}: {found}, and a search finds {wanted}:\n{made.text()}")
     if shutil.which("berkeley-abc"):
-        found.update(answer_of_abc(binary))
-    for name, k in found.items():
-        if k != wanted:
-            sys.exit(f"{name} finds a bad state at step {k}, and a search at {wanted}:\n{made.text()}")
-    return wanted
+        for k in answer_of_abc(binary).values():
+            if k != (wanted if wanted is None or wanted <= BOUND else None):
+                sys.exit(f"ABC finds a bad state at step {k}, and a search at {wanted}:\n{made.text()}")
+    return answers["distinct, binary"]
 
 
 def main():
-    tool = sys.argv[1]
-    files = int(sys.argv[2]) if len(sys.argv) > 2 else 50
-    rng = random.Random(int(sys.argv[3]) if len(sys.argv) > 3 else 1)
+    files = int(sys.argv[1]) if len(sys.argv) > 1 else 50
+    rng = random.Random(int(sys.argv[2]) if len(sys.argv) > 2 else 1)
     counts = {}
     with tempfile.TemporaryDirectory() as folder:
         for _ in range(files):
-            k = compare(tool, RandomFile(rng), folder)
-            counts[k] = counts.get(k, 0) + 1
-    for k, count in sorted(counts.items(), key=lambda entry: (entry[0] is None, entry[0])):
-        print(f"{count} files with " + ("no bad state" if k is None else f"a bad state at step {k}"))
+            answer = compare(RandomFile(rng), folder)
+            counts[answer] = counts.get(answer, 0) + 1
+    for answer, count in sorted(counts.items(), key=str):
+        print(f"{count} files: " + (f"a bad state at step {answer}" if isinstance(answer, int) else answer))
 
 
 main()

@@ -1,0 +1,117 @@
+#!/usr/bin/env python3
+"""Measures `aigcheck` on proofs of a solver: refutations.py AIGTOOL AIGCHECK [SOLVER [BITS ..]]
+
+AIGTOOL and AIGCHECK are the built programs, crates/NAME/out/NAME after `rt run` in crates/NAME. SOLVER (cadical) is given
+`-q --no-binary FILE PROOF` for a proof in the DRAT format, and `--lrat=1` as well for one in the LRAT format, which cadical
+has from version 1.7 on: where it refuses that word, the rows of that format are left out.
+
+For each of BITS (6 7 8) two multipliers that add up their rows in other orders are asked to differ. Each row has the seconds of
+processor time of the solver and of the check, what part the one is of the other, the proof's size, and the check's peak memory,
+which is seen only above this script's own, some 14 MiB.
+"""
+import os
+import subprocess
+import sys
+import tempfile
+
+FORMS = [("DRAT", []), ("LRAT", ["--lrat=1"])]
+
+
+class Gates:
+    """Gates of a text file, by literals."""
+
+    def __init__(self, inputs):
+        self.inputs = [2 * (n + 1) for n in range(inputs)]
+        self.gates = []
+
+    def both(self, a, b):
+        made = 2 * (len(self.inputs) + len(self.gates) + 1)
+        self.gates.append((made, max(a, b), min(a, b)))
+        return made
+
+    def either(self, a, b):
+        return self.both(a ^ 1, b ^ 1) ^ 1
+
+    def differ(self, a, b):
+        return self.both(self.either(a, b), self.both(a, b) ^ 1)
+
+    def sum_and_carry(self, a, b, c):
+        half = self.differ(a, b)
+        return self.differ(half, c), self.either(self.both(a, b), self.both(half, c))
+
+    def product(self, a, b):
+        """The bits of a product, the lowest first: the rows of `a`, one for each bit of `b`, are added up in turn."""
+        total = [0] * (len(a) + len(b))
+        for i, bit in enumerate(b):
+            carry = 0
+            for j, other in enumerate(a):
+                total[i + j], carry = self.sum_and_carry(total[i + j], self.both(other, bit), carry)
+            total[i + len(a)] = carry
+        return total
+
+    def text(self, bad):
+        """The text of a file whose one bad literal is this."""
+        count = len(self.inputs) + len(self.gates)
+        lines = [f"aag {count} {len(self.inputs)} 0 0 {len(self.gates)} 1", *map(str, self.inputs), str(bad)]
+        return "".join(line + "\n" for line in lines + [f"{a} {b} {c}" for a, b, c in self.gates])
+
+
+def multipliers(bits):
+    """A file that is bad where a product differs from that of the same numbers in the other order."""
+    gates = Gates(2 * bits)
+    a, b = gates.inputs[:bits], gates.inputs[bits:]
+    bad = 0
+    for one, other in zip(gates.product(a, b), gates.product(b, a)):
+        bad = gates.either(bad, gates.differ(one, other))
+    return gates.text(bad)
+
+
+def run(words, out=subprocess.DEVNULL):
+    """The status, processor seconds and peak kilobytes of one run."""
+    child = subprocess.Popen(words, stdout=out, stderr=subprocess.DEVNULL)
+    _, status, usage = os.wait4(child.pid, 0)
+    return os.waitstatus_to_exitcode(status), usage.ru_utime + usage.ru_stime, usage.ru_maxrss
+
+
+def row(words):
+    """A row of a table."""
+    print("| " + " | ".join(words) + " |", flush=True)
+
+
+def measure(tools, name, text, raw, folder):
+    """Prints the rows of one file."""
+    aigtool, aigcheck, solver = tools
+    file, clauses, proof = (os.path.join(folder, part) for part in ["file.aag", "clauses", "proof"])
+    with open(file, "w", encoding="ascii") as made:
+        made.write(text)
+    with open(clauses, "wb") as made:
+        if run([aigtool, "query", file, "0", *raw], made)[0] != 0:
+            sys.exit(f"{aigtool} prints no clauses")
+    for form, words in FORMS:
+        status, solving, _ = run([solver, "-q", *words, "--no-binary", clauses, proof])
+        if status != 20 and words:
+            continue
+        if status != 20:
+            sys.exit(f"{solver} ended with status {status}")
+        status, checking, peak = run([aigcheck, "refuted", file, "0", proof, *raw])
+        if status != 0:
+            sys.exit(f"{aigcheck} ended with status {status} on a proof of {name} in the {form} format")
+        size = os.path.getsize(proof) / 1e6
+        part = f"{100 * checking / solving:.0f} %"
+        row([name, form, f"{solving:.2f} s", f"{size:.1f} MB", f"{checking:.2f} s", part, f"{peak / 1024:.1f} MiB"])
+
+
+def main():
+    if len(sys.argv) < 3:
+        sys.exit(__doc__.split("\n", maxsplit=1)[0])
+    tools = (sys.argv[1], sys.argv[2], sys.argv[3] if len(sys.argv) > 3 else "cadical")
+    row(["file", "proof", "solving", "proof's size", "checking", "of solving", "peak"])
+    row(["---"] * 7)
+    for bits in [int(word) for word in sys.argv[4:]] or [6, 7, 8]:
+        for raw in ([], ["raw"]):
+            with tempfile.TemporaryDirectory() as folder:
+                name = " ".join([f"multipliers of {bits} bits", *raw])
+                measure(tools, name, multipliers(bits), raw, folder)
+
+
+main()

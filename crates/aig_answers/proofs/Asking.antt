@@ -1,0 +1,103 @@
+-- The clauses of a window, from their parts.
+use Rattle.std.proofs.Common.{◌≡◌, inl, inr, subst, Result, Ok, Err, ℕ, ◌+◌, ◌-◌, ◌*◌, ◌<◌, ◌≤◌, Bool, false, List, [], ◌∷◌, ◌++◌, length, map, take, drop, get_or, refl, sym, ap, ◌∙◌, arith, length-drop}
+use Rattle.std.proofs.Math.Nat.{add-mul}
+use Rattle.std.specs.Prelude.{◌↔◌, replicate, IfOk, IsTrue}
+use Rattle.std.proofs.lemmas.List.{get_or-map, length-map, length-take-le, take_all, take_more}
+use Rattle.aig_base.specs.declared.logic.literal.Lit.{Lit}
+use Rattle.aig_base.specs.Clauses.{AreBelow, AreRelations}
+use Rattle.aig_circuit.specs.declared.edge.AigEdge.{AigEdge}
+use Rattle.aig_circuit.specs.declared.node.AigLatch.{AigLatch}
+use Rattle.aig_circuit.specs.Edge.{edge_to}
+use Rattle.aig_circuit.specs.Circuit.{Circuit, IsCircuit}
+use Rattle.aig_cnf.specs.Cnf.{FixesRoots, HasClauses, NodeValuesSatisfy}
+use Rattle.aig_unroll.specs.Places.{size_by_counts, unrolled_size}
+use Rattle.aig_unroll.specs.Unroll.{UnrollsTo}
+use Rattle.aig_encode.specs.declared.error.EncodeError.TheVariants as encode
+use Rattle.aig_answers.specs.declared.error.AnswerError.{AnswerError}
+use Rattle.aig_answers.specs.declared.error.AnswerError.TheVariants as errors
+use Rattle.aig_answers.specs.declared.windows.WindowClauses.{WindowClauses}
+use Rattle.aig_answers.specs.Answers.{IsOfCircuit, IsWantOfRoom}
+use Rattle.aig_certify.proofs.Below.{window_below}
+use Rattle.aig_certify.specs.declared.window.Window.{Window}
+use Rattle.aig_certify.specs.declared.window.Window.TheVariants.{Plain, Distinct}
+use Rattle.aig_certify.specs.WindowClauses.{AsksWindow, count_free, induction_clauses, pair_clauses, state_at, state_edges, states_clauses, watched}
+
+-- the leaf of one latch more is an output
+pub watch_step : (old now made : Circuit) (i : ℕ) (latchs : List AigLatch) (leaf : ℕ) (e : AigEdge) (d : AigLatch) → leaf ≡ (get_or latchs i d).input → latchs ≡ now.latchs → e ≡ edge_to leaf false → i < length old.latchs
+    → now ≡ record old { outputs = take i (state_edges old) } → made ≡ record now { outputs = now.outputs ++ e ∷ [] } → made ≡ record old { outputs = take (i + 1) (state_edges old) }
+watch_step old now made i latchs leaf e d of same is low before step =
+    let these : latchs ≡ old.latchs = same ∙ ap (λ (c : Circuit). c.latchs) before in
+    let leaf_of = λ (latch : AigLatch). latch.input in
+    let edge_at = λ (n : ℕ). edge_to n false in
+    let leaves = map leaf_of old.latchs in
+    let count : length leaves ≡ length old.latchs = length-map old.latchs leaf_of in
+    let within : i < length leaves = omega (arith, count) in
+    let wide : length (map edge_at leaves) ≡ length leaves = length-map leaves edge_at in
+    let here : get_or (map edge_at leaves) i e ≡ e =
+    get_or-map edge_at leaves i (leaf_of d) e within ∙ ap edge_at (get_or-map leaf_of old.latchs i d (leaf_of d) low ∙ sym (of ∙ ap (λ ls. (get_or ls i d).input) these)) ∙ sym is in
+    let more = take_more (map edge_at leaves) i e (omega (arith, within, wide)) ∙ ap (λ x. take i (map edge_at leaves) ++ x ∷ []) here in
+    step ∙ ap (λ (c : Circuit). record c { outputs = c.outputs ++ e ∷ [] }) before ∙ ap (λ es. record old { outputs = es }) (sym more)
+
+-- the edges of a state, as they are cut out
+pub cut_row : (edges : List AigEdge) (l s : ℕ) → take l (take (length edges - s * l) (drop (s * l) edges)) ≡ state_at l edges s
+cut_row edges l s = ap (take l) (take_all (length edges - s * l) (drop (s * l) edges) (simp length-drop (omega arith)))
+
+pub pair_cut : (made old : List (List Lit)) (m n l s t : ℕ) (edges : List AigEdge)
+    → made ≡ old ++ pair_clauses m (take l (take (length edges - s * l) (drop (s * l) edges))) (take l (take (length edges - t * l) (drop (t * l) edges))) → m ≡ n
+    → made ≡ old ++ pair_clauses n (state_at l edges s) (state_at l edges t)
+pair_cut made old m n l s t edges step is =
+    let first = take l (take (length edges - s * l) (drop (s * l) edges)) in
+    let second = take l (take (length edges - t * l) (drop (t * l) edges)) in
+    step ∙ ap (λ i. old ++ pair_clauses i first second) is ∙ ap (λ row. old ++ pair_clauses n row second) (cut_row edges l s) ∙ ap (λ row. old ++ pair_clauses n (state_at l edges s) row) (cut_row edges l t)
+
+pub row_length : (edges : List AigEdge) (l s : ℕ) → (s + 1) * l ≤ length edges → length (state_at l edges s) ≡ l
+row_length edges l s there =
+    let row : (s + 1) * l ≡ s * l + l = omega (arith, add-mul s 1 l) in
+    length-take-le l (drop (s * l) edges) (simp length-drop (omega (arith, row, there)))
+
+pub same_size : (form : Window) (c : Circuit) (k : ℕ) → unrolled_size (watched form c) k ≡ unrolled_size c k
+same_size Plain c k = refl
+same_size Distinct c k = refl
+
+-- the unrolled circuit has the bad edges of all steps
+pub bads_count : (c u : Circuit) (k : ℕ) → UnrollsTo c k u → length u.bads ≡ (k + 1) * length c.bads
+bads_count c u k unrolls =
+    let y : ℕ → Bool = λ n. false in
+    let r = unrolls.run_of y in
+    (unrolls.same y r.0 r.1 r.2).bads.count
+
+-- and the states
+pub states_count : (form : Window) (c u : Circuit) (k : ℕ) → UnrollsTo (watched form c) k u → form ≡ Distinct → length u.outputs ≡ (k + 1) * length (watched form c).latchs
+states_count Plain c u k unrolls is = cc
+states_count Distinct c u k unrolls is =
+    let y : ℕ → Bool = λ n. false in
+    let r = unrolls.run_of y in
+    let states : length (state_edges c) ≡ length c.latchs = length-map _ _ ∙ length-map _ _ in
+    (unrolls.same y r.0 r.1 r.2).outputs.count ∙ ap (λ m. (k + 1) * m) states
+
+module _ (c : Circuit) (k : ℕ) (optimize : Bool) (u : Circuit) (clauses : List (List (List Lit))) (lists : List (List (List Lit))) (further : List (List Lit)) (is : IsCircuit u) (has : HasClauses u optimize clauses)
+    (fixes : FixesRoots u clauses) (satisfied : NodeValuesSatisfy u clauses) (relations : AreRelations clauses) where
+  pub asks : (form : Window) → UnrollsTo (watched form c) (k + 1) u → lists ≡ clauses ++ replicate (count_free form (watched form c) k) []
+      → further ≡ induction_clauses (watched form c) k u ++ states_clauses form (length clauses) (watched form c) k u → AsksWindow form c k optimize lists further
+  asks Plain steps exact also =
+      record { unrolled = u; clauses = clauses; is_circuit = is; steps = steps; has_clauses = has; fixes = fixes; satisfied = satisfied; relations = relations; exact = exact; further_exact = also }
+  asks Distinct steps exact also =
+      record { unrolled = u; clauses = clauses; is_circuit = is; steps = steps; has_clauses = has; fixes = fixes; satisfied = satisfied; relations = relations; exact = exact; further_exact = also }
+
+-- what a test of the bound tells
+pub within_told : (c : Circuit) (k limit n : ℕ) (latchs : List AigLatch) (test : Bool) → n ≡ length c.nodes → latchs ≡ c.latchs → (IsTrue test ↔ (size_by_counts n (length latchs) k ≤ limit)) → IsTrue test → unrolled_size c k ≤ limit
+within_told c k limit n latchs test is_n is_latchs told holds =
+    subst (λ m. size_by_counts m (length c.latchs) k ≤ limit) is_n (subst (λ (ls : List AigLatch). size_by_counts n (length ls) k ≤ limit) is_latchs (told.0 holds))
+
+-- want of room isn't that further steps pass the limit
+pub only_room : (e : AnswerError) → IsWantOfRoom e → e ≡ errors.Encode encode.TooLarge → ⊥
+only_room e (inl is) large = let same = sym is ∙ large in cc
+only_room e (inr is) large = let same = sym is ∙ large in cc
+
+pub below_told : (form : Window) (c : Circuit) (k : ℕ) (optimize : Bool) (r : Result WindowClauses AnswerError) → IfOk r (λ made. AsksWindow form c k optimize made.clauses made.further) → IfOk r (λ made. AreBelow (length made.clauses) made.further)
+below_told form c k optimize (Ok made) is = window_below form c k optimize made.clauses made.further is
+below_told form c k optimize (Err e) is = tt
+
+pub room_told : (e : AnswerError) → IsWantOfRoom e → IsOfCircuit e
+room_told e (inl is) = subst IsOfCircuit (sym is) tt
+room_told e (inr is) = subst IsOfCircuit (sym is) tt

@@ -1,0 +1,186 @@
+-- What the answers of the calls tell of the file, from what reading and encoding tell.
+use Rattle.std.proofs.Common.{◌≡◌, ◌≢◌, ◌⊎◌, ◌↔◌, ℕ, ◌+◌, ◌<◌, ◌≤◌, Bool, IsTrue, Option, Some, None, Result, Ok, Err, List, [], ◌∷◌, length, map, true, false, refl, sym, ap, subst, ◌∙◌, inl, inr, arith}
+use Rattle.std.specs.Prelude.{◌==◌, IfSome, IfErr, IsErrOf}
+use Rattle.std.proofs.lemmas.List.{nil_from_length}
+use Rattle.std.proofs.lemmas.Bool.{cases_lt, eqb-true, false≢true}
+use Rattle.aig_circuit.specs.Circuit.{Circuit}
+use Rattle.aig_circuit.specs.declared.edge.AigEdge.{AigEdge}
+use Rattle.aig_format.specs.Circuit.{circuit_of, edge_of}
+use Rattle.aig_format.specs.File.{File}
+use Rattle.aig_format.specs.Fits.{Accepts}
+use Rattle.aig_reader.specs.declared.error.ReadError.{ReadError}
+use Rattle.aig_reader.specs.declared.error.ReadError.TheVariants as read
+use Rattle.aig_reader.specs.Reading.{IsOfFile}
+use Rattle.aig_unroll.specs.Places.{unrolled_size}
+use Rattle.aig.specs.Reading.{IsFileCircuit}
+use Rattle.aig_encode.specs.declared.error.EncodeError.{EncodeError}
+use Rattle.aig_encode.specs.declared.error.EncodeError.TheVariants as encode
+use Rattle.aig_encode.specs.Encoding.{IsBeyond, IsWithin, TookFile}
+use Rattle.aig_encode.proofs.Exactly.{Reads, Tells, answered, answered_again, refused_again, refused_as_large, refused_in_reading}
+use Rattle.aig_answers.specs.declared.error.AnswerError.{AnswerError}
+use Rattle.aig_answers.specs.declared.error.AnswerError.TheVariants as errors
+use Rattle.aig_answers.specs.Answers.{AsksNothing, IsOfCircuit, TellsOfFile, of_file}
+
+-- an error that is this one
+err_of : {T E : Type 0} (e x : E) → e ≡ x → IsErrOf {T = T} (Err e) x
+err_of {T} {E} e x is = let error : E → Result T E = λ y. Err y in ap error is
+
+-- a file whose circuit has no bad edge has no bad literal
+pub no_bads : (f : File) (bads : List ℕ) → map (edge_of f) bads ≡ [] → bads ≡ []
+no_bads f [] is = refl
+no_bads f (e ∷ es) is = cc
+
+-- whether there are bad edges tells whether there are bad literals
+pub none_told : (f : File) (c : Circuit) (bads : List AigEdge) (empty : Bool) → c ≡ circuit_of f → bads ≡ c.bads → empty ≡ (length bads == 0) → empty ≡ true → f.bads ≡ []
+none_told f c bads empty of same told is_empty =
+    let zero : length bads ≡ 0 = eqb-true (length bads) 0 (sym told ∙ is_empty) in
+    no_bads f f.bads (sym (ap (λ (d : Circuit). d.bads) of) ∙ sym same ∙ nil_from_length bads zero)
+
+pub some_told : (f : File) (c : Circuit) (bads : List AigEdge) (empty : Bool) → c ≡ circuit_of f → bads ≡ c.bads → empty ≡ (length bads == 0) → empty ≡ false → f.bads ≢ []
+some_told f c bads empty of same told not_empty none =
+    let is_nil : bads ≡ [] = same ∙ ap (λ (d : Circuit). d.bads) of ∙ ap (map (edge_of f)) none in
+    let is_empty : empty ≡ true = told ∙ ap (λ (es : List AigEdge). length es == 0) is_nil in
+    false≢true (sym not_empty ∙ is_empty)
+
+-- what is meant, where only the file matters
+abbrev pub OfFile : File → Unit {0} → Type 0
+OfFile f u = Unit {0}
+
+module _ {R : Type 0} (left : R → Option (List ℕ)) (failed : R → Bool) (limit k : ℕ) (r rest : R) (T : Type 0) where
+  -- the file is refused, as another call refuses it
+  pub refused_alike : {X : Type 0} (Means : File → X → Type 0) (e : EncodeError) → Tells Means limit k (Err e) (left r)
+      → (IsErrOf {T = X} (Err e) encode.Memory → TookFile (IsWithin limit k) (left r) (left rest)) → (IsErrOf {T = X} (Err e) encode.TooLarge → TookFile (IsBeyond limit k) (left r) (left rest))
+      → (IsErrOf {T = X} (Err e) (encode.Read read.Stream) → IsTrue (failed rest)) → (IsErrOf {T = X} (Err e) (encode.Read read.Open) → ⊥)
+      → TellsOfFile {T = T} left failed limit k (Err (errors.Encode e)) r rest
+  refused_alike {X} Means e exact memory large stream opened = record {
+    exact = refused_again X (Unit {0}) Means OfFile limit k e (left r) exact;
+    memory = λ is. memory (err_of e encode.Memory (inner is));
+    large = λ is. large (err_of e encode.TooLarge (inner is));
+    no_bads = λ is. absurd (apart is);
+    stream = λ is. stream (err_of e (encode.Read read.Stream) (inner is));
+    never_open = λ is. opened (err_of e (encode.Read read.Open) (inner is));
+  }
+    where
+      inner : {x : EncodeError} → IsErrOf {T = T} (Err (errors.Encode e)) (errors.Encode x) → e ≡ x
+      inner is = cc
+
+      apart : IsErrOf {T = T} (Err (errors.Encode e)) errors.NoBads → ⊥
+      apart is = cc
+
+  -- the file is a good one
+  module _ (result : Result T AnswerError) (good : of_file result ≡ Ok tt) (other : (e : EncodeError) → IsErrOf result (errors.Encode e) → ⊥) (none : IsErrOf result errors.NoBads → TookFile (AsksNothing limit k) (left r) (left rest)) where
+    pub file_good : Tells OfFile limit k (Ok tt) (left r) → TellsOfFile left failed limit k result r rest
+    file_good exact = record {
+      exact = subst (λ of. Tells OfFile limit k of (left r)) (sym good) exact;
+      memory = λ is. absurd (other encode.Memory is);
+      large = λ is. absurd (other encode.TooLarge is);
+      no_bads = none;
+      stream = λ is. absurd (other (encode.Read read.Stream) is);
+      never_open = other (encode.Read read.Open);
+    }
+
+    pub answered_alike : {X : Type 0} (Means : File → X → Type 0) (x : X) → Tells Means limit k (Ok x) (left r) → TellsOfFile left failed limit k result r rest
+    answered_alike {X} Means x exact = file_good (answered_again X (Unit {0}) Means OfFile limit k x tt (left r) (λ f bytes within means. tt) exact)
+
+  -- reading refused the file
+  pub refused_reading : (e : ReadError) → Reads Circuit (Unit {0}) IsFileCircuit OfFile limit k (Err e) (left r) → (IsErrOf {T = Circuit} (Err e) read.Stream → IsTrue (failed rest)) → (IsErrOf {T = Circuit} (Err e) read.Open → ⊥)
+      → TellsOfFile {T = T} left failed limit k (Err (errors.Encode (encode.Read e))) r rest
+  refused_reading e exact stream opened = record {
+    exact = refused_in_reading Circuit (Unit {0}) IsFileCircuit OfFile limit k e (left r) exact;
+    memory = λ is. absurd (not_memory is);
+    large = λ is. absurd (not_large is);
+    no_bads = λ is. absurd (not_bads is);
+    stream = λ is. stream (err_of e read.Stream (inner is));
+    never_open = λ is. opened (err_of e read.Open (inner is));
+  }
+    where
+      inner : {x : ReadError} → IsErrOf {T = T} (Err (errors.Encode (encode.Read e))) (errors.Encode (encode.Read x)) → e ≡ x
+      inner is = cc
+
+      not_memory : IsErrOf {T = T} (Err (errors.Encode (encode.Read e))) (errors.Encode encode.Memory) → ⊥
+      not_memory is = cc
+
+      not_large : IsErrOf {T = T} (Err (errors.Encode (encode.Read e))) (errors.Encode encode.TooLarge) → ⊥
+      not_large is = cc
+
+      not_bads : IsErrOf {T = T} (Err (errors.Encode (encode.Read e))) errors.NoBads → ⊥
+      not_bads is = cc
+
+  -- a circuit was read, and asked for its window
+  module _ (c : Circuit) (file : IsOfFile (λ bytes. Accepts bytes limit) IsFileCircuit (left r) (left rest) c) (exact : Reads Circuit (Unit {0}) IsFileCircuit OfFile limit k (Ok c) (left r)) where
+    low_of : unrolled_size c k ≤ limit → (f : File) → c ≡ circuit_of f → unrolled_size (circuit_of f) k ≤ limit
+    low_of low f is = subst (λ d. unrolled_size d k ≤ limit) is low
+
+    within_told : unrolled_size c k ≤ limit → Tells OfFile limit k (Ok tt) (left r)
+    within_told low = by (left r) exact
+      where
+        by : (known : Option (List ℕ)) → Reads Circuit (Unit {0}) IsFileCircuit OfFile limit k (Ok c) known → Tells OfFile limit k (Ok tt) known
+        by None h = tt
+        by (Some bytes) h = answered Circuit (Unit {0}) IsFileCircuit OfFile limit k c tt bytes (low_of low) (λ f fits is. tt) h
+
+    large_told : limit < unrolled_size c k → Tells OfFile limit k (Err encode.TooLarge) (left r)
+    large_told high = by (left r) exact
+      where
+        by : (known : Option (List ℕ)) → Reads Circuit (Unit {0}) IsFileCircuit OfFile limit k (Ok c) known → Tells OfFile limit k (Err encode.TooLarge) known
+        by None h = tt
+        by (Some bytes) h = refused_as_large Circuit (Unit {0}) IsFileCircuit OfFile limit k c bytes (λ f is. subst (λ d. limit < unrolled_size d k) is high) h
+
+    took_within : unrolled_size c k ≤ limit → TookFile (IsWithin limit k) (left r) (left rest)
+    took_within low = (file.file, file.bytes, (file.holds, low_of low file.file file.means), file.taken)
+
+    took_beyond : limit < unrolled_size c k → TookFile (IsBeyond limit k) (left r) (left rest)
+    took_beyond high = (file.file, file.bytes, (file.holds, subst (λ d. limit < unrolled_size d k) file.means high), file.taken)
+
+    took_nothing : unrolled_size c k ≤ limit → c.bads ≡ [] → TookFile (AsksNothing limit k) (left r) (left rest)
+    took_nothing low none =
+        (file.file, file.bytes, ((file.holds, low_of low file.file file.means), no_bads file.file file.file.bads (subst (λ (d : Circuit). d.bads ≡ []) file.means none)), file.taken)
+
+    -- what isn't refused as too large is within the limit
+    within_limit : (result : Result T AnswerError) → IsErrOf result (errors.Encode encode.TooLarge) ↔ (limit < unrolled_size c k) → (IsErrOf result (errors.Encode encode.TooLarge) → ⊥) → unrolled_size c k ≤ limit
+    within_limit result large not = elim (cases_lt limit (unrolled_size c k)) [
+      | inl high ↦ absurd (not (large.1 high))
+      | inr low ↦ low
+    ]
+
+    pub window_told : (result : Result T AnswerError) → IsErrOf result (errors.Encode encode.TooLarge) ↔ (limit < unrolled_size c k) → (IsErrOf result errors.NoBads → c.bads ≡ []) → IfErr result IsOfCircuit → TellsOfFile left failed limit k result r rest
+    window_told (Ok x) large none err =
+        let low = within_limit (Ok x) large (λ is. cc) in
+        file_good (Ok x) refl (λ e is. cc) (λ is. cc) (within_told low)
+    window_told (Err errors.NoBads) large none err =
+        let low = within_limit (Err errors.NoBads) large (λ is. cc) in
+        file_good (Err errors.NoBads) refl (λ e is. cc) (λ is. took_nothing low (none refl)) (within_told low)
+    window_told (Err errors.TooLarge) large none err =
+        let low = within_limit (Err errors.TooLarge) large (λ is. cc) in
+        file_good (Err errors.TooLarge) refl (λ e is. cc) (λ is. cc) (within_told low)
+    window_told (Err (errors.Refutation e)) large none err = absurd err
+    window_told (Err (errors.Encode encode.Memory)) large none err =
+        let low = within_limit (Err (errors.Encode encode.Memory)) large (λ is. cc) in
+        record { exact = told (left r); memory = λ is. took_within low; large = λ is. cc; no_bads = λ is. cc; stream = λ is. cc; never_open = λ is. cc }
+      where
+        told : (known : Option (List ℕ)) → Tells OfFile limit k (Err encode.Memory) known
+        told None = tt
+        told (Some bytes) = tt
+    window_told (Err (errors.Encode encode.TooLarge)) large none err =
+        let high = large.0 refl in
+        record { exact = large_told high; memory = λ is. cc; large = λ is. took_beyond high; no_bads = λ is. cc; stream = λ is. cc; never_open = λ is. cc }
+    window_told (Err (errors.Encode (encode.Read e))) large none err = absurd err
+
+-- a refusal tells the same, whatever would have been answered
+pub told_again : {R : Type 0} (left : R → Option (List ℕ)) (failed : R → Bool) (limit k : ℕ) (r rest : R) (A B : Type 0) (e : AnswerError) → TellsOfFile {T = A} left failed limit k (Err e) r rest → TellsOfFile {T = B} left failed limit k (Err e) r rest
+told_again left failed limit k r rest A B e told = record {
+  exact = subst (λ of. Tells OfFile limit k of (left r)) (same_part e) told.exact;
+  memory = λ is. told.memory (same is);
+  large = λ is. told.large (same is);
+  no_bads = λ is. told.no_bads (same is);
+  stream = λ is. told.stream (same is);
+  never_open = λ is. told.never_open (same is);
+}
+  where
+    same : {x : AnswerError} → IsErrOf {T = B} (Err e) x → IsErrOf {T = A} (Err e) x
+    same {x} is = let this : e ≡ x = cc in err_of e x this
+
+    same_part : (e : AnswerError) → of_file {T = A} (Err e) ≡ of_file {T = B} (Err e)
+    same_part (errors.Encode e) = refl
+    same_part errors.NoBads = refl
+    same_part errors.TooLarge = refl
+    same_part (errors.Refutation e) = refl

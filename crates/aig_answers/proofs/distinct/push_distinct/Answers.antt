@@ -1,0 +1,23 @@
+use Rattle.std.proofs.Common.{◌≡◌, ℕ, suc, ◌+◌, ◌*◌, ◌<◌, ◌++◌, length, sym, ap, ◌∙◌, arith}
+use Rattle.std.proofs.Math.Nat.{add-mul}
+use Rattle.aig_certify.specs.WindowClauses.{apart_clauses, count_pairs, distinct_clauses}
+use Rattle.aig_answers.proofs.Growing.{free, free_length, free_step, more_step}
+use Rattle.aig_answers.proofs.distinct.push_distinct.Goals as goal
+
+pub loop-t-preserved : goal.loop-t-preserved
+loop-t-preserved c =
+    let n = length c.args.clauses.now in
+    let t = c.loop-t.t in
+    let l = c.args.latchs in
+    let before = c.loop-t.invariant in
+    let next : suc t ≡ t + 1 = omega arith in
+    let at : length c.loop-t.clauses ≡ n + count_pairs t * l = ap length before.clauses ∙ free_length c.args.clauses.now (count_pairs t * l) in
+    let pairs : count_pairs t * l + t * l ≡ count_pairs (t + 1) * l = sym (add-mul (count_pairs t) t l) ∙ ap (λ m. count_pairs m * l) next in
+    record {
+      clauses = free_step _ c.args.clauses.now c.loop-t.clauses (count_pairs t * l) (t * l) before.clauses c.in_ok-push_apart.ensures.clauses ∙ ap (λ m. c.args.clauses.now ++ free m) pairs;
+      further =
+          more_step _ c.args.further.now c.loop-t.further (distinct_clauses n l c.args.edges.now t) (apart_clauses (n + count_pairs t * l) l c.args.edges.now t t) before.further
+          (c.in_ok-push_apart.ensures.further ∙ ap (λ m. c.loop-t.further ++ apart_clauses m l c.args.edges.now t t) at)
+          ∙ ap (λ m. c.args.further.now ++ distinct_clauses n l c.args.edges.now m) next;
+      within = c.in_ok-push_apart.ensures.within;
+    }

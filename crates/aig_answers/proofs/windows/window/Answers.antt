@@ -1,0 +1,21 @@
+use Rattle.std.proofs.Common.{◌≡◌, ℕ, ◌+◌, Ok, Err, sym, subst}
+use Rattle.std.proofs.lemmas.Result.{err_from_is_err_and}
+use Rattle.aig_circuit.specs.Circuit.{Circuit}
+use Rattle.aig_answers.proofs.Asking.{below_told}
+use Rattle.aig_answers.proofs.Files.{refused_reading, window_told}
+use Rattle.aig_answers.proofs.windows.window.Goals as goal
+
+pub returns-in_err-circuit-clause-file : goal.returns-in_err-circuit-clause-file
+returns-in_err-circuit-clause-file g c =
+    let p = err_from_is_err_and c.from_residual.result c.from_residual.ensures.1 in
+    let told = c.in_err-circuit.ensures in
+    rw (p.1, p.2) (refused_reading g.R.Source.left g.R.Source.failed c.args.limit (c.args.k + 1) c.args.r.now _ _ c.in_err-circuit.field-0.0 told.exact told.stream told.never_open)
+
+pub returns-clause-file : goal.returns-clause-file
+returns-clause-file g c =
+    let read = c.in_ok-circuit.ensures in
+    let told = c.ask_window.ensures in
+    window_told g.R.Source.left g.R.Source.failed c.args.limit (c.args.k + 1) c.args.r.now _ _ c.in_ok-circuit.circuit read.circuit read.exact c.ask_window.result told.large told.none told.err
+
+pub returns-clause-below : goal.returns-clause-below
+returns-clause-below g c = below_told c.args.form c.in_ok-circuit.circuit c.args.k c.args.optimize c.ask_window.result c.ask_window.ensures.asks

@@ -1,0 +1,67 @@
+-- What the answer of a call tells of the bytes of a file.
+use Rattle.std.specs.Prelude.{◌≡◌, ◌≢◌, ◌⊎◌, ℕ, Bool, IsTrue, List, [], Option, Result, Ok, Err, IfSome, IsErrOf}
+use Rattle.aig_format.specs.File.{File}
+use Rattle.aig_reader.specs.declared.error.ReadError.TheVariants as read
+use Rattle.aig_encode.specs.declared.error.EncodeError.{EncodeError}
+use Rattle.aig_encode.specs.declared.error.EncodeError.TheVariants as encode
+use Rattle.aig_encode.specs.Encoding.{AnswersExactly, IsBeyond, IsWithin, TookFile, UnlessInterrupted}
+use Rattle.aig_answers.specs.declared.error.AnswerError.{AnswerError}
+use Rattle.aig_answers.specs.declared.error.AnswerError.TheVariants as errors
+
+-- the bytes are this file, it and its further steps are within the limit, and it has a bad literal
+abbrev pub IsAsked : ℕ → ℕ → List ℕ → File → Type 0
+IsAsked limit k bytes f = IsWithin limit k bytes f × (f.bads ≢ [])
+
+-- the bytes are this file, it and its further steps are within the limit, and it has no bad literal
+abbrev pub AsksNothing : ℕ → ℕ → List ℕ → File → Type 0
+AsksNothing limit k bytes f = IsWithin limit k bytes f × (f.bads ≡ [])
+
+-- what an answer says of the file alone: that it is refused, or not
+abbrev pub of_file : {T : Type 0} → Result T AnswerError → Result Unit EncodeError
+of_file (Ok answer) = Ok tt
+of_file (Err (errors.Encode e)) = Err e
+of_file (Err errors.NoBads) = Ok tt
+of_file (Err errors.TooLarge) = Ok tt
+of_file (Err (errors.Refutation e)) = Ok tt
+
+-- What an answer tells of the bytes that the reader has left before and after, and of whether it has failed.
+pub record TellsOfFile {R T : Type 0} (left : R → Option (List ℕ)) (failed : R → Bool) (limit k : ℕ) (result : Result T AnswerError) (r rest : R) : Type 0 where
+  -- of known bytes, memory and the stream aside: they are refused exactly where they are no file within the limit, as TooMany and TooLarge exactly
+  -- where these apply
+  pub exact : IfSome (left r) (λ bytes. UnlessInterrupted (of_file result) (AnswersExactly (λ f u. Unit {0}) limit k (of_file result) bytes))
+  -- memory runs out only after a file within the limit was read, and further steps pass the limit only after one beyond it
+  pub memory : IsErrOf result (errors.Encode encode.Memory) → TookFile (IsWithin limit k) (left r) (left rest)
+  pub large : IsErrOf result (errors.Encode encode.TooLarge) → TookFile (IsBeyond limit k) (left r) (left rest)
+  -- nothing is asked only after a file without bad literals was read
+  pub no_bads : IsErrOf result errors.NoBads → TookFile (AsksNothing limit k) (left r) (left rest)
+  -- Stream only where a read failed in this call
+  pub stream : IsErrOf result (errors.Encode (encode.Read read.Stream)) → IsTrue (failed rest)
+  pub never_open : IsErrOf result (errors.Encode (encode.Read read.Open)) → ⊥
+
+-- the answer tells nothing of a proof: none was read
+abbrev pub IsOfFileAlone : {T : Type 0} → Result T AnswerError → Type 0
+IsOfFileAlone (Ok answer) = ⊥
+IsOfFileAlone (Err (errors.Encode e)) = Unit {0}
+IsOfFileAlone (Err errors.NoBads) = Unit {0}
+IsOfFileAlone (Err errors.TooLarge) = Unit {0}
+IsOfFileAlone (Err (errors.Refutation e)) = ⊥
+
+-- memory ran out, or the clauses that tell states apart pass the limit
+abbrev pub IsWantOfRoom : AnswerError → Type 0
+IsWantOfRoom e = (e ≡ errors.Encode encode.Memory) ⊎ (e ≡ errors.TooLarge)
+
+-- the refusals of a window's clauses: further steps pass the limit, there is nothing to ask, or there is no room
+abbrev pub IsOfCircuit : AnswerError → Type 0
+IsOfCircuit (errors.Encode (encode.Read e)) = ⊥
+IsOfCircuit (errors.Encode encode.Memory) = Unit {0}
+IsOfCircuit (errors.Encode encode.TooLarge) = Unit {0}
+IsOfCircuit errors.NoBads = Unit {0}
+IsOfCircuit errors.TooLarge = Unit {0}
+IsOfCircuit (errors.Refutation e) = ⊥
+
+-- the refusals of a file's window
+abbrev pub IsOfWindow : AnswerError → Type 0
+IsOfWindow (errors.Encode e) = Unit {0}
+IsOfWindow errors.NoBads = Unit {0}
+IsOfWindow errors.TooLarge = Unit {0}
+IsOfWindow (errors.Refutation e) = ⊥

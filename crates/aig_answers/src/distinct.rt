@@ -1,0 +1,120 @@
+//! Clauses that tell states apart.
+
+ghost use Rattle.std.specs.Prelude.{◌≡◌, ◌+◌, ◌*◌, ◌<◌, ◌≤◌, ◌^◌, ◌++◌, ◌∷◌, [], ℕ, All, IfErr, OnOk, ◌⊎◌, false, length, replicate, take, drop};
+ghost use Rattle.aig_base.specs.Clauses.{lit_to, number_of};
+ghost use Rattle.aig_circuit.specs.Edge.{inverse, lit_of};
+ghost use Rattle.aig_certify.specs.WindowClauses.{apart_clauses, count_pairs, distinct_clauses, pair_clauses};
+ghost use Rattle.aig_encode.specs.declared.error.EncodeError.TheVariants as encode;
+ghost use Rattle.aig_answers.specs.Answers.{IsWantOfRoom};
+
+use crate::error::AnswerError;
+use aig::AigEdge;
+use aig_base::{DagCnf, Lit, LitVvec, MemoryError, Var};
+
+/// Appends the clauses that two edges differ where the variable is true.
+fn push_difference(
+    further: &mut LitVvec,
+    var: Var,
+    x: AigEdge,
+    y: AigEdge,
+) -> Result<(), MemoryError>
+    requires x { x.node_id < 2 ^ 31 }
+    requires y { y.node_id < 2 ^ 31 }
+    ensures { OnOk result (further.new ≡ further.old
+        ++ (lit_to (number_of var) false ∷ lit_of x ∷ lit_of y ∷ [])
+        ∷ (lit_to (number_of var) false ∷ lit_of (inverse x) ∷ lit_of (inverse y) ∷ []) ∷ []) }
+{
+    let other_x = !x;
+    let other_y = !y;
+    further.push(&[!var.lit(), x.to_lit(), y.to_lit()])?;
+    further.push(&[!var.lit(), other_x.to_lit(), other_y.to_lit()])
+}
+
+/// Adds a variable for each pair of edges of two states, and appends the clauses that they differ where it is true, and that
+/// some is. `some` is used, whatever it has.
+fn push_pair(
+    clauses: &mut DagCnf,
+    further: &mut LitVvec,
+    some: &mut Vec<Lit>,
+    xs: &[AigEdge],
+    ys: &[AigEdge],
+    limit: usize,
+) -> Result<(), AnswerError>
+    requires few { limit ≤ 2 ^ 31 }
+    requires within { length clauses.old ≤ limit }
+    requires long { length ys.now ≡ length xs.now }
+    requires xs { All (λ e. e.node_id < 2 ^ 31) xs.now }
+    requires ys { All (λ e. e.node_id < 2 ^ 31) ys.now }
+    ensures clauses { OnOk result (clauses.new ≡ clauses.old ++ replicate (length xs.now) []) }
+    ensures further { OnOk result
+        (further.new ≡ further.old ++ pair_clauses (length clauses.old) xs.now ys.now) }
+    ensures within { OnOk result (length clauses.new ≤ limit) }
+    ensures err { IfErr result IsWantOfRoom }
+{
+    if xs.len() > limit - clauses.num_vars() {
+        return Err(AnswerError::TooLarge);
+    }
+    some.clear();
+    for i in 0..xs.len() {
+        let var = clauses.new_var()?;
+        push_difference(further, var, xs[i], ys[i])?;
+        some.push(var.lit())?;
+    }
+    Ok(further.push(some)?)
+}
+
+/// Appends the clauses that the state at step `t` differs from each before it. A state has `latchs` edges, and stands behind
+/// those before it.
+fn push_apart(
+    clauses: &mut DagCnf,
+    further: &mut LitVvec,
+    some: &mut Vec<Lit>,
+    edges: &[AigEdge],
+    latchs: usize,
+    t: usize,
+    limit: usize,
+) -> Result<(), AnswerError>
+    requires few { limit ≤ 2 ^ 31 }
+    requires within { length clauses.old ≤ limit }
+    requires there { (t + 1) * latchs ≤ length edges.now }
+    requires edges { All (λ e. e.node_id < 2 ^ 31) edges.now }
+    ensures clauses { OnOk result (clauses.new ≡ clauses.old ++ replicate (t * latchs) []) }
+    ensures further { OnOk result (further.new ≡ further.old
+        ++ apart_clauses (length clauses.old) latchs edges.now t t) }
+    ensures within { OnOk result (length clauses.new ≤ limit) }
+    ensures err { IfErr result IsWantOfRoom }
+{
+    let state = &edges[t * latchs..][..latchs];
+    for s in 0..t {
+        let before = &edges[s * latchs..][..latchs];
+        push_pair(clauses, further, some, before, state, limit)?;
+    }
+    Ok(())
+}
+
+/// Appends the clauses that the states at the first `steps` steps differ, over free variables behind those of the clauses.
+/// A state has `latchs` edges, and stands behind those before it.
+pub(crate) fn push_distinct(
+    clauses: &mut DagCnf,
+    further: &mut LitVvec,
+    some: &mut Vec<Lit>,
+    edges: &[AigEdge],
+    latchs: usize,
+    steps: usize,
+    limit: usize,
+) -> Result<(), AnswerError>
+    requires few { limit ≤ 2 ^ 31 }
+    requires within { length clauses.old ≤ limit }
+    requires there { length edges.now ≡ steps * latchs }
+    requires edges { All (λ e. e.node_id < 2 ^ 31) edges.now }
+    ensures clauses { OnOk result
+        (clauses.new ≡ clauses.old ++ replicate (count_pairs steps * latchs) []) }
+    ensures further { OnOk result (further.new ≡ further.old
+        ++ distinct_clauses (length clauses.old) latchs edges.now steps) }
+    ensures err { IfErr result IsWantOfRoom }
+{
+    for t in 0..steps {
+        push_apart(clauses, further, some, edges, latchs, t, limit)?;
+    }
+    Ok(())
+}

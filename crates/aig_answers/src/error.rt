@@ -1,0 +1,77 @@
+//! Why there is no answer.
+
+ghost use Rattle.std.specs.Prelude.{◌≡◌};
+ghost use Rattle.aig_answers.specs.declared.error.AnswerError.TheVariants as errors;
+ghost use Rattle.aig_encode.specs.declared.error.EncodeError.TheVariants as encode;
+
+use aig::ReadError;
+use aig_base::MemoryError;
+use aig_encode::EncodeError;
+use aig_refutation::RefutationError;
+use std::alloc::{AllocError, AllocFailed};
+use thiserror::Error;
+
+/// Why there is no answer.
+#[derive(Clone, Copy, Debug, PartialEq, Eq, Error)]
+pub enum AnswerError {
+    /// The file is refused, or there are no clauses of it.
+    #[error("{0}")]
+    Encode(EncodeError),
+    /// The file has no bad state property, so that nothing is asked.
+    #[error("no bad state property")]
+    NoBads,
+    /// The clauses that tell states apart may have more variables than the limit.
+    #[error("window may pass the limit")]
+    TooLarge,
+    /// The proof is refused.
+    #[error("{0}")]
+    Refutation(RefutationError),
+}
+
+impl From<ReadError> for AnswerError {
+    ghost from_gives = { λ e r. r ≡ errors.Encode (encode.Read e) };
+
+    fn from(error: ReadError) -> AnswerError {
+        AnswerError::Encode(EncodeError::Read(error))
+    }
+}
+
+impl From<EncodeError> for AnswerError {
+    ghost from_gives = { λ e r. r ≡ errors.Encode e };
+
+    fn from(error: EncodeError) -> AnswerError {
+        AnswerError::Encode(error)
+    }
+}
+
+impl From<RefutationError> for AnswerError {
+    ghost from_gives = { λ e r. r ≡ errors.Refutation e };
+
+    fn from(error: RefutationError) -> AnswerError {
+        AnswerError::Refutation(error)
+    }
+}
+
+impl From<MemoryError> for AnswerError {
+    ghost from_gives = { λ _ r. r ≡ errors.Encode encode.Memory };
+
+    fn from(_error: MemoryError) -> AnswerError {
+        AnswerError::Encode(EncodeError::Memory)
+    }
+}
+
+impl From<AllocError> for AnswerError {
+    ghost from_gives = { λ _ r. r ≡ errors.Encode encode.Memory };
+
+    fn from(_error: AllocError) -> AnswerError {
+        AnswerError::Encode(EncodeError::Memory)
+    }
+}
+
+impl<T: Drop> From<AllocFailed<T>> for AnswerError {
+    ghost from_gives = { λ _ r. r ≡ errors.Encode encode.Memory };
+
+    fn from(_error: AllocFailed<T>) -> AnswerError {
+        AnswerError::Encode(EncodeError::Memory)
+    }
+}

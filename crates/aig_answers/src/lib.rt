@@ -1,0 +1,13 @@
+//! Answers about the machine of an AIGER file: from the bytes of the file and of a proof that is checked.
+#![tactic(auto)]
+
+mod clauses;
+mod distinct;
+mod error;
+mod step;
+mod windows;
+
+pub use aig_certify::Window;
+pub use error::AnswerError;
+pub use step::check_step;
+pub use windows::{WindowClauses, check_window, window};

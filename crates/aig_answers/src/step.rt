@@ -1,0 +1,44 @@
+//! No bad state at a step.
+
+ghost use Rattle.std.specs.Prelude.{◌≡◌, ◌^◌, ◌≤◌, IfOk};
+ghost use Rattle.aig_answers.specs.Answers.{IsAsked, IsOfFileAlone, TellsOfFile};
+ghost use Rattle.aig_certify.specs.Safety.{IsSafeAt};
+ghost use Rattle.aig_reader.specs.Reading.{IsOfFile};
+
+use crate::error::AnswerError;
+use aig_base::Source;
+use aig_certify::refuted_queries_have_no_witness;
+use aig_encode::query;
+use aig_refutation::check_refutation;
+use std::alloc::Global;
+
+/// Reads a circuit from the bytes of an AIGER file, and checks a proof, in the LRAT format, that the clauses of its query for
+/// step `k` can't be satisfied: then no run from a start reaches a bad state at that step. Asks `1 <= limit <= 2^31`.
+///
+/// The clauses have the order and the variables of the DIMACS form: those of each node's variable, and the further ones
+/// behind them. A file without bad state properties is refused, as nothing is asked of it, before the proof is read.
+pub fn check_step<R: Source, P: Source>(
+    alloc: Global,
+    r: &mut R,
+    limit: usize,
+    k: usize,
+    optimize: bool,
+    proof: &mut P,
+) -> Result<(), AnswerError>
+    requires some { 1 ≤ limit }
+    requires few { limit ≤ 2 ^ 31 }
+    // The bytes that were read are a file within the limit, with a bad literal, whose machine has no run from a start that
+    // meets every constraint at the steps 0 to k and some bad literal at step k.
+    ensures answer { IfOk result (IsOfFile (IsAsked limit k) (λ f _. IsSafeAt f k)
+        (R.left r.old) (R.left r.new)) }
+    ensures file { TellsOfFile R.left R.failed limit k result r.old r.new }
+    ensures unread { IsOfFileAlone result → proof.new ≡ proof.old }
+{
+    refuted_queries_have_no_witness();
+    let asked = query(alloc, r, limit, k, optimize)?;
+    if asked.encoded.circuit.bads().is_empty() {
+        return Err(AnswerError::NoBads);
+    }
+    check_refutation(alloc, &asked.encoded.clauses, &asked.extra, proof)?;
+    Ok(())
+}

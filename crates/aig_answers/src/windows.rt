@@ -1,0 +1,181 @@
+//! Windows of steps that keep a machine safe.
+
+ghost use Rattle.std.specs.Prelude.{◌≡◌, ◌≢◌, ◌+◌, ◌*◌, ◌<◌, ◌≤◌, ◌^◌, ◌↔◌, ◌++◌, [], false, IfErr, IfOk, IsErrOf, IsOk, OnOk, length, replicate};
+ghost use Rattle.std.specs.Io.KnownBytes.{IsAtEnd};
+ghost use Rattle.aig_answers.specs.Answers.{IsAsked, IsOfCircuit, IsOfFileAlone, IsOfWindow, IsWantOfRoom, TellsOfFile};
+ghost use Rattle.aig_base.specs.Clauses.{AreBelow};
+ghost use Rattle.aig_certify.specs.Induction.{IsKInductive};
+ghost use Rattle.aig_certify.specs.WindowClauses.{AsksWindow, count_free, states_clauses, watched};
+ghost use Rattle.aig_reader.specs.Reading.{IsOfFile};
+ghost use Rattle.aig_format.specs.Circuit.{circuit_of};
+ghost use Rattle.aig_unroll.specs.Places.{unrolled_size};
+
+use crate::clauses::window_clauses;
+use crate::distinct::push_distinct;
+use crate::error::AnswerError;
+use aig::{Aig, AigEdge, PropList};
+use aig_base::{DagCnf, LitVvec, MemoryError, Source};
+use aig_certify::{Window, refuted_windows_are_inductive};
+use aig_encode::EncodeError;
+use aig_refutation::check_refutation;
+use std::alloc::Global;
+
+/// The clauses that ask for a window of steps with a bad state first at its end.
+#[derive(Drop)]
+pub struct WindowClauses {
+    /// The clauses of the unrolled circuit, and then free variables.
+    pub clauses: DagCnf,
+    /// The further clauses.
+    pub further: LitVvec,
+}
+
+/// Makes the leaves of latches the outputs, where states are to be told apart.
+fn watch(circuit: &mut Aig, form: Window) -> Result<(), MemoryError>
+    ensures { OnOk result (circuit.new ≡ watched form circuit.old) }
+{
+    if form == Window::Plain {
+        return Ok(());
+    }
+    circuit.clear_edges(PropList::Outputs);
+    for i in 0..circuit.latchs().len() {
+        let leaf = circuit.latchs()[i].input();
+        circuit.push_edge(PropList::Outputs, AigEdge::from(leaf))?;
+    }
+    Ok(())
+}
+
+/// Appends the clauses that tell the states of a window apart, where the form asks for them.
+fn tell_apart(
+    alloc: Global,
+    made: &mut WindowClauses,
+    circuit: &Aig,
+    k: usize,
+    unrolled: &Aig,
+    form: Window,
+    limit: usize,
+) -> Result<(), AnswerError>
+    requires few { limit ≤ 2 ^ 31 }
+    requires steps { k < 2 ^ 32 }
+    requires within { length made.old.clauses ≤ limit }
+    requires few_unrolled { length unrolled.now.nodes ≤ 2 ^ 31 }
+    requires states { form ≡ Window.Distinct
+        → length unrolled.now.outputs ≡ (k + 1 + 1) * length circuit.now.latchs }
+    ensures clauses { OnOk result (made.new.clauses
+        ≡ made.old.clauses ++ replicate (count_free form circuit.now k) []) }
+    ensures further { OnOk result (made.new.further ≡ made.old.further
+        ++ states_clauses form (length made.old.clauses) circuit.now k unrolled.now) }
+    ensures err { IfErr result IsWantOfRoom }
+{
+    match form {
+        Window::Plain => Ok(()),
+        Window::Distinct => {
+            let latchs = circuit.latchs().len();
+            let mut some = Vec::with_capacity(alloc, latchs)?;
+            let states = unrolled.outputs();
+            let clauses = &mut made.clauses;
+            push_distinct(
+                clauses,
+                &mut made.further,
+                &mut some,
+                states,
+                latchs,
+                k + 2,
+                limit,
+            )
+        }
+    }
+}
+
+/// The clauses of a window of a circuit, unless they may pass the limit.
+fn ask_window(
+    alloc: Global,
+    mut circuit: Aig,
+    limit: usize,
+    k: usize,
+    optimize: bool,
+    form: Window,
+) -> Result<WindowClauses, AnswerError>
+    requires few { limit ≤ 2 ^ 31 }
+    requires steps { k < 2 ^ 32 }
+    ensures asks { IfOk result
+        (λ made. AsksWindow form circuit k optimize made.clauses made.further) }
+    ensures some { IsOk result → circuit.bads ≢ [] }
+    ensures none { IsErrOf result AnswerError.NoBads → circuit.bads ≡ [] }
+    ensures large { IsErrOf result (AnswerError.Encode EncodeError.TooLarge)
+        ↔ (limit < unrolled_size circuit (k + 1)) }
+    ensures err { IfErr result IsOfCircuit }
+{
+    if !aig_unroll::is_within(circuit.num_nodes(), circuit.latchs().len(), k + 1, limit) {
+        return Err(AnswerError::Encode(EncodeError::TooLarge));
+    }
+    if circuit.bads().is_empty() {
+        return Err(AnswerError::NoBads);
+    }
+    watch(&mut circuit, form)?;
+    let unrolled = circuit.unroll_to(k + 1)?;
+    let clauses = unrolled.cnf(optimize)?;
+    let further = window_clauses(alloc, &circuit, k, &unrolled)?;
+    let mut made = WindowClauses { clauses, further };
+    tell_apart(alloc, &mut made, &circuit, k, &unrolled, form, limit)?;
+    Ok(made)
+}
+
+/// Reads a circuit from the bytes of an AIGER file, and makes the clauses that ask for a run of `k + 2` steps, from any
+/// state, on which every constraint holds at each step, no bad state is reached at the steps 0 to `k`, and one is reached at
+/// step `k + 1`; in the distinct form no two of its steps have the same state.
+///
+/// The further clauses are, in order: for each constraint of each step that it holds, for each bad literal of the steps 0 to
+/// `k` that it doesn't, one clause of those of step `k + 1`, and in the distinct form, for each pair of steps, that some
+/// latch differs. Asks `1 <= limit <= 2^31`.
+pub fn window<R: Source>(
+    alloc: Global,
+    r: &mut R,
+    limit: usize,
+    k: usize,
+    optimize: bool,
+    form: Window,
+) -> Result<WindowClauses, AnswerError>
+    requires some { 1 ≤ limit }
+    requires few { limit ≤ 2 ^ 31 }
+    requires steps { k < 2 ^ 32 }
+    // The bytes that were read are a file within the limit, with a bad literal, of which the clauses ask for a window.
+    ensures answer { IfOk result (IsOfFile (IsAsked limit (k + 1))
+        (λ f made. AsksWindow form (circuit_of f) k optimize made.clauses made.further)
+        (R.left r.old) (R.left r.new)) }
+    // The further clauses are of variables that are there.
+    ensures below { IfOk result (λ made. AreBelow (length made.clauses) made.further) }
+    ensures file { TellsOfFile R.left R.failed limit (k + 1) result r.old r.new }
+    // No read failed, and the stream was read to its end.
+    ensures whole { OnOk result ((R.failed r.new ≡ false) × IsAtEnd (R.left r.new)) }
+    ensures alone { IfErr result IsOfWindow }
+{
+    let circuit = Aig::from_aiger(alloc, r, limit)?;
+    ask_window(alloc, circuit, limit, k, optimize, form)
+}
+
+/// Reads a circuit from the bytes of an AIGER file, and checks a proof, in the LRAT format, that the clauses of `window` can't be
+/// satisfied: then no window of `k + 2` steps, from any state, reaches a bad state first at its end.
+///
+/// With `check_step` for the steps 0 to `k` it follows that no bad state is ever reached (`inductive_windows_are_safe`).
+pub fn check_window<R: Source, P: Source>(
+    alloc: Global,
+    r: &mut R,
+    limit: usize,
+    k: usize,
+    optimize: bool,
+    form: Window,
+    proof: &mut P,
+) -> Result<(), AnswerError>
+    requires some { 1 ≤ limit }
+    requires few { limit ≤ 2 ^ 31 }
+    requires steps { k < 2 ^ 32 }
+    ensures answer { IfOk result (IsOfFile (IsAsked limit (k + 1)) (λ f _. IsKInductive form f k)
+        (R.left r.old) (R.left r.new)) }
+    ensures file { TellsOfFile R.left R.failed limit (k + 1) result r.old r.new }
+    ensures unread { IsOfFileAlone result → proof.new ≡ proof.old }
+{
+    refuted_windows_are_inductive();
+    let asked = window(alloc, r, limit, k, optimize, form)?;
+    check_refutation(alloc, &asked.clauses, &asked.further, proof)?;
+    Ok(())
+}

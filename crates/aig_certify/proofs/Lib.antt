@@ -1,0 +1,7 @@
+mod Refuted
+mod Invariants
+mod Splicing
+mod Induction
+mod Differing
+pub mod Below
+mod Windows

@@ -1,0 +1,4 @@
+pub mod Safety
+pub mod Inductive
+pub mod Induction
+pub mod WindowClauses

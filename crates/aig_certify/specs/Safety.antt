@@ -1,0 +1,18 @@
+-- A machine that meets no bad state at a step. (AIGER 1.9, "Properties"; bounded model checking.)
+use Rattle.std.specs.Prelude.{◌≡◌, ℕ, Bool, false, IsTrue}
+use Rattle.std.specs.List.{AllByRecursion}
+use Rattle.aig_format.specs.File.{File}
+use Rattle.aig_format.specs.Machine.{literal_value}
+use Rattle.aig_runs.specs.Queries.{IsWitness}
+
+-- every constraint holds
+abbrev pub IsConstrained : File → (ℕ → Bool) → Type 0
+IsConstrained f values = AllByRecursion (λ e. IsTrue (literal_value values e)) f.constraints
+
+-- no bad literal holds
+abbrev pub IsGood : File → (ℕ → Bool) → Type 0
+IsGood f values = AllByRecursion (λ e. literal_value values e ≡ false) f.bads
+
+-- no run of k + 1 steps from a start meets every constraint and, at step k, some bad literal
+abbrev pub IsSafeAt : File → ℕ → Type 0
+IsSafeAt f k = ¬ ((run : ℕ → ℕ → Bool) × IsWitness f k run)

@@ -1,0 +1,65 @@
+//! Laws of refuted queries and of inductive invariants.
+
+ghost use Rattle.std.specs.Prelude.{◌-◌, ◌≤◌, ◌++◌, ℕ, Bool, List, length};
+ghost use Rattle.aig_base.specs.declared.logic.literal.Lit.{Lit};
+ghost use Rattle.aig_circuit.specs.Circuit.{Circuit};
+ghost use Rattle.aig_format.specs.File.{File};
+ghost use Rattle.aig_format.specs.Circuit.{circuit_of};
+ghost use Rattle.aig_format.specs.Fits.{Fits};
+ghost use Rattle.aig_base.specs.Formula.{clauses_in, IsSatisfiable};
+ghost use Rattle.aig_runs.specs.Queries.{Asks, IsSafeTo};
+ghost use Rattle.aig_certify.specs.Induction.{IsKInductive};
+ghost use Rattle.aig_certify.specs.Inductive.{IsInductive};
+ghost use Rattle.aig_certify.specs.Safety.{IsSafeAt};
+ghost use Rattle.aig_certify.specs.WindowClauses.{AsksWindow};
+ghost use Rattle.aig_certify.specs.declared.window.Window.{Window};
+
+use aig_runs::refuted_queries_are_safe;
+
+/// Law: where no assignment satisfies both lists of clauses of a query, the file's machine has no run of k + 1 steps from a
+/// start on which every constraint holds and, at the last step, some bad literal.
+pub fn refuted_queries_have_no_witness()
+    ensures { (f : File) (k : ℕ) (circuit unrolled : Circuit) (clauses : List (List (List Lit))) (further : List (List Lit))
+        → Asks f k circuit unrolled clauses further
+        → ¬ IsSatisfiable (clauses_in clauses ++ further) → IsSafeAt f k }
+{}
+
+/// Law: where that holds of the queries for 0 to n, no bad literal holds, at a step up to n, on any run from a start on which
+/// the constraints hold up to there.
+pub fn refutations_are_safe()
+    ensures { (f : File) (n : ℕ) (circuit unrolled : ℕ → Circuit)
+        (clauses : ℕ → List (List (List Lit))) (further : ℕ → List (List Lit))
+        → ((k : ℕ) → k ≤ n → Asks f k (circuit k) (unrolled k) (clauses k) (further k))
+        → ((k : ℕ) → k ≤ n → ¬ IsSatisfiable (clauses_in (clauses k) ++ further k))
+        → IsSafeTo f n }
+{
+    refuted_queries_are_safe();
+}
+
+/// Law: a machine that is safe at each step up to n is safe up to n.
+pub fn safe_steps_are_safe()
+    ensures { (f : File) (n : ℕ) → ((k : ℕ) → k ≤ n → IsSafeAt f k) → IsSafeTo f n }
+{}
+
+/// Law: an inductive invariant that excludes the bad literals means that none holds at any step of any run from a start on
+/// which the constraints hold up to there.
+pub fn inductive_invariants_are_safe()
+    ensures { (f : File) (invariant : (ℕ → Bool) → Bool)
+        → IsInductive f invariant → (n : ℕ) → IsSafeTo f n }
+{}
+
+/// Law: where no bad literal is reached up to step k, and no window of k + 2 steps reaches one first at its end, none is
+/// reached at any step. It is enough to look at the windows on which no state comes twice.
+pub fn inductive_windows_are_safe()
+    ensures { (form : Window) (f : File) (k : ℕ) → IsSafeTo f k → IsKInductive form f k
+        → (n : ℕ) → IsSafeTo f n }
+{}
+
+/// Law: where no assignment satisfies the clauses that ask for a window of k + 2 steps with a bad literal first at its end,
+/// there is none.
+pub fn refuted_windows_are_inductive()
+    ensures { (form : Window) (f : File) (limit k : ℕ) (optimize : Bool)
+        (clauses : List (List (List Lit))) (further : List (List Lit))
+        → Fits f limit → AsksWindow form (circuit_of f) k optimize clauses further
+        → ¬ IsSatisfiable (clauses_in clauses ++ further) → IsKInductive form f k }
+{}

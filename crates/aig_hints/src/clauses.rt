@@ -1,0 +1,227 @@
+//! Clauses in one piece of memory.
+
+use crate::trail::Trail;
+use aig_base::{Lbool, Lit, MemoryError};
+use std::alloc::Global;
+
+/// How many words a clause has before its literals.
+const HEADER: usize = 4;
+
+/// The word that says how many literals a clause has.
+const LENGTH: usize = 0;
+
+/// The word of a clause's number, which is 0 once it is removed.
+const NUMBER: usize = 1;
+
+/// The word of the next clause with the same hash, by its place; 0 is the place of none.
+const NEXT: usize = 2;
+
+/// The word that says where the look for a literal to watch goes on, behind the two that are
+/// watched.
+const TURN: usize = 3;
+
+/// Clauses, each a header and its literals, by the places of their first words. The first two
+/// literals of a clause are watched.
+#[derive(Drop)]
+pub(crate) struct Clauses {
+    words: Vec<u32>,
+    /// How many clauses are there.
+    count: usize,
+    /// How many words are of removed clauses.
+    removed: usize,
+}
+
+impl Clauses {
+    /// No clauses.
+    pub(crate) fn new(alloc: Global) -> Result<Clauses, MemoryError> {
+        let mut words = Vec::new(alloc);
+        words.push(0)?;
+        Ok(Clauses {
+            words,
+            count: 0,
+            removed: 0,
+        })
+    }
+
+    /// A word, or 0 past the end.
+    fn word(&self, i: usize) -> u32 {
+        if i < self.words.len() {
+            self.words[i]
+        } else {
+            0
+        }
+    }
+
+    /// Writes a word that is there.
+    fn put(&mut self, i: usize, word: u32) {
+        if i < self.words.len() {
+            self.words[i] = word;
+        }
+    }
+
+    /// How many clauses there are.
+    pub(crate) fn count(&self) -> usize {
+        self.count
+    }
+
+    /// Whether most of the memory is of removed clauses, and more of it than so many words.
+    pub(crate) fn is_sparse(&self, least: usize) -> bool {
+        self.removed > self.words.len() / 2 && self.removed > least
+    }
+
+    /// The number of a clause, or 0 where it was removed.
+    pub(crate) fn number(&self, place: u32) -> u32 {
+        self.word(place as usize + NUMBER)
+    }
+
+    /// How many literals a clause has.
+    pub(crate) fn len(&self, place: u32) -> u32 {
+        self.word(place as usize + LENGTH)
+    }
+
+    /// The literal of this place in a clause.
+    pub(crate) fn lit(&self, place: u32, i: u32) -> Lit {
+        Lit::from(self.word(place as usize + HEADER + i as usize))
+    }
+
+    /// Writes the literal of this place in a clause.
+    fn put_lit(&mut self, place: u32, i: u32, lit: Lit) {
+        self.put(place as usize + HEADER + i as usize, u32::from(lit));
+    }
+
+    /// The place of the next clause with the same hash, or 0.
+    pub(crate) fn next(&self, place: u32) -> u32 {
+        self.word(place as usize + NEXT)
+    }
+
+    /// Says which the next clause with the same hash is.
+    pub(crate) fn set_next(&mut self, place: u32, next: u32) {
+        self.put(place as usize + NEXT, next);
+    }
+
+    /// The place of the first clause, whether removed or not, if there is one.
+    pub(crate) fn first(&self) -> Option<u32> {
+        self.place_at(1)
+    }
+
+    /// The place of the clause behind a clause, whether removed or not, if there is one.
+    pub(crate) fn behind(&self, place: u32) -> Option<u32> {
+        self.place_at(place as usize + HEADER + self.len(place) as usize)
+    }
+
+    /// This word as a place, if a clause begins there.
+    fn place_at(&self, i: usize) -> Option<u32> {
+        if i < self.words.len() {
+            u32::try_from(i).ok()
+        } else {
+            None
+        }
+    }
+
+    /// How many words there are, and so more than there are clauses.
+    pub(crate) fn size(&self) -> usize {
+        self.words.len()
+    }
+
+    /// Appends a clause, and answers its place. More than 2^32 words count as too much memory.
+    pub(crate) fn push(&mut self, number: u32, lits: &[Lit]) -> Result<u32, MemoryError> {
+        let (Ok(place), Ok(len)) = (u32::try_from(self.words.len()), u32::try_from(lits.len()))
+        else {
+            return Err(MemoryError::Memory);
+        };
+        self.words.extend_from_slice(&[len, number, 0, 0])?;
+        for lit in lits {
+            self.words.push(u32::from(*lit))?;
+        }
+        self.count = self.count.saturating_add(1);
+        Ok(place)
+    }
+
+    /// Removes a clause. Its memory is free after the next `compact`.
+    pub(crate) fn remove(&mut self, place: u32) {
+        let size = HEADER + self.len(place) as usize;
+        self.put(place as usize + NUMBER, 0);
+        self.count = self.count.saturating_sub(1);
+        self.removed = self.removed.saturating_add(size);
+    }
+
+    /// Moves words down.
+    fn move_words(&mut self, from: usize, to: usize, count: usize) {
+        for i in 0..count {
+            let word = self.word(from.saturating_add(i));
+            self.put(to.saturating_add(i), word);
+        }
+    }
+
+    /// Moves the clauses that are there together. Places change.
+    pub(crate) fn compact(&mut self) {
+        let mut end = 1;
+        let mut next = self.first();
+        for _ in 0..self.words.len() {
+            let Some(place) = next else {
+                break;
+            };
+            next = self.behind(place);
+            if self.number(place) != 0 {
+                let size = HEADER + self.len(place) as usize;
+                self.move_words(place as usize, end, size);
+                end = size.saturating_add(end);
+            }
+        }
+        self.words.truncate(end);
+        self.removed = 0;
+    }
+
+    /// Exchanges two literals of a clause.
+    fn swap(&mut self, place: u32, i: u32, j: u32) {
+        let first = self.lit(place, i);
+        let second = self.lit(place, j);
+        self.put_lit(place, i, second);
+        self.put_lit(place, j, first);
+    }
+
+    /// Puts up to two literals that aren't false first, and says how many there are.
+    pub(crate) fn bring_open(&mut self, place: u32, trail: &Trail) -> u32 {
+        let mut found = 0;
+        for i in 0..self.len(place) {
+            if trail.value(self.lit(place, i)) != Lbool::FALSE {
+                self.swap(place, found, i);
+                found += 1;
+                if found == 2 {
+                    break;
+                }
+            }
+        }
+        found
+    }
+
+    /// The other watched literal of a clause, which is put first.
+    pub(crate) fn other(&mut self, place: u32, lit: Lit) -> Lit {
+        let first = self.lit(place, 0);
+        if first != lit {
+            return first;
+        }
+        self.swap(place, 0, 1);
+        self.lit(place, 0)
+    }
+
+    /// Puts a literal that isn't false second, in place of the one there. The look for it goes on
+    /// where the last one ended.
+    pub(crate) fn replace(&mut self, place: u32, trail: &Trail) -> Option<Lit> {
+        let count = self.len(place).saturating_sub(2);
+        let mut turn = self.word(place as usize + TURN);
+        for _ in 0..count {
+            if turn >= count {
+                turn = 0;
+            }
+            let lit = self.lit(place, turn.saturating_add(2));
+            if trail.value(lit) != Lbool::FALSE {
+                self.swap(place, 1, turn.saturating_add(2));
+                self.put(place as usize + TURN, turn);
+                return Some(lit);
+            }
+            turn = turn.saturating_add(1);
+        }
+        None
+    }
+}

@@ -1,0 +1,333 @@
+//! The search for hints.
+
+use crate::clauses::Clauses;
+use crate::index::Index;
+use crate::marked::Marked;
+use crate::trail::Trail;
+use crate::watches::{Watch, Watches};
+use aig_base::{Lbool, Lit, MemoryError};
+use std::alloc::Global;
+
+/// What becomes of a clause's watch on a literal that is false now.
+enum Visit {
+    /// It stays, with this blocker.
+    Stays(Lit),
+    /// It ends: the clause watches another literal, or was removed.
+    Ends,
+    /// It stays, and all literals of the clause are false.
+    Conflict,
+}
+
+/// Finds hints by unit propagation: of each clause two literals are watched, and literals that
+/// follow from the clauses alone stay true from then on (Moskewicz, Madigan, Zhao, Zhang and Malik:
+/// Chaff, 2001).
+///
+/// After an error it isn't used any more.
+#[derive(Drop)]
+pub struct Search {
+    alloc: Global,
+    clauses: Clauses,
+    watches: Watches,
+    index: Index,
+    trail: Trail,
+    marked: Marked,
+    /// For each variable the number of the clause that has its literal alone, or 0 where there is
+    /// none.
+    units: Vec<u32>,
+    /// How many of the first literals of the trail have such a clause.
+    named: usize,
+    /// Such clauses among the hints that are collected.
+    unit_hints: Vec<u32>,
+    /// The place of a clause whose literals are all false for good.
+    conflict: Option<u32>,
+}
+
+impl Search {
+    /// No clauses, of so many variables.
+    pub fn new(alloc: Global, variables: usize) -> Result<Search, MemoryError> {
+        let literals = variables.saturating_mul(2);
+        Ok(Search {
+            alloc,
+            clauses: Clauses::new(alloc)?,
+            watches: Watches::new(alloc, literals)?,
+            index: Index::new(alloc),
+            trail: Trail::new(alloc, variables)?,
+            marked: Marked::new(alloc, literals)?,
+            units: vec![in alloc; 0; variables]?,
+            named: 0,
+            unit_hints: Vec::new(alloc),
+            conflict: None,
+        })
+    }
+
+    /// The number of the clause that has a variable's literal alone, or 0.
+    fn unit(&self, lit: Lit) -> u32 {
+        let i = usize::from(lit.var());
+        if i < self.units.len() {
+            self.units[i]
+        } else {
+            0
+        }
+    }
+
+    /// Says which clause has this literal alone.
+    fn set_unit(&mut self, lit: Lit, number: u32) {
+        let i = usize::from(lit.var());
+        if i < self.units.len() {
+            self.units[i] = number;
+        }
+    }
+
+    /// Adds a clause of this number, which is not 0. Literals that follow from it are to be taken
+    /// by `next_unit`.
+    pub fn add(&mut self, number: u32, clause: &[Lit]) -> Result<(), MemoryError> {
+        self.marked.set(clause)?;
+        let place = self.clauses.push(number, self.marked.lits())?;
+        self.index.add(&mut self.clauses, place)?;
+        self.start(place, number)?;
+        if self.conflict.is_none() {
+            self.conflict = self.propagate()?;
+        }
+        Ok(())
+    }
+
+    /// Watches two literals of a new clause, or takes what follows from it where all others are
+    /// false.
+    fn start(&mut self, place: u32, number: u32) -> Result<(), MemoryError> {
+        let open = self.clauses.bring_open(place, &self.trail);
+        let first = self.clauses.lit(place, 0);
+        if open >= 2 {
+            return self.watch(place);
+        }
+        if open == 0 {
+            self.conflict = Some(place);
+        } else if self.trail.value(first) == Lbool::NONE {
+            self.trail.assign(first, Some(place))?;
+            if self.clauses.len(place) == 1 {
+                self.set_unit(first, number);
+            }
+        }
+        Ok(())
+    }
+
+    /// Watches the first two literals of a clause.
+    fn watch(&mut self, place: u32) -> Result<(), MemoryError> {
+        let first = self.clauses.lit(place, 0);
+        let second = self.clauses.lit(place, 1);
+        let blocker = second;
+        self.watches.add(first, Watch { place, blocker })?;
+        let blocker = first;
+        self.watches.add(second, Watch { place, blocker })
+    }
+
+    /// Looks at a clause that watches a literal which is false now.
+    fn visit(&mut self, place: u32, lit: Lit) -> Result<Visit, MemoryError> {
+        if self.clauses.number(place) == 0 {
+            return Ok(Visit::Ends);
+        }
+        let other = self.clauses.other(place, lit);
+        let value = self.trail.value(other);
+        if value == Lbool::TRUE {
+            return Ok(Visit::Stays(other));
+        }
+        if let Some(next) = self.clauses.replace(place, &self.trail) {
+            let blocker = other;
+            self.watches.add(next, Watch { place, blocker })?;
+            return Ok(Visit::Ends);
+        }
+        if value == Lbool::FALSE {
+            return Ok(Visit::Conflict);
+        }
+        self.trail.assign(other, Some(place))?;
+        Ok(Visit::Stays(other))
+    }
+
+    /// Looks at the clauses that watch a literal which is false now, up to one whose literals are
+    /// all false.
+    fn visit_all(&mut self, lit: Lit, list: &mut Vec<Watch>) -> Result<Option<u32>, MemoryError> {
+        let mut kept = 0;
+        let mut conflict = None;
+        for i in 0..list.len() {
+            let mut watch = list[i];
+            if conflict.is_none() && self.trail.value(watch.blocker) != Lbool::TRUE {
+                match self.visit(watch.place, lit)? {
+                    Visit::Stays(blocker) => watch.blocker = blocker,
+                    Visit::Ends => continue,
+                    Visit::Conflict => conflict = Some(watch.place),
+                }
+            }
+            list[kept] = watch;
+            kept += 1;
+        }
+        list.truncate(kept);
+        Ok(conflict)
+    }
+
+    /// Makes true what follows, up to a clause whose literals are all false, and answers its place.
+    fn propagate(&mut self) -> Result<Option<u32>, MemoryError> {
+        for _ in 0..self.units.len() {
+            let Some(lit) = self.trail.take() else {
+                break;
+            };
+            let mut list = self.watches.take(self.alloc, !lit);
+            let conflict = self.visit_all(!lit, &mut list)?;
+            self.watches.put(!lit, list);
+            if conflict.is_some() {
+                return Ok(conflict);
+            }
+        }
+        Ok(None)
+    }
+
+    /// Makes the inverses of a clause's literals true. Where one of them follows from the clauses,
+    /// the number of the clause that has it alone is answered.
+    fn assume_false(&mut self, clause: &[Lit]) -> Result<Option<u32>, MemoryError> {
+        for lit in clause {
+            match self.trail.value(*lit) {
+                Lbool::TRUE => {
+                    let unit = self.unit(*lit);
+                    if unit != 0 {
+                        return Ok(Some(unit));
+                    }
+                }
+                Lbool::NONE => self.trail.assign(!*lit, None)?,
+                Lbool::FALSE => {}
+            }
+        }
+        Ok(None)
+    }
+
+    /// Collects a clause, and the clauses that have its false literals' inverses alone.
+    fn collect(&mut self, place: u32, hints: &mut Vec<u32>) -> Result<(), MemoryError> {
+        hints.push(self.clauses.number(place))?;
+        for i in 0..self.clauses.len(place) {
+            let lit = !self.clauses.lit(place, i);
+            let unit = self.unit(lit);
+            if self.marked.add(lit)? && unit != 0 {
+                self.unit_hints.push(unit)?;
+            }
+        }
+        Ok(())
+    }
+
+    /// Collects the clauses from which it follows that all literals of a clause are false, and that
+    /// clause behind them. The first `fixed` literals of the trail have clauses of their own.
+    fn explain(
+        &mut self,
+        place: u32,
+        fixed: usize,
+        hints: &mut Vec<u32>,
+    ) -> Result<(), MemoryError> {
+        self.marked.clear();
+        self.unit_hints.clear();
+        self.collect(place, hints)?;
+        for i in (fixed..self.trail.len()).rev() {
+            if let Some(lit) = self.trail.get(i) {
+                if self.marked.has(lit) {
+                    if let Some(reason) = self.trail.reason(lit) {
+                        self.collect(reason, hints)?;
+                    }
+                }
+            }
+        }
+        hints.extend_from_slice(&self.unit_hints)?;
+        hints.reverse();
+        Ok(())
+    }
+
+    /// Propagates from the inverses of a clause's literals, and collects hints where that ends in a
+    /// conflict.
+    fn refute(&mut self, clause: &[Lit], hints: &mut Vec<u32>) -> Result<bool, MemoryError> {
+        let fixed = self.trail.len();
+        let mut conflict = self.conflict;
+        if conflict.is_none() {
+            if let Some(unit) = self.assume_false(clause)? {
+                hints.push(unit)?;
+                return Ok(true);
+            }
+            conflict = self.propagate()?;
+        }
+        match conflict {
+            Some(place) => {
+                self.explain(place, fixed, hints)?;
+                Ok(true)
+            }
+            None => Ok(false),
+        }
+    }
+
+    /// Looks for hints for a clause, by the numbers of clauses, and says whether there are any.
+    /// What was in `hints` is lost.
+    pub fn find(&mut self, clause: &[Lit], hints: &mut Vec<u32>) -> Result<bool, MemoryError> {
+        hints.clear();
+        let fixed = self.trail.len();
+        let found = self.refute(clause, hints)?;
+        self.trail.undo(fixed);
+        Ok(found)
+    }
+
+    /// The next literal that follows from the clauses, and is not the one literal of any, with
+    /// hints for the clause that has it alone. `name_unit` is to give that clause a number.
+    pub fn next_unit(&mut self, hints: &mut Vec<u32>) -> Result<Option<Lit>, MemoryError> {
+        hints.clear();
+        let fixed = self.trail.len();
+        for i in self.named..fixed {
+            self.named = i;
+            if let Some(lit) = self.trail.get(i) {
+                if self.unit(lit) == 0 {
+                    if let Some(reason) = self.trail.reason(lit) {
+                        self.explain(reason, fixed, hints)?;
+                    }
+                    return Ok(Some(lit));
+                }
+            }
+        }
+        self.named = fixed;
+        Ok(None)
+    }
+
+    /// Says which clause has the literal alone that `next_unit` answered last.
+    pub fn name_unit(&mut self, number: u32) {
+        if let Some(lit) = self.trail.get(self.named) {
+            self.set_unit(lit, number);
+        }
+    }
+
+    /// Removes a clause of these literals, if there is one, and answers its number. A clause of one
+    /// literal stays, and so do all once they are in conflict.
+    pub fn remove(&mut self, clause: &[Lit]) -> Result<Option<u32>, MemoryError> {
+        self.marked.set(clause)?;
+        if self.marked.lits().len() < 2 || self.conflict.is_some() {
+            return Ok(None);
+        }
+        let Some(place) = self.index.take(&mut self.clauses, &self.marked) else {
+            return Ok(None);
+        };
+        let number = self.clauses.number(place);
+        self.clauses.remove(place);
+        let tables = self.watches.size().saturating_add(self.index.size());
+        if self.clauses.is_sparse(tables) {
+            self.compact()?;
+        }
+        Ok(Some(number))
+    }
+
+    /// Moves the clauses together, at a cost of their memory and the tables'. All literals on the
+    /// trail have clauses of their own, and so need no others as reasons.
+    fn compact(&mut self) -> Result<(), MemoryError> {
+        self.clauses.compact();
+        self.index.fill(&mut self.clauses);
+        self.watches.clear();
+        let mut next = self.clauses.first();
+        for _ in 0..self.clauses.size() {
+            let Some(place) = next else {
+                break;
+            };
+            if self.clauses.len(place) >= 2 {
+                self.watch(place)?;
+            }
+            next = self.clauses.behind(place);
+        }
+        Ok(())
+    }
+}

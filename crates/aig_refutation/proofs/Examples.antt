@@ -1,0 +1,74 @@
+-- What the definitions say of small proofs: some follow, and wrong ones are refused.
+use Rattle.std.proofs.Common.{◌≡◌, ℕ, true, false, List, [], ◌∷◌, slice_get, refl}
+use Rattle.aig_base.specs.declared.logic.literal.Lit.{Lit}
+use Rattle.aig_base.specs.Clauses.{lit_to}
+use Rattle.aig_refutation.specs.Propagation.{is_rup}
+use Rattle.aig_refutation.specs.Steps.{Adds, Deletes, is_refutation}
+
+-- a variable, and its inverse
+abbrev plain : ℕ → Lit
+plain n = lit_to n true
+
+abbrev inverted : ℕ → Lit
+inverted n = lit_to n false
+
+-- all four clauses of two variables, which no assignment makes true
+abbrev four : List (List Lit)
+four =
+    (plain 0 ∷ plain 1 ∷ [])
+    ∷ (plain 0 ∷ inverted 1 ∷ [])
+    ∷ (inverted 0 ∷ plain 1 ∷ [])
+    ∷ (inverted 0 ∷ inverted 1 ∷ [])
+    ∷ []
+
+-- where the first variable is false, the first clause gives the second one, and the second clause is in conflict
+follows : is_rup (slice_get four) (plain 0 ∷ []) (0 ∷ 1 ∷ []) ≡ true
+follows = refl
+
+-- the inverse doesn't follow along these hints
+wrong_literal : is_rup (slice_get four) (inverted 0 ∷ []) (0 ∷ 1 ∷ []) ≡ false
+wrong_literal = refl
+
+-- the literals of the clause are assumed to be false: were they true, this would be a conflict
+assumed_false : is_rup (slice_get ((inverted 0 ∷ []) ∷ [])) (plain 0 ∷ []) (0 ∷ []) ≡ false
+assumed_false = refl
+
+missing_hint : is_rup (slice_get four) (plain 0 ∷ []) (0 ∷ []) ≡ false
+missing_hint = refl
+
+no_hints : is_rup (slice_get four) (plain 0 ∷ []) [] ≡ false
+no_hints = refl
+
+-- a hint past the clauses
+no_clause : is_rup (slice_get four) (plain 0 ∷ []) (4 ∷ 0 ∷ 1 ∷ []) ≡ false
+no_clause = refl
+
+-- a clause of several open literals says nothing
+open_clause : is_rup (slice_get four) [] (0 ∷ 1 ∷ 2 ∷ 3 ∷ []) ≡ false
+open_clause = refl
+
+-- a literal that comes twice is one
+same_twice : is_rup (slice_get ((plain 0 ∷ plain 0 ∷ []) ∷ [])) (plain 0 ∷ []) (0 ∷ []) ≡ true
+same_twice = refl
+
+-- a variable that stands nowhere: the clause can be added by resolution asymmetry, and doesn't follow
+new_variable : is_rup (slice_get four) (plain 2 ∷ []) (0 ∷ 1 ∷ 2 ∷ 3 ∷ []) ≡ false
+new_variable = refl
+
+refutes_four : is_refutation four (Adds 5 (plain 0 ∷ []) (1 ∷ 2 ∷ []) ∷ Adds 6 [] (5 ∷ 3 ∷ 4 ∷ []) ∷ []) ≡ true
+refutes_four = refl
+
+-- the first step's clause is needed
+step_left_out : is_refutation four (Adds 6 [] (5 ∷ 3 ∷ 4 ∷ []) ∷ []) ≡ false
+step_left_out = refl
+
+-- a clause that was deleted names nothing
+deleted_hint : is_refutation four (Deletes (2 ∷ []) ∷ Adds 5 (plain 0 ∷ []) (1 ∷ 2 ∷ []) ∷ Adds 6 [] (5 ∷ 3 ∷ 4 ∷ []) ∷ []) ≡ false
+deleted_hint = refl
+
+-- the empty clause isn't reached
+unfinished : is_refutation four (Adds 5 (plain 0 ∷ []) (1 ∷ 2 ∷ []) ∷ []) ≡ false
+unfinished = refl
+
+no_steps : is_refutation four [] ≡ false
+no_steps = refl

@@ -1,0 +1,6 @@
+mod Rup
+mod Refuting
+mod Stamps
+mod Literals
+mod Following
+mod Examples

@@ -1,0 +1,7 @@
+use Rattle.std.proofs.Common.{arith}
+use Rattle.std.proofs.lemmas.Grind.{common_steps}
+use Rattle.aig_refutation.proofs.Stamps.{map-replicate}
+use Rattle.aig_refutation.proofs.marks.Marks.new.Goals as goal
+
+pub returns : goal.returns
+returns c = grind (arith, common_steps, map-replicate)

@@ -1,0 +1,222 @@
+//! Checking a proof, step by step.
+
+ghost use Rattle.std.specs.Prelude.{◌≡◌, ◌≤◌, ◌^◌, ◌++◌, IfOk, IsErrOf, IsTrue, OnOk, true};
+ghost use Rattle.aig_base.specs.Formula.{clauses_in, IsSatisfiable};
+ghost use Rattle.aig_refutation.specs.Formula.{ImpliesAll};
+
+use crate::checker::Checker;
+use crate::error::RefutationError;
+use crate::step::Step;
+use aig_base::{DagCnf, LitVvec, Source, Var};
+use aig_hints::Search;
+use aig_lexer::{Buffered, ByteFeed, WINDOW_SIZE};
+use std::alloc::Global;
+
+/// Appends clauses of the formula, under the next numbers.
+fn assume_all(checker: &mut Checker, clauses: &LitVvec) -> Result<(), RefutationError>
+    ensures assumed { OnOk result (checker.new ≡ checker.old ++ clauses.now) }
+    ensures no_stream { IsErrOf result RefutationError.Stream → ⊥ }
+{
+    for i in 0..clauses.len() {
+        checker.assume(clauses.clause(i))?;
+    }
+    Ok(())
+}
+
+/// The clauses of all variables, and further ones, numbered from 1 on.
+fn number_clauses(
+    alloc: Global,
+    cnf: &DagCnf,
+    further: &LitVvec,
+) -> Result<Checker, RefutationError>
+    ensures formula { IfOk result (λ checker. checker ≡ clauses_in cnf.now ++ further.now) }
+    ensures no_stream { IsErrOf result RefutationError.Stream → ⊥ }
+{
+    let mut checker = Checker::new(alloc, cnf.num_vars())?;
+    for i in 0..cnf.num_vars() {
+        let var = Var::new(i);
+        assume_all(&mut checker, cnf.clauses_of(var))?;
+    }
+    assume_all(&mut checker, further)?;
+    Ok(checker)
+}
+
+/// Takes a step that has numbers, and says whether it adds the empty clause.
+fn take_numbered(checker: &mut Checker, step: &Step) -> Result<bool, RefutationError>
+    ensures implied { OnOk result (ImpliesAll checker.old checker.new) }
+    ensures refuted { IfOk result (λ done. IsTrue done → ¬ IsSatisfiable checker.old) }
+    ensures no_stream { IsErrOf result RefutationError.Stream → ⊥ }
+{
+    if step.deletes {
+        checker.delete(&step.numbers)?;
+        return Ok(false);
+    }
+    checker.add(step.number, &step.clause, &step.numbers)?;
+    Ok(step.clause.is_empty())
+}
+
+/// Adds for each literal that the search found to follow the clause that has it alone. `hints` is
+/// used, whatever it has.
+fn add_units(
+    checker: &mut Checker,
+    search: &mut Search,
+    hints: &mut Vec<u32>,
+) -> Result<(), RefutationError>
+    ensures implied { OnOk result (ImpliesAll checker.old checker.new) }
+    ensures no_stream { IsErrOf result RefutationError.Stream → ⊥ }
+{
+    for _ in 0..checker.variables() {
+        let Some(lit) = search.next_unit(hints)? else {
+            break;
+        };
+        let number = checker.next_number();
+        checker.add(number, &[lit], hints)?;
+        search.name_unit(number);
+    }
+    Ok(())
+}
+
+/// A search over the clauses, which are numbered from 1 on. `hints` is used, whatever it has.
+fn start_search(
+    alloc: Global,
+    checker: &mut Checker,
+    hints: &mut Vec<u32>,
+) -> Result<Search, RefutationError>
+    ensures implied { OnOk result (ImpliesAll checker.old checker.new) }
+    ensures no_stream { IsErrOf result RefutationError.Stream → ⊥ }
+{
+    let mut search = Search::new(alloc, checker.variables())?;
+    let clauses = checker.clauses();
+    let mut number = 0u32;
+    for i in 0..clauses.len() {
+        number = number.saturating_add(1);
+        search.add(number, clauses.clause(i))?;
+    }
+    add_units(checker, &mut search, hints)?;
+    Ok(search)
+}
+
+/// Adds the clause of a step under the next number, along hints that are searched for, and says
+/// whether it is the empty one.
+fn add_searched(
+    checker: &mut Checker,
+    search: &mut Search,
+    step: &mut Step,
+) -> Result<bool, RefutationError>
+    ensures implied { OnOk result (ImpliesAll checker.old checker.new) }
+    ensures refuted { IfOk result (λ done. IsTrue done → ¬ IsSatisfiable checker.old) }
+    ensures no_stream { IsErrOf result RefutationError.Stream → ⊥ }
+{
+    if !search.find(&step.clause, &mut step.numbers)? {
+        return Err(RefutationError::Step);
+    }
+    let number = checker.next_number();
+    checker.add(number, &step.clause, &step.numbers)?;
+    if step.clause.is_empty() {
+        return Ok(true);
+    }
+    search.add(number, &step.clause)?;
+    add_units(checker, search, &mut step.numbers)?;
+    Ok(false)
+}
+
+/// Takes a step that has no numbers, and says whether it adds the empty clause. To delete a clause
+/// that isn't there does nothing.
+fn take_searched(
+    checker: &mut Checker,
+    search: &mut Search,
+    step: &mut Step,
+) -> Result<bool, RefutationError>
+    ensures implied { OnOk result (ImpliesAll checker.old checker.new) }
+    ensures refuted { IfOk result (λ done. IsTrue done → ¬ IsSatisfiable checker.old) }
+    ensures no_stream { IsErrOf result RefutationError.Stream → ⊥ }
+{
+    if !step.deletes {
+        return add_searched(checker, search, step);
+    }
+    if let Some(number) = search.remove(&step.clause)? {
+        checker.delete(&[number])?;
+    }
+    Ok(false)
+}
+
+/// Takes a step of the form of the first one: with a search, one that has no numbers. It says
+/// whether the step adds the empty clause.
+fn take_step(
+    checker: &mut Checker,
+    search: &mut Option<Search>,
+    step: &mut Step,
+) -> Result<bool, RefutationError>
+    ensures implied { OnOk result (ImpliesAll checker.old checker.new) }
+    ensures refuted { IfOk result (λ done. IsTrue done → ¬ IsSatisfiable checker.old) }
+    ensures no_stream { IsErrOf result RefutationError.Stream → ⊥ }
+{
+    match search {
+        None if step.is_numbered => take_numbered(checker, step),
+        Some(search) if !step.is_numbered => take_searched(checker, search, step),
+        _ => Err(RefutationError::Line),
+    }
+}
+
+/// Checks steps up to the first empty clause.
+fn check_steps<F: ByteFeed>(
+    alloc: Global,
+    f: &mut F,
+    variables: usize,
+    mut checker: Checker,
+) -> Result<(), RefutationError>
+    requires { variables ≤ 2 ^ 31 }
+    ensures refuted { OnOk result (¬ IsSatisfiable checker) }
+    ensures stream { IsErrOf result RefutationError.Stream → F.failed f.new ≡ true }
+    ensures same { F.behind f.new ≡ F.behind f.old }
+{
+    let mut step = Step::new(alloc);
+    let mut search = None;
+    let mut started = false;
+    'steps: while step.read(f, variables)? {
+        if !started && !step.is_numbered {
+            let hints = &mut Vec::new(alloc);
+            search = Some(start_search(alloc, &mut checker, hints)?);
+        }
+        started = true;
+        if take_step(&mut checker, &mut search, &mut step)? {
+            return Ok(());
+        }
+    }
+    Err(RefutationError::Unfinished)
+}
+
+/// Checks a proof that clauses can't be satisfied: the text of an LRAT or of a DRAT file, whose
+/// steps follow by reverse unit propagation. The clauses of `cnf`, variable by variable, and those
+/// of `further` behind them are numbered from 1 on, and variable v is written as v + 1.
+///
+/// The lines of an LRAT file are `N L.. 0 H.. 0`, which adds the clause of the literals `L` under
+/// the number `N`, along the hints `H`, and `N d M.. 0`, which deletes the clauses of the numbers
+/// `M`. A number names one clause alone: one that was used before is refused as `Twice`, whether
+/// its clause is still there or not.
+///
+/// The lines of a DRAT file are `L.. 0` and `d L.. 0`. Hints are searched for; a clause of one
+/// literal is never deleted, and to delete one that isn't there does nothing.
+///
+/// The first line says which form all have. Steps by resolution asymmetry (RAT) are refused: as
+/// `Asymmetry` where a hint is negative, and as `Step` where there are no hints.
+///
+/// The proof is read through a buffer of 4,096 bytes, up to the empty clause, and nothing is
+/// trusted of it. The memory is that of the clauses that are not deleted, a few times over, and
+/// four bytes for each number.
+pub fn check_refutation<R: Source>(
+    alloc: Global,
+    cnf: &DagCnf,
+    further: &LitVvec,
+    r: &mut R,
+) -> Result<(), RefutationError>
+    // No assignment makes all clauses true.
+    ensures refuted { OnOk result (¬ IsSatisfiable (clauses_in cnf.now ++ further.now)) }
+    // Stream only where a read failed in this call.
+    ensures stream { IsErrOf result RefutationError.Stream → R.failed r.new ≡ true }
+{
+    let checker = number_clauses(alloc, cnf, further)?;
+    let mut window = vec![in alloc; 0; WINDOW_SIZE]?;
+    let mut f = Buffered::new(r, &mut window);
+    check_steps(alloc, &mut f, cnf.num_vars(), checker)
+}

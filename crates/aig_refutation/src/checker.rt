@@ -1,0 +1,158 @@
+//! Clauses that follow from those of a formula.
+
+ghost use Rattle.std.specs.Prelude.{◌≡◌, ◌<◌, ◌≤◌, ◌*◌, ◌^◌, ◌++◌, ◌∷◌, [], All, IfOk, IsErrOf, IsTrue, OnOk, length};
+ghost use Rattle.std.specs.List.{Contains};
+ghost use Rattle.aig_base.specs.Clauses.{variable_of};
+ghost use Rattle.aig_refutation.specs.Formula.{Implies, ImpliesAll};
+
+use crate::error::RefutationError;
+use crate::marks::Marks;
+use crate::numbered::Numbered;
+use crate::propagation::is_rup;
+use aig_base::{Lit, LitVvec, MemoryError};
+use std::alloc::Global;
+use std::marker::Model;
+
+/// The clauses of a formula that are still there, and those that were found to follow.
+#[derive(Drop)]
+pub(crate) struct Checker {
+    numbered: Numbered,
+    marks: Marks,
+    /// How many variables there are.
+    variables: usize,
+    /// The places of the hints at hand.
+    hints: Vec<usize>,
+}
+
+impl Model for Checker {
+    ghost use Rattle.std.specs.Prelude.{◌≡◌, ◌*◌, List, length};
+    ghost use Rattle.aig_base.specs.declared.logic.literal.Lit.{Lit};
+    ghost use Rattle.aig_base.specs.Clauses.{AreBelow};
+
+    ghost Value = { List (List Lit) };
+
+    ghost view = { λ c. c.numbered };
+
+    ghost invariant = { λ c. (length c.marks ≡ 2 * c.variables) × AreBelow c.variables c.numbered };
+}
+
+/// Whether the variable of each literal is below `variables`.
+fn is_below(clause: &[Lit], variables: usize) -> bool
+    ensures { IsTrue result → All (λ lit. variable_of lit < variables) clause.now }
+{
+    for lit in clause {
+        if usize::from(lit.var()) >= variables {
+            return false;
+        }
+    }
+    true
+}
+
+/// Finds the places of the clauses that hints name.
+fn find_hints(
+    numbered: &Numbered,
+    hints: &[u32],
+    places: &mut Vec<usize>,
+) -> Result<(), RefutationError>
+    ensures { IsErrOf result RefutationError.Stream → ⊥ }
+{
+    places.clear();
+    for hint in hints {
+        match numbered.place(*hint) {
+            Some(place) => places.push(place)?,
+            None => return Err(RefutationError::Unnamed),
+        }
+    }
+    Ok(())
+}
+
+/// Lets numbers name no clause.
+fn remove_all(numbered: &mut Numbered, numbers: &[u32]) -> Result<(), RefutationError>
+    ensures same { numbered.new ≡ numbered.old }
+    ensures no_stream { IsErrOf result RefutationError.Stream → ⊥ }
+{
+    for number in numbers {
+        numbered.remove(*number)?;
+    }
+    Ok(())
+}
+
+impl Checker {
+    /// No clauses, of so many variables.
+    pub(crate) fn new(alloc: Global, variables: usize) -> Result<Checker, MemoryError>
+        requires { variables ≤ 2 ^ 31 }
+        ensures { IfOk result (λ checker. checker ≡ []) }
+    {
+        Ok(Checker {
+            numbered: Numbered::new(alloc),
+            marks: Marks::new(alloc, 2 * variables)?,
+            variables,
+            hints: Vec::new(alloc),
+        })
+    }
+
+    /// How many variables there are.
+    pub(crate) fn variables(&self) -> usize {
+        self.variables
+    }
+
+    /// The clauses.
+    pub(crate) fn clauses(&self) -> &LitVvec
+        ensures { result.now ≡ self.now }
+    {
+        self.numbered.clauses()
+    }
+
+    /// The number behind the greatest that was used, from 1 on.
+    pub(crate) fn next_number(&self) -> u32 {
+        self.numbered.next_number()
+    }
+
+    /// Appends a clause of the formula, under the next number.
+    pub(crate) fn assume(&mut self, clause: &[Lit]) -> Result<(), RefutationError>
+        ensures assumed { OnOk result (self.new ≡ self.old ++ clause.now ∷ []) }
+        ensures no_stream { IsErrOf result RefutationError.Stream → ⊥ }
+    {
+        if !is_below(clause, self.variables) {
+            return Err(RefutationError::Variable);
+        }
+        let number = self.next_number();
+        self.numbered.add(number, clause)
+    }
+
+    /// Adds a clause, under a number, if it follows by reverse unit propagation along the clauses
+    /// that the hints name.
+    pub(crate) fn add(
+        &mut self,
+        number: u32,
+        clause: &[Lit],
+        hints: &[u32],
+    ) -> Result<(), RefutationError>
+        ensures implied { OnOk result (ImpliesAll self.old self.new) }
+        ensures follows { OnOk result (Implies self.old clause.now) }
+        ensures no_stream { IsErrOf result RefutationError.Stream → ⊥ }
+    {
+        if !is_below(clause, self.variables) {
+            return Err(RefutationError::Literal);
+        }
+        find_hints(&self.numbered, hints, &mut self.hints)?;
+        if !is_rup(
+            self.numbered.clauses(),
+            &mut self.marks,
+            clause,
+            &self.hints,
+        ) {
+            return Err(RefutationError::Step);
+        }
+        self.numbered.add(number, clause)
+    }
+
+    /// Deletes the clauses of these numbers.
+    pub(crate) fn delete(&mut self, numbers: &[u32]) -> Result<(), RefutationError>
+        ensures implied { OnOk result (ImpliesAll self.old self.new) }
+        ensures no_stream { IsErrOf result RefutationError.Stream → ⊥ }
+    {
+        remove_all(&mut self.numbered, numbers)?;
+        self.numbered.reclaim()
+    }
+}

@@ -1,0 +1,79 @@
+//! Why a proof doesn't show that clauses can't be satisfied.
+
+ghost use Rattle.std.specs.Prelude.{◌≡◌};
+ghost use Rattle.aig_refutation.specs.declared.error.RefutationError.TheVariants as errors;
+
+use aig_base::{MemoryError, StreamFault};
+use std::alloc::{AllocError, AllocFailed};
+use thiserror::Error;
+
+/// Why a proof doesn't show that clauses can't be satisfied.
+#[derive(Clone, Copy, Debug, PartialEq, Eq, Error)]
+pub enum RefutationError {
+    /// Memory ran out.
+    #[error("out of memory")]
+    Memory,
+    /// A read failed.
+    #[error("read failed")]
+    Stream,
+    /// A literal of the clauses has no variable.
+    #[error("literal of no variable in clauses")]
+    Variable,
+    /// A line is no step, or is one of the other form than the first line.
+    #[error("bad proof line")]
+    Line,
+    /// A literal of the proof has no variable.
+    #[error("literal of no variable in proof")]
+    Literal,
+    /// A hint, or a number that is to be deleted, names no clause.
+    #[error("number of no clause in proof")]
+    Unnamed,
+    /// A number was used before, for a clause that is still there or was deleted.
+    #[error("number used twice in proof")]
+    Twice,
+    /// A number is far above how many clauses there are.
+    #[error("number too large in proof")]
+    Large,
+    /// A clause doesn't follow: by unit propagation along its hints, or at all where it has none.
+    #[error("proof step does not follow")]
+    Step,
+    /// A hint is negative, as they are in a step by resolution asymmetry (RAT), which isn't
+    /// checked.
+    #[error("proof step by resolution asymmetry")]
+    Asymmetry,
+    /// The bytes end before the empty clause.
+    #[error("proof ends before the empty clause")]
+    Unfinished,
+}
+
+impl From<StreamFault> for RefutationError {
+    ghost from_gives = { λ _ r. r ≡ errors.Stream };
+
+    fn from(_fault: StreamFault) -> RefutationError {
+        RefutationError::Stream
+    }
+}
+
+impl From<MemoryError> for RefutationError {
+    ghost from_gives = { λ _ r. r ≡ errors.Memory };
+
+    fn from(_error: MemoryError) -> RefutationError {
+        RefutationError::Memory
+    }
+}
+
+impl From<AllocError> for RefutationError {
+    ghost from_gives = { λ _ r. r ≡ errors.Memory };
+
+    fn from(_error: AllocError) -> RefutationError {
+        RefutationError::Memory
+    }
+}
+
+impl<T: Drop> From<AllocFailed<T>> for RefutationError {
+    ghost from_gives = { λ _ r. r ≡ errors.Memory };
+
+    fn from(_error: AllocFailed<T>) -> RefutationError {
+        RefutationError::Memory
+    }
+}

@@ -1,0 +1,25 @@
+//! Laws of refutations.
+
+ghost use Rattle.std.specs.Prelude.{◌≡◌, ℕ, Bool, IsTrue, List, Option, Some};
+ghost use Rattle.aig_base.specs.declared.logic.literal.Lit.{Lit};
+ghost use Rattle.aig_base.specs.Clauses.{is_true_clause};
+ghost use Rattle.aig_base.specs.Formula.{IsSatisfiable};
+ghost use Rattle.aig_refutation.specs.Propagation.{is_rup};
+ghost use Rattle.aig_refutation.specs.Steps.{Step, is_refutation};
+
+/// Law: a clause that follows by reverse unit propagation is true wherever the clauses are among
+/// which its hints are looked up.
+pub fn rup_clauses_are_implied()
+    ensures { (clause_of : ℕ → Option (List Lit)) (clause : List Lit) (hints : List ℕ)
+        → IsTrue (is_rup clause_of clause hints)
+        → (v : ℕ → Bool)
+        → ((n : ℕ) (other : List Lit) → clause_of n ≡ Some other
+        → IsTrue (is_true_clause v other))
+        → IsTrue (is_true_clause v clause) }
+{}
+
+/// Law: clauses that some steps refute can't be satisfied.
+pub fn refuted_clauses_are_unsatisfiable()
+    ensures { (clauses : List (List Lit)) (steps : List Step)
+        → IsTrue (is_refutation clauses steps) → ¬ IsSatisfiable clauses }
+{}

@@ -1,0 +1,220 @@
+//! Clauses and their numbers.
+
+ghost use Rattle.std.specs.Prelude.{◌≡◌, ◌<◌, ◌++◌, ◌∷◌, [], All, IfOk, IfSome, IsErrOf, OnErr, OnOk, length};
+ghost use Rattle.std.specs.List.{Contains};
+
+use crate::error::RefutationError;
+use aig_base::{Lit, LitVvec, MemoryError};
+use std::alloc::Global;
+use std::marker::Model;
+
+/// How many numbers a proof may skip, beside four for each clause.
+const FREE_NUMBERS: usize = 1 << 16;
+
+/// What the table of numbers has for one that was never used.
+const UNUSED: u32 = 0;
+
+/// What the table of numbers has for one whose clause was deleted.
+const DELETED: u32 = u32::MAX;
+
+/// Clauses one after another, and which of them each number names, if any.
+///
+/// A deleted clause stays until `reclaim`, so the memory is that of the clauses that numbers name,
+/// at most about twice, and four bytes for each number.
+#[derive(Drop)]
+pub(crate) struct Numbered {
+    alloc: Global,
+    clauses: LitVvec,
+    /// The number of each clause, by its place.
+    numbers: Vec<u32>,
+    /// For each number one more than its clause's place, or `UNUSED` or `DELETED`.
+    places: Vec<u32>,
+    /// How many clauses were added in all.
+    added: usize,
+    /// How many literals have the clauses that numbers name.
+    live: usize,
+    /// How many literals have those that were deleted.
+    deleted: usize,
+}
+
+impl Model for Numbered {
+    ghost use Rattle.std.specs.Prelude.{List};
+    ghost use Rattle.aig_base.specs.declared.logic.literal.Lit.{Lit};
+
+    ghost Value = { List (List Lit) };
+
+    ghost view = { λ n. n.clauses };
+}
+
+/// Writes the entry of a number. The table grows up to it.
+fn put_entry(places: &mut Vec<u32>, number: u32, entry: u32) -> Result<(), MemoryError> {
+    let i = number as usize;
+    if i >= places.len() {
+        places.resize(i + 1, UNUSED)?;
+    }
+    places[i] = entry;
+    Ok(())
+}
+
+/// The entry of a number.
+fn entry(places: &[u32], number: u32) -> u32 {
+    let i = number as usize;
+    if i < places.len() { places[i] } else { UNUSED }
+}
+
+/// The number of the clause at a place.
+fn number_at(numbers: &[u32], place: usize) -> u32 {
+    if place < numbers.len() {
+        numbers[place]
+    } else {
+        UNUSED
+    }
+}
+
+/// The clauses that numbers name, and those numbers, in the order of the clauses.
+fn live_clauses(
+    alloc: Global,
+    clauses: &LitVvec,
+    numbers: &[u32],
+    places: &[u32],
+) -> Result<(LitVvec, Vec<u32>), MemoryError>
+    ensures { IfOk result (λ live. All (Contains clauses.now) live.0) }
+{
+    let mut live = LitVvec::new(alloc);
+    let mut live_numbers = Vec::new(alloc);
+    for i in 0..clauses.len() {
+        let number = number_at(numbers, i);
+        if entry(places, number) as usize == i + 1 {
+            live.push(clauses.clause(i))?;
+            live_numbers.push(number)?;
+        }
+    }
+    Ok((live, live_numbers))
+}
+
+/// Lets numbers name the clauses from the first place on.
+fn rename(places: &mut Vec<u32>, numbers: &[u32]) -> Result<(), MemoryError> {
+    let mut place = 0u32;
+    for number in numbers {
+        place = place.saturating_add(1);
+        put_entry(places, *number, place)?;
+    }
+    Ok(())
+}
+
+impl Numbered {
+    /// No clauses.
+    pub(crate) fn new(alloc: Global) -> Numbered
+        ensures { result ≡ [] }
+    {
+        Numbered {
+            alloc,
+            clauses: LitVvec::new(alloc),
+            numbers: Vec::new(alloc),
+            places: Vec::new(alloc),
+            added: 0,
+            live: 0,
+            deleted: 0,
+        }
+    }
+
+    /// The number behind the greatest that was used, from 1 on.
+    pub(crate) fn next_number(&self) -> u32 {
+        u32::try_from(self.places.len().max(1)).unwrap_or(DELETED)
+    }
+
+    /// Whether a number passes four times the clauses so far by more than `FREE_NUMBERS`. So the
+    /// table is no longer than the clauses call for, whatever numbers a proof names.
+    fn is_too_large(&self, number: u32) -> bool {
+        (number / 4) as usize > self.added.saturating_add(FREE_NUMBERS / 4)
+    }
+
+    /// Appends a clause, which this number names from now on. `Twice` is answered where the number
+    /// was used before, and `Large` where it skips too many.
+    pub(crate) fn add(&mut self, number: u32, clause: &[Lit]) -> Result<(), RefutationError>
+        ensures ok { OnOk result (self.new ≡ self.old ++ clause.now ∷ []) }
+        ensures err { OnErr result (self.new ≡ self.old) }
+        ensures no_stream { IsErrOf result RefutationError.Stream → ⊥ }
+    {
+        if entry(&self.places, number) != UNUSED {
+            return Err(RefutationError::Twice);
+        }
+        if self.is_too_large(number) {
+            return Err(RefutationError::Large);
+        }
+        let Ok(place) = u32::try_from(self.clauses.len() + 1) else {
+            return Err(RefutationError::Memory);
+        };
+        self.numbers.push(number)?;
+        put_entry(&mut self.places, number, place)?;
+        self.clauses.push(clause)?;
+        self.added = self.added.saturating_add(1);
+        self.live = self.live.saturating_add(clause.len());
+        Ok(())
+    }
+
+    /// The place of the clause that a number names, if any.
+    pub(crate) fn place(&self, number: u32) -> Option<usize>
+        ensures { IfSome result (λ i. i < length self.now) }
+    {
+        let place = entry(&self.places, number).checked_sub(1)? as usize;
+        if place < self.clauses.len() {
+            Some(place)
+        } else {
+            None
+        }
+    }
+
+    /// Deletes the clause that a number names, which names none from now on.
+    pub(crate) fn remove(&mut self, number: u32) -> Result<(), RefutationError>
+        ensures same { self.new ≡ self.old }
+        ensures no_stream { IsErrOf result RefutationError.Stream → ⊥ }
+    {
+        let Some(place) = self.place(number) else {
+            return Err(RefutationError::Unnamed);
+        };
+        let count = self.clauses.clause(place).len();
+        put_entry(&mut self.places, number, DELETED)?;
+        self.live = self.live.saturating_sub(count);
+        self.deleted = self.deleted.saturating_add(count);
+        Ok(())
+    }
+
+    /// Frees the memory of deleted clauses, where most literals are of those. Each clause that is
+    /// left was there.
+    pub(crate) fn reclaim(&mut self) -> Result<(), RefutationError>
+        ensures kept { OnOk result (All (Contains self.old) self.new) }
+        ensures err { OnErr result (self.new ≡ self.old) }
+        ensures no_stream { IsErrOf result RefutationError.Stream → ⊥ }
+    {
+        if self.deleted <= self.live {
+            return Ok(());
+        }
+        Ok(self.compact()?)
+    }
+
+    /// Moves the clauses together that numbers name.
+    fn compact(&mut self) -> Result<(), MemoryError>
+        ensures kept { OnOk result (All (Contains self.old) self.new) }
+        ensures err { OnErr result (self.new ≡ self.old) }
+    {
+        let (clauses, numbers) = live_clauses(
+            self.alloc,
+            &self.clauses,
+            &self.numbers,
+            &self.places,
+        )?;
+        rename(&mut self.places, &numbers)?;
+        self.clauses = clauses;
+        self.numbers = numbers;
+        self.deleted = 0;
+        Ok(())
+    }
+
+    /// The clauses.
+    pub(crate) fn clauses(&self) -> &LitVvec
+        ensures { result.now ≡ self.now }
+    {
+        &self.clauses
+    }
+}

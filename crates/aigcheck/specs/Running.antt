@@ -1,0 +1,68 @@
+-- What a command does with the bytes of a file and of a proof: what it puts into its writer, and why it refuses them.
+use Rattle.std.specs.Prelude.{◌≡◌, ℕ, ◌+◌, Bool, false, IsTrue, List, [], ◌∷◌, ◌++◌, length, Option, Some, Result, Ok, Err, codes, decimal}
+use Rattle.std.specs.Io.KnownBytes.{Appends, Consumes}
+use Rattle.aig_base.specs.declared.logic.literal.Lit.{Lit}
+use Rattle.aig_base.specs.Formula.{clauses_in}
+use Rattle.aig_dimacs.specs.Reading.{formula_at}
+use Rattle.aig_dimacs.specs.Text.{dimacs_of}
+use Rattle.aig_format.specs.Circuit.{circuit_of}
+use Rattle.aig_format.specs.File.{File}
+use Rattle.aig_runs.specs.Queries.{IsSafeTo}
+use Rattle.aig_writer.specs.Sinks.{AppendsBeginning}
+use Rattle.aig_certify.specs.declared.window.Window.{Window}
+use Rattle.aig_certify.specs.Induction.{IsKInductive}
+use Rattle.aig_certify.specs.Safety.{IsSafeAt}
+use Rattle.aig_certify.specs.WindowClauses.{AsksWindow}
+use Rattle.aig_answers.specs.Answers.{IsAsked, TellsOfFile}
+use Rattle.aigcheck.specs.declared.command.Command.{Command}
+use Rattle.aigcheck.specs.declared.command.Command.TheVariants as commands
+use Rattle.aigcheck.specs.declared.tool.CheckError.{CheckError}
+use Rattle.aigcheck.specs.declared.tool.CheckError.TheVariants as errors
+
+-- ---- answers
+
+-- the line of a step at which no bad state is reached
+abbrev pub step_line : ℕ → List ℕ
+step_line k = codes "no bad state at step " ++ (decimal k ++ 10 ∷ [])
+
+-- the line of a window that keeps a machine safe
+abbrev pub window_line : ℕ → List ℕ
+window_line k = codes "no bad state at any step, if none up to step " ++ (decimal k ++ 10 ∷ [])
+
+-- the text of clauses that ask for a window, from which a plain reader reads just these again
+pub record IsWindowText (form : Window) (f : File) (k : ℕ) (optimize : Bool) (text : List ℕ) : Type 0 where
+  pub lists : List (List (List Lit))
+  pub further : List (List Lit)
+  pub asks : AsksWindow form (circuit_of f) k optimize lists further
+  pub exact : text ≡ dimacs_of (length lists) (clauses_in lists ++ further)
+  pub again : formula_at text ≡ Some (length lists, clauses_in lists ++ further)
+
+-- what the command puts into its writer for the file, and what is then so of the file's machine
+abbrev pub Answers : Command → File → List ℕ → Type 0
+Answers (commands.Window k form optimize) f text = IsWindowText form f k optimize text
+Answers (commands.Refuted k optimize) f text = (text ≡ step_line k) × IsSafeAt f k
+Answers (commands.Inductive k form optimize) f text = (text ≡ window_line k) × IsKInductive form f k × (IsSafeTo f k → (n : ℕ) → IsSafeTo f n)
+
+-- how many further steps the command makes
+abbrev pub steps_of : Command → ℕ
+steps_of (commands.Window k form optimize) = k + 1
+steps_of (commands.Refuted k optimize) = k
+steps_of (commands.Inductive k form optimize) = k + 1
+
+-- the bytes that were taken are a file of which something is asked, and this holds of what answers it
+pub record AnswersFile (c : Command) (limit : ℕ) (old new : Option (List ℕ)) (Holds : List ℕ → Type 0) : Type 0 where
+  pub file : File
+  pub bytes : List ℕ
+  pub asked : IsAsked limit (steps_of c) bytes file
+  pub taken : Consumes old new bytes
+  pub text : List ℕ
+  pub answers : Answers c file text
+  pub holds : Holds text
+
+-- What a command does, by how it ends: r and w are the file's reader and the writer before it, rest and made after it.
+abbrev pub Runs : {R W : Type 0} → (R → Option (List ℕ)) → (R → Bool) → (W → Option (List ℕ)) → (W → Bool) → Command → ℕ → R → W → Result Unit CheckError → R → W → Type 0
+Runs left read_failed held write_failed c limit r w (Ok done) rest made = AnswersFile c limit (left r) (left rest) (Appends (held w) (held made)) × (write_failed made ≡ false)
+Runs left read_failed held write_failed c limit r w (Err (errors.Answer e)) rest made = TellsOfFile {T = Unit} left read_failed limit (steps_of c) (Err e) r rest × (made ≡ w)
+Runs left read_failed held write_failed c limit r w (Err errors.Write) rest made = AnswersFile c limit (left r) (left rest) (AppendsBeginning (held w) (held made)) × IsTrue (write_failed made)
+Runs left read_failed held write_failed c limit r w (Err errors.Open) rest made = ⊥
+Runs left read_failed held write_failed c limit r w (Err errors.Memory) rest made = ⊥

@@ -1,0 +1,91 @@
+//! `aigcheck` checks proofs about the machines of AIGER files, and prints the clauses that such proofs are of.
+#![tactic(auto)]
+
+ghost use Rattle.std.specs.Prelude.{◌<◌, ◌≤◌, ◌^◌, length};
+ghost use Rattle.aigcheck.specs.Words.{needed_words, step_of};
+
+mod command;
+mod tool;
+
+use aig_base::{FromRead, ToWrite};
+pub use command::{Command, parse};
+use std::fs::File;
+use std::io::{ErrorKind, Write};
+use std::process::ExitCode;
+use std::rt::{Env, Files};
+use std::{env, io};
+pub use tool::{CheckError, print_inductive, print_refuted, print_window};
+
+const USAGE: &str = "usage: aigcheck window FILE K [distinct] [raw], refuted FILE K PROOF [raw], \
+    inductive FILE K PROOF [distinct] [raw]";
+
+/// The words after the program's name.
+fn words(rt: &(impl Env + AllocGlobal)) -> io::Result<Vec<String>> {
+    let mut words = Vec::new(rt.alloc());
+    for word in env::args(rt)?.skip(1) {
+        words.push(word)?;
+    }
+    Ok(words)
+}
+
+/// Opens a file for reading.
+fn open<R: Files>(rt: &R, path: &str) -> Result<FromRead<R::File>, CheckError> {
+    match File::open(rt, path) {
+        Ok(file) => Ok(FromRead::new(file)),
+        Err(_) => Err(CheckError::Open),
+    }
+}
+
+/// Runs a command on the files that the words name, and prints to standard output.
+fn print(
+    rt: &(impl Files + Print + AllocGlobal),
+    words: &[String],
+    command: Command,
+) -> Result<(), CheckError>
+    requires words { needed_words command ≤ length words.now }
+    requires small { step_of command < 2 ^ 32 }
+{
+    let alloc = rt.alloc();
+    let mut r = open(rt, words[1].as_str())?;
+    let mut sink = ToWrite::new(io::writer(rt));
+    match command {
+        Command::Window { k, form, optimize } => {
+            print_window(alloc, k, form, optimize, &mut r, &mut sink)?;
+        }
+        Command::Refuted { k, optimize } => {
+            let mut proof = open(rt, words[3].as_str())?;
+            print_refuted(alloc, k, optimize, &mut r, &mut proof, &mut sink)?;
+        }
+        Command::Inductive { k, form, optimize } => {
+            let mut proof = open(rt, words[3].as_str())?;
+            print_inductive(alloc, k, form, optimize, &mut r, &mut proof, &mut sink)?;
+        }
+    }
+    match sink.into_inner().flush() {
+        Ok(()) => Ok(()),
+        Err(_) => Err(CheckError::Write),
+    }
+}
+
+fn main(rt: HostRuntime) -> ExitCode {
+    let words = match words(&rt) {
+        Ok(words) => words,
+        // Words that aren't UTF-8 give no command.
+        Err(error) if error.kind() == ErrorKind::InvalidData => Vec::new(rt.alloc()),
+        Err(_) => {
+            let _ = eprintln!(rt; "aigcheck: {}", CheckError::Memory);
+            return ExitCode::FAILURE;
+        }
+    };
+    let Some(command) = parse(&words) else {
+        let _ = eprintln!(rt; "{USAGE}");
+        return ExitCode::from(2);
+    };
+    match print(&rt, &words, command) {
+        Ok(()) => ExitCode::SUCCESS,
+        Err(fault) => {
+            let _ = eprintln!(rt; "aigcheck: {fault}");
+            ExitCode::FAILURE
+        }
+    }
+}

@@ -1,0 +1,128 @@
+//! What the commands do with the bytes of a file and of a proof.
+
+ghost use Rattle.std.specs.Prelude.{◌≡◌, ◌<◌, ◌^◌, ◌++◌, ◌∷◌, [], decimal};
+ghost use Rattle.aig_writer.specs.Sinks.{BuffersOrStops, WritesOrStops};
+ghost use Rattle.aigcheck.specs.Running.{Runs};
+ghost use Rattle.aigcheck.specs.declared.tool.CheckError.TheVariants as errors;
+
+use crate::command::Command;
+use aig_answers::{AnswerError, Window, check_step, check_window, window};
+use aig_base::{Sink, Source, StreamFault};
+use aig_certify::inductive_windows_are_safe;
+use aig_dimacs::write_dimacs;
+use aig_writer::OutputBuffer;
+use std::alloc::Global;
+use thiserror::Error;
+
+/// The limit on the nodes of a circuit that the program reads, and of one that it unrolls.
+pub const LIMIT: usize = 1 << 24;
+
+/// Why the program ends with status 1.
+#[derive(Clone, Copy, Debug, PartialEq, Eq, Error)]
+pub enum CheckError {
+    /// A path couldn't be opened.
+    #[error("cannot open")]
+    Open,
+    /// Memory ran out outside reading and checking.
+    #[error("out of memory")]
+    Memory,
+    /// There is no answer.
+    #[error("{0}")]
+    Answer(AnswerError),
+    /// The answer wasn't written.
+    #[error("write failed")]
+    Write,
+}
+
+impl From<AnswerError> for CheckError {
+    ghost from_gives = { λ e r. r ≡ errors.Answer e };
+
+    fn from(error: AnswerError) -> CheckError {
+        CheckError::Answer(error)
+    }
+}
+
+impl From<StreamFault> for CheckError {
+    ghost from_gives = { λ _ r. r ≡ errors.Write };
+
+    fn from(_fault: StreamFault) -> CheckError {
+        CheckError::Write
+    }
+}
+
+/// Buffers a text, a number and a line feed.
+fn buffer_line<W: Sink>(
+    buffer: &mut OutputBuffer,
+    w: &mut W,
+    text: &[u8],
+    k: usize,
+) -> Result<(), StreamFault>
+    ensures { let line = text.now ++ (decimal k ++ 10 ∷ []) in
+        BuffersOrStops W.held W.failed buffer.old w.old result line buffer.new w.new }
+{
+    buffer.write_bytes(w, text)?;
+    buffer.write_number(w, k, b'\n')
+}
+
+/// Writes a text, a number and a line feed.
+fn write_line<W: Sink>(w: &mut W, text: &[u8], k: usize) -> Result<(), StreamFault>
+    ensures { let line = text.now ++ (decimal k ++ 10 ∷ []) in
+        WritesOrStops W.held W.failed w.old result line w.new }
+{
+    let mut buffer = OutputBuffer::new();
+    buffer_line(&mut buffer, w, text, k)?;
+    buffer.flush(w)
+}
+
+/// Prints the clauses that ask for a window of a file's machine. Asks that `k` is below 2^32.
+pub fn print_window<R: Source, W: Sink>(
+    alloc: Global,
+    k: usize,
+    form: Window,
+    optimize: bool,
+    r: &mut R,
+    w: &mut W,
+) -> Result<(), CheckError>
+    requires { k < 2 ^ 32 }
+    ensures { let command = Command.Window k form optimize in
+        Runs R.left R.failed W.held W.failed command LIMIT r.old w.old result r.new w.new }
+{
+    let asked = window(alloc, r, LIMIT, k, optimize, form)?;
+    Ok(write_dimacs(w, &asked.clauses, &asked.further)?)
+}
+
+/// Checks a proof that no bad state is reached at step `k`, and prints so.
+pub fn print_refuted<R: Source, P: Source, W: Sink>(
+    alloc: Global,
+    k: usize,
+    optimize: bool,
+    r: &mut R,
+    proof: &mut P,
+    w: &mut W,
+) -> Result<(), CheckError>
+    ensures { let command = Command.Refuted k optimize in
+        Runs R.left R.failed W.held W.failed command LIMIT r.old w.old result r.new w.new }
+{
+    check_step(alloc, r, LIMIT, k, optimize, proof)?;
+    Ok(write_line(w, b"no bad state at step ", k)?)
+}
+
+/// Checks a proof that no window of `k + 2` steps has a bad state first at its end, and prints what that means. Asks that
+/// `k` is below 2^32.
+pub fn print_inductive<R: Source, P: Source, W: Sink>(
+    alloc: Global,
+    k: usize,
+    form: Window,
+    optimize: bool,
+    r: &mut R,
+    proof: &mut P,
+    w: &mut W,
+) -> Result<(), CheckError>
+    requires { k < 2 ^ 32 }
+    ensures { let command = Command.Inductive k form optimize in
+        Runs R.left R.failed W.held W.failed command LIMIT r.old w.old result r.new w.new }
+{
+    inductive_windows_are_safe();
+    check_window(alloc, r, LIMIT, k, optimize, form, proof)?;
+    Ok(write_line(w, b"no bad state at any step, if none up to step ", k)?)
+}

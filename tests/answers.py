@@ -1,0 +1,153 @@
+#!/usr/bin/env python3
+"""Runs the built aigcheck on small files and proofs: answers.py [AIGCHECK]
+
+AIGCHECK is crates/aigcheck/out/aigcheck beside this folder's, after `rt run` in crates/aigcheck. Each row says which words it is
+given, and which status, standard output and standard error are wanted. Files and proofs were written by hand; they lie in
+answers/, and the proofs that are faulty are made from the good ones below.
+"""
+import os
+import subprocess
+import sys
+import tempfile
+
+HERE = os.path.dirname(os.path.abspath(__file__))
+FILES = os.path.join(HERE, "answers")
+USAGE = "usage: aigcheck window FILE K [distinct] [raw], refuted FILE K PROOF [raw], inductive FILE K PROOF [distinct] [raw]\n"
+
+# What aigcheck says of a faulty proof.
+STEP = "aigcheck: proof step does not follow\n"
+ASYMMETRY = "aigcheck: proof step by resolution asymmetry\n"
+UNNAMED = "aigcheck: number of no clause in proof\n"
+TWICE = "aigcheck: number used twice in proof\n"
+LITERAL = "aigcheck: literal of no variable in proof\n"
+LARGE = "aigcheck: number too large in proof\n"
+LINE = "aigcheck: bad proof line\n"
+UNFINISHED = "aigcheck: proof ends before the empty clause\n"
+OPEN = "aigcheck: cannot open\n"
+NO_BADS = "aigcheck: no bad state property\n"
+
+# The clauses of a window of a latch that keeps its value, and of one that waits for an input.
+STUCK = "p cnf 2 3\n-1 0\n-2 0\n2 0\n"
+WAITING = """p cnf 7 12
+-1 0
+-4 2 0
+-4 3 0
+4 -2 -3 0
+-6 3 0
+-6 5 0
+6 -3 -5 0
+-4 0
+6 0
+-7 3 3 0
+-7 -3 -3 0
+7 0
+"""
+
+# The proof of the window of the waiting latch in two steps, and what is made of it.
+LONG = "13 3 0 9 5 0\n14 0 12 13 11 0\n"
+PROOFS = {
+    "long": LONG,
+    "dropped": LONG.split("\n", 1)[1],
+    "turned": LONG.replace("13 3 0", "13 -3 0"),
+    "no_hint": LONG.replace("9 5 0", "5 0"),
+    "twice": LONG.replace("14 0 12", "13 3 0 9 5 0\n14 0 12"),
+    "given": LONG.replace("13 3 0", "12 3 0"),
+    "literal": LONG.replace("13 3 0", "13 8 0"),
+    "large": LONG.replace("13 3 0", "4294967295 3 0"),
+    "deleted": LONG.replace("14 0 12", "13 d 12 0\n14 0 12"),
+    "without_hints": "3 0\nd 3 -4 0\n0\n",
+    "empty_clause": "0\n",
+    "mixed": "13 3 0 9 5 0\n0\n",
+    "rat": "13 3 0 -9 5 0\n14 0 12 13 11 0\n",
+    "junk": "no proof\n",
+    "empty": "",
+    "cut": LONG[:18],
+}
+
+
+def refused(why):
+    """A row's end: status 1, and one line."""
+    return 1, "", why
+
+
+def answered(text):
+    """A row's end: status 0, and a text."""
+    return 0, text, ""
+
+
+def rows(folder):
+    """The words of each row, and what is wanted."""
+    stuck, waiting, toggle, no_bads = (os.path.join(FILES, name + ".aag") for name in ["stuck", "waiting", "toggle", "no_bads"])
+    of_stuck, of_waiting = (os.path.join(FILES, name + ".lrat") for name in ["stuck", "waiting"])
+    made = {name: os.path.join(folder, name) for name in PROOFS}
+    missing = os.path.join(folder, "missing")
+    step = lambda k: answered(f"no bad state at step {k}\n")
+    window = lambda k: answered(f"no bad state at any step, if none up to step {k}\n")
+    distinct = lambda proof: ["inductive", waiting, "0", proof, "distinct"]
+    yield ["window", stuck, "0"], answered(STUCK)
+    yield ["window", stuck, "0", "raw"], answered(STUCK)
+    yield ["window", waiting, "0", "distinct"], answered(WAITING)
+    yield ["refuted", stuck, "0", of_stuck], step(0)
+    yield ["refuted", stuck, "7", of_stuck, "raw"], step(7)
+    yield ["inductive", stuck, "0", of_stuck], window(0)
+    yield distinct(of_waiting), window(0)
+    yield distinct(made["long"]), window(0)
+    # Without hints.
+    yield distinct(made["without_hints"]), window(0)
+    yield distinct(made["empty_clause"]), window(0)
+    yield ["refuted", stuck, "0", made["empty_clause"]], step(0)
+    yield ["refuted", toggle, "1", made["empty_clause"]], refused(STEP)
+    # The plain window has a run to a bad state, which no proof can exclude, and no clause of this number.
+    yield ["inductive", waiting, "0", of_waiting], refused(UNNAMED)
+    yield ["inductive", waiting, "0", made["empty_clause"]], refused(STEP)
+    # Another file, step, form of window or command.
+    yield ["refuted", toggle, "1", of_stuck], refused(STEP)
+    yield ["refuted", waiting, "0", of_waiting], refused(UNNAMED)
+    yield ["inductive", waiting, "1", of_waiting, "distinct"], refused(STEP)
+    for name, why in [
+        ("dropped", UNNAMED),
+        ("turned", STEP),
+        ("no_hint", STEP),
+        ("twice", TWICE),
+        ("given", TWICE),
+        ("literal", LITERAL),
+        ("large", LARGE),
+        ("deleted", UNNAMED),
+        ("rat", ASYMMETRY),
+        ("junk", LINE),
+        ("mixed", LINE),
+        ("empty", UNFINISHED),
+        ("cut", UNFINISHED),
+    ]:
+        yield distinct(made[name]), refused(why)
+    for words in [["window", no_bads, "0"], ["refuted", no_bads, "0", of_stuck], ["inductive", no_bads, "0", of_stuck]]:
+        yield words, refused(NO_BADS)
+    for words in [["window", missing, "0"], ["refuted", missing, "0", of_stuck], ["refuted", stuck, "0", missing]]:
+        yield words, refused(OPEN)
+    wrong = [[], ["window"], ["window", stuck], ["window", stuck, "+1"], ["window", stuck, "4294967296"], ["window", stuck, "0", "x"]]
+    wrong += [["window", stuck, "0", "raw", "distinct"], ["refuted", stuck, "0"], ["refuted", stuck, "0", of_stuck, "distinct"]]
+    wrong += [["inductive", stuck, "0"], ["inductive", stuck, "", of_stuck], ["refute", stuck, "0", of_stuck]]
+    for words in wrong:
+        yield words, (2, "", USAGE)
+
+
+def main():
+    tool = sys.argv[1] if len(sys.argv) > 1 else os.path.join(HERE, "..", "crates", "aigcheck", "out", "aigcheck")
+    failed = count = 0
+    with tempfile.TemporaryDirectory() as folder:
+        for name, text in PROOFS.items():
+            with open(os.path.join(folder, name), "w") as out:
+                out.write(text)
+        for words, wanted in rows(folder):
+            done = subprocess.run([tool, *words], stdout=subprocess.PIPE, stderr=subprocess.PIPE, encoding="utf-8")
+            given = done.returncode, done.stdout, done.stderr
+            count += 1
+            if given != wanted:
+                failed += 1
+                print(f"{' '.join(words)}\n  wanted {wanted}\n  given  {given}")
+    print(f"{count - failed} passed, {failed} failed")
+    sys.exit(1 if failed else 0)
+
+
+if __name__ == "__main__":
+    main()
