@@ -1,0 +1,4 @@
+mod Spelled
+mod Going
+mod Pieces
+mod Examples

@@ -1,0 +1,59 @@
+-- Reading witnesses from the front, on lists. (AIGER 1.9, "Witness format".)
+use Rattle.std.specs.Prelude.{ℕ, Bool, true, false, not, ◌==◌, if◌then◌else◌, List, [], ◌∷◌, ◌++◌, codes, Option, Some, None}
+use Rattle.aig_base.specs.declared.logic.three.Lbool.{Lbool}
+use Rattle.aig_base.specs.declared.logic.three.Lbool.TheVariants.{FALSE, TRUE, NONE}
+use Rattle.aig_parsing.specs.Front.{◌>>=◌, both_at, ended_at, mapped_at, strip}
+use Rattle.aig_witness.specs.Witness.{Witness}
+
+-- the value of a letter
+abbrev pub value_of_letter : ℕ → Option Lbool
+value_of_letter b = if b == 48 then Some FALSE else if b == 49 then Some TRUE else if b == 120 then Some NONE else None
+
+-- what is left of a line of values, behind those that were read
+unfoldable pub row_behind : List Lbool → List ℕ → Option (List Lbool × List ℕ)
+row_behind row [] = None
+row_behind row (b ∷ bs) = if b == 10 then Some (row, bs) else (value_of_letter b >>= λ v. row_behind (row ++ v ∷ []) bs)
+
+-- the end of the line of a point, behind these lines, and no value
+abbrev pub point_behind : List (List Lbool) → List Lbool → List ℕ → Option (List (List Lbool) × List ℕ)
+point_behind steps [] bytes = strip (10 ∷ []) bytes >>= λ rest. Some (steps, rest)
+point_behind steps (v ∷ row) bytes = None
+
+-- what is left of lines of values up to that of a point, behind the lines that were read and the values of one
+unfoldable pub steps_behind : List (List Lbool) → List Lbool → List ℕ → Option (List (List Lbool) × List ℕ)
+steps_behind steps row [] = None
+steps_behind steps row (b ∷ bs) =
+    if b == 10 then steps_behind (steps ++ row ∷ []) [] bs
+    else if b == 46 then point_behind steps row bs
+    else (value_of_letter b >>= λ v. steps_behind steps (row ++ v ∷ []) bs)
+
+-- the line of a bad state property
+abbrev pub property_at : List ℕ → Option (ℕ × List ℕ)
+property_at bytes = strip (98 ∷ []) bytes >>= ended_at 10
+
+-- the property, the state and the steps
+abbrev pub parts_at : List ℕ → Option ((ℕ × (List Lbool × List (List Lbool))) × List ℕ)
+parts_at = both_at property_at (λ _. both_at (row_behind []) (λ _. steps_behind [] []))
+
+-- the witness of these parts
+abbrev pub witness_from : ℕ × (List Lbool × List (List Lbool)) → Witness
+witness_from x = record { bad = x.0; state = x.1.0; steps = x.1.1 }
+
+-- a witness
+abbrev pub witness_at : List ℕ → Option (Witness × List ℕ)
+witness_at bytes = strip (codes "1\n") bytes >>= mapped_at witness_from parts_at
+
+-- the bytes behind comments, each of which begins with `c` and ends with its line; the first may have begun before
+abbrev pub behind_comments : Bool → List ℕ → List ℕ
+behind_comments inside [] = []
+behind_comments true (b ∷ bs) = behind_comments (not (b == 10)) bs
+behind_comments false (b ∷ bs) = if b == 99 then behind_comments true bs else b ∷ bs
+
+-- a witness, or none at the end
+abbrev pub first_at : List ℕ → Option (Option Witness × List ℕ)
+first_at [] = Some (None, [])
+first_at (b ∷ bs) = witness_at (b ∷ bs) >>= λ x. Some (Some x.0, x.1)
+
+-- the next witness behind comments, or none at the end
+unfoldable pub next_at : List ℕ → Option (Option Witness × List ℕ)
+next_at bytes = first_at (behind_comments false bytes)

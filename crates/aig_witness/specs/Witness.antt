@@ -1,0 +1,47 @@
+-- Witnesses of bad states, and their text. (AIGER 1.9, "Witness format".)
+use Rattle.std.specs.Prelude.{ℕ, List, [], ◌∷◌, ◌++◌, map, codes, decimal, Vec}
+use Rattle.std.specs.List.{flat_map}
+use Rattle.std.specs.declared.alloc.Global.{Global}
+use Rattle.aig_base.specs.declared.logic.three.Lbool.{Lbool}
+use Rattle.aig_base.specs.declared.logic.three.Lbool.TheVariants.{FALSE, TRUE, NONE}
+use Rattle.aig_format.specs.Text.{◌then◌, Each, Ended, Just}
+use Rattle.aig_witness.specs.declared.witness.Witness as lists
+
+-- a witness: which bad state property is reached, the state at step 0, and the inputs at each step
+pub record Witness : Type 0 where
+  pub bad : ℕ
+  pub state : List Lbool
+  pub steps : List (List Lbool)
+
+-- a value: 0, 1, or x where it may be either
+abbrev pub letter_of : Lbool → ℕ
+letter_of FALSE = 48
+letter_of TRUE = 49
+letter_of NONE = 120
+
+-- a line of values
+abbrev pub row_text : List Lbool → List ℕ
+row_text values = map letter_of values ++ 10 ∷ []
+
+-- `1`, the property, the state, a line for each step, and a point; a number may have leading zeros
+abbrev pub SpellsWitness : Witness → List ℕ → Type 0
+SpellsWitness w =
+    Just (codes "1\n") then (Just (codes "b") then Ended 10 w.bad) then Just (row_text w.state) then Each (λ row. Just (row_text row)) w.steps then Just (codes ".\n")
+
+-- the one text of a witness that is written
+unfoldable pub witness_text : Witness → List ℕ
+witness_text w = codes "1\nb" ++ (decimal w.bad ++ 10 ∷ []) ++ row_text w.state ++ flat_map row_text w.steps ++ codes ".\n"
+
+-- ---- the program's lists
+
+-- the rows of these lists
+abbrev pub rows_of : List (Vec Lbool Global) → List (List Lbool)
+rows_of lists = map (λ list. list.items) lists
+
+-- the witness of the program's lists
+abbrev pub said_by : lists.Witness → Witness
+said_by w = record { bad = w.bad; state = w.state.items; steps = rows_of w.steps.items }
+
+-- its parts
+abbrev pub parts_of : lists.Witness → ℕ × (List Lbool × List (List Lbool))
+parts_of w = (w.bad, (w.state.items, rows_of w.steps.items))

@@ -1,0 +1,15 @@
+//! Witnesses of bad states.
+
+use aig_base::Lbool;
+
+/// A witness of a bad state: which bad state property is reached, the state in which a run begins, and the inputs at each
+/// of its steps. A value that is unknown may be either. (AIGER 1.9, "Witness format".)
+#[derive(Drop)]
+pub struct Witness {
+    /// The number of the bad state property, from 0 on.
+    pub bad: u32,
+    /// The values of the latches at step 0, in their order.
+    pub state: Vec<Lbool>,
+    /// For each step the values of the inputs, in their order.
+    pub steps: Vec<Vec<Lbool>>,
+}

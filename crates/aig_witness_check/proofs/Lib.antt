@@ -1,0 +1,8 @@
+mod Simulated
+mod Zips
+mod Started
+mod Showing
+mod Nexts
+mod Given
+mod Exact
+mod Examples

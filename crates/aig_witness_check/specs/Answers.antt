@@ -1,0 +1,36 @@
+-- What a refusal of a witness tells. (AIGER 1.9, "Witness format".)
+use Rattle.std.specs.Prelude.{◌≡◌, ◌≢◌, ◌-◌, ◌<◌, ◌≤◌, [], length, slice_index_or, Result, Ok, Err}
+use Rattle.aig_base.specs.declared.logic.three.Lbool.TheVariants.{TRUE}
+use Rattle.aig_circuit.specs.Circuit.{Circuit}
+use Rattle.aig_ternary.specs.Ternary.{value_in}
+use Rattle.aig_witness.specs.Witness.{Witness}
+use Rattle.aig_witness_check.specs.declared.error.CheckError.{CheckError}
+use Rattle.aig_witness_check.specs.declared.error.CheckError.TheVariants as errors
+use Rattle.aig_witness_check.specs.Shown.{AreStarts, AreTrueIn, IsKnownWitness, named_bad, simulated}
+
+-- what is wrong of a step: it has too few or too many values, or some constraint is not known to hold
+abbrev pub IsWrongStep : Circuit → Witness → CheckError → Type 0
+IsWrongStep c w (errors.Inputs t) = (t < length w.steps) × (length (slice_index_or w.steps t []) ≢ length c.inputs)
+IsWrongStep c w (errors.Constraint t) = (t < length w.steps) × (¬ AreTrueIn (simulated c w t) c.constraints)
+IsWrongStep c w errors.Memory = Unit {0}
+IsWrongStep c w errors.Latches = ⊥
+IsWrongStep c w errors.NoStep = ⊥
+IsWrongStep c w errors.NoBad = ⊥
+IsWrongStep c w errors.Start = ⊥
+IsWrongStep c w errors.Bad = ⊥
+
+-- what is wrong of a witness
+abbrev pub IsWrong : Circuit → Witness → CheckError → Type 0
+IsWrong c w (errors.Inputs t) = IsWrongStep c w (errors.Inputs t)
+IsWrong c w (errors.Constraint t) = IsWrongStep c w (errors.Constraint t)
+IsWrong c w errors.Memory = Unit {0}
+IsWrong c w errors.Latches = length w.state ≢ length c.latchs
+IsWrong c w errors.NoStep = length w.steps ≡ 0
+IsWrong c w errors.NoBad = length c.bads ≤ w.bad
+IsWrong c w errors.Start = ¬ AreStarts c.latchs w.state
+IsWrong c w errors.Bad = value_in (simulated c w (length w.steps - 1)) (named_bad c w) ≢ TRUE
+
+-- the values show the witness, or the fault is named
+abbrev pub Checks : {T : Type 0} → Circuit → Witness → Result T CheckError → Type 0
+Checks c w (Ok x) = IsKnownWitness c w
+Checks c w (Err e) = IsWrong c w e

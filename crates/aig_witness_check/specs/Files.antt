@@ -1,0 +1,58 @@
+-- What the answer of a check tells of the bytes of a file and of a witness. (AIGER format 20071012; AIGER 1.9, "Witness format".)
+use Rattle.std.specs.Prelude.{◌≡◌, ℕ, ◌-◌, List, [], length, Option, Some, None, IfSome, Result, Ok, Err}
+use Rattle.aig_format.specs.File.{File}
+use Rattle.aig_format.specs.Fits.{Accepts}
+use Rattle.aig_format.specs.Circuit.{circuit_of}
+use Rattle.aig_lexer.specs.Takes.{Misses}
+use Rattle.aig_reader.specs.Reading.{IsOfFile, UnlessInterrupted}
+use Rattle.aig_witness.specs.declared.witness.Witness as lists
+use Rattle.aig_witness.specs.Faults.{OnWitness}
+use Rattle.aig_witness.specs.Reading.{next_at}
+use Rattle.aig_witness.specs.Witness.{Witness, said_by}
+use Rattle.aig_witness_check.specs.declared.error.CheckError.{CheckError}
+use Rattle.aig_witness_check.specs.declared.file.ShowError.{ShowError}
+use Rattle.aig_witness_check.specs.declared.file.ShowError.TheVariants as errors
+use Rattle.aig_witness_check.specs.declared.file.Shown.{Shown}
+use Rattle.aig_witness_check.specs.Answers.{IsWrong}
+use Rattle.aig_witness_check.specs.Machine.{ShowsBad}
+use Rattle.aig_witness_check.specs.Shown.{IsKnownWitness}
+
+-- where the bytes are known, the next witness in them is this one
+abbrev pub IsNext : Option (List ℕ) → Witness → Type 0
+IsNext text w = IfSome text (λ bytes. (rest : List ℕ) × (next_at bytes ≡ Some (Some w, rest)))
+
+-- where the bytes are known, there is no witness in them, but comments alone
+abbrev pub HasNone : Option (List ℕ) → Type 0
+HasNone text = IfSome text (λ bytes. next_at bytes ≡ Some (None, []))
+
+-- the next witness of the text shows this bad state of the file's machine
+pub record ShowsNext (text : Option (List ℕ)) (f : File) (shown : Shown) : Type 0 where
+  pub witness : Witness
+  pub next : IsNext text witness
+  pub known : IsKnownWitness (circuit_of f) witness
+  pub shows : ShowsBad f witness
+  pub bad : shown.bad ≡ witness.bad
+  pub step : shown.step ≡ length witness.steps - 1
+
+-- the next witness of the text has this fault
+pub record FailsNext (text : Option (List ℕ)) (f : File) (e : CheckError) : Type 0 where
+  pub witness : Witness
+  pub next : IsNext text witness
+  pub wrong : IsWrong (circuit_of f) witness e
+
+-- the next witness, or why there is none
+abbrev pub GivesFirst : Option (List ℕ) → Result lists.Witness ShowError → Type 0
+GivesFirst text (Ok w) = IsNext text (said_by w)
+GivesFirst text (Err (errors.File e)) = ⊥
+GivesFirst text (Err (errors.Witness e)) = OnWitness e (Misses next_at text)
+GivesFirst text (Err errors.NoWitness) = HasNone text
+GivesFirst text (Err (errors.Check e)) = ⊥
+
+-- The bytes that were taken are a file, and the next witness shows a bad state of its machine; or, memory and streams aside: no file is
+-- accepted, or the text has no witness, or the file is accepted and the witness has the fault that is named.
+abbrev pub Answers : ℕ → Option (List ℕ) → Option (List ℕ) → Option (List ℕ) → Result Shown ShowError → Type 0
+Answers limit old new text (Ok shown) = IsOfFile (λ bytes. Accepts bytes limit) (ShowsNext text) old new shown
+Answers limit old new text (Err (errors.File e)) = IfSome old (λ bytes. UnlessInterrupted {T = Shown} (Err e) ((f : File) → ¬ Accepts bytes limit f))
+Answers limit old new text (Err (errors.Witness e)) = OnWitness e (Misses next_at text)
+Answers limit old new text (Err errors.NoWitness) = HasNone text
+Answers limit old new text (Err (errors.Check e)) = IsOfFile (λ bytes. Accepts bytes limit) (FailsNext text) old new e

@@ -1,0 +1,4 @@
+pub mod Shown
+pub mod Machine
+pub mod Answers
+pub mod Files

@@ -1,0 +1,124 @@
+//! Checks that a witness shows a bad state of the machine of an AIGER file.
+
+ghost use Rattle.std.specs.Prelude.{◌≡◌, ◌^◌, ◌≤◌, IsErrOf, IsTrue};
+ghost use Rattle.aig_witness_check.specs.Files.{Answers, GivesFirst};
+ghost use Rattle.aig_witness_check.specs.declared.file.ShowError.TheVariants as errors;
+ghost use Rattle.aig_witness.specs.declared.error.WitnessError.TheVariants as witness;
+
+use crate::circuit::check_circuit;
+use crate::error::CheckError;
+use crate::laws::known_witnesses_show;
+use aig_base::Source;
+use aig_lexer::{Buffered, WINDOW_SIZE};
+use aig_reader::ReadError;
+use aig_witness::{Witness, WitnessError, read_witness};
+use std::alloc::{AllocError, Global};
+use thiserror::Error;
+
+/// A bad state that a witness shows.
+#[derive(Clone, Copy, Debug, PartialEq, Eq)]
+pub struct Shown {
+    /// The number of the bad state property, from 0 on.
+    pub bad: usize,
+    /// The step at which it is reached, from 0 on.
+    pub step: usize,
+}
+
+/// Why no bad state is shown.
+#[derive(Clone, Copy, Debug, PartialEq, Eq, Error)]
+pub enum ShowError {
+    /// The file is refused.
+    #[error("{0}")]
+    File(ReadError),
+    /// The witness is refused.
+    #[error("{0}")]
+    Witness(WitnessError),
+    /// There is no witness, but comments alone.
+    #[error("no witness")]
+    NoWitness,
+    /// The witness doesn't show a bad state of the file's machine.
+    #[error("{0}")]
+    Check(CheckError),
+}
+
+impl From<ReadError> for ShowError {
+    ghost from_gives = { λ e r. r ≡ errors.File e };
+
+    fn from(error: ReadError) -> ShowError {
+        ShowError::File(error)
+    }
+}
+
+impl From<WitnessError> for ShowError {
+    ghost from_gives = { λ e r. r ≡ errors.Witness e };
+
+    fn from(error: WitnessError) -> ShowError {
+        ShowError::Witness(error)
+    }
+}
+
+impl From<CheckError> for ShowError {
+    ghost from_gives = { λ e r. r ≡ errors.Check e };
+
+    fn from(error: CheckError) -> ShowError {
+        ShowError::Check(error)
+    }
+}
+
+impl From<AllocError> for ShowError {
+    ghost from_gives = { λ _ r. r ≡ errors.Witness witness.Memory };
+
+    fn from(_error: AllocError) -> ShowError {
+        ShowError::Witness(WitnessError::Memory)
+    }
+}
+
+/// Reads the next witness through a buffer of 4,096 bytes.
+fn read_first<W: Source>(alloc: Global, w: &mut W) -> Result<Witness, ShowError>
+    ensures first { GivesFirst (W.left w.old) result }
+    ensures stream { IsErrOf result (ShowError.Witness WitnessError.Stream)
+        → IsTrue (W.failed w.new) }
+{
+    let mut window = vec![in alloc; 0; WINDOW_SIZE]?;
+    let mut bytes = Buffered::new(w, &mut window);
+    match read_witness(alloc, &mut bytes)? {
+        Some(witness) => Ok(witness),
+        None => Err(ShowError::NoWitness),
+    }
+}
+
+/// Reads a circuit from the bytes of an AIGER file, and the next witness of another stream, and checks that this shows a bad
+/// state of the file's machine: that every run with its values is from a start, meets each constraint at each step, and has
+/// the bad literal that it names at its last step. Answers which bad state property that is, and at which step. Asks
+/// `1 <= limit <= 2^31`.
+///
+/// An unknown value may be either. What follows the witness is not checked: for several witnesses of one file, read each by
+/// `read_witness` and check it by `check_circuit`.
+///
+/// # Errors
+///
+/// `File` where the file is refused, `Witness` where the witness is, and `NoWitness` where its stream has comments alone;
+/// `Check` names the fault of a witness that doesn't show a bad state, or doesn't for every value that is unknown.
+pub fn check_witness<R: Source, W: Source>(
+    alloc: Global,
+    r: &mut R,
+    limit: usize,
+    w: &mut W,
+) -> Result<Shown, ShowError>
+    requires some { 1 ≤ limit }
+    requires few { limit ≤ 2 ^ 31 }
+    ensures answer { Answers limit (R.left r.old) (R.left r.new) (W.left w.old) result }
+    // Stream only where a read failed in this call.
+    ensures file_stream { IsErrOf result (ShowError.File ReadError.Stream) → IsTrue (R.failed r.new) }
+    ensures witness_stream { IsErrOf result (ShowError.Witness WitnessError.Stream)
+        → IsTrue (W.failed w.new) }
+{
+    known_witnesses_show();
+    let lists = aig_reader::read(alloc, r, limit)?;
+    let witness = read_first(alloc, w)?;
+    check_circuit(&lists, &witness)?;
+    Ok(Shown {
+        bad: witness.bad as usize,
+        step: witness.steps.len() - 1,
+    })
+}
