@@ -26,8 +26,6 @@ CRATES = HERE.parent / "crates"
 
 # Calls that ask for no memory, though they answer a result.
 ASK_NOTHING = {"write_text", "to_file"}
-# Calls that first ask for as much as an iterator hints at, and then, if that is refused, for less.
-ASK_AGAIN = {"trivial_new_ands_node", "new_ands_node", "trivial_new_ors_node", "new_ors_node"}
 # What a refused call answers, where it isn't `Err(Memory)`.
 REFUSALS = {"clone": "Err(AllocError)"}
 # Calls that read a file first, and the call that reads the same file alone.
@@ -149,7 +147,7 @@ class Calls:
             wanted = (receiver, self.refusal(name, refused, reading), receiver)
             if not ended.status and not ended.err and parts(ended.out) == wanted:
                 refusals += 1
-            elif name not in ASK_AGAIN or ended.whole() != (0, ample.stdout, b""):
+            else:
                 wrong.append(f"{name}, request {refused}: status {ended.status}, {ended.out[-300:]}, {ended.err}")
         if ended.whole() != (0, ample.stdout, b""):
             wrong.append(f"{name}: another answer without a refusal")

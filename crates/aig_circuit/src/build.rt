@@ -304,5 +304,9 @@ pub fn trivial_new_ors_node(
 fn inverses_of(alloc: Global, edges: &[AigEdge]) -> Result<Vec<AigEdge>, MemoryError>
     ensures { IfOk result (λ inverses. inverses.items ≡ map inverse edges.now) }
 {
-    Ok(edges.iter().map(|e| !*e).collect(alloc)?)
+    let mut inverses = Vec::with_capacity(alloc, edges.len())?;
+    for e in edges {
+        inverses.push(!*e)?;
+    }
+    Ok(inverses)
 }

@@ -230,5 +230,9 @@ fn collect_edges<I: IntoIterator<Item = AigEdge>>(
     ensures { IfOk result (λ items. TakesItems I.into_iter_gives I.IntoIter.next_gives edges
         (λ es. items.items ≡ es)) }
 {
-    Ok(edges.into_iter().collect(alloc)?)
+    let mut items = Vec::new(alloc);
+    for e in edges {
+        items.push(e)?;
+    }
+    Ok(items)
 }
