@@ -1,6 +1,6 @@
 //! No bad state at a step.
 
-ghost use Rattle.std.specs.Prelude.{◌≡◌, ◌^◌, ◌≤◌, IfOk};
+ghost use Rattle.std.specs.Prelude.{◌≡◌, ◌^◌, ◌≤◌, IfOk, IsErrOf, IsTrue};
 ghost use Rattle.aig_answers.specs.Answers.{IsAsked, IsOfFileAlone, TellsOfFile};
 ghost use Rattle.aig_certify.specs.Safety.{IsSafeAt};
 ghost use Rattle.aig_reader.specs.Reading.{IsOfFile};
@@ -9,7 +9,7 @@ use crate::error::AnswerError;
 use aig_base::Source;
 use aig_certify::refuted_queries_have_no_witness;
 use aig_encode::query;
-use aig_refutation::check_refutation;
+use aig_refutation::{RefutationError, check_refutation};
 use std::alloc::Global;
 
 /// Reads a circuit from the bytes of an AIGER file, and checks a proof, in the LRAT format, that the clauses of its query for
@@ -33,6 +33,9 @@ pub fn check_step<R: Source, P: Source>(
         (R.left r.old) (R.left r.new)) }
     ensures file { TellsOfFile R.left R.failed limit k result r.old r.new }
     ensures unread { IsOfFileAlone result → proof.new ≡ proof.old }
+    // Stream only where a read failed in this call.
+    ensures proof_stream { IsErrOf result (AnswerError.Refutation RefutationError.Stream)
+        → IsTrue (P.failed proof.new) }
 {
     refuted_queries_have_no_witness();
     let asked = query(alloc, r, limit, k, optimize)?;

@@ -1,6 +1,6 @@
 //! Windows of steps that keep a machine safe.
 
-ghost use Rattle.std.specs.Prelude.{◌≡◌, ◌≢◌, ◌+◌, ◌*◌, ◌<◌, ◌≤◌, ◌^◌, ◌↔◌, ◌++◌, [], false, IfErr, IfOk, IsErrOf, IsOk, OnOk, length, replicate};
+ghost use Rattle.std.specs.Prelude.{◌≡◌, ◌≢◌, ◌+◌, ◌*◌, ◌<◌, ◌≤◌, ◌^◌, ◌↔◌, ◌++◌, [], false, IfErr, IfOk, IsErrOf, IsOk, IsTrue, OnOk, length, replicate};
 ghost use Rattle.std.specs.Io.KnownBytes.{IsAtEnd};
 ghost use Rattle.aig_answers.specs.Answers.{IsAsked, IsOfCircuit, IsOfFileAlone, IsOfWindow, IsWantOfRoom, TellsOfFile};
 ghost use Rattle.aig_base.specs.Clauses.{AreBelow};
@@ -17,7 +17,7 @@ use aig::{Aig, AigEdge, PropList};
 use aig_base::{DagCnf, LitVvec, MemoryError, Source};
 use aig_certify::{Window, refuted_windows_are_inductive};
 use aig_encode::EncodeError;
-use aig_refutation::check_refutation;
+use aig_refutation::{RefutationError, check_refutation};
 use std::alloc::Global;
 
 /// The clauses that ask for a window of steps with a bad state first at its end.
@@ -173,6 +173,9 @@ pub fn check_window<R: Source, P: Source>(
         (R.left r.old) (R.left r.new)) }
     ensures file { TellsOfFile R.left R.failed limit (k + 1) result r.old r.new }
     ensures unread { IsOfFileAlone result → proof.new ≡ proof.old }
+    // Stream only where a read failed in this call.
+    ensures proof_stream { IsErrOf result (AnswerError.Refutation RefutationError.Stream)
+        → IsTrue (P.failed proof.new) }
 {
     refuted_windows_are_inductive();
     let asked = window(alloc, r, limit, k, optimize, form)?;

@@ -1,16 +1,15 @@
 -- An assignment under which states differ, with values for the free variables that say so.
-use Rattle.std.proofs.Common.{◌≡◌, ◌≢◌, ℕ, zero, suc, ◌+◌, ◌-◌, ◌*◌, ◌<◌, ◌≤◌, Bool, true, false, cond, not, ◌||◌, List, [], ◌∷◌, ◌++◌, length, IsTrue, refl, sym, ap, subst, ◌∙◌, inl, inr, arith}
-use Rattle.std.specs.Prelude.{All, nat_eq}
-use Rattle.std.specs.List.{AllByRecursion, AllZip, list_any}
+use Rattle.std.proofs.Common.{◌≡◌, ℕ, zero, suc, ◌+◌, ◌*◌, ◌<◌, ◌≤◌, Bool, true, false, cond, not, ◌||◌, List, [], ◌∷◌, ◌++◌, length, IsTrue, refl, sym, ap, ◌∙◌, arith}
+use Rattle.std.specs.Prelude.{nat_eq}
+use Rattle.std.specs.List.{AllByRecursion}
 use Rattle.std.proofs.Math.Nat.{add-mul}
 use Rattle.std.proofs.Math.Dec.{eqb}
-use Rattle.std.proofs.lemmas.Bool.{cases_lt, ne_eqb}
 use Rattle.std.proofs.lemmas.Bool.Decides.{nat_tests}
 use Rattle.aig_base.specs.declared.logic.literal.Lit.{Lit}
-use Rattle.aig_base.specs.Clauses.{is_true_clause, lit_to, literal_value, variable_of, with_polarity}
+use Rattle.aig_base.specs.Clauses.{is_true_clause, lit_to, literal_value, variable_of}
 use Rattle.aig_base.proofs.Literals.{literal_value-lit_to, variable_of-lit_to}
 use Rattle.aig_circuit.specs.declared.edge.AigEdge.{AigEdge}
-use Rattle.aig_circuit.specs.Edge.{edge_to, inverse, inverted_if, lit_of}
+use Rattle.aig_circuit.specs.Edge.{inverse, inverted_if}
 use Rattle.aig_cnf.specs.Cnf.{edge_in}
 use Rattle.aig_cnf.proofs.Forms.{literal_value-lit_of}
 use Rattle.aig_format.proofs.Entries.{rec_append}

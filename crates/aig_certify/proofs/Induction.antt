@@ -1,5 +1,5 @@
 -- A machine that is safe for some steps, and kept safe by each window of steps, is safe.
-use Rattle.std.proofs.Common.{◌≡◌, ℕ, zero, suc, ◌+◌, ◌-◌, ◌<◌, ◌≤◌, Bool, subst, inl, inr, ap, ◌∙◌, arith}
+use Rattle.std.proofs.Common.{◌≡◌, ℕ, zero, suc, ◌+◌, ◌-◌, ◌<◌, ◌≤◌, Bool, subst, inl, inr, arith}
 use Rattle.std.proofs.lemmas.Bool.{cases_lt}
 use Rattle.aig_format.specs.File.{File}
 use Rattle.aig_format.specs.Machine.{IsRun, IsStart, Moves}
@@ -8,7 +8,7 @@ use Rattle.aig_runs.proofs.Safety.{run_cut}
 use Rattle.aig_certify.specs.declared.window.Window.{Window}
 use Rattle.aig_certify.specs.declared.window.Window.TheVariants.{Plain, Distinct}
 use Rattle.aig_certify.specs.Safety.{IsConstrained, IsGood}
-use Rattle.aig_certify.specs.Induction.{HasDistinctStates, IsKInductive, IsSameState, IsWindow}
+use Rattle.aig_certify.specs.Induction.{IsKInductive, IsSameState}
 use Rattle.aig_certify.proofs.Splicing.{repeats_or_not, spliced, spliced-after, spliced_each, spliced_run, spliced_start}
 
 -- the steps of a run from step s on

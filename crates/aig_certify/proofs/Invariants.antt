@@ -1,8 +1,7 @@
 -- An inductive invariant holds at each step of a run from a start.
-use Rattle.std.proofs.Common.{◌≡◌, ℕ, zero, suc, ◌+◌, ◌<◌, ◌≤◌, Bool, IsTrue, ap, subst, arith, add-one}
-use Rattle.std.specs.List.{AllByRecursion}
+use Rattle.std.proofs.Common.{◌≡◌, ℕ, zero, suc, ◌+◌, ◌≤◌, Bool, IsTrue, subst, arith}
 use Rattle.aig_format.specs.File.{File}
-use Rattle.aig_format.specs.Machine.{IsRun, IsStart, IsStep, Moves, literal_value}
+use Rattle.aig_format.specs.Machine.{IsRun, IsStart, Moves}
 use Rattle.aig_runs.specs.Queries.{IsSafeTo}
 use Rattle.aig_certify.specs.Inductive.{IsInductive}
 use Rattle.aig_certify.specs.Safety.{IsConstrained}

@@ -5,3 +5,4 @@ mod Induction
 mod Differing
 pub mod Below
 mod Windows
+mod Examples

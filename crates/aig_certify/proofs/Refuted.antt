@@ -1,6 +1,5 @@
 -- Both lists of clauses as one.
-use Rattle.std.proofs.Common.{◌≡◌, ◌↔◌, ℕ, ◌≤◌, Bool, ◌&&◌, IsTrue, List, [], ◌∷◌, ◌++◌, refl, sym, ◌∙◌, arith}
-use Rattle.std.specs.Prelude.{All}
+use Rattle.std.proofs.Common.{ℕ, Bool, IsTrue, List, [], ◌∷◌, ◌++◌, refl, ◌∙◌}
 use Rattle.std.proofs.lemmas.Bool.{and_from}
 use Rattle.std.proofs.lemmas.List.Elements.{All-head, All-tail}
 use Rattle.std.proofs.lemmas.List.Folds.{list_all-append}
@@ -9,7 +8,7 @@ use Rattle.aig_base.specs.Clauses.{Satisfies, are_true, is_true_clause}
 use Rattle.aig_circuit.specs.Circuit.{Circuit}
 use Rattle.aig_format.specs.File.{File}
 use Rattle.aig_base.specs.Formula.{clauses_in, IsSatisfiable}
-use Rattle.aig_runs.specs.Queries.{Asks, IsRefuted, IsSafeTo}
+use Rattle.aig_runs.specs.Queries.{Asks, IsRefuted}
 use Rattle.aig_certify.specs.Safety.{IsSafeAt}
 
 pub clauses_in_true : (v : ℕ → Bool) (lists : List (List (List Lit))) → Satisfies v lists → IsTrue (are_true v (clauses_in lists))

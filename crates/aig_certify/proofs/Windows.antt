@@ -1,23 +1,21 @@
 -- The clauses of a window, which a window that ends badly satisfies.
-use Rattle.std.proofs.Common.{◌≡◌, ℕ, zero, suc, ◌+◌, ◌*◌, ◌/◌, ◌<◌, ◌≤◌, Bool, true, false, not, Some, List, [], ◌∷◌, ◌++◌, length, map, take, drop, get_or, IsTrue, refl, sym, ap, subst, ◌∙◌, arith, length-take, length-drop}
+use Rattle.std.proofs.Common.{◌≡◌, ℕ, zero, suc, ◌+◌, ◌*◌, ◌/◌, ◌<◌, ◌≤◌, Bool, false, not, Some, List, [], ◌∷◌, ◌++◌, length, map, take, drop, get_or, IsTrue, refl, sym, ap, subst, ◌∙◌, arith, length-drop}
 use Rattle.std.specs.Prelude.{All, replicate, slice_get}
-use Rattle.std.specs.List.{AllByRecursion, AllZip, flat_map, list_any}
+use Rattle.std.specs.List.{AllByRecursion, AllZip, list_any}
 use Rattle.std.proofs.lemmas.Bool.{false_from_ne_true}
 use Rattle.std.proofs.Math.Nat.{mul-le-mul_right}
 use Rattle.std.proofs.lemmas.List.{append-nil, length-map, length-take-le}
-use Rattle.std.proofs.lemmas.List.Elements.{All-append, All-drop, All-from_recursion, All-map, All-replicate, All-take, All-weaker, recursion_from_All}
+use Rattle.std.proofs.lemmas.List.Elements.{All-append, All-from_recursion, All-map, All-replicate, All-weaker, recursion_from_All}
 use Rattle.std.proofs.lemmas.Option.{same_Some, slice_get_within}
 use Rattle.aig_base.specs.declared.logic.literal.Lit.{Lit}
 use Rattle.aig_base.specs.Clauses as clauses
 use Rattle.aig_base.specs.Clauses.{AreRelations, Satisfies, are_true, is_true_clause, variable_of}
 use Rattle.aig_base.specs.Formula.{clauses_in, IsSatisfiable}
-use Rattle.aig_base.proofs.Literals.{variable_of-lit_to}
 use Rattle.aig_circuit.specs.declared.edge.AigEdge.{AigEdge}
 use Rattle.aig_circuit.specs.declared.node.AigLatch.{AigLatch}
-use Rattle.aig_circuit.specs.declared.node.AigNodeType.TheVariants.{Leaf}
 use Rattle.aig_circuit.specs.Edge.{edge_to, inverse, lit_of}
 use Rattle.aig_circuit.specs.Circuit.{Circuit, IsCircuit, IsInRange, IsLatch, latch_leaves}
-use Rattle.aig_circuit.specs.Tree.{edge_value, node_value}
+use Rattle.aig_circuit.specs.Tree.{edge_value}
 use Rattle.aig_circuit.proofs.Trees.{kind_at-within}
 use Rattle.aig_cnf.specs.Cnf.{FixesRoots, IsFixed, NodeValuesSatisfy, edge_in}
 use Rattle.aig_format.specs.File.{File, LatchLine}
@@ -42,7 +40,7 @@ use Rattle.aig_certify.specs.declared.window.Window.{Window}
 use Rattle.aig_certify.specs.declared.window.Window.TheVariants.{Plain, Distinct}
 use Rattle.aig_certify.specs.Safety.{IsConstrained, IsGood}
 use Rattle.aig_certify.specs.Induction.{HasDistinctStates, IsKInductive, IsWindow}
-use Rattle.aig_certify.specs.WindowClauses.{AsksWindow, count_free, distinct_clauses, induction_clauses, state_at, state_edges, watched, window_clauses}
+use Rattle.aig_certify.specs.WindowClauses.{AsksWindow, count_free, distinct_clauses, induction_clauses, state_at, state_edges, watched}
 use Rattle.aig_certify.proofs.Refuted.{both_true}
 use Rattle.aig_certify.proofs.Below.{induction_below, states_below}
 use Rattle.aig_certify.proofs.Differing.{Agree, AreEdgesBelow, AreEqual, IsBelow, distinct_extends, edge_in-inverse, hold_alike}
