@@ -19,7 +19,7 @@ clause_words false = codes "raw" ∷ []
 abbrev pub setting_words : Window → Bool → List (List ℕ)
 setting_words form optimize = form_words form ++ clause_words optimize
 
--- the words give the command: its name, FILE, K, PROOF if it wants one, and the settings
+-- the words give the command: its name, FILE, K, PROOF if it wants one, and the settings; or FILE and WITNESS
 abbrev pub Give : List (List ℕ) → Command → Type 0
 Give words (commands.Window k form optimize) =
     (file steps : List ℕ) × (words ≡ codes "window" ∷ file ∷ steps ∷ setting_words form optimize) × IsNumber k steps
@@ -27,15 +27,18 @@ Give words (commands.Refuted k optimize) =
     (file steps proof : List ℕ) × (words ≡ codes "refuted" ∷ file ∷ steps ∷ proof ∷ clause_words optimize) × IsNumber k steps
 Give words (commands.Inductive k form optimize) =
     (file steps proof : List ℕ) × (words ≡ codes "inductive" ∷ file ∷ steps ∷ proof ∷ setting_words form optimize) × IsNumber k steps
+Give words commands.Run = (file witness : List ℕ) × (words ≡ codes "run" ∷ file ∷ witness ∷ [])
 
 -- how many words there are at least
 abbrev pub needed_words : Command → ℕ
 needed_words (commands.Window k form optimize) = 3
 needed_words (commands.Refuted k optimize) = 4
 needed_words (commands.Inductive k form optimize) = 4
+needed_words commands.Run = 3
 
--- the step that it names
+-- the step that it names, and 0 where it names none
 abbrev pub step_of : Command → ℕ
 step_of (commands.Window k form optimize) = k
 step_of (commands.Refuted k optimize) = k
 step_of (commands.Inductive k form optimize) = k
+step_of commands.Run = 0

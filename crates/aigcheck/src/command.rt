@@ -34,6 +34,8 @@ pub enum Command {
         /// Whether exclusive ors and choices have clauses of their own.
         optimize: bool,
     },
+    /// Check that a witness shows a bad state.
+    Run,
 }
 
 /// The form of windows, and whether to optimise clauses, that the last words give.
@@ -51,8 +53,8 @@ fn settings(words: &[String]) -> Option<(Window, bool)> {
 
 /// The command that the words after the program's name give, or none where they are wrong.
 ///
-/// The word after the command's name is FILE, then K, and of `refuted` and `inductive` the word after that is PROOF. It takes
-/// no memory.
+/// The word after the command's name is FILE. Of `run` the next is WITNESS; of the others it is K, and of `refuted` and
+/// `inductive` the word after that is PROOF. It takes no memory.
 pub fn parse(words: &[String]) -> Option<Command>
     ensures words { IfSome result (λ c. needed_words c ≤ length words.now) }
     ensures small { IfSome result (λ c. step_of c < 2 ^ 32) }
@@ -61,6 +63,9 @@ pub fn parse(words: &[String]) -> Option<Command>
         return None;
     };
     let name = name.as_str();
+    if name == "run" && rest.is_empty() {
+        return Some(Command::Run);
+    }
     let k = steps(k.as_str())?;
     if name == "window" {
         let (form, optimize) = settings(rest)?;

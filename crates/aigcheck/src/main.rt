@@ -1,4 +1,4 @@
-//! `aigcheck` checks proofs about the machines of AIGER files, and prints the clauses that such proofs are of.
+//! `aigcheck` checks proofs and witnesses about the machines of AIGER files, and prints the clauses that such proofs are of.
 #![tactic(auto)]
 
 ghost use Rattle.std.specs.Prelude.{◌<◌, ◌≤◌, ◌^◌, length};
@@ -14,10 +14,10 @@ use std::io::{ErrorKind, Write};
 use std::process::ExitCode;
 use std::rt::{Env, Files};
 use std::{env, io};
-pub use tool::{CheckError, print_inductive, print_refuted, print_window};
+pub use tool::{CheckError, print_inductive, print_refuted, print_run, print_window};
 
 const USAGE: &str = "usage: aigcheck window FILE K [distinct] [raw], refuted FILE K PROOF [raw], \
-    inductive FILE K PROOF [distinct] [raw]";
+    inductive FILE K PROOF [distinct] [raw], run FILE WITNESS";
 
 /// The words after the program's name.
 fn words(rt: &(impl Env + AllocGlobal)) -> io::Result<Vec<String>> {
@@ -59,6 +59,10 @@ fn print(
         Command::Inductive { k, form, optimize } => {
             let mut proof = open(rt, words[3].as_str())?;
             print_inductive(alloc, k, form, optimize, &mut r, &mut proof, &mut sink)?;
+        }
+        Command::Run => {
+            let mut witness = open(rt, words[2].as_str())?;
+            print_run(alloc, &mut r, &mut witness, &mut sink)?;
         }
     }
     match sink.into_inner().flush() {

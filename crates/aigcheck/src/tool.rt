@@ -1,8 +1,8 @@
 //! What the commands do with the bytes of a file and of a proof.
 
-ghost use Rattle.std.specs.Prelude.{◌≡◌, ◌<◌, ◌^◌, ◌++◌, ◌∷◌, [], decimal};
+ghost use Rattle.std.specs.Prelude.{◌≡◌, ◌<◌, ◌^◌, ◌++◌, ◌∷◌, [], None, decimal};
 ghost use Rattle.aig_writer.specs.Sinks.{BuffersOrStops, WritesOrStops};
-ghost use Rattle.aigcheck.specs.Running.{Runs};
+ghost use Rattle.aigcheck.specs.Running.{Runs, shown_line};
 ghost use Rattle.aigcheck.specs.declared.tool.CheckError.TheVariants as errors;
 
 use crate::command::Command;
@@ -10,6 +10,7 @@ use aig_answers::{AnswerError, Window, check_step, check_window, window};
 use aig_base::{Sink, Source, StreamFault};
 use aig_certify::inductive_windows_are_safe;
 use aig_dimacs::write_dimacs;
+use aig_witness_check::{ShowError, Shown, check_witness};
 use aig_writer::OutputBuffer;
 use std::alloc::Global;
 use thiserror::Error;
@@ -29,6 +30,9 @@ pub enum CheckError {
     /// There is no answer.
     #[error("{0}")]
     Answer(AnswerError),
+    /// The witness shows no bad state.
+    #[error("{0}")]
+    Show(ShowError),
     /// The answer wasn't written.
     #[error("write failed")]
     Write,
@@ -39,6 +43,14 @@ impl From<AnswerError> for CheckError {
 
     fn from(error: AnswerError) -> CheckError {
         CheckError::Answer(error)
+    }
+}
+
+impl From<ShowError> for CheckError {
+    ghost from_gives = { λ e r. r ≡ errors.Show e };
+
+    fn from(error: ShowError) -> CheckError {
+        CheckError::Show(error)
     }
 }
 
@@ -74,6 +86,31 @@ fn write_line<W: Sink>(w: &mut W, text: &[u8], k: usize) -> Result<(), StreamFau
     buffer.flush(w)
 }
 
+/// Buffers the line of a bad state that is shown.
+fn buffer_shown<W: Sink>(
+    buffer: &mut OutputBuffer,
+    w: &mut W,
+    shown: Shown,
+) -> Result<(), StreamFault>
+    ensures { let line = shown_line shown.bad shown.step in
+        BuffersOrStops W.held W.failed buffer.old w.old result line buffer.new w.new }
+{
+    buffer.write_bytes(w, b"b")?;
+    buffer.write_number(w, shown.bad, b' ')?;
+    buffer.write_bytes(w, b"at step ")?;
+    buffer.write_number(w, shown.step, b'\n')
+}
+
+/// Writes the line of a bad state that is shown.
+fn write_shown<W: Sink>(w: &mut W, shown: Shown) -> Result<(), StreamFault>
+    ensures { let line = shown_line shown.bad shown.step in
+        WritesOrStops W.held W.failed w.old result line w.new }
+{
+    let mut buffer = OutputBuffer::new();
+    buffer_shown(&mut buffer, w, shown)?;
+    buffer.flush(w)
+}
+
 /// Prints the clauses that ask for a window of a file's machine. Asks that `k` is below 2^32.
 pub fn print_window<R: Source, W: Sink>(
     alloc: Global,
@@ -85,7 +122,7 @@ pub fn print_window<R: Source, W: Sink>(
 ) -> Result<(), CheckError>
     requires { k < 2 ^ 32 }
     ensures { let command = Command.Window k form optimize in
-        Runs R.left R.failed W.held W.failed command LIMIT r.old w.old result r.new w.new }
+        Runs R.left R.failed W.held W.failed command LIMIT None r.old w.old result r.new w.new }
 {
     let asked = window(alloc, r, LIMIT, k, optimize, form)?;
     Ok(write_dimacs(w, &asked.clauses, &asked.further)?)
@@ -101,7 +138,8 @@ pub fn print_refuted<R: Source, P: Source, W: Sink>(
     w: &mut W,
 ) -> Result<(), CheckError>
     ensures { let command = Command.Refuted k optimize in
-        Runs R.left R.failed W.held W.failed command LIMIT r.old w.old result r.new w.new }
+        Runs R.left R.failed W.held W.failed command LIMIT (P.left proof.old)
+        r.old w.old result r.new w.new }
 {
     check_step(alloc, r, LIMIT, k, optimize, proof)?;
     Ok(write_line(w, b"no bad state at step ", k)?)
@@ -120,9 +158,26 @@ pub fn print_inductive<R: Source, P: Source, W: Sink>(
 ) -> Result<(), CheckError>
     requires { k < 2 ^ 32 }
     ensures { let command = Command.Inductive k form optimize in
-        Runs R.left R.failed W.held W.failed command LIMIT r.old w.old result r.new w.new }
+        Runs R.left R.failed W.held W.failed command LIMIT (P.left proof.old)
+        r.old w.old result r.new w.new }
 {
     inductive_windows_are_safe();
     check_window(alloc, r, LIMIT, k, optimize, form, proof)?;
     Ok(write_line(w, b"no bad state at any step, if none up to step ", k)?)
+}
+
+/// Checks that a witness shows a bad state of a file's machine, and prints which bad state property that is, and at which
+/// step.
+pub fn print_run<R: Source, P: Source, W: Sink>(
+    alloc: Global,
+    r: &mut R,
+    witness: &mut P,
+    w: &mut W,
+) -> Result<(), CheckError>
+    ensures { let command = Command.Run in
+        Runs R.left R.failed W.held W.failed command LIMIT (P.left witness.old)
+        r.old w.old result r.new w.new }
+{
+    let shown = check_witness(alloc, r, LIMIT, witness)?;
+    Ok(write_shown(w, shown)?)
 }

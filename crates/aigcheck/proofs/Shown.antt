@@ -1,0 +1,17 @@
+-- Of a file, a bad state of which is shown, something is asked.
+use Rattle.std.proofs.Common.{◌≡◌, ◌≢◌, ℕ, Some, None, List, [], ◌∷◌, arith}
+use Rattle.std.specs.Prelude.{slice_get}
+use Rattle.aig_format.specs.File.{File}
+use Rattle.aig_format.specs.Fits.{Accepts}
+use Rattle.aig_format.proofs.Nodes.{few_nodes}
+use Rattle.aig_witness.specs.Witness.{Witness}
+use Rattle.aig_witness_check.specs.Machine.{ShowsBad}
+use Rattle.aig_answers.specs.Answers.{IsAsked}
+
+-- a list with an entry isn't empty
+some_there : (es : List ℕ) (i e : ℕ) → slice_get es i ≡ Some e → es ≢ []
+some_there [] i e there none = let differ : None ≡ Some e = there in cc
+some_there (x ∷ xs) i e there none = cc
+
+pub asked_of : (f : File) (limit : ℕ) (bytes : List ℕ) (w : Witness) → Accepts bytes limit f → ShowsBad f w → IsAsked limit 0 bytes f
+asked_of f limit bytes w accepts shows = ((accepts, omega (arith, few_nodes f limit accepts.1)), some_there f.bads w.bad shows.named.0 shows.named.1)
