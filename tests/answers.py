@@ -12,7 +12,7 @@ import tempfile
 
 HERE = os.path.dirname(os.path.abspath(__file__))
 FILES = os.path.join(HERE, "answers")
-USAGE = "usage: aigcheck window FILE K [distinct] [raw], refuted FILE K PROOF [raw], inductive FILE K PROOF [distinct] [raw]\n"
+USAGE = "usage: aigcheck window FILE K [distinct] [raw], refuted FILE K PROOF [raw], inductive FILE K PROOF [distinct] [raw], run FILE WITNESS\n"
 
 # What aigcheck says of a faulty proof.
 STEP = "aigcheck: proof step does not follow\n"
@@ -126,7 +126,7 @@ def rows(folder):
         yield words, refused(OPEN)
     wrong = [[], ["window"], ["window", stuck], ["window", stuck, "+1"], ["window", stuck, "4294967296"], ["window", stuck, "0", "x"]]
     wrong += [["window", stuck, "0", "raw", "distinct"], ["refuted", stuck, "0"], ["refuted", stuck, "0", of_stuck, "distinct"]]
-    wrong += [["inductive", stuck, "0"], ["inductive", stuck, "", of_stuck], ["refute", stuck, "0", of_stuck]]
+    wrong += [["inductive", stuck, "0"], ["inductive", stuck, "", of_stuck], ["refute", stuck, "0", of_stuck], ["run", stuck], ["run", stuck, of_stuck, "raw"]]
     for words in wrong:
         yield words, (2, "", USAGE)
 
