@@ -19,14 +19,21 @@ clause_words false = codes "raw" ∷ []
 abbrev pub setting_words : Window → Bool → List (List ℕ)
 setting_words form optimize = form_words form ++ clause_words optimize
 
--- the words give the command: its name, FILE, K, PROOF if it wants one, and the settings; or FILE and WITNESS
-abbrev pub Give : List (List ℕ) → Command → Type 0
-Give words (commands.Window k form optimize) =
+-- the words give a command that names a step: its name, FILE, K, PROOF if it wants one, and the settings
+abbrev pub GiveSteps : List (List ℕ) → Command → Type 0
+GiveSteps words (commands.Window k form optimize) =
     (file steps : List ℕ) × (words ≡ codes "window" ∷ file ∷ steps ∷ setting_words form optimize) × IsNumber k steps
-Give words (commands.Refuted k optimize) =
+GiveSteps words (commands.Refuted k optimize) =
     (file steps proof : List ℕ) × (words ≡ codes "refuted" ∷ file ∷ steps ∷ proof ∷ clause_words optimize) × IsNumber k steps
-Give words (commands.Inductive k form optimize) =
+GiveSteps words (commands.Inductive k form optimize) =
     (file steps proof : List ℕ) × (words ≡ codes "inductive" ∷ file ∷ steps ∷ proof ∷ setting_words form optimize) × IsNumber k steps
+GiveSteps words commands.Run = ⊥
+
+-- the words give the command: one that names a step, or `run` with FILE and WITNESS
+abbrev pub Give : List (List ℕ) → Command → Type 0
+Give words (commands.Window k form optimize) = GiveSteps words (commands.Window k form optimize)
+Give words (commands.Refuted k optimize) = GiveSteps words (commands.Refuted k optimize)
+Give words (commands.Inductive k form optimize) = GiveSteps words (commands.Inductive k form optimize)
 Give words commands.Run = (file witness : List ℕ) × (words ≡ codes "run" ∷ file ∷ witness ∷ [])
 
 -- how many words there are at least

@@ -1,7 +1,9 @@
 //! The commands, and the words that give them.
 
-ghost use Rattle.std.specs.Prelude.{◌<◌, ◌≤◌, ◌^◌, IfSome, length};
-ghost use Rattle.aigcheck.specs.Words.{needed_words, step_of};
+ghost use Rattle.std.specs.Prelude.{◌≡◌, ◌↔◌, ◌<◌, ◌≤◌, ◌^◌, Bool, true, Some, IfSome, length, map, string_bytes};
+ghost use Rattle.aig_certify.specs.declared.window.Window as form;
+ghost use Rattle.aigcheck.specs.Words.{Give, GiveSteps, clause_words, needed_words, setting_words, step_of};
+ghost use Rattle.aigcheck.specs.declared.command.Command.{Command};
 
 use aig_answers::Window;
 use aig_words::steps;
@@ -38,24 +40,46 @@ pub enum Command {
     Run,
 }
 
-/// The form of windows, and whether to optimise clauses, that the last words give.
-fn settings(words: &[String]) -> Option<(Window, bool)> {
+/// Whether to optimise clauses, as the last words say: `raw` or nothing.
+fn clause_setting(words: &[String]) -> Option<bool>
+    ensures { (optimize : Bool) → (result ≡ Some optimize)
+        ↔ (map string_bytes words.now ≡ clause_words optimize) }
+{
     match words {
-        [] => Some((Window::Plain, true)),
-        [word] if word.as_str() == "raw" => Some((Window::Plain, false)),
-        [word] if word.as_str() == "distinct" => Some((Window::Distinct, true)),
-        [first, second] if first.as_str() == "distinct" && second.as_str() == "raw" => {
-            Some((Window::Distinct, false))
-        }
+        [] => Some(true),
+        [word] if word.as_str() == "raw" => Some(false),
         _ => None,
     }
 }
 
-/// The command that the words after the program's name give, or none where they are wrong.
-///
-/// The word after the command's name is FILE. Of `run` the next is WITNESS; of the others it is K, and of `refuted` and
-/// `inductive` the word after that is PROOF. It takes no memory.
-pub fn parse(words: &[String]) -> Option<Command>
+/// The form of windows, and whether to optimise clauses, as the last words say: `distinct` or
+/// nothing, and then `raw` or nothing.
+fn settings(words: &[String]) -> Option<(Window, bool)>
+    ensures { (form : form.Window) → (optimize : Bool) → (result ≡ Some (form, optimize))
+        ↔ (map string_bytes words.now ≡ setting_words form optimize) }
+{
+    match words {
+        [word, rest @ ..] if word.as_str() == "distinct" => {
+            Some((Window::Distinct, clause_setting(rest)?))
+        }
+        _ => Some((Window::Plain, clause_setting(words)?)),
+    }
+}
+
+/// Whether the words give `run`: its name, FILE and WITNESS.
+fn is_run(words: &[String]) -> bool
+    ensures { (result ≡ true) ↔ Give (map string_bytes words.now) Command.Run }
+{
+    match words {
+        [name, _, _] => name.as_str() == "run",
+        _ => false,
+    }
+}
+
+/// The command that the words give, if it is one that names a step: its name, FILE, K, of `refuted` and `inductive` PROOF,
+/// and the settings.
+fn parse_steps(words: &[String]) -> Option<Command>
+    ensures exact { (c : Command) → (result ≡ Some c) ↔ GiveSteps (map string_bytes words.now) c }
     ensures words { IfSome result (λ c. needed_words c ≤ length words.now) }
     ensures small { IfSome result (λ c. step_of c < 2 ^ 32) }
 {
@@ -63,9 +87,6 @@ pub fn parse(words: &[String]) -> Option<Command>
         return None;
     };
     let name = name.as_str();
-    if name == "run" && rest.is_empty() {
-        return Some(Command::Run);
-    }
     let k = steps(k.as_str())?;
     if name == "window" {
         let (form, optimize) = settings(rest)?;
@@ -74,12 +95,28 @@ pub fn parse(words: &[String]) -> Option<Command>
     let [_, rest @ ..] = rest else {
         return None;
     };
-    let (form, optimize) = settings(rest)?;
-    if name == "inductive" {
-        return Some(Command::Inductive { k, form, optimize });
-    }
-    if name == "refuted" && form == Window::Plain {
+    if name == "refuted" {
+        let optimize = clause_setting(rest)?;
         return Some(Command::Refuted { k, optimize });
     }
+    if name == "inductive" {
+        let (form, optimize) = settings(rest)?;
+        return Some(Command::Inductive { k, form, optimize });
+    }
     None
+}
+
+/// The command that the words after the program's name give, or none where they are wrong.
+///
+/// The word after the command's name is FILE. Of `run` the next is WITNESS; of the others it is K, and of `refuted` and
+/// `inductive` the word after that is PROOF. It takes no memory.
+pub fn parse(words: &[String]) -> Option<Command>
+    ensures exact { (c : Command) → (result ≡ Some c) ↔ Give (map string_bytes words.now) c }
+    ensures words { IfSome result (λ c. needed_words c ≤ length words.now) }
+    ensures small { IfSome result (λ c. step_of c < 2 ^ 32) }
+{
+    if is_run(words) {
+        return Some(Command::Run);
+    }
+    parse_steps(words)
 }
