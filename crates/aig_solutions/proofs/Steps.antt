@@ -1,0 +1,41 @@
+-- Rows of values, one for each step, and the bad edges of the last.
+use Rattle.std.proofs.Common.{◌≡◌, ℕ, ◌+◌, ◌*◌, ◌<◌, Bool, false, List, [], ◌∷◌, ◌++◌, length, slice_get, Some, refl, sym, ap, subst, ◌∙◌, arith}
+use Rattle.std.specs.Prelude.{Vec}
+use Rattle.std.specs.declared.alloc.Global.{Global}
+use Rattle.std.proofs.lemmas.List.{map-append}
+use borrow.Author.Count.{below_more}
+use Rattle.aig_base.specs.declared.logic.three.Lbool.{Lbool}
+use Rattle.aig_circuit.specs.declared.edge.AigEdge.{AigEdge}
+use Rattle.aig_circuit.specs.Circuit.{Circuit}
+use Rattle.aig_unroll.specs.Unroll.{UnrollsTo}
+use Rattle.aig_unroll.proofs.Lists.{get_left, get_right}
+use Rattle.aig_witness.specs.Witness.{rows_of}
+
+-- each step before t has its row
+pub record AreRows (row_at : ℕ → List Lbool) (t : ℕ) (rows : List (List Lbool)) : Type 0 where
+  pub count : length rows ≡ t
+  pub each : (s : ℕ) → s < t → slice_get rows s ≡ Some (row_at s)
+
+-- one row more
+pub rows_more : (row_at : ℕ → List Lbool) (t : ℕ) (old made : List (Vec Lbool Global)) (row : Vec Lbool Global) → AreRows row_at t (rows_of old) → made ≡ old ++ row ∷ [] → row.items ≡ row_at t → AreRows row_at (t + 1) (rows_of made)
+rows_more row_at t old made row rows is here =
+    let whole : rows_of made ≡ rows_of old ++ row_at t ∷ [] = ap rows_of is ∙ map-append (λ (list : Vec Lbool Global). list.items) old (row ∷ []) ∙ ap (λ r. rows_of old ++ r ∷ []) here in
+    let last : t ≡ length (rows_of old) + 0 = omega (arith, rows.count) in
+    subst (AreRows row_at (t + 1)) (sym whole) (record {
+      count = length_more (rows_of old) (row_at t) ∙ ap (λ n. n + 1) rows.count;
+      each = below_more (λ s. slice_get (rows_of old ++ row_at t ∷ []) s ≡ Some (row_at s)) t (λ s lt. get_left (rows_of old) (row_at t ∷ []) s (row_at s) (rows.each s lt)) (get_right (rows_of old) (row_at t ∷ []) 0 t last);
+    })
+  where
+    length_more : (xs : List (List Lbool)) (x : List Lbool) → length (xs ++ x ∷ []) ≡ length xs + 1
+    length_more [] x = refl
+    length_more (y ∷ ys) x = let more = length_more ys x in omega arith
+
+-- ---- bad edges
+
+-- those of step k are the last of so many
+pub bads_room : (c u : Circuit) (k : ℕ) (old new : List AigEdge) → UnrollsTo c k u → old ≡ c.bads → new ≡ u.bads → k * length old + length old ≡ length new
+bads_room c u k old new unrolls is_old is_new =
+    let y : ℕ → Bool = λ n. false in
+    let r = unrolls.run_of y in
+    let count = (unrolls.same y r.0 r.1 r.2).bads.count in
+    rw (is_old, is_new) (omega (arith, count))

@@ -1,0 +1,139 @@
+-- The turns of leaves among those that are no latch's.
+use Rattle.std.proofs.Common.{◌≡◌, ◌≢◌, ℕ, zero, suc, ◌+◌, ◌-◌, ◌*◌, ◌<◌, ◌≤◌, Bool, true, false, cond, not, eqb, ◌&&◌, List, [], ◌∷◌, length, map, get_or, take, refl, sym, ap, subst, ◌∙◌, arith, add-one}
+use Rattle.std.specs.Prelude.{◌==◌, Contains, count_by, filter}
+use Rattle.std.specs.List.{list_any}
+use Rattle.std.proofs.lemmas.Bool.{and_from, eq-eqb, false_from_ne_true, ne_eqb}
+use Rattle.std.proofs.lemmas.List.Elements.{All-contains, All-filter, Contains-get_or, filter_passes}
+use Rattle.std.proofs.lemmas.List.Sums.{count_by_more_no, count_by_more_yes, length-filter}
+use Rattle.std.proofs.lemmas.Option.{slice_get-get_or}
+use Rattle.aig_circuit.specs.declared.node.AigNode.{AigNode}
+use Rattle.aig_circuit.specs.Circuit.{AreNodes, Circuit, IsLeaf, latch_leaves}
+use Rattle.aig_circuit.specs.declared.node.AigNodeType.TheVariants.{Leaf}
+use Rattle.aig_circuit.specs.Runs.{is_leaf}
+use Rattle.aig_circuit.proofs.Counting.{is_leaf-Leaf}
+use Rattle.aig_circuit.proofs.Trees.{kind_at-within}
+use Rattle.aig_circuit.specs.Renumber.{is_in, place_of}
+use Rattle.aig_renumber.proofs.Places.{Contains-map_back, place_of-within}
+use Rattle.aig_unroll.proofs.Others.{others-are}
+use Rattle.aig_unroll.specs.Places.{is_other_leaf, other_leaves, place_at}
+use Rattle.aig_solutions.specs.Turns.{CountsOthers, HasStep, HasTurns, MarksLatches}
+
+-- ---- turns
+
+-- the place of a number among those of the nodes that pass is how many pass before it
+place_of-passing : (test : AigNode → Bool) (nodes : List AigNode) (first k : ℕ) (d : AigNode) → ((i : ℕ) (e : AigNode) → i < length nodes → (get_or nodes i e).node_id ≡ first + i) → k < length nodes → test (get_or nodes k d) ≡ true
+    → place_of (map (λ (node : AigNode). node.node_id) (filter test nodes)) (first + k) ≡ length (filter test (take k nodes))
+place_of-passing test [] first k d numbered h passes = absurd (omega arith)
+place_of-passing test (x ∷ xs) first zero d numbered h passes =
+    let here : eqb x.node_id (first + zero) ≡ true = eq-eqb x.node_id (first + zero) (numbered zero x (omega arith)) in
+    rw (passes, here) refl
+place_of-passing test (x ∷ xs) first (suc k) d numbered h passes =
+    by_test (test x) (place_of-passing test xs (suc first) k d (λ i e lt. let is = numbered (suc i) e (omega arith) in omega (arith, is)) (omega arith) passes)
+  where
+    number : AigNode → ℕ
+    number node = node.node_id
+
+    rest : List ℕ
+    rest = map (λ (node : AigNode). node.node_id) (filter test xs)
+
+    next : first + suc k ≡ suc first + k
+    next = omega arith
+
+    by_test : (b : Bool) → place_of rest (suc first + k) ≡ length (filter test (take k xs))
+        → place_of (map (λ (node : AigNode). node.node_id) (cond b (x ∷ filter test xs) (filter test xs))) (first + suc k) ≡ length (cond b (x ∷ filter test (take k xs)) (filter test (take k xs)))
+    by_test true so_far =
+        let is = numbered zero x (omega arith) in
+        let other : eqb x.node_id (first + suc k) ≡ false = ne_eqb x.node_id (first + suc k) (λ e. absurd (omega (arith, e, is))) in
+        rw other (ap (λ m. place_of rest m + 1) next ∙ ap (λ m. m + 1) so_far ∙ add-one _)
+    by_test false so_far = ap (place_of rest) next ∙ so_far
+
+-- what is counted are turns
+pub turns_from : (c : Circuit) (turns : List ℕ) (total : ℕ) → AreNodes c.nodes → CountsOthers c turns → total ≡ count_by (is_other_leaf c) c.nodes → HasTurns c turns total
+turns_from c turns total are counts all = record {
+  all = all ∙ sym (length-filter test c.nodes) ∙ sym (many (filter test c.nodes));
+  count = counts.count;
+  each = turn;
+}
+  where
+    test : AigNode → Bool
+    test = is_other_leaf c
+
+    many : (nodes : List AigNode) → length (map (λ (node : AigNode). node.node_id) nodes) ≡ length nodes
+    many [] = refl
+    many (x ∷ xs) = ap suc (many xs)
+
+    numbered : (i : ℕ) (e : AigNode) → i < length c.nodes → (get_or c.nodes i e).node_id ≡ 0 + i
+    numbered i e h = let is = are.numbered i (get_or c.nodes i e) (slice_get-get_or c.nodes i e h) in omega (arith, is)
+
+    turn : (n : ℕ) → Contains (other_leaves c) n → get_or turns n 0 ≡ place_of (other_leaves c) n
+    turn n has =
+        let from = Contains-map_back (λ (node : AigNode). node.node_id) (filter test c.nodes) n has in
+        let x = from.0 in
+        let passes : test x ≡ true = All-contains (λ (y : AigNode). test y ≡ true) (filter test c.nodes) x (filter_passes test c.nodes) from.1 in
+        let there = All-contains (Contains c.nodes) (filter test c.nodes) x (All-filter test (Contains c.nodes) c.nodes (λ k d h. Contains-get_or c.nodes k d h)) from.1 in
+        let i = there.0 in
+        let number : x.node_id ≡ 0 + i = ap (λ (node : AigNode). node.node_id) (sym there.2) ∙ numbered i x there.1 in
+        let same : i ≡ n = omega (arith, number, from.2) in
+        let place = place_of-passing test c.nodes 0 i x numbered there.1 (ap test there.2 ∙ passes) in
+        let zero_more : 0 + i ≡ i = omega arith in
+        subst (λ m. get_or turns m 0 ≡ place_of (other_leaves c) m) same
+        (counts.each i there.1 ∙ sym (length-filter test (take i c.nodes)) ∙ sym place ∙ ap (place_of (other_leaves c)) zero_more)
+
+-- ---- counting
+
+module _ (c : Circuit) (marks : List Bool) (are : AreNodes c.nodes) (is : MarksLatches c marks) (i : ℕ) (d : AigNode) (e : Bool) (h : i < length c.nodes) where
+  abbrev node : AigNode
+  node = get_or c.nodes i d
+
+  abbrev so_many : ℕ → ℕ
+  so_many n = count_by (is_other_leaf c) (take n c.nodes)
+
+  -- its mark says whether it is a latch's leaf
+  marked : (b : Bool) → get_or marks i e ≡ b → list_any (λ n. n == node.node_id) (latch_leaves c.latchs) ≡ b
+  marked b m = ap (is_in (latch_leaves c.latchs)) (are.numbered i node (slice_get-get_or c.nodes i d h)) ∙ sym (is.each i e h) ∙ m
+
+  pub count_other : node.typ ≡ Leaf → get_or marks i e ≡ false → so_many (i + 1) ≡ so_many i + 1
+  count_other leaf m = count_by_more_yes (is_other_leaf c) c.nodes i d h (and_from (is_leaf node.typ) (not (list_any (λ n. n == node.node_id) (latch_leaves c.latchs))) (ap is_leaf leaf) (ap not (marked false m)))
+
+  pub count_latch : get_or marks i e ≡ true → so_many (i + 1) ≡ so_many i
+  count_latch m = count_by_more_no (is_other_leaf c) c.nodes i d h (ap (λ b. is_leaf node.typ && not b) (marked true m) ∙ and_false (is_leaf node.typ))
+    where
+      and_false : (b : Bool) → (b && false) ≡ false
+      and_false true = refl
+      and_false false = refl
+
+  pub count_inner : node.typ ≢ Leaf → so_many (i + 1) ≡ so_many i
+  count_inner other =
+      let inner : is_leaf node.typ ≡ false = false_from_ne_true (is_leaf node.typ) (λ leaf. other (is_leaf-Leaf node.typ leaf)) in
+      count_by_more_no (is_other_leaf c) c.nodes i d h (ap (λ b. b && not (list_any (λ n. n == node.node_id) (latch_leaves c.latchs))) inner)
+
+-- ---- places
+
+-- the turn of a leaf at a step is within the inputs
+turn_within : (t m turn before all : ℕ) → t ≢ 0 → before + t * m ≤ all → turn < m → before + (t - 1) * m + turn < all
+turn_within zero m turn before all some step lt = absurd (some refl)
+turn_within (suc s) m turn before all some step lt = let less : suc s - 1 ≡ s = omega arith in rw less (omega arith)
+
+module _ (c d u : Circuit) (turns : List ℕ) (total t n : ℕ) (same : d ≡ c) (has : HasTurns d turns total) (leaf : Contains (other_leaves c) n) (step : HasStep c u t) (later : t ≢ 0) where
+  pub leaf_there : AreNodes c.nodes → n < length turns
+  leaf_there are =
+      let other = All-contains (λ m. IsLeaf c.nodes m × ¬ Contains (latch_leaves c.latchs) m) (other_leaves c) n (others-are c are) leaf in
+      let within = kind_at-within c.nodes n Leaf other.0 in
+      omega (arith, within, has.count, ap (λ (x : Circuit). length x.nodes) same)
+
+  turn_is : get_or turns n 0 ≡ place_of (other_leaves c) n
+  turn_is = has.each n (subst (λ (x : Circuit). Contains (other_leaves x) n) (sym same) leaf) ∙ ap (λ (x : Circuit). place_of (other_leaves x) n) same
+
+  total_is : total ≡ length (other_leaves c)
+  total_is = has.all ∙ ap (λ (x : Circuit). length (other_leaves x)) same
+
+  pub place_within : (inputs : List ℕ) → inputs ≡ d.inputs → length inputs + (t - 1) * total + get_or turns n 0 < length u.inputs
+  place_within inputs are =
+      rw (are, same, total_is, turn_is) (turn_within t (length (other_leaves c)) (place_of (other_leaves c) n) (length c.inputs) (length u.inputs) later step (place_of-within (other_leaves c) n leaf))
+
+  pub place_is : (inputs : List ℕ) → inputs ≡ d.inputs → get_or u.inputs (length inputs + (t - 1) * total + get_or turns n 0) 0 ≡ place_at c u t n
+  place_is inputs are = rw (are, same, total_is, turn_is) (by_step t later)
+    where
+      by_step : (s : ℕ) → s ≢ 0 → get_or u.inputs (length c.inputs + (s - 1) * length (other_leaves c) + place_of (other_leaves c) n) 0 ≡ place_at c u s n
+      by_step zero some = absurd (some refl)
+      by_step (suc s) some = let less : suc s - 1 ≡ s = omega arith in rw less refl

@@ -1,0 +1,32 @@
+use Rattle.std.proofs.Common.{◌<◌, ◌+◌, false, length, arith, sym, ap, ◌∙◌}
+use Rattle.std.proofs.lemmas.Bool.{false≢true}
+use Rattle.std.proofs.lemmas.Grind.{common_steps}
+use Rattle.aig_circuit.specs.declared.node.AigNode.{AigNode}
+use Rattle.aig_circuit.specs.declared.node.AigNodeType.TheVariants.{False}
+use Rattle.aig_solutions.proofs.Turning.{count_inner, count_latch, count_other}
+use Rattle.aig_solutions.proofs.places.count_others.Goals.{then-is_leaf+then-not-marks-i, else-is_leaf, else-is_leaf-via-then-is_leaf+else-not-marks-i, else-is_leaf-via-else-is_leaf}
+use Rattle.aig_solutions.proofs.places.count_others.Goals as goal
+
+abbrev none : AigNode
+none = record { node_id = 0; typ = False }
+
+pub loop-i-preserved : goal.loop-i-preserved
+loop-i-preserved c =
+    let circuit = c.args.circuit.now in
+    let marks = c.args.marks.now in
+    let nodes = c.nodes-nodes.ensures.value in
+    let are = c.nodes-nodes.ensures.circuit.nodes in
+    let h : c.loop-i.i < length circuit.nodes = rw nodes at c.loop-i-test.true in
+    let before = rw nodes at c.loop-i.invariant.so_far in
+    let kind = rw nodes at c.is_leaf.ensures in
+    record {
+      so_far = rw nodes (elim c.if-is_leaf.branch [
+        | then-is_leaf+then-not-marks-i w ↦ w.count-is ∙ ap (λ n. n + 1) before ∙ sym (count_other circuit marks are c.requires c.loop-i.i none false h (kind.0 w.if-is_leaf.true) w.if-not-marks-i.true)
+        | else-is_leaf w ↦ elim w.else-is_leaf.branch [
+          | else-is_leaf-via-then-is_leaf+else-not-marks-i w' ↦ w.count-is ∙ before ∙ sym (count_latch circuit marks are c.requires c.loop-i.i none false h w'.if-not-marks-i.false)
+          | else-is_leaf-via-else-is_leaf w' ↦ w.count-is ∙ before ∙ sym (count_inner circuit marks are c.requires c.loop-i.i none false h (λ leaf. false≢true (sym w'.if-is_leaf.false ∙ kind.1 leaf)))
+        ]
+      ]);
+      count = grind (arith, common_steps);
+      each = grind (arith, common_steps);
+    }

@@ -1,0 +1,23 @@
+use Rattle.std.proofs.Common.{arith}
+use Rattle.aig_solutions.proofs.Steps.{bads_room}
+use Rattle.aig_solutions.proofs.witness.witness_of.Goals as goal
+
+pub overflow_mul-first : goal.overflow_mul-first
+overflow_mul-first c =
+    let room = bads_room _ _ c.args.k c.bads.result.now c.bads-bads.result.now c.requires.steps c.bads.ensures.value c.bads-bads.ensures.value in
+    omega (arith, room, c.bads-bads.type_inv.0)
+
+pub offset_bounds-bads-first : goal.offset_bounds-bads-first
+offset_bounds-bads-first c =
+    let room = bads_room _ _ c.args.k c.bads.result.now c.bads-bads.result.now c.requires.steps c.bads.ensures.value c.bads-bads.ensures.value in
+    omega (arith, room, c.bads-bads.type_inv.1)
+
+pub slice_bounds-first_true-count : goal.slice_bounds-first_true-count
+slice_bounds-first_true-count c =
+    let room = bads_room _ _ c.args.k c.bads.result.now c.bads-bads.result.now c.requires.steps c.bads.ensures.value c.bads-bads.ensures.value in
+    omega (arith, room)
+
+pub slice_bounds-first_true-start : goal.slice_bounds-first_true-start
+slice_bounds-first_true-start c =
+    let room = bads_room _ _ c.args.k c.bads.result.now c.bads-bads.result.now c.requires.steps c.bads.ensures.value c.bads-bads.ensures.value in
+    omega (arith, room)

@@ -1,0 +1,205 @@
+//! Reading solvers' answers, as in the SAT competitions.
+
+ghost use Rattle.std.specs.Prelude.{◌≡◌, ◌<◌, ◌≤◌, IfOk, IsErrOf, IsTrue, OnOk, OnSome, length, true, vec_len};
+
+use crate::error::AnswerError;
+use aig_base::{Lbool, Source};
+use aig_lexer::{Buffered, ByteFeed, LexError, WINDOW_SIZE, number_from};
+use std::alloc::Global;
+
+/// The first byte of the next line that is no comment, if there is one.
+fn first_byte<F: ByteFeed>(f: &mut F) -> Result<Option<u8>, AnswerError>
+    ensures stream { IsErrOf result AnswerError.Stream → F.failed f.new ≡ true }
+    ensures same { F.behind f.new ≡ F.behind f.old }
+    ensures fewer { IfOk result (λ o. OnSome o (F.turns f.new < F.turns f.old)) }
+{
+    let mut inside = false;
+    while let Some(b) = f.next()? {
+        if inside {
+            inside = b != b'\n';
+        } else if b == b'c' {
+            inside = true;
+        } else {
+            return Ok(Some(b));
+        }
+    }
+    Ok(None)
+}
+
+/// The next byte of a line of values.
+fn next_byte<F: ByteFeed>(f: &mut F) -> Result<u8, AnswerError>
+    ensures stream { IsErrOf result AnswerError.Stream → F.failed f.new ≡ true }
+    ensures same { F.behind f.new ≡ F.behind f.old }
+    ensures fewer { OnOk result (F.turns f.new < F.turns f.old) }
+{
+    match f.next()? {
+        Some(byte) => Ok(byte),
+        None => Err(AnswerError::Unfinished),
+    }
+}
+
+/// The most bytes that are read of the line of an answer.
+const LONGEST: usize = 16;
+
+/// What stands in a line behind its first byte.
+fn rest_of_line<F: ByteFeed>(alloc: Global, f: &mut F) -> Result<Vec<u8>, AnswerError>
+    ensures stream { IsErrOf result AnswerError.Stream → F.failed f.new ≡ true }
+    ensures same { F.behind f.new ≡ F.behind f.old }
+{
+    let mut rest = Vec::with_capacity(alloc, LONGEST)?;
+    while let Some(b) = f.next()? {
+        if b == b'\n' {
+            return Ok(rest);
+        }
+        if rest.len() == LONGEST {
+            return Err(AnswerError::Answer);
+        }
+        rest.push(b)?;
+    }
+    Err(AnswerError::Answer)
+}
+
+/// Reads the line of an answer, behind comments. Other answers than `SATISFIABLE` are refused.
+fn read_answer<F: ByteFeed>(alloc: Global, f: &mut F) -> Result<(), AnswerError>
+    ensures stream { IsErrOf result AnswerError.Stream → F.failed f.new ≡ true }
+    ensures same { F.behind f.new ≡ F.behind f.old }
+{
+    if first_byte(f)? != Some(b's') {
+        return Err(AnswerError::Answer);
+    }
+    let line = rest_of_line(alloc, f)?;
+    let rest = line.as_slice();
+    if rest == b" SATISFIABLE".as_slice() {
+        Ok(())
+    } else if rest == b" UNSATISFIABLE".as_slice() {
+        Err(AnswerError::Unsatisfiable)
+    } else if rest == b" UNKNOWN".as_slice() {
+        Err(AnswerError::Unknown)
+    } else {
+        Err(AnswerError::Answer)
+    }
+}
+
+/// A literal of a solution, and the byte behind it.
+#[derive(Clone, Copy)]
+struct Word {
+    /// The number of its variable, from 1 on, or 0 for the end of the solution.
+    number: u32,
+    /// Whether it has no minus in front.
+    positive: bool,
+    /// The byte behind it: a space or a line feed.
+    end: u8,
+}
+
+/// Reads the literal that begins with this byte.
+fn read_word<F: ByteFeed>(f: &mut F, first: u8) -> Result<Word, AnswerError>
+    ensures stream { IsErrOf result AnswerError.Stream → F.failed f.new ≡ true }
+    ensures same { F.behind f.new ≡ F.behind f.old }
+    ensures fewer { OnOk result (F.turns f.new < F.turns f.old) }
+{
+    let positive = first != b'-';
+    let digit = if positive { first } else { next_byte(f)? };
+    match number_from(f, digit) {
+        Ok((number, end)) if end == b' ' || end == b'\n' => Ok(Word {
+            number,
+            positive,
+            end,
+        }),
+        Err(LexError::Stream) => Err(AnswerError::Stream),
+        _ => Err(AnswerError::Literal),
+    }
+}
+
+/// Gives the variable of a literal its value.
+fn set_value(values: &mut [Lbool], word: &Word) -> Result<(), AnswerError>
+    ensures { IsErrOf result AnswerError.Stream → ⊥ }
+{
+    let Some(variable) = word.number.checked_sub(1) else {
+        return Err(AnswerError::Literal);
+    };
+    let variable = variable as usize;
+    if variable >= values.len() {
+        return Err(AnswerError::Variable);
+    }
+    let value = if word.positive {
+        Lbool::TRUE
+    } else {
+        Lbool::FALSE
+    };
+    if values[variable] == !value {
+        return Err(AnswerError::Clash);
+    }
+    values[variable] = value;
+    Ok(())
+}
+
+/// Reads the literals of a line, behind its first byte, and says whether the 0 stands there.
+fn read_values<F: ByteFeed>(f: &mut F, values: &mut [Lbool]) -> Result<bool, AnswerError>
+    ensures stream { IsErrOf result AnswerError.Stream → F.failed f.new ≡ true }
+    ensures same { F.behind f.new ≡ F.behind f.old }
+    ensures fewer { OnOk result (F.turns f.new < F.turns f.old) }
+{
+    let mut byte = next_byte(f)?;
+    if byte != b' ' && byte != b'\n' {
+        return Err(AnswerError::Line);
+    }
+    while byte != b'\n' {
+        if byte == b' ' {
+            byte = next_byte(f)?;
+        } else {
+            let word = read_word(f, byte)?;
+            if word.positive && word.number == 0 {
+                return Ok(true);
+            }
+            set_value(values, &word)?;
+            byte = word.end;
+        }
+    }
+    Ok(false)
+}
+
+/// Reads lines of values up to the 0.
+fn read_lines<F: ByteFeed>(f: &mut F, values: &mut [Lbool]) -> Result<(), AnswerError>
+    ensures stream { IsErrOf result AnswerError.Stream → F.failed f.new ≡ true }
+    ensures same { F.behind f.new ≡ F.behind f.old }
+{
+    while let Some(first) = first_byte(f)? {
+        if first != b'v' {
+            return Err(AnswerError::Line);
+        }
+        if read_values(f, values)? {
+            return Ok(());
+        }
+    }
+    Err(AnswerError::Unfinished)
+}
+
+/// Reads a solver's answer to clauses of so many variables, and returns the value of each: unknown where the solver says
+/// nothing of it.
+///
+/// The answer is a line `s SATISFIABLE`, and then lines of `v` and literals, of which a 0 ends the last; what follows is not
+/// read. A literal is the number of its variable and one more, with a minus where it is inverted. Lines that begin with `c`
+/// are comments. (The output of the SAT competitions.) It takes memory for the values alone, and reads through a buffer of
+/// 4,096 bytes.
+///
+/// # Errors
+///
+/// `Unsatisfiable` and `Unknown` where the solver answers so, `Answer` where there is no answer; `Line`, `Literal`,
+/// `Variable` and `Clash` name the first fault of the lines of values, and `Unfinished` their missing end; `Stream` where a
+/// read failed; `Memory`.
+pub fn read_solution<R: Source>(
+    alloc: Global,
+    r: &mut R,
+    variables: usize,
+) -> Result<Vec<Lbool>, AnswerError>
+    ensures count { IfOk result (λ values. length values.items ≡ variables) }
+    // Stream only where a read failed in this call.
+    ensures stream { IsErrOf result AnswerError.Stream → IsTrue (R.failed r.new) }
+{
+    let mut window = vec![in alloc; 0; WINDOW_SIZE]?;
+    let mut bytes = Buffered::new(r, &mut window);
+    read_answer(alloc, &mut bytes)?;
+    let mut values = vec![in alloc; Lbool::NONE; variables]?;
+    read_lines(&mut bytes, &mut values)?;
+    Ok(values)
+}
