@@ -1,3 +1,2 @@
 pub mod Exactly
 mod Promised
-pub mod Below

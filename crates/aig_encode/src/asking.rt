@@ -8,9 +8,10 @@ ghost use Rattle.aig_encode.specs.Encoding.{AnswersExactly, IsBeyond, IsQuery, I
 
 use crate::encoding::encode;
 use crate::error::EncodeError;
-use crate::further::{Query, further_clauses};
+use crate::further::Query;
 use aig::ReadError;
 use aig_base::Source;
+use aig_query::further_clauses;
 use std::alloc::Global;
 
 /// Encodes a circuit as `encode` does, and asks by further clauses for a run from a start on which every constraint holds at

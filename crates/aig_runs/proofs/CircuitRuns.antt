@@ -25,7 +25,7 @@ module _ (c u : Circuit) (k : ℕ) (lists : List (List (List Lit))) (v : ℕ →
   same : (es : List AigEdge) → All (IsFixed u lists) es → All IsSame es
   same es fixed = All-weaker (IsFixed u lists) IsSame (λ e is. is v holds) es fixed
 
-  shown : ShowsSteps c u k (edge_value u.nodes v) x → ShowsSteps c u k (edge_in v) x
+  pub shown : ShowsSteps c u k (edge_value u.nodes v) x → ShowsSteps c u k (edge_in v) x
   shown s =
       let new = edge_value u.nodes v in
       let other = edge_in v in

@@ -45,6 +45,10 @@ toggle-true = refl
 toggle-open : let c = lists_of (toggling None) (edge_to 1 false ∷ []) [] in codes_of (query_clauses c 0 c) ≡ (2 ∷ []) ∷ []
 toggle-open = refl
 
+-- one that starts as the inverse of node 2 has two clauses: it is false or 2 is, and one of them is true
+toggle-edge : let c = lists_of (toggling (Some (edge_to 2 true))) (edge_to 1 false ∷ []) [] in codes_of (query_clauses c 0 c) ≡ (3 ∷ 5 ∷ []) ∷ (2 ∷ 4 ∷ []) ∷ (2 ∷ []) ∷ []
+toggle-edge = refl
+
 -- nothing is bad: the last clause is empty
 harmless : let c = lists_of (toggling (Some (edge_to 0 false))) [] [] in codes_of (query_clauses c 0 c) ≡ (3 ∷ []) ∷ [] ∷ []
 harmless = refl

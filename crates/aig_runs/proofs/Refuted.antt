@@ -4,12 +4,16 @@ use Rattle.std.specs.Prelude.{◌==◌}
 use Rattle.std.proofs.lemmas.Bool.{false≢true}
 use Rattle.aig_base.specs.declared.logic.literal.Lit.{Lit}
 use Rattle.aig_circuit.specs.declared.edge.AigEdge.{AigEdge}
-use Rattle.aig_circuit.specs.Circuit.{only_false}
+use Rattle.aig_circuit.specs.declared.node.AigNodeType.TheVariants.{False, Leaf}
+use Rattle.aig_circuit.specs.Circuit.{Circuit, only_false}
+use Rattle.aig_circuit.specs.Tree.{node_value}
+use Rattle.aig_circuit.proofs.Trees.{node_value-leaf}
 use Rattle.aig_circuit.specs.Edge.{edge_to}
 use Rattle.aig_format.specs.declared.FileKind.TheVariants.{Text}
 use Rattle.aig_format.specs.File.{File, LatchLine, GateLine}
 use Rattle.aig_format.specs.Machine.{IsRun, Moves, start_of}
-use Rattle.aig_runs.specs.Queries.{IsWitness, IsSafeTo, query_clauses}
+use Rattle.aig_runs.specs.Queries.{IsWitness, IsSafeTo, query_clauses, start_clauses}
+use Rattle.aig_runs.specs.CircuitQueries.{HasCircuitWitness}
 
 abbrev machine : List ℕ → List LatchLine → List GateLine → List ℕ → List ℕ → File
 machine inputs latches gates bads constraints = record {
@@ -119,3 +123,34 @@ no_bads_of_all_steps e = cc
 -- nor those of the first
 no_bads_of_the_first : of_bads (edge_to 1 false) (edge_to 2 false) ≢ (2 ∷ []) ∷ []
 no_bads_of_the_first e = cc
+
+-- an initial edge that isn't constant is said by both its clauses, and not by one
+both_of_an_edge : map (map (λ (lit : Lit). lit.code)) (start_clauses (record { input = 1; next = edge_to 1 false; init = Some (edge_to 2 false) })) ≢ (3 ∷ 4 ∷ []) ∷ []
+both_of_an_edge e = cc
+
+-- ---- circuits
+
+-- latch 2 keeps its value, and starts as input 1, which must be false at step 0: it is false at each step
+abbrev held : Circuit
+held = record only_false {
+  nodes = record { node_id = 0; typ = False } ∷ record { node_id = 1; typ = Leaf } ∷ record { node_id = 2; typ = Leaf } ∷ [];
+  inputs = 1 ∷ [];
+  latchs = record { input = 2; next = edge_to 2 false; init = Some (edge_to 1 false) } ∷ [];
+  bads = edge_to 2 false ∷ [];
+  constraints = edge_to 1 true ∷ [];
+}
+
+held-0 : ¬ HasCircuitWitness held 0
+held-0 s =
+    let value = λ (n : ℕ). node_value held.nodes (s.0 0) n in
+    let one : value 1 ≡ s.0 0 1 = node_value-leaf held.nodes (s.0 0) 1 refl in
+    let two : value 2 ≡ s.0 0 2 = node_value-leaf held.nodes (s.0 0) 2 refl in
+    let start : value 1 ≡ s.0 0 2 = s.1.start 0 (record { input = 0; next = edge_to 0 false; init = None }) (omega arith) in
+    let constraint : not (value 1) ≡ true = s.1.constraints 0 (omega arith) 0 (edge_to 0 false) (omega arith) in
+    let bad : value 2 || false ≡ true = s.1.bad in
+    no (value 1) (value 2) (start ∙ sym two) constraint bad
+  where
+    no : (a b : Bool) → a ≡ b → not a ≡ true → b || false ≡ true → ⊥
+    no true b same constraint bad = false≢true constraint
+    no false true same constraint bad = false≢true same
+    no false false same constraint bad = false≢true bad

@@ -2,3 +2,4 @@ pub mod Circuits
 pub mod Files
 pub mod Encodes
 pub mod Queries
+pub mod CircuitQueries

@@ -1,12 +1,12 @@
 -- What a query asks: a run from a start on which every constraint holds and, at the last step, some bad literal. (AIGER 1.9, "Properties";
 -- bounded model checking.)
-use Rattle.std.specs.Prelude.{◌≡◌, ℕ, ◌*◌, ◌==◌, ◌≤◌, ◌↔◌, if◌then◌else◌, Bool, false, Option, Some, None, IsTrue, List, [], ◌∷◌, ◌++◌, length, map, drop}
+use Rattle.std.specs.Prelude.{◌≡◌, ℕ, ◌*◌, ◌==◌, ◌≤◌, ◌↔◌, if◌then◌else◌, Bool, true, false, Option, Some, None, IsTrue, List, [], ◌∷◌, ◌++◌, length, map, drop}
 use Rattle.std.specs.List.{AllByRecursion, flat_map, list_any}
 use Rattle.aig_base.specs.declared.logic.literal.Lit.{Lit}
 use Rattle.aig_base.specs.Clauses.{Satisfies, are_true, lit_to}
 use Rattle.aig_circuit.specs.declared.edge.AigEdge.{AigEdge}
 use Rattle.aig_circuit.specs.declared.node.AigLatch.{AigLatch}
-use Rattle.aig_circuit.specs.Edge.{lit_of}
+use Rattle.aig_circuit.specs.Edge.{inverse, lit_of}
 use Rattle.aig_circuit.specs.Circuit.{Circuit}
 use Rattle.aig_format.specs.File.{File}
 use Rattle.aig_format.specs.Machine.{literal_value, IsRun, IsStart}
@@ -21,12 +21,18 @@ pub record IsWitness (f : File) (k : ℕ) (run : ℕ → ℕ → Bool) : Type 0 
 
 -- ---- the clauses
 
--- the unit clause that a latch's leaf has the value of its constant initial edge, where it has one
+-- the clauses that node n has the value of the edge e: one where that is constant, and else two
+abbrev pub value_clauses : ℕ → AigEdge → List (List Lit)
+value_clauses n e =
+    if e.node_id == 0 then (lit_to n e.compl ∷ []) ∷ []
+    else (lit_to n false ∷ lit_of e ∷ []) ∷ (lit_to n true ∷ lit_of (inverse e) ∷ []) ∷ []
+
+-- the clauses that a latch's leaf has the value of its initial edge, where it has one
 abbrev pub start_clauses : AigLatch → List (List Lit)
 start_clauses latch = by_init latch.input latch.init
   where
     by_init : ℕ → Option AigEdge → List (List Lit)
-    by_init n (Some e) = if e.node_id == 0 then (lit_to n e.compl ∷ []) ∷ [] else []
+    by_init n (Some e) = value_clauses n e
     by_init n None = []
 
 -- for each edge the unit clause that it is true
@@ -37,7 +43,7 @@ unit_clauses es = map (λ e. lit_of e ∷ []) es
 abbrev pub last_bads : Circuit → ℕ → Circuit → List AigEdge
 last_bads c k unrolled = drop (k * length c.bads) unrolled.bads
 
--- the further clauses of a query, in order: constant initial values, each constraint at each step, and one clause of the bad edges of step k
+-- the further clauses of a query, in order: initial values, each constraint at each step, and one clause of the bad edges of step k
 abbrev pub query_clauses : Circuit → ℕ → Circuit → List (List Lit)
 query_clauses c k unrolled =
     flat_map start_clauses c.latchs ++ unit_clauses unrolled.constraints ++ map lit_of (last_bads c k unrolled) ∷ []

@@ -3,14 +3,17 @@
 ghost use Rattle.std.specs.Prelude.{◌↔◌, ◌≤◌, ℕ, Bool, List};
 ghost use Rattle.aig_base.specs.declared.logic.literal.Lit.{Lit};
 ghost use Rattle.aig_circuit.specs.Circuit.{Circuit, IsCircuit};
+ghost use Rattle.aig_circuit.specs.Runs.{AgreeOnLeaves};
 ghost use Rattle.aig_cnf.specs.Cnf.{FixesRoots, HasClauses, NodeValuesSatisfy};
 ghost use Rattle.aig_format.specs.File.{File};
 ghost use Rattle.aig_format.specs.Fits.{Fits};
 ghost use Rattle.aig_format.specs.Circuit.{circuit_of};
+ghost use Rattle.aig_format_laws.specs.Nodes.{HasNodeValues, values_over};
 ghost use Rattle.aig_unroll.specs.Unroll.{UnrollsTo};
 ghost use Rattle.aig_runs.specs.Circuits.{AssignmentsAreRuns, RunsAreAssignments};
+ghost use Rattle.aig_runs.specs.CircuitQueries.{AsksOfCircuit, IsCircuitWitness};
 ghost use Rattle.aig_runs.specs.Encodes.{Encodes};
-ghost use Rattle.aig_runs.specs.Queries.{Asks, IsRefuted, IsSafeTo, query_clauses};
+ghost use Rattle.aig_runs.specs.Queries.{Asks, IsRefuted, IsSafeTo, IsWitness, query_clauses};
 
 /// Law: of every circuit, assignments that satisfy the clauses of its unrolled circuit are runs, and runs are assignments.
 pub fn clauses_are_circuit_runs()
@@ -29,6 +32,30 @@ pub fn clauses_are_file_runs()
         → Fits f limit → UnrollsTo (circuit_of f) k unrolled → HasClauses unrolled optimize clauses
         → FixesRoots unrolled clauses → NodeValuesSatisfy unrolled clauses
         → Encodes f k optimize (circuit_of f) unrolled clauses }
+{}
+
+/// Law: of every circuit, whatever its initial edges, the further clauses of its unrolled circuit ask for its witnesses.
+pub fn circuit_queries_ask()
+    ensures { (c unrolled : Circuit) (k : ℕ) (clauses : List (List (List Lit)))
+        → IsCircuit c → UnrollsTo c k unrolled → FixesRoots unrolled clauses
+        → NodeValuesSatisfy unrolled clauses
+        → AsksOfCircuit c k unrolled clauses (query_clauses c k unrolled) }
+{}
+
+/// Law: a witness of a file's machine has leaf values that are a witness of its circuit, the values that a witness of the
+/// circuit gives the nodes of the variables are a witness of the machine, and they are one for one; so what asks for the
+/// circuit's witnesses asks for those of the machine.
+pub fn circuit_witnesses_are_file_witnesses()
+    ensures forth { (f : File) (limit k : ℕ) (run : ℕ → ℕ → Bool) → Fits f limit → IsWitness f k run
+        → (x : ℕ → ℕ → Bool) × IsCircuitWitness (circuit_of f) k x × HasNodeValues f k x run }
+    ensures back { (f : File) (limit k : ℕ) (x : ℕ → ℕ → Bool) → Fits f limit
+        → IsCircuitWitness (circuit_of f) k x → IsWitness f k (values_over f x) }
+    ensures one { (f : File) (limit k : ℕ) (x z run : ℕ → ℕ → Bool) → Fits f limit
+        → HasNodeValues f k x run → HasNodeValues f k z run → AgreeOnLeaves (circuit_of f) k x z }
+    ensures asks { (f : File) (limit k : ℕ) (unrolled : Circuit) (clauses : List (List (List Lit)))
+        (further : List (List Lit)) → Fits f limit
+        → AsksOfCircuit (circuit_of f) k unrolled clauses further
+        → Asks f k (circuit_of f) unrolled clauses further }
 {}
 
 /// Law: the further clauses of an encoded file ask for the witnesses of its machine.

@@ -4,5 +4,6 @@
 mod laws;
 
 pub use laws::{
-    clauses_are_circuit_runs, clauses_are_file_runs, queries_ask, refuted_queries_are_safe,
+    circuit_queries_ask, circuit_witnesses_are_file_witnesses, clauses_are_circuit_runs,
+    clauses_are_file_runs, queries_ask, refuted_queries_are_safe,
 };

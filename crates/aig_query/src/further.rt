@@ -1,0 +1,93 @@
+//! The further clauses of a query.
+
+ghost use Rattle.std.specs.Prelude.{◌≡◌, ◌+◌, ◌*◌, ◌<◌, ◌≤◌, ◌^◌, ◌++◌, ◌∷◌, [], All, IfOk, IfSome, OnOk, length, map};
+ghost use Rattle.std.specs.List.{flat_map};
+ghost use Rattle.aig_base.specs.Clauses.{AreBelow};
+ghost use Rattle.aig_circuit.specs.Edge.{lit_of};
+ghost use Rattle.aig_runs.specs.Queries.{query_clauses, start_clauses, unit_clauses, value_clauses};
+
+use aig::{Aig, AigEdge, AigLatch};
+use aig_base::{Lit, LitVvec, MemoryError, Var};
+use std::alloc::Global;
+
+/// Appends the clauses that the node of this number has the value of an edge: one where that is constant, and else two.
+fn push_value(extra: &mut LitVvec, node: usize, edge: AigEdge) -> Result<(), MemoryError>
+    requires node { node < 2 ^ 31 }
+    requires edge { edge.node_id < 2 ^ 31 }
+    ensures { OnOk result (extra.new ≡ extra.old ++ value_clauses node edge) }
+{
+    let var = Var::new(node);
+    if edge.is_const() {
+        return extra.push(&[Lit::new(var, edge.to_constant())]);
+    }
+    let other = !edge;
+    extra.push(&[!var.lit(), edge.to_lit()])?;
+    extra.push(&[var.lit(), other.to_lit()])
+}
+
+/// Appends for each latch with an initial edge the clauses that its leaf has that edge's value.
+fn push_starts(extra: &mut LitVvec, latchs: &[AigLatch]) -> Result<(), MemoryError>
+    requires leaves { All (λ latch. latch.input < 2 ^ 31) latchs.now }
+    requires starts { All (λ latch. IfSome latch.init (λ e. e.node_id < 2 ^ 31)) latchs.now }
+    ensures { OnOk result (extra.new ≡ extra.old ++ flat_map start_clauses latchs.now) }
+{
+    for latch in latchs {
+        if let Some(start) = latch.init() {
+            push_value(extra, latch.input(), start)?;
+        }
+    }
+    Ok(())
+}
+
+/// Appends for each edge the clause that it is true.
+fn push_units(extra: &mut LitVvec, edges: &[AigEdge]) -> Result<(), MemoryError>
+    requires { All (λ e. e.node_id < 2 ^ 31) edges.now }
+    ensures { OnOk result (extra.new ≡ extra.old ++ unit_clauses edges.now) }
+{
+    for edge in edges {
+        extra.push(&[edge.to_lit()])?;
+    }
+    Ok(())
+}
+
+/// Appends the one clause that some edge is true, which is empty where there is none.
+fn push_any(alloc: Global, extra: &mut LitVvec, edges: &[AigEdge]) -> Result<(), MemoryError>
+    requires { All (λ e. e.node_id < 2 ^ 31) edges.now }
+    ensures { OnOk result (extra.new ≡ extra.old ++ map lit_of edges.now ∷ []) }
+{
+    let mut clause = Vec::with_capacity(alloc, edges.len())?;
+    for edge in edges {
+        clause.push(edge.to_lit())?;
+    }
+    extra.push(&clause)
+}
+
+/// Returns the clauses that ask for a run from a start of the circuit on which every constraint holds at each of the steps 0
+/// to `k` and some bad edge at step `k`, over the nodes of the circuit unrolled by `k` steps.
+///
+/// They are, in order: for each latch with an initial edge that its leaf has that edge's value, in one clause where the edge
+/// is constant and else in two, for each constraint of each step that it holds, and one clause of all bad edges of step `k`,
+/// which is empty where there are none. The one error is refused memory. Asks `fits_lits` of both circuits.
+pub fn further_clauses(
+    alloc: Global,
+    circuit: &Aig,
+    k: usize,
+    unrolled: &Aig,
+) -> Result<LitVvec, MemoryError>
+    requires few { length circuit.now.nodes ≤ 2 ^ 31 }
+    requires few_unrolled { length unrolled.now.nodes ≤ 2 ^ 31 }
+    requires bads { length unrolled.now.bads ≡ (k + 1) * length circuit.now.bads }
+    requires longer { length circuit.now.nodes ≤ length unrolled.now.nodes }
+    // Which clauses there are, and in which order.
+    ensures exact { IfOk result (λ extra. extra ≡ query_clauses circuit.now k unrolled.now) }
+    // They are of variables that are there.
+    ensures below { IfOk result (AreBelow (length unrolled.now.nodes)) }
+{
+    let mut extra = LitVvec::new(alloc);
+    push_starts(&mut extra, circuit.latchs())?;
+    push_units(&mut extra, unrolled.constraints())?;
+    let bads = unrolled.bads();
+    let first = k * circuit.bads().len();
+    push_any(alloc, &mut extra, &bads[first..])?;
+    Ok(extra)
+}
