@@ -3,6 +3,8 @@ use Rattle.std.specs.Prelude.{◌≡◌, ℕ, Bool, false, IsTrue}
 use Rattle.std.specs.List.{AllByRecursion}
 use Rattle.aig_format.specs.File.{File}
 use Rattle.aig_format.specs.Machine.{literal_value}
+use Rattle.aig_circuit.specs.Circuit.{Circuit}
+use Rattle.aig_runs.specs.CircuitQueries.{HasCircuitWitness}
 use Rattle.aig_runs.specs.Queries.{IsWitness}
 
 -- every constraint holds
@@ -16,3 +18,7 @@ IsGood f values = AllByRecursion (λ e. literal_value values e ≡ false) f.bads
 -- no run of k + 1 steps from a start meets every constraint and, at step k, some bad literal
 abbrev pub IsSafeAt : File → ℕ → Type 0
 IsSafeAt f k = ¬ ((run : ℕ → ℕ → Bool) × IsWitness f k run)
+
+-- no run of k + 1 steps of the circuit from a start meets every constraint and, at step k, some bad edge
+abbrev pub IsCircuitSafeAt : Circuit → ℕ → Type 0
+IsCircuitSafeAt c k = ¬ HasCircuitWitness c k

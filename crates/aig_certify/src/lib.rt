@@ -1,9 +1,11 @@
 //! Answers about a file's machine that rest on proofs which are checked.
 #![tactic(auto)]
 
+mod circuits;
 mod laws;
 mod window;
 
+pub use circuits::{refuted_circuit_queries_have_no_witness, safe_circuits_are_safe_machines};
 pub use laws::{
     inductive_invariants_are_safe, inductive_windows_are_safe, refutations_are_safe,
     refuted_queries_have_no_witness, refuted_windows_are_inductive, safe_steps_are_safe,
