@@ -65,3 +65,12 @@ IsOfWindow (errors.Encode e) = Unit {0}
 IsOfWindow errors.NoBads = Unit {0}
 IsOfWindow errors.TooLarge = Unit {0}
 IsOfWindow (errors.Refutation e) = ⊥
+
+-- the refusals of a circuit's query and of its proof
+abbrev pub IsOfCircuitQuery : AnswerError → Type 0
+IsOfCircuitQuery (errors.Encode (encode.Read e)) = ⊥
+IsOfCircuitQuery (errors.Encode encode.Memory) = Unit {0}
+IsOfCircuitQuery (errors.Encode encode.TooLarge) = Unit {0}
+IsOfCircuitQuery errors.NoBads = Unit {0}
+IsOfCircuitQuery errors.TooLarge = ⊥
+IsOfCircuitQuery (errors.Refutation e) = Unit {0}

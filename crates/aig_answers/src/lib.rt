@@ -1,6 +1,7 @@
 //! Answers about the machine of an AIGER file: from the bytes of the file and of a proof that is checked.
 #![tactic(auto)]
 
+mod circuits;
 mod clauses;
 mod distinct;
 mod error;
@@ -8,6 +9,7 @@ mod step;
 mod windows;
 
 pub use aig_certify::Window;
+pub use circuits::{CircuitQuery, check_query_of, query_of};
 pub use error::AnswerError;
 pub use step::check_step;
 pub use windows::{WindowClauses, check_window, window};

@@ -1,0 +1,106 @@
+//! Queries of circuits that were built or changed.
+
+ghost use Rattle.std.specs.Prelude.{◌≡◌, ◌≢◌, ◌⊎◌, ◌<◌, ◌≤◌, ◌^◌, ◌↔◌, [], IfErr, IfOk, IsErrOf, OnOk, length};
+ghost use Rattle.aig_answers.specs.Answers.{IsOfCircuitQuery, IsOfFileAlone};
+ghost use Rattle.aig_base.specs.Clauses.{AreBelow};
+ghost use Rattle.aig_certify.specs.Safety.{IsCircuitSafeAt};
+ghost use Rattle.aig_cnf.specs.Cnf.{HasClauses};
+ghost use Rattle.aig_runs.specs.CircuitQueries.{AsksOfCircuit};
+ghost use Rattle.aig_unroll.specs.Places.{unrolled_size};
+ghost use Rattle.aig_unroll.specs.Unroll.{UnrollsTo};
+
+use crate::error::AnswerError;
+use aig::Aig;
+use aig_base::{DagCnf, LitVvec, Source};
+use aig_certify::refuted_circuit_queries_have_no_witness;
+use aig_encode::EncodeError;
+use aig_query::further_clauses;
+use aig_refutation::check_refutation;
+use aig_runs::circuit_queries_ask;
+use std::alloc::Global;
+
+/// The clauses that ask for a bad state of a circuit at a step.
+#[derive(Drop)]
+pub struct CircuitQuery {
+    /// The circuit with further steps.
+    pub unrolled: Aig,
+    /// The clauses of the unrolled circuit.
+    pub clauses: DagCnf,
+    /// The further clauses.
+    pub further: LitVvec,
+}
+
+/// Unrolls a circuit by `k` steps, makes the clauses of that, and asks by further clauses for a run from a start on which
+/// every constraint holds at each of the steps 0 to `k` and some bad edge at step `k`. The circuit may have been built or
+/// changed, and its initial edges may be any.
+///
+/// The further clauses are, in order: for each latch with an initial edge that its leaf has that edge's value, in one clause
+/// where the edge is constant and else in two, for each constraint of each step that it holds, and one clause of all bad
+/// edges of step `k`, which is empty where there are none.
+///
+/// `TooLarge` is answered, before any step, exactly where `n + k * (n - 1 - l)` passes the limit, for the `n` nodes and `l`
+/// latches of the circuit. Asks `limit <= 2^31`.
+pub fn query_of(
+    alloc: Global,
+    circuit: &Aig,
+    limit: usize,
+    k: usize,
+    optimize: bool,
+) -> Result<CircuitQuery, EncodeError>
+    requires few { limit ≤ 2 ^ 31 }
+    ensures steps { IfOk result (λ asked. UnrollsTo circuit.now k asked.unrolled) }
+    ensures clauses { IfOk result (λ asked. HasClauses asked.unrolled optimize asked.clauses) }
+    // Both lists can be satisfied exactly where the circuit has such a run, which is read off the values.
+    ensures asks { IfOk result
+        (λ asked. AsksOfCircuit circuit.now k asked.unrolled asked.clauses asked.further) }
+    // The further clauses are of variables that are there.
+    ensures below { IfOk result (λ asked. AreBelow (length asked.clauses) asked.further) }
+    ensures large { IsErrOf result EncodeError.TooLarge ↔ (limit < unrolled_size circuit.now k) }
+    ensures err { IfErr result (λ e. (e ≡ EncodeError.Memory) ⊎ (e ≡ EncodeError.TooLarge)) }
+{
+    circuit_queries_ask();
+    if !aig_unroll::is_within(circuit.num_nodes(), circuit.latchs().len(), k, limit) {
+        return Err(EncodeError::TooLarge);
+    }
+    let unrolled = circuit.unroll_to(k)?;
+    let clauses = unrolled.cnf(optimize)?;
+    let further = further_clauses(alloc, circuit, k, &unrolled)?;
+    Ok(CircuitQuery {
+        unrolled,
+        clauses,
+        further,
+    })
+}
+
+/// Checks a proof, in the LRAT or the DRAT format, that the clauses of a circuit's query for step `k` can't be satisfied: then
+/// no run of the circuit from a start reaches a bad edge at that step.
+///
+/// The clauses have the order and the variables of the DIMACS form: those of each node's variable, and the further ones
+/// behind them. A circuit without bad edges is refused before anything else, as nothing is asked of it. Asks
+/// `limit <= 2^31`.
+pub fn check_query_of<P: Source>(
+    alloc: Global,
+    circuit: &Aig,
+    limit: usize,
+    k: usize,
+    optimize: bool,
+    proof: &mut P,
+) -> Result<(), AnswerError>
+    requires few { limit ≤ 2 ^ 31 }
+    // No run from a start meets every constraint at the steps 0 to k and some bad edge at step k.
+    ensures answer { OnOk result (IsCircuitSafeAt circuit.now k) }
+    // Which refusals come before the proof is read, and when.
+    ensures none { IsErrOf result AnswerError.NoBads ↔ (circuit.now.bads ≡ []) }
+    ensures large { IsErrOf result (AnswerError.Encode EncodeError.TooLarge)
+        ↔ ((circuit.now.bads ≢ []) × (limit < unrolled_size circuit.now k)) }
+    ensures err { IfErr result IsOfCircuitQuery }
+    ensures unread { IsOfFileAlone result → proof.new ≡ proof.old }
+{
+    refuted_circuit_queries_have_no_witness();
+    if circuit.bads().is_empty() {
+        return Err(AnswerError::NoBads);
+    }
+    let asked = query_of(alloc, circuit, limit, k, optimize)?;
+    check_refutation(alloc, &asked.clauses, &asked.further, proof)?;
+    Ok(())
+}
