@@ -1,0 +1,4 @@
+mod Carrying
+pub mod Witnesses
+mod Sizes
+mod Reducing

@@ -1,0 +1,14 @@
+use Rattle.aig_reduction.proofs.Witnesses.{alone_witnesses, both_witnesses, cut_witnesses, renumbered_witnesses}
+use Rattle.aig_reduction.proofs.laws.runs_keep_witnesses.Goals as goal
+
+pub returns-clause-renumbered : goal.returns-clause-renumbered
+returns-clause-renumbered c = renumbered_witnesses
+
+pub returns-clause-cut : goal.returns-clause-cut
+returns-clause-cut c = cut_witnesses
+
+pub returns-clause-others : goal.returns-clause-others
+returns-clause-others c = alone_witnesses
+
+pub returns-clause-both : goal.returns-clause-both
+returns-clause-both c = both_witnesses

@@ -1,0 +1,19 @@
+//! Laws of circuits that keep one another's runs.
+
+ghost use Rattle.std.specs.Prelude.{ℕ, List};
+ghost use Rattle.aig_circuit.specs.Circuit.{Circuit, IsCircuit};
+ghost use Rattle.aig_circuit.specs.Runs.{KeepsRuns};
+ghost use Rattle.aig_cone.specs.Refine.{CutsRuns};
+ghost use Rattle.aig_reduction.specs.Reduction.{HaveSameWitnesses, asked_alone};
+
+/// Law: a circuit whose runs are another's, under new numbers or cut to the kept leaves, has a witness at each step exactly
+/// where that one has; and outputs, justice and fairness have no part in it.
+pub fn runs_keep_witnesses()
+    ensures renumbered { (old new : Circuit) (number : ℕ → ℕ)
+        → IsCircuit old → KeepsRuns old new number → HaveSameWitnesses old new }
+    ensures cut { (old new : Circuit) (kept : List ℕ)
+        → IsCircuit new → CutsRuns old new kept → HaveSameWitnesses old new }
+    ensures others { (c : Circuit) → HaveSameWitnesses c (asked_alone c) }
+    ensures both { (c d e : Circuit)
+        → HaveSameWitnesses c d → HaveSameWitnesses d e → HaveSameWitnesses c e }
+{}

@@ -1,0 +1,8 @@
+//! Circuits reduced to what a query needs.
+#![tactic(auto)]
+
+mod laws;
+mod reduction;
+
+pub use laws::runs_keep_witnesses;
+pub use reduction::reduced;
