@@ -2,10 +2,11 @@
 
 ghost use Rattle.std.specs.Prelude.{◌≡◌};
 ghost use Rattle.aig_solutions.specs.declared.error.AnswerError.TheVariants as answers;
+ghost use Rattle.aig_solutions.specs.declared.error.SolutionError.TheVariants as solutions;
 ghost use Rattle.aig_solutions.specs.declared.error.WitnessError.TheVariants as witnesses;
 
 use aig_base::{MemoryError, StreamFault};
-use aig_lexer::LexError;
+use aig_witness_check::CheckError;
 use std::alloc::{AllocError, AllocFailed};
 use thiserror::Error;
 
@@ -100,5 +101,51 @@ impl<T: Drop> From<AllocFailed<T>> for WitnessError {
 
     fn from(_error: AllocFailed<T>) -> WitnessError {
         WitnessError::Memory
+    }
+}
+
+/// Why a solver's answer gives no checked witness.
+#[derive(Clone, Copy, Debug, PartialEq, Eq, Error)]
+pub enum SolutionError {
+    /// The answer gives no values.
+    #[error("{0}")]
+    Answer(AnswerError),
+    /// The values give no witness.
+    #[error("{0}")]
+    Witness(WitnessError),
+    /// The witness shows no bad state.
+    #[error("{0}")]
+    Check(CheckError),
+}
+
+impl From<AnswerError> for SolutionError {
+    ghost from_gives = { λ e r. r ≡ solutions.Answer e };
+
+    fn from(error: AnswerError) -> SolutionError {
+        SolutionError::Answer(error)
+    }
+}
+
+impl From<WitnessError> for SolutionError {
+    ghost from_gives = { λ e r. r ≡ solutions.Witness e };
+
+    fn from(error: WitnessError) -> SolutionError {
+        SolutionError::Witness(error)
+    }
+}
+
+impl From<CheckError> for SolutionError {
+    ghost from_gives = { λ e r. r ≡ solutions.Check e };
+
+    fn from(error: CheckError) -> SolutionError {
+        SolutionError::Check(error)
+    }
+}
+
+impl From<MemoryError> for SolutionError {
+    ghost from_gives = { λ _ r. r ≡ solutions.Witness witnesses.Memory };
+
+    fn from(_error: MemoryError) -> SolutionError {
+        SolutionError::Witness(WitnessError::Memory)
     }
 }

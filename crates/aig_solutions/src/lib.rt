@@ -1,13 +1,15 @@
 //! From a solver's answer to a query to a witness of a bad state.
 #![tactic(auto)]
 
+mod checked;
 mod error;
 mod laws;
 mod places;
 mod reading;
 mod witness;
 
-pub use error::{AnswerError, WitnessError};
+pub use checked::checked_witness;
+pub use error::{AnswerError, SolutionError, WitnessError};
 pub use laws::solutions_show;
 pub use places::Places;
 pub use reading::read_solution;
