@@ -1,5 +1,5 @@
 -- Gates that are read one after the other.
-use Rattle.std.specs.Prelude.{All, ◌≡◌, ℕ, ◌/◌, ◌^◌, ◌<◌, ◌≤◌, Bool, true, false, List, [], ◌∷◌, ◌++◌, length, map, nat_eq, Option, Some, None, vec_capacity, vec_len}
+use Rattle.std.specs.Prelude.{All, ◌≡◌, ℕ, ◌/◌, ◌^◌, ◌<◌, ◌≤◌, Bool, true, false, List, [], ◌∷◌, ◌++◌, length, map, nat_eq, Option, Some, None, vec_len}
 use Rattle.std.specs.List.{AllByRecursion, IsDistinct}
 use Rattle.aig_circuit.specs.declared.node.AigNode.{AigNode}
 use Rattle.aig_circuit.specs.declared.node.AigNodeType.{AigNodeType}
@@ -54,9 +54,9 @@ abbrev pub is_rising : Gates → Bool
 is_rising (held.Rising rising) = true
 is_rising (held.Table table) = false
 
--- there is room for the nodes of so many variables, and for no more
+-- there are nodes of so many variables at most, and gates of no others
 abbrev pub HasSpace : ℕ → Gates → Type 0
-HasSpace size (held.Rising rising) = vec_capacity rising.nodes ≡ size
+HasSpace size (held.Rising rising) = vec_len rising.nodes ≤ size
 HasSpace size (held.Table table) = (vec_len table.entries ≤ size) × All (λ l. l.lhs / 2 < size) table.late.items
 
 -- the nodes of the first variables, from 0 on, where these gates are defined, each within them

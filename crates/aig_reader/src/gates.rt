@@ -117,7 +117,7 @@ pub fn read_gates<F: ByteFeed>(
     ensures stream { IsErrOf result LineError.Stream → F.failed f.new ≡ true }
     ensures same { F.behind f.new ≡ F.behind f.old }
 {
-    let mut gates = Gates::new(alloc, header.greatest)?;
+    let mut gates = Gates::new(alloc)?;
     for _ in 0..header.gates {
         gate_line(alloc, f, variables, &mut gates)?;
     }

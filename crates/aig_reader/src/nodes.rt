@@ -1,6 +1,6 @@
 //! The nodes of a circuit, as its gates come.
 
-ghost use Rattle.std.specs.Prelude.{◌≡◌, ◌+◌, ◌/◌, ◌<◌, ◌≤◌, [], ◌∷◌, ◌++◌, List, IfOk, max, vec_capacity, vec_len};
+ghost use Rattle.std.specs.Prelude.{◌≡◌, ◌+◌, ◌/◌, ◌<◌, ◌≤◌, [], ◌∷◌, ◌++◌, List, IfOk, OnOk, max, vec_capacity, vec_len};
 ghost use Rattle.aig_format.specs.File.{GateLine};
 ghost use Rattle.aig_ordering.specs.Lists.{nodes_of};
 ghost use Rattle.aig_reader.specs.Gates.{AreFirstNodes, gate_node_of, literals_of};
@@ -9,14 +9,25 @@ ghost use Rattle.aig_reader.specs.Variables.{IsNewAmong};
 use aig_circuit::{AigNode, false_node, leaf_node};
 use std::alloc::{AllocError, Global};
 
-/// The node of variable 0, which is false, with room for those of the variables up to the greatest.
-pub fn first_node(alloc: Global, greatest: u32) -> Result<Vec<AigNode>, AllocError>
-    ensures items { IfOk result (λ nodes. nodes.items ≡ nodes_of 0 []) }
-    ensures room { IfOk result (λ nodes. vec_capacity nodes ≡ greatest + 1) }
+/// The node of variable 0, which is false.
+pub fn first_node(alloc: Global) -> Result<Vec<AigNode>, AllocError>
+    ensures { IfOk result (λ nodes. nodes.items ≡ nodes_of 0 []) }
 {
-    let mut nodes = Vec::with_capacity(alloc, greatest as usize + 1)?;
+    let mut nodes = Vec::with_capacity(alloc, 1)?;
     nodes.push_reserved(false_node());
     Ok(nodes)
+}
+
+/// Makes room for so many nodes, at least twice the room that there was where there is too little.
+pub fn reserve_nodes(nodes: &mut Vec<AigNode>, len: usize) -> Result<(), AllocError>
+    ensures items { nodes.new.items ≡ nodes.old.items }
+    ensures len { vec_len nodes.new ≡ vec_len nodes.old }
+    ensures room { OnOk result (len ≤ vec_capacity nodes.new) }
+{
+    if len > nodes.capacity() {
+        nodes.reserve(len - nodes.len())?;
+    }
+    Ok(())
 }
 
 /// Appends leaves until there are so many nodes, for which there is room.

@@ -135,7 +135,7 @@ impl Lines {
         } = self;
         let len = greatest as usize + 1;
         if is_complete && gates.are_rising() {
-            let nodes = gates.into_nodes(len);
+            let nodes = gates.into_nodes(len)?;
             return Ok(Sections { nodes, lists });
         }
         let gates = gates.into_table(alloc, len)?;

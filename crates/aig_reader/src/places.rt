@@ -1,13 +1,13 @@
 //! Where the gates that were read are held.
 
-ghost use Rattle.std.specs.Prelude.{◌≡◌, ℕ, ◌+◌, ◌/◌, ◌^◌, ◌<◌, ◌≤◌, ◌&&◌, ◌⊎◌, nat_lt, [], ◌∷◌, ◌++◌, List, IfOk, OnOk, false, length, true, vec_capacity, vec_len};
+ghost use Rattle.std.specs.Prelude.{◌≡◌, ℕ, ◌+◌, ◌/◌, ◌^◌, ◌<◌, ◌≤◌, ◌&&◌, ◌⊎◌, nat_lt, [], ◌∷◌, ◌++◌, List, max, IfOk, OnOk, false, length, true, vec_len};
 ghost use Rattle.aig_format.specs.File.{GateLine};
 ghost use Rattle.aig_format.specs.Numbering.{is_ordered};
 ghost use Rattle.aig_ordering.specs.Gates.{nodes_in};
 ghost use Rattle.aig_reader.specs.Gates.{AreFirstNodes, ArePlaced, HasSpace, is_rising, line_of, literals_of};
 ghost use Rattle.aig_reader.specs.Variables.{AreDefined, IsNewAmong, is_marked};
 
-use crate::nodes::{add_leaves, first_node, put_gate};
+use crate::nodes::{add_leaves, first_node, put_gate, reserve_nodes};
 use crate::table::Table;
 use crate::variables::Variables;
 use aig_circuit::AigNode;
@@ -60,31 +60,32 @@ impl Rising {
     }
 
     /// Puts a gate in its place.
-    fn put(&mut self, lhs: u32, operands: Operands)
-        requires { lhs / 2 < vec_capacity self.old.nodes }
+    fn put(&mut self, lhs: u32, operands: Operands) -> Result<(), AllocError>
         ensures exact { (before : List GateLine) → AreFirstNodes before self.old.nodes.items
             → IsNewAmong (literals_of before) lhs → 2 ≤ lhs
-            → AreFirstNodes (before ++ line_of lhs operands ∷ []) self.new.nodes.items }
-        ensures last { self.new.last ≡ lhs }
-        ensures capacity { vec_capacity self.new.nodes ≡ vec_capacity self.old.nodes }
+            → OnOk result
+            (AreFirstNodes (before ++ line_of lhs operands ∷ []) self.new.nodes.items) }
+        ensures last { OnOk result (self.new.last ≡ lhs) }
+        ensures len { OnOk result
+            (vec_len self.new.nodes ≡ max (vec_len self.old.nodes) (lhs / 2 + 1)) }
     {
-        put_gate(
-            &mut self.nodes,
-            variable_node(lhs as usize / 2, Some(operands)),
-        );
+        let variable = lhs as usize / 2;
+        reserve_nodes(&mut self.nodes, variable + 1)?;
+        put_gate(&mut self.nodes, variable_node(variable, Some(operands)));
         self.last = lhs;
+        Ok(())
     }
 }
 
 impl Gates {
-    /// No gates, with room for those of the variables up to the greatest.
-    pub fn new(alloc: Global, greatest: u32) -> Result<Self, AllocError>
+    /// No gates.
+    pub fn new(alloc: Global) -> Result<Self, AllocError>
         ensures placed { IfOk result
-            (λ gates. (leaves : List ℕ) → ArePlaced greatest leaves [] gates) }
-        ensures space { IfOk result (HasSpace (greatest + 1)) }
+            (λ gates. (greatest : ℕ) (leaves : List ℕ) → ArePlaced greatest leaves [] gates) }
+        ensures space { IfOk result (λ gates. (size : ℕ) → 1 ≤ size → HasSpace size gates) }
     {
         Ok(Gates::Rising(Rising {
-            nodes: first_node(alloc, greatest)?,
+            nodes: first_node(alloc)?,
             last: 0,
         }))
     }
@@ -113,7 +114,7 @@ impl Gates {
         match self {
             Gates::Rising(rising) => {
                 if rising.is_next(variables, lhs, operands) {
-                    rising.put(lhs, operands);
+                    rising.put(lhs, operands)?;
                 } else {
                     let mut table = Table::new(alloc, &rising.nodes)?;
                     table.push(lhs, operands)?;
@@ -133,18 +134,20 @@ impl Gates {
     }
 
     /// The nodes of so many variables, where gates rise: leaves in the places of variables without a gate.
-    pub fn into_nodes(self, len: usize) -> Vec<AigNode>
+    pub fn into_nodes(self, len: usize) -> Result<Vec<AigNode>, AllocError>
         requires rising { is_rising self ≡ true }
         requires space { HasSpace len self }
         ensures nodes { (greatest : ℕ) (leaves : List ℕ) (gates : List GateLine)
-            → ArePlaced greatest leaves gates self → AreFirstNodes gates result.items }
-        ensures len { vec_len result ≡ len }
+            → ArePlaced greatest leaves gates self
+            → IfOk result (λ nodes. AreFirstNodes gates nodes.items) }
+        ensures len { IfOk result (λ nodes. vec_len nodes ≡ len) }
     {
         match self {
             Gates::Rising(rising) => {
                 let Rising { mut nodes, last: _ } = rising;
+                reserve_nodes(&mut nodes, len)?;
                 add_leaves(&mut nodes, len);
-                nodes
+                Ok(nodes)
             }
             Gates::Table(_) => unreachable!(),
         }

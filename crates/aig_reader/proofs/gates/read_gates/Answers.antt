@@ -29,10 +29,10 @@ pub loop-init : goal.loop-init
 loop-init g c = record {
   made = λ leaves defined. (
     [],
-    record { defined = subst (AreDefined c.args.header.greatest c.args.variables.now) (sym (append-nil leaves)) defined; placed = c.in_ok-gates.ensures.placed leaves },
+    record { defined = subst (AreDefined c.args.header.greatest c.args.variables.now) (sym (append-nil leaves)) defined; placed = c.in_ok-gates.ensures.placed c.args.header.greatest leaves },
     takes_nothing _ [],
   );
-  space = c.in_ok-gates.ensures.space;
+  space = c.in_ok-gates.ensures.space (c.args.header.greatest + 1) (omega arith);
   room = λ size k h. (let e : k + 0 ≡ k = omega arith in subst (λ (n : ℕ). HasRoom size c.args.variables.now n) e h);
   kind = refl;
   same = refl;

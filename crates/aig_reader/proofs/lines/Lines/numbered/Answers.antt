@@ -12,7 +12,7 @@ use Rattle.aig_reader.proofs.lines.Lines.numbered.Goals.{After-deref, else-is_co
 pub returns-then-are_rising-clause-exact : goal.returns-then-are_rising-clause-exact
 returns-then-are_rising-clause-exact c = λ f h.
     let older : is_older f ≡ true = sym h.older ∙ rw (c.if-is_complete.true, sym c.are_rising.ensures, c.if-are_rising.true) refl in
-    older_judged f record { nodes = c.into_nodes-nodes.result; lists = c.args.self.lists } h.good h.lists (c.into_nodes-nodes.ensures.nodes f.greatest _ f.gates h.gates) (omega (arith, c.into_nodes-nodes.ensures.len, h.greatest)) older
+    older_judged f record { nodes = c.in_ok-nodes.nodes; lists = c.args.self.lists } h.good h.lists (c.in_ok-nodes.ensures.nodes f.greatest _ f.gates h.gates) (omega (arith, c.in_ok-nodes.ensures.len, h.greatest)) older
 
 -- where not all gates rise, or a variable is missing: what the tables tell
 module _ (c : After-deref) (f : File) (h : AreLinesOf f c.args.self) where

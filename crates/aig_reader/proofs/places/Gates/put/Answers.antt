@@ -17,11 +17,11 @@ new-requires c =
     let h = rw c.in-Rising.is at c.requires.placed.3 in
     subst (All HasSmall) (sym c.deref.ensures.value) (small_nodes c.requires.placed.2 c.in-Rising.rising h.form h.nodes)
 
-pub returns-then-is_next-clause-placed : goal.returns-then-is_next-clause-placed
-returns-then-is_next-clause-placed c = λ greatest leaves before h defined new own.
+pub returns-in_ok-put-in-Rising-clause-placed : goal.returns-in_ok-put-in-Rising-clause-placed
+returns-in_ok-put-in-Rising-clause-placed c = λ greatest leaves before h defined new own.
     let rising = c.in-Rising.rising in
     let placed = rw c.in-Rising.is at h in
-    rises_still greatest leaves before c.args.lhs c.args.operands own rising c.put.new.self placed (c.is_next.ensures.next c.if-is_next.true) (c.put.ensures.exact before placed.nodes new own) c.put.ensures.last (omega arith, omega arith)
+    rises_still greatest leaves before c.args.lhs c.args.operands own rising c.put.new.self placed (c.is_next.ensures.next c.if-is_next.true) (c.in_ok-put-in-Rising.ensures.exact before placed.nodes new own) c.in_ok-put-in-Rising.ensures.last (omega arith, omega arith)
 
 pub returns-in_ok-push-in-Rising-clause-placed : goal.returns-in_ok-push-in-Rising-clause-placed
 returns-in_ok-push-in-Rising-clause-placed c = λ greatest leaves before h defined new own.
