@@ -2,6 +2,7 @@ mod Refuted
 mod Invariants
 mod Splicing
 mod Induction
+mod States
 mod Differing
 pub mod Below
 mod Windows

@@ -1,6 +1,6 @@
 //! Laws of refuted queries and of inductive invariants.
 
-ghost use Rattle.std.specs.Prelude.{◌-◌, ◌≤◌, ◌++◌, ℕ, Bool, List, length};
+ghost use Rattle.std.specs.Prelude.{◌+◌, ◌^◌, ◌≤◌, ◌++◌, ℕ, Bool, List, length};
 ghost use Rattle.aig_base.specs.declared.logic.literal.Lit.{Lit};
 ghost use Rattle.aig_circuit.specs.Circuit.{Circuit};
 ghost use Rattle.aig_format.specs.File.{File};
@@ -13,6 +13,7 @@ ghost use Rattle.aig_certify.specs.Inductive.{IsInductive};
 ghost use Rattle.aig_certify.specs.Safety.{IsSafeAt};
 ghost use Rattle.aig_certify.specs.WindowClauses.{AsksWindow};
 ghost use Rattle.aig_certify.specs.declared.window.Window.{Window};
+ghost use Rattle.aig_certify.specs.declared.window.Window.TheVariants.{Distinct};
 
 use aig_runs::refuted_queries_are_safe;
 
@@ -52,6 +53,16 @@ pub fn inductive_invariants_are_safe()
 /// reached at any step. It is enough to look at the windows on which no state comes twice.
 pub fn inductive_windows_are_safe()
     ensures { (form : Window) (f : File) (k : ℕ) → IsSafeTo f k → IsKInductive form f k
+        → (n : ℕ) → IsSafeTo f n }
+{}
+
+/// Law: L latches have 2 ^ L states, so no window of more steps is without a state that comes twice,
+/// and the windows of k + 2 steps of every machine are inductive from k = 2 ^ L - 1 on; so where no
+/// bad literal is reached up to that step, none is reached at any.
+pub fn distinct_windows_are_complete()
+    ensures inductive { (f : File) (k : ℕ) → 2 ^ length f.latches ≤ k + 1
+        → IsKInductive Distinct f k }
+    ensures safe { (f : File) (k : ℕ) → 2 ^ length f.latches ≤ k + 1 → IsSafeTo f k
         → (n : ℕ) → IsSafeTo f n }
 {}
 

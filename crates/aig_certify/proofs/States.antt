@@ -1,0 +1,87 @@
+-- So many latches have no more states than values, so a window of more steps has some state twice.
+use Rattle.std.proofs.Common.{◌≡◌, ℕ, zero, suc, ◌+◌, ◌*◌, ◌/◌, ◌<◌, ◌≤◌, Bool, true, false, cond, eqb, List, [], ◌∷◌, length, refl, sym, ap, arith}
+use Rattle.std.specs.Prelude.{◌^◌}
+use Rattle.std.specs.List.{AllByRecursion, IsDistinct}
+use Rattle.std.proofs.Math.Nat.{pow-succ'}
+use Rattle.std.proofs.lemmas.Bool.{eqb-true, ne_eqb}
+use Rattle.std.proofs.lemmas.List.Elements.{All-contains, All-from_recursion}
+use Rattle.std.proofs.lemmas.Map.Steps.{length-le_from_distinct_below}
+use Rattle.std.proofs.lemmas.Map.Views.{Contains-from_any}
+use Rattle.aig_format.specs.File.{File, LatchLine}
+use Rattle.aig_runs.specs.Queries.{IsSafeTo}
+use Rattle.aig_certify.specs.declared.window.Window.TheVariants.{Distinct}
+use Rattle.aig_certify.specs.Induction.{HasDistinctStates, IsKInductive}
+use Rattle.aig_certify.proofs.Induction.{always_safe_by_windows}
+
+-- ---- a state as a number
+
+-- one binary digit for each latch
+abbrev number : (ℕ → Bool) → List LatchLine → ℕ
+number values [] = 0
+number values (l ∷ ls) = cond (values (l.literal / 2)) 1 0 + 2 * number values ls
+
+number_below : (values : ℕ → Bool) (ls : List LatchLine) → number values ls < 2 ^ length ls
+number_below values [] = omega arith
+number_below values (l ∷ ls) = by_digit (values (l.literal / 2)) (number values ls) (length ls) (number_below values ls)
+  where
+    by_digit : (b : Bool) (n digits : ℕ) → n < 2 ^ digits → cond b 1 0 + 2 * n < 2 ^ suc digits
+    by_digit true n digits low = let twice = pow-succ' 2 digits in omega (arith, low, twice)
+    by_digit false n digits low = let twice = pow-succ' 2 digits in omega (arith, low, twice)
+
+same_digits : (a b : Bool) (m n : ℕ) → cond a 1 0 + 2 * m ≡ cond b 1 0 + 2 * n → (a ≡ b) × (m ≡ n)
+same_digits true true m n same = (refl, omega arith)
+same_digits true false m n same = absurd (omega arith)
+same_digits false true m n same = absurd (omega arith)
+same_digits false false m n same = (refl, omega arith)
+
+-- a number has one state
+number_same : (values other : ℕ → Bool) (ls : List LatchLine) → number values ls ≡ number other ls → AllByRecursion (λ (l : LatchLine). values (l.literal / 2) ≡ other (l.literal / 2)) ls
+number_same values other [] same = tt
+number_same values other (l ∷ ls) same =
+    let parts = same_digits (values (l.literal / 2)) (other (l.literal / 2)) (number values ls) (number other ls) same in
+    (parts.0, number_same values other ls parts.1)
+
+-- ---- the states of a window
+
+module _ (f : File) (run : ℕ → ℕ → Bool) where
+  -- the numbers of the states before step n
+  abbrev numbers : ℕ → List ℕ
+  numbers zero = []
+  numbers (suc n) = number (run n) f.latches ∷ numbers n
+
+  numbers_count : (n : ℕ) → length (numbers n) ≡ n
+  numbers_count zero = refl
+  numbers_count (suc n) = ap suc (numbers_count n)
+
+  numbers_below : (n : ℕ) → AllByRecursion (λ q. q < 2 ^ length f.latches) (numbers n)
+  numbers_below zero = tt
+  numbers_below (suc n) = (number_below (run n) f.latches, numbers_below n)
+
+  module _ (last : ℕ) (distinct : HasDistinctStates f last run) where
+    numbers_apart : (t n : ℕ) → n ≤ t → t ≤ last → AllByRecursion (λ q. eqb (number (run t) f.latches) q ≡ false) (numbers n)
+    numbers_apart t zero before low = tt
+    numbers_apart t (suc n) before low = (
+      ne_eqb (number (run t) f.latches) (number (run n) f.latches) (λ same. distinct n t (omega arith) low (number_same (run n) (run t) f.latches (sym same))),
+      numbers_apart t n (omega arith) low,
+    )
+
+    numbers_distinct : (n : ℕ) → n ≤ last + 1 → IsDistinct eqb (numbers n)
+    unfolding IsDistinct
+    numbers_distinct zero low = tt
+    numbers_distinct (suc n) low = (numbers_apart n n (omega arith) (omega arith), numbers_distinct n (omega arith))
+
+    few_states : last + 1 ≤ 2 ^ length f.latches
+    few_states =
+        let all = numbers (last + 1) in
+        let within = All-from_recursion (λ q. q < 2 ^ length f.latches) all (numbers_below (last + 1)) in
+        let few = length-le_from_distinct_below all (2 ^ length f.latches) (numbers_distinct (last + 1) (omega arith))
+        (λ q there. All-contains (λ q. q < 2 ^ length f.latches) all q within (Contains-from_any (λ x y is. eqb-true x y is) q all there)) in
+        omega (arith, few, numbers_count (last + 1))
+
+-- ---- the laws
+
+pub no_long_window : (f : File) (k : ℕ) → 2 ^ length f.latches ≤ k + 1 → IsKInductive Distinct f k
+no_long_window f k long run w = let few = few_states f run (k + 1) w.states in absurd (omega (arith, few, long))
+
+pub safe_by_count : (f : File) (k : ℕ) → 2 ^ length f.latches ≤ k + 1 → IsSafeTo f k → (n : ℕ) → IsSafeTo f n
+safe_by_count f k long base = always_safe_by_windows Distinct f k base (no_long_window f k long)
