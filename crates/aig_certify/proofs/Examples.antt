@@ -1,12 +1,24 @@
 -- The further clauses of small windows, computed, with the numbers of literals worked by hand: twice the variable, and one more where it is inverted.
-use Rattle.std.proofs.Common.{◌≡◌, ℕ, true, false, None, List, [], ◌∷◌, map, refl}
+-- And a file that a certificate shows safe.
+use Rattle.std.proofs.Common.{◌≡◌, ℕ, zero, suc, ◌+◌, ◌<◌, ◌≤◌, Bool, true, false, eqb, not, ◌&&◌, None, List, [], ◌∷◌, map, refl, sym, ap, subst, ◌∙◌, arith}
+use Rattle.std.specs.Prelude.{Contains}
+use Rattle.std.proofs.lemmas.Bool.{false≢true}
+use Rattle.std.proofs.lemmas.List.Elements.{All-contains, All-contains_itself, All-from_recursion, All-nil}
 use Rattle.aig_base.specs.declared.logic.literal.Lit.{Lit}
 use Rattle.aig_circuit.specs.declared.edge.AigEdge.{AigEdge}
 use Rattle.aig_circuit.specs.declared.node.AigLatch.{AigLatch}
 use Rattle.aig_circuit.specs.Circuit.{Circuit, only_false}
 use Rattle.aig_circuit.specs.Edge.{edge_to}
+use Rattle.aig_format.specs.declared.FileKind.TheVariants.{Text}
+use Rattle.aig_format.specs.File.{File, LatchLine}
+use Rattle.aig_format.specs.Machine.{IsStep, Moves}
+use Rattle.aig_runs.specs.Queries.{IsSafeTo}
 use Rattle.aig_certify.specs.declared.window.Window.TheVariants.{Plain, Distinct}
+use Rattle.aig_certify.specs.Certificate.{Extends, IsCertificateOf}
+use Rattle.aig_certify.specs.Induction.{IsKInductive, IsWindow}
+use Rattle.aig_certify.specs.Safety.{IsGood}
 use Rattle.aig_certify.specs.WindowClauses.{count_free, distinct_clauses, induction_clauses, pair_clauses, state_at, watched, window_clauses}
+use Rattle.aig_certify.proofs.Certificates.{listed_certificate}
 
 -- the numbers of the literals, clause for clause
 abbrev codes_of : List (List Lit) → List (List ℕ)
@@ -78,3 +90,138 @@ leaves = refl
 -- the clauses of states stand behind those of induction
 behind : codes_of (window_clauses Distinct 4 (record only_false { latchs = keeping 1 ∷ [] }) 0 (showing (edge_to 1 false ∷ edge_to 2 false ∷ []))) ≡ [] ∷ (9 ∷ 2 ∷ 4 ∷ []) ∷ (9 ∷ 3 ∷ 5 ∷ []) ∷ (8 ∷ []) ∷ []
 behind = refl
+
+-- ---- certificates
+
+-- a latch that is 0 first
+abbrev latch_from : ℕ → ℕ → LatchLine
+latch_from literal next = record { literal = literal; next = next; reset = None }
+
+-- Latch 1 takes what latch 2 has, which keeps it, and both are 0 first; 1 is bad. No window of two
+-- steps shows it safe: one leads from the state 0 1 to a bad one.
+abbrev shifting : File
+shifting = record {
+  kind = Text;
+  greatest = 2;
+  inputs = [];
+  latches = latch_from 2 4 ∷ latch_from 4 4 ∷ [];
+  outputs = [];
+  gates = [];
+  bads = 2 ∷ [];
+  constraints = [];
+  justice = [];
+  fairness = [];
+  names = [];
+}
+
+from_zero_one : ℕ → ℕ → Bool
+from_zero_one zero n = eqb n 2
+from_zero_one (suc t) n = not (eqb n 0)
+
+shifting-window : IsWindow Plain shifting 0 from_zero_one
+unfolding from_zero_one
+shifting-window = record {
+  is_run = record { steps = steps; moves = moves };
+  constraints = λ t low. tt;
+  good = λ t low. good t low;
+  states = tt;
+}
+  where
+    steps : (t : ℕ) → t ≤ 0 + 1 → IsStep shifting (from_zero_one t)
+    steps zero low = record { zero = refl; gates = tt }
+    steps (suc t) low = record { zero = refl; gates = tt }
+
+    moves : (t : ℕ) → t < 0 + 1 → Moves shifting (from_zero_one t) (from_zero_one (t + 1))
+    moves zero low = (refl, (refl, tt))
+    moves (suc t) low = absurd (omega arith)
+
+    good : (t : ℕ) → t ≤ 0 → IsGood shifting (from_zero_one t)
+    good zero low = (refl, tt)
+    good (suc t) low = absurd (omega arith)
+
+shifting-not_inductive : ¬ IsKInductive Plain shifting 0
+unfolding from_zero_one
+shifting-not_inductive step =
+    let good = step from_zero_one shifting-window in
+    false≢true (sym good.0)
+
+-- a certificate: gate 3 says that both are 0, and its inverse is bad too
+abbrev shown : File
+shown = record shifting {
+  greatest = 3;
+  gates = record { lhs = 6; rhs0 = 5; rhs1 = 3 } ∷ [];
+  bads = 7 ∷ 2 ∷ [];
+}
+
+shown-extends : Extends shown shifting
+shown-extends = record {
+  inputs = All-nil (Contains []);
+  latches = All-contains_itself shifting.latches;
+  gates = All-nil (Contains shown.gates);
+}
+
+shown-is_certificate : IsCertificateOf shown shifting
+shown-is_certificate =
+    let bad_too = All-from_recursion (Contains shown.bads) shifting.bads ((1, omega arith, refl), tt) in
+    listed_certificate shown shifting shown-extends (All-nil (Contains [])) bad_too
+
+-- it is safe at step 0, and its windows of two steps show that it is at each
+shown-safe : IsSafeTo shown 0
+shown-safe last t run is start within low constraints =
+    let first : t ≡ 0 = omega arith in
+    subst (λ n. IsGood shown (run n)) (sym first)
+    (begins (run 0 1) (run 0 2) (run 0 3) start.0 start.1.0 (is.steps 0 (omega arith)).gates.0)
+  where
+    begins : (a b g : Bool) → a ≡ false → b ≡ false → g ≡ not b && not a
+        → (not g ≡ false) × ((a ≡ false) × Unit {0})
+    begins a b g first second is =
+        (ap not (is ∙ ap (λ x. not x && not a) second ∙ ap not first), (first, tt))
+
+shown-inductive : IsKInductive Plain shown 0
+shown-inductive run w =
+    let before = (w.is_run.steps 0 (omega arith)).gates in
+    let after = (w.is_run.steps 1 (omega arith)).gates in
+    let moved = w.is_run.moves 0 (omega arith) in
+    let good = w.good 0 (omega arith) in
+    stays (run 0 1) (run 0 2) (run 0 3) (run 1 1) (run 1 2) (run 1 3)
+    before.0 good.0 moved.0 moved.1.0 after.0
+  where
+    -- where both are 0, both stay 0
+    stays : (a b g a' b' g' : Bool) → g ≡ not b && not a → not g ≡ false → a' ≡ b → b' ≡ b
+        → g' ≡ not b' && not a' → (not g' ≡ false) × ((a' ≡ false) × Unit {0})
+    stays false false g a' b' g' before good first second after =
+        (ap not (after ∙ ap (λ x. not x && not a') second ∙ ap not first), (first, tt))
+    stays true false g a' b' g' before good first second after =
+        absurd (false≢true (sym good ∙ ap not before))
+    stays a true g a' b' g' before good first second after =
+        absurd (false≢true (sym good ∙ ap not before))
+
+-- ---- what is no certificate
+
+-- a step at which latch 1 alone is 1
+only_first : ℕ → Bool
+only_first n = eqb n 1
+
+-- nothing is bad
+silent : ¬ IsCertificateOf (record shown { bads = [] }) shifting
+unfolding only_first
+silent is =
+    let good = is.good only_first (record { zero = refl; gates = (refl, tt) }) tt tt in
+    false≢true (sym good.0)
+
+-- the bad state is forbidden
+forbidding : ¬ IsCertificateOf (record shown { constraints = 3 ∷ [] }) shifting
+unfolding only_first
+forbidding is =
+    let holds = is.constraints only_first (record { zero = refl; gates = (refl, tt) }) tt in
+    false≢true holds.0
+
+-- the machine isn't the same: latch 1 stays 0
+frozen : ¬ IsCertificateOf (record shown { latches = latch_from 2 0 ∷ latch_from 4 4 ∷ [] }) shifting
+frozen is =
+    let latches = latch_from 2 0 ∷ latch_from 4 4 ∷ [] in
+    let IsOther = λ (l : LatchLine). l.literal ≡ 2 → l.next ≡ 0 in
+    let others = All-from_recursion IsOther latches ((λ e. refl), ((λ e. absurd (omega arith)), tt)) in
+    let there = is.extends.latches 0 (latch_from 2 4) (omega arith) in
+    let next = All-contains IsOther latches (latch_from 2 4) others there refl in
+    absurd (omega (arith, next))

@@ -1,7 +1,7 @@
 -- So many latches have no more states than values, so a window of more steps has some state twice.
 use Rattle.std.proofs.Common.{◌≡◌, ℕ, zero, suc, ◌+◌, ◌*◌, ◌/◌, ◌<◌, ◌≤◌, Bool, true, false, cond, eqb, List, [], ◌∷◌, length, refl, sym, ap, arith}
 use Rattle.std.specs.Prelude.{◌^◌}
-use Rattle.std.specs.List.{AllByRecursion, IsDistinct}
+use Rattle.std.specs.List.{AllByRecursion, IsDistinct, list_any}
 use Rattle.std.proofs.Math.Nat.{pow-succ'}
 use Rattle.std.proofs.lemmas.Bool.{eqb-true, ne_eqb}
 use Rattle.std.proofs.lemmas.List.Elements.{All-contains, All-from_recursion}
@@ -22,7 +22,8 @@ number values (l ∷ ls) = cond (values (l.literal / 2)) 1 0 + 2 * number values
 
 number_below : (values : ℕ → Bool) (ls : List LatchLine) → number values ls < 2 ^ length ls
 number_below values [] = omega arith
-number_below values (l ∷ ls) = by_digit (values (l.literal / 2)) (number values ls) (length ls) (number_below values ls)
+number_below values (l ∷ ls) =
+    by_digit (values (l.literal / 2)) (number values ls) (length ls) (number_below values ls)
   where
     by_digit : (b : Bool) (n digits : ℕ) → n < 2 ^ digits → cond b 1 0 + 2 * n < 2 ^ suc digits
     by_digit true n digits low = let twice = pow-succ' 2 digits in omega (arith, low, twice)
@@ -35,53 +36,69 @@ same_digits false true m n same = absurd (omega arith)
 same_digits false false m n same = (refl, omega arith)
 
 -- a number has one state
-number_same : (values other : ℕ → Bool) (ls : List LatchLine) → number values ls ≡ number other ls → AllByRecursion (λ (l : LatchLine). values (l.literal / 2) ≡ other (l.literal / 2)) ls
+number_same : (values other : ℕ → Bool) (ls : List LatchLine) → number values ls ≡ number other ls
+    → AllByRecursion (λ (l : LatchLine). values (l.literal / 2) ≡ other (l.literal / 2)) ls
 number_same values other [] same = tt
 number_same values other (l ∷ ls) same =
-    let parts = same_digits (values (l.literal / 2)) (other (l.literal / 2)) (number values ls) (number other ls) same in
+    let v = l.literal / 2 in
+    let parts = same_digits (values v) (other v) (number values ls) (number other ls) same in
     (parts.0, number_same values other ls parts.1)
 
 -- ---- the states of a window
 
 module _ (f : File) (run : ℕ → ℕ → Bool) where
-  -- the numbers of the states before step n
+  -- the number of the state at step t
+  abbrev at : ℕ → ℕ
+  at t = number (run t) f.latches
+
+  -- those before step n
   abbrev numbers : ℕ → List ℕ
   numbers zero = []
-  numbers (suc n) = number (run n) f.latches ∷ numbers n
+  numbers (suc n) = at n ∷ numbers n
 
   numbers_count : (n : ℕ) → length (numbers n) ≡ n
   numbers_count zero = refl
   numbers_count (suc n) = ap suc (numbers_count n)
 
-  numbers_below : (n : ℕ) → AllByRecursion (λ q. q < 2 ^ length f.latches) (numbers n)
-  numbers_below zero = tt
-  numbers_below (suc n) = (number_below (run n) f.latches, numbers_below n)
+  -- they are below the count of states
+  abbrev IsSmall : ℕ → Type 0
+  IsSmall q = q < 2 ^ length f.latches
+
+  numbers_small : (n : ℕ) → AllByRecursion IsSmall (numbers n)
+  numbers_small zero = tt
+  numbers_small (suc n) = (number_below (run n) f.latches, numbers_small n)
 
   module _ (last : ℕ) (distinct : HasDistinctStates f last run) where
-    numbers_apart : (t n : ℕ) → n ≤ t → t ≤ last → AllByRecursion (λ q. eqb (number (run t) f.latches) q ≡ false) (numbers n)
+    numbers_apart : (t n : ℕ) → n ≤ t → t ≤ last → AllByRecursion (λ q. eqb (at t) q ≡ false) (numbers n)
     numbers_apart t zero before low = tt
-    numbers_apart t (suc n) before low = (
-      ne_eqb (number (run t) f.latches) (number (run n) f.latches) (λ same. distinct n t (omega arith) low (number_same (run n) (run t) f.latches (sym same))),
-      numbers_apart t n (omega arith) low,
-    )
+    numbers_apart t (suc n) before low =
+        let same_state = number_same (run n) (run t) f.latches in
+        let differ = ne_eqb (at t) (at n) (λ same. distinct n t (omega arith) low (same_state (sym same))) in
+        (differ, numbers_apart t n (omega arith) low)
 
     numbers_distinct : (n : ℕ) → n ≤ last + 1 → IsDistinct eqb (numbers n)
     unfolding IsDistinct
     numbers_distinct zero low = tt
-    numbers_distinct (suc n) low = (numbers_apart n n (omega arith) (omega arith), numbers_distinct n (omega arith))
+    numbers_distinct (suc n) low =
+        (numbers_apart n n (omega arith) (omega arith), numbers_distinct n (omega arith))
 
     few_states : last + 1 ≤ 2 ^ length f.latches
     few_states =
         let all = numbers (last + 1) in
-        let within = All-from_recursion (λ q. q < 2 ^ length f.latches) all (numbers_below (last + 1)) in
-        let few = length-le_from_distinct_below all (2 ^ length f.latches) (numbers_distinct (last + 1) (omega arith))
-        (λ q there. All-contains (λ q. q < 2 ^ length f.latches) all q within (Contains-from_any (λ x y is. eqb-true x y is) q all there)) in
+        let small = All-from_recursion IsSmall all (numbers_small (last + 1)) in
+        let within : (q : ℕ) → list_any (eqb q) all ≡ true → IsSmall q = λ q there.
+        All-contains IsSmall all q small (Contains-from_any (λ x y is. eqb-true x y is) q all there) in
+        let distinct = numbers_distinct (last + 1) (omega arith) in
+        let few = length-le_from_distinct_below all (2 ^ length f.latches) distinct within in
         omega (arith, few, numbers_count (last + 1))
 
 -- ---- the laws
 
 pub no_long_window : (f : File) (k : ℕ) → 2 ^ length f.latches ≤ k + 1 → IsKInductive Distinct f k
-no_long_window f k long run w = let few = few_states f run (k + 1) w.states in absurd (omega (arith, few, long))
+no_long_window f k long run w =
+    let few = few_states f run (k + 1) w.states in
+    absurd (omega (arith, few, long))
 
-pub safe_by_count : (f : File) (k : ℕ) → 2 ^ length f.latches ≤ k + 1 → IsSafeTo f k → (n : ℕ) → IsSafeTo f n
+pub safe_by_count : (f : File) (k : ℕ) → 2 ^ length f.latches ≤ k + 1 → IsSafeTo f k
+    → (n : ℕ) → IsSafeTo f n
 safe_by_count f k long base = always_safe_by_windows Distinct f k base (no_long_window f k long)

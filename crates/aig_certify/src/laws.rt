@@ -1,13 +1,16 @@
 //! Laws of refuted queries and of inductive invariants.
 
-ghost use Rattle.std.specs.Prelude.{◌+◌, ◌^◌, ◌≤◌, ◌++◌, ℕ, Bool, List, length};
+ghost use Rattle.std.specs.Prelude.{◌+◌, ◌^◌, ◌≤◌, ◌++◌, ℕ, All, Bool, Contains, List, length};
 ghost use Rattle.aig_base.specs.declared.logic.literal.Lit.{Lit};
 ghost use Rattle.aig_circuit.specs.Circuit.{Circuit};
 ghost use Rattle.aig_format.specs.File.{File};
 ghost use Rattle.aig_format.specs.Circuit.{circuit_of};
 ghost use Rattle.aig_format.specs.Fits.{Fits};
+ghost use Rattle.aig_format.specs.Machine.{IsRun, IsStart};
+ghost use Rattle.aig_format_laws.specs.MachineRuns.{AgreeOnKnown};
 ghost use Rattle.aig_base.specs.Formula.{clauses_in, IsSatisfiable};
 ghost use Rattle.aig_runs.specs.Queries.{Asks, IsSafeTo};
+ghost use Rattle.aig_certify.specs.Certificate.{Extends, IsCertificateOf};
 ghost use Rattle.aig_certify.specs.Induction.{IsKInductive};
 ghost use Rattle.aig_certify.specs.Inductive.{IsInductive};
 ghost use Rattle.aig_certify.specs.Safety.{IsSafeAt};
@@ -73,4 +76,30 @@ pub fn refuted_windows_are_inductive()
         (clauses : List (List (List Lit))) (further : List (List Lit))
         → Fits f limit → AsksWindow form (circuit_of f) k optimize clauses further
         → ¬ IsSatisfiable (clauses_in clauses ++ further) → IsKInductive form f k }
+{}
+
+/// Law: a file that extends another by inputs, latches or gates has its runs: for each run of the
+/// other from a start there is one with the same values of all that the other defines; and each of
+/// its own runs is one of the other.
+pub fn extended_files_have_runs()
+    ensures forth { (g f : File) (bound limit last : ℕ) (run : ℕ → ℕ → Bool)
+        → Fits g bound → Fits f limit → Extends g f → IsRun f last run → IsStart f run
+        → (r : ℕ → ℕ → Bool) × IsRun g last r × IsStart g r × AgreeOnKnown f last run r }
+    ensures back { (g f : File) (last : ℕ) (run : ℕ → ℕ → Bool) → Extends g f
+        → IsRun g last run → IsRun f last run }
+    ensures starts { (g f : File) (run : ℕ → ℕ → Bool) → Extends g f
+        → IsStart g run → IsStart f run }
+{}
+
+/// Law: a file is safe as far as its certificate is, and so at every step where the certificate is
+/// safe up to step k and its windows of k + 2 steps are inductive. A file that extends another, with
+/// no further constraints and with all its bad literals among others, is a certificate of it.
+pub fn certificates_are_safe()
+    ensures safe { (g f : File) (bound limit n : ℕ) → Fits g bound → Fits f limit
+        → IsCertificateOf g f → IsSafeTo g n → IsSafeTo f n }
+    ensures inductive { (form : Window) (g f : File) (bound limit k : ℕ)
+        → Fits g bound → Fits f limit → IsCertificateOf g f
+        → IsSafeTo g k → IsKInductive form g k → (n : ℕ) → IsSafeTo f n }
+    ensures listed { (g f : File) → Extends g f → All (Contains f.constraints) g.constraints
+        → All (Contains g.bads) f.bads → IsCertificateOf g f }
 {}
