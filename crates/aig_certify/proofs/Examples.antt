@@ -15,7 +15,7 @@ use Rattle.aig_format.specs.Machine.{IsStep, Moves}
 use Rattle.aig_runs.specs.Queries.{IsSafeTo}
 use Rattle.aig_certify.specs.declared.window.Window.TheVariants.{Plain, Distinct}
 use Rattle.aig_certify.specs.Certificate.{Extends, IsCertificateOf}
-use Rattle.aig_certify.specs.Induction.{IsKInductive, IsWindow}
+use Rattle.aig_certify.specs.Induction.{HasDistinctStates, IsKInductive, IsWindow}
 use Rattle.aig_certify.specs.Safety.{IsGood}
 use Rattle.aig_certify.specs.WindowClauses.{count_free, distinct_clauses, induction_clauses, pair_clauses, state_at, watched, window_clauses}
 use Rattle.aig_certify.proofs.Certificates.{listed_certificate}
@@ -195,6 +195,50 @@ shown-inductive run w =
         absurd (false≢true (sym good ∙ ap not before))
     stays a true g a' b' g' before good first second after =
         absurd (false≢true (sym good ∙ ap not before))
+
+-- ---- as many states as there are
+
+-- A latch that toggles is bad at step 1. Its window of two steps has each of the two states of one latch
+-- once: only longer ones repeat a state.
+abbrev toggling : File
+toggling = record shifting { greatest = 1; latches = latch_from 2 3 ∷ [] }
+
+zero_and_one : ℕ → ℕ → Bool
+zero_and_one zero n = false
+zero_and_one (suc t) n = eqb n 1
+
+toggling-window : IsWindow Distinct toggling 0 zero_and_one
+unfolding zero_and_one
+toggling-window = record {
+  is_run = record { steps = steps; moves = moves };
+  constraints = λ t low. tt;
+  good = λ t low. good t low;
+  states = states;
+}
+  where
+    steps : (t : ℕ) → t ≤ 0 + 1 → IsStep toggling (zero_and_one t)
+    steps zero low = record { zero = refl; gates = tt }
+    steps (suc t) low = record { zero = refl; gates = tt }
+
+    moves : (t : ℕ) → t < 0 + 1 → Moves toggling (zero_and_one t) (zero_and_one (t + 1))
+    moves zero low = (refl, tt)
+    moves (suc t) low = absurd (omega arith)
+
+    good : (t : ℕ) → t ≤ 0 → IsGood toggling (zero_and_one t)
+    good zero low = (refl, tt)
+    good (suc t) low = absurd (omega arith)
+
+    states : HasDistinctStates toggling 1 zero_and_one
+    states zero zero less low same = absurd (omega arith)
+    states zero (suc t) less low same = false≢true same.0
+    states (suc s) zero less low same = absurd (omega arith)
+    states (suc s) (suc t) less low same = absurd (omega arith)
+
+toggling-not_inductive : ¬ IsKInductive Distinct toggling 0
+unfolding zero_and_one
+toggling-not_inductive step =
+    let good = step zero_and_one toggling-window in
+    false≢true (sym good.0)
 
 -- ---- what is no certificate
 

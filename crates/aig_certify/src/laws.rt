@@ -1,6 +1,6 @@
-//! Laws of refuted queries and of inductive invariants.
+//! Laws of refuted queries, of windows, and of inductive invariants and certificates.
 
-ghost use Rattle.std.specs.Prelude.{◌+◌, ◌^◌, ◌≤◌, ◌++◌, ℕ, All, Bool, Contains, List, length};
+ghost use Rattle.std.specs.Prelude.{◌+◌, ◌^◌, ◌≤◌, ◌↔◌, ◌++◌, ℕ, All, Bool, Contains, IsTrue, List, length};
 ghost use Rattle.aig_base.specs.declared.logic.literal.Lit.{Lit};
 ghost use Rattle.aig_circuit.specs.Circuit.{Circuit};
 ghost use Rattle.aig_format.specs.File.{File};
@@ -13,10 +13,10 @@ ghost use Rattle.aig_runs.specs.Queries.{Asks, IsSafeTo};
 ghost use Rattle.aig_certify.specs.Certificate.{Extends, IsCertificateOf};
 ghost use Rattle.aig_certify.specs.Induction.{IsKInductive};
 ghost use Rattle.aig_certify.specs.Inductive.{IsInductive};
-ghost use Rattle.aig_certify.specs.Safety.{IsSafeAt};
+ghost use Rattle.aig_certify.specs.Safety.{IsGood, IsSafeAt};
 ghost use Rattle.aig_certify.specs.WindowClauses.{AsksWindow};
 ghost use Rattle.aig_certify.specs.declared.window.Window.{Window};
-ghost use Rattle.aig_certify.specs.declared.window.Window.TheVariants.{Distinct};
+ghost use Rattle.aig_certify.specs.declared.window.Window.TheVariants.{Distinct, Plain};
 
 use aig_runs::refuted_queries_are_safe;
 
@@ -50,6 +50,15 @@ pub fn safe_steps_are_safe()
 pub fn inductive_invariants_are_safe()
     ensures { (f : File) (invariant : (ℕ → Bool) → Bool)
         → IsInductive f invariant → (n : ℕ) → IsSafeTo f n }
+{}
+
+/// Law: a test that passes exactly where no bad literal holds is an inductive invariant exactly where
+/// none holds at step 0 of a run from a start, and no window of two steps reaches one at its end. So
+/// where a literal's inverse is the one bad literal, this is what makes the literal an invariant.
+pub fn invariants_are_windows()
+    ensures { (f : File) (invariant : (ℕ → Bool) → Bool)
+        → ((values : ℕ → Bool) → IsTrue (invariant values) ↔ IsGood f values)
+        → IsInductive f invariant ↔ (IsSafeTo f 0 × IsKInductive Plain f 0) }
 {}
 
 /// Law: where no bad literal is reached up to step k, and no window of k + 2 steps reaches one first at its end, none is

@@ -8,7 +8,8 @@ mod window;
 pub use circuits::{refuted_circuit_queries_have_no_witness, safe_circuits_are_safe_machines};
 pub use laws::{
     certificates_are_safe, distinct_windows_are_complete, extended_files_have_runs,
-    inductive_invariants_are_safe, inductive_windows_are_safe, refutations_are_safe,
-    refuted_queries_have_no_witness, refuted_windows_are_inductive, safe_steps_are_safe,
+    inductive_invariants_are_safe, inductive_windows_are_safe, invariants_are_windows,
+    refutations_are_safe, refuted_queries_have_no_witness, refuted_windows_are_inductive,
+    safe_steps_are_safe,
 };
 pub use window::Window;
