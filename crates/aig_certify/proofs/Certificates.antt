@@ -51,7 +51,8 @@ module _ (g f : File) (extends : Extends g f) where
   run_back last run is = record {
     steps = λ t low. step_back (run t) (is.steps t low);
     moves = λ t low.
-        carried (Follows (run t) (run (t + 1))) f.latches g.latches extends.latches (is.moves t low);
+        let Next = Follows (run t) (run (t + 1)) in
+        carried Next f.latches g.latches extends.latches (is.moves t low);
   }
 
   pub start_back : (run : ℕ → ℕ → Bool) → IsStart g run → IsStart f run
@@ -77,6 +78,9 @@ module _ (f : File) (limit : ℕ) (fits : Fits f limit) where
   abbrev leaf_literals : List ℕ
   leaf_literals = f.inputs ++ latch_literals
 
+  abbrev gate_literals : List ℕ
+  gate_literals = map (λ (gate : GateLine). gate.lhs) f.gates
+
   -- no latch has the literal
   abbrev Differs : ℕ → Type 0
   Differs e = AllByRecursion (λ y. nat_eq e y ≡ false) latch_literals
@@ -86,16 +90,19 @@ module _ (f : File) (limit : ℕ) (fits : Fits f limit) where
 
   latches_found : AllByRecursion (IsFound f) f.latches
   latches_found =
-      let leaves = distinct_front leaf_literals (map (λ (gate : GateLine). gate.lhs) f.gates) fits.distinct in
+      let leaves = distinct_front leaf_literals gate_literals fits.distinct in
       let definable = latches_definable f limit fits in
-      let even = rec_weaker HasDefinable (λ l. l.literal % 2 ≡ 0) (λ l d. d.0) f.latches definable in
-      found_all (λ (l : LatchLine). l.literal) f.latches even (differ_from f.inputs latch_literals leaves).1
+      let IsEven = λ (l : LatchLine). l.literal % 2 ≡ 0 in
+      let even = rec_weaker HasDefinable IsEven (λ l d. d.0) f.latches definable in
+      let differ = (differ_from f.inputs latch_literals leaves).1 in
+      found_all (λ (l : LatchLine). l.literal) f.latches even differ
 
   missed : (e : ℕ) → IsDefinable f.greatest e × Differs e → IsMissed f e
   missed e p =
       let Differ = λ (l : LatchLine). nat_eq e l.literal ≡ false in
       let Apart = λ (l : LatchLine). (l.literal / 2 == e / 2) ≡ false in
-      let differ = rec_unmap (λ y. nat_eq e y ≡ false) (λ (l : LatchLine). l.literal) f.latches p.1 in
+      let literal = λ (l : LatchLine). l.literal in
+      let differ = rec_unmap (λ y. nat_eq e y ≡ false) literal f.latches p.1 in
       find_none (λ (l : LatchLine). l.literal / 2 == e / 2) f.latches
       (rec_weaker (λ l. HasDefinable l × Differ l) Apart
       (λ l q. differs_half e l.literal p.0.0 q.0.0 q.1) f.latches
@@ -104,7 +111,7 @@ module _ (f : File) (limit : ℕ) (fits : Fits f limit) where
   inputs_missed : AllByRecursion (IsMissed f) f.inputs
   inputs_missed =
       let Definable = IsDefinable f.greatest in
-      let leaves = distinct_front leaf_literals (map (λ (gate : GateLine). gate.lhs) f.gates) fits.distinct in
+      let leaves = distinct_front leaf_literals gate_literals fits.distinct in
       let differ = (differ_from f.inputs latch_literals leaves).0 in
       rec_weaker (λ e. Definable e × Differs e) (IsMissed f) missed f.inputs
       (rec_both Definable Differs f.inputs (inputs_definable f limit fits) differ)
@@ -157,7 +164,8 @@ module _ (g f : File) (bound limit : ℕ) (fits : Fits g bound) (fits_too : Fits
       (λ l p.
       let v = l.literal / 2 in
       let found : start_at v ≡ start_of l = ap (option_and_then start_of) p.0 in
-      subst (λ o. IfSome o (λ b. other 0 v ≡ b)) found (started (start_at v) (run 0 v) (other 0 v) p.1))
+      let starts = started (start_at v) (run 0 v) (other 0 v) p.1 in
+      subst (λ o. IfSome o (λ b. other 0 v ≡ b)) found starts)
       g.latches latches_given
 
   -- inputs have the run's values, and so have the latches of f at step 0

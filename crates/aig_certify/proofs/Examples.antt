@@ -1,7 +1,8 @@
 -- The further clauses of small windows, computed, with the numbers of literals worked by hand: twice the variable, and one more where it is inverted.
 -- And a file that a certificate shows safe.
-use Rattle.std.proofs.Common.{◌≡◌, ℕ, zero, suc, ◌+◌, ◌<◌, ◌≤◌, Bool, true, false, eqb, not, ◌&&◌, None, List, [], ◌∷◌, map, refl, sym, ap, subst, ◌∙◌, arith}
+use Rattle.std.proofs.Common.{◌≡◌, ℕ, zero, suc, ◌+◌, ◌<◌, ◌≤◌, Bool, true, false, eqb, not, ◌&&◌, None, List, [], ◌∷◌, map, refl, sym, ap, subst, ◌∙◌, inl, arith}
 use Rattle.std.specs.Prelude.{Contains}
+use Rattle.std.specs.List.{IsDistinct}
 use Rattle.std.proofs.lemmas.Bool.{false≢true}
 use Rattle.std.proofs.lemmas.List.Elements.{All-contains, All-contains_itself, All-from_recursion, All-nil}
 use Rattle.aig_base.specs.declared.logic.literal.Lit.{Lit}
@@ -11,6 +12,7 @@ use Rattle.aig_circuit.specs.Circuit.{Circuit, only_false}
 use Rattle.aig_circuit.specs.Edge.{edge_to}
 use Rattle.aig_format.specs.declared.FileKind.TheVariants.{Text}
 use Rattle.aig_format.specs.File.{File, LatchLine}
+use Rattle.aig_format.specs.Fits.{Fits}
 use Rattle.aig_format.specs.Machine.{IsStep, Moves}
 use Rattle.aig_runs.specs.Queries.{IsSafeTo}
 use Rattle.aig_certify.specs.declared.window.Window.TheVariants.{Plain, Distinct}
@@ -18,7 +20,8 @@ use Rattle.aig_certify.specs.Certificate.{Extends, IsCertificateOf}
 use Rattle.aig_certify.specs.Induction.{HasDistinctStates, IsKInductive, IsWindow}
 use Rattle.aig_certify.specs.Safety.{IsGood}
 use Rattle.aig_certify.specs.WindowClauses.{count_free, distinct_clauses, induction_clauses, pair_clauses, state_at, watched, window_clauses}
-use Rattle.aig_certify.proofs.Certificates.{listed_certificate}
+use Rattle.aig_certify.proofs.Certificates.{certified_safe, listed_certificate}
+use Rattle.aig_certify.proofs.Induction.{always_safe_by_windows}
 
 -- the numbers of the literals, clause for clause
 abbrev codes_of : List (List Lit) → List (List ℕ)
@@ -196,10 +199,48 @@ shown-inductive run w =
     stays a true g a' b' g' before good first second after =
         absurd (false≢true (sym good ∙ ap not before))
 
+-- so the file is safe at every step
+shifting-fits : Fits shifting 4
+unfolding IsDistinct
+shifting-fits = record {
+  within = omega arith;
+  definable = ((refl, omega arith, omega arith), ((refl, omega arith, omega arith), tt));
+  distinct = ((refl, tt), (tt, tt));
+  in_range = (omega arith, (omega arith, (omega arith, tt)));
+  resets = (tt, (tt, tt));
+  rules = inl (record { exact = refl; rising = tt; ordered = tt });
+  named = tt;
+  once = tt;
+}
+
+shown-fits : Fits shown 4
+unfolding IsDistinct
+shown-fits = record {
+  within = omega arith;
+  definable = (
+    (refl, omega arith, omega arith),
+    ((refl, omega arith, omega arith), ((refl, omega arith, omega arith), tt)),
+  );
+  distinct = ((refl, (refl, tt)), ((refl, tt), (tt, tt)));
+  in_range = (
+    omega arith,
+    (omega arith, (omega arith, (omega arith, (omega arith, (omega arith, tt))))),
+  );
+  resets = (tt, (tt, tt));
+  rules = inl (record { exact = refl; rising = tt; ordered = ((omega arith, omega arith), tt) });
+  named = tt;
+  once = tt;
+}
+
+shifting-safe : (n : ℕ) → IsSafeTo shifting n
+shifting-safe n =
+    let always = always_safe_by_windows Plain shown 0 shown-safe shown-inductive n in
+    certified_safe shown shifting 4 4 n shown-fits shifting-fits shown-is_certificate always
+
 -- ---- as many states as there are
 
--- A latch that toggles is bad at step 1. Its window of two steps has each of the two states of one latch
--- once: only longer ones repeat a state.
+-- A latch that toggles is bad at step 1. Its window of two steps has each of the two states of one
+-- latch once: only longer ones repeat a state.
 abbrev toggling : File
 toggling = record shifting { greatest = 1; latches = latch_from 2 3 ∷ [] }
 

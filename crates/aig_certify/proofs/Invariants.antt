@@ -1,5 +1,5 @@
--- An inductive invariant holds at each step of a run from a start, and one that says that nothing is bad
--- is kept by each window of two steps.
+-- An inductive invariant holds at each step of a run from a start, and one that says that nothing is
+-- bad is kept by each window of two steps.
 use Rattle.std.proofs.Common.{◌≡◌, ◌↔◌, ℕ, zero, suc, ◌+◌, ◌<◌, ◌≤◌, Bool, IsTrue, subst, arith}
 use Rattle.aig_format.specs.File.{File}
 use Rattle.aig_format.specs.Machine.{IsRun, IsStart, IsStep, Moves}
@@ -60,8 +60,13 @@ module _ (f : File) (invariant : (ℕ → Bool) → Bool)
   shown_by_windows : IsSafeTo f 0 → IsKInductive Plain f 0 → IsInductive f invariant
   shown_by_windows base step = record {
     base = λ values is starting holds.
-        let run : IsRun f 0 (λ t. values) = record { steps = λ t low. is; moves = λ t low. absurd (omega arith) } in
-        (same values).1 (base 0 0 (λ t. values) run starting (omega arith) (omega arith) (λ s low. holds));
+        let stays = λ (t : ℕ). values in
+        let run : IsRun f 0 stays = record {
+          steps = λ t low. is;
+          moves = λ t low. absurd (omega arith);
+        } in
+        let good = base 0 0 stays run starting (omega arith) (omega arith) (λ s low. holds) in
+        (same values).1 good;
     step = λ values after is is_after move holds holds_after here.
         let good = (same values).0 here in
         let window = two_steps-window f values after is is_after move holds holds_after good in

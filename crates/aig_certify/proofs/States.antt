@@ -69,11 +69,13 @@ module _ (f : File) (run : ℕ → ℕ → Bool) where
   numbers_small (suc n) = (number_below (run n) f.latches, numbers_small n)
 
   module _ (last : ℕ) (distinct : HasDistinctStates f last run) where
-    numbers_apart : (t n : ℕ) → n ≤ t → t ≤ last → AllByRecursion (λ q. eqb (at t) q ≡ false) (numbers n)
+    numbers_apart : (t n : ℕ) → n ≤ t → t ≤ last
+        → AllByRecursion (λ q. eqb (at t) q ≡ false) (numbers n)
     numbers_apart t zero before low = tt
     numbers_apart t (suc n) before low =
+        let apart = distinct n t (omega arith) low in
         let same_state = number_same (run n) (run t) f.latches in
-        let differ = ne_eqb (at t) (at n) (λ same. distinct n t (omega arith) low (same_state (sym same))) in
+        let differ = ne_eqb (at t) (at n) (λ same. apart (same_state (sym same))) in
         (differ, numbers_apart t n (omega arith) low)
 
     numbers_distinct : (n : ℕ) → n ≤ last + 1 → IsDistinct eqb (numbers n)

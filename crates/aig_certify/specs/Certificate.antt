@@ -1,5 +1,5 @@
--- A file that shows the safety of another. (Certificates of model checking: an inductive invariant is
--- handed over as a file of the same machine with more gates, one of which says the invariant, and
+-- A file that shows the safety of another. (Certificates of model checking: an inductive invariant
+-- is handed over as a file of the same machine with more gates, one of which says the invariant, and
 -- whose inverse is a bad literal beside the others.)
 use Rattle.std.specs.Prelude.{ℕ, Bool, All, Contains}
 use Rattle.aig_format.specs.File.{File}

@@ -1,6 +1,7 @@
 //! Laws of refuted queries, of windows, and of inductive invariants and certificates.
 
-ghost use Rattle.std.specs.Prelude.{◌+◌, ◌^◌, ◌≤◌, ◌↔◌, ◌++◌, ℕ, All, Bool, Contains, IsTrue, List, length};
+ghost use Rattle.std.specs.Prelude.{◌+◌, ◌^◌, ◌≤◌, ◌↔◌, ◌++◌, ℕ, Bool, IsTrue};
+ghost use Rattle.std.specs.Prelude.{All, Contains, List, length};
 ghost use Rattle.aig_base.specs.declared.logic.literal.Lit.{Lit};
 ghost use Rattle.aig_circuit.specs.Circuit.{Circuit};
 ghost use Rattle.aig_format.specs.File.{File};
@@ -52,9 +53,9 @@ pub fn inductive_invariants_are_safe()
         → IsInductive f invariant → (n : ℕ) → IsSafeTo f n }
 {}
 
-/// Law: a test that passes exactly where no bad literal holds is an inductive invariant exactly where
-/// none holds at step 0 of a run from a start, and no window of two steps reaches one at its end. So
-/// where a literal's inverse is the one bad literal, this is what makes the literal an invariant.
+/// Law: a test that passes exactly where no bad literal holds is an inductive invariant exactly
+/// where none holds at step 0 of a run from a start, and no window of two steps reaches one at its
+/// end. So where a literal's inverse is the one bad literal, this makes the literal an invariant.
 pub fn invariants_are_windows()
     ensures { (f : File) (invariant : (ℕ → Bool) → Bool)
         → ((values : ℕ → Bool) → IsTrue (invariant values) ↔ IsGood f values)
@@ -68,9 +69,9 @@ pub fn inductive_windows_are_safe()
         → (n : ℕ) → IsSafeTo f n }
 {}
 
-/// Law: L latches have 2 ^ L states, so no window of more steps is without a state that comes twice,
-/// and the windows of k + 2 steps of every machine are inductive from k = 2 ^ L - 1 on; so where no
-/// bad literal is reached up to that step, none is reached at any.
+/// Law: L latches have 2 ^ L states, so no window of more steps is without a state that comes
+/// twice, and the distinct windows of k + 2 steps of every machine are inductive from
+/// k = 2 ^ L - 1 on; so where no bad literal is reached up to that step, none is reached at any.
 pub fn distinct_windows_are_complete()
     ensures inductive { (f : File) (k : ℕ) → 2 ^ length f.latches ≤ k + 1
         → IsKInductive Distinct f k }
@@ -101,8 +102,8 @@ pub fn extended_files_have_runs()
 {}
 
 /// Law: a file is safe as far as its certificate is, and so at every step where the certificate is
-/// safe up to step k and its windows of k + 2 steps are inductive. A file that extends another, with
-/// no further constraints and with all its bad literals among others, is a certificate of it.
+/// safe up to step k and its windows of k + 2 steps are inductive. A file that extends another,
+/// with no further constraints and with all its bad literals among others, is a certificate of it.
 pub fn certificates_are_safe()
     ensures safe { (g f : File) (bound limit n : ℕ) → Fits g bound → Fits f limit
         → IsCertificateOf g f → IsSafeTo g n → IsSafeTo f n }
