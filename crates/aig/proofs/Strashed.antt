@@ -1,7 +1,6 @@
 -- A circuit that has a written form has one when it is strashed.
-use Rattle.std.proofs.Common.{◌≡◌, ℕ, ◌<◌, ◌≤◌, ◌^◌, Option, Some, None, List, ◌++◌, length, map, refl, sym, ap, subst, ◌∙◌, inl, inr, arith}
+use Rattle.std.proofs.Common.{◌≡◌, ℕ, ◌<◌, ◌^◌, Option, Some, None, List, ◌++◌, length, map, refl, sym, ap, subst, ◌∙◌, inl, inr, arith}
 use Rattle.std.specs.Prelude.{All, Contains, IfSome, IsSomeAnd, option_map}
-use Rattle.std.specs.FinMap.{get}
 use Rattle.std.proofs.lemmas.List.{length-map}
 use Rattle.std.proofs.lemmas.List.Sums.{count_by-le-length, length-filter}
 use Rattle.std.proofs.lemmas.Option.{same_Some}
@@ -19,10 +18,10 @@ use Rattle.aig_circuit.proofs.Building.{and_of-cases}
 use Rattle.aig_circuit.proofs.Circuits.{AreLeaves-of_circuit}
 use Rattle.aig_circuit.proofs.Trees.{kind_at-within}
 use Rattle.aig_format.specs.Writable.{HasLineFeed, IsWritable, list_lengths, named_nodes}
-use Rattle.aig_renumber.proofs.Circuits.{latch_leaves-map, leaves-map}
+use Rattle.aig_renumber.proofs.Circuits.{leaves-map}
 use Rattle.aig_renumber.proofs.Places.{Contains-map, Contains-map_back}
-use Rattle.aig_strash.specs.Exchange.{IsGate, first_of, image_of, is_kept, kept_before, kept_nodes, node_numbers}
-use Rattle.aig_strash.specs.Strash.{KeepsFirsts, MergesTrees, NumbersFirsts, strashed}
+use Rattle.aig_strash.specs.Exchange.{IsGate, first_of, image_of, is_kept, kept_before, node_numbers}
+use Rattle.aig_strash.specs.Strash.{KeepsFirsts, strashed}
 use Rattle.aig_strash.proofs.Keeping.{KeepsFirsts-strashed, NumbersFirsts-images}
 use Rattle.aig_strash.proofs.Merged.{MergesTrees-strashed}
 use Rattle.aig_strash.proofs.Strashing.{inputs-strashed}

@@ -1,6 +1,7 @@
 //! The clauses of a circuit.
 
 ghost use Rattle.std.specs.Prelude.{◌≤◌, ◌^◌, IfOk, length};
+ghost use Rattle.aig_circuit.specs.Circuit.{IsCircuit};
 ghost use Rattle.aig_cnf.specs.Cnf.{FixesRoots, HasClauses, NodeValuesSatisfy};
 
 use crate::graph::Aig;
@@ -16,6 +17,8 @@ impl Aig {
     /// `fits_lits`.
     pub fn cnf(&self, optimize: bool) -> Result<DagCnf, MemoryError>
         requires { length self.now.nodes ≤ 2 ^ 31 }
+        // The receiver is a circuit, so that what a law says of circuits holds of it.
+        ensures circuit { IsCircuit self.now }
         // Which variable has which clauses.
         ensures clauses { IfOk result (λ lists. HasClauses self.now optimize lists) }
         // Each satisfying assignment gives each root its value under the assignment's leaf values.

@@ -1,7 +1,7 @@
 //! Circuits that are made of a circuit: cones, unrolling, and changes of numbers, properties and initial edges.
 
 ghost use Rattle.std.specs.Prelude.{◌≡◌, ◌<◌, ◌≤◌, ◌^◌, ◌↔◌, ℕ, All, Contains, IfOk, IsOk, OnErr, OnOk, length};
-ghost use Rattle.aig_circuit.specs.Circuit.{BeginsWith, IsClosed};
+ghost use Rattle.aig_circuit.specs.Circuit.{BeginsWith, IsCircuit, IsClosed};
 ghost use Rattle.aig_circuit.specs.Edges.{HasPlainInit};
 ghost use Rattle.aig_circuit.specs.Reach.{IsInCone};
 ghost use Rattle.aig_circuit.specs.Runs.{AreAsLong, KeepsRuns};
@@ -34,8 +34,10 @@ impl Aig {
     /// `fits_lits`.
     pub fn coi_refine(&self) -> Result<(Aig, VarVMap), MemoryError>
         requires { length self.now.nodes ≤ 2 ^ 31 }
+        // The receiver is a circuit, so that what a law says of circuits holds of it.
+        ensures circuit { IsCircuit self.now }
         // Which nodes are kept, the exact circuit, the map, and that its runs are the old ones, cut to the kept leaves.
-        ensures { IfOk result (λ made. IsRefined self.now made.0 made.1) }
+        ensures refined { IfOk result (λ made. IsRefined self.now made.0 made.1) }
     {
         let (lists, old_numbers) = aig_cone::coi_refine(self.allocator(), &self.view())?;
         Ok((Aig::from_lists(lists), old_numbers))
@@ -94,6 +96,8 @@ impl Aig {
     /// names follow. Requires `is_closed`.
     pub fn reencode(&self) -> Result<Aig, MemoryError>
         requires { IsClosed self.now }
+        // The receiver is a circuit, so that what a law says of circuits holds of it.
+        ensures circuit { IsCircuit self.now }
         ensures exact { IfOk result (λ made. made ≡ reencoded self.now) }
         ensures closed { IfOk result (λ made. IsClosed made) }
         ensures long { IfOk result (λ made. AreAsLong self.now made) }
@@ -131,6 +135,8 @@ impl Aig {
     /// Leaf values of the result are, by their places, exactly the runs of `k + 1` steps. With `n` nodes and `l`
     /// latches the result has at most `n + k * (n - 1 - l)` nodes.
     pub fn unroll_to(&self, k: usize) -> Result<Aig, MemoryError>
+        // The receiver is a circuit, so that what a law says of circuits holds of it.
+        ensures circuit { IsCircuit self.now }
         // Its leaf values are the runs of k + 1 steps, one for one, and its edges have the values of each step.
         ensures unrolls { IfOk result (λ made. UnrollsTo self.now k made) }
         // It is made by k steps, one after another; by none it is the circuit.

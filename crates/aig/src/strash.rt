@@ -1,6 +1,7 @@
 //! Structural hashing.
 
 ghost use Rattle.std.specs.Prelude.{◌≡◌, IfOk};
+ghost use Rattle.aig_circuit.specs.Circuit.{IsCircuit};
 ghost use Rattle.aig_circuit.specs.Runs.{KeepsRuns};
 ghost use Rattle.aig_format.specs.Writable.{IsWritable};
 ghost use Rattle.aig_strash.specs.Exchange.{image_of};
@@ -16,6 +17,8 @@ impl Aig {
     /// Kept are false, all leaves and the first gate of each kind, reached or not, in their old order. Lists follow,
     /// and so do the names of kept nodes. Nothing is folded.
     pub fn strash(&self) -> Result<Aig, MemoryError>
+        // The receiver is a circuit, so that what a law says of circuits holds of it.
+        ensures circuit { IsCircuit self.now }
         ensures exact { IfOk result (λ made. made ≡ strashed self.now) }
         // The new number of a node is the count of kept nodes before its first, the least node with its tree.
         ensures numbers { IfOk result

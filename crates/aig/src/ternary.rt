@@ -71,6 +71,8 @@ impl<'a> TernarySimulate<'a> {
         requires { length inputs.items ≡ length self.old.circuit.inputs }
         ensures ok { OnOk result (self.new ≡ stepped self.old inputs.items) }
         ensures err { OnErr result (self.new ≡ self.old) }
+        // The circuit stays, so a further call is about the same one.
+        ensures circuit { self.new.circuit ≡ self.old.circuit }
     {
         self.simulator.simulate(&inputs)
     }
@@ -114,6 +116,8 @@ impl<'a> TernarySimulate<'a> {
         ensures ok { OnOk result
             (self.new ≡ stepped_all self.old (map (λ list. list.items) inputs.items)) }
         ensures err { OnErr result (self.new ≡ self.old) }
+        // The circuit stays, so a further call is about the same one.
+        ensures circuit { self.new.circuit ≡ self.old.circuit }
         ensures none { inputs.items ≡ [] → IsOk result }
     {
         self.simulator.simulate_all(&inputs, e)

@@ -11,7 +11,7 @@ use Rattle.aig_base.proofs.Literals.{literal_value-lit_to, variable_of-lit_to}
 use Rattle.aig_circuit.specs.declared.edge.AigEdge.{AigEdge}
 use Rattle.aig_circuit.specs.Edge.{inverse, inverted_if}
 use Rattle.aig_cnf.specs.Cnf.{edge_in}
-use Rattle.aig_cnf.proofs.Forms.{literal_value-lit_of}
+use Rattle.aig_cnf.proofs.Forms.{literal_value-lit_of, edge_in-inverse}
 use Rattle.aig_format.proofs.Entries.{rec_append}
 use Rattle.aig_runs.proofs.Further.{Holds}
 use Rattle.aig_certify.specs.WindowClauses.{apart_clauses, count_pairs, difference_clauses, distinct_clauses, pair_clauses, state_at, variables_from}
@@ -114,14 +114,6 @@ telling low n h v (x ∷ xs) (y ∷ ys) p q =
     )
 
 -- what they say is true
-pub edge_in-inverse : (v : ℕ → Bool) (e : AigEdge) → edge_in v (inverse e) ≡ not (edge_in v e)
-edge_in-inverse v e = by e.compl (v e.node_id)
-  where
-    by : (i b : Bool) → inverted_if (not i) b ≡ not (inverted_if i b)
-    by true true = refl
-    by true false = refl
-    by false b = refl
-
 two_clauses : (d a b : Bool) → d ≡ differ a b → IsTrue (not d || (a || (b || false))) × IsTrue (not d || (not a || (not b || false)))
 two_clauses true true true is = cc
 two_clauses true true false is = (refl, refl)

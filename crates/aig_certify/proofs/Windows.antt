@@ -43,7 +43,8 @@ use Rattle.aig_certify.specs.Induction.{HasDistinctStates, IsKInductive, IsWindo
 use Rattle.aig_certify.specs.WindowClauses.{AsksWindow, count_free, distinct_clauses, induction_clauses, state_at, state_edges, watched}
 use Rattle.aig_certify.proofs.Refuted.{both_true}
 use Rattle.aig_certify.proofs.Below.{induction_below, states_below}
-use Rattle.aig_certify.proofs.Differing.{Agree, AreEdgesBelow, AreEqual, IsBelow, distinct_extends, edge_in-inverse, hold_alike}
+use Rattle.aig_cnf.proofs.Forms.{edge_in-inverse}
+use Rattle.aig_certify.proofs.Differing.{Agree, AreEdgesBelow, AreEqual, IsBelow, distinct_extends, hold_alike}
 
 -- ---- rows
 

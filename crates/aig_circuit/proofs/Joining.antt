@@ -9,8 +9,8 @@ use Rattle.aig_circuit.specs.declared.node.AigNodeType.TheVariants.{False}
 use Rattle.aig_circuit.specs.declared.node.AigNode.{AigNode}
 use Rattle.aig_circuit.specs.Edge.{edge_to, inverse, inverted_if}
 use Rattle.aig_circuit.specs.Tree.{node_value, edge_value}
-use Rattle.aig_circuit.specs.Circuit.{AreNodes, IsInRange}
-use Rattle.aig_circuit.specs.Build.{Folds, true_first, true_second, false_first, false_second, same, opposite, FoldsOrAdds, AddsGates, Grows, JoiningStep, JoinsByAnd, JoinsByOr, JoinsFromLeft}
+use Rattle.aig_circuit.specs.Circuit.{Circuit, AreNodes, IsInRange}
+use Rattle.aig_circuit.specs.Build.{Folds, true_first, true_second, false_first, false_second, same, opposite, FoldsOrAdds, AddsGates, AddsOnlyGates, Grows, JoiningStep, JoinsByAnd, JoinsByOr, JoinsFromLeft}
 use Rattle.aig_circuit.proofs.Trees.{kind_at-within, node_value-false}
 use Rattle.aig_circuit.proofs.Building.{AddsGates-itself, AddsGates-then, edge_value-Grows}
 
@@ -18,14 +18,14 @@ use Rattle.aig_circuit.proofs.Building.{AddsGates-itself, AddsGates-then, edge_v
 pub inverse_twice : (e : AigEdge) → inverse (inverse e) ≡ e
 inverse_twice e = ap (edge_to e.node_id) (not-not e.compl)
 
+-- a value that is inverted the other way is the other value
+pub inverted_if-not : (i b : Bool) → inverted_if (not i) b ≡ not (inverted_if i b)
+inverted_if-not true true = refl
+inverted_if-not true false = refl
+inverted_if-not false b = refl
+
 pub edge_value-inverse : (nodes : List AigNode) (x : ℕ → Bool) (e : AigEdge) → edge_value nodes x (inverse e) ≡ not (edge_value nodes x e)
-edge_value-inverse nodes x e = by e.compl (node_value nodes x e.node_id)
-  where
-    by : (i b : Bool) → inverted_if (not i) b ≡ not (inverted_if i b)
-    by true true = refl
-    by true false = refl
-    by false true = refl
-    by false false = refl
+edge_value-inverse nodes x e = inverted_if-not e.compl (node_value nodes x e.node_id)
 
 -- true folds with every edge, to that edge
 folds_true : (f e : AigEdge) → Folds (edge_to 0 true) f e → e ≡ f
@@ -141,3 +141,10 @@ joins_from_left_push Step old all [] mid new next f e h step =
     (new, e, subst (λ (m : List AigNode). Step m new all f e) h.0 (subst (λ (a : AigEdge). Step mid new a f e) h.1 step), (refl, refl))
 joins_from_left_push Step old all (g ∷ es) mid new next f e h step =
     (h.0, h.1, h.2, joins_from_left_push Step h.0 h.1 es mid new next f e h.3 step)
+
+-- gates that are added to a circuit, and then further ones, are gates that are added
+pub AddsOnlyGates-then : (a b c : Circuit) → AddsOnlyGates a b → AddsOnlyGates b c → AddsOnlyGates a c
+AddsOnlyGates-then a b c p q = record {
+  nodes = AddsGates-then a.nodes b.nodes c.nodes p.nodes q.nodes;
+  same = q.same ∙ ap (λ (kept : Circuit). record kept { nodes = c.nodes }) p.same;
+}

@@ -9,7 +9,7 @@ use Rattle.aig_circuit.specs.declared.node.AigNode.{AigNode}
 use Rattle.aig_circuit.specs.Edge.{inverse, inverted_if, lit_of}
 use Rattle.aig_circuit.specs.Node.{kind_at, IsOrdered}
 use Rattle.aig_circuit.specs.Tree.{node_value, edge_value}
-use Rattle.aig_circuit.proofs.Joining.{edge_value-inverse}
+use Rattle.aig_circuit.proofs.Joining.{inverted_if-not, edge_value-inverse}
 use Rattle.aig_circuit.proofs.Trees.{node_value-and}
 use Rattle.aig_cnf.specs.declared.form.Form.{Form}
 use Rattle.aig_cnf.specs.declared.form.Form.TheVariants.{AndOf, XorOf, IteOf}
@@ -22,6 +22,10 @@ literal_value-lit_of v e = literal_value-lit_to v e.node_id (not e.compl) ∙ by
     by : (i b : Bool) → with_polarity (not i) b ≡ inverted_if i b
     by true b = refl
     by false b = refl
+
+-- an edge's inverse has the other value
+pub edge_in-inverse : (v : ℕ → Bool) (e : AigEdge) → edge_in v (inverse e) ≡ not (edge_in v e)
+edge_in-inverse v e = inverted_if-not e.compl (v e.node_id)
 
 -- the clauses of a form hold exactly where the gate has its form's value
 pub clauses-say : (v : ℕ → Bool) (n : ℕ) (form : Form) → IsTrue (are_true v (clauses_of n form)) ↔ (v n ≡ form_value v form)

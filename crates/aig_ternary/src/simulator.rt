@@ -63,6 +63,8 @@ impl<'a> Simulator<'a> {
         ensures ok { OnOk result (self.new ≡ stepped self.old inputs.now) }
         ensures err { OnErr result (self.new ≡ self.old) }
         ensures later { 0 < length self.old.values → IsOk result }
+        // The circuit stays, so a further call is about the same one.
+        ensures circuit { self.new.circuit ≡ self.old.circuit }
     {
         self.values.resize(self.circuit.nodes().len(), Lbool::NONE)?;
         step::step(&self.circuit, inputs, &mut self.state, &mut self.values);
@@ -107,6 +109,8 @@ impl<'a> Simulator<'a> {
             ≡ stepped_all self.old (map (λ list. list.items) inputs.now)) }
         ensures err { OnErr result (self.new ≡ self.old) }
         ensures none { inputs.now ≡ [] → IsOk result }
+        // The circuit stays, so a further call is about the same one.
+        ensures circuit { self.new.circuit ≡ self.old.circuit }
     {
         let mut answers = Vec::with_capacity(self.circuit.allocator(), inputs.len())?;
         if inputs.is_empty() {

@@ -15,5 +15,5 @@ returns c =
     let alone : c.clear_edges-2.new.self ≡ asked_alone old = c.clear_edges-2.ensures ∙ ap (λ (d : Circuit). with_edges Fairness d []) without in
     let is = subst IsCircuit alone (subst IsCircuit c.circuit.view_is c.circuit.invariant) in
     let is_mid = subst IsCircuit c.refined.view_is c.refined.invariant in
-    let refines = subst (λ d. IsRefined d mid c.in_ok-refined._old_numbers) alone c.in_ok-refined.ensures in
+    let refines = subst (λ d. IsRefined d mid c.in_ok-refined._old_numbers) alone c.in_ok-refined.ensures.refined in
     reduces_if old mid c.in_ok-refined._old_numbers is is_mid refines c.strash.result c.strash.ensures.exact c.strash.ensures.runs

@@ -13,8 +13,8 @@ from_lists-requires c =
     let is : IsCircuit c.view.result = subst IsCircuit (sym c.view.ensures.value) c.view.ensures.circuit in
     subst IsCircuit (sym made.2) (IsCircuit-refined c.view.result made.0 is made.1)
 
-pub returns : goal.returns
-returns c =
+pub returns-clause-refined : goal.returns-clause-refined
+returns-clause-refined c =
     let made = c.in_ok-lists.ensures in
     let is : IsCircuit c.view.result = subst IsCircuit (sym c.view.ensures.value) c.view.ensures.circuit in
     let refined : IsRefined c.view.result (lists_circuit c.in_ok-lists.lists) c.in_ok-lists.old_numbers = record {
