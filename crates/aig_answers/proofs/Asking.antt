@@ -1,5 +1,5 @@
 -- The clauses of a window, from their parts.
-use Rattle.std.proofs.Common.{◌≡◌, inl, inr, subst, Result, Ok, Err, ℕ, ◌+◌, ◌-◌, ◌*◌, ◌<◌, ◌≤◌, Bool, false, List, [], ◌∷◌, ◌++◌, length, map, take, drop, get_or, refl, sym, ap, ◌∙◌, arith, length-drop}
+use Rattle.std.proofs.Common.{◌≡◌, subst, Result, Ok, Err, ℕ, ◌+◌, ◌-◌, ◌*◌, ◌<◌, ◌≤◌, Bool, false, List, [], ◌∷◌, ◌++◌, length, map, take, drop, get_or, refl, sym, ap, ◌∙◌, arith, length-drop}
 use Rattle.std.proofs.Math.Nat.{add-mul}
 use Rattle.std.specs.Prelude.{◌↔◌, replicate, IfOk, IsTrue}
 use Rattle.std.proofs.lemmas.List.{get_or-map, length-map, length-take-le, take_all, take_more}
@@ -12,11 +12,8 @@ use Rattle.aig_circuit.specs.Circuit.{Circuit, IsCircuit}
 use Rattle.aig_cnf.specs.Cnf.{FixesRoots, HasClauses, NodeValuesSatisfy}
 use Rattle.aig_unroll.specs.Places.{size_by_counts, unrolled_size}
 use Rattle.aig_unroll.specs.Unroll.{UnrollsTo}
-use Rattle.aig_encode.specs.declared.error.EncodeError.TheVariants as encode
 use Rattle.aig_answers.specs.declared.error.AnswerError.{AnswerError}
-use Rattle.aig_answers.specs.declared.error.AnswerError.TheVariants as errors
 use Rattle.aig_answers.specs.declared.windows.WindowClauses.{WindowClauses}
-use Rattle.aig_answers.specs.Answers.{IsOfCircuit, IsWantOfRoom}
 use Rattle.aig_certify.proofs.Below.{window_below}
 use Rattle.aig_certify.specs.declared.window.Window.{Window}
 use Rattle.aig_certify.specs.declared.window.Window.TheVariants.{Plain, Distinct}
@@ -59,6 +56,10 @@ pub same_size : (form : Window) (c : Circuit) (k : ℕ) → unrolled_size (watch
 same_size Plain c k = refl
 same_size Distinct c k = refl
 
+pub same_free : (form : Window) (c : Circuit) (k : ℕ) → count_free form (watched form c) k ≡ count_free form c k
+same_free Plain c k = refl
+same_free Distinct c k = refl
+
 -- the unrolled circuit has the bad edges of all steps
 pub bads_count : (c u : Circuit) (k : ℕ) → UnrollsTo c k u → length u.bads ≡ (k + 1) * length c.bads
 bads_count c u k unrolls =
@@ -89,15 +90,6 @@ pub within_told : (c : Circuit) (k limit n : ℕ) (latchs : List AigLatch) (test
 within_told c k limit n latchs test is_n is_latchs told holds =
     subst (λ m. size_by_counts m (length c.latchs) k ≤ limit) is_n (subst (λ (ls : List AigLatch). size_by_counts n (length ls) k ≤ limit) is_latchs (told.0 holds))
 
--- want of room isn't that further steps pass the limit
-pub only_room : (e : AnswerError) → IsWantOfRoom e → e ≡ errors.Encode encode.TooLarge → ⊥
-only_room e (inl is) large = let same = sym is ∙ large in cc
-only_room e (inr is) large = let same = sym is ∙ large in cc
-
 pub below_told : (form : Window) (c : Circuit) (k : ℕ) (optimize : Bool) (r : Result WindowClauses AnswerError) → IfOk r (λ made. AsksWindow form c k optimize made.clauses made.further) → IfOk r (λ made. AreBelow (length made.clauses) made.further)
 below_told form c k optimize (Ok made) is = window_below form c k optimize made.clauses made.further is
 below_told form c k optimize (Err e) is = tt
-
-pub room_told : (e : AnswerError) → IsWantOfRoom e → IsOfCircuit e
-room_told e (inl is) = subst IsOfCircuit (sym is) tt
-room_told e (inr is) = subst IsOfCircuit (sym is) tt

@@ -1,5 +1,5 @@
 -- What the answers of the calls tell of the file, from what reading and encoding tell.
-use Rattle.std.proofs.Common.{◌≡◌, ◌≢◌, ◌⊎◌, ◌↔◌, ℕ, ◌+◌, ◌<◌, ◌≤◌, Bool, IsTrue, Option, Some, None, Result, Ok, Err, List, [], ◌∷◌, length, map, true, false, refl, sym, ap, subst, ◌∙◌, inl, inr, arith}
+use Rattle.std.proofs.Common.{◌≡◌, ◌≢◌, ◌↔◌, ℕ, ◌+◌, ◌<◌, ◌≤◌, Bool, IsTrue, Option, Some, None, Result, Ok, Err, List, [], ◌∷◌, length, map, true, false, refl, sym, ap, subst, ◌∙◌, inl, inr}
 use Rattle.std.specs.Prelude.{◌==◌, IfSome, IfErr, IsErrOf}
 use Rattle.std.proofs.lemmas.List.{nil_from_length}
 use Rattle.std.proofs.lemmas.Bool.{cases_lt, eqb-true, false≢true}
@@ -10,16 +10,18 @@ use Rattle.aig_format.specs.File.{File}
 use Rattle.aig_format.specs.Fits.{Accepts}
 use Rattle.aig_reader.specs.declared.error.ReadError.{ReadError}
 use Rattle.aig_reader.specs.declared.error.ReadError.TheVariants as read
+use Rattle.aig_reader.specs.Reading as reading
 use Rattle.aig_reader.specs.Reading.{IsOfFile}
 use Rattle.aig_unroll.specs.Places.{unrolled_size}
 use Rattle.aig.specs.Reading.{IsFileCircuit}
+use Rattle.aig_certify.specs.declared.window.Window.{Window}
 use Rattle.aig_encode.specs.declared.error.EncodeError.{EncodeError}
 use Rattle.aig_encode.specs.declared.error.EncodeError.TheVariants as encode
-use Rattle.aig_encode.specs.Encoding.{IsBeyond, IsWithin, TookFile}
-use Rattle.aig_encode.proofs.Exactly.{Reads, Tells, answered, answered_again, refused_again, refused_as_large, refused_in_reading}
+use Rattle.aig_encode.specs.Encoding.{IsBeyond, IsWithin, TookFile, UnlessInterrupted}
+use Rattle.aig_encode.proofs.Exactly.{Reads, Tells, answered, answered_again, no_refusal, refused_again, refused_as_large, refused_in_reading}
 use Rattle.aig_answers.specs.declared.error.AnswerError.{AnswerError}
 use Rattle.aig_answers.specs.declared.error.AnswerError.TheVariants as errors
-use Rattle.aig_answers.specs.Answers.{AsksNothing, IsOfCircuit, TellsOfFile, of_file}
+use Rattle.aig_answers.specs.Answers.{AsksNothing, IsCrowded, IsOfCircuit, TellsOfFile, TellsOfRoom, of_file, window_size}
 
 -- an error that is this one
 err_of : {T E : Type 0} (e x : E) → e ≡ x → IsErrOf {T = T} (Err e) x
@@ -165,10 +167,16 @@ module _ {R : Type 0} (left : R → Option (List ℕ)) (failed : R → Bool) (li
         record { exact = large_told high; memory = λ is. cc; large = λ is. took_beyond high; no_bads = λ is. cc; stream = λ is. cc; never_open = λ is. cc }
     window_told (Err (errors.Encode (encode.Read e))) large none err = absurd err
 
--- a refusal tells the same, whatever would have been answered
+-- a refusal tells the same of the file, whatever would have been answered
+same_part : (A B : Type 0) (e : AnswerError) → of_file {T = A} (Err e) ≡ of_file {T = B} (Err e)
+same_part A B (errors.Encode e) = refl
+same_part A B errors.NoBads = refl
+same_part A B errors.TooLarge = refl
+same_part A B (errors.Refutation e) = refl
+
 pub told_again : {R : Type 0} (left : R → Option (List ℕ)) (failed : R → Bool) (limit k : ℕ) (r rest : R) (A B : Type 0) (e : AnswerError) → TellsOfFile {T = A} left failed limit k (Err e) r rest → TellsOfFile {T = B} left failed limit k (Err e) r rest
 told_again left failed limit k r rest A B e told = record {
-  exact = subst (λ of. Tells OfFile limit k of (left r)) (same_part e) told.exact;
+  exact = subst (λ of. Tells OfFile limit k of (left r)) (same_part A B e) told.exact;
   memory = λ is. told.memory (same is);
   large = λ is. told.large (same is);
   no_bads = λ is. told.no_bads (same is);
@@ -179,8 +187,113 @@ told_again left failed limit k r rest A B e told = record {
     same : {x : AnswerError} → IsErrOf {T = B} (Err e) x → IsErrOf {T = A} (Err e) x
     same {x} is = let this : e ≡ x = cc in err_of e x this
 
-    same_part : (e : AnswerError) → of_file {T = A} (Err e) ≡ of_file {T = B} (Err e)
-    same_part (errors.Encode e) = refl
-    same_part errors.NoBads = refl
-    same_part errors.TooLarge = refl
-    same_part (errors.Refutation e) = refl
+-- ---- room
+
+-- what holds is told
+unless_holds : {T : Type 0} (r : Result T EncodeError) (P : Type 0) → P → UnlessInterrupted r P
+unless_holds (Ok x) P holds = holds
+unless_holds (Err encode.Memory) P holds = tt
+unless_holds (Err encode.TooLarge) P holds = holds
+unless_holds (Err (encode.Read read.Memory)) P holds = tt
+unless_holds (Err (encode.Read read.Stream)) P holds = tt
+unless_holds (Err (encode.Read read.Header)) P holds = holds
+unless_holds (Err (encode.Read read.TooMany)) P holds = holds
+unless_holds (Err (encode.Read (read.Syntax s))) P holds = holds
+unless_holds (Err (encode.Read (read.Literal s))) P holds = holds
+unless_holds (Err (encode.Read read.Delta)) P holds = holds
+unless_holds (Err (encode.Read read.Name)) P holds = holds
+unless_holds (Err (encode.Read read.Open)) P holds = holds
+
+-- what follows from what was told is told
+unless_so : {T : Type 0} (r : Result T EncodeError) (P Q : Type 0) → (P → Q) → UnlessInterrupted r P → UnlessInterrupted r Q
+unless_so (Ok x) P Q so told = so told
+unless_so (Err encode.Memory) P Q so told = tt
+unless_so (Err encode.TooLarge) P Q so told = so told
+unless_so (Err (encode.Read read.Memory)) P Q so told = tt
+unless_so (Err (encode.Read read.Stream)) P Q so told = tt
+unless_so (Err (encode.Read read.Header)) P Q so told = so told
+unless_so (Err (encode.Read read.TooMany)) P Q so told = so told
+unless_so (Err (encode.Read (read.Syntax s))) P Q so told = so told
+unless_so (Err (encode.Read (read.Literal s))) P Q so told = so told
+unless_so (Err (encode.Read read.Delta)) P Q so told = so told
+unless_so (Err (encode.Read read.Name)) P Q so told = so told
+unless_so (Err (encode.Read read.Open)) P Q so told = so told
+
+-- what follows from what reading told is told
+unless_read : (X T : Type 0) (e : ReadError) (P Q : Type 0) → (P → Q) → reading.UnlessInterrupted {T = X} (Err e) P → UnlessInterrupted {T = T} (Err (encode.Read e)) Q
+unless_read X T read.Memory P Q so told = tt
+unless_read X T read.Stream P Q so told = tt
+unless_read X T read.Header P Q so told = so told
+unless_read X T read.TooMany P Q so told = so told
+unless_read X T (read.Syntax s) P Q so told = so told
+unless_read X T (read.Literal s) P Q so told = so told
+unless_read X T read.Delta P Q so told = so told
+unless_read X T read.Name P Q so told = so told
+unless_read X T read.Open P Q so told = so told
+
+module _ {R : Type 0} (left : R → Option (List ℕ)) (form : Window) (limit k : ℕ) (r rest : R) (T : Type 0) where
+  -- the file was refused
+  pub refused_room : (e : ReadError) → Reads Circuit (Unit {0}) IsFileCircuit OfFile limit (k + 1) (Err e) (left r) → TellsOfRoom {T = T} left form limit k (Err (errors.Encode (encode.Read e))) r rest
+  refused_room e exact = record { exact = by (left r) exact; only = λ is. absurd (apart is) }
+    where
+      apart : IsErrOf {T = T} (Err (errors.Encode (encode.Read e))) errors.TooLarge → ⊥
+      apart is = cc
+
+      by : (known : Option (List ℕ)) → Reads Circuit (Unit {0}) IsFileCircuit OfFile limit (k + 1) (Err e) known
+          → IfSome known (λ bytes. UnlessInterrupted {T = Unit {0}} (Err (encode.Read e)) (IsErrOf {T = T} (Err (errors.Encode (encode.Read e))) errors.TooLarge ↔ ((f : File) × IsCrowded form limit k bytes f)))
+      by None h = tt
+      by (Some bytes) h = unless_read Circuit (Unit {0}) e _ _ (λ told. (λ is. absurd (apart is), λ crowded. absurd (told.accepted.each crowded.0 crowded.1.0.0.0))) h
+
+  -- a circuit was read
+  module _ (c : Circuit) (result : Result T AnswerError) (room : IsErrOf result errors.TooLarge ↔ ((unrolled_size c (k + 1) ≤ limit) × (c.bads ≢ []) × (limit < window_size form c k))) where
+    crowded_file : (bytes : List ℕ) (f : File) → Accepts bytes limit f → c ≡ circuit_of f → IsErrOf result errors.TooLarge → IsCrowded form limit k bytes f
+    crowded_file bytes f accepts is large =
+        let told = room.0 large in (
+          (
+            (accepts, subst (λ d. unrolled_size d (k + 1) ≤ limit) is told.0),
+            λ none. told.1 (ap (λ (d : Circuit). d.bads) is ∙ ap (map (edge_of f)) none),
+          ),
+          subst (λ d. limit < window_size form d k) is told.2,
+        )
+
+    crowded_told : (bytes : List ℕ) (f : File) → c ≡ circuit_of f → IsCrowded form limit k bytes f → IsErrOf result errors.TooLarge
+    crowded_told bytes f is crowded = room.1 (
+      subst (λ d. unrolled_size d (k + 1) ≤ limit) (sym is) crowded.0.0.1,
+      λ none. crowded.0.1 (no_bads f f.bads (sym (ap (λ (d : Circuit). d.bads) is) ∙ none)),
+      subst (λ d. limit < window_size form d k) (sym is) crowded.1,
+    )
+
+    pub window_room : IsOfFile (λ bytes. Accepts bytes limit) IsFileCircuit (left r) (left rest) c → Reads Circuit (Unit {0}) IsFileCircuit OfFile limit (k + 1) (Ok c) (left r) → TellsOfRoom left form limit k result r rest
+    window_room file exact = record { exact = by (left r) exact; only = λ is. (file.file, file.bytes, crowded_file file.bytes file.file file.holds file.means is, file.taken) }
+      where
+        by : (known : Option (List ℕ)) → Reads Circuit (Unit {0}) IsFileCircuit OfFile limit (k + 1) (Ok c) known
+            → IfSome known (λ bytes. UnlessInterrupted (of_file result) (IsErrOf result errors.TooLarge ↔ ((f : File) × IsCrowded form limit k bytes f)))
+        by None h = tt
+        by (Some bytes) h = unless_holds (of_file result) _ (
+          λ is. let f = h.accepted.only refl in (f.0, crowded_file bytes f.0 f.1 (h.accepted.each f.0 f.1) is),
+          λ crowded. crowded_told bytes crowded.0 (h.accepted.each crowded.0 crowded.1.0.0.0) crowded.1,
+        )
+
+  -- where the clauses were made, a proof of them doesn't change what was told
+  pub room_again : {X : Type 0} (x : X) (result : Result T AnswerError) → of_file result ≡ Ok tt → (IsErrOf result errors.TooLarge → ⊥) → TellsOfRoom left form limit k (Ok x) r rest → TellsOfRoom left form limit k result r rest
+  room_again {X} x result good other told = record { exact = by (left r) told.exact; only = λ is. absurd (other is) }
+    where
+      by : (known : Option (List ℕ)) → IfSome known (λ bytes. IsErrOf {T = X} (Ok x) errors.TooLarge ↔ ((f : File) × IsCrowded form limit k bytes f))
+          → IfSome known (λ bytes. UnlessInterrupted (of_file result) (IsErrOf result errors.TooLarge ↔ ((f : File) × IsCrowded form limit k bytes f)))
+      by None h = tt
+      by (Some bytes) h = subst (λ of. UnlessInterrupted of (IsErrOf result errors.TooLarge ↔ ((f : File) × IsCrowded form limit k bytes f))) (sym good) (λ is. absurd (other is), λ crowded. absurd (no_refusal X AnswerError x errors.TooLarge (h.1 crowded)))
+
+-- a refusal tells the same, whatever would have been answered
+pub room_told_again : {R : Type 0} (left : R → Option (List ℕ)) (form : Window) (limit k : ℕ) (r rest : R) (A B : Type 0) (e : AnswerError) → TellsOfRoom {T = A} left form limit k (Err e) r rest → TellsOfRoom {T = B} left form limit k (Err e) r rest
+room_told_again left form limit k r rest A B e told = record { exact = by (left r) told.exact; only = λ is. told.only (back is) }
+  where
+    back : IsErrOf {T = B} (Err e) errors.TooLarge → IsErrOf {T = A} (Err e) errors.TooLarge
+    back is = let this : e ≡ errors.TooLarge = cc in err_of e errors.TooLarge this
+
+    forth : IsErrOf {T = A} (Err e) errors.TooLarge → IsErrOf {T = B} (Err e) errors.TooLarge
+    forth is = let this : e ≡ errors.TooLarge = cc in err_of e errors.TooLarge this
+
+    by : (known : Option (List ℕ)) → IfSome known (λ bytes. UnlessInterrupted (of_file {T = A} (Err e)) (IsErrOf {T = A} (Err e) errors.TooLarge ↔ ((f : File) × IsCrowded form limit k bytes f)))
+        → IfSome known (λ bytes. UnlessInterrupted (of_file {T = B} (Err e)) (IsErrOf {T = B} (Err e) errors.TooLarge ↔ ((f : File) × IsCrowded form limit k bytes f)))
+    by None h = tt
+    by (Some bytes) h = subst (λ of. UnlessInterrupted of (IsErrOf {T = B} (Err e) errors.TooLarge ↔ ((f : File) × IsCrowded form limit k bytes f))) (same_part A B e) (unless_so (of_file {T = A} (Err e)) _ _ (λ told. (λ is. told.0 (back is), λ crowded. forth (told.1 crowded))) h)

@@ -1,3 +1,4 @@
+mod Pairs
 mod Growing
 pub mod Files
 mod Asking

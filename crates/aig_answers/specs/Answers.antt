@@ -1,7 +1,12 @@
 -- What the answer of a call tells of the bytes of a file.
-use Rattle.std.specs.Prelude.{◌≡◌, ◌≢◌, ◌⊎◌, ℕ, Bool, IsTrue, List, [], Option, Result, Ok, Err, IfSome, IsErrOf}
+use Rattle.std.specs.Prelude.{◌≡◌, ◌≢◌, ◌↔◌, ℕ, ◌+◌, ◌<◌, Bool, IsTrue, List, [], Option, Result, Ok, Err, IfSome, IsErrOf}
+use Rattle.aig_circuit.specs.Circuit.{Circuit}
+use Rattle.aig_format.specs.Circuit.{circuit_of}
 use Rattle.aig_format.specs.File.{File}
 use Rattle.aig_reader.specs.declared.error.ReadError.TheVariants as read
+use Rattle.aig_unroll.specs.Places.{unrolled_size}
+use Rattle.aig_certify.specs.declared.window.Window.{Window}
+use Rattle.aig_certify.specs.WindowClauses.{count_free}
 use Rattle.aig_encode.specs.declared.error.EncodeError.{EncodeError}
 use Rattle.aig_encode.specs.declared.error.EncodeError.TheVariants as encode
 use Rattle.aig_encode.specs.Encoding.{AnswersExactly, IsBeyond, IsWithin, TookFile, UnlessInterrupted}
@@ -15,6 +20,14 @@ IsAsked limit k bytes f = IsWithin limit k bytes f × (f.bads ≢ [])
 -- the bytes are this file, it and its further steps are within the limit, and it has no bad literal
 abbrev pub AsksNothing : ℕ → ℕ → List ℕ → File → Type 0
 AsksNothing limit k bytes f = IsWithin limit k bytes f × (f.bads ≡ [])
+
+-- how many variables the clauses of a window have at most: the bound of the circuit with k + 1 further steps, and the free ones
+abbrev pub window_size : Window → Circuit → ℕ → ℕ
+window_size form c k = unrolled_size c (k + 1) + count_free form c k
+
+-- a window is asked of the file of these bytes, and that bound passes the limit
+abbrev pub IsCrowded : Window → ℕ → ℕ → List ℕ → File → Type 0
+IsCrowded form limit k bytes f = IsAsked limit (k + 1) bytes f × (limit < window_size form (circuit_of f) k)
 
 -- what an answer says of the file alone: that it is refused, or not
 abbrev pub of_file : {T : Type 0} → Result T AnswerError → Result Unit EncodeError
@@ -38,6 +51,13 @@ pub record TellsOfFile {R T : Type 0} (left : R → Option (List ℕ)) (failed :
   pub stream : IsErrOf result (errors.Encode (encode.Read read.Stream)) → IsTrue (failed rest)
   pub never_open : IsErrOf result (errors.Encode (encode.Read read.Open)) → ⊥
 
+-- What the answer for a window tells of the bytes, as TooLarge.
+pub record TellsOfRoom {R T : Type 0} (left : R → Option (List ℕ)) (form : Window) (limit k : ℕ) (result : Result T AnswerError) (r rest : R) : Type 0 where
+  -- of known bytes, memory and the stream aside: exactly where the bound of the variables passes the limit
+  pub exact : IfSome (left r) (λ bytes. UnlessInterrupted (of_file result) (IsErrOf result errors.TooLarge ↔ ((f : File) × IsCrowded form limit k bytes f)))
+  -- only after such a file was read
+  pub only : IsErrOf result errors.TooLarge → TookFile (IsCrowded form limit k) (left r) (left rest)
+
 -- the answer tells nothing of a proof: none was read
 abbrev pub IsOfFileAlone : {T : Type 0} → Result T AnswerError → Type 0
 IsOfFileAlone (Ok answer) = ⊥
@@ -45,10 +65,6 @@ IsOfFileAlone (Err (errors.Encode e)) = Unit {0}
 IsOfFileAlone (Err errors.NoBads) = Unit {0}
 IsOfFileAlone (Err errors.TooLarge) = Unit {0}
 IsOfFileAlone (Err (errors.Refutation e)) = ⊥
-
--- memory ran out, or the clauses that tell states apart pass the limit
-abbrev pub IsWantOfRoom : AnswerError → Type 0
-IsWantOfRoom e = (e ≡ errors.Encode encode.Memory) ⊎ (e ≡ errors.TooLarge)
 
 -- the refusals of a window's clauses: further steps pass the limit, there is nothing to ask, or there is no room
 abbrev pub IsOfCircuit : AnswerError → Type 0

@@ -1,15 +1,25 @@
 //! Clauses that tell states apart.
 
-ghost use Rattle.std.specs.Prelude.{◌≡◌, ◌+◌, ◌*◌, ◌<◌, ◌≤◌, ◌^◌, ◌++◌, ◌∷◌, [], ℕ, All, IfErr, OnOk, ◌⊎◌, false, length, replicate, take, drop};
+ghost use Rattle.std.specs.Prelude.{◌≡◌, ◌+◌, ◌*◌, ◌<◌, ◌≤◌, ◌^◌, ◌++◌, ◌∷◌, [], All, OnOk, false, length, replicate};
 ghost use Rattle.aig_base.specs.Clauses.{lit_to, number_of};
 ghost use Rattle.aig_circuit.specs.Edge.{inverse, lit_of};
 ghost use Rattle.aig_certify.specs.WindowClauses.{apart_clauses, count_pairs, distinct_clauses, pair_clauses};
-ghost use Rattle.aig_encode.specs.declared.error.EncodeError.TheVariants as encode;
-ghost use Rattle.aig_answers.specs.Answers.{IsWantOfRoom};
 
-use crate::error::AnswerError;
 use aig::AigEdge;
 use aig_base::{DagCnf, Lit, LitVvec, MemoryError, Var};
+
+/// How many pairs there are among so many steps.
+pub(crate) fn pairs_of(steps: usize) -> usize
+    requires some { 1 ≤ steps }
+    requires few { steps ≤ 2 ^ 32 + 1 }
+    ensures { result ≡ count_pairs steps }
+{
+    if steps % 2 == 0 {
+        steps / 2 * (steps - 1)
+    } else {
+        steps * ((steps - 1) / 2)
+    }
+}
 
 /// Appends the clauses that two edges differ where the variable is true.
 fn push_difference(
@@ -38,29 +48,22 @@ fn push_pair(
     some: &mut Vec<Lit>,
     xs: &[AigEdge],
     ys: &[AigEdge],
-    limit: usize,
-) -> Result<(), AnswerError>
-    requires few { limit ≤ 2 ^ 31 }
-    requires within { length clauses.old ≤ limit }
+) -> Result<(), MemoryError>
+    requires room { length clauses.old + length xs.now ≤ 2 ^ 31 }
     requires long { length ys.now ≡ length xs.now }
     requires xs { All (λ e. e.node_id < 2 ^ 31) xs.now }
     requires ys { All (λ e. e.node_id < 2 ^ 31) ys.now }
     ensures clauses { OnOk result (clauses.new ≡ clauses.old ++ replicate (length xs.now) []) }
     ensures further { OnOk result
         (further.new ≡ further.old ++ pair_clauses (length clauses.old) xs.now ys.now) }
-    ensures within { OnOk result (length clauses.new ≤ limit) }
-    ensures err { IfErr result IsWantOfRoom }
 {
-    if xs.len() > limit - clauses.num_vars() {
-        return Err(AnswerError::TooLarge);
-    }
     some.clear();
     for i in 0..xs.len() {
         let var = clauses.new_var()?;
         push_difference(further, var, xs[i], ys[i])?;
         some.push(var.lit())?;
     }
-    Ok(further.push(some)?)
+    further.push(some)
 }
 
 /// Appends the clauses that the state at step `t` differs from each before it. A state has `latchs` edges, and stands behind
@@ -72,22 +75,18 @@ fn push_apart(
     edges: &[AigEdge],
     latchs: usize,
     t: usize,
-    limit: usize,
-) -> Result<(), AnswerError>
-    requires few { limit ≤ 2 ^ 31 }
-    requires within { length clauses.old ≤ limit }
+) -> Result<(), MemoryError>
+    requires room { length clauses.old + t * latchs ≤ 2 ^ 31 }
     requires there { (t + 1) * latchs ≤ length edges.now }
     requires edges { All (λ e. e.node_id < 2 ^ 31) edges.now }
     ensures clauses { OnOk result (clauses.new ≡ clauses.old ++ replicate (t * latchs) []) }
     ensures further { OnOk result (further.new ≡ further.old
         ++ apart_clauses (length clauses.old) latchs edges.now t t) }
-    ensures within { OnOk result (length clauses.new ≤ limit) }
-    ensures err { IfErr result IsWantOfRoom }
 {
     let state = &edges[t * latchs..][..latchs];
     for s in 0..t {
         let before = &edges[s * latchs..][..latchs];
-        push_pair(clauses, further, some, before, state, limit)?;
+        push_pair(clauses, further, some, before, state)?;
     }
     Ok(())
 }
@@ -101,20 +100,17 @@ pub(crate) fn push_distinct(
     edges: &[AigEdge],
     latchs: usize,
     steps: usize,
-    limit: usize,
-) -> Result<(), AnswerError>
-    requires few { limit ≤ 2 ^ 31 }
-    requires within { length clauses.old ≤ limit }
+) -> Result<(), MemoryError>
+    requires room { length clauses.old + count_pairs steps * latchs ≤ 2 ^ 31 }
     requires there { length edges.now ≡ steps * latchs }
     requires edges { All (λ e. e.node_id < 2 ^ 31) edges.now }
     ensures clauses { OnOk result
         (clauses.new ≡ clauses.old ++ replicate (count_pairs steps * latchs) []) }
     ensures further { OnOk result (further.new ≡ further.old
         ++ distinct_clauses (length clauses.old) latchs edges.now steps) }
-    ensures err { IfErr result IsWantOfRoom }
 {
     for t in 0..steps {
-        push_apart(clauses, further, some, edges, latchs, t, limit)?;
+        push_apart(clauses, further, some, edges, latchs, t)?;
     }
     Ok(())
 }

@@ -20,7 +20,8 @@ pub enum AnswerError {
     /// The file has no bad state property, so that nothing is asked.
     #[error("no bad state property")]
     NoBads,
-    /// The clauses that tell states apart may have more variables than the limit.
+    /// By the bound of the circuit with its further steps, the clauses and those that tell states
+    /// apart have more variables than the limit.
     #[error("window may pass the limit")]
     TooLarge,
     /// The proof is refused.

@@ -2,7 +2,7 @@
 
 ghost use Rattle.std.specs.Prelude.{◌≡◌, ◌≢◌, ◌+◌, ◌*◌, ◌<◌, ◌≤◌, ◌^◌, ◌↔◌, ◌++◌, [], false, IfErr, IfOk, IsErrOf, IsOk, IsTrue, OnOk, length, replicate};
 ghost use Rattle.std.specs.Io.KnownBytes.{IsAtEnd};
-ghost use Rattle.aig_answers.specs.Answers.{IsAsked, IsOfCircuit, IsOfFileAlone, IsOfWindow, IsWantOfRoom, TellsOfFile};
+ghost use Rattle.aig_answers.specs.Answers.{IsAsked, IsOfCircuit, IsOfFileAlone, IsOfWindow, TellsOfFile, TellsOfRoom, window_size};
 ghost use Rattle.aig_base.specs.Clauses.{AreBelow};
 ghost use Rattle.aig_certify.specs.Induction.{IsKInductive};
 ghost use Rattle.aig_certify.specs.WindowClauses.{AsksWindow, count_free, states_clauses, watched};
@@ -11,7 +11,7 @@ ghost use Rattle.aig_format.specs.Circuit.{circuit_of};
 ghost use Rattle.aig_unroll.specs.Places.{unrolled_size};
 
 use crate::clauses::window_clauses;
-use crate::distinct::push_distinct;
+use crate::distinct::{pairs_of, push_distinct};
 use crate::error::AnswerError;
 use aig::{Aig, AigEdge, PropList};
 use aig_base::{DagCnf, LitVvec, MemoryError, Source};
@@ -44,6 +44,22 @@ fn watch(circuit: &mut Aig, form: Window) -> Result<(), MemoryError>
     Ok(())
 }
 
+/// Whether the bound of a window's variables is within the limit.
+fn has_room(circuit: &Aig, k: usize, form: Window, limit: usize) -> bool
+    requires { k < 2 ^ 32 }
+    ensures { IsTrue result ↔ (window_size form circuit.now k ≤ limit) }
+{
+    let latchs = circuit.latchs().len();
+    let pairs = match form {
+        Window::Plain => 0,
+        Window::Distinct => pairs_of(k + 2),
+    };
+    if latchs != 0 && pairs > limit / latchs {
+        return false;
+    }
+    aig_unroll::is_within(circuit.num_nodes(), latchs, k + 1, limit - pairs * latchs)
+}
+
 /// Appends the clauses that tell the states of a window apart, where the form asks for them.
 fn tell_apart(
     alloc: Global,
@@ -52,11 +68,9 @@ fn tell_apart(
     k: usize,
     unrolled: &Aig,
     form: Window,
-    limit: usize,
-) -> Result<(), AnswerError>
-    requires few { limit ≤ 2 ^ 31 }
+) -> Result<(), MemoryError>
     requires steps { k < 2 ^ 32 }
-    requires within { length made.old.clauses ≤ limit }
+    requires room { length made.old.clauses + count_free form circuit.now k ≤ 2 ^ 31 }
     requires few_unrolled { length unrolled.now.nodes ≤ 2 ^ 31 }
     requires states { form ≡ Window.Distinct
         → length unrolled.now.outputs ≡ (k + 1 + 1) * length circuit.now.latchs }
@@ -64,7 +78,6 @@ fn tell_apart(
         ≡ made.old.clauses ++ replicate (count_free form circuit.now k) []) }
     ensures further { OnOk result (made.new.further ≡ made.old.further
         ++ states_clauses form (length made.old.clauses) circuit.now k unrolled.now) }
-    ensures err { IfErr result IsWantOfRoom }
 {
     match form {
         Window::Plain => Ok(()),
@@ -73,15 +86,7 @@ fn tell_apart(
             let mut some = Vec::with_capacity(alloc, latchs)?;
             let states = unrolled.outputs();
             let clauses = &mut made.clauses;
-            push_distinct(
-                clauses,
-                &mut made.further,
-                &mut some,
-                states,
-                latchs,
-                k + 2,
-                limit,
-            )
+            push_distinct(clauses, &mut made.further, &mut some, states, latchs, k + 2)
         }
     }
 }
@@ -103,6 +108,9 @@ fn ask_window(
     ensures none { IsErrOf result AnswerError.NoBads → circuit.bads ≡ [] }
     ensures large { IsErrOf result (AnswerError.Encode EncodeError.TooLarge)
         ↔ (limit < unrolled_size circuit (k + 1)) }
+    ensures room { IsErrOf result AnswerError.TooLarge
+        ↔ ((unrolled_size circuit (k + 1) ≤ limit) × (circuit.bads ≢ [])
+        × (limit < window_size form circuit k)) }
     ensures err { IfErr result IsOfCircuit }
 {
     if !aig_unroll::is_within(circuit.num_nodes(), circuit.latchs().len(), k + 1, limit) {
@@ -111,12 +119,15 @@ fn ask_window(
     if circuit.bads().is_empty() {
         return Err(AnswerError::NoBads);
     }
+    if !has_room(&circuit, k, form, limit) {
+        return Err(AnswerError::TooLarge);
+    }
     watch(&mut circuit, form)?;
     let unrolled = circuit.unroll_to(k + 1)?;
     let clauses = unrolled.cnf(optimize)?;
     let further = window_clauses(alloc, &circuit, k, &unrolled)?;
     let mut made = WindowClauses { clauses, further };
-    tell_apart(alloc, &mut made, &circuit, k, &unrolled, form, limit)?;
+    tell_apart(alloc, &mut made, &circuit, k, &unrolled, form)?;
     Ok(made)
 }
 
@@ -126,7 +137,11 @@ fn ask_window(
 ///
 /// The further clauses are, in order: for each constraint of each step that it holds, for each bad literal of the steps 0 to
 /// `k` that it doesn't, one clause of those of step `k + 1`, and in the distinct form, for each pair of steps, that some
-/// latch differs. Asks `1 <= limit <= 2^31`.
+/// latch differs.
+///
+/// `AnswerError::TooLarge` is answered, before any step, exactly where in the distinct form
+/// `n + (k + 1) * (n - 1 - l) + (k + 1) * (k + 2) / 2 * l` passes the limit, for the `n` nodes and `l` latches of the
+/// circuit, and the bound of its further steps, without the last summand, doesn't. Asks `1 <= limit <= 2^31`.
 pub fn window<R: Source>(
     alloc: Global,
     r: &mut R,
@@ -145,6 +160,7 @@ pub fn window<R: Source>(
     // The further clauses are of variables that are there.
     ensures below { IfOk result (λ made. AreBelow (length made.clauses) made.further) }
     ensures file { TellsOfFile R.left R.failed limit (k + 1) result r.old r.new }
+    ensures room { TellsOfRoom R.left form limit k result r.old r.new }
     // No read failed, and the stream was read to its end.
     ensures whole { OnOk result ((R.failed r.new ≡ false) × IsAtEnd (R.left r.new)) }
     ensures alone { IfErr result IsOfWindow }
@@ -172,6 +188,7 @@ pub fn check_window<R: Source, P: Source>(
     ensures answer { IfOk result (IsOfFile (IsAsked limit (k + 1)) (λ f _. IsKInductive form f k)
         (R.left r.old) (R.left r.new)) }
     ensures file { TellsOfFile R.left R.failed limit (k + 1) result r.old r.new }
+    ensures room { TellsOfRoom R.left form limit k result r.old r.new }
     ensures unread { IsOfFileAlone result → proof.new ≡ proof.old }
     // Stream only where a read failed in this call.
     ensures proof_stream { IsErrOf result (AnswerError.Refutation RefutationError.Stream)

@@ -1,4 +1,4 @@
-use Rattle.std.proofs.Common.{◌≡◌, ℕ, suc, ◌+◌, ◌*◌, ◌≤◌, ◌++◌, length, sym, ap, ◌∙◌, arith}
+use Rattle.std.proofs.Common.{◌≡◌, suc, ◌+◌, ◌*◌, ◌≤◌, ◌++◌, length, ap, ◌∙◌, arith}
 use Rattle.std.proofs.Math.Nat.{add-mul, mul-le-mul_right}
 use Rattle.aig_certify.specs.WindowClauses.{apart_clauses, pair_clauses, state_at}
 use Rattle.aig_answers.proofs.Asking.{cut_row, pair_cut, row_length}
@@ -25,5 +25,4 @@ loop-s-preserved c =
       further =
           more_step _ c.args.further.now c.loop-s.further (apart_clauses n l edges t s) (pair_clauses (n + s * l) (state_at l edges s) (state_at l edges t)) before.further pair
           ∙ ap (λ m. c.args.further.now ++ apart_clauses n l edges t m) next;
-      within = c.in_ok-push_pair.ensures.within;
     }

@@ -1,4 +1,4 @@
-use Rattle.std.proofs.Common.{◌≡◌, ◌≤◌, ◌*◌, ◌++◌, length}
+use Rattle.std.proofs.Common.{◌≡◌, ◌*◌, ◌++◌, length}
 use Rattle.aig_certify.specs.WindowClauses.{apart_clauses}
 use Rattle.aig_answers.proofs.Growing.{free}
 use Rattle.aig_answers.proofs.distinct.push_apart.Given as goal
@@ -7,5 +7,4 @@ abbrev pub invariant-loop-s : goal.invariant-loop-s
 invariant-loop-s l = record {
   clauses : l.clauses ≡ l.initial.clauses ++ free (l.s * l.latchs);
   further : l.further ≡ l.initial.further ++ apart_clauses (length l.initial.clauses) l.latchs l.edges l.t l.s;
-  within : length l.clauses ≤ l.limit;
 }

@@ -1,8 +1,14 @@
-use Rattle.std.proofs.Common.{◌≡◌, ℕ, suc, ◌+◌, ◌*◌, ◌<◌, ◌++◌, length, sym, ap, ◌∙◌, arith}
+use Rattle.std.proofs.Common.{◌≡◌, suc, ◌+◌, ◌*◌, ◌++◌, length, sym, ap, ◌∙◌, arith}
 use Rattle.std.proofs.Math.Nat.{add-mul}
 use Rattle.aig_certify.specs.WindowClauses.{apart_clauses, count_pairs, distinct_clauses}
 use Rattle.aig_answers.proofs.Growing.{free, free_length, free_step, more_step}
+use Rattle.aig_answers.proofs.Pairs.{pairs_next}
 use Rattle.aig_answers.proofs.distinct.push_distinct.Goals as goal
+
+pub push_apart-requires-clause-room : goal.push_apart-requires-clause-room
+push_apart-requires-clause-room c =
+    let at = ap length c.loop-t.invariant.clauses ∙ free_length c.args.clauses.now (count_pairs c.loop-t.t * c.args.latchs) in
+    omega (arith, at, pairs_next c.loop-t.t c.args.steps c.args.latchs c.loop-t-test.true, c.requires.room)
 
 pub loop-t-preserved : goal.loop-t-preserved
 loop-t-preserved c =
@@ -19,5 +25,4 @@ loop-t-preserved c =
           more_step _ c.args.further.now c.loop-t.further (distinct_clauses n l c.args.edges.now t) (apart_clauses (n + count_pairs t * l) l c.args.edges.now t t) before.further
           (c.in_ok-push_apart.ensures.further ∙ ap (λ m. c.loop-t.further ++ apart_clauses m l c.args.edges.now t t) at)
           ∙ ap (λ m. c.args.further.now ++ distinct_clauses n l c.args.edges.now m) next;
-      within = c.in_ok-push_apart.ensures.within;
     }

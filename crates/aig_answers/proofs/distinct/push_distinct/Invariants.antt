@@ -1,4 +1,4 @@
-use Rattle.std.proofs.Common.{◌≡◌, ◌≤◌, ◌*◌, ◌++◌, length}
+use Rattle.std.proofs.Common.{◌≡◌, ◌*◌, ◌++◌, length}
 use Rattle.aig_certify.specs.WindowClauses.{count_pairs, distinct_clauses}
 use Rattle.aig_answers.proofs.Growing.{free}
 use Rattle.aig_answers.proofs.distinct.push_distinct.Given as goal
@@ -7,5 +7,4 @@ abbrev pub invariant-loop-t : goal.invariant-loop-t
 invariant-loop-t l = record {
   clauses : l.clauses ≡ l.initial.clauses ++ free (count_pairs l.t * l.latchs);
   further : l.further ≡ l.initial.further ++ distinct_clauses (length l.initial.clauses) l.latchs l.edges l.t;
-  within : length l.clauses ≤ l.limit;
 }

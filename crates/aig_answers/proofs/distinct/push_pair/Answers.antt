@@ -1,5 +1,4 @@
-use Rattle.std.proofs.Common.{◌≡◌, ℕ, ◌+◌, ◌<◌, List, [], ◌∷◌, ◌++◌, length, refl, ap, ◌∙◌, arith}
-use Rattle.aig_base.specs.Clauses.{number_of}
+use Rattle.std.proofs.Common.{◌<◌, [], ◌∷◌, ◌++◌, length, refl, ap, ◌∙◌, arith}
 use Rattle.aig_answers.proofs.Growing.{difference_step, free_length, free_step, variables_step}
 use Rattle.aig_answers.proofs.distinct.push_pair.Goals as goal
 

@@ -1,6 +1,5 @@
-use Rattle.std.proofs.Common.{◌≡◌, ℕ, ◌++◌, Bool, Err, Ok, List, map, refl, sym, ap, subst, ◌∙◌}
+use Rattle.std.proofs.Common.{Err, Ok, refl}
 use Rattle.std.proofs.lemmas.Result.{err_from_is_err_and}
-use Rattle.aig_format.specs.Circuit.{edge_of}
 use Rattle.aig_encode.specs.declared.further.Query.{Query}
 use Rattle.aig_encode.specs.Encoding.{IsQuery}
 use Rattle.aig_answers.specs.declared.error.AnswerError.TheVariants as errors

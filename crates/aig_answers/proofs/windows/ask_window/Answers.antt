@@ -1,11 +1,9 @@
-use Rattle.std.proofs.Common.{◌≡◌, ◌↔◌, ℕ, ◌+◌, ◌*◌, ◌<◌, ◌≤◌, ◌^◌, ◌++◌, [], replicate, length, sym, ap, subst, ◌∙◌, arith}
-use Rattle.std.proofs.lemmas.Result.{err_from_is_err_and}
+use Rattle.std.proofs.Common.{◌+◌, ◌*◌, ◌++◌, [], replicate, length, sym, ap, subst, ◌∙◌, arith}
 use Rattle.aig_base.specs.Clauses.{AreRelations}
 use Rattle.aig_circuit.specs.Circuit.{Circuit}
-use Rattle.aig_unroll.specs.Places.{unrolled_size}
 use Rattle.aig_unroll.specs.Unroll.{UnrollsTo}
-use Rattle.aig_certify.specs.WindowClauses.{count_free, induction_clauses, states_clauses, watched}
-use Rattle.aig_answers.proofs.Asking.{asks, bads_count, only_room, room_told, same_size, states_count, within_told}
+use Rattle.aig_certify.specs.WindowClauses.{count_free, induction_clauses, states_clauses}
+use Rattle.aig_answers.proofs.Asking.{asks, bads_count, same_free, same_size, states_count, within_told}
 use Rattle.aig_answers.proofs.windows.ask_window.Goals as goal
 
 pub cnf-requires : goal.cnf-requires
@@ -18,23 +16,18 @@ cnf-requires c =
 pub window_clauses-requires-clause-bads : goal.window_clauses-requires-clause-bads
 window_clauses-requires-clause-bads c = bads_count c.watch.new.circuit c.in_ok-unrolled.unrolled (c.args.k + 1) c.in_ok-unrolled.ensures.unrolls
 
-pub tell_apart-requires-clause-within : goal.tell_apart-requires-clause-within
-tell_apart-requires-clause-within c =
+pub tell_apart-requires-clause-room : goal.tell_apart-requires-clause-room
+tell_apart-requires-clause-room c =
     let form = c.args.form in
-    let low = within_told c.args.circuit (c.args.k + 1) c.args.limit _ _ _ c.num_nodes.ensures.value c.latchs.ensures.value c.is_within.ensures c.if-not-is_within.false in
+    let size = c.has_room.ensures.0 c.if-not-has_room.false in
+    let free = ap (λ w. count_free form w c.args.k) c.in_ok-watch.ensures ∙ same_free form c.args.circuit c.args.k in
     let steps = subst (λ w. UnrollsTo w (c.args.k + 1) c.in_ok-unrolled.unrolled) c.in_ok-watch.ensures c.in_ok-unrolled.ensures.unrolls in
-    omega (arith, low, steps.size, same_size form c.args.circuit (c.args.k + 1), c.in_ok-clauses.ensures.clauses.count)
+    omega (arith, size, free, steps.size, same_size form c.args.circuit (c.args.k + 1), c.in_ok-clauses.ensures.clauses.count, c.requires.few)
 
 pub tell_apart-requires-clause-states : goal.tell_apart-requires-clause-states
 tell_apart-requires-clause-states c =
     let steps = subst (λ w. UnrollsTo w (c.args.k + 1) c.in_ok-unrolled.unrolled) c.in_ok-watch.ensures c.in_ok-unrolled.ensures.unrolls in
     λ is. states_count c.args.form c.args.circuit c.in_ok-unrolled.unrolled (c.args.k + 1) steps is ∙ ap (λ (w : Circuit). (c.args.k + 1 + 1) * length w.latchs) (sym c.in_ok-watch.ensures)
-
-pub returns-in_err-tell_apart-clause-large : goal.returns-in_err-tell_apart-clause-large
-returns-in_err-tell_apart-clause-large c =
-    let low = within_told c.args.circuit (c.args.k + 1) c.args.limit _ _ _ c.num_nodes.ensures.value c.latchs.ensures.value c.is_within.ensures c.if-not-is_within.false in
-    let p = err_from_is_err_and c.from_residual-in_err-tell_apart.result c.from_residual-in_err-tell_apart.ensures.1 in
-    rw (p.1, p.2) (λ is. absurd (only_room _ c.in_err-tell_apart.ensures.err cc), λ high. absurd (omega (arith, low, high)))
 
 pub returns-clause-large : goal.returns-clause-large
 returns-clause-large c =
@@ -54,8 +47,3 @@ returns-clause-asks c =
     let further = c.in_ok-tell_apart.ensures.further ∙ ap (λ all. all ++ states_clauses form (length lists) c.watch.new.circuit k u) c.in_ok-further.ensures.exact
     ∙ ap (λ w. induction_clauses w k u ++ states_clauses form (length lists) w k u) now in
     asks c.args.circuit k c.args.optimize u lists _ _ c.in_ok-further.ensures.circuit made.clauses made.fixes made.satisfied (subst AreRelations c.clauses.view_is c.clauses.invariant.0) form steps exact further
-
-pub returns-in_err-tell_apart-clause-err : goal.returns-in_err-tell_apart-clause-err
-returns-in_err-tell_apart-clause-err c =
-    let p = err_from_is_err_and c.from_residual-in_err-tell_apart.result c.from_residual-in_err-tell_apart.ensures.1 in
-    rw (p.1, p.2) (room_told _ c.in_err-tell_apart.ensures.err)

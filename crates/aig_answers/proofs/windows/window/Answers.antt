@@ -1,8 +1,7 @@
-use Rattle.std.proofs.Common.{◌≡◌, ℕ, ◌+◌, Ok, Err, sym, subst}
+use Rattle.std.proofs.Common.{◌+◌}
 use Rattle.std.proofs.lemmas.Result.{err_from_is_err_and}
-use Rattle.aig_circuit.specs.Circuit.{Circuit}
 use Rattle.aig_answers.proofs.Asking.{below_told}
-use Rattle.aig_answers.proofs.Files.{refused_reading, window_told}
+use Rattle.aig_answers.proofs.Files.{refused_reading, refused_room, window_room, window_told}
 use Rattle.aig_answers.proofs.windows.window.Goals as goal
 
 pub returns-in_err-circuit-clause-file : goal.returns-in_err-circuit-clause-file
@@ -19,3 +18,13 @@ returns-clause-file g c =
 
 pub returns-clause-below : goal.returns-clause-below
 returns-clause-below g c = below_told c.args.form c.in_ok-circuit.circuit c.args.k c.args.optimize c.ask_window.result c.ask_window.ensures.asks
+
+pub returns-in_err-circuit-clause-room : goal.returns-in_err-circuit-clause-room
+returns-in_err-circuit-clause-room g c =
+    let p = err_from_is_err_and c.from_residual.result c.from_residual.ensures.1 in
+    rw (p.1, p.2) (refused_room g.R.Source.left c.args.form c.args.limit c.args.k c.args.r.now _ _ c.in_err-circuit.field-0.0 c.in_err-circuit.ensures.exact)
+
+pub returns-clause-room : goal.returns-clause-room
+returns-clause-room g c =
+    let read = c.in_ok-circuit.ensures in
+    window_room g.R.Source.left c.args.form c.args.limit c.args.k c.args.r.now _ _ c.in_ok-circuit.circuit c.ask_window.result c.ask_window.ensures.room read.circuit read.exact
