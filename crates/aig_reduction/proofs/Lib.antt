@@ -2,3 +2,4 @@ mod Carrying
 pub mod Witnesses
 mod Sizes
 mod Reducing
+mod Alone

@@ -1,10 +1,10 @@
 //! Laws of circuits that keep one another's runs.
 
-ghost use Rattle.std.specs.Prelude.{ℕ, List};
+ghost use Rattle.std.specs.Prelude.{◌≡◌, ℕ, List};
 ghost use Rattle.aig_circuit.specs.Circuit.{Circuit, IsCircuit};
 ghost use Rattle.aig_circuit.specs.Runs.{KeepsRuns};
 ghost use Rattle.aig_cone.specs.Refine.{CutsRuns};
-ghost use Rattle.aig_reduction.specs.Reduction.{HaveSameWitnesses, asked_alone};
+ghost use Rattle.aig_reduction.specs.Reduction.{HaveSameWitnesses, IsReduced, asked_alone};
 
 /// Law: a circuit whose runs are another's, under new numbers or cut to the kept leaves, has a witness at each step exactly
 /// where that one has; and outputs, justice and fairness have no part in it.
@@ -16,4 +16,9 @@ pub fn runs_keep_witnesses()
     ensures others { (c : Circuit) → HaveSameWitnesses c (asked_alone c) }
     ensures both { (c d e : Circuit)
         → HaveSameWitnesses c d → HaveSameWitnesses d e → HaveSameWitnesses c e }
+{}
+
+/// Law: a circuit has one reduction.
+pub fn reductions_are_alone()
+    ensures { (c d e : Circuit) → IsReduced c d → IsReduced c e → d ≡ e }
 {}
