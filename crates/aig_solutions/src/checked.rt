@@ -7,7 +7,7 @@ ghost use Rattle.aig_unroll.specs.Unroll.{UnrollsTo};
 ghost use Rattle.aig_witness.specs.Witness.{said_by};
 ghost use Rattle.aig_witness_check.specs.Shown.{IsKnownWitness};
 
-use crate::error::{AnswerError, SolutionError};
+use crate::error::{CheckedWitnessError, SolutionError};
 use crate::reading::read_solution;
 use crate::witness::witness_of;
 use aig::{Aig, AigEdge};
@@ -61,14 +61,14 @@ fn copied_lists(alloc: Global, circuit: &Aig) -> Result<CircuitLists, MemoryErro
 ///
 /// # Errors
 ///
-/// `Answer` where there is no solution to read, `Witness` where it says no witness, and `Check` where the witness shows no bad
+/// `Solution` where there is no solution to read, `Values` where it says no witness, and `Check` where the witness shows no bad
 /// state.
 pub fn checked_witness<P: Source>(
     alloc: Global,
     asked: &Query,
     k: usize,
     solution: &mut P,
-) -> Result<Witness, SolutionError>
+) -> Result<Witness, CheckedWitnessError>
     requires small { k < 2 ^ 32 }
     requires steps { UnrollsTo asked.now.encoded.circuit k asked.now.encoded.unrolled }
     // The witness has k + 1 steps, and is one of the circuit, by simulation in three values.
@@ -76,7 +76,7 @@ pub fn checked_witness<P: Source>(
     ensures known { IfOk result
         (λ w. IsKnownWitness asked.now.encoded.circuit (said_by w)) }
     // Stream only where a read failed in this call.
-    ensures stream { IsErrOf result (SolutionError.Answer AnswerError.Stream)
+    ensures stream { IsErrOf result (CheckedWitnessError.Solution SolutionError.Stream)
         → IsTrue (P.failed solution.new) }
 {
     let values = read_solution(alloc, solution, asked.encoded.clauses.num_vars())?;

@@ -1,9 +1,9 @@
 //! Why there is no witness.
 
 ghost use Rattle.std.specs.Prelude.{◌≡◌};
-ghost use Rattle.aig_solutions.specs.declared.error.AnswerError.TheVariants as answers;
+ghost use Rattle.aig_solutions.specs.declared.error.CheckedWitnessError.TheVariants as checked;
 ghost use Rattle.aig_solutions.specs.declared.error.SolutionError.TheVariants as solutions;
-ghost use Rattle.aig_solutions.specs.declared.error.WitnessError.TheVariants as witnesses;
+ghost use Rattle.aig_solutions.specs.declared.error.ValuesError.TheVariants as valued;
 
 use aig_base::{MemoryError, StreamFault};
 use aig_witness_check::CheckError;
@@ -12,7 +12,7 @@ use thiserror::Error;
 
 /// Why a solver's answer gives no values.
 #[derive(Clone, Copy, Debug, PartialEq, Eq, Error)]
-pub enum AnswerError {
+pub enum SolutionError {
     /// Memory ran out.
     #[error("out of memory")]
     Memory,
@@ -45,33 +45,33 @@ pub enum AnswerError {
     Unfinished,
 }
 
-impl From<AllocError> for AnswerError {
-    ghost from_gives = { λ _ r. r ≡ answers.Memory };
+impl From<AllocError> for SolutionError {
+    ghost from_gives = { λ _ r. r ≡ solutions.Memory };
 
-    fn from(_error: AllocError) -> AnswerError {
-        AnswerError::Memory
+    fn from(_error: AllocError) -> SolutionError {
+        SolutionError::Memory
     }
 }
 
-impl<T: Drop> From<AllocFailed<T>> for AnswerError {
-    ghost from_gives = { λ _ r. r ≡ answers.Memory };
+impl<T: Drop> From<AllocFailed<T>> for SolutionError {
+    ghost from_gives = { λ _ r. r ≡ solutions.Memory };
 
-    fn from(_error: AllocFailed<T>) -> AnswerError {
-        AnswerError::Memory
+    fn from(_error: AllocFailed<T>) -> SolutionError {
+        SolutionError::Memory
     }
 }
 
-impl From<StreamFault> for AnswerError {
-    ghost from_gives = { λ _ r. r ≡ answers.Stream };
+impl From<StreamFault> for SolutionError {
+    ghost from_gives = { λ _ r. r ≡ solutions.Stream };
 
-    fn from(_fault: StreamFault) -> AnswerError {
-        AnswerError::Stream
+    fn from(_fault: StreamFault) -> SolutionError {
+        SolutionError::Stream
     }
 }
 
 /// Why values of the variables of a query's clauses give no witness.
 #[derive(Clone, Copy, Debug, PartialEq, Eq, Error)]
-pub enum WitnessError {
+pub enum ValuesError {
     /// Memory ran out.
     #[error("out of memory")]
     Memory,
@@ -80,72 +80,72 @@ pub enum WitnessError {
     NoBad,
 }
 
-impl From<MemoryError> for WitnessError {
-    ghost from_gives = { λ _ r. r ≡ witnesses.Memory };
+impl From<MemoryError> for ValuesError {
+    ghost from_gives = { λ _ r. r ≡ valued.Memory };
 
-    fn from(_error: MemoryError) -> WitnessError {
-        WitnessError::Memory
+    fn from(_error: MemoryError) -> ValuesError {
+        ValuesError::Memory
     }
 }
 
-impl From<AllocError> for WitnessError {
-    ghost from_gives = { λ _ r. r ≡ witnesses.Memory };
+impl From<AllocError> for ValuesError {
+    ghost from_gives = { λ _ r. r ≡ valued.Memory };
 
-    fn from(_error: AllocError) -> WitnessError {
-        WitnessError::Memory
+    fn from(_error: AllocError) -> ValuesError {
+        ValuesError::Memory
     }
 }
 
-impl<T: Drop> From<AllocFailed<T>> for WitnessError {
-    ghost from_gives = { λ _ r. r ≡ witnesses.Memory };
+impl<T: Drop> From<AllocFailed<T>> for ValuesError {
+    ghost from_gives = { λ _ r. r ≡ valued.Memory };
 
-    fn from(_error: AllocFailed<T>) -> WitnessError {
-        WitnessError::Memory
+    fn from(_error: AllocFailed<T>) -> ValuesError {
+        ValuesError::Memory
     }
 }
 
 /// Why a solver's answer gives no checked witness.
 #[derive(Clone, Copy, Debug, PartialEq, Eq, Error)]
-pub enum SolutionError {
+pub enum CheckedWitnessError {
     /// The answer gives no values.
     #[error("{0}")]
-    Answer(AnswerError),
+    Solution(SolutionError),
     /// The values give no witness.
     #[error("{0}")]
-    Witness(WitnessError),
+    Values(ValuesError),
     /// The witness shows no bad state.
     #[error("{0}")]
     Check(CheckError),
 }
 
-impl From<AnswerError> for SolutionError {
-    ghost from_gives = { λ e r. r ≡ solutions.Answer e };
+impl From<SolutionError> for CheckedWitnessError {
+    ghost from_gives = { λ e r. r ≡ checked.Solution e };
 
-    fn from(error: AnswerError) -> SolutionError {
-        SolutionError::Answer(error)
+    fn from(error: SolutionError) -> CheckedWitnessError {
+        CheckedWitnessError::Solution(error)
     }
 }
 
-impl From<WitnessError> for SolutionError {
-    ghost from_gives = { λ e r. r ≡ solutions.Witness e };
+impl From<ValuesError> for CheckedWitnessError {
+    ghost from_gives = { λ e r. r ≡ checked.Values e };
 
-    fn from(error: WitnessError) -> SolutionError {
-        SolutionError::Witness(error)
+    fn from(error: ValuesError) -> CheckedWitnessError {
+        CheckedWitnessError::Values(error)
     }
 }
 
-impl From<CheckError> for SolutionError {
-    ghost from_gives = { λ e r. r ≡ solutions.Check e };
+impl From<CheckError> for CheckedWitnessError {
+    ghost from_gives = { λ e r. r ≡ checked.Check e };
 
-    fn from(error: CheckError) -> SolutionError {
-        SolutionError::Check(error)
+    fn from(error: CheckError) -> CheckedWitnessError {
+        CheckedWitnessError::Check(error)
     }
 }
 
-impl From<MemoryError> for SolutionError {
-    ghost from_gives = { λ _ r. r ≡ solutions.Witness witnesses.Memory };
+impl From<MemoryError> for CheckedWitnessError {
+    ghost from_gives = { λ _ r. r ≡ checked.Values valued.Memory };
 
-    fn from(_error: MemoryError) -> SolutionError {
-        SolutionError::Witness(WitnessError::Memory)
+    fn from(_error: MemoryError) -> CheckedWitnessError {
+        CheckedWitnessError::Values(ValuesError::Memory)
     }
 }

@@ -9,7 +9,7 @@ mod reading;
 mod witness;
 
 pub use checked::checked_witness;
-pub use error::{AnswerError, SolutionError, WitnessError};
+pub use error::{CheckedWitnessError, SolutionError, ValuesError};
 pub use laws::solutions_show;
 pub use places::Places;
 pub use reading::read_solution;

@@ -2,14 +2,14 @@
 
 ghost use Rattle.std.specs.Prelude.{◌≡◌, ◌<◌, ◌≤◌, IfOk, IsErrOf, IsTrue, OnOk, OnSome, length, true, vec_len};
 
-use crate::error::AnswerError;
+use crate::error::SolutionError;
 use aig_base::{Lbool, Source};
 use aig_lexer::{Buffered, ByteFeed, LexError, WINDOW_SIZE, number_from};
 use std::alloc::Global;
 
 /// The first byte of the next line that is no comment, if there is one.
-fn first_byte<F: ByteFeed>(f: &mut F) -> Result<Option<u8>, AnswerError>
-    ensures stream { IsErrOf result AnswerError.Stream → F.failed f.new ≡ true }
+fn first_byte<F: ByteFeed>(f: &mut F) -> Result<Option<u8>, SolutionError>
+    ensures stream { IsErrOf result SolutionError.Stream → F.failed f.new ≡ true }
     ensures same { F.behind f.new ≡ F.behind f.old }
     ensures fewer { IfOk result (λ o. OnSome o (F.turns f.new < F.turns f.old)) }
 {
@@ -27,14 +27,14 @@ fn first_byte<F: ByteFeed>(f: &mut F) -> Result<Option<u8>, AnswerError>
 }
 
 /// The next byte of a line of values.
-fn next_byte<F: ByteFeed>(f: &mut F) -> Result<u8, AnswerError>
-    ensures stream { IsErrOf result AnswerError.Stream → F.failed f.new ≡ true }
+fn next_byte<F: ByteFeed>(f: &mut F) -> Result<u8, SolutionError>
+    ensures stream { IsErrOf result SolutionError.Stream → F.failed f.new ≡ true }
     ensures same { F.behind f.new ≡ F.behind f.old }
     ensures fewer { OnOk result (F.turns f.new < F.turns f.old) }
 {
     match f.next()? {
         Some(byte) => Ok(byte),
-        None => Err(AnswerError::Unfinished),
+        None => Err(SolutionError::Unfinished),
     }
 }
 
@@ -42,8 +42,8 @@ fn next_byte<F: ByteFeed>(f: &mut F) -> Result<u8, AnswerError>
 const LONGEST: usize = 16;
 
 /// What stands in a line behind its first byte.
-fn rest_of_line<F: ByteFeed>(alloc: Global, f: &mut F) -> Result<Vec<u8>, AnswerError>
-    ensures stream { IsErrOf result AnswerError.Stream → F.failed f.new ≡ true }
+fn rest_of_line<F: ByteFeed>(alloc: Global, f: &mut F) -> Result<Vec<u8>, SolutionError>
+    ensures stream { IsErrOf result SolutionError.Stream → F.failed f.new ≡ true }
     ensures same { F.behind f.new ≡ F.behind f.old }
 {
     let mut rest = Vec::with_capacity(alloc, LONGEST)?;
@@ -52,31 +52,31 @@ fn rest_of_line<F: ByteFeed>(alloc: Global, f: &mut F) -> Result<Vec<u8>, Answer
             return Ok(rest);
         }
         if rest.len() == LONGEST {
-            return Err(AnswerError::Answer);
+            return Err(SolutionError::Answer);
         }
         rest.push(b)?;
     }
-    Err(AnswerError::Answer)
+    Err(SolutionError::Answer)
 }
 
 /// Reads the line of an answer, behind comments. Other answers than `SATISFIABLE` are refused.
-fn read_answer<F: ByteFeed>(alloc: Global, f: &mut F) -> Result<(), AnswerError>
-    ensures stream { IsErrOf result AnswerError.Stream → F.failed f.new ≡ true }
+fn read_answer<F: ByteFeed>(alloc: Global, f: &mut F) -> Result<(), SolutionError>
+    ensures stream { IsErrOf result SolutionError.Stream → F.failed f.new ≡ true }
     ensures same { F.behind f.new ≡ F.behind f.old }
 {
     if first_byte(f)? != Some(b's') {
-        return Err(AnswerError::Answer);
+        return Err(SolutionError::Answer);
     }
     let line = rest_of_line(alloc, f)?;
     let rest = line.as_slice();
     if rest == b" SATISFIABLE".as_slice() {
         Ok(())
     } else if rest == b" UNSATISFIABLE".as_slice() {
-        Err(AnswerError::Unsatisfiable)
+        Err(SolutionError::Unsatisfiable)
     } else if rest == b" UNKNOWN".as_slice() {
-        Err(AnswerError::Unknown)
+        Err(SolutionError::Unknown)
     } else {
-        Err(AnswerError::Answer)
+        Err(SolutionError::Answer)
     }
 }
 
@@ -92,8 +92,8 @@ struct Word {
 }
 
 /// Reads the literal that begins with this byte.
-fn read_word<F: ByteFeed>(f: &mut F, first: u8) -> Result<Word, AnswerError>
-    ensures stream { IsErrOf result AnswerError.Stream → F.failed f.new ≡ true }
+fn read_word<F: ByteFeed>(f: &mut F, first: u8) -> Result<Word, SolutionError>
+    ensures stream { IsErrOf result SolutionError.Stream → F.failed f.new ≡ true }
     ensures same { F.behind f.new ≡ F.behind f.old }
     ensures fewer { OnOk result (F.turns f.new < F.turns f.old) }
 {
@@ -105,21 +105,21 @@ fn read_word<F: ByteFeed>(f: &mut F, first: u8) -> Result<Word, AnswerError>
             positive,
             end,
         }),
-        Err(LexError::Stream) => Err(AnswerError::Stream),
-        _ => Err(AnswerError::Literal),
+        Err(LexError::Stream) => Err(SolutionError::Stream),
+        _ => Err(SolutionError::Literal),
     }
 }
 
 /// Gives the variable of a literal its value.
-fn set_value(values: &mut [Lbool], word: &Word) -> Result<(), AnswerError>
-    ensures { IsErrOf result AnswerError.Stream → ⊥ }
+fn set_value(values: &mut [Lbool], word: &Word) -> Result<(), SolutionError>
+    ensures { IsErrOf result SolutionError.Stream → ⊥ }
 {
     let Some(variable) = word.number.checked_sub(1) else {
-        return Err(AnswerError::Literal);
+        return Err(SolutionError::Literal);
     };
     let variable = variable as usize;
     if variable >= values.len() {
-        return Err(AnswerError::Variable);
+        return Err(SolutionError::Variable);
     }
     let value = if word.positive {
         Lbool::TRUE
@@ -127,21 +127,21 @@ fn set_value(values: &mut [Lbool], word: &Word) -> Result<(), AnswerError>
         Lbool::FALSE
     };
     if values[variable] == !value {
-        return Err(AnswerError::Clash);
+        return Err(SolutionError::Clash);
     }
     values[variable] = value;
     Ok(())
 }
 
 /// Reads the literals of a line, behind its first byte, and says whether the 0 stands there.
-fn read_values<F: ByteFeed>(f: &mut F, values: &mut [Lbool]) -> Result<bool, AnswerError>
-    ensures stream { IsErrOf result AnswerError.Stream → F.failed f.new ≡ true }
+fn read_values<F: ByteFeed>(f: &mut F, values: &mut [Lbool]) -> Result<bool, SolutionError>
+    ensures stream { IsErrOf result SolutionError.Stream → F.failed f.new ≡ true }
     ensures same { F.behind f.new ≡ F.behind f.old }
     ensures fewer { OnOk result (F.turns f.new < F.turns f.old) }
 {
     let mut byte = next_byte(f)?;
     if byte != b' ' && byte != b'\n' {
-        return Err(AnswerError::Line);
+        return Err(SolutionError::Line);
     }
     while byte != b'\n' {
         if byte == b' ' {
@@ -159,19 +159,19 @@ fn read_values<F: ByteFeed>(f: &mut F, values: &mut [Lbool]) -> Result<bool, Ans
 }
 
 /// Reads lines of values up to the 0.
-fn read_lines<F: ByteFeed>(f: &mut F, values: &mut [Lbool]) -> Result<(), AnswerError>
-    ensures stream { IsErrOf result AnswerError.Stream → F.failed f.new ≡ true }
+fn read_lines<F: ByteFeed>(f: &mut F, values: &mut [Lbool]) -> Result<(), SolutionError>
+    ensures stream { IsErrOf result SolutionError.Stream → F.failed f.new ≡ true }
     ensures same { F.behind f.new ≡ F.behind f.old }
 {
     while let Some(first) = first_byte(f)? {
         if first != b'v' {
-            return Err(AnswerError::Line);
+            return Err(SolutionError::Line);
         }
         if read_values(f, values)? {
             return Ok(());
         }
     }
-    Err(AnswerError::Unfinished)
+    Err(SolutionError::Unfinished)
 }
 
 /// Reads a solver's answer to clauses of so many variables, and returns the value of each: unknown where the solver says
@@ -191,10 +191,10 @@ pub fn read_solution<R: Source>(
     alloc: Global,
     r: &mut R,
     variables: usize,
-) -> Result<Vec<Lbool>, AnswerError>
+) -> Result<Vec<Lbool>, SolutionError>
     ensures count { IfOk result (λ values. length values.items ≡ variables) }
     // Stream only where a read failed in this call.
-    ensures stream { IsErrOf result AnswerError.Stream → IsTrue (R.failed r.new) }
+    ensures stream { IsErrOf result SolutionError.Stream → IsTrue (R.failed r.new) }
 {
     let mut window = vec![in alloc; 0; WINDOW_SIZE]?;
     let mut bytes = Buffered::new(r, &mut window);

@@ -7,7 +7,7 @@ ghost use Rattle.aig_solutions.specs.Turns.{HasStep};
 ghost use Rattle.aig_unroll.specs.Unroll.{UnrollsTo};
 ghost use Rattle.aig_witness.specs.Witness.{rows_of, said_by};
 
-use crate::error::WitnessError;
+use crate::error::ValuesError;
 use crate::places::Places;
 use aig::{Aig, AigEdge};
 use aig_base::{Lbool, MemoryError};
@@ -110,12 +110,12 @@ pub fn witness_of(
     asked: &Query,
     k: usize,
     values: &[Lbool],
-) -> Result<Witness, WitnessError>
+) -> Result<Witness, ValuesError>
     requires small { k < 2 ^ 32 }
     requires steps { UnrollsTo asked.now.encoded.circuit k asked.now.encoded.unrolled }
     ensures witness { IfOk result (λ w. IsWitnessIn asked.now.encoded.circuit
         asked.now.encoded.unrolled k values.now (said_by w)) }
-    ensures no_bad { IsErrOf result WitnessError.NoBad
+    ensures no_bad { IsErrOf result ValuesError.NoBad
         → HasNoTrue
         (last_bads asked.now.encoded.circuit k asked.now.encoded.unrolled) values.now }
 {
@@ -124,7 +124,7 @@ pub fn witness_of(
     let bads = unrolled.bads();
     let first = k * circuit.bads().len();
     let Some(bad) = first_true(&bads[first..], values) else {
-        return Err(WitnessError::NoBad);
+        return Err(ValuesError::NoBad);
     };
     let state = read_state(alloc, circuit, values)?;
     let steps = read_steps(alloc, circuit, unrolled, values, k)?;
