@@ -1,3 +1,4 @@
+-- Part of what is promised.
 -- What the gates of a circuit are. (AIGER format 20071012: "And section".)
 use Rattle.std.specs.Prelude.{◌≡◌, Some, List, slice_get}
 use Rattle.aig_circuit.specs.declared.node.AigNode.{AigNode}

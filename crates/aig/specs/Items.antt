@@ -1,3 +1,4 @@
+-- Part of what is promised.
 -- What the list builders ask and tell of the items of an iterator.
 use Rattle.std.specs.Prelude.{◌≡◌, true, List, Option}
 use Rattle.std.specs.Iterator.Runs.{EachRunFrom, WholeRun}

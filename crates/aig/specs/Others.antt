@@ -1,3 +1,4 @@
+-- Part of what is promised.
 -- What the calls that make other circuits answer.
 use Rattle.std.specs.Prelude.{◌≡◌, ℕ, List}
 use Rattle.std.specs.Ordering.{nat_cmp}

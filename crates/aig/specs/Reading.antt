@@ -1,3 +1,4 @@
+-- Part of what is promised.
 -- What is read.
 use Rattle.std.specs.Prelude.{◌≡◌}
 use Rattle.aig_circuit.specs.Circuit.{Circuit}

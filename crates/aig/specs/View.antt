@@ -1,3 +1,4 @@
+-- Part of what is promised.
 -- What contracts see of a circuit.
 use Rattle.aig_circuit.specs.Circuit.{Circuit}
 use Rattle.aig_circuit.specs.View.{lists_circuit}

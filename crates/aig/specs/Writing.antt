@@ -1,3 +1,4 @@
+-- Part of what is promised.
 -- What a writing call answers.
 use Rattle.std.specs.Prelude.{All, Any, Result, Ok, Err}
 use Rattle.aig_circuit.specs.Circuit.{Circuit, HasFreeLeaf, IsClosed}

@@ -1,3 +1,4 @@
+-- Part of what is promised.
 -- What the answer of a call tells of the bytes of a file.
 use Rattle.std.specs.Prelude.{◌≡◌, ◌≢◌, ◌↔◌, ℕ, ◌+◌, ◌<◌, Bool, IsTrue, List, [], Option, Result, Ok, Err, IfSome, IsErrOf}
 use Rattle.aig_circuit.specs.Circuit.{Circuit}

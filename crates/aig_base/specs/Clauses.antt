@@ -1,3 +1,4 @@
+-- Part of what is promised.
 -- Variables, literals and clauses.
 use Rattle.std.specs.Prelude.{◌≡◌, ℕ, ◌+◌, ◌*◌, ◌/◌, ◌%◌, ◌^◌, ◌<◌, ◌≤◌, ◌==◌, Bool, true, false, not, if◌then◌else◌, List, [], ◌∷◌, ◌++◌, length, map, IsTrue, All}
 use Rattle.std.specs.List.{list_any, list_all, sum_by}

@@ -1,3 +1,4 @@
+-- Part of what is promised.
 -- Lists that stand one after another in one list, and where each ends.
 use Rattle.std.specs.Prelude.{◌≡◌, ℕ, zero, suc, ◌≤◌, List, [], ◌∷◌, slice_range, slice_index}
 

@@ -1,3 +1,4 @@
+-- Serves private clauses alone.
 -- What contracts see of the source and the sink that tests stand on.
 use Rattle.std.specs.Prelude.{ℕ, ◌-◌, Bool, List, Option, Some, drop, vec_len}
 use Rattle.aig_base.specs.declared.test_streams.Parts.{Parts}

@@ -1,3 +1,4 @@
+-- Part of what is promised.
 -- Clauses in a row, and whether some assignment satisfies them. (Conjunctive normal form.)
 use Rattle.std.specs.Prelude.{ℕ, Bool, IsTrue, List}
 use Rattle.std.specs.List.{flat_map}

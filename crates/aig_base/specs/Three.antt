@@ -1,3 +1,4 @@
+-- Part of what is promised.
 -- Three values: false, true and unknown.
 use Rattle.std.specs.Prelude.{◌≡◌, Bool, true, false}
 use Rattle.aig_base.specs.declared.logic.three.Lbool.{Lbool}

@@ -1,3 +1,4 @@
+-- Serves private clauses alone.
 -- What stands under a source or a sink made of a reader or a writer of std.
 use Rattle.std.specs.Prelude.{ℕ, Bool}
 use Rattle.aig_base.specs.declared.std_stream.FromRead.{FromRead}

@@ -1,3 +1,4 @@
+-- Part of what laws say, and of no promise of a call.
 -- A file that shows the safety of another. (Certificates of model checking: an inductive invariant
 -- is handed over as a file of the same machine with more gates, one of which says the invariant, and
 -- whose inverse is a bad literal beside the others.)

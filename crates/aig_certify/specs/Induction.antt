@@ -1,3 +1,4 @@
+-- Part of what is promised.
 -- Safety at every step, by induction over windows of steps. (Temporal induction, k-induction, and its form over runs without a repeated
 -- state: Sheeran, Singh and Stålmarck, 2000; Bjesse and Claessen, 2000.)
 use Rattle.std.specs.Prelude.{◌≡◌, ℕ, ◌+◌, ◌/◌, ◌<◌, ◌≤◌, Bool}

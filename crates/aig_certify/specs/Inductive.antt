@@ -1,3 +1,4 @@
+-- Part of what laws say, and of no promise of a call.
 -- Inductive invariants of a file's machine. (Unbounded model checking: an invariant that holds at starts, that each step keeps, and that
 -- excludes the bad states, each under the constraints.)
 use Rattle.std.specs.Prelude.{◌≡◌, ℕ, ◌/◌, Bool, IfSome, IsTrue}

@@ -1,3 +1,4 @@
+-- Part of what is promised.
 -- A machine that meets no bad state at a step. (AIGER 1.9, "Properties"; bounded model checking.)
 use Rattle.std.specs.Prelude.{◌≡◌, ℕ, Bool, false, IsTrue}
 use Rattle.std.specs.List.{AllByRecursion}

@@ -1,3 +1,4 @@
+-- Part of what is promised.
 -- The clauses that ask for a window of steps that is bad first at its end. (Temporal induction: Sheeran, Singh and Stålmarck, 2000.)
 use Rattle.std.specs.Prelude.{◌≡◌, ℕ, zero, suc, ◌+◌, ◌*◌, Bool, true, false, List, [], ◌∷◌, ◌++◌, length, map, take, drop, replicate}
 use Rattle.aig_base.specs.declared.logic.literal.Lit.{Lit}

@@ -1,3 +1,4 @@
+-- Serves private clauses alone.
 -- Entries that speak of so many first nodes alone, and room for those of another circuit.
 use Rattle.std.specs.Prelude.{ℕ, ◌+◌, ◌<◌, ◌≤◌, IfSome, length, vec_capacity, vec_len}
 use Rattle.aig_circuit.specs.declared.edge.AigEdge.{AigEdge}

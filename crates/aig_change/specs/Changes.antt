@@ -1,3 +1,4 @@
+-- Part of what is promised.
 -- Changes of properties and of initial edges. (The crate aig: `aig_move`, `compress_property`, `gate_init_to_constraint`.)
 use Rattle.std.specs.Prelude.{◌≡◌, ℕ, ◌≤◌, ◌==◌, ◌↔◌, if◌then◌else◌, Bool, true, false, Option, Some, None, IsTrue, option_to_list, List, [], ◌∷◌, ◌++◌, length, map, drop, All, slice_get}
 use Rattle.aig_circuit.specs.declared.edge.AigEdge.{AigEdge}

@@ -1,3 +1,4 @@
+-- Part of what is promised.
 -- The first edge of a list joined with another edge.
 use Rattle.std.specs.Prelude.{◌≡◌, ℕ, ◌&&◌, Bool, false, Some, List, [], length, drop, All, slice_get}
 use Rattle.aig_circuit.specs.declared.edge.AigEdge.{AigEdge}

@@ -1,3 +1,4 @@
+-- Part of what is promised.
 -- One circuit behind another. (The crate aig: `merge`.)
 use Rattle.std.specs.Prelude.{◌≡◌, ℕ, ◌+◌, ◌-◌, ◌==◌, ◌↔◌, if◌then◌else◌, Bool, List, ◌++◌, length, map, drop, All}
 use Rattle.aig_circuit.specs.declared.edge.AigEdge.{AigEdge}

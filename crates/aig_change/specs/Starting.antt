@@ -1,3 +1,4 @@
+-- Part of what is promised.
 -- Constraints that say in place of initial edges that aren't constant what those say.
 use Rattle.std.specs.Prelude.{◌≡◌, ◌≢◌, ◌==◌, ℕ, ◌++◌, ◌↔◌, Bool, true, false, not, Option, Some, None, IsTrue, IfSome, List, [], ◌∷◌, All, filter}
 use Rattle.std.specs.List.{AllZip}

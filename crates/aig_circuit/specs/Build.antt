@@ -1,3 +1,4 @@
+-- Part of what is promised.
 -- What the builders add to a list of nodes, and the value of the edge that they answer.
 -- (The crate aig: `new_leaf_node`, `new_and_node` and its other builders.)
 use Rattle.std.specs.Prelude.{◌≡◌, ℕ, ◌+◌, ◌-◌, ◌<◌, ◌≤◌, ◌++◌, ◌∷◌, [], ◌⊎◌, Bool, true, false, List, length, Some}

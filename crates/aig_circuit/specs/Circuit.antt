@@ -1,3 +1,4 @@
+-- Part of what is promised.
 -- Circuits: nodes, inputs, latches, and properties.
 -- (The crate aig; AIGER 1.9: "Reset logic" for initial edges, "Properties" for all properties but outputs.)
 use Rattle.std.specs.Prelude.{◌≡◌, ◌≢◌, ℕ, ◌<◌, ◌≤◌, IsTrue, Some, IfSome, List, [], ◌∷◌, ◌++◌, length, map, All, AllPairs, Contains, slice_get}

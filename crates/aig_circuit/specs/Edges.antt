@@ -1,3 +1,4 @@
+-- Part of what is promised.
 -- Which edges a circuit names: those of its properties, its next edges and its initial edges; which nodes edges name.
 -- (AIGER 1.9: "Properties" and "Reset logic".)
 use Rattle.std.specs.Prelude.{◌≢◌, ◌≡◌, ℕ, option_to_list, IfSome, IsSomeAnd, List, ◌∷◌, ◌++◌, map, Contains}

@@ -1,3 +1,4 @@
+-- Part of what is promised.
 -- Marks of nodes: one truth value a node.
 use Rattle.std.specs.Prelude.{◌<◌, ◌⊎◌, ◌↔◌, ℕ, Bool, false, IsTrue, List, length, All, slice_index_or}
 use Rattle.aig_circuit.specs.declared.edge.AigEdge.{AigEdge}

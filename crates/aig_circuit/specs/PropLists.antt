@@ -1,3 +1,4 @@
+-- Part of what is promised.
 -- The four lists of property edges. (AIGER 1.9: "Properties".)
 use Rattle.std.specs.Prelude.{List}
 use Rattle.aig_circuit.specs.declared.edge.AigEdge.{AigEdge}

@@ -1,3 +1,4 @@
+-- Part of what is promised.
 -- What is reached from a set of nodes, along operands, and over time along next edges. (The cone of influence.)
 use Rattle.std.specs.Prelude.{◌≡◌, ℕ, ◌<◌, ◌⊎◌, ◌↔◌, Bool, Some, List, length, Contains}
 use Rattle.aig_circuit.specs.declared.edge.AigEdge.{AigEdge}

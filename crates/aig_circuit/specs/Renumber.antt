@@ -1,3 +1,4 @@
+-- Part of what is promised.
 -- Circuits of some of a circuit's nodes under new numbers: re-encoded, cut to a cone, hashed.
 use Rattle.std.specs.Prelude.{ℕ, ◌+◌, ◌==◌, if◌then◌else◌, Bool, Option, Some, None, option_map, List, [], ◌∷◌, map, filter}
 use Rattle.std.specs.List.{list_any}

@@ -1,3 +1,4 @@
+-- Part of what is promised.
 -- The circuit of lists of the program.
 use Rattle.std.specs.Prelude.{ℕ, List, map, string_bytes, String}
 use Rattle.std.specs.declared.alloc.Global.{Global}

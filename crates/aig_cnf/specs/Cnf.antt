@@ -1,3 +1,4 @@
+-- Part of what is promised.
 -- Which gates of a circuit have clauses, which clauses these are, and what they say together.
 -- A variable of the clauses is a node of the circuit, by its number. (Tseitin encoding.)
 use Rattle.std.specs.Prelude.{◌≡◌, ◌≢◌, ℕ, Bool, true, false, not, ◌&&◌, if◌then◌else◌, Some, List, [], ◌∷◌, length, All, slice_get}

@@ -1,3 +1,4 @@
+-- Serves private clauses alone.
 -- Marks of the nodes that need clauses, and the clauses of a node by its mark. (Tseitin encoding.)
 use Rattle.std.specs.Prelude.{◌≡◌, ℕ, ◌⊎◌, ◌↔◌, Bool, IsTrue, List, []}
 use Rattle.aig_base.specs.declared.logic.literal.Lit.{Lit}

@@ -1,3 +1,4 @@
+-- Serves private clauses alone.
 -- The forms that a gate has beside the and of its operands. (Tseitin encoding of the exclusive or and of if-then-else.)
 use Rattle.std.specs.Prelude.{◌≡◌, ◌≢◌, List}
 use Rattle.aig_circuit.specs.declared.edge.AigEdge.{AigEdge}

@@ -1,3 +1,4 @@
+-- Serves private clauses alone.
 -- Marks of the nodes that are met, and the stack of those that are still to be followed.
 use Rattle.std.specs.Prelude.{◌≡◌, ℕ, ◌+◌, ◌<◌, ◌⊎◌, ◌↔◌, Bool, if◌then◌else◌, Option, Some, None, List, length, sum_by, AllPairs, Contains, slice_index_or}
 use Rattle.aig_circuit.specs.Circuit.{Circuit}

@@ -1,3 +1,4 @@
+-- Part of what is promised.
 -- The circuit of what the properties, the latches and the initial edges that aren't constant reach.
 -- (The cone of influence reduction; the crate aig: `coi_refine`.)
 use Rattle.std.specs.Prelude.{◌≡◌, ℕ, ◌<◌, ◌==◌, ◌↔◌, if◌then◌else◌, Bool, List, [], ◌∷◌, ◌++◌, length, map, All, AllPairs, Contains, slice_get, slice_index}

@@ -1,3 +1,4 @@
+-- Part of what is promised.
 -- A plain reader of DIMACS: words apart by spaces and line feeds, of which a 0 ends a clause. It knows no comments.
 use Rattle.std.specs.Prelude.{ℕ, ◌-◌, ◌==◌, nat_le, Bool, true, false, ◌||◌, if◌then◌else◌, List, [], ◌∷◌, ◌++◌, length, codes, Option, Some, None, option_map}
 use Rattle.std.specs.Str.{all_ascii_digits}

@@ -1,3 +1,4 @@
+-- Part of what is promised.
 -- The DIMACS text of clauses: a header line with the counts of variables and of clauses, and a line for each clause. (DIMACS CNF format.)
 use Rattle.std.specs.Prelude.{ℕ, ◌+◌, ◌^◌, ◌<◌, if◌then◌else◌, List, [], ◌∷◌, ◌++◌, length, codes, decimal}
 use Rattle.std.specs.List.{flat_map}

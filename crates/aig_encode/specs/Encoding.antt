@@ -1,3 +1,4 @@
+-- Part of what is promised.
 -- What the answer of an encoding call tells of the bytes.
 use Rattle.std.specs.Prelude.{ℕ, ◌<◌, ◌≤◌, ◌↔◌, Bool, List, Option, Result, Ok, Err, IsErrOf}
 use Rattle.std.specs.Io.KnownBytes.{Consumes}

@@ -1,3 +1,4 @@
+-- Part of what is promised.
 -- The circuit of a file, and the files of a circuit. (AIGER format 20071012: "Input/Latch/Output/And section", "Binary encoding"; AIGER 1.9:
 -- "Reset logic".)
 use Rattle.std.specs.Prelude.{◌≡◌, ℕ, ◌+◌, ◌-◌, ◌*◌, ◌/◌, ◌%◌, ◌==◌, ◌≤◌, nat_lt, slice_index, if◌then◌else◌, List, [], ◌∷◌, ◌++◌, length, map, filter_map, Option, Some, None, option_map, unwrap_or, option_to_list}

@@ -1,3 +1,4 @@
+-- Part of what is promised.
 -- A file as a record. (AIGER format 20071012: "Header", "Input/Latch/Output/And section", "Symbol table"; AIGER 1.9: "Reset logic",
 -- "Properties".)
 use Rattle.std.specs.Prelude.{ℕ, List, [], ◌∷◌, ◌++◌, length, map, Option}

@@ -1,3 +1,4 @@
+-- Part of what is promised.
 -- What the numbers of a file must be. (AIGER format 20071012: "Header", "Input/Latch/Output/And section", "Symbol table"; AIGER 1.9:
 -- "Reset logic".)
 use Rattle.std.specs.Prelude.{◌≡◌, ℕ, ◌+◌, ◌*◌, ◌/◌, ◌%◌, ◌<◌, ◌≤◌, ◌⊎◌, Bool, ◌&&◌, ◌==◌, List, [], ◌∷◌, length, map, IfSome, nat_eq, IsUtf8}

@@ -1,3 +1,4 @@
+-- Part of what is promised.
 -- The letters of the sections in name lines, and the counts of the sections by letter. (AIGER format 20071012: "Symbol table", "Comment
 -- section"; AIGER 1.9: "Properties".)
 use Rattle.std.specs.Prelude.{ℕ, Bool, ◌||◌, ◌==◌, if◌then◌else◌}

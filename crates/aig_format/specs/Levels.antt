@@ -1,3 +1,4 @@
+-- Part of what is promised.
 -- The levels of variables: how high a gate stands above the variables that no gate defines.
 -- (AIGER format 20071012: "Input/Latch/Output/And section".)
 use Rattle.std.specs.Prelude.{ℕ, zero, suc, ◌+◌, ◌/◌, max, Bool, false, ◌==◌, IsTrue, List, length, Option, Some, None, is_some}

@@ -1,3 +1,4 @@
+-- Part of what is promised.
 -- The machine of a file: equations over valuations, with no recursion and no order. (AIGER format 20071012: "Input/Latch/Output/And
 -- section"; AIGER 1.9: "Reset logic".)
 use Rattle.std.specs.Prelude.{◌≡◌, ℕ, ◌+◌, ◌/◌, ◌%◌, ◌<◌, ◌≤◌, Bool, true, false, not, ◌&&◌, ◌==◌, if◌then◌else◌, Option, Some, None, IfSome, unwrap_or}

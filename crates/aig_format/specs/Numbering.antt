@@ -1,3 +1,4 @@
+-- Part of what is promised.
 -- The order in which a file's variables become nodes.
 use Rattle.std.specs.Prelude.{ℕ, zero, suc, ◌+◌, ◌/◌, Bool, true, ◌&&◌, nat_lt, ◌==◌, if◌then◌else◌, List, [], ◌∷◌, length, map, filter}
 use Rattle.std.specs.List.{list_all, flat_map}

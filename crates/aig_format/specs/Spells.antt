@@ -1,3 +1,4 @@
+-- Part of what is promised.
 -- Which bytes spell a file. It speaks of whole texts; no reader is in it.
 -- (AIGER format 20071012: "Header", "Input/Latch/Output/And section", "Binary encoding", "Symbol table",
 -- "Comment section"; AIGER 1.9: "Reset logic", "Properties".)

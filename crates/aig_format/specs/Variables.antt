@@ -1,3 +1,4 @@
+-- Part of what is promised.
 -- Which variables a file defines, and by which gate.
 use Rattle.std.specs.Prelude.{ℕ, ◌/◌, Bool, ◌||◌, ◌==◌, IsTrue, List, find, Option}
 use Rattle.std.specs.List.{list_any}

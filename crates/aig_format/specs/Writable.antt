@@ -1,3 +1,4 @@
+-- Part of what is promised.
 -- When a circuit has a written form.
 use Rattle.std.specs.Prelude.{ℕ, ◌^◌, ◌<◌, ◌≤◌, ◌++◌, List, [], ◌∷◌, length, IfSome, IsSomeAnd, IsUtf8, All, Contains}
 use Rattle.std.specs.Ordering.{nat_cmp}

@@ -1,3 +1,4 @@
+-- Part of what is promised.
 -- The one text of a file, and its one binary form, as they are written here. (AIGER format 20071012: "Header", "Binary encoding",
 -- "Symbol table"; AIGER 1.9: "Reset logic", "Properties".)
 use Rattle.std.specs.Prelude.{ℕ, zero, suc, ◌+◌, ◌-◌, ◌/◌, ◌%◌, nat_lt, ◌==◌, if◌then◌else◌, List, [], ◌∷◌, ◌++◌, length, map, decimal}

@@ -1,3 +1,4 @@
+-- Part of what is promised.
 -- Runs of a file's machine beside one another.
 use Rattle.std.specs.Prelude.{◌≡◌, ℕ, ◌/◌, ◌≤◌, Bool, IsTrue}
 use Rattle.std.specs.List.{AllByRecursion}

@@ -1,3 +1,4 @@
+-- Part of what laws say, and of no promise of a call.
 -- A run of a file's machine beside the leaf values of a run of its circuit.
 use Rattle.std.specs.Prelude.{◌≡◌, ℕ, ◌≤◌, Bool, IsTrue}
 use Rattle.aig_circuit.specs.Tree.{node_value}

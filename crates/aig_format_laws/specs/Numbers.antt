@@ -1,3 +1,4 @@
+-- Part of what laws say, and of no promise of a call.
 -- The order of variables that files without the older rules have.
 use Rattle.std.specs.Prelude.{◌≡◌, ℕ, ◌<◌, ◌⊎◌, Some}
 use Rattle.aig_format.specs.File.{File}

@@ -1,3 +1,4 @@
+-- Serves private clauses alone.
 -- What a fault tells.
 use Rattle.aig_lexer.specs.declared.error.LexError.{LexError}
 use Rattle.aig_lexer.specs.declared.error.LexError.TheVariants as lex

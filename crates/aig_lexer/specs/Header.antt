@@ -1,3 +1,4 @@
+-- Serves private clauses alone.
 -- The header as the code holds it.
 use Rattle.aig_format.specs.File.{HeaderNumbers}
 use Rattle.aig_lexer.specs.declared.header.Header.{Header}

@@ -1,3 +1,4 @@
+-- Part of what is promised.
 -- What a call takes from the bytes to come, beside a reader on lists.
 use Rattle.std.specs.Prelude.{◌≡◌, ℕ, List, ◌++◌, Option, Some, None, IfSome, Result, Ok, Err}
 use Rattle.std.specs.Io.KnownBytes.{Consumes}

@@ -1,3 +1,4 @@
+-- Serves private clauses alone.
 -- Readers on lists for the words of the format.
 use Rattle.std.specs.Prelude.{ℕ, ◌==◌, if◌then◌else◌, List, [], ◌∷◌, Option, Some, None}
 use Rattle.aig_format.specs.declared.FileKind.{FileKind}

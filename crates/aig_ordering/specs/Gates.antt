@@ -1,3 +1,4 @@
+-- Serves private clauses alone.
 -- The gates of a file's variables, by the literals of their operands.
 use Rattle.std.specs.Prelude.{ℕ, ◌+◌, ◌==◌, if◌then◌else◌, List, [], ◌∷◌, Option, Some, None}
 use Rattle.aig_circuit.specs.declared.node.AigNodeType.{AigNodeType}

@@ -1,3 +1,4 @@
+-- Serves private clauses alone.
 -- The lists of a circuit, made of the lines of a file, with each variable as its own number.
 use Rattle.std.specs.Prelude.{ℕ, ◌+◌, ◌/◌, ◌%◌, ◌==◌, if◌then◌else◌, List, map, Option, Some, None}
 use Rattle.aig_circuit.specs.declared.edge.AigEdge.{AigEdge}

@@ -1,3 +1,4 @@
+-- Serves private clauses alone.
 -- Numbers of variables by their places in an order, and lists under these numbers.
 use Rattle.std.specs.Prelude.{◌≡◌, ℕ, ◌+◌, if◌then◌else◌, ◌==◌, List, [], ◌∷◌, slice_index_or, Option, Some, None, option_map, option_and_then, Result, Ok, Err}
 use Rattle.std.specs.List.{list_any}

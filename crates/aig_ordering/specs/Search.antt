@@ -1,3 +1,4 @@
+-- Serves private clauses alone.
 -- A search for the levels of a file's variables.
 use Rattle.std.specs.Prelude.{◌≡◌, ℕ, ◌+◌, ◌*◌, ◌<◌, ◌⊎◌, max, true, false, not, List, [], ◌∷◌, ◌++◌, length, All, Contains, filter, slice_index_or, slice_set, Option, Some, None}
 use Rattle.aig_circuit.specs.declared.node.AigNodeType.{AigNodeType}

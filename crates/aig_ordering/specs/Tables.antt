@@ -1,3 +1,4 @@
+-- Serves private clauses alone.
 -- The tables of a file's variables, and the order that they give. (AIGER format 20071012: "Input/Latch/Output/And section".)
 use Rattle.std.specs.Prelude.{◌≡◌, ℕ, ◌+◌, ◌*◌, ◌≤◌, zero, suc, Bool, true, false, List, length, slice_index_or, Option, Some, None, Result, Ok, Err}
 use Rattle.std.specs.List.{AllByRecursion, list_all}

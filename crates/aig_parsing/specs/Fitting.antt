@@ -1,3 +1,4 @@
+-- Serves private clauses alone.
 -- Reading a file from the front, each line tested beside those before it, and the gates all together: what is read so is a file that fits
 -- the limit.
 -- (AIGER format 20071012: "Header", "Binary encoding", "Symbol table"; AIGER 1.9: "Reset logic", "Properties".)

@@ -1,3 +1,4 @@
+-- Serves private clauses alone.
 -- The files that have a written form. (AIGER format 20071012: "Header", "Symbol table".)
 use Rattle.std.specs.Prelude.{◌≡◌, ◌≢◌, ℕ, ◌^◌, ◌<◌, ◌≤◌, true, List, map, length, option_to_list}
 use Rattle.std.specs.List.{AllByRecursion}

@@ -1,3 +1,4 @@
+-- Serves private clauses alone.
 -- Sets of numbers, a bit each.
 use Rattle.std.specs.Prelude.{ℕ, ◌/◌, ◌%◌, ◌==◌, Bool, List, slice_index_or}
 use Rattle.std.specs.Int.{bit_at}

@@ -1,3 +1,4 @@
+-- Serves private clauses alone.
 -- Readers of the entries that define a variable, in files of both kinds, each beside the entries before it.
 use Rattle.std.specs.Prelude.{ℕ, ◌+◌, ◌-◌, ◌*◌, ◌&&◌, Bool, true, nat_lt, nat_le, List, ◌++◌, length, map, Option, Some}
 use Rattle.aig_format.specs.declared.FileKind.{FileKind}

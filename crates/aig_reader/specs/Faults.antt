@@ -1,3 +1,4 @@
+-- Part of what is promised.
 -- What a fault tells.
 use Rattle.std.specs.Prelude.{ℕ, List, codes, Result, Ok, Err}
 use Rattle.aig_format.specs.declared.FileKind.{FileKind}

@@ -1,3 +1,4 @@
+-- Serves private clauses alone.
 -- Gates that are read one after the other.
 use Rattle.std.specs.Prelude.{All, ◌≡◌, ℕ, ◌/◌, ◌^◌, ◌<◌, ◌≤◌, Bool, true, false, List, [], ◌∷◌, ◌++◌, length, map, nat_eq, Option, Some, None, vec_len}
 use Rattle.std.specs.List.{AllByRecursion, IsDistinct}

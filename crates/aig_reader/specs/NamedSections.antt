@@ -1,3 +1,4 @@
+-- Serves private clauses alone.
 -- The sections whose entries may have names.
 use Rattle.std.specs.Prelude.{ℕ, List, codes, slice_index}
 use Rattle.aig_reader.specs.declared.names.section.NamedSection.{NamedSection}

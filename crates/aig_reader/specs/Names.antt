@@ -1,3 +1,4 @@
+-- Serves private clauses alone.
 -- Names up to the end of the stream, and those that are kept. (AIGER format 20071012: "Symbol table", "Comment section".)
 use Rattle.std.specs.Prelude.{◌≡◌, ℕ, suc, ◌==◌, if◌then◌else◌, List, [], length, filter_map, slice_index, Option, Some, None, IfSome, Result, Ok, Err}
 use Rattle.std.specs.Io.KnownBytes.{Consumes}

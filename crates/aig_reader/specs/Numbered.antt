@@ -1,3 +1,4 @@
+-- Serves private clauses alone.
 -- Lists under the numbers of a file's variables.
 use Rattle.std.specs.Prelude.{◌≡◌, ℕ, ◌/◌, Bool, true, false, if◌then◌else◌, ◌&&◌, List, [], ◌∷◌, ◌++◌, map, Some, None, Result, Ok, Err}
 use Rattle.std.specs.Ordering.{nat_cmp}

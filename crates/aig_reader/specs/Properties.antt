@@ -1,3 +1,4 @@
+-- Serves private clauses alone.
 -- Outputs and properties.
 use Rattle.std.specs.Prelude.{◌≡◌, map}
 use Rattle.aig_parsing.specs.Front.{PropertyParts}

@@ -1,3 +1,4 @@
+-- Part of what is promised.
 -- What the answer of a reading call tells of the bytes.
 use Rattle.std.specs.Prelude.{◌≡◌, ℕ, List, ◌↔◌, Option, Result, Ok, Err, IsOk, IsOkAnd, IsErrOf}
 use Rattle.std.specs.Io.KnownBytes.{Consumes}

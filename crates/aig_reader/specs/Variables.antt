@@ -1,3 +1,4 @@
+-- Serves private clauses alone.
 -- The variables that are defined so far, and what a test of a literal answers.
 use Rattle.std.specs.Prelude.{◌≡◌, ◌≢◌, ℕ, ◌+◌, ◌*◌, ◌/◌, ◌%◌, ◌<◌, ◌≤◌, ◌==◌, ◌⊎◌, Bool, true, false, List, length, nat_le, Result, Ok, Err}
 use Rattle.std.specs.List.{AllByRecursion, list_any}

@@ -1,3 +1,4 @@
+-- Part of what is promised.
 -- What of a circuit a query needs. (AIGER 1.9, "Properties"; the cone of influence reduction; structural hashing.)
 use Rattle.std.specs.Prelude.{◌≡◌, ℕ, ◌≤◌, ◌↔◌, List, [], length}
 use Rattle.aig_circuit.specs.Circuit.{Circuit}

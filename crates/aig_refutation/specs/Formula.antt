@@ -1,3 +1,4 @@
+-- Serves private clauses alone.
 -- What it is for clauses to be satisfiable, and for a clause to follow from them. (Conjunctive normal form.)
 use Rattle.std.specs.Prelude.{ℕ, Bool, IsTrue, List}
 use Rattle.aig_base.specs.declared.logic.literal.Lit.{Lit}

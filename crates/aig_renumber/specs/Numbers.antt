@@ -1,3 +1,4 @@
+-- Serves private clauses alone.
 -- Lists and names under other numbers. A table gives the new number of node n at place n.
 -- (For the numbering of AIGER format 20071012, "Binary encoding".)
 use Rattle.std.specs.Prelude.{◌≡◌, ℕ, ◌<◌, IfSome, IsTrue, List, All, length, slice_index}

@@ -1,3 +1,4 @@
+-- Part of what is promised.
 -- What a query asks of a circuit: a run from a start on which every constraint holds and, at the last step, some bad edge. (AIGER 1.9,
 -- "Properties" and "Reset logic"; bounded model checking.)
 use Rattle.std.specs.Prelude.{◌≡◌, ℕ, ◌≤◌, ◌↔◌, Bool, IsTrue, List, All}

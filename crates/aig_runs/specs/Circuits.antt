@@ -1,3 +1,4 @@
+-- Part of what is promised.
 -- What the clauses of an unrolled circuit say of the circuit's runs. (Bounded model checking.)
 -- A variable of the clauses is a node of the unrolled circuit, and an assignment gives each a truth value.
 use Rattle.std.specs.Prelude.{◌≡◌, ℕ, ◌<◌, Bool, List, length}

@@ -1,3 +1,4 @@
+-- Part of what is promised.
 -- An encoded file, in one record. (AIGER format 20071012; AIGER 1.9; bounded model checking; Tseitin encoding.)
 use Rattle.std.specs.Prelude.{◌≡◌, ℕ, Bool, List}
 use Rattle.aig_base.specs.declared.logic.literal.Lit.{Lit}

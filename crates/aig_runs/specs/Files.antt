@@ -1,3 +1,4 @@
+-- Part of what is promised.
 -- What the clauses of an unrolled circuit say of the runs of a file's machine. (AIGER format 20071012; AIGER 1.9; bounded model checking.)
 -- The circuit is the file's; a variable of the clauses is a node of the unrolled circuit, and an assignment gives each a truth value.
 use Rattle.std.specs.Prelude.{◌≡◌, ℕ, ◌/◌, ◌≤◌, Bool, List}

@@ -1,3 +1,4 @@
+-- Part of what is promised.
 -- What a query asks: a run from a start on which every constraint holds and, at the last step, some bad literal. (AIGER 1.9, "Properties";
 -- bounded model checking.)
 use Rattle.std.specs.Prelude.{◌≡◌, ℕ, ◌*◌, ◌==◌, ◌≤◌, ◌↔◌, if◌then◌else◌, Bool, true, false, Option, Some, None, IsTrue, List, [], ◌∷◌, ◌++◌, length, map, drop}

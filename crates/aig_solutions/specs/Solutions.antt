@@ -1,3 +1,4 @@
+-- Part of what is promised.
 -- From values of the variables of a query's clauses to the witness that they say. (Bounded model checking; AIGER 1.9, "Witness format".)
 -- A variable of the clauses is a node of the unrolled circuit.
 use Rattle.std.specs.Prelude.{◌≡◌, ◌≢◌, ℕ, ◌+◌, ◌<◌, ◌≤◌, ◌^◌, Bool, false, Some, List, length, map, slice_get, slice_index_or}

@@ -1,3 +1,4 @@
+-- Part of what is promised.
 -- The turns of a circuit's leaves that are no latch's, by which places in unrolled circuits are found. (Bounded model checking: time frames.)
 use Rattle.std.specs.Prelude.{◌≡◌, ℕ, ◌+◌, ◌*◌, ◌<◌, ◌≤◌, Bool, List, length, take, Contains, slice_index, slice_index_or, count_by}
 use Rattle.aig_circuit.specs.Circuit.{Circuit, latch_leaves}

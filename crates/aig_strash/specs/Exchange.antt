@@ -1,3 +1,4 @@
+-- Part of what is promised.
 -- Trees that are equal up to the exchange of operands. (Structural hashing of And-Inverter Graphs.)
 use Rattle.std.specs.Prelude.{◌≡◌, ℕ, ◌≤◌, ◌==◌, Bool, true, false, not, ◌&&◌, ◌||◌, if◌then◌else◌, IsTrue, Some, List, length, map, find, filter, unwrap_or, count_by, take}
 use Rattle.aig_circuit.specs.declared.edge.AigEdge.{AigEdge}

@@ -1,3 +1,4 @@
+-- Serves private clauses alone.
 -- How far a pass over the nodes has numbered them, with the gates by the literals of their operands.
 use Rattle.std.specs.Prelude.{◌≡◌, ℕ, ◌+◌, ◌*◌, ◌<◌, ◌≤◌, IsSome, Some, List, length, slice_index, map, take}
 use Rattle.aig_circuit.specs.declared.edge.AigEdge.{AigEdge}

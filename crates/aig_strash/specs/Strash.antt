@@ -1,3 +1,4 @@
+-- Part of what is promised.
 -- Structural hashing: gates whose trees are equal up to exchange share one node.
 use Rattle.std.specs.Prelude.{◌≡◌, ℕ, ◌<◌, ◌↔◌, IsTrue, Some, List, length, map}
 use Rattle.std.specs.FinMap.{get}

@@ -1,3 +1,4 @@
+-- Serves private clauses alone.
 -- The tables of a pass that numbers nodes: new numbers, and those of gates by the literals of their operands.
 use Rattle.std.specs.Prelude.{◌≡◌, ℕ, ◌^◌, ◌&&◌, Bool, false, Option, Some, nat_eq, List, unwrap_or}
 use Rattle.std.specs.HashMap.{get, HashMap}

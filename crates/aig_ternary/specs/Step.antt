@@ -1,3 +1,4 @@
+-- Serves private clauses alone.
 -- The parts of a step: values that are written at leaves, and a simulation by its lists.
 use Rattle.std.specs.Prelude.{ℕ, List, ◌∷◌, slice_set, slice_index_or}
 use Rattle.aig_base.specs.declared.logic.three.Lbool.{Lbool}

@@ -1,3 +1,4 @@
+-- Part of what is promised.
 -- Where the steps of a run stand in an unrolled circuit. (Bounded model checking: time frames.)
 use Rattle.std.specs.Prelude.{◌≡◌, ℕ, zero, suc, ◌+◌, ◌-◌, ◌*◌, ◌≤◌, ◌&&◌, ◌==◌, Bool, not, List, length, map, filter, drop, All, slice_index}
 use Rattle.std.specs.List.{list_any}

@@ -1,3 +1,4 @@
+-- Serves private clauses alone.
 -- One step more: the images of the nodes of a circuit in it, and what is appended to the lists. (The crate aig: `unroll`.)
 use Rattle.std.specs.Prelude.{◌≡◌, ◌≢◌, ℕ, ◌+◌, ◌-◌, ◌<◌, ◌≤◌, Bool, false, not, All, Vec, ◌&&◌, ◌||◌, Some, List, ◌++◌, length, map, filter, take, Contains, slice_index_or, vec_len, vec_capacity}
 use Rattle.std.specs.declared.alloc.Global.{Global}

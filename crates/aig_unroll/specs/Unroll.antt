@@ -1,3 +1,4 @@
+-- Part of what is promised.
 -- Circuits with further steps. (Bounded model checking: time frames; the crate aig: `unroll`, `unroll_to`.)
 use Rattle.std.specs.Prelude.{◌≡◌, ℕ, zero, suc, ◌+◌, ◌-◌, ◌*◌, ◌<◌, ◌≤◌, ◌↔◌, ◌⊎◌, Bool, Option, Some, List, ◌++◌, length, map, drop, slice_get, Contains}
 use Rattle.std.specs.List.{AllZip}

@@ -1,3 +1,4 @@
+-- Part of what is promised.
 -- What an answer tells of the bytes.
 use Rattle.std.specs.Prelude.{◌≡◌, ℕ, List, [], Option, Some, None, Result, Ok, Err}
 use Rattle.std.specs.Io.KnownBytes.{Consumes, IsAtEnd}

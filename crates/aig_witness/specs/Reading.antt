@@ -1,3 +1,4 @@
+-- Part of what is promised.
 -- Reading witnesses from the front, on lists. (AIGER 1.9, "Witness format".)
 use Rattle.std.specs.Prelude.{ℕ, Bool, true, false, not, ◌==◌, if◌then◌else◌, List, [], ◌∷◌, ◌++◌, codes, Option, Some, None}
 use Rattle.aig_base.specs.declared.logic.three.Lbool.{Lbool}

@@ -1,3 +1,4 @@
+-- Part of what is promised.
 -- Witnesses of bad states, and their text. (AIGER 1.9, "Witness format".)
 use Rattle.std.specs.Prelude.{ℕ, List, [], ◌∷◌, ◌++◌, map, codes, decimal, Vec}
 use Rattle.std.specs.List.{flat_map}

@@ -1,3 +1,4 @@
+-- Part of what is promised.
 -- What a refusal of a witness tells. (AIGER 1.9, "Witness format".)
 use Rattle.std.specs.Prelude.{◌≡◌, ◌≢◌, ◌-◌, ◌<◌, ◌≤◌, [], length, slice_index_or, Result, Ok, Err}
 use Rattle.aig_base.specs.declared.logic.three.Lbool.TheVariants.{TRUE}

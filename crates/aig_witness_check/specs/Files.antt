@@ -1,3 +1,4 @@
+-- Part of what is promised.
 -- What the answer of a check tells of the bytes of a file and of a witness. (AIGER format 20071012; AIGER 1.9, "Witness format".)
 use Rattle.std.specs.Prelude.{◌≡◌, ℕ, ◌-◌, List, [], length, Option, Some, None, IfSome, Result, Ok, Err}
 use Rattle.aig_format.specs.File.{File}

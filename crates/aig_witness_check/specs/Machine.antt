@@ -1,3 +1,4 @@
+-- Part of what is promised.
 -- Witnesses of a file's machine. (AIGER 1.9, "Witness format".)
 use Rattle.std.specs.Prelude.{◌≡◌, ◌≢◌, ℕ, ◌-◌, ◌/◌, ◌<◌, Bool, Some, IsTrue, List, length, slice_get}
 use Rattle.std.specs.List.{AllByRecursion, AllZip}

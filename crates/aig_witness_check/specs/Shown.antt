@@ -1,3 +1,4 @@
+-- Part of what is promised.
 -- Witnesses of a circuit, by simulation in three values. (AIGER 1.9, "Witness format"; three-valued simulation.)
 use Rattle.std.specs.Prelude.{◌≡◌, ℕ, ◌+◌, ◌-◌, ◌<◌, Bool, true, false, IfSome, List, [], length, take, slice_index_or, All}
 use Rattle.aig_base.specs.declared.logic.three.Lbool.{Lbool}

@@ -1,3 +1,4 @@
+-- Serves private clauses alone.
 -- Node numbers whose literals fit 64 bits.
 use Rattle.std.specs.Prelude.{◌≡◌, ℕ, ◌*◌, ◌^◌, ◌<◌, ◌≤◌, All, IfSome}
 use Rattle.aig_circuit.specs.declared.edge.AigEdge.{AigEdge}

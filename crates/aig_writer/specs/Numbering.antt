@@ -1,3 +1,4 @@
+-- Serves private clauses alone.
 -- The numbers under which a circuit's nodes are written.
 use Rattle.std.specs.Prelude.{◌≡◌, ℕ, ◌+◌, ◌-◌, ◌^◌, ◌<◌, ◌≤◌, List, [], length, map, filter_map, Some, All, EachIndex, Contains, slice_index, slice_index_or}
 use Rattle.aig_circuit.specs.declared.node.AigNode.{AigNode}

@@ -1,3 +1,4 @@
+-- Serves private clauses alone.
 -- The parts of a text.
 use Rattle.std.specs.Prelude.{ℕ, List, [], ◌++◌, map, length, Option, Some, None, Vec}
 use Rattle.std.specs.declared.alloc.Global.{Global}

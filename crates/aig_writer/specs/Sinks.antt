@@ -1,3 +1,4 @@
+-- Part of what is promised.
 -- What a sink holds, and what waits for it in a buffer, after a text or a beginning of one.
 use Rattle.std.specs.Prelude.{◌≡◌, ℕ, List, ◌++◌, Option, Bool, false, IsTrue, Result, OnOk, OnErr}
 use Rattle.std.specs.Io.KnownBytes.{Appends}

@@ -1,3 +1,4 @@
+-- Part of what is promised.
 -- What a command does with the bytes of a file and of a proof or a witness: what it puts into its writer, and why it refuses them.
 use Rattle.std.specs.Prelude.{◌≡◌, ℕ, ◌+◌, Bool, false, IsTrue, List, [], ◌∷◌, ◌++◌, length, Option, Some, Result, Ok, Err, codes, decimal}
 use Rattle.std.specs.Io.KnownBytes.{Appends, Consumes}

@@ -1,3 +1,4 @@
+-- Part of what is promised.
 -- Which words give which command.
 use Rattle.std.specs.Prelude.{◌≡◌, ℕ, Bool, true, false, List, [], ◌∷◌, ◌++◌, codes}
 use Rattle.aig_format.specs.Text.{IsNumber}

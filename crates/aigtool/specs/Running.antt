@@ -1,3 +1,4 @@
+-- Part of what is promised.
 -- What a command does with the bytes of a file: what it puts into its writer, and why it refuses a file.
 use Rattle.std.specs.Prelude.{◌≡◌, ◌≢◌, ℕ, ◌↔◌, ◌⊎◌, Bool, false, IsTrue, List, [], ◌++◌, length, Option, Some, None, Result, IsOk, IsErrOf, IfSome}
 use Rattle.std.specs.Io.KnownBytes.{Appends, Consumes, IsAtEnd}
