@@ -137,27 +137,30 @@ def plain(text):
 
 
 class Part:
-    """A piece of code: the words that its clauses cite, and the names that its signature or fields have."""
+    """A piece of code: the words that its clauses cite, and the names that its signature or fields have.
 
-    def __init__(self, crate, clauses, names, uses, is_method=False, is_law=False):
-        self.crate, self.is_method, self.is_law = crate, is_method, is_law
-        self.words = uses.cited(clauses)
+    Of a method or a function it has the name, and the words of each clause that it ensures, by the clause's name."""
+
+    def __init__(self, crate, clauses, names, uses, name="", is_law=False):
+        self.crate, self.name, self.is_law = crate, name, is_law
+        self.words = uses.cited("\n".join(text for _, text in clauses))
         self.names = set(re.findall(r"\b[A-Z]\w*", names))
+        self.ensures = {label: uses.cited(text) for label, text in clauses if label}
 
 
-def function_part(crate, text, start, uses):
+def function_part(crate, name, text, start, uses):
     """A function from its name on: its signature and its clauses."""
     at, clauses = start, []
     while text[at] not in "{;":
         at = end_of(text, at) if text[at] in "([" else at + 1
     signature = re.split(r"\b(?:requires|ensures)\b", text[start:at])[0]
-    while text[at] == "{" and re.search(r"\b(?:requires|ensures)\b\*?\s*\w*\s*$", text[start:at]):
+    while text[at] == "{" and (found := re.search(r"\b(requires|ensures)\b\*?\s*(\w*)\s*$", text[start:at])):
         end = end_of(text, at)
-        clauses.append(text[at:end])
+        clauses.append((found.group(1) == "ensures" and (found.group(2) or "ensures"), text[at:end]))
         at = end
         while text[at] not in "{;":
             at += 1
-    return Part(crate, "\n".join(clauses), signature, uses, True, signature.strip() == "()")
+    return Part(crate, clauses, signature, uses, name, signature.strip() == "()")
 
 
 class Code:
@@ -198,7 +201,7 @@ class Code:
                 if owner in self.crates:
                     self.imports[crate, name].add(owner)
         for found in re.finditer(r"^pub fn (\w+)", text, re.M):
-            self.functions[crate, found.group(1)].append(function_part(crate, text, found.end(), uses))
+            self.functions[crate, found.group(1)].append(function_part(crate, found.group(1), text, found.end(), uses))
         self.constants |= {(crate, name) for name in re.findall(r"^pub const (\w+)", text, re.M)}
         for found in re.finditer(r"^pub (?:struct|enum|trait) (\w+)", text, re.M):
             self.add_type(crate, found.group(1), text, found.end(), uses)
@@ -220,16 +223,17 @@ class Code:
             return
         held = r"\bpub \w+: ([^\n]*)" if head.startswith("struct") else r"\b\w+(\([^)]*\)| \{[^}]*\})"
         names = "\n".join(re.findall(held, block)) + head.partition("(")[2]
-        self.types[crate, name].append(Part(crate, "", names, uses))
+        self.types[crate, name].append(Part(crate, [], names, uses))
 
     def add_block(self, crate, name, block, of_trait, uses):
         """A block of methods: what contracts see of the type, and its public methods."""
-        for found in re.finditer(r"\bghost \w+\s*[:=]\s*(?=\{)", block):
+        for found in re.finditer(r"\bghost (\w+)\s*[:=]\s*(?=\{)", block):
             ghost = block[found.end():end_of(block, found.end())]
-            self.types[crate, name].append(Part(crate, ghost, "", uses, of_trait != "Model"))
+            trait = "" if of_trait in ("Model", name) else of_trait.split("<")[0].split("::")[-1]
+            self.types[crate, name].append(Part(crate, [(found.group(1), ghost)], "", uses, trait and "as " + trait))
         for found in re.finditer(r"^    (pub )?fn (\w+)", block, re.M):
             if of_trait or found.group(1):
-                self.types[crate, name].append(function_part(crate, block, found.end(), uses))
+                self.types[crate, name].append(function_part(crate, found.group(2), block, found.end(), uses))
 
     def owners(self, crate, name):
         """The crates whose type a name of this crate may be."""
@@ -269,7 +273,7 @@ def seen_of_type(word, code):
     names = [part for part in word.module.split(".") if part[:1].isupper() and not part.startswith("The")]
     name = names[-1] if names else word.name
     return [used for owner in code.owners(word.crate, name) for part in code.types[owner, name]
-            if not part.is_method for used in part.words]
+            if not part.name for used in part.words]
 
 
 def closed(words, specs, code):
@@ -293,10 +297,14 @@ def closed(words, specs, code):
     return seen & specs.lines.keys(), std
 
 
+def crates_of(root):
+    lines = read(os.path.join(root, "crates.txt")).split("\n")
+    return [line.split(":")[0].split()[0] for line in lines if line and not line.startswith("#")]
+
+
 def layers(root):
     """What is promised, in layers: a title, the definitions of this layer and those before, and the words of std."""
-    crates = [line.split(":")[0].split()[0] for line in read(os.path.join(root, "crates.txt")).split("\n")
-              if line and not line.startswith("#")]
+    crates = crates_of(root)
     specs, code = Specs(root), Code(root, crates)
     found, std, out = set(), set(), []
     steps = [(title, names, lambda part: part is None or not part.is_law) for title, names in CALLS]
