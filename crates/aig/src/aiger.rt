@@ -146,7 +146,7 @@ impl Aig {
             × IsTrue (W.failed w.new) }
         // Every other refusal comes before the first byte, and leaves the writer as it was.
         ensures kept { IfErr result (λ e. e ≢ WriteError.Stream → w.new ≡ w.old) }
-        // No memory is asked for, and no file.
+        // Memory and Open are never answered.
         ensures faults { IfErr result (λ e. IsRefusal e ⊎ (e ≡ WriteError.Stream)) }
     {
         self.refusal()?;
@@ -185,7 +185,7 @@ impl Aig {
     /// The file is made only where no other refusal applies. Answers `Open` where it couldn't be made.
     pub fn to_file(&self, rt: &impl Files, f: Path<'_>, ascii: bool) -> Result<(), WriteError>
         ensures tells { TellsOf self.now result }
-        // The text form asks for no memory.
+        // Of the text form Memory is never answered.
         ensures no_memory { ascii ≡ true → IsErrOf result WriteError.Memory → ⊥ }
     {
         self.refusal()?;

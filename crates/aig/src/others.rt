@@ -81,7 +81,7 @@ impl Aig {
     ///
     /// One latch is added that is true in the first step alone, and each latch with such an initial edge loses it for
     /// the constraint that in the first step it has the edge's value. Where every initial edge is constant or none,
-    /// nothing changes, and no memory is taken. A refused call changes nothing.
+    /// nothing changes, and the call succeeds. A refused call changes nothing.
     pub fn gate_init_to_constraint(&mut self) -> Result<(), MemoryError>
         // The runs from a start that meet the constraints are the old ones, one for one.
         ensures starts { OnOk result (GatesStarts self.old self.new) }
@@ -119,9 +119,10 @@ impl Aig {
     /// changes nothing.
     pub fn unroll(&mut self, from: &Aig) -> Result<(), MemoryError>
         requires { BeginsWith self.old from.now }
-        // Old nodes, lists and names stay, and each new edge has the value of the edge of `from` in the new step.
+        // Old nodes, inputs, entries, names and initial edges stay, next edges are replaced, and each new edge has the
+        // value of the edge of `from` in the new step.
         ensures unrolls { OnOk result (UnrollsOnce from.now self.old self.new) }
-        // Inputs and gates alone are added, and as many entries as `from` has.
+        // The added nodes are inputs and gates, and there is an entry more for each of `from`.
         ensures adds { OnOk result (AddsExactly from.now self.old self.new) }
         ensures err { OnErr result (self.new ≡ self.old) }
     {

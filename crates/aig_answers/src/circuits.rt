@@ -38,8 +38,8 @@ pub struct CircuitQuery {
 /// where the edge is constant and else in two, for each constraint of each step that it holds, and one clause of all bad
 /// edges of step `k`, which is empty where there are none.
 ///
-/// `TooLarge` is answered, before any step, exactly where `n + k * (n - 1 - l)` passes the limit, for the `n` nodes and `l`
-/// latches of the circuit. Asks `limit <= 2^31`.
+/// `TooLarge` is answered exactly where `n + k * (n - 1 - l)` passes the limit, for the `n` nodes and `l` latches of the
+/// circuit. Asks `limit <= 2^31`.
 pub fn query_of(
     alloc: Global,
     circuit: &Aig,

@@ -26,8 +26,8 @@ pub struct Encoded {
 
 /// Reads a circuit from the bytes of an AIGER file, unrolls it by `k` steps, and makes the clauses of that.
 ///
-/// `limit` is on the variables of the file, and on the nodes of the unrolled circuit: `TooLarge` is answered, before any step,
-/// exactly where `n + k * (n - 1 - l)` passes it, for the `n` nodes and `l` latches of the circuit that was read. Asks
+/// `limit` is on the variables of the file, and on the nodes of the unrolled circuit: `TooLarge` is answered exactly where
+/// `n + k * (n - 1 - l)` passes it, for the `n` nodes and `l` latches of the circuit that was read. Asks
 /// `1 <= limit <= 2^31`.
 pub fn encode<R: Source>(
     alloc: Global,
