@@ -15,7 +15,7 @@ mod view;
 
 pub use ands::{AndsIter, gates_among};
 pub use edge::{AigEdge, inverts_back, keeps_edges_by_literal, orders_by_literal};
-pub use laws::leaves_fix_values;
+pub use laws::{further_gates_are_gates, inverses_have_other_values, leaves_fix_values};
 pub use node::{AigLatch, AigNode, AigNodeType, false_node, gate_node, leaf_node};
 pub use prop_list::PropList;
 pub use view::{CircuitLists, CircuitView};

@@ -7,4 +7,4 @@ mod laws;
 mod marks;
 
 pub use cnf::encode;
-pub use laws::clauses_fix_roots;
+pub use laws::{clauses_fix_roots, literals_have_edge_values};
