@@ -24,7 +24,7 @@ use Rattle.aig_answers.specs.declared.error.AnswerError.TheVariants as errors
 use Rattle.aig_answers.specs.Answers.{AsksNothing, IsCrowded, IsOfCircuit, TellsOfFile, TellsOfRoom, of_file, window_size}
 
 -- an error that is this one
-err_of : {T E : Type 0} (e x : E) → e ≡ x → IsErrOf {T = T} (Err e) x
+pub err_of : {T E : Type 0} (e x : E) → e ≡ x → IsErrOf {T = T} (Err e) x
 err_of {T} {E} e x is = let error : E → Result T E = λ y. Err y in ap error is
 
 -- a file whose circuit has no bad edge has no bad literal
@@ -190,7 +190,7 @@ told_again left failed limit k r rest A B e told = record {
 -- ---- room
 
 -- what holds is told
-unless_holds : {T : Type 0} (r : Result T EncodeError) (P : Type 0) → P → UnlessInterrupted r P
+pub unless_holds : {T : Type 0} (r : Result T EncodeError) (P : Type 0) → P → UnlessInterrupted r P
 unless_holds (Ok x) P holds = holds
 unless_holds (Err encode.Memory) P holds = tt
 unless_holds (Err encode.TooLarge) P holds = holds
@@ -220,7 +220,7 @@ unless_so (Err (encode.Read read.Name)) P Q so told = so told
 unless_so (Err (encode.Read read.Open)) P Q so told = so told
 
 -- what follows from what reading told is told
-unless_read : (X T : Type 0) (e : ReadError) (P Q : Type 0) → (P → Q) → reading.UnlessInterrupted {T = X} (Err e) P → UnlessInterrupted {T = T} (Err (encode.Read e)) Q
+pub unless_read : (X T : Type 0) (e : ReadError) (P Q : Type 0) → (P → Q) → reading.UnlessInterrupted {T = X} (Err e) P → UnlessInterrupted {T = T} (Err (encode.Read e)) Q
 unless_read X T read.Memory P Q so told = tt
 unless_read X T read.Stream P Q so told = tt
 unless_read X T read.Header P Q so told = so told

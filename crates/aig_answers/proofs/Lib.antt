@@ -2,3 +2,4 @@ mod Pairs
 mod Growing
 pub mod Files
 mod Asking
+mod Reduced

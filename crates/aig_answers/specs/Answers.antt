@@ -1,10 +1,14 @@
 -- Part of what is promised.
 -- What the answer of a call tells of the bytes of a file.
-use Rattle.std.specs.Prelude.{◌≡◌, ◌≢◌, ◌↔◌, ℕ, ◌+◌, ◌<◌, Bool, IsTrue, List, [], Option, Result, Ok, Err, IfSome, IsErrOf}
+use Rattle.std.specs.Prelude.{◌≡◌, ◌≢◌, ◌↔◌, ℕ, ◌+◌, ◌<◌, ◌≤◌, Bool, IsTrue, List, [], Option, Result, Ok, Err, IfSome, IsErrOf}
 use Rattle.aig_circuit.specs.Circuit.{Circuit}
 use Rattle.aig_format.specs.Circuit.{circuit_of}
 use Rattle.aig_format.specs.File.{File}
+use Rattle.aig_format.specs.Fits.{Accepts}
+use Rattle.aig_reader.specs.declared.error.ReadError.{ReadError}
 use Rattle.aig_reader.specs.declared.error.ReadError.TheVariants as read
+use Rattle.aig_reader.specs.Reading.{ReadsExactly}
+use Rattle.aig_reduction.specs.Reduction.{IsReduced}
 use Rattle.aig_unroll.specs.Places.{unrolled_size}
 use Rattle.aig_certify.specs.declared.window.Window.{Window}
 use Rattle.aig_certify.specs.WindowClauses.{count_free}
@@ -91,3 +95,55 @@ IsOfCircuitQuery (errors.Encode encode.TooLarge) = Unit {0}
 IsOfCircuitQuery errors.NoBads = Unit {0}
 IsOfCircuitQuery errors.TooLarge = ⊥
 IsOfCircuitQuery (errors.Refutation e) = Unit {0}
+
+-- ---- of a reduced circuit
+
+-- the bytes are this file, it fits, and it has a bad literal
+abbrev pub HasBads : ℕ → List ℕ → File → Type 0
+HasBads limit bytes f = Accepts bytes limit f × (f.bads ≢ [])
+
+-- the bytes are this file, it fits, and it has no bad literal
+abbrev pub HasNoBads : ℕ → List ℕ → File → Type 0
+HasNoBads limit bytes f = Accepts bytes limit f × (f.bads ≡ [])
+
+-- the bytes are this file, it fits and has a bad literal, and the bound of its reduced circuit with k further steps is within the limit
+abbrev pub IsReducedWithin : ℕ → ℕ → List ℕ → File → Type 0
+IsReducedWithin limit k bytes f = HasBads limit bytes f × (d : Circuit) × IsReduced (circuit_of f) d × (unrolled_size d k ≤ limit)
+
+-- the bytes are this file, it fits and has a bad literal, and the bound of its reduced circuit with k further steps passes the limit
+abbrev pub IsReducedBeyond : ℕ → ℕ → List ℕ → File → Type 0
+IsReducedBeyond limit k bytes f = HasBads limit bytes f × (d : Circuit) × IsReduced (circuit_of f) d × (limit < unrolled_size d k)
+
+-- what an answer says of the reading alone: that the bytes are refused, or not
+abbrev pub of_reading : {T : Type 0} → Result T AnswerError → Result Unit ReadError
+of_reading (Ok answer) = Ok tt
+of_reading (Err (errors.Encode (encode.Read e))) = Err e
+of_reading (Err (errors.Encode encode.Memory)) = Ok tt
+of_reading (Err (errors.Encode encode.TooLarge)) = Ok tt
+of_reading (Err errors.NoBads) = Ok tt
+of_reading (Err errors.TooLarge) = Ok tt
+of_reading (Err (errors.Refutation e)) = Ok tt
+
+-- Which bytes are refused before a proof is read, and as what.
+pub record RefusesReduced {T : Type 0} (limit k : ℕ) (result : Result T AnswerError) (bytes : List ℕ) : Type 0 where
+  -- reading refuses exactly what is no file that fits, as TooMany exactly where this applies
+  pub reading : ReadsExactly (λ f u. Unit {0}) limit (of_reading result) bytes
+  pub no_bads : IsErrOf result errors.NoBads ↔ ((f : File) × HasNoBads limit bytes f)
+  pub too_large : IsErrOf result (errors.Encode encode.TooLarge) ↔ ((f : File) × IsReducedBeyond limit k bytes f)
+
+-- What an answer of a file's reduced circuit tells of the bytes that the reader has left before and after, and of whether it has failed.
+pub record TellsOfReduced {R T : Type 0} (left : R → Option (List ℕ)) (failed : R → Bool) (limit k : ℕ) (result : Result T AnswerError) (r rest : R) : Type 0 where
+  -- of known bytes, memory and the stream aside: they are refused exactly where these apply
+  pub exact : IfSome (left r) (λ bytes. UnlessInterrupted (of_file result) (RefusesReduced limit k result bytes))
+  -- memory runs out behind the reading only after a file that fits was read
+  pub memory : IsErrOf result (errors.Encode encode.Memory) → TookFile (λ bytes. Accepts bytes limit) (left r) (left rest)
+  -- further steps pass the limit only after a file whose reduced circuit's do, and then its own circuit's do
+  pub large : IsErrOf result (errors.Encode encode.TooLarge) → TookFile (IsReducedBeyond limit k) (left r) (left rest)
+  pub larger : IsErrOf result (errors.Encode encode.TooLarge) → TookFile (IsBeyond limit k) (left r) (left rest)
+  -- nothing is asked only after a file without bad literals was read
+  pub no_bads : IsErrOf result errors.NoBads → TookFile (HasNoBads limit) (left r) (left rest)
+  -- Stream only where a read failed in this call
+  pub stream : IsErrOf result (errors.Encode (encode.Read read.Stream)) → IsTrue (failed rest)
+  pub never_open : IsErrOf result (errors.Encode (encode.Read read.Open)) → ⊥
+  -- no window is asked for
+  pub never_crowded : IsErrOf result errors.TooLarge → ⊥

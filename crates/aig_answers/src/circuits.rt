@@ -1,6 +1,6 @@
 //! Queries of circuits that were built or changed.
 
-ghost use Rattle.std.specs.Prelude.{◌≡◌, ◌≢◌, ◌⊎◌, ◌<◌, ◌≤◌, ◌^◌, ◌↔◌, [], IfErr, IfOk, IsErrOf, OnOk, length};
+ghost use Rattle.std.specs.Prelude.{◌≡◌, ◌≢◌, ◌⊎◌, ◌<◌, ◌≤◌, ◌^◌, ◌↔◌, [], IfErr, IfOk, IsErrOf, IsTrue, OnOk, length};
 ghost use Rattle.aig_answers.specs.Answers.{IsOfCircuitQuery, IsOfFileAlone};
 ghost use Rattle.aig_base.specs.Clauses.{AreBelow};
 ghost use Rattle.aig_certify.specs.Safety.{IsCircuitSafeAt};
@@ -15,7 +15,7 @@ use aig_base::{DagCnf, LitVvec, Source};
 use aig_certify::refuted_circuit_queries_have_no_witness;
 use aig_encode::EncodeError;
 use aig_query::further_clauses;
-use aig_refutation::check_refutation;
+use aig_refutation::{RefutationError, check_refutation};
 use aig_runs::circuit_queries_ask;
 use std::alloc::Global;
 
@@ -95,6 +95,9 @@ pub fn check_query_of<P: Source>(
         ↔ ((circuit.now.bads ≢ []) × (limit < unrolled_size circuit.now k)) }
     ensures err { IfErr result IsOfCircuitQuery }
     ensures unread { IsOfFileAlone result → proof.new ≡ proof.old }
+    // Stream only where a read failed in this call.
+    ensures proof_stream { IsErrOf result (AnswerError.Refutation RefutationError.Stream)
+        → IsTrue (P.failed proof.new) }
 {
     refuted_circuit_queries_have_no_witness();
     if circuit.bads().is_empty() {

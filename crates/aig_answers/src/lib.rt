@@ -5,11 +5,13 @@ mod circuits;
 mod clauses;
 mod distinct;
 mod error;
+mod reduction;
 mod step;
 mod windows;
 
 pub use aig_certify::Window;
 pub use circuits::{CircuitQuery, check_query_of, query_of};
 pub use error::AnswerError;
+pub use reduction::check_step_reduced;
 pub use step::check_step;
 pub use windows::{WindowClauses, check_window, window};
