@@ -1,9 +1,9 @@
 #!/usr/bin/env python3
-"""Runs the built aigcheck on small files and proofs: answers.py [AIGCHECK]
+"""Runs the built aigcheck on small files, proofs and solutions: answers.py [AIGCHECK]
 
 AIGCHECK is crates/aigcheck/out/aigcheck beside this folder's, after `rt run` in crates/aigcheck. Each row says which words it is
-given, and which status, standard output and standard error are wanted. Files and proofs were written by hand; they lie in
-answers/, and the proofs that are faulty are made from the good ones below.
+given, and which status, standard output and standard error are wanted. Files, proofs and solutions were written by hand; files
+lie in answers/, and the proofs that are faulty are made from the good ones below.
 """
 import os
 import subprocess
@@ -12,7 +12,7 @@ import tempfile
 
 HERE = os.path.dirname(os.path.abspath(__file__))
 FILES = os.path.join(HERE, "answers")
-USAGE = "usage: aigcheck window FILE K [distinct] [raw], refuted FILE K PROOF [raw], inductive FILE K PROOF [distinct] [raw], run FILE WITNESS\n"
+USAGE = "usage: aigcheck window FILE K [distinct] [raw], refuted FILE K PROOF [raw], inductive FILE K PROOF [distinct] [raw], witness FILE K SOLUTION [raw], run FILE WITNESS\n"
 
 # What aigcheck says of a faulty proof.
 STEP = "aigcheck: proof step does not follow\n"
@@ -63,6 +63,38 @@ PROOFS = {
     "empty": "",
     "cut": LONG[:18],
 }
+
+# Solvers' answers about step 1 of a latch that takes the input of the step before: 2 and 4 are the inputs, 3 is the latch's start.
+SOLVED = "s SATISFIABLE\nv -1 2 -3 -4 0\n"
+SOLUTIONS = {
+    "solved": SOLVED,
+    "in_lines": "c a solver\ns SATISFIABLE\nc values\nv -1 2\nv -3\nv -4 0\n",
+    "last_input_missing": SOLVED.replace("-4 ", ""),
+    "input_missing": SOLVED.replace("2 ", "", 1),
+    "latch_missing": SOLVED.replace("-3 ", ""),
+    "input_turned": SOLVED.replace(" 2", " -2"),
+    "latch_turned": SOLVED.replace("-3", "3"),
+    "of_step_2": "s SATISFIABLE\nv -1 -2 -3 4 -5 0\n",
+    "constant": "s SATISFIABLE\nv -1 0\n",
+    "constant_turned": "s SATISFIABLE\nv 1 0\n",
+    "unsatisfiable": "s UNSATISFIABLE\n",
+    "unknown": "s UNKNOWN\n",
+    "values_alone": SOLVED.split("\n", 1)[1],
+    "no_solution": "no solution\n",
+    "nothing": "",
+    "other_line": SOLVED.replace("v", "x"),
+    "no_literal": SOLVED.replace("2", "a"),
+    "clash": SOLVED.replace("-4", "-2"),
+    "cut_in_word": SOLVED[:23],
+    "without_0": SOLVED.replace(" 0", ""),
+}
+
+# What aigcheck says of a faulty solution.
+NO_ANSWER = "aigcheck: no answer of a solver\n"
+NOT_BAD = "aigcheck: no bad state property is true in the solution\n"
+NO_START = "aigcheck: the state is no start\n"
+NO_LITERAL = "aigcheck: bad literal in a solution\n"
+NO_VARIABLE = "aigcheck: literal of no variable in a solution\n"
 
 
 def refused(why):
@@ -120,6 +152,37 @@ def rows(folder):
         ("cut", UNFINISHED),
     ]:
         yield distinct(made[name]), refused(why)
+    # The witness of a solution: the first state, the inputs of each step, and x where no value is given.
+    delayed, constant = (os.path.join(FILES, name + ".aag") for name in ["delayed", "constant"])
+    witness = lambda name, file=delayed, k="1": ["witness", file, k, os.path.join(folder, name)]
+    for name in ["solved", "in_lines"]:
+        yield witness(name), answered("1\nb0\n0\n1\n0\n.\n")
+    yield [*witness("solved"), "raw"], answered("1\nb0\n0\n1\n0\n.\n")
+    yield witness("last_input_missing"), answered("1\nb0\n0\n1\nx\n.\n")
+    yield witness("of_step_2", k="2"), answered("1\nb0\n0\n0\n1\n0\n.\n")
+    yield witness("constant", constant, "0"), answered("1\nb0\n\n\n.\n")
+    yield witness("constant_turned", constant, "0"), refused(NOT_BAD)
+    yield witness("solved", k="2"), refused(NOT_BAD)
+    for name, why in [
+        ("input_missing", NOT_BAD),
+        ("latch_missing", NO_START),
+        ("input_turned", NOT_BAD),
+        ("latch_turned", NO_START),
+        ("of_step_2", NO_VARIABLE),
+        ("unsatisfiable", "aigcheck: the solver answered UNSATISFIABLE\n"),
+        ("unknown", "aigcheck: the solver answered UNKNOWN\n"),
+        ("values_alone", NO_ANSWER),
+        ("no_solution", NO_ANSWER),
+        ("nothing", NO_ANSWER),
+        ("other_line", "aigcheck: bad line of a solution\n"),
+        ("no_literal", NO_LITERAL),
+        ("clash", "aigcheck: literal and its inverse in a solution\n"),
+        ("cut_in_word", NO_LITERAL),
+        ("without_0", "aigcheck: solution ends before its 0\n"),
+    ]:
+        yield witness(name), refused(why)
+    yield witness("solved", no_bads), refused(NO_BADS)
+    yield witness("missing"), refused(OPEN)
     for words in [["window", no_bads, "0"], ["refuted", no_bads, "0", of_stuck], ["inductive", no_bads, "0", of_stuck]]:
         yield words, refused(NO_BADS)
     for words in [["window", missing, "0"], ["refuted", missing, "0", of_stuck], ["refuted", stuck, "0", missing]]:
@@ -127,6 +190,7 @@ def rows(folder):
     wrong = [[], ["window"], ["window", stuck], ["window", stuck, "+1"], ["window", stuck, "4294967296"], ["window", stuck, "0", "x"]]
     wrong += [["window", stuck, "0", "raw", "distinct"], ["refuted", stuck, "0"], ["refuted", stuck, "0", of_stuck, "distinct"]]
     wrong += [["inductive", stuck, "0"], ["inductive", stuck, "", of_stuck], ["refute", stuck, "0", of_stuck], ["run", stuck], ["run", stuck, of_stuck, "raw"]]
+    wrong += [["witness", delayed, "1"], [*witness("solved"), "distinct"], [*witness("solved"), "raw", "raw"], ["solve", *witness("solved")[1:]]]
     for words in wrong:
         yield words, (2, "", USAGE)
 
@@ -135,7 +199,7 @@ def main():
     tool = sys.argv[1] if len(sys.argv) > 1 else os.path.join(HERE, "..", "crates", "aigcheck", "out", "aigcheck")
     failed = count = 0
     with tempfile.TemporaryDirectory() as folder:
-        for name, text in PROOFS.items():
+        for name, text in [*PROOFS.items(), *SOLUTIONS.items()]:
             with open(os.path.join(folder, name), "w") as out:
                 out.write(text)
         for words, wanted in rows(folder):

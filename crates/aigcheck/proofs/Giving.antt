@@ -1,6 +1,7 @@
 -- The words of a command.
-use Rattle.std.proofs.Common.{◌≡◌, ◌≢◌, ◌↔◌, ℕ, ◌-◌, ◌<◌, ◌≤◌, Bool, true, false, List, [], ◌∷◌, length, map, get_or, drop, take, Option, Some, None, refl, sym, ap, subst, ◌∙◌, Global, arith}
-use Rattle.std.specs.Prelude.{String, codes, string_bytes}
+use Rattle.std.proofs.Common.{◌≡◌, ◌≢◌, ◌↔◌, ℕ, ◌+◌, ◌-◌, ◌<◌, ◌≤◌, Bool, true, false, eqb, List, [], ◌∷◌, length, map, get_or, drop, take, Option, Some, None, refl, sym, ap, subst, ◌∙◌, Global, arith}
+use Rattle.std.specs.Prelude.{IfSome, String, codes, string_bytes}
+use Rattle.std.proofs.lemmas.Bool.{false≢true}
 use Rattle.std.proofs.lemmas.List.{take_all}
 use Rattle.std.proofs.lemmas.Option.{same_Some}
 use Rattle.aig_format.specs.Text.{IsNumber}
@@ -8,7 +9,7 @@ use Rattle.aig_certify.specs.declared.window.Window.{Window}
 use Rattle.aig_certify.specs.declared.window.Window.TheVariants.{Plain, Distinct}
 use Rattle.aigcheck.specs.declared.command.Command.{Command}
 use Rattle.aigcheck.specs.declared.command.Command.TheVariants as commands
-use Rattle.aigcheck.specs.Words.{Give, GiveSteps, clause_words, setting_words}
+use Rattle.aigcheck.specs.Words.{AreLast, Give, GiveSteps, clause_words, name_of, needed_words, setting_words, step_of}
 
 -- ---- words in a list
 
@@ -70,9 +71,6 @@ distinct_exactly words rest x is told Distinct o = (
 
 -- ---- commands
 
-some_or_none : {A : Type 0} (told : Option A) (x : A) → told ≡ Some x → told ≡ None → ⊥
-some_or_none told x some none = cc
-
 same_words : (a b : List ℕ) (l m : List (List ℕ)) → a ∷ l ≡ b ∷ m → (a ≡ b) × (l ≡ m)
 same_words a b l m is = (cc, cc)
 
@@ -84,119 +82,102 @@ three a b c l x y z m is =
     let third = same_words c z l m second.1 in
     (first.0, third.0, third.1)
 
-window_refuted : codes "window" ≡ codes "refuted" → ⊥
-window_refuted is = cc
+-- the name, the step and the last words are those of the command
+abbrev pub GiveLast : List ℕ → ℕ → List (List ℕ) → Command → Type 0
+GiveLast name k words c = (name ≡ name_of c) × (k ≡ step_of c) × AreLast c words
 
-window_inductive : codes "window" ≡ codes "inductive" → ⊥
-window_inductive is = cc
+-- a command is given exactly so
+abbrev pub TellsLast : Option Command → List ℕ → ℕ → List (List ℕ) → Type 0
+TellsLast r name k words = (c : Command) → (r ≡ Some c) ↔ GiveLast name k words c
 
-refuted_inductive : codes "refuted" ≡ codes "inductive" → ⊥
-refuted_inductive is = cc
+-- a command is given by its settings behind one word
+behind_word : {X : Type 0} (words_of : X → List (List ℕ)) (make : X → Command) (name : List ℕ) (k : ℕ) (words : List (List ℕ)) (given : List ℕ) (last : List (List ℕ)) → words ≡ given ∷ last
+    → ((c : Command) → GiveLast name k words c → (x : X) × (c ≡ make x) × (word : List ℕ) × (words ≡ word ∷ words_of x)) → ((x : X) → (word : List ℕ) × (words ≡ word ∷ words_of x) → GiveLast name k words (make x))
+    → (told : Option X) → ((x : X) → (told ≡ Some x) ↔ (last ≡ words_of x)) → (x : X) → told ≡ Some x → TellsLast (Some (make x)) name k words
+behind_word words_of make name k words given last are only so told tells x has c = (
+  λ is. subst (GiveLast name k words) (same_Some _ _ is) (so x (given, are ∙ ap (λ l. given ∷ l) ((tells x).0 has))),
+  λ g.
+      let h = only c g in
+      let rest : last ≡ words_of h.0 = (same_words given h.2 last (words_of h.0) (sym are ∙ h.3)).1 in
+      let same : x ≡ h.0 = same_Some _ _ (sym has ∙ (tells h.0).1 rest) in
+      ap (λ y. Some (make y)) same ∙ ap (λ d. Some d) (sym h.1),
+)
 
-module _ (words : List (List ℕ)) (name file steps : List ℕ) (rest : List (List ℕ)) (are : words ≡ name ∷ file ∷ steps ∷ rest) where
-  parts : (call file' steps' : List ℕ) (rest' : List (List ℕ)) → words ≡ call ∷ file' ∷ steps' ∷ rest' → (name ≡ call) × (steps' ≡ steps) × (rest ≡ rest')
-  parts call file' steps' rest' is =
-      let same = three name file steps rest call file' steps' rest' (sym are ∙ is) in
-      (same.0, sym same.1, same.2)
+refuted_witness : codes "refuted" ≡ codes "witness" → ⊥
+refuted_witness is =
+    let same : true ≡ false = ap (λ (l : List ℕ). eqb (get_or l 0 0) 114) is in
+    false≢true (sym same)
 
-  -- each command has a number of steps
-  pub numbered : (d : Command) → GiveSteps words d → (k : ℕ) × IsNumber k steps
-  numbered (commands.Window k form o) g = (k, subst (IsNumber k) (parts (codes "window") g.0 g.1 (setting_words form o) g.2).1 g.3)
-  numbered (commands.Refuted k o) g = (k, subst (IsNumber k) (parts (codes "refuted") g.0 g.1 (g.2 ∷ clause_words o) g.3).1 g.4)
-  numbered (commands.Inductive k form o) g = (k, subst (IsNumber k) (parts (codes "inductive") g.0 g.1 (g.2 ∷ setting_words form o) g.3).1 g.4)
-  numbered commands.Run g = absurd g
+-- which commands have a name
+refuted_alone : (c : Command) (k : ℕ) (words : List (List ℕ)) → GiveLast (codes "refuted") k words c → (o : Bool) × (c ≡ commands.Refuted k o) × (proof : List ℕ) × (words ≡ proof ∷ clause_words o)
+refuted_alone (commands.Window n form o) k words g = let is = g.0 in cc
+refuted_alone (commands.Refuted n o) k words g = (o, ap (λ m. commands.Refuted m o) (sym g.1), g.2.0, g.2.1)
+refuted_alone (commands.Inductive n form o) k words g = let is = g.0 in cc
+refuted_alone (commands.Witness n o) k words g = absurd (refuted_witness g.0)
+refuted_alone commands.Run k words g = absurd g.2
 
-  by_window : name ≡ codes "window" → (d : Command) → GiveSteps words d → (k : ℕ) × (form : Window) × (o : Bool) × (d ≡ commands.Window k form o) × IsNumber k steps × (rest ≡ setting_words form o)
-  by_window is (commands.Window k form o) g =
-      let p = parts (codes "window") g.0 g.1 (setting_words form o) g.2 in
-      (k, form, o, refl, subst (IsNumber k) p.1 g.3, p.2)
-  by_window is (commands.Refuted k o) g = absurd (window_refuted (sym is ∙ (parts (codes "refuted") g.0 g.1 (g.2 ∷ clause_words o) g.3).0))
-  by_window is (commands.Inductive k form o) g = absurd (window_inductive (sym is ∙ (parts (codes "inductive") g.0 g.1 (g.2 ∷ setting_words form o) g.3).0))
-  by_window is commands.Run g = absurd g
+inductive_alone : (c : Command) (k : ℕ) (words : List (List ℕ)) → GiveLast (codes "inductive") k words c → (p : Window × Bool) × (c ≡ commands.Inductive k p.0 p.1) × (proof : List ℕ) × (words ≡ proof ∷ setting_words p.0 p.1)
+inductive_alone (commands.Window n form o) k words g = let is = g.0 in cc
+inductive_alone (commands.Refuted n o) k words g = let is = g.0 in cc
+inductive_alone (commands.Inductive n form o) k words g = ((form, o), ap (λ m. commands.Inductive m form o) (sym g.1), g.2.0, g.2.1)
+inductive_alone (commands.Witness n o) k words g = let is = g.0 in cc
+inductive_alone commands.Run k words g = absurd g.2
 
-  -- what the settings of a window tell
-  module _ (is : name ≡ codes "window") (told : Option (Window × Bool)) (settings : TellsSettings told rest) where
-    pub no_window : told ≡ None → (d : Command) → ¬ GiveSteps words d
-    no_window none d g =
-        let h = by_window is d g in
-        some_or_none told (h.1, h.2) ((settings h.1 h.2).1 h.5) none
+witness_alone : (c : Command) (k : ℕ) (words : List (List ℕ)) → GiveLast (codes "witness") k words c → (o : Bool) × (c ≡ commands.Witness k o) × (solution : List ℕ) × (words ≡ solution ∷ clause_words o)
+witness_alone (commands.Window n form o) k words g = let is = g.0 in cc
+witness_alone (commands.Refuted n o) k words g = absurd (refuted_witness (sym g.0))
+witness_alone (commands.Inductive n form o) k words g = let is = g.0 in cc
+witness_alone (commands.Witness n o) k words g = (o, ap (λ m. commands.Witness m o) (sym g.1), g.2.0, g.2.1)
+witness_alone commands.Run k words g = absurd g.2
 
-    pub window_exactly : (n : Option ℕ) (k : ℕ) (form : Window) (o : Bool) → ((m : ℕ) → (n ≡ Some m) ↔ IsNumber m steps) → n ≡ Some k → told ≡ Some (form, o) → (d : Command) → (Some (commands.Window k form o) ≡ Some d) ↔ GiveSteps words d
-    window_exactly n k form o number has gives d = (
-      λ h. subst (GiveSteps words) (same_Some _ _ h) (file, steps, are ∙ ap (λ x. x ∷ file ∷ steps ∷ rest) is ∙ ap (λ x. codes "window" ∷ file ∷ steps ∷ x) ((settings form o).0 gives), (number k).0 has),
-      λ g.
-          let h = by_window is d g in
-          let same = same_Some _ _ (sym gives ∙ (settings h.1 h.2).1 h.5) in
-          let count = same_Some _ _ (sym has ∙ (number h.0).1 h.4) in
-          ap (λ y. Some y) (ap (λ m. commands.Window m form o) count ∙ ap (λ (p : Window × Bool). commands.Window h.0 p.0 p.1) same ∙ sym h.3),
-    )
+-- what the settings behind a word tell
+module _ (name : List ℕ) (k : ℕ) (words : List (List ℕ)) (given : List ℕ) (last : List (List ℕ)) (are : words ≡ given ∷ last) where
+  pub some_refuted : name ≡ codes "refuted" → (told : Option Bool) → TellsClauses told last → (o : Bool) → told ≡ Some o → TellsLast (Some (commands.Refuted k o)) name k words
+  some_refuted is = behind_word clause_words (λ o. commands.Refuted k o) name k words given last are (λ c g. refuted_alone c k words (sym is ∙ g.0, g.1, g.2)) (λ o w. (is, refl, w))
 
-  module _ (proof : List ℕ) (last : List (List ℕ)) (behind_steps : rest ≡ proof ∷ last) where
-    by_refuted : name ≡ codes "refuted" → (d : Command) → GiveSteps words d → (k : ℕ) × (o : Bool) × (d ≡ commands.Refuted k o) × IsNumber k steps × (last ≡ clause_words o)
-    by_refuted is (commands.Window k form o) g = absurd (window_refuted (sym (parts (codes "window") g.0 g.1 (setting_words form o) g.2).0 ∙ is))
-    by_refuted is (commands.Refuted k o) g =
-        let p = parts (codes "refuted") g.0 g.1 (g.2 ∷ clause_words o) g.3 in
-        (k, o, refl, subst (IsNumber k) p.1 g.4, (same_words proof g.2 last (clause_words o) (sym behind_steps ∙ p.2)).1)
-    by_refuted is (commands.Inductive k form o) g = absurd (refuted_inductive (sym is ∙ (parts (codes "inductive") g.0 g.1 (g.2 ∷ setting_words form o) g.3).0))
-    by_refuted is commands.Run g = absurd g
+  pub some_inductive : name ≡ codes "inductive" → (told : Option (Window × Bool)) → TellsSettings told last → (p : Window × Bool) → told ≡ Some p → TellsLast (Some (commands.Inductive k p.0 p.1)) name k words
+  some_inductive is told tells =
+      behind_word (λ (p : Window × Bool). setting_words p.0 p.1) (λ p. commands.Inductive k p.0 p.1) name k words given last are (λ c g. inductive_alone c k words (sym is ∙ g.0, g.1, g.2)) (λ p w. (is, refl, w)) told (λ p. tells p.0 p.1)
 
-    -- what the setting of a step tells
-    module _ (is : name ≡ codes "refuted") (told : Option Bool) (clauses : TellsClauses told last) where
-      pub no_refuted : told ≡ None → (d : Command) → ¬ GiveSteps words d
-      no_refuted none d g =
-          let h = by_refuted is d g in
-          some_or_none told h.1 ((clauses h.1).1 h.4) none
+  pub some_witness : name ≡ codes "witness" → (told : Option Bool) → TellsClauses told last → (o : Bool) → told ≡ Some o → TellsLast (Some (commands.Witness k o)) name k words
+  some_witness is = behind_word clause_words (λ o. commands.Witness k o) name k words given last are (λ c g. witness_alone c k words (sym is ∙ g.0, g.1, g.2)) (λ o w. (is, refl, w))
 
-      pub refuted_exactly : (n : Option ℕ) (k : ℕ) (o : Bool) → ((m : ℕ) → (n ≡ Some m) ↔ IsNumber m steps) → n ≡ Some k → told ≡ Some o → (d : Command) → (Some (commands.Refuted k o) ≡ Some d) ↔ GiveSteps words d
-      refuted_exactly n k o number has gives d = (
-        λ h. subst (GiveSteps words) (same_Some _ _ h) (
-          file,
-          steps,
-          proof,
-          are ∙ ap (λ x. x ∷ file ∷ steps ∷ rest) is ∙ ap (λ x. codes "refuted" ∷ file ∷ steps ∷ x) behind_steps ∙ ap (λ x. codes "refuted" ∷ file ∷ steps ∷ proof ∷ x) ((clauses o).0 gives),
-          (number k).0 has,
-        ),
-        λ g.
-            let h = by_refuted is d g in
-            let same = same_Some _ _ (sym gives ∙ (clauses h.1).1 h.4) in
-            let count = same_Some _ _ (sym has ∙ (number h.0).1 h.3) in
-            ap (λ y. Some y) (ap (λ m. commands.Refuted m o) count ∙ ap (λ p. commands.Refuted h.0 p) same ∙ sym h.2),
-      )
+-- ---- steps
 
-    by_inductive : name ≡ codes "inductive" → (d : Command) → GiveSteps words d → (k : ℕ) × (form : Window) × (o : Bool) × (d ≡ commands.Inductive k form o) × IsNumber k steps × (last ≡ setting_words form o)
-    by_inductive is (commands.Window k form o) g = absurd (window_inductive (sym (parts (codes "window") g.0 g.1 (setting_words form o) g.2).0 ∙ is))
-    by_inductive is (commands.Refuted k o) g = absurd (refuted_inductive (sym (parts (codes "refuted") g.0 g.1 (g.2 ∷ clause_words o) g.3).0 ∙ is))
-    by_inductive is (commands.Inductive k form o) g =
-        let p = parts (codes "inductive") g.0 g.1 (g.2 ∷ setting_words form o) g.3 in
-        (k, form, o, refl, subst (IsNumber k) p.1 g.4, (same_words proof g.2 last (setting_words form o) (sym behind_steps ∙ p.2)).1)
-    by_inductive is commands.Run g = absurd g
+-- words that are too few, or whose third is no number, give no step
+pub no_number : (words : List (List ℕ)) (name file steps : List ℕ) (last : List (List ℕ)) → words ≡ name ∷ file ∷ steps ∷ last
+    → (n : Option ℕ) → ((m : ℕ) → (n ≡ Some m) ↔ IsNumber m steps) → n ≡ None → (r : Option Command) → r ≡ None → (c : Command) → (r ≡ Some c) ↔ GiveSteps words c
+no_number words name file steps last are n number none r is c = (
+  λ some. cc,
+  λ g.
+      let same = three name file steps last (name_of c) g.0 g.1 g.2 (sym are ∙ g.3) in
+      let some = (number (step_of c)).1 (subst (IsNumber (step_of c)) (sym same.1) g.4) in
+      cc,
+)
 
-    -- what the settings of a proof's window tell
-    module _ (is : name ≡ codes "inductive") (told : Option (Window × Bool)) (settings : TellsSettings told last) where
-      pub no_inductive : told ≡ None → (d : Command) → ¬ GiveSteps words d
-      no_inductive none d g =
-          let h = by_inductive is d g in
-          some_or_none told (h.1, h.2) ((settings h.1 h.2).1 h.5) none
+pub with_number : (words : List (List ℕ)) (name file steps : List ℕ) (last : List (List ℕ)) → words ≡ name ∷ file ∷ steps ∷ last
+    → (n : Option ℕ) → ((m : ℕ) → (n ≡ Some m) ↔ IsNumber m steps) → (k : ℕ) → n ≡ Some k → (r : Option Command) → TellsLast r name k last → (c : Command) → (r ≡ Some c) ↔ GiveSteps words c
+with_number words name file steps last are n number k has r tells c = (
+  λ is.
+      let g = (tells c).0 is in
+      (file, steps, last, are ∙ ap (λ x. x ∷ file ∷ steps ∷ last) g.0, subst (λ m. IsNumber m steps) g.1 ((number k).0 has), g.2),
+  λ g.
+      let same = three name file steps last (name_of c) g.0 g.1 g.2 (sym are ∙ g.3) in
+      let some = (number (step_of c)).1 (subst (IsNumber (step_of c)) (sym same.1) g.4) in
+      (tells c).1 (same.0, same_Some _ _ (sym has ∙ some), subst (AreLast c) (sym same.2) g.5),
+)
 
-      pub inductive_exactly : (n : Option ℕ) (k : ℕ) (form : Window) (o : Bool) → ((m : ℕ) → (n ≡ Some m) ↔ IsNumber m steps) → n ≡ Some k → told ≡ Some (form, o) → (d : Command) → (Some (commands.Inductive k form o) ≡ Some d) ↔ GiveSteps words d
-      inductive_exactly n k form o number has gives d = (
-        λ h. subst (GiveSteps words) (same_Some _ _ h) (
-          file,
-          steps,
-          proof,
-          are ∙ ap (λ x. x ∷ file ∷ steps ∷ rest) is ∙ ap (λ x. codes "inductive" ∷ file ∷ steps ∷ x) behind_steps ∙ ap (λ x. codes "inductive" ∷ file ∷ steps ∷ proof ∷ x) ((settings form o).0 gives),
-          (number k).0 has,
-        ),
-        λ g.
-            let h = by_inductive is d g in
-            let same = same_Some _ _ (sym gives ∙ (settings h.1 h.2).1 h.5) in
-            let count = same_Some _ _ (sym has ∙ (number h.0).1 h.4) in
-            ap (λ y. Some y) (ap (λ m. commands.Inductive m form o) count ∙ ap (λ (p : Window × Bool). commands.Inductive h.0 p.0 p.1) same ∙ sym h.3),
-      )
+-- there are enough words
+pub enough : (c : Command) (words : List (List ℕ)) → AreLast c words → needed_words c ≤ 3 + length words
+enough (commands.Window k form o) words last = omega arith
+enough (commands.Refuted k o) words last = omega (arith, ap length last.1)
+enough (commands.Inductive k form o) words last = omega (arith, ap length last.1)
+enough (commands.Witness k o) words last = omega (arith, ap length last.1)
+enough commands.Run words last = absurd last
 
--- nothing was given
-pub nothing_given : (words : List (List ℕ)) (r : Option Command) → r ≡ None → ((d : Command) → ¬ GiveSteps words d) → (d : Command) → (r ≡ Some d) ↔ GiveSteps words d
-nothing_given words r none not d = (λ is. cc, λ g. absurd (not d g))
+pub words_enough : (r : Option Command) (name : List ℕ) (k : ℕ) (last : List (List ℕ)) (count : ℕ) → TellsLast r name k last → 3 + length last ≤ count → IfSome r (λ c. needed_words c ≤ count)
+words_enough None name k last count tells long = tt
+words_enough (Some c) name k last count tells long = omega (arith, enough c last ((tells c).0 refl).2)
 
 -- ---- run
 
@@ -214,9 +195,10 @@ run_told words name file witness are told one other = (
 )
 
 only_run : (words : List (List ℕ)) → Give words commands.Run → (d : Command) → Give words d → commands.Run ≡ d
-only_run words r (commands.Window k form o) g = let is = sym r.2 ∙ g.2 in cc
+only_run words r (commands.Window k form o) g = let is = sym r.2 ∙ g.3 in cc
 only_run words r (commands.Refuted k o) g = let is = sym r.2 ∙ g.3 in cc
 only_run words r (commands.Inductive k form o) g = let is = sym r.2 ∙ g.3 in cc
+only_run words r (commands.Witness k o) g = let is = sym r.2 ∙ g.3 in cc
 only_run words r commands.Run g = refl
 
 pub run_exactly : (words : List (List ℕ)) → Give words commands.Run → (d : Command) → (Some commands.Run ≡ Some d) ↔ Give words d
@@ -227,4 +209,5 @@ pub steps_exactly : (words : List (List ℕ)) (told : Option Command) → ((c : 
 steps_exactly words told exact not (commands.Window k form o) = exact (commands.Window k form o)
 steps_exactly words told exact not (commands.Refuted k o) = exact (commands.Refuted k o)
 steps_exactly words told exact not (commands.Inductive k form o) = exact (commands.Inductive k form o)
-steps_exactly words told exact not commands.Run = (λ is. absurd ((exact commands.Run).0 is), λ g. absurd (not g))
+steps_exactly words told exact not (commands.Witness k o) = exact (commands.Witness k o)
+steps_exactly words told exact not commands.Run = (λ is. absurd ((exact commands.Run).0 is).5, λ g. absurd (not g))

@@ -18,6 +18,9 @@ use Rattle.aig_answers.specs.Answers.{IsAsked, TellsOfFile}
 use Rattle.aig_reader.specs.declared.error.ReadError.TheVariants as read
 use Rattle.aig_witness_check.specs.declared.file.ShowError.TheVariants as shows
 use Rattle.aig_witness_check.specs.declared.file.Shown.{Shown}
+use Rattle.aig_encode.specs.Encoding.{TookFile}
+use Rattle.aig_witness.specs.Witness.{Witness, witness_text}
+use Rattle.aig_witness_check.specs.Machine.{ShowsBad}
 use Rattle.aig_witness_check.specs.Files as witnesses
 use Rattle.aig_witness_check.specs.Files.{ShowsNext}
 use Rattle.aigcheck.specs.declared.command.Command.{Command}
@@ -51,11 +54,19 @@ pub record IsWindowText (form : Window) (f : File) (k : ℕ) (optimize : Bool) (
   pub exact : text ≡ dimacs_of (length lists) (clauses_in lists ++ further)
   pub again : formula_at text ≡ Some (length lists, clauses_in lists ++ further)
 
+-- the text of a witness of k + 1 steps that shows a bad state of the file's machine
+pub record IsWitnessText (f : File) (k : ℕ) (text : List ℕ) : Type 0 where
+  pub witness : Witness
+  pub steps : length witness.steps ≡ k + 1
+  pub shows : ShowsBad f witness
+  pub exact : text ≡ witness_text witness
+
 -- what the command puts into its writer for the file and what is given beside it, and what is then so of the file's machine
 abbrev pub Answers : Command → Option (List ℕ) → File → List ℕ → Type 0
 Answers (commands.Window k form optimize) given f text = IsWindowText form f k optimize text
 Answers (commands.Refuted k optimize) given f text = (text ≡ step_line k) × IsSafeAt f k
 Answers (commands.Inductive k form optimize) given f text = (text ≡ window_line k) × IsKInductive form f k × (IsSafeTo f k → (n : ℕ) → IsSafeTo f n)
+Answers (commands.Witness k optimize) given f text = IsWitnessText f k text
 Answers commands.Run given f text = IsShownLine given f text
 
 -- how many further steps the command makes
@@ -63,6 +74,7 @@ abbrev pub steps_of : Command → ℕ
 steps_of (commands.Window k form optimize) = k + 1
 steps_of (commands.Refuted k optimize) = k
 steps_of (commands.Inductive k form optimize) = k + 1
+steps_of (commands.Witness k optimize) = k
 steps_of commands.Run = 0
 
 -- the bytes that were taken are a file of which something is asked, and this holds of what answers it
@@ -76,10 +88,11 @@ pub record AnswersFile (c : Command) (limit : ℕ) (given old new : Option (List
   pub holds : Holds text
 
 -- What a command does, by how it ends: r and w are the file's reader and the writer before it, rest and made after it. Given are the bytes of
--- the proof or the witness, where they are known.
+-- the proof, the solver's answer or the witness, where they are known.
 abbrev pub Runs : {R W : Type 0} → (R → Option (List ℕ)) → (R → Bool) → (W → Option (List ℕ)) → (W → Bool) → Command → ℕ → Option (List ℕ) → R → W → Result Unit CheckError → R → W → Type 0
 Runs left read_failed held write_failed c limit given r w (Ok done) rest made = AnswersFile c limit given (left r) (left rest) (Appends (held w) (held made)) × (write_failed made ≡ false)
 Runs left read_failed held write_failed c limit given r w (Err (errors.Answer e)) rest made = TellsOfFile {T = Unit} left read_failed limit (steps_of c) (Err e) r rest × (made ≡ w)
+Runs left read_failed held write_failed c limit given r w (Err (errors.Solution e)) rest made = TookFile (IsAsked limit (steps_of c)) (left r) (left rest) × (made ≡ w)
 Runs left read_failed held write_failed c limit given r w (Err (errors.Show e)) rest made = witnesses.Answers limit (left r) (left rest) given (Err e) × (e ≡ shows.File read.Stream → IsTrue (read_failed rest)) × (made ≡ w)
 Runs left read_failed held write_failed c limit given r w (Err errors.Write) rest made = AnswersFile c limit given (left r) (left rest) (AppendsBeginning (held w) (held made)) × IsTrue (write_failed made)
 Runs left read_failed held write_failed c limit given r w (Err errors.Open) rest made = ⊥

@@ -2,7 +2,7 @@
 
 ghost use Rattle.std.specs.Prelude.{◌≡◌, ◌↔◌, ◌<◌, ◌≤◌, ◌^◌, Bool, true, Some, IfSome, length, map, string_bytes};
 ghost use Rattle.aig_certify.specs.declared.window.Window as form;
-ghost use Rattle.aigcheck.specs.Words.{Give, GiveSteps, clause_words, needed_words, setting_words, step_of};
+ghost use Rattle.aigcheck.specs.Words.{AreLast, Give, GiveSteps, clause_words, name_of, needed_words, setting_words, step_of};
 ghost use Rattle.aigcheck.specs.declared.command.Command.{Command};
 
 use aig_answers::Window;
@@ -33,6 +33,13 @@ pub enum Command {
         k: usize,
         /// Which windows are looked at.
         form: Window,
+        /// Whether exclusive ors and choices have clauses of their own.
+        optimize: bool,
+    },
+    /// Print the witness of a bad state at step `k` that a solver's answer says.
+    Witness {
+        /// The step.
+        k: usize,
         /// Whether exclusive ors and choices have clauses of their own.
         optimize: bool,
     },
@@ -76,40 +83,50 @@ fn is_run(words: &[String]) -> bool
     }
 }
 
-/// The command that the words give, if it is one that names a step: its name, FILE, K, of `refuted` and `inductive` PROOF,
+/// The command of this name and step that the words behind K give: of `refuted` and `inductive` PROOF, of `witness` SOLUTION,
 /// and the settings.
+fn parse_last(name: &str, k: usize, words: &[String]) -> Option<Command>
+    ensures { (c : Command) → (result ≡ Some c)
+        ↔ ((name.now ≡ name_of c) × (k ≡ step_of c) × AreLast c (map string_bytes words.now)) }
+{
+    if name == "window" {
+        let (form, optimize) = settings(words)?;
+        return Some(Command::Window { k, form, optimize });
+    }
+    let [_, words @ ..] = words else {
+        return None;
+    };
+    if name == "refuted" {
+        let optimize = clause_setting(words)?;
+        return Some(Command::Refuted { k, optimize });
+    }
+    if name == "inductive" {
+        let (form, optimize) = settings(words)?;
+        return Some(Command::Inductive { k, form, optimize });
+    }
+    if name == "witness" {
+        let optimize = clause_setting(words)?;
+        return Some(Command::Witness { k, optimize });
+    }
+    None
+}
+
+/// The command that the words give, if it is one that names a step: its name, FILE, K and the last words.
 fn parse_steps(words: &[String]) -> Option<Command>
     ensures exact { (c : Command) → (result ≡ Some c) ↔ GiveSteps (map string_bytes words.now) c }
     ensures words { IfSome result (λ c. needed_words c ≤ length words.now) }
     ensures small { IfSome result (λ c. step_of c < 2 ^ 32) }
 {
-    let [name, _, k, rest @ ..] = words else {
+    let [name, _, k, last @ ..] = words else {
         return None;
     };
-    let name = name.as_str();
-    let k = steps(k.as_str())?;
-    if name == "window" {
-        let (form, optimize) = settings(rest)?;
-        return Some(Command::Window { k, form, optimize });
-    }
-    let [_, rest @ ..] = rest else {
-        return None;
-    };
-    if name == "refuted" {
-        let optimize = clause_setting(rest)?;
-        return Some(Command::Refuted { k, optimize });
-    }
-    if name == "inductive" {
-        let (form, optimize) = settings(rest)?;
-        return Some(Command::Inductive { k, form, optimize });
-    }
-    None
+    parse_last(name.as_str(), steps(k.as_str())?, last)
 }
 
 /// The command that the words after the program's name give, or none where they are wrong.
 ///
-/// The word after the command's name is FILE. Of `run` the next is WITNESS; of the others it is K, and of `refuted` and
-/// `inductive` the word after that is PROOF. It takes no memory.
+/// The word after the command's name is FILE. Of `run` the next is WITNESS; of the others it is K, and the word after that is
+/// PROOF of `refuted` and `inductive`, and SOLUTION of `witness`. It takes no memory.
 pub fn parse(words: &[String]) -> Option<Command>
     ensures exact { (c : Command) → (result ≡ Some c) ↔ Give (map string_bytes words.now) c }
     ensures words { IfSome result (λ c. needed_words c ≤ length words.now) }

@@ -14,10 +14,12 @@ use std::io::{ErrorKind, Write};
 use std::process::ExitCode;
 use std::rt::{Env, Files};
 use std::{env, io};
-pub use tool::{CheckError, print_inductive, print_refuted, print_run, print_window};
+pub use tool::{
+    CheckError, print_inductive, print_refuted, print_run, print_window, print_witness,
+};
 
 const USAGE: &str = "usage: aigcheck window FILE K [distinct] [raw], refuted FILE K PROOF [raw], \
-    inductive FILE K PROOF [distinct] [raw], run FILE WITNESS";
+    inductive FILE K PROOF [distinct] [raw], witness FILE K SOLUTION [raw], run FILE WITNESS";
 
 /// The words after the program's name.
 fn words(rt: &(impl Env + AllocGlobal)) -> io::Result<Vec<String>> {
@@ -59,6 +61,10 @@ fn print(
         Command::Inductive { k, form, optimize } => {
             let mut proof = open(rt, words[3].as_str())?;
             print_inductive(alloc, k, form, optimize, &mut r, &mut proof, &mut sink)?;
+        }
+        Command::Witness { k, optimize } => {
+            let mut solution = open(rt, words[3].as_str())?;
+            print_witness(alloc, k, optimize, &mut r, &mut solution, &mut sink)?;
         }
         Command::Run => {
             let mut witness = open(rt, words[2].as_str())?;

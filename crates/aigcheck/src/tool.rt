@@ -1,6 +1,9 @@
-//! What the commands do with the bytes of a file and of a proof.
+//! What the commands do with the bytes of a file, and of a proof, a solver's answer or a witness.
 
-ghost use Rattle.std.specs.Prelude.{◌≡◌, ◌<◌, ◌^◌, ◌++◌, ◌∷◌, [], None, decimal};
+ghost use Rattle.std.specs.Prelude.{◌≡◌, ◌<◌, ◌^◌, ◌++◌, ◌∷◌, [], IfOk, IsErrOf, IsTrue, None, decimal};
+ghost use Rattle.aig_answers.specs.Answers.{IsAsked, TellsOfFile};
+ghost use Rattle.aig_encode.specs.Encoding.{IsQuery};
+ghost use Rattle.aig_reader.specs.Reading.{IsOfFile};
 ghost use Rattle.aig_writer.specs.Sinks.{BuffersOrStops, WritesOrStops};
 ghost use Rattle.aigcheck.specs.Running.{Runs, shown_line};
 ghost use Rattle.aigcheck.specs.declared.tool.CheckError.TheVariants as errors;
@@ -10,7 +13,10 @@ use aig_answers::{AnswerError, Window, check_step, check_window, window};
 use aig_base::{Sink, Source, StreamFault};
 use aig_certify::inductive_windows_are_safe;
 use aig_dimacs::write_dimacs;
-use aig_witness_check::{ShowError, Shown, check_witness};
+use aig_encode::{Query, query};
+use aig_solutions::{CheckedWitnessError, SolutionError, checked_witness};
+use aig_witness::write_witness;
+use aig_witness_check::{ShowError, Shown, check_witness, known_witnesses_show};
 use aig_writer::OutputBuffer;
 use std::alloc::Global;
 use thiserror::Error;
@@ -30,6 +36,9 @@ pub enum CheckError {
     /// There is no answer.
     #[error("{0}")]
     Answer(AnswerError),
+    /// The solver's answer gives no witness of a bad state.
+    #[error("{0}")]
+    Solution(CheckedWitnessError),
     /// The witness shows no bad state.
     #[error("{0}")]
     Show(ShowError),
@@ -43,6 +52,14 @@ impl From<AnswerError> for CheckError {
 
     fn from(error: AnswerError) -> CheckError {
         CheckError::Answer(error)
+    }
+}
+
+impl From<CheckedWitnessError> for CheckError {
+    ghost from_gives = { λ e r. r ≡ errors.Solution e };
+
+    fn from(error: CheckedWitnessError) -> CheckError {
+        CheckError::Solution(error)
     }
 }
 
@@ -164,6 +181,49 @@ pub fn print_inductive<R: Source, P: Source, W: Sink>(
     inductive_windows_are_safe();
     check_window(alloc, r, LIMIT, k, optimize, form, proof)?;
     Ok(write_line(w, b"no bad state at any step, if none up to step ", k)?)
+}
+
+/// The query of a file for step `k`. A file without bad state properties is refused, as nothing is asked of it.
+fn asked_query<R: Source>(
+    alloc: Global,
+    k: usize,
+    optimize: bool,
+    r: &mut R,
+) -> Result<Query, AnswerError>
+    ensures answer { IfOk result (IsOfFile (IsAsked LIMIT k) (IsQuery k optimize)
+        (R.left r.old) (R.left r.new)) }
+    ensures file { TellsOfFile R.left R.failed LIMIT k result r.old r.new }
+{
+    let asked = query(alloc, r, LIMIT, k, optimize)?;
+    if asked.encoded.circuit.bads().is_empty() {
+        return Err(AnswerError::NoBads);
+    }
+    Ok(asked)
+}
+
+/// Reads a solver's answer to the query of a file for step `k`, and prints the witness that it says, which was checked. Asks
+/// that `k` is below 2^32.
+pub fn print_witness<R: Source, P: Source, W: Sink>(
+    alloc: Global,
+    k: usize,
+    optimize: bool,
+    r: &mut R,
+    solution: &mut P,
+    w: &mut W,
+) -> Result<(), CheckError>
+    requires { k < 2 ^ 32 }
+    ensures runs { let command = Command.Witness k optimize in
+        Runs R.left R.failed W.held W.failed command LIMIT (P.left solution.old)
+        r.old w.old result r.new w.new }
+    // A read of the solver's answer is said to have failed only where one did in this call.
+    ensures stream { IsErrOf result
+        (CheckError.Solution (CheckedWitnessError.Solution SolutionError.Stream))
+        → IsTrue (P.failed solution.new) }
+{
+    known_witnesses_show();
+    let asked = asked_query(alloc, k, optimize, r)?;
+    let witness = checked_witness(alloc, &asked, k, solution)?;
+    Ok(write_witness(w, &witness)?)
 }
 
 /// Checks that a witness shows a bad state of a file's machine, and prints which bad state property that is, and at which
