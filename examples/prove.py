@@ -1,10 +1,10 @@
 #!/usr/bin/env python3
 """Asks whether the machine of an AIGER file can reach a bad state, and believes no solver.
 
-For k = 0, 1, .. up to BOUND it asks a SAT solver about step k (`aigtool query`) and about a window of k + 2 steps
-(`aigcheck window`). What the solver answers goes to `aigcheck`, which checks it against FILE: a proof that there is no solution,
-or a solution for a step, which is a run to a bad state. That run's first state and inputs are printed by their names. Once the
-steps 0 to k and a window are checked, no bad state is ever reached.
+For k = 0, 1, .. up to BOUND it asks a SAT solver about step k (`aigtool query`), and where k is 0 or a power of two about a
+window of k + 2 steps (`aigcheck window`). What the solver answers goes to `aigcheck`, which checks it against FILE, a proof while
+the next question is asked: a proof that there is no solution, or a solution for a step, which is a run to a bad state. That run's
+first state and inputs are printed by their names. Once the steps 0 to k and a window are checked, no bad state is ever reached.
 
 SOLVER is given the names of a file in DIMACS form and of a file for its proof, in the text of LRAT or DRAT. It has to end with
 status 10 and print lines `s ..` and `v ..`, or with status 20.
@@ -16,6 +16,7 @@ Exit status 20: no bad state at any step. 10: a bad state is reached. 0: neither
 2: wrong words.
 """
 import collections
+import concurrent.futures
 import json
 import optparse
 import os
@@ -26,7 +27,7 @@ import sys
 import tempfile
 
 CRATES = os.path.join(os.path.dirname(os.path.dirname(os.path.realpath(__file__))), "crates")
-PLAIN = re.compile(r"(?![ilb][0-9]+$)[!#-<>-\[\]-~]+")
+PLAIN = re.compile(r"(?![ilb][0-9]+(:|$))[!#-<>-\[\]-~]+")
 
 
 class Fault(Exception):
@@ -102,21 +103,22 @@ class Shown:
 
 
 class Prover:
-    """The programs, the file, and the solver."""
+    """The programs, the file, the solver, and the check of a proof that goes on beside the next question."""
 
-    def __init__(self, words, folder):
+    def __init__(self, words, folder, checker):
         self.words, self.solver = words, words.solver or cadical()
-        self.file, self.clauses, self.proof, self.solution = (
-            os.path.join(folder, name) for name in ["file", "clauses.cnf", "proof", "solution"]
+        self.checker, self.checking = checker, None
+        self.file, self.clauses, self.proof, self.checked_proof, self.solution = (
+            os.path.join(folder, name) for name in ["file", "clauses.cnf", "proof", "proof.checked", "solution"]
         )
         # Every answer is about the same bytes.
         with open(words.file, "rb") as given, open(self.file, "wb") as out:
             shutil.copyfileobj(given, out)
 
-    def has_solution(self, printed_by):
+    def has_solution(self, program, command, k, *form):
         """Whether the clauses that a program prints have a solution, as the solver says."""
         with open(self.clauses, "wb") as out:
-            run(printed_by, [0], out)
+            run([program, command, self.file, str(k), *form], [0], out)
         with open(self.solution, "wb") as out:
             _, status = run([*self.solver, self.clauses, self.proof], [10, 20], out)
         return status == 10
@@ -125,21 +127,36 @@ class Prover:
         """What aigcheck prints of a proof or of a solution."""
         return run([self.words.aigcheck, command, self.file, str(k), given, *form], [0])[0]
 
-    def reaches(self, k):
-        """Whether a bad state is reached at step k. Prints the run, or that there is none."""
-        if self.has_solution([self.words.aigtool, "query", self.file, str(k)]):
-            self.show(k, self.checked("witness", k, self.solution))
-            return True
-        print(self.checked("refuted", k, self.proof), end="", flush=True)
-        return False
+    def check(self, command, k, *form):
+        """Begins to check the proof, once the one before is checked."""
+        self.finish()
+        self.proof, self.checked_proof = self.checked_proof, self.proof
+        self.checking = self.checker.submit(self.checked, command, k, self.checked_proof, *form)
 
-    def is_inductive(self, k):
-        """Whether no window of k + 2 steps is bad first at its end. Prints that there is none."""
+    def finish(self):
+        """Waits for the check of a proof, and prints what it shows."""
+        if self.checking is not None:
+            print(self.checking.result(), end="", flush=True)
+            self.checking = None
+
+    def prove(self):
+        """Asks step by step, and gives the exit status."""
         form = ["distinct"] if self.words.distinct else []
-        if self.has_solution([self.words.aigcheck, "window", self.file, str(k), *form]):
-            return False
-        print(self.checked("inductive", k, self.proof, *form), end="", flush=True)
-        return True
+        for k in range(self.words.bound + 1):
+            if self.has_solution(self.words.aigtool, "query", k):
+                self.finish()
+                self.show(k, self.checked("witness", k, self.solution))
+                return 10
+            self.check("refuted", k)
+            # Where windows of one length can't end badly, longer ones can't either.
+            if k & (k - 1) == 0 and not self.has_solution(self.words.aigcheck, "window", k, *form):
+                self.check("inductive", k, *form)
+                self.finish()
+                print("no bad state at any step")
+                return 20
+        self.finish()
+        print(f"no bad state up to step {self.words.bound}")
+        return 0
 
     def show(self, k, witness):
         """Prints a witness of k + 1 steps by its names, and writes it where it is wanted."""
@@ -152,17 +169,6 @@ class Prover:
         if self.words.witness is not None:
             with open(self.words.witness, "w", encoding="ascii") as out:
                 out.write(witness)
-
-    def prove(self):
-        """Asks step by step, and gives the exit status."""
-        for k in range(self.words.bound + 1):
-            if self.reaches(k):
-                return 10
-            if self.is_inductive(k):
-                print("no bad state at any step")
-                return 20
-        print(f"no bad state up to step {self.words.bound}")
-        return 0
 
 
 def cadical():
@@ -206,8 +212,8 @@ class Words(optparse.OptionParser):
 def main():
     words = Words().parse(sys.argv[1:])
     try:
-        with tempfile.TemporaryDirectory() as folder:
-            status = Prover(words, folder).prove()
+        with tempfile.TemporaryDirectory() as folder, concurrent.futures.ThreadPoolExecutor(1) as checker:
+            status = Prover(words, folder, checker).prove()
             sys.stdout.flush()
     except KeyboardInterrupt:
         status = 130
