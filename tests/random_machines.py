@@ -1,0 +1,395 @@
+#!/usr/bin/env python3
+"""Compares model checks of small machines: random_machines.py [FILES [TRIES [SEED]]]
+
+For the examples and for FILES (300) random files, with constraints, resets of all three kinds, several bad states and odd names:
+each answer of examples/prove.py, with windows of both forms, is that of a search over all states, and that of ABC's bmc3 and pdr.
+What it prints is the witness that it writes, by names that tell signals apart. `aigcheck run` takes that witness and ABC's
+counterexamples, and takes a witness that is turned at one place exactly where a simulation says that it still shows its bad state.
+`aigcheck refuted` takes none of TRIES (1000) proofs of other clauses, mangled, for steps at which a bad state is reached.
+
+It ends at the first that differs, and else prints one line. The programs are those that were built last, below crates/; the solver
+and ABC are the Debian packages cadical and berkeley-abc. It is run by hand, and is no part of the gate.
+"""
+import collections
+import concurrent.futures
+import dataclasses
+import itertools
+import json
+import os
+import random
+import re
+import subprocess
+import sys
+import tempfile
+
+TOP = os.path.join(os.path.dirname(os.path.abspath(__file__)), "..")
+EXAMPLES = [os.path.join(TOP, "examples", f"{name}.aag") for name in ["credits", "queue", "pipeline", "handshake"]]
+PROVE = os.path.join(TOP, "examples", "prove.py")
+TOOL, CHECK = (os.path.join(TOP, "crates", name, "out", name) for name in ["aigtool", "aigcheck"])
+BOUND = 6
+NAMES = ["a", "a", "a b", "a=1", "i0", "l1", "b0", '"a"', "é", "a\\b", "x[0]", "\t", "i0:a"]
+# A signal as it is printed, and its value: its place, a word, or a JSON string that may stand behind the place.
+SIGNAL = re.compile(r'((?:[il]\d+:)?"(?:[^"\\]|\\.)*"|[^\s"=]+)=([01])(?: |$)')
+
+
+def output(words, statuses=(0,)):
+    """What a program prints to standard output, which has to end with one of these statuses."""
+    done = subprocess.run(words, capture_output=True, encoding="utf-8")
+    if done.returncode not in statuses:
+        sys.exit(f"{' '.join(words)} ended with status {done.returncode}: {done.stderr}")
+    return done.stdout
+
+
+@dataclasses.dataclass
+class Witness:
+    """Which bad state is reached, the first state, and the inputs of each step."""
+
+    bad: int
+    start: str
+    steps: list
+
+    def text(self):
+        """Its text."""
+        return "".join(line + "\n" for line in ["1", f"b{self.bad}", self.start, *self.steps, "."])
+
+    def turned(self):
+        """All that differ from it in one value."""
+        for i, bits in enumerate([self.start, *self.steps]):
+            for j, bit in enumerate(bits):
+                lines = [self.start, *self.steps]
+                lines[i] = bits[:j] + "10"[int(bit)] + bits[j + 1 :]
+                yield Witness(self.bad, lines[0], lines[1:])
+
+
+def witness_of(text):
+    """The witness of a text."""
+    _, bad, start, *steps, _ = text.splitlines()
+    return Witness(int(bad[1:]), start, steps)
+
+
+@dataclasses.dataclass
+class Machine:
+    """A file: its lines as lists of literals, and names by their places."""
+
+    inputs: list
+    latches: list
+    bads: list
+    constraints: list
+    gates: list
+    names: dict
+
+    def text(self):
+        """Its text."""
+        variables = len(self.inputs) + len(self.latches) + len(self.gates)
+        lines = [["aag", variables, len(self.inputs), len(self.latches), 0, len(self.gates), len(self.bads), len(self.constraints)]]
+        lines += [*([literal] for literal in self.inputs), *self.latches]
+        lines += [*([literal] for literal in self.bads + self.constraints), *self.gates, *self.names.items()]
+        return "".join(" ".join(map(str, line)) + "\n" for line in lines)
+
+    def values(self, state, inputs):
+        """The values of all literals in a step."""
+        values = {0: False, 1: True}
+        leaves = [*self.inputs, *(latch[0] for latch in self.latches)]
+        for literal, bit in zip(leaves, [*inputs, *state]):
+            values[literal], values[literal + 1] = bit, not bit
+        for gate, left, right in self.gates:
+            values[gate] = values[left] and values[right]
+            values[gate + 1] = not values[gate]
+        return values
+
+    def is_allowed(self, values):
+        """Whether the constraints hold in a step."""
+        return all(values[literal] for literal in self.constraints)
+
+    def following(self, values):
+        """The state after a step."""
+        return tuple(values[latch[1]] for latch in self.latches)
+
+    def starts(self):
+        """All first states."""
+        choices = [[bool(reset)] if reset < 2 else [False, True] for _, _, reset in self.latches]
+        return set(itertools.product(*choices))
+
+    def first_bad(self):
+        """The first step at which a bad state is reached, if ever."""
+        states, seen = self.starts(), set()
+        for k in itertools.count():
+            if not states:
+                return None
+            after = set()
+            for state in states:
+                for inputs in itertools.product([False, True], repeat=len(self.inputs)):
+                    values = self.values(state, inputs)
+                    if self.is_allowed(values):
+                        if any(values[literal] for literal in self.bads):
+                            return k
+                        after.add(self.following(values))
+            seen |= states
+            states = after - seen
+
+    def is_shown(self, witness):
+        """Whether a witness shows its bad state, by simulation."""
+        state = tuple(bit == "1" for bit in witness.start)
+        if state not in self.starts():
+            return False
+        for bits in witness.steps:
+            values = self.values(state, [bit == "1" for bit in bits])
+            if not self.is_allowed(values):
+                return False
+            state = self.following(values)
+        return values[self.bads[witness.bad]]
+
+
+def random_machine(rng):
+    """A machine of random gates, with constraints that hold for most inputs."""
+    inputs, latches, gates = rng.randint(0, 3), rng.randint(1, 5), rng.randint(3, 20)
+    leaves = [2 * v for v in range(1, inputs + latches + 1)]
+    made = []
+
+    def literal():
+        return rng.randrange(2 * (len(leaves) + len(made)) + 2)
+
+    def both(left, right):
+        made.append((2 * (len(leaves) + len(made) + 1), max(left, right), min(left, right)))
+        return made[-1][0]
+
+    for _ in range(gates):
+        both(max(literal(), 2), max(literal(), 2))
+    rng.shuffle(leaves)
+    states = leaves[inputs:]
+    resets = [(leaf, literal(), rng.choice([0, 0, 1, 1, leaf])) for leaf in states]
+    constraints = [both(literal(), literal()) ^ 1 for _ in range(rng.choice([0, 0, 1, 2]))]
+    # Some states are bad, and now and then a literal.
+    bads = []
+    for _ in range(rng.choice([1, 1, 2, 3])):
+        bad = 1
+        for leaf in states:
+            bad = both(bad, leaf + rng.randrange(2))
+        bads.append(bad)
+    bads += [literal() for _ in range(rng.choice([0] * 7 + [1]))]
+    sections = {"i": inputs, "l": latches, "b": len(bads)}
+    places = [f"{letter}{i}" for letter, count in sections.items() for i in range(count)]
+    names = {place: rng.choice(NAMES) for place in places if rng.random() < 0.7}
+    return Machine(leaves[:inputs], resets, bads, constraints, made, names)
+
+
+def deep_machine(rng):
+    """A machine of random gates: few that are bad in a first state or the next, and not too many that never are."""
+    while True:
+        machine = random_machine(rng)
+        if rng.random() < {0: 0.05, 1: 0.2, None: 0.3}.get(machine.first_bad(), 1):
+            return machine
+
+
+def machine_of(file):
+    """The machine of a file without outputs, justice and fairness."""
+    header, *lines = output([TOOL, "text", file]).split("\n")[:-1]
+    inputs, latches, outputs, gates, bads, constraints = ([int(word) for word in header.split()[2:]] + [0] * 4)[:6]
+    lines = iter(lines)
+    section = lambda count: [[int(word) for word in next(lines).split()] for _ in range(count)]
+    given, states = section(inputs), [[*latch, 0][:3] for latch in section(latches)]
+    section(outputs)
+    bads, constraints = ([literal for (literal,) in section(count)] for count in [bads, constraints])
+    return Machine([literal for (literal,) in given], states, bads, constraints, section(gates), {})
+
+
+class Trial:
+    """A machine in files of its own, and what all agree on."""
+
+    def __init__(self, machine, folder):
+        self.machine = machine
+        self.text, self.binary, self.nameless, self.witness, self.given = (
+            os.path.join(folder, name) for name in ["made.aag", "made.aig", "nameless.aig", "witness", "given"]
+        )
+        os.mkdir(folder)
+        self.write(self.text, machine.text())
+        output([TOOL, "binary", self.text, self.binary])
+        # ABC takes no two signals of one name.
+        self.write(self.given, dataclasses.replace(machine, names={}).text())
+        output([TOOL, "binary", self.given, self.nameless])
+        self.first = machine.first_bad()
+        self.counts = collections.Counter()
+
+    def write(self, path, text):
+        """Writes a text to a file."""
+        with open(path, "w", encoding="utf-8") as out:
+            out.write(text)
+
+    def fail(self, why):
+        """Ends with the machine that shows a fault."""
+        sys.exit(f"{why}; a search finds a bad state at step {self.first}:\n{self.machine.text()}")
+
+    def compare(self):
+        """Compares all answers."""
+        self.compare_proved(self.text, self.machine.names)
+        self.compare_proved(self.binary, {place: name for place, name in self.machine.names.items() if place[0] != "b"}, "--distinct")
+        self.compare_abc("bmc3", f"bmc3 -F {BOUND + 1}", BOUND)
+        self.compare_abc("pdr", "pdr", None)
+        return self
+
+    def compare_proved(self, file, names, *options):
+        """Compares the answer of the example, which is a step, none at all, or nothing up to the bound."""
+        printed = output([PROVE, *options, file, "--witness", self.witness, str(BOUND)], [0, 10, 20])
+        lines = [line for line in printed.split("\n")[:-1] if not line.startswith("no bad state at step ")]
+        if self.first is not None and self.first <= BOUND:
+            with open(self.witness, encoding="ascii") as given:
+                witness = witness_of(given.read())
+            self.compare_lines(lines, witness, names)
+            self.compare_witness(witness, len(witness.steps) - 1 == self.first)
+            self.counts["reached"] += 1
+        elif lines[-1] == "no bad state at any step" and self.first is None:
+            self.counts["proved safe"] += 1
+        elif lines == [f"no bad state up to step {BOUND}"]:
+            self.counts["open"] += 1
+        else:
+            self.fail(f"prove.py: {printed}")
+
+    def compare_lines(self, lines, witness, names):
+        """Compares the printed lines with a witness."""
+        first, *rest = lines
+        bad = re.fullmatch(rf"a bad state at step {self.first}: b{witness.bad}(?: (.*))?", first)
+        name = names.get(f"b{witness.bad}")
+        if bad is None or (bad[1] and (json.loads(bad[1]) if bad[1][0] == '"' else bad[1])) != name:
+            self.fail(f"prove.py: {first}")
+        for t, (line, bits) in enumerate(zip(rest, [witness.start, *witness.steps], strict=True)):
+            letter, label = "li"[t > 0], f"step {t - 1}:" if t else "start:"
+            signals = SIGNAL.findall(line)
+            again = " ".join([label, *(f"{signal}={bit}" for signal, bit in signals)])
+            named = [self.names_place(signal, f"{letter}{i}", names) for i, (signal, _) in enumerate(signals)]
+            if line != again or "".join(bit for _, bit in signals) != bits or not all(named):
+                self.fail(f"prove.py: {line}, and the witness has {bits}")
+        signals = [signal for line in rest[:2] for signal, _ in SIGNAL.findall(line)]
+        if len(set(signals)) < len(signals):
+            self.fail(f"prove.py tells signals not apart: {signals}")
+
+    def names_place(self, signal, place, names):
+        """Whether a signal is printed by its name, or by its place where it has none."""
+        if place not in names:
+            return signal == place
+        given = signal.removeprefix(place + ":")
+        return names[place] == (json.loads(given) if given[0] == '"' else given)
+
+    def is_taken(self, witness):
+        """Whether `aigcheck run` takes a witness."""
+        self.write(self.given, witness.text())
+        printed = output([CHECK, "run", self.text, self.given], [0, 1])
+        if printed not in ["", f"b{witness.bad} at step {len(witness.steps) - 1}\n"]:
+            self.fail(f"aigcheck: {printed}")
+        return printed != ""
+
+    def compare_witness(self, witness, fits):
+        """Compares a witness, and those that are turned at one place, with a simulation."""
+        if not (fits and self.machine.is_shown(witness) and self.is_taken(witness)):
+            self.fail(f"a witness isn't one: {witness}")
+        for turned in witness.turned():
+            shown = self.machine.is_shown(turned)
+            if self.is_taken(turned) != shown:
+                self.fail(f"a turned witness is {'refused' if shown else 'taken'}: {turned}")
+            self.counts["turned, shown" if shown else "turned, refused"] += 1
+
+    def compare_abc(self, engine, command, bound):
+        """Compares an answer of ABC, with open resets made inputs, all latches made zero at first, and constraints folded in."""
+        commands = f"read_aiger {self.nameless}; logic; undc; strash; zero; fold; {command}; write_cex -a {self.given}"
+        printed = output(["berkeley-abc", "-q", commands])
+        if "Does not work for combinational networks" in printed:
+            self.counts[f"without {engine}"] += 1
+            return
+        found = re.search(r"Output (\d+) of miter .* was asserted in frame (\d+)", printed)
+        wanted = self.first is not None and (bound is None or self.first <= bound)
+        if found is None:
+            if wanted or not re.search("No output asserted|Explored all reachable states|Property proved", printed):
+                self.fail(f"{engine} finds none: {printed}")
+            return
+        with open(self.given, encoding="ascii") as given:
+            lines = given.read().removesuffix("# DONE").split("\n")[1:]
+        # Where there are no inputs, ABC writes no lines of them.
+        lines = lines if any(lines) else [""] * (int(found[2]) + 1)
+        self.compare_witness(self.witness_of_abc(int(found[1]), lines[: int(found[2]) + 1]), wanted)
+        self.counts["of ABC"] += 1
+        if bound is not None and int(found[2]) != self.first:
+            self.fail(f"{engine} finds step {found[2]}")
+
+    def witness_of_abc(self, bad, lines):
+        """The witness of ABC's inputs: those behind the file's own are the open resets."""
+        count = len(self.machine.inputs)
+        resets = iter(lines[0][count:])
+        start = "".join(str(reset) if reset < 2 else next(resets) for _, _, reset in self.machine.latches)
+        return Witness(bad, start, [line[:count] for line in lines])
+
+
+class Mangler:
+    """Proofs of clauses, mangled, for steps at which a bad state is reached."""
+
+    def __init__(self, rng, trials, folder):
+        self.rng = rng
+        self.trials = [trial for trial in trials if trial.first is not None]
+        self.clauses, self.proof = (os.path.join(folder, name) for name in ["clauses.cnf", "proof"])
+        self.proofs = [proof for trial in self.trials for proof in self.proofs_near(trial)]
+
+    def proofs_near(self, trial):
+        """Proofs of the steps before a bad state is reached, and of that step with some literals fixed."""
+        for k in range(trial.first + 1):
+            query = output([TOOL, "query", trial.text, str(k)])
+            _, _, variables, clauses = query.split("\n", 1)[0].split()
+            fixed = [self.rng.randint(1, int(variables)) * self.rng.choice([1, -1]) for _ in range(8 if k == trial.first else 0)]
+            header = f"p cnf {variables} {int(clauses) + len(fixed)}\n"
+            with open(self.clauses, "w", encoding="ascii") as out:
+                out.write(header + query.split("\n", 1)[1] + "".join(f"{literal} 0\n" for literal in fixed))
+            done = subprocess.run(["cadical", "-q", "--no-binary", self.clauses, self.proof], stdout=subprocess.DEVNULL)
+            if done.returncode == 20:
+                with open(self.proof, encoding="ascii") as proof:
+                    yield proof.read().split("\n")[:-1]
+
+    def mangled(self):
+        """A proof with some lines dropped, turned, swapped, cut, or put in from another, and then perhaps the empty clause."""
+        lines = list(self.rng.choice(self.proofs))
+        for _ in range(self.rng.randint(0, 4)):
+            i, j = (self.rng.randint(0, len(lines)) for _ in range(2))
+            change = self.rng.choice(["drop", "turn", "swap", "cut", "take"])
+            if change == "take":
+                lines[i:i] = self.rng.choice(self.proofs)[:j]
+            elif change == "cut":
+                lines = lines[:i]
+            elif max(i, j) < len(lines):
+                self.change(lines, change, i, j)
+        return lines + self.rng.choice([[], ["0"], ["0"]])
+
+    def change(self, lines, change, i, j):
+        """Drops or turns a line, or swaps two."""
+        if change == "drop":
+            del lines[i]
+        elif change == "swap":
+            lines[i], lines[j] = lines[j], lines[i]
+        else:
+            words = lines[i].split(" ")
+            place = self.rng.randrange(len(words))
+            if words[place] not in ["0", "d"]:
+                words[place] = str(-int(words[place]))
+            lines[i] = " ".join(words)
+
+    def attempt(self):
+        """Tries a proof, and gives its length."""
+        trial, lines = self.rng.choice(self.trials), self.mangled()
+        with open(self.proof, "w", encoding="ascii") as out:
+            out.write("".join(line + "\n" for line in lines))
+        printed = output([CHECK, "refuted", trial.text, str(trial.first), self.proof], [0, 1])
+        if printed:
+            trial.fail(f"a proof is taken, and aigcheck prints {printed}:\n" + "\n".join(lines))
+        return len(lines)
+
+
+def main():
+    files, tries, seed = [int(word) for word in sys.argv[1:]] + [300, 1000, 1][len(sys.argv) - 1 :]
+    rng = random.Random(seed)
+    machines = [machine_of(file) for file in EXAMPLES] + [deep_machine(rng) for _ in range(files)]
+    with tempfile.TemporaryDirectory() as folder, concurrent.futures.ThreadPoolExecutor() as pool:
+        trial = lambda i: Trial(machines[i], os.path.join(folder, str(i))).compare()
+        trials = list(pool.map(trial, range(len(machines))))
+        mangler = Mangler(rng, trials, folder)
+        steps = sum(mangler.attempt() for _ in range(tries))
+    counts = sum((trial.counts for trial in trials), collections.Counter())
+    said = ", ".join(f"{counts[what]} {what}" for what in sorted(counts))
+    print(f"{len(EXAMPLES)} examples and {files} random files agree ({said}); {tries} mangled proofs of {steps} lines are refused")
+
+
+main()
