@@ -1,10 +1,10 @@
 #!/usr/bin/env python3
-"""Runs the commands of the documentation and compares what they print: guide.py [FOLDER ..]
+"""Runs the commands of the documentation and compares what they print: guide.py [--tools] [FOLDER ..]
 
 In docs/GUIDE.md and docs/COMMANDS.md a block of the kind `console` holds commands, each behind `$ ` and going on behind `> `, and
 below each what it prints, to both streams. They are run in order, by sh, in a new folder with links to the repository's. A block
-`console needs NAME ..` is run only where these programs are found, and else passed over. In docs/DIFFERENCES.md a row that begins
-with bytes in a code span is a file, and what `aigtool text` prints of it.
+`console needs NAME ..` is run where these programs are found, those of others only with --tools, and else passed over. In
+docs/DIFFERENCES.md a row that begins with bytes in a code span is a file, and what `aigtool text` prints of it.
 
 Programs are looked for in each FOLDER, then in crates/NAME/out, where `rt run` in crates/NAME builds them, then where the system
 looks.
@@ -19,7 +19,7 @@ import tempfile
 TOP = os.path.join(os.path.dirname(os.path.abspath(__file__)), "..")
 PAGES = ["GUIDE.md", "COMMANDS.md"]
 LINKS = ["crates", "docs", "examples", "tests"]
-PROGRAMS = ["aigtool", "aigcheck", "aig_sample"]
+PROGRAMS = ["aigtool", "aigcheck"]
 BLOCK = re.compile(r"^```console(?: needs ([^\n]*))?\n(.*?)^```$", re.DOTALL | re.MULTILINE)
 ROW = re.compile(r"^\| `(a[^`]*)` \| `([^`]*)` \|", re.MULTILINE)
 
@@ -51,9 +51,14 @@ def spelled(span):
 class Pages:
     """Counts of what was run."""
 
-    def __init__(self, folder, path):
-        self.folder, self.environment = folder, {**os.environ, "PATH": path, "LC_ALL": "C.UTF-8"}
+    def __init__(self, folder, path, with_tools):
+        self.folder, self.with_tools = folder, with_tools
+        self.environment = {**os.environ, "PATH": path, "LC_ALL": "C.UTF-8"}
         self.passed = self.failed = 0
+
+    def has(self, tool):
+        """Whether a tool is there to be run."""
+        return (self.with_tools or tool in PROGRAMS) and shutil.which(tool, path=self.environment["PATH"]) is not None
 
     def run(self, words):
         """What a command prints, to both streams."""
@@ -75,9 +80,8 @@ class Pages:
         text = page(name)
         for block in BLOCK.finditer(text):
             line = text.count("\n", 0, block.start()) + 1
-            missing = [tool for tool in (block[1] or "").split() if shutil.which(tool, path=self.environment["PATH"]) is None]
-            if missing:
-                print(f"{name}:{line}: passed over, without {', '.join(missing)}")
+            if not all(self.has(tool) for tool in (block[1] or "").split()):
+                print(f"{name}:{line}: passed over, needs {block[1]}")
                 continue
             for command, printed in commands(block[2]):
                 self.compare(f"{name}:{line}: {command.strip()}", printed.encode(), self.run(["sh", "-c", command]))
@@ -91,12 +95,12 @@ class Pages:
 
 
 def main():
-    folders = [os.path.abspath(word) for word in sys.argv[1:]]
+    folders = [os.path.abspath(word) for word in sys.argv[1:] if word != "--tools"]
     folders += [os.path.abspath(os.path.join(TOP, "crates", name, "out")) for name in PROGRAMS]
     with tempfile.TemporaryDirectory() as folder:
         for name in LINKS:
             os.symlink(os.path.abspath(os.path.join(TOP, name)), os.path.join(folder, name))
-        pages = Pages(folder, os.pathsep.join([*folders, os.environ["PATH"]]))
+        pages = Pages(folder, os.pathsep.join([*folders, os.environ["PATH"]]), "--tools" in sys.argv)
         for name in PAGES:
             pages.read_page(name)
         pages.read_rows("DIFFERENCES.md")
