@@ -12,7 +12,9 @@ import tempfile
 
 HERE = os.path.dirname(os.path.abspath(__file__))
 FILES = os.path.join(HERE, "answers")
-USAGE = "usage: aigcheck window FILE K [distinct] [raw], refuted FILE K PROOF [raw], inductive FILE K PROOF [distinct] [raw], witness FILE K SOLUTION [raw], run FILE WITNESS\n"
+EXAMPLES = os.path.join(HERE, "..", "examples")
+AIGTOOL = os.path.join(HERE, "..", "crates", "aigtool", "out", "aigtool")
+USAGE = "usage: aigcheck clauses FILE K [raw], window FILE K [distinct] [raw], refuted FILE K PROOF [raw], inductive FILE K PROOF [distinct] [raw], witness FILE K SOLUTION [raw], run FILE WITNESS\n"
 
 # What aigcheck says of a faulty proof.
 STEP = "aigcheck: proof step does not follow\n"
@@ -88,6 +90,39 @@ SOLUTIONS = {
     "cut_in_word": SOLVED[:23],
     "without_0": SOLVED.replace(" 0", ""),
 }
+# The query of the latch that takes the input of the step before for step 1, and that of the waiting latch.
+DELAYED = """c i0 at step 0 is 2
+c i0 at step 1 is 4
+c l0 at step 0 is 3
+c b0 at step 1 is 2
+p cnf 4 3
+-1 0
+-3 0
+2 0
+"""
+WAITING_1 = """c i0 at step 0 is 2
+c i0 at step 1 is 5
+c l0 at step 0 is 3
+c b0 at step 1 is 6
+p cnf 6 9
+-1 0
+-4 2 0
+-4 3 0
+4 -2 -3 0
+-6 3 0
+-6 5 0
+6 -3 -5 0
+-3 0
+6 0
+"""
+
+# The comments of the query of credits.aag for step 0: each leaf and gate is the variable of its number in the file, and one more.
+CREDITS = """c i0 at step 0 is 2
+c i1 at step 0 is 3
+c l0 at step 0 is 4
+c l1 at step 0 is 5
+c b0 at step 0 is 20
+"""
 
 # What aigcheck says of a faulty solution.
 NO_ANSWER = "aigcheck: no answer of a solver\n"
@@ -105,6 +140,11 @@ def refused(why):
 def answered(text):
     """A row's end: status 0, and a text."""
     return 0, text, ""
+
+
+def query(*words):
+    """What aigtool prints of a query."""
+    return subprocess.run([AIGTOOL, "query", *words], stdout=subprocess.PIPE, encoding="utf-8", check=True).stdout
 
 
 def rows(folder):
@@ -152,8 +192,16 @@ def rows(folder):
         ("cut", UNFINISHED),
     ]:
         yield distinct(made[name]), refused(why)
+    # The clauses of a query, and which literals stand for inputs, latches and bads. Variable 1 is false.
+    delayed, constant, credits = os.path.join(FILES, "delayed.aag"), os.path.join(FILES, "constant.aag"), os.path.join(EXAMPLES, "credits.aag")
+    yield ["clauses", delayed, "1"], answered(DELAYED)
+    yield ["clauses", delayed, "1", "raw"], answered(DELAYED)
+    yield ["clauses", toggle, "1"], answered("c l0 at step 0 is 2\nc b0 at step 1 is -2\np cnf 2 3\n-1 0\n-2 0\n-2 0\n")
+    yield ["clauses", constant, "0"], answered("c b0 at step 0 is -1\np cnf 1 2\n-1 0\n-1 0\n")
+    yield ["clauses", waiting, "1"], answered(WAITING_1)
+    yield ["clauses", credits, "0"], answered(CREDITS + query(credits, "0"))
+    yield ["clauses", credits, "0", "raw"], answered(CREDITS + query(credits, "0", "raw"))
     # The witness of a solution: the first state, the inputs of each step, and x where no value is given.
-    delayed, constant = (os.path.join(FILES, name + ".aag") for name in ["delayed", "constant"])
     witness = lambda name, file=delayed, k="1": ["witness", file, k, os.path.join(folder, name)]
     for name in ["solved", "in_lines"]:
         yield witness(name), answered("1\nb0\n0\n1\n0\n.\n")
@@ -183,13 +231,14 @@ def rows(folder):
         yield witness(name), refused(why)
     yield witness("solved", no_bads), refused(NO_BADS)
     yield witness("missing"), refused(OPEN)
-    for words in [["window", no_bads, "0"], ["refuted", no_bads, "0", of_stuck], ["inductive", no_bads, "0", of_stuck]]:
+    for words in [["clauses", no_bads, "0"], ["window", no_bads, "0"], ["refuted", no_bads, "0", of_stuck], ["inductive", no_bads, "0", of_stuck]]:
         yield words, refused(NO_BADS)
     for words in [["window", missing, "0"], ["refuted", missing, "0", of_stuck], ["refuted", stuck, "0", missing]]:
         yield words, refused(OPEN)
     wrong = [[], ["window"], ["window", stuck], ["window", stuck, "+1"], ["window", stuck, "4294967296"], ["window", stuck, "0", "x"]]
     wrong += [["window", stuck, "0", "raw", "distinct"], ["refuted", stuck, "0"], ["refuted", stuck, "0", of_stuck, "distinct"]]
     wrong += [["inductive", stuck, "0"], ["inductive", stuck, "", of_stuck], ["refute", stuck, "0", of_stuck], ["run", stuck], ["run", stuck, of_stuck, "raw"]]
+    wrong += [["clauses", delayed], ["clauses", delayed, "1", "distinct"], ["clauses", delayed, "1", "raw", "raw"]]
     wrong += [["witness", delayed, "1"], [*witness("solved"), "distinct"], [*witness("solved"), "raw", "raw"], ["solve", *witness("solved")[1:]]]
     for words in wrong:
         yield words, (2, "", USAGE)

@@ -108,8 +108,19 @@ refuted_witness is =
     let same : true ≡ false = ap (λ (l : List ℕ). eqb (get_or l 0 0) 114) is in
     false≢true (sym same)
 
+clauses_refuted : codes "clauses" ≡ codes "refuted" → ⊥
+clauses_refuted is =
+    let same : true ≡ false = ap (λ (l : List ℕ). eqb (get_or l 0 0) 99) is in
+    false≢true (sym same)
+
+clauses_witness : codes "clauses" ≡ codes "witness" → ⊥
+clauses_witness is =
+    let same : true ≡ false = ap (λ (l : List ℕ). eqb (get_or l 0 0) 99) is in
+    false≢true (sym same)
+
 -- which commands have a name
 refuted_alone : (c : Command) (k : ℕ) (words : List (List ℕ)) → GiveLast (codes "refuted") k words c → (o : Bool) × (c ≡ commands.Refuted k o) × (proof : List ℕ) × (words ≡ proof ∷ clause_words o)
+refuted_alone (commands.Clauses n o) k words g = absurd (clauses_refuted (sym g.0))
 refuted_alone (commands.Window n form o) k words g = let is = g.0 in cc
 refuted_alone (commands.Refuted n o) k words g = (o, ap (λ m. commands.Refuted m o) (sym g.1), g.2.0, g.2.1)
 refuted_alone (commands.Inductive n form o) k words g = let is = g.0 in cc
@@ -117,6 +128,7 @@ refuted_alone (commands.Witness n o) k words g = absurd (refuted_witness g.0)
 refuted_alone commands.Run k words g = absurd g.2
 
 inductive_alone : (c : Command) (k : ℕ) (words : List (List ℕ)) → GiveLast (codes "inductive") k words c → (p : Window × Bool) × (c ≡ commands.Inductive k p.0 p.1) × (proof : List ℕ) × (words ≡ proof ∷ setting_words p.0 p.1)
+inductive_alone (commands.Clauses n o) k words g = let is = g.0 in cc
 inductive_alone (commands.Window n form o) k words g = let is = g.0 in cc
 inductive_alone (commands.Refuted n o) k words g = let is = g.0 in cc
 inductive_alone (commands.Inductive n form o) k words g = ((form, o), ap (λ m. commands.Inductive m form o) (sym g.1), g.2.0, g.2.1)
@@ -124,6 +136,7 @@ inductive_alone (commands.Witness n o) k words g = let is = g.0 in cc
 inductive_alone commands.Run k words g = absurd g.2
 
 witness_alone : (c : Command) (k : ℕ) (words : List (List ℕ)) → GiveLast (codes "witness") k words c → (o : Bool) × (c ≡ commands.Witness k o) × (solution : List ℕ) × (words ≡ solution ∷ clause_words o)
+witness_alone (commands.Clauses n o) k words g = absurd (clauses_witness (sym g.0))
 witness_alone (commands.Window n form o) k words g = let is = g.0 in cc
 witness_alone (commands.Refuted n o) k words g = absurd (refuted_witness (sym g.0))
 witness_alone (commands.Inductive n form o) k words g = let is = g.0 in cc
@@ -169,6 +182,7 @@ with_number words name file steps last are n number k has r tells c = (
 
 -- there are enough words
 pub enough : (c : Command) (words : List (List ℕ)) → AreLast c words → needed_words c ≤ 3 + length words
+enough (commands.Clauses k o) words last = omega arith
 enough (commands.Window k form o) words last = omega arith
 enough (commands.Refuted k o) words last = omega (arith, ap length last.1)
 enough (commands.Inductive k form o) words last = omega (arith, ap length last.1)
@@ -195,6 +209,7 @@ run_told words name file witness are told one other = (
 )
 
 only_run : (words : List (List ℕ)) → Give words commands.Run → (d : Command) → Give words d → commands.Run ≡ d
+only_run words r (commands.Clauses k o) g = let is = sym r.2 ∙ g.3 in cc
 only_run words r (commands.Window k form o) g = let is = sym r.2 ∙ g.3 in cc
 only_run words r (commands.Refuted k o) g = let is = sym r.2 ∙ g.3 in cc
 only_run words r (commands.Inductive k form o) g = let is = sym r.2 ∙ g.3 in cc
@@ -206,6 +221,7 @@ run_exactly words r d = (λ is. subst (Give words) (same_Some _ _ is) r, λ g. a
 
 -- words that don't give run give what names a step
 pub steps_exactly : (words : List (List ℕ)) (told : Option Command) → ((c : Command) → (told ≡ Some c) ↔ GiveSteps words c) → ¬ Give words commands.Run → (d : Command) → (told ≡ Some d) ↔ Give words d
+steps_exactly words told exact not (commands.Clauses k o) = exact (commands.Clauses k o)
 steps_exactly words told exact not (commands.Window k form o) = exact (commands.Window k form o)
 steps_exactly words told exact not (commands.Refuted k o) = exact (commands.Refuted k o)
 steps_exactly words told exact not (commands.Inductive k form o) = exact (commands.Inductive k form o)

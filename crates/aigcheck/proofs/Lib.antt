@@ -1,2 +1,5 @@
 mod Giving
+mod Commenting
+mod Memory
+mod Placing
 mod Shown

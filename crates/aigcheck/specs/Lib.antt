@@ -1,2 +1,3 @@
 pub mod Words
+pub mod Comments
 pub mod Running

@@ -18,11 +18,13 @@ use Rattle.aig_answers.specs.Answers.{IsAsked, TellsOfFile}
 use Rattle.aig_reader.specs.declared.error.ReadError.TheVariants as read
 use Rattle.aig_witness_check.specs.declared.file.ShowError.TheVariants as shows
 use Rattle.aig_witness_check.specs.declared.file.Shown.{Shown}
-use Rattle.aig_encode.specs.Encoding.{TookFile}
+use Rattle.aig_encode.specs.declared.further.Query.{Query}
+use Rattle.aig_encode.specs.Encoding.{IsQuery, TookFile}
 use Rattle.aig_witness.specs.Witness.{Witness, witness_text}
 use Rattle.aig_witness_check.specs.Machine.{ShowsBad}
 use Rattle.aig_witness_check.specs.Files as witnesses
 use Rattle.aig_witness_check.specs.Files.{ShowsNext}
+use Rattle.aigcheck.specs.Comments.{comments_of, named_text}
 use Rattle.aigcheck.specs.declared.command.Command.{Command}
 use Rattle.aigcheck.specs.declared.command.Command.TheVariants as commands
 use Rattle.aigcheck.specs.declared.tool.CheckError.{CheckError}
@@ -40,11 +42,17 @@ window_line k = codes "no bad state at any step, if none up to step " ++ (decima
 
 -- the line of a bad state property, and of a step at which it is shown
 abbrev pub shown_line : ℕ → ℕ → List ℕ
-shown_line bad step = codes "b" ++ (decimal bad ++ 32 ∷ []) ++ codes "at step " ++ (decimal step ++ 10 ∷ [])
+shown_line bad step = named_text (codes "b") bad step 10
 
 -- the line of the bad state of the file's machine that the next of the witnesses that are given shows
 abbrev pub IsShownLine : Option (List ℕ) → File → List ℕ → Type 0
 IsShownLine given f text = (shown : Shown) × ShowsNext given f shown × (text ≡ shown_line shown.bad shown.step)
+
+-- the text of the file's query: comments that say where inputs, latches and bad literals stand, and then the clauses
+pub record IsClausesText (f : File) (k : ℕ) (optimize : Bool) (text : List ℕ) : Type 0 where
+  pub query : Query
+  pub asks : IsQuery k optimize f query
+  pub exact : text ≡ comments_of query.encoded.circuit query.encoded.unrolled k ++ dimacs_of (length query.encoded.clauses) (clauses_in query.encoded.clauses ++ query.extra)
 
 -- the text of clauses that ask for a window, from which a plain reader reads just these again
 pub record IsWindowText (form : Window) (f : File) (k : ℕ) (optimize : Bool) (text : List ℕ) : Type 0 where
@@ -63,6 +71,7 @@ pub record IsWitnessText (f : File) (k : ℕ) (text : List ℕ) : Type 0 where
 
 -- what the command puts into its writer for the file and what is given beside it, and what is then so of the file's machine
 abbrev pub Answers : Command → Option (List ℕ) → File → List ℕ → Type 0
+Answers (commands.Clauses k optimize) given f text = IsClausesText f k optimize text
 Answers (commands.Window k form optimize) given f text = IsWindowText form f k optimize text
 Answers (commands.Refuted k optimize) given f text = (text ≡ step_line k) × IsSafeAt f k
 Answers (commands.Inductive k form optimize) given f text = (text ≡ window_line k) × IsKInductive form f k × (IsSafeTo f k → (n : ℕ) → IsSafeTo f n)
@@ -71,6 +80,7 @@ Answers commands.Run given f text = IsShownLine given f text
 
 -- how many further steps the command makes
 abbrev pub steps_of : Command → ℕ
+steps_of (commands.Clauses k optimize) = k
 steps_of (commands.Window k form optimize) = k + 1
 steps_of (commands.Refuted k optimize) = k
 steps_of (commands.Inductive k form optimize) = k + 1

@@ -22,6 +22,7 @@ setting_words form optimize = form_words form ++ clause_words optimize
 
 -- the step that it names, and 0 where it names none
 abbrev pub step_of : Command → ℕ
+step_of (commands.Clauses k optimize) = k
 step_of (commands.Window k form optimize) = k
 step_of (commands.Refuted k optimize) = k
 step_of (commands.Inductive k form optimize) = k
@@ -30,6 +31,7 @@ step_of commands.Run = 0
 
 -- the word that names a command
 abbrev pub name_of : Command → List ℕ
+name_of (commands.Clauses k optimize) = codes "clauses"
 name_of (commands.Window k form optimize) = codes "window"
 name_of (commands.Refuted k optimize) = codes "refuted"
 name_of (commands.Inductive k form optimize) = codes "inductive"
@@ -38,6 +40,7 @@ name_of commands.Run = codes "run"
 
 -- the words behind K: PROOF or SOLUTION, if the command wants one, and the settings
 abbrev pub AreLast : Command → List (List ℕ) → Type 0
+AreLast (commands.Clauses k optimize) words = words ≡ clause_words optimize
 AreLast (commands.Window k form optimize) words = words ≡ setting_words form optimize
 AreLast (commands.Refuted k optimize) words = (proof : List ℕ) × (words ≡ proof ∷ clause_words optimize)
 AreLast (commands.Inductive k form optimize) words = (proof : List ℕ) × (words ≡ proof ∷ setting_words form optimize)
@@ -55,6 +58,7 @@ Give words c = GiveSteps words c
 
 -- how many words there are at least
 abbrev pub needed_words : Command → ℕ
+needed_words (commands.Clauses k optimize) = 3
 needed_words (commands.Window k form optimize) = 3
 needed_words (commands.Refuted k optimize) = 4
 needed_words (commands.Inductive k form optimize) = 4

@@ -11,6 +11,13 @@ use aig_words::steps;
 /// What the program is asked to do.
 #[derive(Clone, Copy, Debug, PartialEq, Eq)]
 pub enum Command {
+    /// Print the clauses that ask for a bad state at step `k`, and which literals stand for what.
+    Clauses {
+        /// The step.
+        k: usize,
+        /// Whether exclusive ors and choices have clauses of their own.
+        optimize: bool,
+    },
     /// Print the clauses that ask for a window of `k + 2` steps with a bad state first at its end.
     Window {
         /// How many steps come before the last two.
@@ -92,6 +99,10 @@ fn parse_last(name: &str, k: usize, words: &[String]) -> Option<Command>
     if name == "window" {
         let (form, optimize) = settings(words)?;
         return Some(Command::Window { k, form, optimize });
+    }
+    if name == "clauses" {
+        let optimize = clause_setting(words)?;
+        return Some(Command::Clauses { k, optimize });
     }
     let [_, words @ ..] = words else {
         return None;

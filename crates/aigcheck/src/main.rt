@@ -5,6 +5,8 @@ ghost use Rattle.std.specs.Prelude.{◌<◌, ◌≤◌, ◌^◌, length};
 ghost use Rattle.aigcheck.specs.Words.{needed_words, step_of};
 
 mod command;
+mod comments;
+mod line;
 mod tool;
 
 use aig_base::{FromRead, ToWrite};
@@ -15,10 +17,12 @@ use std::process::ExitCode;
 use std::rt::{Env, Files};
 use std::{env, io};
 pub use tool::{
-    CheckError, print_inductive, print_refuted, print_run, print_window, print_witness,
+    CheckError, print_clauses, print_inductive, print_refuted, print_run, print_window,
+    print_witness,
 };
 
-const USAGE: &str = "usage: aigcheck window FILE K [distinct] [raw], refuted FILE K PROOF [raw], \
+const USAGE: &str =
+    "usage: aigcheck clauses FILE K [raw], window FILE K [distinct] [raw], refuted FILE K PROOF [raw], \
     inductive FILE K PROOF [distinct] [raw], witness FILE K SOLUTION [raw], run FILE WITNESS";
 
 /// The words after the program's name.
@@ -54,6 +58,7 @@ fn print(
         Command::Window { k, form, optimize } => {
             print_window(alloc, k, form, optimize, &mut r, &mut sink)?;
         }
+        Command::Clauses { k, optimize } => print_clauses(alloc, k, optimize, &mut r, &mut sink)?,
         Command::Refuted { k, optimize } => {
             let mut proof = open(rt, words[3].as_str())?;
             print_refuted(alloc, k, optimize, &mut r, &mut proof, &mut sink)?;

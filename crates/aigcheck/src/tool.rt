@@ -1,7 +1,10 @@
 //! What the commands do with the bytes of a file, and of a proof, a solver's answer or a witness.
 
-ghost use Rattle.std.specs.Prelude.{◌≡◌, ◌<◌, ◌^◌, ◌++◌, ◌∷◌, [], IfOk, IsErrOf, IsTrue, None, decimal};
+ghost use Rattle.std.specs.Prelude.{◌≡◌, ◌<◌, ◌^◌, ◌++◌, ◌∷◌, [], IfOk, IsErrOf, IsTrue, None, decimal, length};
 ghost use Rattle.aig_answers.specs.Answers.{IsAsked, TellsOfFile};
+ghost use Rattle.aig_answers.specs.declared.error.AnswerError.TheVariants as answers;
+ghost use Rattle.aig_base.specs.Clauses.{AreBelow};
+ghost use Rattle.aig_encode.specs.declared.error.EncodeError.TheVariants as encode;
 ghost use Rattle.aig_encode.specs.Encoding.{IsQuery};
 ghost use Rattle.aig_reader.specs.Reading.{IsOfFile};
 ghost use Rattle.aig_writer.specs.Sinks.{BuffersOrStops, WritesOrStops};
@@ -9,12 +12,14 @@ ghost use Rattle.aigcheck.specs.Running.{Runs, shown_line};
 ghost use Rattle.aigcheck.specs.declared.tool.CheckError.TheVariants as errors;
 
 use crate::command::Command;
+use crate::comments::write_comments;
+use crate::line::buffer_named;
 use aig_answers::{AnswerError, Window, check_step, check_window, window};
-use aig_base::{Sink, Source, StreamFault};
+use aig_base::{MemoryError, Sink, Source, StreamFault};
 use aig_certify::inductive_windows_are_safe;
 use aig_dimacs::write_dimacs;
 use aig_encode::{Query, query};
-use aig_solutions::{CheckedWitnessError, SolutionError, checked_witness};
+use aig_solutions::{CheckedWitnessError, Places, SolutionError, checked_witness};
 use aig_witness::write_witness;
 use aig_witness_check::{ShowError, Shown, check_witness, known_witnesses_show};
 use aig_writer::OutputBuffer;
@@ -52,6 +57,14 @@ impl From<AnswerError> for CheckError {
 
     fn from(error: AnswerError) -> CheckError {
         CheckError::Answer(error)
+    }
+}
+
+impl From<MemoryError> for CheckError {
+    ghost from_gives = { λ _ r. r ≡ errors.Answer (answers.Encode encode.Memory) };
+
+    fn from(error: MemoryError) -> CheckError {
+        CheckError::Answer(AnswerError::from(error))
     }
 }
 
@@ -112,10 +125,7 @@ fn buffer_shown<W: Sink>(
     ensures { let line = shown_line shown.bad shown.step in
         BuffersOrStops W.held W.failed buffer.old w.old result line buffer.new w.new }
 {
-    buffer.write_bytes(w, b"b")?;
-    buffer.write_number(w, shown.bad, b' ')?;
-    buffer.write_bytes(w, b"at step ")?;
-    buffer.write_number(w, shown.step, b'\n')
+    buffer_named(buffer, w, b"b", shown.bad, shown.step, b'\n')
 }
 
 /// Writes the line of a bad state that is shown.
@@ -193,12 +203,34 @@ fn asked_query<R: Source>(
     ensures answer { IfOk result (IsOfFile (IsAsked LIMIT k) (IsQuery k optimize)
         (R.left r.old) (R.left r.new)) }
     ensures file { TellsOfFile R.left R.failed LIMIT k result r.old r.new }
+    // The further clauses are of variables that are there.
+    ensures below { IfOk result (λ q. AreBelow (length q.encoded.clauses) q.extra) }
 {
     let asked = query(alloc, r, LIMIT, k, optimize)?;
     if asked.encoded.circuit.bads().is_empty() {
         return Err(AnswerError::NoBads);
     }
     Ok(asked)
+}
+
+/// Prints the clauses of the query of a file for step `k`, as `write_dimacs` does, and before them comments that say which
+/// literals stand for its inputs at each step, its latches at step 0, and its bad state properties at step `k`. Asks that `k`
+/// is below 2^32.
+pub fn print_clauses<R: Source, W: Sink>(
+    alloc: Global,
+    k: usize,
+    optimize: bool,
+    r: &mut R,
+    w: &mut W,
+) -> Result<(), CheckError>
+    requires { k < 2 ^ 32 }
+    ensures { let command = Command.Clauses k optimize in
+        Runs R.left R.failed W.held W.failed command LIMIT None r.old w.old result r.new w.new }
+{
+    let asked = asked_query(alloc, k, optimize, r)?;
+    let places = Places::new(alloc, &asked.encoded.circuit)?;
+    write_comments(w, &asked, &places, k)?;
+    Ok(write_dimacs(w, &asked.encoded.clauses, &asked.extra)?)
 }
 
 /// Reads a solver's answer to the query of a file for step `k`, and prints the witness that it says, which was checked. Asks
