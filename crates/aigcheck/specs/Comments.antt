@@ -1,3 +1,4 @@
+-- Part of what is promised.
 -- Comments that say which literals of a query's clauses stand for inputs, latches and bad state properties. (DIMACS CNF format; bounded
 -- model checking: time frames.)
 use Rattle.std.specs.Prelude.{ℕ, ◌+◌, true, List, [], ◌∷◌, ◌++◌, codes, decimal}
