@@ -2,7 +2,7 @@
 """Asks whether the machine of an AIGER file can reach a bad state, and believes no solver.
 
 For k = 0, 1, .. up to BOUND it asks a SAT solver about step k (`aigtool query`), and where k is 0 or a power of two about a
-window of k + 2 steps (`aigcheck window`). What the solver answers goes to `aigcheck`, which checks it against FILE, a proof while
+window of k + 2 steps (`aigcheck window`). What the solver answers goes to `aigcheck`, which checks it against FILE, proofs while
 the next question is asked: a proof that there is no solution, or a solution for a step, which is a run to a bad state. That run's
 first state and inputs are printed by their names. Once the steps 0 to k and a window are checked, no bad state is ever reached.
 
@@ -27,6 +27,8 @@ import sys
 import tempfile
 
 CRATES = os.path.join(os.path.dirname(os.path.dirname(os.path.realpath(__file__))), "crates")
+# How many proofs are checked at once, beside the next question.
+CHECKS = 2
 PLAIN = re.compile(r"(?![ilb][0-9]+(:|$))[!#-<>-\[\]-~]+")
 
 
@@ -103,14 +105,14 @@ class Shown:
 
 
 class Prover:
-    """The programs, the file, the solver, and the check of a proof that goes on beside the next question."""
+    """The programs, the file, the solver, and the checks of proofs that go on beside the next question."""
 
     def __init__(self, words, folder, checker):
         self.words, self.solver = words, words.solver or cadical()
-        self.checker, self.checking = checker, None
-        self.file, self.clauses, self.proof, self.checked_proof, self.solution = (
-            os.path.join(folder, name) for name in ["file", "clauses.cnf", "proof", "proof.checked", "solution"]
-        )
+        self.checker, self.checking = checker, collections.deque()
+        self.file, self.clauses, self.solution = (os.path.join(folder, name) for name in ["file", "clauses.cnf", "solution"])
+        # The first is the solver's, and the others may be being checked.
+        self.proofs = collections.deque(os.path.join(folder, f"proof{i}") for i in range(CHECKS + 1))
         # Every answer is about the same bytes.
         with open(words.file, "rb") as given, open(self.file, "wb") as out:
             shutil.copyfileobj(given, out)
@@ -120,7 +122,7 @@ class Prover:
         with open(self.clauses, "wb") as out:
             run([program, command, self.file, str(k), *form], [0], out)
         with open(self.solution, "wb") as out:
-            _, status = run([*self.solver, self.clauses, self.proof], [10, 20], out)
+            _, status = run([*self.solver, self.clauses, self.proofs[0]], [10, 20], out)
         return status == 10
 
     def checked(self, command, k, given, *form):
@@ -128,16 +130,15 @@ class Prover:
         return run([self.words.aigcheck, command, self.file, str(k), given, *form], [0])[0]
 
     def check(self, command, k, *form):
-        """Begins to check the proof, once the one before is checked."""
-        self.finish()
-        self.proof, self.checked_proof = self.checked_proof, self.proof
-        self.checking = self.checker.submit(self.checked, command, k, self.checked_proof, *form)
+        """Begins to check the proof, once there is room beside those that are being checked."""
+        self.finish(CHECKS - 1)
+        self.checking.append(self.checker.submit(self.checked, command, k, self.proofs[0], *form))
+        self.proofs.rotate()
 
-    def finish(self):
-        """Waits for the check of a proof, and prints what it shows."""
-        if self.checking is not None:
-            print(self.checking.result(), end="", flush=True)
-            self.checking = None
+    def finish(self, left=0):
+        """Waits for all checks of proofs but so many, and prints what they show."""
+        while len(self.checking) > left:
+            print(self.checking.popleft().result(), end="", flush=True)
 
     def prove(self):
         """Asks step by step, and gives the exit status."""
@@ -212,7 +213,7 @@ class Words(optparse.OptionParser):
 def main():
     words = Words().parse(sys.argv[1:])
     try:
-        with tempfile.TemporaryDirectory() as folder, concurrent.futures.ThreadPoolExecutor(1) as checker:
+        with tempfile.TemporaryDirectory() as folder, concurrent.futures.ThreadPoolExecutor(CHECKS) as checker:
             status = Prover(words, folder, checker).prove()
             sys.stdout.flush()
     except KeyboardInterrupt:
