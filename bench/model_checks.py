@@ -1,0 +1,80 @@
+#!/usr/bin/env python3
+"""Measures examples/prove.py beside the questions that it asks: model_checks.py [GATES [BOUND]]
+
+It makes a file of GATES (10000) gates in which tokens go through 52 stages, so that the bad state, which is four tokens in the
+last one, isn't reached up to step BOUND (50). Each row has seconds of processor time and by the clock, all programs together: of
+`aigtool query` and cadical for all steps, of these and `aigcheck window` and cadical for the windows, and of prove.py, which asks
+the same and has the answers checked; and what part of the first two the last is.
+"""
+import os
+import random
+import subprocess
+import sys
+import tempfile
+import time
+
+TOP = os.path.join(os.path.dirname(os.path.abspath(__file__)), "..")
+PROVE = os.path.join(TOP, "examples", "prove.py")
+TOOL, CHECK = (os.path.join(TOP, "crates", name, "out", name) for name in ["aigtool", "aigcheck"])
+TOKENS, STAGES = 16, 52
+
+
+def pipeline(gates):
+    """The text of a file of so many gates, where tokens go on or stay as random gates say."""
+    rng = random.Random(1)
+    inputs = [2 * v for v in range(1, TOKENS + 1)]
+    latches = [2 * v for v in range(TOKENS + 1, TOKENS * (STAGES + 1) + 1)]
+    made, pool = [], inputs + latches
+
+    def both(left, right):
+        made.append((2 * (len(inputs) + len(latches) + len(made) + 1), max(left, right), min(left, right)))
+        return made[-1][0]
+
+    while len(made) < gates - 3 * len(latches) - 4:
+        pool.append(both(rng.choice(pool[-300:]) ^ rng.randrange(2), rng.choice(pool) ^ rng.randrange(2)))
+    nexts = []
+    for before, latch in zip(inputs + latches, latches):
+        goes, stays = both(before, rng.choice(pool) ^ rng.randrange(2)), both(latch, rng.choice(pool) ^ 1)
+        nexts.append(both(goes ^ 1, stays ^ 1) ^ 1)
+    bad = 1
+    for latch in latches[-4:]:
+        bad = both(bad, latch)
+    header = ["aag", len(inputs) + len(latches) + len(made), len(inputs), len(latches), 0, len(made), 1]
+    lines = [header, *([literal] for literal in inputs), *zip(latches, nexts), [bad], *made]
+    return "".join(" ".join(map(str, line)) + "\n" for line in lines)
+
+
+def measured(call):
+    """Seconds of processor time of the programs that a call runs, and by the clock."""
+    clock, before = time.monotonic(), os.times()
+    call()
+    after = os.times()
+    programs = after.children_user + after.children_system - before.children_user - before.children_system
+    return programs, time.monotonic() - clock
+
+
+def ask(words, folder):
+    """Prints clauses and has them solved."""
+    clauses, proof = (os.path.join(folder, name) for name in ["clauses.cnf", "proof"])
+    with open(clauses, "wb") as out:
+        subprocess.run(words, stdout=out, check=True)
+    subprocess.run(["cadical", "-q", "--no-binary", clauses, proof], stdout=subprocess.DEVNULL)
+
+
+def main():
+    gates, bound = [int(word) for word in sys.argv[1:]] + [10000, 50][len(sys.argv) - 1 :]
+    with tempfile.TemporaryDirectory() as folder:
+        file = os.path.join(folder, "made.aag")
+        with open(file, "w", encoding="ascii") as out:
+            out.write(pipeline(gates))
+        steps = measured(lambda: [ask([TOOL, "query", file, str(k)], folder) for k in range(bound + 1)])
+        windows = measured(lambda: [ask([CHECK, "window", file, str(k)], folder) for k in range(bound + 1) if k & (k - 1) == 0])
+        proved = measured(lambda: subprocess.run([PROVE, file, str(bound)], stdout=subprocess.DEVNULL, check=True))
+    asked = [step + window for step, window in zip(steps, windows)]
+    for name, times in [("query and solver", steps), ("with windows", asked), ("prove.py", proved)]:
+        print(f"| {name} | {times[0]:.1f} s | {times[1]:.1f} s |")
+    for name, times in [("query and solver", steps), ("query, window and solver", asked)]:
+        print(f"prove.py / {name}: {proved[0] / times[0]:.2f} of processor time, {proved[1] / times[1]:.2f} by the clock")
+
+
+main()
