@@ -59,7 +59,10 @@ fn a_caller_makes_an_exclusive_or(rt: HostRuntime) -> Result<(), Fail> {
     let either = exclusive_or(&mut aig, AigEdge::from(1), AigEdge::from(2))?;
     let (f, t) = (Lbool::FALSE, Lbool::TRUE);
     for (one, other, value) in [(f, f, f), (f, t, t), (t, f, t), (t, t, f)] {
-        assert_eq!(rt; last_value(rt.alloc(), &aig, &[one, other], either)?, Some(value));
+        assert_eq!(rt;
+            last_value(rt.alloc(), &aig, &[one, other], either)?,
+            Some(value)
+        );
     }
     Ok(())
 }
