@@ -1,7 +1,6 @@
 //! The calls of the library on circuits, as users make them, and literals, three values and clauses.
 
 mod building;
-mod callers;
 mod changing;
 mod clauses;
 mod cones;
