@@ -7,7 +7,9 @@ without parameters and result; those of all crates count but of one that serves 
 by the `use` lines to the definition in specs/, and on through the words of that.
 
 The first line of each file of specs/ says who reads it: whoever wants to know what the calls promise, whoever cites laws, or
-only who changes code. This fails where that line is wrong. --list prints every definition, --mark writes the lines.
+only who changes code. And `specs/Lib.antt` of aig and of aig_encode passes on each file of other crates that the crate's promises
+rest on, so that a caller's crate names these two. This fails where a line is wrong. --list prints every definition, --mark writes
+the lines.
 
 It is a search of text and no compiler. It takes a word for each definition that the word can name, so it may count too many.
 """
@@ -26,6 +28,8 @@ CALLS = [
         "aig_answers", "aig_reduction", "aig_refutation", "aig_witness", "aig_witness_check", "aig_solutions", "aig_dimacs"]),
 ]
 LAWS = "with the laws"
+# The crates that pass on what their promises rest on, each but for what those before it do.
+PASS_ON = ["aig", "aig_encode"]
 # Its laws join a reader on lists, of which no contract speaks, to the format.
 SERVES_PROOFS = "aig_parsing"
 
@@ -313,7 +317,35 @@ def layers(root):
         more, of_std = closed(promised_words(code, names, takes), specs, code)
         found, std = found | more, std | of_std
         out.append((title, found, std))
-    return specs, out
+    return specs, code, out
+
+
+def passed_on(specs, code, crate, before):
+    """The lines by which a crate passes on the files of others that its promises rest on, but for the files before: a file has
+    its own name, and its crate's before it where a file of the crate or of a lower one has that name."""
+    words, _ = closed(promised_words(code, [crate], lambda part: part is None or not part.is_law), specs, code)
+    files = {word[:2] for word in words} - before
+    taken = {module for owner, module in specs.paths if owner == crate}
+    lines = []
+    for owner in code.crates:
+        for module in sorted(module for home, module in files if home == owner != crate):
+            name = module.removeprefix("specs.")
+            of_owner = "".join(part.capitalize() for part in owner.split("_")[1:])
+            alias = "" if module not in taken else " as " + of_owner + name
+            taken.add(module)
+            lines.append("pub use Rattle.%s.%s%s" % (owner, module, alias))
+    return lines, files
+
+
+def lists_of_specs(root, specs, code):
+    """The files specs/Lib.antt that pass on others' files, each with the text that it has to have."""
+    before = set()
+    for crate in PASS_ON:
+        lines, files = passed_on(specs, code, crate, before)
+        before |= files
+        path = os.path.join(root, "crates", crate, "specs", "Lib.antt")
+        own = [line for line in read(path).split("\n") if line and not line.startswith("pub use ")]
+        yield path, "\n".join(own + lines) + "\n"
 
 
 def wanted_mark(file, files_of_calls, files_of_laws):
@@ -326,7 +358,7 @@ def main():
     option = sys.argv[1] if len(sys.argv) > 1 else ""
     if option not in ("", "--list", "--mark"):
         sys.exit(__doc__)
-    specs, found = layers(ROOT)
+    specs, code, found = layers(ROOT)
     for title, words, std in found:
         files = {word[:2] for word in words}
         print("%-45s %3d definitions, %4d lines, %2d files of %2d crates, over %2d words of std" % (
@@ -352,6 +384,15 @@ def main():
         else:
             wrong += 1
             print("%s: the first line has to be '%s'" % (os.path.relpath(path, ROOT), mark))
+    for path, text in lists_of_specs(ROOT, specs, code):
+        if read(path) == text:
+            continue
+        if option == "--mark":
+            with open(path, "w", encoding="utf-8") as out:
+                out.write(text)
+        else:
+            wrong += 1
+            print("%s: passes on other files than its promises rest on" % os.path.relpath(path, ROOT))
     sys.exit(1 if wrong else 0)
 
 
