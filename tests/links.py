@@ -2,8 +2,9 @@
 """Holds the links and the Rust of README.md and docs/*.md against the repository: links.py
 
 Each relative link has to lead to a file or folder of the repository, and its anchor to a heading of that page, by the rule of
-GitHub. A name in a code span that is the text of a link to a file of code or definitions has to stand in that file. Each block of
-the kind `rust` has to stand, line by line, in a file of crates/ or examples/.
+GitHub. A name in a code span that is the text of a link to a file of code or definitions has to stand in that file. A code span that
+is the path of such a file, or of a script, has to be one of the repository or of crates/. Each block of the kind `rust` has to
+stand, line by line, in a file of crates/ or examples/.
 """
 import glob
 import os
@@ -12,6 +13,7 @@ import sys
 
 TOP = os.path.normpath(os.path.join(os.path.dirname(os.path.abspath(__file__)), ".."))
 BLOCK = re.compile(r"^```(\w*)[^\n]*\n(.*?)^```$", re.DOTALL | re.MULTILINE)
+PATH = re.compile(r"`([\w.-]+/[\w./-]+\.(?:rt|antt|py|sh|md))`")
 LINK = re.compile(r"\[([^\]]*)\]\(([^)\s]*)\)")
 CODE = (".rt", ".antt")
 
@@ -49,6 +51,14 @@ def link_faults(page, text):
                     yield "%s doesn't stand in %s" % (name, target)
 
 
+def path_faults(text):
+    """The paths in code spans that lead nowhere."""
+    for path in PATH.findall(BLOCK.sub("", text)):
+        starts = (TOP, os.path.join(TOP, "crates"))
+        if not any(os.path.exists(os.path.join(start, path)) for start in starts) and not glob.glob(os.path.join(TOP, "crates", "*", path)):
+            yield "no such file: " + path
+
+
 def rust_faults(text, sources):
     """The blocks of Rust that stand in no source."""
     for kind, block in BLOCK.findall(text):
@@ -64,7 +74,7 @@ def main():
     for page in pages:
         text = read(page)
         links += len(LINK.findall(text))
-        for fault in [*link_faults(page, text), *rust_faults(text, sources)]:
+        for fault in [*link_faults(page, text), *path_faults(text), *rust_faults(text, sources)]:
             wrong += 1
             print("%s: %s" % (os.path.relpath(page, TOP), fault))
     print("%d pages, %d links, %d faults" % (len(pages), links, wrong))
