@@ -37,14 +37,17 @@ def lines_below(names):
 
 
 def copy(folder, proved):
-    """The repository of the caller; says which crates it has."""
+    """The repository of the caller, with the files that it reads in the folder that it is run in; says which crates it has."""
     lines = lines_below(STANDS_ON)
     for name in lines:
         if proved and not os.path.isdir(os.path.join(TOP, "crates", name, "out")):
             sys.exit("not proved here: crates/%s" % name)
         leave = shutil.ignore_patterns() if proved else shutil.ignore_patterns("out")
         shutil.copytree(os.path.join(TOP, "crates", name), os.path.join(folder, "crates", name), symlinks=True, ignore=leave)
-    shutil.copytree(CALLER, os.path.join(folder, "crates", "caller"), ignore=shutil.ignore_patterns("out"))
+    caller = os.path.join(folder, "crates", "caller")
+    shutil.copytree(CALLER, caller, ignore=shutil.ignore_patterns("out"))
+    for name in os.listdir(os.path.join(caller, "data")):
+        shutil.copy(os.path.join(caller, "data", name), caller)
     for name in ("crates.txt", "HANDLES"):
         with open(os.path.join(folder, name), "w", encoding="utf-8") as file:
             file.write("\n".join(lines.values()) + "\n" + LINE if name == "crates.txt" else read(TOP, name))
@@ -56,10 +59,13 @@ def try_in(folder, proved):
     caller = os.path.join(folder, "crates", "caller")
     print("%d crates in %s" % (len(crates), folder), flush=True)
     begin = time.monotonic()
-    built = subprocess.run(["rt", "run"], cwd=caller, stdin=subprocess.DEVNULL, stdout=subprocess.DEVNULL)
-    minutes = (time.monotonic() - begin) / 60
-    print("rt run: status %d after %.1f minutes" % (built.returncode, minutes))
-    return built.returncode
+    ran = subprocess.run(["rt", "run"], cwd=caller, stdin=subprocess.DEVNULL, stdout=subprocess.PIPE, encoding="utf-8")
+    same = ran.stdout == read(CALLER, "stdout")
+    if not same:
+        print("printed:\n" + ran.stdout)
+    print("proved and run in %.1f minutes, status %d, %s" % (
+        (time.monotonic() - begin) / 60, ran.returncode, "as wanted" if same else "not as wanted"))
+    return 0 if same and ran.returncode == 0 else 1
 
 
 def main():
