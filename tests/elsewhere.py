@@ -1,9 +1,10 @@
 #!/usr/bin/env python3
 """Proves a caller in a repository of its own: elsewhere.py [--proved] [FOLDER]
 
-Makes FOLDER, or a new one that goes again, copies the crates that the caller stands on and their lines of crates.txt, and the caller
-of examples/caller beside them, proves and builds it there with `rt run`, and compares what it prints with its file stdout. Says how
-long that took. With --proved what was proved here is copied too (crates/NAME/out), so that the caller alone is proved. Run by hand.
+Makes FOLDER, or a new one that goes again, copies the crates that the caller of examples/caller stands on, with their lines of
+crates.txt, and the caller beside them, proves, builds and runs it there with `rt run`, and compares what it prints with its file
+stdout. Says how long that took. With --proved what was proved here is copied too (crates/NAME/out), so that the caller alone is
+proved. Run by hand.
 """
 import os
 import shutil

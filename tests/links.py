@@ -1,10 +1,10 @@
 #!/usr/bin/env python3
-"""Holds the links and the Rust of README.md and docs/*.md against the repository: links.py
+"""Holds the links, the paths and the Rust of README.md and docs/*.md against the repository: links.py
 
 Each relative link has to lead to a file or folder of the repository, and its anchor to a heading of that page, by the rule of
-GitHub. A name in a code span that is the text of a link to a file of code or definitions has to stand in that file. A code span that
-is the path of such a file, or of a script, has to be one of the repository or of crates/. Each block of the kind `rust` has to
-stand, line by line, in a file of crates/ or examples/.
+GitHub. A name in the text of a link to a file of code or definitions has to stand in that file. A code span that is the path of
+a file, from the top, from crates/ or from a crate, has to lead to one. Each block of the kind `rust` has to stand, line by line,
+in a file of crates/ or examples/.
 """
 import glob
 import os
@@ -24,7 +24,7 @@ def read(path):
 
 
 def anchors(text):
-    """The anchors of a page: a heading in small letters, with hyphens for spaces and without other signs, counted where it comes again."""
+    """The anchors of a page: its headings in small letters, with hyphens for spaces and without other signs."""
     found, times = set(), {}
     for heading in re.findall(r"^#+ +(.*?) *$", BLOCK.sub("", text), re.MULTILINE):
         plain = LINK.sub(r"\1", heading).lower()
@@ -54,8 +54,8 @@ def link_faults(page, text):
 def path_faults(text):
     """The paths in code spans that lead nowhere."""
     for path in PATH.findall(BLOCK.sub("", text)):
-        starts = (TOP, os.path.join(TOP, "crates"))
-        if not any(os.path.exists(os.path.join(start, path)) for start in starts) and not glob.glob(os.path.join(TOP, "crates", "*", path)):
+        starts = [TOP, os.path.join(TOP, "crates"), *glob.glob(os.path.join(TOP, "crates", "*"))]
+        if not any(os.path.exists(os.path.join(start, path)) for start in starts):
             yield "no such file: " + path
 
 
