@@ -28,25 +28,25 @@ use thiserror::Error;
 /// Why a circuit isn't written.
 #[derive(Clone, Copy, Debug, PartialEq, Eq, Error)]
 pub enum WriteError {
-    /// A growth was refused for want of memory.
+    /// Memory was refused.
     #[error("out of memory")]
     Memory = 1,
     /// The writer failed in this call.
     #[error("write failed")]
     Stream = 2,
-    /// The circuit isn't closed.
+    /// A leaf is neither an input nor a latch's.
     #[error("a leaf is neither input nor latch")]
     FreeLeaf = 3,
-    /// Some initial edge isn't constant.
+    /// An initial edge isn't constant.
     #[error("an initial edge is not constant")]
     InitialEdge = 4,
-    /// The name of an input or a latch holds a line feed.
+    /// The name of an input or a latch has a line feed.
     #[error("a name holds a line feed")]
     Name = 5,
     /// There are more than 2^31 nodes, or more than 2^32 - 1 entries in a list or a justice set.
     #[error("too large for the format")]
     TooLarge = 6,
-    /// The file couldn't be made.
+    /// The file can't be made.
     #[error("cannot create")]
     Open = 7,
 }
@@ -78,11 +78,49 @@ fn create_file<R: Files>(rt: &R, f: Path<'_>) -> Result<ToWrite<R::File>, WriteE
 }
 
 impl Aig {
-    /// Reads a circuit from a text or binary file (AIGER format 20071012, with the resets and properties of AIGER 1.9), up to
-    /// the end of the reader.
+    /// Returns the circuit of an AIGER file, text or binary, that is read from `r` up to its end.
     ///
-    /// `limit` is on variables: the greatest variable and one more is at most the limit. Asks `1 <= limit <= 2^31`.
-    /// Which refusal a bad file gets beyond `TooMany`, `Memory` and `Stream` goes by the first line that shows a fault.
+    /// The format is that of 20071012, with the resets and properties of AIGER 1.9 ("Reset logic", "Properties"). Lines
+    /// end with a line feed, and numbers stand one space apart. Variable `v` is node `v`. Only a text file may leave
+    /// out variables or have a gate before its operands: then nodes are numbered by level, the inputs and latches first
+    /// and each gate after its operands, and within a level by variable. Names of inputs and latches are kept, and
+    /// other names and the comment are dropped.
+    ///
+    /// `limit` is on variables, false among them: a file whose greatest variable is `M` has `M + 1`. It bounds the
+    /// memory that is taken for the counts of the header line. All other memory is taken as lines come.
+    ///
+    /// # Requirements
+    ///
+    /// - `1 <= limit <= 2^31`.
+    ///
+    /// # Errors
+    ///
+    /// The first line, or gate of a binary file, that is wrong decides. What `r` has left after an error isn't said.
+    ///
+    /// - `Memory`: memory was refused.
+    /// - `Stream`: a read failed in this call.
+    /// - `Header`: the first line isn't a good header line.
+    /// - `TooMany`: the header line is good, and `M + 1` passes `limit`.
+    /// - `Syntax`: a line of the named section is malformed or cut, or has a number past 2^32 - 1.
+    /// - `Literal`: a number of the named section is no literal that may stand there. Variables that aren't defined,
+    ///   and gates that depend on themselves, are looked for after the last gate.
+    /// - `Delta`: a gate of a binary file is cut, or its differences aren't allowed.
+    /// - `Name`: a name line is malformed or cut, is for no entry or for one that has a name, or names an input or a
+    ///   latch by bytes that aren't UTF-8.
+    /// - `Open`: never.
+    ///
+    /// # Examples
+    ///
+    /// The and of two inputs:
+    ///
+    /// ```
+    /// let file = b"aag 3 2 0 1 1\n2\n4\n6\n6 4 2\n";
+    /// let mut source = FromRead::new(file.as_slice());
+    /// let aig = Aig::from_aiger(alloc, &mut source, 1 << 24)?;
+    /// assert_eq!(rt; aig.num_nodes(), 4);
+    /// assert_eq!(rt; aig.inputs(), [1, 2].as_slice());
+    /// assert_eq!(rt; aig.outputs(), [AigEdge::from(3)].as_slice());
+    /// ```
     pub fn from_aiger<R: Source>(alloc: Global, r: &mut R, limit: usize) -> Result<Aig, ReadError>
         requires some { 1 ≤ limit }
         requires few { limit ≤ 2 ^ 31 }
@@ -107,9 +145,16 @@ impl Aig {
         Ok(Aig::from_lists(lists))
     }
 
-    /// Opens the file of a path, and reads a circuit from it as `from_aiger` does.
+    /// Returns the circuit of the AIGER file at the path `f`, read as `from_aiger` reads it.
     ///
-    /// Answers `Open` where the path couldn't be opened.
+    /// # Requirements
+    ///
+    /// - `1 <= limit <= 2^31`.
+    ///
+    /// # Errors
+    ///
+    /// - `Open`: the path can't be opened.
+    /// - Each other error is one of `from_aiger`.
     pub fn from_file(
         rt: &impl Files,
         alloc: Global,
@@ -130,9 +175,23 @@ impl Aig {
         }
     }
 
-    /// Writes the text form (AIGER format 20071012 and AIGER 1.9). It takes no memory of its own, and doesn't flush.
+    /// Writes the text form to `w` (AIGER format 20071012; AIGER 1.9, "Reset logic" and "Properties").
     ///
-    /// Of the refusals beside a failed writer the first that applies is answered, before any byte is written.
+    /// Of the four counts of AIGER 1.9 the header line has as many as go up to the last that isn't 0. A reset is left
+    /// out where the initial edge is false. Gates come in rising number, with the greater operand first. Names of nodes
+    /// that are neither inputs nor latches are left out. It takes no memory of its own, and doesn't flush `w`.
+    ///
+    /// # Errors
+    ///
+    /// Of the first four the first that applies is returned, before any byte is written: `w` stays as it was.
+    ///
+    /// - `FreeLeaf`: a leaf is neither an input nor a latch's (`is_closed`).
+    /// - `InitialEdge`: an initial edge isn't constant (`gate_init_to_constraint` replaces it).
+    /// - `Name`: the name of an input or a latch has a line feed.
+    /// - `TooLarge`: there are more than 2^31 nodes (`fits_lits`), or more than 2^32 - 1 entries in a list or a justice
+    ///   set.
+    /// - `Stream`: `w` failed in this call. A beginning of the text was written.
+    /// - `Memory`, `Open`: never.
     pub fn write_text<W: Sink>(&self, w: &mut W) -> Result<(), WriteError>
         ensures tells { TellsOf self.now result }
         // All of the text was written, and the writer has not failed.
@@ -153,11 +212,24 @@ impl Aig {
         Ok(aig_writer::write_text(w, &self.view())?)
     }
 
-    /// Writes the binary form (AIGER format 20071012, "Binary encoding", and AIGER 1.9), which is that of `reencode`. It
-    /// doesn't flush.
+    /// Writes the binary form to `w`, which is that of the circuit re-encoded (AIGER format 20071012, "Binary
+    /// encoding").
     ///
-    /// Of the refusals beside a failed writer the first that applies is answered, and `Memory` where none does, before
-    /// any byte is written.
+    /// Properties and names are written as `write_text` writes them, and differences in their shortest spelling. It
+    /// takes memory for one table of new numbers, and doesn't flush `w`.
+    ///
+    /// # Errors
+    ///
+    /// Of the first five the first that applies is returned, before any byte is written: `w` stays as it was.
+    ///
+    /// - `FreeLeaf`: a leaf is neither an input nor a latch's (`is_closed`).
+    /// - `InitialEdge`: an initial edge isn't constant (`gate_init_to_constraint` replaces it).
+    /// - `Name`: the name of an input or a latch has a line feed.
+    /// - `TooLarge`: there are more than 2^31 nodes (`fits_lits`), or more than 2^32 - 1 entries in a list or a justice
+    ///   set.
+    /// - `Memory`: memory was refused.
+    /// - `Stream`: `w` failed in this call. A beginning of the bytes was written.
+    /// - `Open`: never.
     pub fn write_binary<W: Sink>(&self, w: &mut W) -> Result<(), WriteError>
         ensures tells { TellsOf self.now result }
         // All of the bytes were written, and the writer has not failed.
@@ -180,9 +252,19 @@ impl Aig {
         Ok(aig_writer::write_binary(w, &circuit, &numbers)?)
     }
 
-    /// Writes the circuit to the file of a path, in the text form where `ascii` is true, and else in the binary form.
+    /// Writes the circuit to the file at the path `f`: in the text form where `ascii` is true, and else in the binary
+    /// form.
     ///
-    /// The file is made only where no other refusal applies. Answers `Open` where it couldn't be made.
+    /// A file that is there is overwritten, also where a write fails then.
+    ///
+    /// # Errors
+    ///
+    /// The first that applies is returned. The file is made only where none of the first five applies.
+    ///
+    /// - `FreeLeaf`, `InitialEdge`, `Name`, `TooLarge`: where `write_text` returns them.
+    /// - `Memory`: memory was refused. Never of the text form.
+    /// - `Open`: the file can't be made.
+    /// - `Stream`: a write failed. The file holds a beginning of the form.
     pub fn to_file(&self, rt: &impl Files, f: Path<'_>, ascii: bool) -> Result<(), WriteError>
         ensures tells { TellsOf self.now result }
         // Of the text form Memory is never answered.
@@ -265,10 +347,14 @@ impl Aig {
     }
 }
 
-/// Prints the text form, as `write_text` writes it. It takes no memory of its own, and passes over the options of a
-/// placeholder, as its width.
+/// Prints the text form, as `write_text` writes it.
 ///
-/// Answers `fmt::Error` where a refusal of `write_text` applies, before anything is printed, and where the formatter fails.
+/// It takes no memory of its own. The options of a placeholder, as its width, change nothing.
+///
+/// # Errors
+///
+/// - `fmt::Error`: one of the first four errors of `write_text` applies, and nothing is printed; or the formatter
+///   failed.
 impl fmt::Display for Aig {
     ghost output = { λ aig. Some (text_of aig) };
 

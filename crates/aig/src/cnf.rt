@@ -8,13 +8,37 @@ use crate::graph::Aig;
 use aig_base::{DagCnf, MemoryError};
 
 impl Aig {
-    /// The clauses of the gates that the roots reach, with one variable a node, numbered as the node is.
+    /// Returns the clauses of the circuit, with one variable for each node, of the node's number (Tseitin encoding).
     ///
-    /// The roots are all properties, all next and all initial edges. A gate is the and of its operands; variable 0 is
-    /// false. With `optimize` a gate that is an exclusive or or an if-then-else of gates below it is said as such, in
-    /// four clauses: it calls for the nodes that it is one of, and its inner gates have clauses only where something
-    /// else calls for them. The clauses say nothing of the values of bad states, constraints or initial edges. Asks
-    /// `fits_lits`.
+    /// Each assignment that satisfies them gives each property, next and initial edge its value under the assignment's
+    /// leaf values, and the node values under any leaf values satisfy them. They say no more: not that a bad state is
+    /// reached, that a constraint holds, or that a latch begins with its initial value.
+    ///
+    /// Clauses are given to the variable of the node that they define. Variable 0 has the clause that it is false, and
+    /// each gate that is needed has its own: one that such an edge names, or that the clauses of a needed gate name.
+    /// Without `optimize` a gate is encoded as the and of its operands. With `optimize` one that is an exclusive or or
+    /// an if-then-else of gates below it is encoded as such, in four clauses, and its inner gates are needed only where
+    /// something else names them.
+    ///
+    /// # Requirements
+    ///
+    /// - The circuit has at most 2^31 nodes (`fits_lits`).
+    ///
+    /// # Errors
+    ///
+    /// - `Memory`: memory was refused.
+    ///
+    /// # Examples
+    ///
+    /// The exclusive or of two inputs, with its inner gates and without:
+    ///
+    /// ```
+    /// let file = b"aag 5 2 0 1 3\n2\n4\n11\n6 4 2\n8 5 3\n10 9 7\n";
+    /// let mut source = FromRead::new(file.as_slice());
+    /// let aig = Aig::from_aiger(alloc, &mut source, 1 << 24)?;
+    /// assert_eq!(rt; aig.cnf(false)?.num_clauses(), 10);
+    /// assert_eq!(rt; aig.cnf(true)?.num_clauses(), 5);
+    /// ```
     pub fn cnf(&self, optimize: bool) -> Result<DagCnf, MemoryError>
         requires { length self.now.nodes ≤ 2 ^ 31 }
         // The receiver is a circuit, so that what a law says of circuits holds of it.

@@ -29,10 +29,14 @@ pub(crate) const MOST_NODES: usize = 1 << 31;
 
 /// A sequential circuit, kept as an And-Inverter Graph.
 ///
-/// It is a list of nodes: node 0 is false, and every other node is a leaf or the and of two edges to nodes before it.
-/// A node's number is its place in the list. Inputs and the leaves of latches are leaves, and distinct. A leaf that is
+/// It is a list of nodes: node 0 is false, and every other node is a leaf or the and of two edges to nodes before it. A
+/// node's number is its place in the list. Inputs and the leaves of latches are leaves, and distinct. A leaf that is
 /// neither is free. Latches have a next edge and perhaps an initial edge. Beside them stand four lists of property
-/// edges, a list of justice sets, and names of nodes.
+/// edges, a list of justice sets, and names of nodes (AIGER 1.9, "Properties" and "Reset logic").
+///
+/// An edge is of a circuit where the circuit has a node of its number (`has_edge`). Calls that take memory take it from
+/// the allocator that `new`, `from_aiger` or `from_file` was given. A call that returns an error leaves the circuit as
+/// it was.
 #[derive(Drop)]
 pub struct Aig {
     pub(crate) lists: CircuitLists,
@@ -58,7 +62,11 @@ impl Model for Aig {
 }
 
 impl Aig {
-    /// The circuit of the false node alone.
+    /// Returns the circuit of node 0 alone, whose allocator is `alloc`.
+    ///
+    /// # Errors
+    ///
+    /// - `Memory`: memory was refused.
     pub fn new(alloc: Global) -> Result<Aig, MemoryError>
         ensures { IfOk result (λ aig. aig ≡ only_false) }
     {
@@ -101,7 +109,13 @@ impl Aig {
         CircuitView::new(&self.lists)
     }
 
-    /// Adds a free leaf, and answers its number.
+    /// Adds a free leaf, and returns its number.
+    ///
+    /// `add_input` makes it an input, and `add_latch` a latch's.
+    ///
+    /// # Errors
+    ///
+    /// - `Memory`: memory was refused. The circuit stays as it was.
     pub fn new_leaf_node(&mut self) -> Result<usize, MemoryError>
         ensures number { IfOk result (λ id. id ≡ length self.old.nodes) }
         ensures ok { OnOk result
@@ -111,7 +125,11 @@ impl Aig {
         build::new_leaf_node(&mut self.lists.nodes)
     }
 
-    /// Adds a leaf that is an input, and answers its number.
+    /// Adds a leaf that is the last input, and returns its number.
+    ///
+    /// # Errors
+    ///
+    /// - `Memory`: memory was refused. The circuit stays as it was.
     pub fn new_input(&mut self) -> Result<usize, MemoryError>
         ensures number { IfOk result (λ id. id ≡ length self.old.nodes) }
         ensures ok { IfOk result (λ id. self.new ≡ record self.old
@@ -124,7 +142,15 @@ impl Aig {
         Ok(id)
     }
 
-    /// Makes a free leaf, given by its number, an input. Asks `is_free_leaf`.
+    /// Makes a free leaf, given by its number, the last input.
+    ///
+    /// # Requirements
+    ///
+    /// - Node `id` is a free leaf (`is_free_leaf`).
+    ///
+    /// # Errors
+    ///
+    /// - `Memory`: memory was refused. The circuit stays as it was.
     pub fn add_input(&mut self, id: usize) -> Result<(), MemoryError>
         requires leaf { IsLeaf self.old.nodes id }
         requires free { IsFree self.old.inputs self.old.latchs id }
@@ -136,8 +162,19 @@ impl Aig {
         Ok(())
     }
 
-    /// Adds a leaf that is a latch's, with its next edge and perhaps an initial edge, and answers the leaf's number.
-    /// Asks `has_edge` of both edges before the call.
+    /// Adds a leaf with the last latch, and returns the leaf's number.
+    ///
+    /// At each step the latch has the value that `next` had at the step before, and in an initial state the value of
+    /// `init`; without `init` it has either. An edge to a later node is set by `set_next` or `set_init`, or by
+    /// `new_leaf_node` and later `add_latch` in place of this call.
+    ///
+    /// # Requirements
+    ///
+    /// - `next`, and `init` where it is there, are of this circuit before the call (`has_edge`).
+    ///
+    /// # Errors
+    ///
+    /// - `Memory`: memory was refused. The circuit stays as it was.
     pub fn new_latch(&mut self, next: AigEdge, init: Option<AigEdge>) -> Result<usize, MemoryError>
         requires next_edge { IsInRange self.old.nodes next }
         requires init_edge { IfSome init (IsInRange self.old.nodes) }
@@ -154,8 +191,17 @@ impl Aig {
         Ok(id)
     }
 
-    /// Makes a free leaf, given by its number, a latch's, with its next edge and perhaps an initial edge. Asks
-    /// `is_free_leaf`, and `has_edge` of both edges.
+    /// Makes a free leaf, given by its number, the leaf of the last latch, with the next edge `next` and the initial
+    /// edge `init`, if any.
+    ///
+    /// # Requirements
+    ///
+    /// - Node `id` is a free leaf (`is_free_leaf`).
+    /// - `next`, and `init` where it is there, are of this circuit (`has_edge`).
+    ///
+    /// # Errors
+    ///
+    /// - `Memory`: memory was refused. The circuit stays as it was.
     pub fn add_latch(
         &mut self,
         id: usize,
@@ -174,7 +220,7 @@ impl Aig {
         Ok(())
     }
 
-    /// Its nodes: the place of a node is its number.
+    /// Returns the nodes. The place of a node is its number.
     pub fn nodes(&self) -> &[AigNode]
         ensures value { result.now ≡ self.now.nodes }
         ensures circuit { IsCircuit self.now }
@@ -182,7 +228,7 @@ impl Aig {
         &self.lists.nodes
     }
 
-    /// The numbers of its inputs.
+    /// Returns the numbers of the inputs, in their order.
     pub fn inputs(&self) -> &[usize]
         ensures value { result.now ≡ self.now.inputs }
         ensures circuit { IsCircuit self.now }
@@ -190,7 +236,7 @@ impl Aig {
         &self.lists.inputs
     }
 
-    /// Its latches.
+    /// Returns the latches, in their order.
     pub fn latchs(&self) -> &[AigLatch]
         ensures value { result.now ≡ self.now.latchs }
         ensures circuit { IsCircuit self.now }
@@ -198,7 +244,7 @@ impl Aig {
         &self.lists.latchs
     }
 
-    /// The edges of its outputs.
+    /// Returns the edges of the outputs, in their order.
     pub fn outputs(&self) -> &[AigEdge]
         ensures value { result.now ≡ self.now.outputs }
         ensures circuit { IsCircuit self.now }
@@ -206,7 +252,7 @@ impl Aig {
         &self.lists.outputs
     }
 
-    /// The edges of its bad state properties.
+    /// Returns the edges of the bad state properties, in their order.
     pub fn bads(&self) -> &[AigEdge]
         ensures value { result.now ≡ self.now.bads }
         ensures circuit { IsCircuit self.now }
@@ -214,7 +260,7 @@ impl Aig {
         &self.lists.bads
     }
 
-    /// The edges of its invariant constraints.
+    /// Returns the edges of the invariant constraints, in their order.
     pub fn constraints(&self) -> &[AigEdge]
         ensures value { result.now ≡ self.now.constraints }
         ensures circuit { IsCircuit self.now }
@@ -222,7 +268,7 @@ impl Aig {
         &self.lists.constraints
     }
 
-    /// The edges of its justice properties, a set each.
+    /// Returns the justice properties, a set of edges each, in their order.
     pub fn justice(&self) -> &[Vec<AigEdge>]
         ensures value { map (λ set. set.items) result.now ≡ self.now.justice }
         ensures circuit { IsCircuit self.now }
@@ -230,7 +276,7 @@ impl Aig {
         &self.lists.justice
     }
 
-    /// The edges of its fairness constraints.
+    /// Returns the edges of the fairness constraints, in their order.
     pub fn fairness(&self) -> &[AigEdge]
         ensures value { result.now ≡ self.now.fairness }
         ensures circuit { IsCircuit self.now }
@@ -238,7 +284,9 @@ impl Aig {
         &self.lists.fairness
     }
 
-    /// The names of nodes, by their numbers.
+    /// Returns the names of nodes, by their numbers.
+    ///
+    /// Any node may have a name. Files keep those of inputs and latches.
     pub fn symbols(&self) -> &HashMap<usize, String>
         ensures value { names_of result.now.entries ≡ self.now.names }
         // Each name is UTF-8.
@@ -248,7 +296,7 @@ impl Aig {
         &self.lists.names
     }
 
-    /// How many nodes it has.
+    /// Returns how many nodes there are, node 0 among them.
     pub fn num_nodes(&self) -> usize
         ensures value { result ≡ length self.now.nodes }
         ensures circuit { IsCircuit self.now }
@@ -256,21 +304,21 @@ impl Aig {
         self.lists.nodes.len()
     }
 
-    /// The numbers of its nodes but 0.
+    /// Returns the numbers of all nodes but 0.
     pub fn nodes_range(&self) -> Range<usize>
         ensures { result ≡ record { start = 1; «end» = length self.now.nodes } }
     {
         1..self.lists.nodes.len()
     }
 
-    /// The numbers of its nodes.
+    /// Returns the numbers of all nodes.
     pub fn nodes_range_with_false(&self) -> Range<usize>
         ensures { result ≡ record { start = 0; «end» = length self.now.nodes } }
     {
         0..self.lists.nodes.len()
     }
 
-    /// Its gates in rising number.
+    /// Returns an iterator over the gates in rising number.
     pub fn ands_iter(&self) -> AndsIter<'_>
         ensures gates { result ≡ gates_of self.now.nodes }
         // Each stands at its number, and its operands come before it, in order.
@@ -280,21 +328,21 @@ impl Aig {
         gates_among(&self.lists.nodes)
     }
 
-    /// Whether there is a node of this number.
+    /// Returns whether there is a node of this number.
     pub fn has_node(&self, id: usize) -> bool
         ensures { IsTrue result ↔ (id < length self.now.nodes) }
     {
         id < self.lists.nodes.len()
     }
 
-    /// Whether there is a node of the edge's number.
+    /// Returns whether `e` is of this circuit: whether there is a node of its number.
     pub fn has_edge(&self, e: AigEdge) -> bool
         ensures { IsTrue result ↔ IsInRange self.now.nodes e }
     {
         self.has_node(e.node_id())
     }
 
-    /// Whether the node of this number is a leaf that is neither an input nor a latch's.
+    /// Returns whether the node of this number is there and is a leaf that is neither an input nor a latch's.
     pub fn is_free_leaf(&self, id: usize) -> bool
         ensures { IsTrue result
             ↔ (IsLeaf self.now.nodes id × IsFree self.now.inputs self.now.latchs id) }
@@ -307,7 +355,7 @@ impl Aig {
         )
     }
 
-    /// Whether no leaf is free.
+    /// Returns whether no leaf is free.
     pub fn is_closed(&self) -> bool
         ensures closed { IsTrue result ↔ IsClosed self.now }
         ensures open { result ≡ false → HasFreeLeaf self.now.nodes self.now.inputs self.now.latchs }
@@ -315,22 +363,24 @@ impl Aig {
         leaves::is_closed(&self.lists.nodes, &self.lists.inputs, &self.lists.latchs)
     }
 
-    /// Whether it has at most 2^31 nodes, so that each edge has a literal.
+    /// Returns whether there are at most 2^31 nodes, so that each edge has a literal.
     pub fn fits_lits(&self) -> bool
         ensures { IsTrue result ↔ (length self.now.nodes ≤ 2 ^ 31) }
     {
         self.lists.nodes.len() <= MOST_NODES
     }
 
-    /// Whether a node may stand in place of node `i`: node `i` is there, the number is `i`, the kind is the same, and a
-    /// gate's operands are in order and have smaller numbers.
+    /// Returns whether `node` may stand in place of node `i` (`set_node`).
+    ///
+    /// It may where node `i` is there, the number of `node` is `i`, both are of one kind, and a gate's operands are in
+    /// order and have smaller numbers.
     pub fn admits(&self, i: usize, node: &AigNode) -> bool
         ensures { IsTrue result ↔ Admits self.now.nodes i node.now }
     {
         checks::admits(&self.lists.nodes, i, node)
     }
 
-    /// Whether its first nodes are those of `from`, and its latches have the same leaves in the same order.
+    /// Returns whether the first nodes are those of `from`, and the latches have the same leaves in the same order.
     pub fn begins_with(&self, from: &Aig) -> bool
         ensures { IsTrue result ↔ BeginsWith self.now from.now }
     {
@@ -340,9 +390,18 @@ impl Aig {
 }
 
 impl Aig {
-    /// Returns one mark a node: marked are the nodes of these edges and all that they reach along operands (crate aig,
-    /// `fanin_logic_cone`). Node 0 is marked only if it is reached, and latches aren't crossed. Requires `has_edge` of
-    /// each edge.
+    /// Returns a mark for each node, by number: whether it is a node of the edges `logic` or one that they reach along
+    /// operands.
+    ///
+    /// Node 0 is marked only where it is reached. Latches aren't crossed; `coi` crosses them.
+    ///
+    /// # Requirements
+    ///
+    /// - Each edge of `logic` is of this circuit (`has_edge`).
+    ///
+    /// # Errors
+    ///
+    /// - `Memory`: memory was refused.
     pub fn fanin_logic_cone(&self, logic: &[AigEdge]) -> Result<Vec<bool>, MemoryError>
         requires { All (IsInRange self.now.nodes) logic.now }
         ensures { IfOk result (λ marks. MarksExactly self.now.nodes
@@ -355,7 +414,11 @@ impl Aig {
 impl Clone for Aig {
     ghost is_clone = { λ aig copy. copy ≡ aig };
 
-    /// A copy, which is the same circuit.
+    /// Returns a copy, which is the same circuit.
+    ///
+    /// # Errors
+    ///
+    /// - `AllocError`: memory was refused.
     fn clone(&self) -> Result<Aig, AllocError> {
         match self.view().to_lists() {
             Ok(lists) => Ok(Aig { lists }),
@@ -371,6 +434,11 @@ impl Index<usize> for Aig {
 
     ghost index_gives = { λ aig id node. slice_get aig.nodes id ≡ Some node };
 
+    /// Returns the node of this number.
+    ///
+    /// # Requirements
+    ///
+    /// - There is such a node (`has_node`).
     fn index(&self, id: usize) -> &AigNode {
         &self.lists.nodes[id]
     }

@@ -17,8 +17,18 @@ use aig_circuit::AigEdge;
 use std::collections::HashSet;
 
 impl Aig {
-    /// Returns 0, the nodes of these numbers, and all that they reach along operands and, from a latch's leaf, along
-    /// its next edge (crate aig, `coi`). Initial edges aren't followed. Requires `has_node` of each number.
+    /// Returns the cone of influence of these nodes: 0, the nodes, and all that they reach along operands and, from a
+    /// latch's leaf, along its next edge.
+    ///
+    /// Initial edges aren't followed.
+    ///
+    /// # Requirements
+    ///
+    /// - There is a node of each number in `root` (`has_node`).
+    ///
+    /// # Errors
+    ///
+    /// - `Memory`: memory was refused.
     pub fn coi(&self, root: &[usize]) -> Result<HashSet<usize>, MemoryError>
         requires { All (λ n. n < length self.now.nodes) root.now }
         ensures { IfOk result
@@ -27,11 +37,34 @@ impl Aig {
         aig_cone::coi(self.allocator(), &self.view(), root)
     }
 
-    /// Returns the circuit of false and of what `coi` reaches from all properties, all latches and every initial edge
-    /// that isn't constant, and a map from the number of each of its nodes to the old number (crate aig, `coi_refine`).
+    /// Returns the circuit cut to its cone of influence, and a map from the number of each of its nodes to the old
+    /// number.
     ///
-    /// Kept nodes stay in their old order. Lists and names follow, and inputs that aren't kept leave the inputs. Requires
-    /// `fits_lits`.
+    /// Kept are false and what `coi` reaches from all properties, all latches and every initial edge that isn't
+    /// constant. Kept nodes stay in their old order. Lists and names follow, and inputs that aren't kept leave the
+    /// inputs.
+    ///
+    /// # Requirements
+    ///
+    /// - The circuit has at most 2^31 nodes (`fits_lits`).
+    ///
+    /// # Errors
+    ///
+    /// - `Memory`: memory was refused.
+    ///
+    /// # Examples
+    ///
+    /// Of two inputs the second is the output:
+    ///
+    /// ```
+    /// let file = b"aag 2 2 0 1 0\n2\n4\n4\n";
+    /// let mut source = FromRead::new(file.as_slice());
+    /// let aig = Aig::from_aiger(alloc, &mut source, 1 << 24)?;
+    /// let (refined, old_numbers) = aig.coi_refine()?;
+    /// assert_eq!(rt; refined.num_nodes(), 2);
+    /// assert_eq!(rt; refined.outputs(), [AigEdge::from(1)].as_slice());
+    /// assert_eq!(rt; old_numbers.get(Var::new(1)), Some(Var::new(2)));
+    /// ```
     pub fn coi_refine(&self) -> Result<(Aig, VarVMap), MemoryError>
         requires { length self.now.nodes ≤ 2 ^ 31 }
         // The receiver is a circuit, so that what a law says of circuits holds of it.
@@ -43,8 +76,29 @@ impl Aig {
         Ok((Aig::from_lists(lists), old_numbers))
     }
 
-    /// Appends the nodes of another circuit but 0, and all its lists: its number `x > 0` becomes `x + num_nodes - 1`
-    /// (crate aig, `merge`). None of its names come along. A refused call changes nothing.
+    /// Appends the nodes of another circuit but 0, and the entries of all its lists.
+    ///
+    /// Its node `x > 0` becomes node `x + num_nodes - 1`, by the count of nodes before the call. Its names don't come
+    /// along. No node is shared but 0.
+    ///
+    /// # Errors
+    ///
+    /// - `Memory`: memory was refused. The circuit stays as it was.
+    ///
+    /// # Examples
+    ///
+    /// Two ands of two inputs each:
+    ///
+    /// ```
+    /// let file = b"aag 3 2 0 1 1\n2\n4\n6\n6 4 2\n";
+    /// let mut source = FromRead::new(file.as_slice());
+    /// let mut both = Aig::from_aiger(alloc, &mut source, 1 << 24)?;
+    /// let copy = both.clone()?;
+    /// both.merge(&copy)?;
+    /// let (first, second) = (AigEdge::from(3), AigEdge::from(6));
+    /// assert_eq!(rt; both.num_nodes(), 7);
+    /// assert_eq!(rt; both.outputs(), [first, second].as_slice());
+    /// ```
     pub fn merge(&mut self, other: &Aig) -> Result<(), MemoryError>
         ensures exact { OnOk result (self.new ≡ merged self.old other.now) }
         // A run is a pair of runs, one of each circuit, and a start a pair of starts; edges keep their values.
@@ -55,11 +109,15 @@ impl Aig {
         aig_change::merge(&mut self.lists, &other.view())
     }
 
-    /// Returns the circuit with its constraints joined to the first bad edge and the first output, and none left (crate
-    /// aig, `aig_move`).
+    /// Returns the circuit with its constraints joined to the first bad edge and the first output, and none left.
     ///
-    /// A latch is added that starts as true and stays so while all constraints hold. On a run from a start the first bad
-    /// edge holds at a step where the old one does and all constraints have held up to that step.
+    /// A latch is added that is true in an initial state and stays so while all constraints hold. On a run from an
+    /// initial state the first bad edge holds at a step exactly where the old one does and all constraints hold up to
+    /// that step, and so does the first output. Other bad edges and outputs stay, and nothing constrains them.
+    ///
+    /// # Errors
+    ///
+    /// - `Memory`: memory was refused.
     pub fn aig_move(&self) -> Result<Aig, MemoryError>
         ensures { IfOk result (λ made. MovesConstraints self.now made) }
     {
@@ -67,8 +125,13 @@ impl Aig {
         Ok(Aig::from_lists(lists))
     }
 
-    /// Makes one bad edge of all, their or by `new_ors_node`, and returns the old ones in order (crate aig,
-    /// `compress_property`). A refused call changes nothing.
+    /// Replaces the bad edges by one, their or by `new_ors_node`, and returns the old ones in their order.
+    ///
+    /// Without bad edges the one is false.
+    ///
+    /// # Errors
+    ///
+    /// - `Memory`: memory was refused. The circuit stays as it was.
     pub fn compress_property(&mut self) -> Result<Vec<AigEdge>, MemoryError>
         ensures compresses { OnOk result (CompressesBads self.old self.new) }
         ensures old { IfOk result (λ bads. bads.items ≡ self.old.bads) }
@@ -77,11 +140,15 @@ impl Aig {
         aig_change::compress_property(&mut self.lists)
     }
 
-    /// Says initial edges that aren't constant by constraints (crate aig, `gate_init_to_constraint`).
+    /// Replaces initial edges that aren't constant by constraints.
     ///
-    /// One latch is added that is true in the first step alone, and each latch with such an initial edge loses it for
-    /// the constraint that in the first step it has the edge's value. Where every initial edge is constant or none,
-    /// nothing changes, and the call succeeds. A refused call changes nothing.
+    /// One latch is added that is true at step 0 alone. Each latch with such an initial edge loses it, and a constraint
+    /// is appended that at step 0 the latch has the edge's value. Where every initial edge is constant or none, nothing
+    /// changes and no memory is taken.
+    ///
+    /// # Errors
+    ///
+    /// - `Memory`: memory was refused. The circuit stays as it was. Never where every initial edge is constant or none.
     pub fn gate_init_to_constraint(&mut self) -> Result<(), MemoryError>
         // The runs from a start that meet the constraints are the old ones, one for one.
         ensures starts { OnOk result (GatesStarts self.old self.new) }
@@ -91,9 +158,18 @@ impl Aig {
         aig_change::gate_init_to_constraint(&mut self.lists)
     }
 
-    /// Returns the circuit in the numbering of the binary form of AIGER: inputs first in their order, then the leaves of
-    /// latches in theirs, then gates in rising number (crate aig, `reencode`). Operands are put in order again; lists and
-    /// names follow. Requires `is_closed`.
+    /// Returns the circuit in the numbering of the binary form: inputs first in their order, then the leaves of latches
+    /// in theirs, then gates in rising number (AIGER format 20071012, "Binary encoding").
+    ///
+    /// Operands are put in order again. Lists and names follow.
+    ///
+    /// # Requirements
+    ///
+    /// - No leaf is free (`is_closed`).
+    ///
+    /// # Errors
+    ///
+    /// - `Memory`: memory was refused.
     pub fn reencode(&self) -> Result<Aig, MemoryError>
         requires { IsClosed self.now }
         // The receiver is a circuit, so that what a law says of circuits holds of it.
@@ -111,12 +187,19 @@ impl Aig {
         Ok(Aig::from_lists(lists))
     }
 
-    /// Adds one step of the circuit `from`, of which this one holds the steps so far (crate aig, `unroll`).
+    /// Adds one step of the circuit `from`, of which this circuit holds the steps so far.
     ///
-    /// A latch's leaf of the new step is the latch's present next edge; every other leaf becomes a new input, in rising
+    /// A latch's leaf of the new step is the latch's present next edge. Every other leaf becomes a new input, in rising
     /// number, and each gate is rebuilt by `new_and_node`. Then all next edges are replaced at once, and an entry is
-    /// appended for each property of `from`. Names and initial edges stay. Requires `begins_with`. A refused call
-    /// changes nothing.
+    /// appended for each property of `from`. Names and initial edges stay.
+    ///
+    /// # Requirements
+    ///
+    /// - This circuit begins with the nodes of `from`, and has latches with the same leaves (`begins_with`).
+    ///
+    /// # Errors
+    ///
+    /// - `Memory`: memory was refused. The circuit stays as it was.
     pub fn unroll(&mut self, from: &Aig) -> Result<(), MemoryError>
         requires { BeginsWith self.old from.now }
         // Old nodes, inputs, entries, names and initial edges stay, next edges are replaced, and each new edge has the
@@ -131,10 +214,34 @@ impl Aig {
         aig_unroll::unroll(&mut self.lists, &circuit, &mut images)
     }
 
-    /// Returns a copy, unrolled `k` times from the circuit itself (crate aig, `unroll_to`).
+    /// Returns the circuit with `k` further steps: a copy, unrolled `k` times from the circuit itself.
     ///
-    /// Leaf values of the result are, by their places, exactly the runs of `k + 1` steps. With `n` nodes and `l`
-    /// latches the result has at most `n + k * (n - 1 - l)` nodes.
+    /// Leaf values of the result are, by their places, exactly the runs of `k + 1` steps, from any state. A latch's
+    /// leaf is itself at step 0. Of the `m` leaves that aren't latches' the one at place `r`, counted from 0 in rising
+    /// number, is itself at step 0, and at a step `t >= 1` entry `i + (t - 1) * m + r` of the result's inputs, where
+    /// `i` is this circuit's count of inputs. Entry `j` of a property list of length `p` is entry `t * p + j` at step
+    /// `t`. The next edges are the state after step `k`.
+    ///
+    /// With `n` nodes and `l` latches the result has at most `n + k * (n - 1 - l)` nodes. Its lists of properties grow
+    /// with `k`, too.
+    ///
+    /// # Errors
+    ///
+    /// - `Memory`: memory was refused.
+    ///
+    /// # Examples
+    ///
+    /// A latch that toggles, over two steps:
+    ///
+    /// ```
+    /// let file = b"aag 1 0 1 1 0\n2 3\n2\n";
+    /// let mut source = FromRead::new(file.as_slice());
+    /// let toggle = Aig::from_aiger(alloc, &mut source, 1 << 24)?;
+    /// let unrolled = toggle.unroll_to(1)?;
+    /// let latch = AigEdge::from(1);
+    /// assert_eq!(rt; unrolled.num_nodes(), 2);
+    /// assert_eq!(rt; unrolled.outputs(), [latch, !latch].as_slice());
+    /// ```
     pub fn unroll_to(&self, k: usize) -> Result<Aig, MemoryError>
         // The receiver is a circuit, so that what a law says of circuits holds of it.
         ensures circuit { IsCircuit self.now }

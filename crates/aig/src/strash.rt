@@ -11,11 +11,29 @@ use crate::graph::Aig;
 use aig_base::MemoryError;
 
 impl Aig {
-    /// Returns the circuit in which gates share one node exactly where their trees are equal up to the exchange of
-    /// operands, at every depth (crate aig, `strash`, which ends there in a stub).
+    /// Returns the circuit in which gates share one node exactly where their trees are equal (structural hashing).
     ///
-    /// Kept are false, all leaves and the first gate of each kind, reached or not, in their old order. Lists follow,
-    /// and so do the names of kept nodes. Nothing is folded.
+    /// Trees are equal up to the exchange of operands, at every depth. Kept are false, all leaves and of equal gates
+    /// the first, reached or not, in their old order. Lists follow, and so do the names of kept nodes; names of other
+    /// gates are dropped. Nothing is folded: the and of an edge with itself stays a gate.
+    ///
+    /// # Errors
+    ///
+    /// - `Memory`: memory was refused.
+    ///
+    /// # Examples
+    ///
+    /// Gates 3 and 4 are equal, and then gates 5 and 6 are:
+    ///
+    /// ```
+    /// let file = b"aag 6 2 0 2 4\n2\n4\n10\n12\n6 4 2\n8 4 2\n10 6 2\n12 8 2\n";
+    /// let mut source = FromRead::new(file.as_slice());
+    /// let aig = Aig::from_aiger(alloc, &mut source, 1 << 24)?;
+    /// let hashed = aig.strash()?;
+    /// let gate = AigEdge::from(4);
+    /// assert_eq!(rt; (aig.num_nodes(), hashed.num_nodes()), (7, 5));
+    /// assert_eq!(rt; hashed.outputs(), [gate, gate].as_slice());
+    /// ```
     pub fn strash(&self) -> Result<Aig, MemoryError>
         // The receiver is a circuit, so that what a law says of circuits holds of it.
         ensures circuit { IsCircuit self.now }

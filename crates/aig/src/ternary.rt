@@ -12,10 +12,18 @@ use std::marker::Model;
 
 impl Aig {
     /// Returns the three-valued value of each node, by number, where inputs and latches have these values, in their
-    /// order (crate aig, `ternary_simulate`).
+    /// order.
     ///
-    /// Free leaves are unknown, and so is an unknown edge joined with its inverse. Requires as many values as there are
-    /// inputs and latches.
+    /// Free leaves are unknown, and so is an unknown edge joined with its inverse.
+    ///
+    /// # Requirements
+    ///
+    /// - There are as many values in `inputs` as inputs (`inputs`).
+    /// - There are as many values in `latchs` as latches (`latchs`).
+    ///
+    /// # Errors
+    ///
+    /// - `Memory`: memory was refused.
     pub fn ternary_simulate(
         &self,
         inputs: &[Lbool],
@@ -30,9 +38,10 @@ impl Aig {
     }
 }
 
-/// A circuit that is simulated in three values, step by step (crate aig, `TernarySimulate`).
+/// A circuit that is simulated in three values, step by step.
 ///
-/// It has the state in which the next step begins, one value a latch, and the values of all nodes in the last step.
+/// It has the state in which the next step begins, one value for each latch, and the values of all nodes in the last
+/// step.
 #[derive(Drop)]
 pub struct TernarySimulate<'a> {
     simulator: Simulator<'a>,
@@ -54,8 +63,13 @@ impl<'a> Model for TernarySimulate<'a> {
 }
 
 impl<'a> TernarySimulate<'a> {
-    /// Returns the simulation of a circuit that begins in `state`, one value a latch in their order. Takes no memory.
-    /// Requires a value for each latch.
+    /// Returns the simulation of a circuit that begins in `state`, which has one value for each latch, in their order.
+    ///
+    /// It takes no memory.
+    ///
+    /// # Requirements
+    ///
+    /// - There are as many values in `state` as latches (`latchs`).
     pub fn new(aig: &'a Aig, state: Vec<Lbool>) -> Self
         requires { length state.items ≡ length aig.now.latchs }
         ensures { result ≡ simulation_of aig.now state.items }
@@ -65,8 +79,15 @@ impl<'a> TernarySimulate<'a> {
         }
     }
 
-    /// Values one step with these inputs, in their order, and moves the state. Requires a value for each input. A
-    /// refused call changes nothing.
+    /// Values one step with these inputs, in their order, and moves the state.
+    ///
+    /// # Requirements
+    ///
+    /// - There are as many values in `inputs` as the circuit has inputs (`inputs`).
+    ///
+    /// # Errors
+    ///
+    /// - `Memory`: memory was refused. State and values stay as they were.
     pub fn simulate(&mut self, inputs: Vec<Lbool>) -> Result<(), MemoryError>
         requires { length inputs.items ≡ length self.old.circuit.inputs }
         ensures ok { OnOk result (self.new ≡ stepped self.old inputs.items) }
@@ -77,14 +98,18 @@ impl<'a> TernarySimulate<'a> {
         self.simulator.simulate(&inputs)
     }
 
-    /// Whether a step was valued, and `e` is an edge of the circuit.
+    /// Returns whether a step was valued and `e` is of the circuit.
     pub fn has_value(&self, e: AigEdge) -> bool
         ensures { IsTrue result ↔ HasValue self.now e }
     {
         self.simulator.has_value(e)
     }
 
-    /// Returns the value of `e` in the last step. Requires `has_value`.
+    /// Returns the value of `e` in the last step.
+    ///
+    /// # Requirements
+    ///
+    /// - A step was valued, and `e` is of the circuit (`has_value`).
     pub fn value(&self, e: AigEdge) -> Lbool
         requires { HasValue self.now e }
         ensures { result ≡ value_in self.now e }
@@ -94,9 +119,33 @@ impl<'a> TernarySimulate<'a> {
 
     /// Values steps with these inputs, one after another, and returns the value of `e` in each step.
     ///
-    /// A value that is known is the edge's value at that step on every run that has the given values wherever these
-    /// are known. Of no steps it changes nothing, takes no memory and always succeeds. Requires in each list a value
-    /// for each input, and an edge of the circuit. A refused call changes nothing.
+    /// A value that is known is the edge's value at that step on every run that has the given values wherever these are
+    /// known. Of no steps it changes nothing and takes no memory.
+    ///
+    /// # Requirements
+    ///
+    /// - Each list of `inputs` has as many values as the circuit has inputs (`inputs`).
+    /// - `e` is of the circuit (`has_edge`).
+    ///
+    /// # Errors
+    ///
+    /// - `Memory`: memory was refused. State and values stay as they were. Never of no steps.
+    ///
+    /// # Examples
+    ///
+    /// A latch that toggles, from false:
+    ///
+    /// ```
+    /// let file = b"aag 1 0 1 1 0\n2 3\n2\n";
+    /// let mut source = FromRead::new(file.as_slice());
+    /// let toggle = Aig::from_aiger(alloc, &mut source, 1 << 24)?;
+    /// let latch = AigEdge::from(1);
+    /// assert!(rt; toggle.latchs().len() == 1 && toggle.inputs().len() == 0 && toggle.has_edge(latch));
+    /// let mut simulation = TernarySimulate::new(&toggle, vec![in alloc; Lbool::FALSE]?);
+    /// let steps = vec![in alloc; Vec::new(alloc), Vec::new(alloc)]?;
+    /// let values = simulation.simulate_all(steps, latch)?;
+    /// assert_eq!(rt; values.as_slice(), [Lbool::FALSE, Lbool::TRUE].as_slice());
+    /// ```
     pub fn simulate_all(
         &mut self,
         inputs: Vec<Vec<Lbool>>,

@@ -6,10 +6,10 @@ ghost use Rattle.aig_base.specs.declared.memory.MemoryError.TheVariants.{Memory}
 use std::alloc::{AllocError, AllocFailed};
 use thiserror::Error;
 
-/// A growth was refused for want of memory.
+/// Memory was refused.
 #[derive(Clone, Copy, Debug, PartialEq, Eq, Error)]
 pub enum MemoryError {
-    /// Memory ran out.
+    /// Memory was refused.
     #[error("out of memory")]
     Memory = 1,
 }

@@ -18,7 +18,7 @@ pub struct FromRead<R> {
 }
 
 impl<R: Read> FromRead<R> {
-    /// The source over a reader.
+    /// Returns the source over a reader.
     pub fn new(inner: R) -> Self
         ensures reader { reader_of result ≡ inner }
         ensures sound { read_failed result ≡ false }
@@ -31,7 +31,7 @@ impl<R: Read> FromRead<R> {
         }
     }
 
-    /// The reader under it.
+    /// Returns the reader under it.
     pub fn into_inner(self) -> R
         ensures { result ≡ reader_of self }
     {
@@ -93,7 +93,7 @@ pub struct ToWrite<W> {
 }
 
 impl<W: Write> ToWrite<W> {
-    /// The sink over a writer.
+    /// Returns the sink over a writer.
     pub fn new(inner: W) -> Self
         ensures writer { writer_of result ≡ inner }
         ensures sound { ⟦<ToWrite<W> as Sink>⟧.failed result ≡ false }
@@ -104,7 +104,7 @@ impl<W: Write> ToWrite<W> {
         }
     }
 
-    /// The writer under it.
+    /// Returns the writer under it. What that keeps in a buffer isn't flushed.
     pub fn into_inner(self) -> W
         ensures { result ≡ writer_of self }
     {

@@ -23,9 +23,14 @@ pub struct Parts {
 impl Parts {
     ghost use Rattle.aig_base.specs.Devices.{left_of, given_of, most_given, fails_after, source_failed};
 
-    /// A source of these bytes that gives at most `p` of them a call, and fails after `j` bytes where `j` is given.
+    /// Returns a source of these bytes that gives at most `p` of them a call, and fails after `j` bytes where `j` is
+    /// given.
     ///
-    /// With `j` past the bytes it ends and doesn't fail. Asks that `p` is not 0.
+    /// With `j` past the bytes it ends and doesn't fail.
+    ///
+    /// # Requirements
+    ///
+    /// - `p` is not 0.
     pub fn new(bytes: Vec<u8>, p: usize, j: Option<usize>) -> Self
         requires { 0 < p }
         ensures left { left_of result ≡ Some bytes.items }
@@ -110,9 +115,16 @@ pub struct Taker {
 impl Taker {
     ghost use Rattle.aig_base.specs.Devices.{held_by, most_taken, room_of, sink_failed};
 
-    /// A sink that takes at most `p` bytes a call, and fails after `j` bytes, for which it has room from the start.
+    /// Returns a sink that takes at most `p` bytes a call, and fails after `j` bytes, for which it has room from the
+    /// start.
     ///
-    /// Asks that `p` is not 0. Answers `Memory` where the room was refused.
+    /// # Requirements
+    ///
+    /// - `p` is not 0.
+    ///
+    /// # Errors
+    ///
+    /// - `Memory`: memory was refused.
     pub fn new(alloc: Global, p: usize, j: usize) -> Result<Self, MemoryError>
         requires { 0 < p }
         ensures held { IfOk result (λ t. held_by t ≡ Some []) }
@@ -128,7 +140,7 @@ impl Taker {
         })
     }
 
-    /// What it holds.
+    /// Returns the bytes that it holds.
     pub fn bytes(&self) -> &[u8]
         ensures { held_by self.now ≡ Some result.now }
     {

@@ -7,7 +7,7 @@ ghost use Rattle.aig_circuit.specs.Node.{gates_of};
 use crate::node::AigNode;
 use std::marker::Model;
 
-/// The gates of a circuit in rising number.
+/// An iterator over the gates of a circuit in rising number (`Aig::ands_iter`).
 #[derive(Drop)]
 pub struct AndsIter<'a> {
     nodes: &'a [AigNode],

@@ -9,6 +9,9 @@ use aig_base::{Lit, Var};
 use std::ops::Not;
 
 /// An edge: the number of a node, and whether its value is inverted.
+///
+/// Edges are ordered, compared and hashed as their literals are: by the number, and of one number the inverted one
+/// last. An edge is not tied to a circuit: `Aig::has_edge` tells whether it is of one.
 #[derive(Clone, Copy, Debug, PartialEq, Eq, PartialOrd, Ord, Hash)]
 pub struct AigEdge {
     node_id: usize,
@@ -40,21 +43,21 @@ impl From<usize> for AigEdge {
 }
 
 impl AigEdge {
-    /// The edge to node `id`, inverted where `compl` is true.
+    /// Returns the edge to node `id`, inverted where `compl` is true.
     pub fn new(id: usize, compl: bool) -> AigEdge
         ensures { result ≡ record { node_id = id; compl = compl } }
     {
         AigEdge { node_id: id, compl }
     }
 
-    /// The number of its node.
+    /// Returns the number of its node.
     pub fn node_id(&self) -> usize
         ensures { result ≡ self.now.node_id }
     {
         self.node_id
     }
 
-    /// Whether it is inverted.
+    /// Returns whether it is inverted.
     pub fn compl(&self) -> bool
         ensures { result ≡ self.now.compl }
     {
@@ -75,14 +78,14 @@ impl AigEdge {
         self.compl = compl;
     }
 
-    /// The inverse where `x` is true, and else the edge.
+    /// Returns the inverse where `x` is true, and else the edge.
     pub fn not_if(self, x: bool) -> AigEdge
         ensures { result ≡ edge_to self.node_id (inverted_if x self.compl) }
     {
         if x { !self } else { self }
     }
 
-    /// The edge that is always of this polarity.
+    /// Returns the edge that is always of this value: to node 0, inverted where it is true.
     pub fn constant(polarity: bool) -> AigEdge
         ensures { result ≡ record { node_id = 0; compl = polarity } }
     {
@@ -92,21 +95,21 @@ impl AigEdge {
         }
     }
 
-    /// Whether it is one of the two constants.
+    /// Returns whether it is one of the two constants.
     pub fn is_const(&self) -> bool
         ensures { IsTrue result ↔ (self.now.node_id ≡ 0) }
     {
         self.node_id == 0
     }
 
-    /// Whether it is the constant of this polarity.
+    /// Returns whether it is the constant of this value.
     pub fn is_constant(&self, polarity: bool) -> bool
         ensures { IsTrue result ↔ (self.now ≡ record { node_id = 0; compl = polarity }) }
     {
         *self == AigEdge::constant(polarity)
     }
 
-    /// The constant that it is, if it is one.
+    /// Returns the value of the constant that it is, or `None` where it is none.
     pub fn try_to_constant(self) -> Option<bool>
         ensures constant { IsSome result ↔ (self.node_id ≡ 0) }
         ensures value { IfSome result (λ polarity. polarity ≡ self.compl) }
@@ -118,7 +121,11 @@ impl AigEdge {
         }
     }
 
-    /// The constant that it is. Asks `is_const`.
+    /// Returns the value of the constant that it is.
+    ///
+    /// # Requirements
+    ///
+    /// - It is a constant (`is_const`).
     pub fn to_constant(self) -> bool
         requires { self.node_id ≡ 0 }
         ensures { result ≡ self.compl }
@@ -126,7 +133,7 @@ impl AigEdge {
         self.compl
     }
 
-    /// The edge of a literal: to the node of its variable's number, inverted as it is.
+    /// Returns the edge to the node of the number of a literal's variable, inverted as the literal is.
     pub fn from_lit(lit: Lit) -> AigEdge
         ensures { result ≡ edge_from_lit lit }
     {
@@ -136,7 +143,11 @@ impl AigEdge {
         }
     }
 
-    /// The literal of an edge: of the variable of its node's number, inverted as it is. Asks a number below 2^31.
+    /// Returns the literal of the variable of its node's number, inverted as the edge is.
+    ///
+    /// # Requirements
+    ///
+    /// - Its node's number is below 2^31, as it is in a circuit that has at most 2^31 nodes (`Aig::fits_lits`).
     pub fn to_lit(&self) -> Lit
         requires { self.now.node_id < 2 ^ 31 }
         ensures { result ≡ lit_of self.now }
@@ -144,7 +155,11 @@ impl AigEdge {
         Lit::new(Var::new(self.node_id), !self.compl)
     }
 
-    /// The edge to the node that `map` gives for its node, inverted as it is.
+    /// Returns the edge to the node that `map` gives for its node, inverted as it is.
+    ///
+    /// # Requirements
+    ///
+    /// - `map` may be called with its node's number.
     pub fn map<M: Fn(usize) -> usize>(&self, map: &M) -> AigEdge
         requires { M.pre map.now self.now.node_id }
         ensures node { M.post map.now self.now.node_id result.node_id }

@@ -14,28 +14,28 @@ pub struct AigLatch {
 }
 
 impl AigLatch {
-    /// The latch of a leaf, given by its node number, with a next edge and perhaps an initial edge.
+    /// Returns the latch of a leaf, given by its number, with a next edge and perhaps an initial edge.
     pub fn new(input: usize, next: AigEdge, init: Option<AigEdge>) -> AigLatch
         ensures { result ≡ record { input = input; next = next; init = init } }
     {
         AigLatch { input, next, init }
     }
 
-    /// The number of its leaf.
+    /// Returns the number of its leaf.
     pub fn input(&self) -> usize
         ensures { result ≡ self.now.input }
     {
         self.input
     }
 
-    /// The edge whose value it has at the next step.
+    /// Returns the edge whose value it has at the next step.
     pub fn next(&self) -> AigEdge
         ensures { result ≡ self.now.next }
     {
         self.next
     }
 
-    /// The edge whose value it has at a start, if its start is bound at all.
+    /// Returns the edge whose value it has in an initial state, or `None` where it may have either value.
     pub fn init(&self) -> Option<AigEdge>
         ensures { result ≡ self.now.init }
     {
@@ -55,13 +55,15 @@ pub enum AigNodeType {
 }
 
 /// A node with its number.
+///
+/// It is a value of its own: a changed one is put into a circuit by `Aig::set_node`.
 #[derive(Clone, Copy, Debug)]
 pub struct AigNode {
     node_id: usize,
     typ: AigNodeType,
 }
 
-/// The false node.
+/// Returns the false node.
 pub fn false_node() -> AigNode
     ensures { result ≡ record { node_id = 0; typ = AigNodeType.False } }
 {
@@ -71,7 +73,7 @@ pub fn false_node() -> AigNode
     }
 }
 
-/// A leaf of this number.
+/// Returns a leaf of this number.
 pub fn leaf_node(id: usize) -> AigNode
     ensures { result ≡ record { node_id = id; typ = AigNodeType.Leaf } }
 {
@@ -81,7 +83,7 @@ pub fn leaf_node(id: usize) -> AigNode
     }
 }
 
-/// A gate of this number, with its operands put in order.
+/// Returns a gate of this number, with its operands put in order.
 pub fn gate_node(id: usize, fanin0: AigEdge, fanin1: AigEdge) -> AigNode
     ensures { result ≡ record { node_id = id; typ = and_of fanin0 fanin1 } }
 {
@@ -97,35 +99,39 @@ pub fn gate_node(id: usize, fanin0: AigEdge, fanin1: AigEdge) -> AigNode
 }
 
 impl AigNode {
-    /// Its number.
+    /// Returns its number.
     pub fn node_id(&self) -> usize
         ensures { result ≡ self.now.node_id }
     {
         self.node_id
     }
 
-    /// What it is.
+    /// Returns what it is.
     pub fn typ(&self) -> &AigNodeType
         ensures { result.now ≡ self.now.typ }
     {
         &self.typ
     }
 
-    /// Whether it is a gate.
+    /// Returns whether it is a gate.
     pub fn is_and(&self) -> bool
         ensures { IsTrue result ↔ IsAnd self.now }
     {
         matches!(self.typ, AigNodeType::And(_, _))
     }
 
-    /// Whether it is a leaf.
+    /// Returns whether it is a leaf.
     pub fn is_leaf(&self) -> bool
         ensures { IsTrue result ↔ (self.now.typ ≡ AigNodeType.Leaf) }
     {
         matches!(self.typ, AigNodeType::Leaf)
     }
 
-    /// The operands of a gate, the first not greater than the second. Asks `is_and`.
+    /// Returns the operands of a gate, which in a circuit are in order.
+    ///
+    /// # Requirements
+    ///
+    /// - It is a gate (`is_and`).
     pub fn fanin(&self) -> (AigEdge, AigEdge)
         requires { IsAnd self.now }
         ensures { self.now.typ ≡ AigNodeType.And result.0 result.1 }
@@ -136,7 +142,11 @@ impl AigNode {
         }
     }
 
-    /// The first operand of a gate. Asks `is_and`.
+    /// Returns the first operand of a gate.
+    ///
+    /// # Requirements
+    ///
+    /// - It is a gate (`is_and`).
     pub fn fanin0(&self) -> AigEdge
         requires { IsAnd self.now }
         ensures { (other : AigEdge) × (self.now.typ ≡ AigNodeType.And result other) }
@@ -144,7 +154,11 @@ impl AigNode {
         self.fanin().0
     }
 
-    /// The second operand of a gate. Asks `is_and`.
+    /// Returns the second operand of a gate.
+    ///
+    /// # Requirements
+    ///
+    /// - It is a gate (`is_and`).
     pub fn fanin1(&self) -> AigEdge
         requires { IsAnd self.now }
         ensures { (other : AigEdge) × (self.now.typ ≡ AigNodeType.And other result) }
@@ -152,7 +166,11 @@ impl AigNode {
         self.fanin().1
     }
 
-    /// Sets the first operand of a gate, and leaves the two in their places. Asks `is_and`.
+    /// Replaces the first operand of a gate, and leaves the two in their places.
+    ///
+    /// # Requirements
+    ///
+    /// - It is a gate (`is_and`).
     pub fn set_fanin0(&mut self, fanin: AigEdge)
         requires { IsAnd self.old }
         ensures { (a b : AigEdge) → self.old.typ ≡ AigNodeType.And a b
@@ -161,7 +179,11 @@ impl AigNode {
         self.typ = AigNodeType::And(fanin, self.fanin1());
     }
 
-    /// Sets the second operand of a gate, and leaves the two in their places. Asks `is_and`.
+    /// Replaces the second operand of a gate, and leaves the two in their places.
+    ///
+    /// # Requirements
+    ///
+    /// - It is a gate (`is_and`).
     pub fn set_fanin1(&mut self, fanin: AigEdge)
         requires { IsAnd self.old }
         ensures { (a b : AigEdge) → self.old.typ ≡ AigNodeType.And a b
@@ -170,7 +192,12 @@ impl AigNode {
         self.typ = AigNodeType::And(self.fanin0(), fanin);
     }
 
-    /// The node of the number that `map` gives for its number. A gate's operands go through `map` too, and stay in their places.
+    /// Returns the node of the number that `map` gives for its number. A gate's operands go through `map` too, and stay
+    /// in their places.
+    ///
+    /// # Requirements
+    ///
+    /// - `map` may be called with its number, and with those of its operands' nodes.
     pub fn map<M: Fn(usize) -> usize>(&self, map: &M) -> AigNode
         requires number { M.pre map.now self.now.node_id }
         requires operands { IfAnd self.now.typ (M.pre map.now) }

@@ -14,12 +14,42 @@ use aig_base::Source;
 use aig_query::further_clauses;
 use std::alloc::Global;
 
-/// Encodes a circuit as `encode` does, and asks by further clauses for a run from a start on which every constraint holds at
-/// each of the steps 0 to `k` and some bad state is reached at step `k`.
+/// Returns what `encode` returns, and further clauses that ask for a run to a bad state at step `k`.
 ///
-/// The further clauses are, in order: for each latch with a constant initial edge that its leaf has that value, for each
-/// constraint of each step that it holds, and one clause of all bad literals of step `k`, which is empty where there are
-/// none. Asks `1 <= limit <= 2^31`.
+/// Both lists of clauses together can be satisfied exactly where the file's machine has a run from an initial state on
+/// which every constraint holds at each of the steps 0 to `k` and some bad literal holds at step `k`. A satisfying
+/// assignment's leaf values are those of such a run.
+///
+/// The further clauses are, in order: for each latch with a constant initial edge that its leaf has that value, for
+/// each constraint of each step that it holds, and one clause of all bad literals of step `k`. Of a file without bad
+/// state properties the last one is empty: nothing satisfies it, and that says nothing of the file.
+///
+/// # Requirements
+///
+/// - `1 <= limit <= 2^31`.
+///
+/// # Errors
+///
+/// After `Read` it isn't said what `r` has left. After the others it was read to its end.
+///
+/// - `Read`: the bytes are refused, by an error of `Aig::from_aiger`.
+/// - `Memory`: memory was refused after the reading.
+/// - `TooLarge`: the bound of `encode` on the nodes of the unrolled circuit passes `limit`.
+///
+/// # Examples
+///
+/// A latch that toggles from false and is bad where it is true, at step 1. The clauses are that it begins as false, and
+/// that its inverse, which is the latch at step 1, is true:
+///
+/// ```
+/// let file = b"aag 1 0 1 0 0 1\n2 3\n2\n";
+/// let mut source = FromRead::new(file.as_slice());
+/// let asked = query(alloc, &mut source, 1 << 24, 1, true)?;
+/// let latch = Var::new(1).lit();
+/// assert!(rt; asked.extra.len() == 2);
+/// assert_eq!(rt; asked.extra.clause(0), [!latch].as_slice());
+/// assert_eq!(rt; asked.extra.clause(1), [!latch].as_slice());
+/// ```
 pub fn query<R: Source>(
     alloc: Global,
     r: &mut R,

@@ -13,22 +13,52 @@ use aig::{Aig, ReadError};
 use aig_base::{DagCnf, Source};
 use std::alloc::Global;
 
-/// A circuit, the circuit unrolled, and the clauses of that.
+/// What `encode` returns: a circuit, the circuit unrolled, and the clauses of that.
 #[derive(Drop)]
 pub struct Encoded {
-    /// The circuit that was read.
+    /// The circuit of the file.
     pub circuit: Aig,
-    /// The circuit with further steps.
+    /// The circuit with its further steps (`unroll_to`).
     pub unrolled: Aig,
-    /// The clauses of the unrolled circuit.
+    /// The clauses of the unrolled circuit (`cnf`).
     pub clauses: DagCnf,
 }
 
-/// Reads a circuit from the bytes of an AIGER file, unrolls it by `k` steps, and makes the clauses of that.
+/// Returns the circuit of an AIGER file, the circuit with `k` further steps, and the clauses of that.
 ///
-/// `limit` is on the variables of the file, and on the nodes of the unrolled circuit: `TooLarge` is answered exactly where
-/// `n + k * (n - 1 - l)` passes it, for the `n` nodes and `l` latches of the circuit that was read. Asks
-/// `1 <= limit <= 2^31`.
+/// It reads by `Aig::from_aiger`, unrolls by `unroll_to(k)`, and encodes by `cnf(optimize)`. Each run of `k + 1` steps
+/// of the file's machine, from any state, is an assignment that satisfies the clauses, and each such assignment has the
+/// leaf values of exactly one run and gives each property its value at each step. The clauses don't say that a run
+/// begins in an initial state, meets a constraint or reaches a bad state: `query` does.
+///
+/// `limit` is on the variables of the file, as `from_aiger` has it, and on the nodes of the unrolled circuit.
+///
+/// # Requirements
+///
+/// - `1 <= limit <= 2^31`.
+///
+/// # Errors
+///
+/// After `Read` it isn't said what `r` has left. After the others it was read to its end.
+///
+/// - `Read`: the bytes are refused, by an error of `from_aiger`.
+/// - `Memory`: memory was refused after the reading.
+/// - `TooLarge`: `n + k * (n - 1 - l)` passes `limit`, for the `n` nodes and `l` latches of the circuit that was read,
+///   whatever folds.
+///
+/// # Examples
+///
+/// A latch that toggles, over two steps; the one clause is that variable 0 is false:
+///
+/// ```
+/// let file = b"aag 1 0 1 1 0\n2 3\n2\n";
+/// let mut source = FromRead::new(file.as_slice());
+/// let encoded = encode(alloc, &mut source, 1 << 24, 1, true)?;
+/// let latch = AigEdge::from(1);
+/// assert_eq!(rt; encoded.unrolled.outputs(), [latch, !latch].as_slice());
+/// let clauses = &encoded.clauses;
+/// assert_eq!(rt; (clauses.num_vars(), clauses.num_clauses()), (2, 1));
+/// ```
 pub fn encode<R: Source>(
     alloc: Global,
     r: &mut R,

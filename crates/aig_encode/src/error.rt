@@ -10,10 +10,10 @@ use thiserror::Error;
 /// Why there are no clauses.
 #[derive(Clone, Copy, Debug, PartialEq, Eq, Error)]
 pub enum EncodeError {
-    /// The bytes are refused.
+    /// The bytes are refused, by this error of `Aig::from_aiger`.
     #[error("{0}")]
     Read(ReadError),
-    /// A growth was refused for want of memory after the reading.
+    /// Memory was refused after the reading.
     #[error("out of memory")]
     Memory,
     /// The circuit with its further steps may pass the limit.

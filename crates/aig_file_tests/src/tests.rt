@@ -3,6 +3,7 @@
 mod binary;
 mod display;
 mod encoding;
+mod examples;
 mod gaps;
 mod lexing;
 mod reading;

@@ -13,7 +13,7 @@ use std::alloc::{AllocError, AllocFailed};
 use std::fmt;
 use thiserror::Error;
 
-/// A section of a file, as a fault tells of it. It is printed by its name, in small letters and in the plural.
+/// A section of a file, as an error names it. It is printed by its name, in small letters and in the plural.
 #[derive(Clone, Copy, Debug, PartialEq, Eq)]
 pub enum Section {
     /// The inputs, `I` in the header.
@@ -54,31 +54,32 @@ impl fmt::Display for Section {
 /// Why a file is refused.
 #[derive(Clone, Copy, Debug, PartialEq, Eq, Error)]
 pub enum ReadError {
-    /// Memory ran out.
+    /// Memory was refused.
     #[error("out of memory")]
     Memory,
-    /// A read failed.
+    /// A read failed in this call.
     #[error("read failed")]
     Stream,
-    /// The first line is no good header line.
+    /// The first line isn't a good header line.
     #[error("bad header line")]
     Header,
     /// The header line is good, and the file has more variables than the limit allows.
     #[error("too many variables")]
     TooMany,
-    /// A line of this part is misshapen, or the stream ended in it.
+    /// A line of the section is malformed or cut, or has a number past 2^32 - 1.
     #[error("bad line in {0}")]
     Syntax(Section),
-    /// A number of this part is not a literal that may stand there.
+    /// A number of the section is no literal that may stand there.
     #[error("bad literal in {0}")]
     Literal(Section),
-    /// A binary difference is misshapen or too large.
+    /// A gate of a binary file is cut, or its differences aren't allowed.
     #[error("bad difference")]
     Delta,
-    /// What stands behind the gates is misshapen.
+    /// A name line is malformed or cut, is for no entry or for one that has a name, or names an input or a latch by
+    /// bytes that aren't UTF-8.
     #[error("bad name line")]
     Name,
-    /// The file can't be opened.
+    /// The path can't be opened.
     #[error("cannot open")]
     Open,
 }

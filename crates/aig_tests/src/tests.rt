@@ -4,6 +4,7 @@ mod building;
 mod changing;
 mod clauses;
 mod cones;
+mod examples;
 mod fields;
 mod hashing;
 mod logic;

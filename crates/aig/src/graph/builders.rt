@@ -14,7 +14,17 @@ use aig_circuit::{AigEdge, build};
 use std::alloc::Global;
 
 impl Aig {
-    /// Adds one gate, the and of two edges, and answers the edge to it. Asks `has_edge` of both.
+    /// Adds a gate, the and of two edges, and returns the edge to it.
+    ///
+    /// The gate is added always, and nothing is folded.
+    ///
+    /// # Requirements
+    ///
+    /// - `fanin0` and `fanin1` are of this circuit (`has_edge`).
+    ///
+    /// # Errors
+    ///
+    /// - `Memory`: memory was refused. The circuit stays as it was.
     pub fn trivial_new_and_node(
         &mut self,
         fanin0: AigEdge,
@@ -33,9 +43,32 @@ impl Aig {
         build::trivial_new_and_node(&mut self.lists.nodes, fanin0, fanin1)
     }
 
-    /// The and of two edges. True with an edge is that edge, false with an edge is false, an edge with itself is that
-    /// edge, and an edge with its inverse is false: these add nothing and take no memory. Else it adds one gate,
-    /// also where there is such a gate already. Asks `has_edge` of both.
+    /// Returns an edge that is the and of two edges, and adds at most one gate.
+    ///
+    /// In four cases it adds none and takes no memory: true with an edge is that edge, false with an edge is false, an
+    /// edge with itself is that edge, and an edge with its inverse is false. Else it adds one, also where there is such
+    /// a gate already (`strash` merges them).
+    ///
+    /// # Requirements
+    ///
+    /// - `fanin0` and `fanin1` are of this circuit (`has_edge`).
+    ///
+    /// # Errors
+    ///
+    /// - `Memory`: memory was refused. The circuit stays as it was. Never in the four cases.
+    ///
+    /// # Examples
+    ///
+    /// ```
+    /// let mut aig = Aig::new(alloc)?;
+    /// let x = AigEdge::from(aig.new_input()?);
+    /// let y = AigEdge::from(aig.new_input()?);
+    /// let both = aig.new_and_node(x, y)?;
+    /// let again = aig.new_and_node(x, y)?;
+    /// let never = aig.new_and_node(x, !x)?;
+    /// assert_eq!(rt; (both, again), (AigEdge::from(3), AigEdge::from(4)));
+    /// assert_eq!(rt; (never, aig.num_nodes()), (AigEdge::constant(false), 5));
+    /// ```
     pub fn new_and_node(&mut self, fanin0: AigEdge, fanin1: AigEdge) -> Result<AigEdge, MemoryError>
         requires first { IsInRange self.old.nodes fanin0 }
         requires second { IsInRange self.old.nodes fanin1 }
@@ -52,7 +85,17 @@ impl Aig {
         build::new_and_node(&mut self.lists.nodes, fanin0, fanin1)
     }
 
-    /// Adds one gate for the or of two edges, the inverse of the and of their inverses. Asks `has_edge` of both.
+    /// Adds a gate for the or of two edges, and returns the edge that is the or.
+    ///
+    /// It is the inverse of the `trivial_new_and_node` of their inverses.
+    ///
+    /// # Requirements
+    ///
+    /// - `fanin0` and `fanin1` are of this circuit (`has_edge`).
+    ///
+    /// # Errors
+    ///
+    /// - `Memory`: memory was refused. The circuit stays as it was.
     pub fn trivial_new_or_node(
         &mut self,
         fanin0: AigEdge,
@@ -72,7 +115,17 @@ impl Aig {
         build::trivial_new_or_node(&mut self.lists.nodes, fanin0, fanin1)
     }
 
-    /// The or of two edges: the inverse of the `new_and_node` of their inverses. Asks `has_edge` of both.
+    /// Returns an edge that is the or of two edges, and adds at most one gate.
+    ///
+    /// It is the inverse of the `new_and_node` of their inverses.
+    ///
+    /// # Requirements
+    ///
+    /// - `fanin0` and `fanin1` are of this circuit (`has_edge`).
+    ///
+    /// # Errors
+    ///
+    /// - `Memory`: memory was refused. The circuit stays as it was. Never where no gate is added.
     pub fn new_or_node(&mut self, fanin0: AigEdge, fanin1: AigEdge) -> Result<AigEdge, MemoryError>
         requires first { IsInRange self.old.nodes fanin0 }
         requires second { IsInRange self.old.nodes fanin1 }
@@ -89,8 +142,17 @@ impl Aig {
         build::new_or_node(&mut self.lists.nodes, fanin0, fanin1)
     }
 
-    /// That the first edge implies the second: the `new_or_node` of the first one's inverse and the second. Asks
-    /// `has_edge` of both.
+    /// Returns an edge that is true where the first edge implies the second, and adds at most one gate.
+    ///
+    /// It is the `new_or_node` of the first one's inverse and the second.
+    ///
+    /// # Requirements
+    ///
+    /// - `fanin0` and `fanin1` are of this circuit (`has_edge`).
+    ///
+    /// # Errors
+    ///
+    /// - `Memory`: memory was refused. The circuit stays as it was. Never where no gate is added.
     pub fn new_imply_node(
         &mut self,
         fanin0: AigEdge,
@@ -111,8 +173,17 @@ impl Aig {
         build::new_imply_node(&mut self.lists.nodes, fanin0, fanin1)
     }
 
-    /// That two edges are equal: the `new_or_node` of their `new_and_node` and of that of their inverses. Asks
-    /// `has_edge` of both.
+    /// Returns an edge that is true where two edges have one value, and adds at most three gates.
+    ///
+    /// It is the `new_or_node` of their `new_and_node` and of that of their inverses.
+    ///
+    /// # Requirements
+    ///
+    /// - `fanin0` and `fanin1` are of this circuit (`has_edge`).
+    ///
+    /// # Errors
+    ///
+    /// - `Memory`: memory was refused. The circuit stays as it was.
     pub fn new_eq_node(&mut self, fanin0: AigEdge, fanin1: AigEdge) -> Result<AigEdge, MemoryError>
         requires first { IsInRange self.old.nodes fanin0 }
         requires second { IsInRange self.old.nodes fanin1 }
@@ -129,9 +200,19 @@ impl Aig {
         build::new_eq_node(&mut self.lists.nodes, fanin0, fanin1)
     }
 
-    /// The and of the edges that an iterator gives, joined from the left by one gate for each edge after the first: of
-    /// none true, of one that edge. All items are taken before a gate is added. Asks that the iterator ends, and
-    /// `has_edge` of all.
+    /// Returns an edge that is the and of all edges that `fanin` gives, joined from the left, and adds one gate for
+    /// each edge after the first.
+    ///
+    /// Of no edges it is true, and of one it is that edge. All are taken before a gate is added.
+    ///
+    /// # Requirements
+    ///
+    /// - `fanin` ends.
+    /// - Each edge that it gives is of this circuit (`has_edge`).
+    ///
+    /// # Errors
+    ///
+    /// - `Memory`: memory was refused. The circuit stays as it was.
     pub fn trivial_new_ands_node<I: IntoIterator<Item = AigEdge>>(
         &mut self,
         fanin: I,
@@ -153,8 +234,18 @@ impl Aig {
         build::trivial_new_ands_node(&mut self.lists.nodes, &edges)
     }
 
-    /// The and of the edges that an iterator gives, joined from the left by `new_and_node`: of none true, of one that
-    /// edge. All items are taken before a gate is added. Asks that the iterator ends, and `has_edge` of all.
+    /// Returns an edge that is the and of all edges that `fanin` gives, joined from the left by `new_and_node`.
+    ///
+    /// Of no edges it is true, and of one it is that edge. All are taken before a gate is added.
+    ///
+    /// # Requirements
+    ///
+    /// - `fanin` ends.
+    /// - Each edge that it gives is of this circuit (`has_edge`).
+    ///
+    /// # Errors
+    ///
+    /// - `Memory`: memory was refused. The circuit stays as it was.
     pub fn new_ands_node<I: IntoIterator<Item = AigEdge>>(
         &mut self,
         fanin: I,
@@ -175,8 +266,20 @@ impl Aig {
         build::new_ands_node(&mut self.lists.nodes, &edges)
     }
 
-    /// The or of the edges that an iterator gives, the inverse of the `trivial_new_ands_node` of their inverses: of
-    /// none false, of one that edge. Asks that the iterator ends, and `has_edge` of all.
+    /// Returns an edge that is the or of all edges that `fanin` gives, joined from the left, and adds one gate for each
+    /// edge after the first.
+    ///
+    /// It is the inverse of the `trivial_new_ands_node` of their inverses: of no edges it is false, and of one it is
+    /// that edge. All are taken before a gate is added.
+    ///
+    /// # Requirements
+    ///
+    /// - `fanin` ends.
+    /// - Each edge that it gives is of this circuit (`has_edge`).
+    ///
+    /// # Errors
+    ///
+    /// - `Memory`: memory was refused. The circuit stays as it was.
     pub fn trivial_new_ors_node<I: IntoIterator<Item = AigEdge>>(
         &mut self,
         fanin: I,
@@ -198,8 +301,19 @@ impl Aig {
         build::trivial_new_ors_node(&mut self.lists.nodes, &edges)
     }
 
-    /// The or of the edges that an iterator gives, the inverse of the `new_ands_node` of their inverses: of none
-    /// false, of one that edge. Asks that the iterator ends, and `has_edge` of all.
+    /// Returns an edge that is the or of all edges that `fanin` gives, joined from the left.
+    ///
+    /// It is the inverse of the `new_ands_node` of their inverses: of no edges it is false, and of one it is that edge.
+    /// All are taken before a gate is added.
+    ///
+    /// # Requirements
+    ///
+    /// - `fanin` ends.
+    /// - Each edge that it gives is of this circuit (`has_edge`).
+    ///
+    /// # Errors
+    ///
+    /// - `Memory`: memory was refused. The circuit stays as it was.
     pub fn new_ors_node<I: IntoIterator<Item = AigEdge>>(
         &mut self,
         fanin: I,

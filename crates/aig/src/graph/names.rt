@@ -7,7 +7,11 @@ use super::Aig;
 use aig_base::MemoryError;
 
 impl Aig {
-    /// A copy of a node's name, if it has one.
+    /// Returns a copy of the name of the node of this number, or `None` where there is none.
+    ///
+    /// # Errors
+    ///
+    /// - `Memory`: memory was refused.
     pub fn get_symbol(&self, id: usize) -> Result<Option<String>, MemoryError>
         ensures { IfOk result (λ name. option_map string_bytes name ≡ get self.now.names id) }
     {
@@ -17,7 +21,17 @@ impl Aig {
         }
     }
 
-    /// Names a node, in place of an older name. Asks `has_node`.
+    /// Names the node of this number, in place of an older name.
+    ///
+    /// A name may hold any text. A circuit whose inputs or latches have a name with a line feed isn't written.
+    ///
+    /// # Requirements
+    ///
+    /// - There is such a node (`has_node`).
+    ///
+    /// # Errors
+    ///
+    /// - `Memory`: memory was refused. The circuit stays as it was.
     pub fn set_symbol(&mut self, id: usize, name: &str) -> Result<(), MemoryError>
         requires { id < length self.old.nodes }
         ensures ok { OnOk result

@@ -11,7 +11,15 @@ use aig_base::MemoryError;
 use aig_circuit::{AigEdge, AigLatch, AigNode, PropList};
 
 impl Aig {
-    /// Appends an edge to a list. Asks `has_edge`.
+    /// Appends an edge to a list.
+    ///
+    /// # Requirements
+    ///
+    /// - `e` is of this circuit (`has_edge`).
+    ///
+    /// # Errors
+    ///
+    /// - `Memory`: memory was refused. The circuit stays as it was.
     pub fn push_edge(&mut self, list: PropList, e: AigEdge) -> Result<(), MemoryError>
         requires { IsInRange self.old.nodes e }
         ensures ok { OnOk result
@@ -27,7 +35,12 @@ impl Aig {
         Ok(())
     }
 
-    /// Replaces entry `i` of a list. Asks that `i` is below the list's length, and `has_edge`.
+    /// Replaces entry `i` of a list, counted from 0.
+    ///
+    /// # Requirements
+    ///
+    /// - `i` is below the length of the list, which `outputs`, `bads`, `constraints` or `fairness` gives.
+    /// - `e` is of this circuit (`has_edge`).
     pub fn set_edge(&mut self, list: PropList, i: usize, e: AigEdge)
         requires place { i < length (edges_of list self.old) }
         requires edge { IsInRange self.old.nodes e }
@@ -53,7 +66,15 @@ impl Aig {
         }
     }
 
-    /// Appends a justice property, a set of edges. Asks `has_edge` of each.
+    /// Appends a justice property, a set of edges.
+    ///
+    /// # Requirements
+    ///
+    /// - Each edge of `set` is of this circuit (`has_edge`).
+    ///
+    /// # Errors
+    ///
+    /// - `Memory`: memory was refused. The circuit stays as it was.
     pub fn push_justice(&mut self, set: Vec<AigEdge>) -> Result<(), MemoryError>
         requires { All (IsInRange self.old.nodes) set.items }
         ensures ok { OnOk result
@@ -71,7 +92,12 @@ impl Aig {
         self.lists.justice.clear();
     }
 
-    /// Replaces the next edge of latch `i`. Asks that `i` is below the number of latches, and `has_edge`.
+    /// Replaces the next edge of latch `i`, counted from 0.
+    ///
+    /// # Requirements
+    ///
+    /// - `i` is below the number of latches (`latchs`).
+    /// - `e` is of this circuit (`has_edge`).
     pub fn set_next(&mut self, i: usize, e: AigEdge)
         requires place { i < length self.old.latchs }
         requires edge { IsInRange self.old.nodes e }
@@ -83,8 +109,12 @@ impl Aig {
         self.lists.latchs[i] = AigLatch::new(latch.input(), e, latch.init());
     }
 
-    /// Replaces the initial edge of latch `i`, which may be none. Asks that `i` is below the number of latches, and
-    /// `has_edge`.
+    /// Replaces the initial edge of latch `i`, counted from 0. With `None` the latch has none.
+    ///
+    /// # Requirements
+    ///
+    /// - `i` is below the number of latches (`latchs`).
+    /// - `e`, where it is there, is of this circuit (`has_edge`).
     pub fn set_init(&mut self, i: usize, e: Option<AigEdge>)
         requires place { i < length self.old.latchs }
         requires edge { IfSome e (IsInRange self.old.nodes) }
@@ -96,7 +126,11 @@ impl Aig {
         self.lists.latchs[i] = AigLatch::new(latch.input(), latch.next(), e);
     }
 
-    /// Puts a node in place of node `i`. Asks `admits`.
+    /// Puts a node in place of node `i`.
+    ///
+    /// # Requirements
+    ///
+    /// - `node` may stand there (`admits`).
     pub fn set_node(&mut self, i: usize, node: AigNode)
         requires { Admits self.old.nodes i node }
         ensures { self.new ≡ record self.old { nodes = slice_set self.old.nodes i node } }

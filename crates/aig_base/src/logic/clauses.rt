@@ -11,6 +11,8 @@ use std::alloc::Global;
 use std::marker::Model;
 
 /// A list of clauses: their literals one after another, and where each clause ends.
+///
+/// A call that returns an error leaves the list as it was.
 #[derive(Drop)]
 pub struct LitVvec {
     literals: Vec<Lit>,
@@ -30,7 +32,7 @@ impl Model for LitVvec {
 }
 
 impl LitVvec {
-    /// A list of no clauses.
+    /// Returns a list of no clauses, and takes no memory.
     pub fn new(alloc: Global) -> LitVvec
         ensures { result ≡ [] }
     {
@@ -40,7 +42,11 @@ impl LitVvec {
         }
     }
 
-    /// Appends one clause.
+    /// Appends one clause, which may be empty.
+    ///
+    /// # Errors
+    ///
+    /// - `Memory`: memory was refused. The list stays as it was.
     pub fn push(&mut self, clause: &[Lit]) -> Result<(), MemoryError>
         ensures ok { OnOk result (self.new ≡ self.old ++ clause.now ∷ []) }
         ensures err { OnErr result (self.new ≡ self.old) }
@@ -51,7 +57,7 @@ impl LitVvec {
         Ok(())
     }
 
-    /// How many clauses there are.
+    /// Returns how many clauses there are.
     pub fn len(&self) -> usize
         ensures count { result ≡ length self.now }
         ensures few { result < 2 ^ 63 }
@@ -59,7 +65,11 @@ impl LitVvec {
         self.ends.len()
     }
 
-    /// The literals of a clause. Asks a number below `len`.
+    /// Returns the literals of clause `i`, counted from 0.
+    ///
+    /// # Requirements
+    ///
+    /// - `i` is below the number of clauses (`len`).
     pub fn clause(&self, i: usize) -> &[Lit]
         requires { i < length self.now }
         ensures { slice_get self.now i ≡ Some result.now }
@@ -93,7 +103,12 @@ impl LitVvec {
         Ok(())
     }
 
-    /// The clauses that hold exactly where `n` is the and of the literals.
+    /// Returns the clauses that hold exactly where `n` is the and of the literals: for each of them that `n` implies
+    /// it, and last that all of them imply `n`.
+    ///
+    /// # Errors
+    ///
+    /// - `Memory`: memory was refused.
     pub fn cnf_and(alloc: Global, n: Lit, lits: &[Lit]) -> Result<LitVvec, MemoryError>
         ensures clauses { IfOk result (λ rel. rel ≡ and_clauses n lits.now) }
         ensures relation { IfOk result (λ rel. (v : ℕ → Bool) → IsTrue (are_true v rel)
@@ -107,7 +122,11 @@ impl LitVvec {
         Ok(rel)
     }
 
-    /// The clauses that hold exactly where `n` is `x` exclusive or `y`.
+    /// Returns the four clauses that hold exactly where `n` is the exclusive or of `x` and `y`.
+    ///
+    /// # Errors
+    ///
+    /// - `Memory`: memory was refused.
     pub fn cnf_xor(alloc: Global, n: Lit, x: Lit, y: Lit) -> Result<LitVvec, MemoryError>
         ensures clauses { IfOk result (λ rel. rel ≡ xor_clauses n x y) }
         ensures relation { IfOk result (λ rel. (v : ℕ → Bool) → IsTrue (are_true v rel)
@@ -122,7 +141,11 @@ impl LitVvec {
         Ok(rel)
     }
 
-    /// The clauses that hold exactly where `n` is `t` if `c` is true, and else `e`.
+    /// Returns the four clauses that hold exactly where `n` is `t` if `c` is true, and else `e`.
+    ///
+    /// # Errors
+    ///
+    /// - `Memory`: memory was refused.
     pub fn cnf_ite(alloc: Global, n: Lit, c: Lit, t: Lit, e: Lit) -> Result<LitVvec, MemoryError>
         ensures clauses { IfOk result (λ rel. rel ≡ ite_clauses n c t e) }
         ensures relation { IfOk result (λ rel. (v : ℕ → Bool) → IsTrue (are_true v rel)

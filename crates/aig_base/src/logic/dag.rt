@@ -14,7 +14,8 @@ const MOST_CLAUSES: usize = 1 << 63;
 
 /// Clauses in one list for each variable, which are numbered from 0.
 ///
-/// There is one variable at least, and 2^31 at most. Every literal is one of a variable that is there.
+/// There is one variable at least, and 2^31 at most. Every literal is of a variable that is there. A call that returns
+/// an error leaves the clauses as they were.
 #[derive(Drop)]
 pub struct DagCnf {
     relations: Vec<LitVvec>,
@@ -34,7 +35,11 @@ impl Model for DagCnf {
 }
 
 impl DagCnf {
-    /// Variable 0 alone, with the one clause that it is false.
+    /// Returns variable 0 alone, with the one clause that it is false.
+    ///
+    /// # Errors
+    ///
+    /// - `Memory`: memory was refused.
     pub fn new(alloc: Global) -> Result<DagCnf, MemoryError>
         ensures { IfOk result (λ dag. dag ≡ ((lit_to 0 false ∷ []) ∷ []) ∷ []) }
     {
@@ -48,7 +53,15 @@ impl DagCnf {
         })
     }
 
-    /// Adds a variable without clauses, and answers it. Asks that there are fewer than 2^31.
+    /// Adds a variable without clauses, and returns it.
+    ///
+    /// # Requirements
+    ///
+    /// - There are fewer than 2^31 variables (`num_vars`).
+    ///
+    /// # Errors
+    ///
+    /// - `Memory`: memory was refused. Variables and clauses stay as they were.
     pub fn new_var(&mut self) -> Result<Var, MemoryError>
         requires { length self.old < 2 ^ 31 }
         ensures var { IfOk result (λ var. var ≡ var_of (length self.old)) }
@@ -61,7 +74,15 @@ impl DagCnf {
         Ok(Var::new(number))
     }
 
-    /// Appends clauses to the list of a variable. Asks that it and all variables of the clauses are there.
+    /// Appends clauses to the list of a variable.
+    ///
+    /// # Requirements
+    ///
+    /// - `var`, and the variable of each literal of `rel`, is there: its number is below `num_vars`.
+    ///
+    /// # Errors
+    ///
+    /// - `Memory`: memory was refused. Variables and clauses stay as they were.
     pub fn add_rel(&mut self, var: Var, rel: &LitVvec) -> Result<(), MemoryError>
         requires var { number_of var < length self.old }
         requires rel { AreBelow (length self.old) rel.now }
@@ -78,7 +99,7 @@ impl DagCnf {
         Ok(())
     }
 
-    /// How many variables there are.
+    /// Returns how many variables there are.
     pub fn num_vars(&self) -> usize
         ensures count { result ≡ length self.now }
         ensures relations { AreRelations self.now }
@@ -86,7 +107,7 @@ impl DagCnf {
         self.relations.len()
     }
 
-    /// How many clauses all lists have together.
+    /// Returns how many clauses all lists have together.
     pub fn num_clauses(&self) -> usize
         ensures count { result ≡ sum_by length self.now }
         ensures few { result ≤ 2 ^ 63 }
@@ -94,7 +115,11 @@ impl DagCnf {
         self.clauses
     }
 
-    /// The clauses of a variable. Asks that it is there.
+    /// Returns the clauses of a variable.
+    ///
+    /// # Requirements
+    ///
+    /// - The variable is there: its number is below `num_vars`.
     pub fn clauses_of(&self, var: Var) -> &LitVvec
         requires { number_of var < length self.now }
         ensures { slice_get self.now (number_of var) ≡ Some result.now }

@@ -25,7 +25,11 @@ impl Model for Var {
 }
 
 impl Var {
-    /// The variable of a number. Asks that it is below 2^31.
+    /// Returns the variable of a number.
+    ///
+    /// # Requirements
+    ///
+    /// - `n` is below 2^31.
     pub fn new(n: usize) -> Var
         requires { n < 2 ^ 31 }
         ensures { result ≡ var_of n }
@@ -33,7 +37,7 @@ impl Var {
         Var { number: n as u32 }
     }
 
-    /// The literal that is the variable itself.
+    /// Returns the literal that is the variable itself.
     pub fn lit(self) -> Lit
         ensures { result ≡ lit_to (number_of self) true }
     {
@@ -63,7 +67,7 @@ pub struct Lit {
 }
 
 impl Lit {
-    /// The variable, inverted where the polarity is false.
+    /// Returns the literal of a variable, inverted where `polarity` is false.
     pub fn new(var: Var, polarity: bool) -> Lit
         ensures { result ≡ lit_to (number_of var) polarity }
     {
@@ -73,7 +77,7 @@ impl Lit {
         }
     }
 
-    /// Its variable.
+    /// Returns its variable.
     pub fn var(&self) -> Var
         ensures { result ≡ var_of (variable_of self.now) }
     {
@@ -82,7 +86,7 @@ impl Lit {
         }
     }
 
-    /// Whether it is not inverted.
+    /// Returns whether it is not inverted.
     pub fn polarity(&self) -> bool
         ensures { result ≡ is_positive self.now }
     {

@@ -30,7 +30,7 @@ impl Model for VarVMap {
 }
 
 impl VarVMap {
-    /// A map of no variables.
+    /// Returns a map of no variables, and takes no memory.
     pub fn new(alloc: Global) -> VarVMap
         ensures { result ≡ finite_map.empty }
     {
@@ -39,7 +39,11 @@ impl VarVMap {
         }
     }
 
-    /// Maps a variable, and answers the one that it was mapped to before, if any.
+    /// Maps a variable to a variable, and returns the one that it was mapped to before, if any.
+    ///
+    /// # Errors
+    ///
+    /// - `Memory`: memory was refused. The map stays as it was.
     pub fn insert(&mut self, k: Var, v: Var) -> Result<Option<Var>, MemoryError>
         ensures before { IfOk result (λ before. before ≡ finite_map.get self.old (number_of k)) }
         ensures ok { OnOk result
@@ -49,14 +53,14 @@ impl VarVMap {
         Ok(self.entries.insert(k.number(), v)?)
     }
 
-    /// The variable that a variable is mapped to, if any.
+    /// Returns the variable that a variable is mapped to, if any.
     pub fn get(&self, k: Var) -> Option<Var>
         ensures { result ≡ finite_map.get self.now (number_of k) }
     {
         self.entries.get(&k.number()).copied()
     }
 
-    /// How many variables are mapped.
+    /// Returns how many variables are mapped.
     pub fn len(&self) -> usize
         ensures { result ≡ finite_map.len self.now }
     {

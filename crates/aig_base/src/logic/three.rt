@@ -5,6 +5,9 @@ ghost use Rattle.std.specs.Prelude.{◌≡◌};
 use std::ops::{BitAnd, Not};
 
 /// False, true or unknown.
+///
+/// `!` inverts a value and leaves the unknown one. `&` is false where one side is, true where both are, and else
+/// unknown.
 #[derive(Clone, Copy, Debug, PartialEq, Eq)]
 pub enum Lbool {
     /// False.
@@ -20,7 +23,7 @@ impl Default for Lbool {
 
     ghost is_default = { λ value. value ≡ NONE };
 
-    /// Unknown.
+    /// Returns the unknown value.
     fn default() -> Lbool {
         Self::NONE
     }
@@ -29,7 +32,7 @@ impl Default for Lbool {
 impl Lbool {
     ghost use Rattle.aig_base.specs.Three.{lbool_not_if};
 
-    /// The inverse where `x` is true, and else the value.
+    /// Returns the inverse where `x` is true, and else the value.
     pub fn not_if(self, x: bool) -> Lbool
         ensures { result ≡ lbool_not_if x self }
     {
