@@ -1,8 +1,8 @@
 #!/usr/bin/env python3
 """Refuses each request for memory in turn, and counts requests.
 
-Every call that takes memory is made by the program aig_memory, once for each of its own requests for memory, with that request
-refused, upwards until a run ends without a refusal. A refused call answers that memory ran out and nothing else, and leaves its
+Every call that takes memory is made by the program aig_memory, or on circuits by a step of aig_script, once for each of its own
+requests for memory, with that request refused, upwards until a run ends without a refusal. A refused call answers that memory ran out and nothing else, and leaves its
 receiver as it was; the last run answers what ample memory answers. The same of each command of aigtool, which says `aigtool:
 out of memory`, ends with status 1, prints at most a beginning, and leaves an old OUT as it was.
 
@@ -27,7 +27,6 @@ CRATES = HERE.parent / "crates"
 # Calls that ask for no memory, though they answer a result.
 ASK_NOTHING = {"write_text", "to_file"}
 # What a refused call answers, where it isn't `Err(Memory)`.
-REFUSALS = {"clone": "Err(AllocError)"}
 # Calls that read a file first, and the call that reads the same file alone.
 READ_FIRST = {
     "encode": "from_aiger",
@@ -130,7 +129,7 @@ class Calls:
         """What the call answers where this request is refused."""
         if name in READ_FIRST and refused <= reading:
             return "Err(Read(Memory))\n"
-        return REFUSALS.get(name, "Err(Memory)") + "\n"
+        return "Err(Memory)\n"
 
     def check(self, name):
         """Failures of a call, one line each, and the count of checks."""
@@ -153,6 +152,85 @@ class Calls:
         if (refusals == 0) != (name in ASK_NOTHING):
             wrong.append(f"{name}: {refused - 1} requests, {refusals} answered as refused")
         return refused + 1, wrong
+
+
+# A file with an entry in every list: two inputs in falling order, three latches with all resets, a justice set of two edges and one
+# of none, gates with equal trees, an exclusive or, a choice.
+FULL = (
+    b"aag 15 2 3 2 10 2 2 2 1\n4\n2\n6 12\n8 15 1\n10 4 10\n24\n31\n12\n19\n14\n11\n2\n0\n18\n7\n13\n"
+    b"12 6 2\n14 9 4\n16 6 2\n18 16 14\n20 4 2\n22 5 3\n24 23 21\n26 8 2\n28 10 3\n30 29 27\n"
+    b"i0 a\ni1 b\nl2 state\no0 dropped\nccomment\n"
+)
+# Its circuit with a free leaf, an initial edge that isn't constant, and the names of that leaf and of a gate. The lists of a copy are
+# full: each grows at the next entry.
+FILLED = ["read full 7 1000", "leaf", "init 0 3", "name 7 gate", "name 16 free", "keep", "swap"]
+# The calls that steps make on that circuit.
+STEPS = [
+    "new",
+    "keep",
+    "unroll_to 3",
+    "aig_move",
+    "strash",
+    "coi_refine",
+    "cnf",
+    "cnf_raw",
+    "coi 7",
+    "fanin_logic_cone 24 31",
+    "leaf",
+    "input",
+    "add_input 16",
+    "latch 24 24",
+    "add_latch 16 24",
+    "push outputs 25",
+    "push bads 25",
+    "push constraints 25",
+    "push fairness 25",
+    "justice 25 6",
+    "name 12 another",
+    "name 1 another",
+    *(f"{name} 24 7" for name in ("trivial_and", "and", "trivial_or", "or", "imply", "eq")),
+    *(f"{name} 24 7 25" for name in ("trivial_ands", "ands", "trivial_ors", "ors")),
+    "unroll",
+    "merge",
+    "compress_property",
+    "gate_init_to_constraint",
+    "ternary_simulate =11 =xxx",
+]
+
+
+class Steps:
+    """The calls that steps make, one by one."""
+
+    def __init__(self, shim, program, folder):
+        self.shim, self.program, self.folder = shim, program, folder
+
+    def run(self, steps, room, refused=0):
+        """Takes steps, and counts the requests of their calls."""
+        (room / "steps").write_text("".join(step + "\n" for step in steps))
+        return self.shim.run([self.program, "steps"], room, refused, ("call", "answer"))
+
+    def room(self, step):
+        """A folder of the step's own, with what steps read."""
+        room = self.folder / step.replace(" ", "_")
+        room.mkdir()
+        (room / "full").write_bytes(FULL)
+        for name in ("gate", "free", "another"):
+            (room / name).write_text(name)
+        return room
+
+    def check(self, step):
+        """Failures of a step, one line each, and the count of checks."""
+        room, wrong = self.room(step), []
+        before = self.run([*FILLED, "show"], room)
+        wanted = before.out.decode() + f"> {step.split()[0]}\ncall\nanswer\nMemory\n> show\n" + before.out.decode().split("> show\n")[1]
+        ample = self.run([*FILLED, "show", step, "show"], room)
+        for refused in range(before.requests + 1, ample.requests + 1):
+            ended = self.run([*FILLED, "show", step, "show"], room, refused)
+            if (ended.status, ended.out.decode(), ended.err) != (0, wanted, b""):
+                wrong.append(f"{step}, request {refused}: status {ended.status}, {ended.out[-300:]}, {ended.err}")
+        if (ample.status, ample.err) != (0, b"") or b"Memory" in ample.out or ample.requests == before.requests:
+            wrong.append(f"{step}: status {ample.status}, {ample.requests} requests, {ample.err}")
+        return ample.requests - before.requests + 1, wrong
 
 
 class Tool:
@@ -240,6 +318,8 @@ def main():
     parser = argparse.ArgumentParser(description=__doc__, formatter_class=argparse.RawDescriptionHelpFormatter)
     program = CRATES / "aig_memory" / "out" / "aig_memory"
     parser.add_argument("--program", type=pathlib.Path, default=program, help="the program aig_memory")
+    script = CRATES / "aig_script" / "out" / "aig_script"
+    parser.add_argument("--script", type=pathlib.Path, default=script, help="the program aig_script")
     parser.add_argument("--tool", type=pathlib.Path, default=CRATES / "aigtool" / "out" / "aigtool", help="the program aigtool")
     parser.add_argument("--compiler", default=c_compiler(), help="the C compiler (%(default)s)")
     parser.add_argument("names", nargs="*", help="the calls to make (all, and the commands)")
@@ -249,10 +329,12 @@ def main():
         folder = pathlib.Path(name)
         shim = Shim(given.compiler, folder)
         calls = Calls(shim, given.program.resolve(), folder)
+        steps = Steps(shim, given.script.resolve(), folder)
         tool = Tool(shim, given.tool.resolve(), folder)
         with concurrent.futures.ThreadPoolExecutor(os.cpu_count()) as pool:
             running = [pool.submit(calls.check, call) for call in given.names or calls.names()]
             if not given.names:
+                running += [pool.submit(steps.check, step) for step in STEPS]
                 running += [pool.submit(tool.check, i, *case) for i, case in enumerate(tool.cases())]
                 sizes(shim, tool.tool, folder, failures)
         for count, wrong in (run.result() for run in running):

@@ -3,7 +3,6 @@
 use crate::show::Show;
 use aig::ReadError;
 use aig_base::MemoryError;
-use aig_testing::StepError;
 use std::alloc::{AllocError, AllocFailed, Global};
 use std::io;
 use std::io::Print;
@@ -39,12 +38,6 @@ impl From<AllocError> for Fault {
 impl<T: Drop> From<AllocFailed<T>> for Fault {
     fn from(_error: AllocFailed<T>) -> Fault {
         Fault::Memory
-    }
-}
-
-impl From<StepError> for Fault {
-    fn from(_error: StepError) -> Fault {
-        Fault::Circuit
     }
 }
 

@@ -46,13 +46,6 @@ impl<T: Show, E: Debug> Show for Result<T, E> {
     }
 }
 
-impl<S: Show, T: Show> Show for (S, T) {
-    fn show<R: Print + Files>(&self, rt: &R) -> io::Result<()> {
-        self.0.show(rt)?;
-        self.1.show(rt)
-    }
-}
-
 impl Show for Aig {
     fn show<R: Print + Files>(&self, rt: &R) -> io::Result<()> {
         println!(rt; "nodes {:?}", self.nodes())?;

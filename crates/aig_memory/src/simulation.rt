@@ -3,7 +3,7 @@
 ghost use Rattle.std.specs.Prelude.{◌≡◌, IfOk};
 
 use crate::circuits::read;
-use crate::run::{Fault, Run, case};
+use crate::run::{Fault, Run};
 use crate::show::{Fields, Nothing};
 use aig::{Aig, AigEdge, TernarySimulate};
 use aig_base::Lbool;
@@ -104,21 +104,8 @@ fn simulate_all<R: Print + Files>(run: &Run<'_, R>, aig: &Aig) -> Result<bool, F
     Ok(true)
 }
 
-/// The call that values all nodes once.
-fn value_nodes<R: Print + Files>(run: &Run<'_, R>, aig: &Aig) -> Result<bool, Fault> {
-    let inputs = vec![in run.alloc; Lbool::TRUE; aig.inputs().len()]?;
-    let state = vec![in run.alloc; Lbool::NONE; aig.latchs().len()]?;
-    case!(
-        run,
-        "ternary_simulate",
-        *aig,
-        Fields(aig.ternary_simulate(&inputs, &state))
-    );
-    Ok(false)
-}
-
 /// All calls that simulate.
 pub(crate) fn calls<R: Print + Files>(run: &Run<'_, R>) -> Result<bool, Fault> {
     let aig = read(run.alloc)?;
-    Ok(value_nodes(run, &aig)? || simulate(run, &aig)? || simulate_all(run, &aig)?)
+    Ok(simulate(run, &aig)? || simulate_all(run, &aig)?)
 }

@@ -4,10 +4,7 @@
 mod files;
 mod steps;
 
-pub use files::{
-    AND, BINARY_AND, LIMIT, PIECES, binary_of, is_written, is_written_in_binary, read, read_parts,
-    text_of,
-};
+pub use files::{AND, BINARY_AND, LIMIT, is_written, read};
 pub use steps::{
-    Many, Pair, Step, StepError, built, closed_reencoded, edge, has_edges, is_latch, take, take_all,
+    Many, Pair, Step, StepError, built, closed_reencoded, edge, has_edges, is_latch, take,
 };

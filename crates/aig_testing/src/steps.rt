@@ -261,17 +261,6 @@ pub fn take(alloc: Global, aig: &mut Aig, step: Step<'_>) -> Result<Option<AigEd
     Ok(Some(added?))
 }
 
-/// Takes steps, and gives the edges that they answer.
-pub fn take_all(alloc: Global, aig: &mut Aig, steps: &[Step<'_>]) -> Result<Vec<AigEdge>, Fail> {
-    let mut answers = Vec::new(alloc);
-    for step in steps {
-        if let Some(e) = take(alloc, aig, *step)? {
-            answers.push(e)?;
-        }
-    }
-    Ok(answers)
-}
-
 /// The circuit of these steps.
 pub fn built(alloc: Global, steps: &[Step<'_>]) -> Result<Aig, Fail> {
     let mut aig = Aig::new(alloc)?;

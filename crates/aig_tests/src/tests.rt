@@ -1,14 +1,13 @@
-//! The calls of the library on circuits, as users make them, and literals, three values and clauses.
+//! What steps of tests/scripts can't say: literals, three values and clauses, single calls, streams that fail, and refusals in words.
 
-mod building;
-mod changing;
-mod clauses;
-mod cones;
+mod display;
+mod encoding;
 mod examples;
 mod fields;
-mod hashing;
+mod lexing;
 mod logic;
+mod reading;
 mod refusing;
 mod simulating;
-mod unrolling;
-mod whole;
+mod streams;
+mod writing;

@@ -1,0 +1,194 @@
+#!/usr/bin/env python3
+"""Measures the gate: gate.py run LOG [--jobs N] [NAME ..], and then gate.py table LOG ..
+
+`run` copies this tree, and proves each crate (or those that are named, and what they stand on) from nothing in the copy, callees
+first, N at once (1): the crate, its tests, and its edits that must fail. LOG gets a line for each of these with its processor time
+and peak memory, and a line for each function with the processor time between the end of the function before and its own, which the
+check tells as it goes. `table` prints logs as the tables of docs/GATE.md, where a later line stands for an earlier one.
+"""
+import argparse
+import concurrent.futures
+import os
+import pathlib
+import re
+import shutil
+import subprocess
+import sys
+import tempfile
+import threading
+import time
+
+ROOT = pathlib.Path(__file__).resolve().parent.parent
+LINE = re.compile(r"(?:\S+ )?(\w+)( tests| edits)? rc=(-?\d+) (\d+)s(?: cpu=(\d+)s)?(?: rss=(\d+)M)?(?:.*? functions=(\d+))?")
+FUNCTION = re.compile(r"function (\S+) ([\d.]+)s")
+CHECKED = re.compile(r"checked (.+), \d+ of \d+$")
+TICK = os.sysconf("SC_CLK_TCK")
+DEAREST = 20
+
+
+def needs():
+    """The crates of this tree that each crate stands on."""
+    lines = [line.partition("#")[0].partition(":") for line in (ROOT / "crates.txt").read_text().splitlines()]
+    below = {name.split()[0]: words.split() for name, _, words in lines if name.strip()}
+    return {name: [it for it in words if it in below] for name, words in below.items()}
+
+
+def edits(name, root=ROOT):
+    """How many edits of a crate must fail."""
+    return len(list((root / "crates" / name / "must-fail").glob("*.edit")))
+
+
+def has_tests(name, root):
+    return any("#[test]" in path.read_text() for path in (root / "crates" / name / "src").rglob("*.rt"))
+
+
+def copied(folder):
+    """A copy of this tree's files, without what was built."""
+    files = subprocess.run(["git", "ls-files", "-z"], cwd=ROOT, capture_output=True, check=True).stdout.decode().split("\0")
+    for file in files:
+        if file and (ROOT / file).is_file():
+            (folder / file).parent.mkdir(parents=True, exist_ok=True)
+            shutil.copy2(ROOT / file, folder / file)
+
+
+# ---- measuring
+
+
+def time_of_tree(process):
+    """The processor seconds of a process that runs, and of all that it started."""
+    parents, times = {}, {}
+    for path in pathlib.Path("/proc").glob("[0-9]*/stat"):
+        try:
+            words = path.read_text().rpartition(")")[2].split()
+        except OSError:
+            continue
+        parents[int(path.parent.name)] = int(words[1])
+        times[int(path.parent.name)] = sum(map(int, words[11:15])) / TICK
+    under = {process}
+    while more := {it for it, parent in parents.items() if parent in under} - under:
+        under |= more
+    return sum(times.get(it, 0) for it in under)
+
+
+class Log:
+    """Lines of a file, written at once."""
+
+    def __init__(self, path):
+        self.file, self.lock = open(path, "a", encoding="utf-8"), threading.Lock()
+
+    def say(self, line):
+        with self.lock:
+            self.file.write(line + "\n")
+            self.file.flush()
+
+
+def measured(log, label, words, folder):
+    """Runs a command of the toolchain, and logs what it took. Returns whether it passed."""
+    began, before, last = time.time(), 0.0, ""
+    child = subprocess.Popen(words, cwd=folder, stdout=subprocess.PIPE, stderr=subprocess.STDOUT, text=True)
+    for line in child.stdout:
+        last = line.strip() or last
+        checked = CHECKED.match(line.strip())
+        if checked:
+            now = time_of_tree(child.pid)
+            log.say(f"function {checked[1].split()[0]} {max(now - before, 0):.1f}s")
+            before = now
+    _, status, usage = os.wait4(child.pid, 0)
+    told = re.search(r"logic=.* functions=\d+", last)
+    took = f"{time.time() - began:.0f}s cpu={usage.ru_utime + usage.ru_stime:.0f}s rss={usage.ru_maxrss // 1024}M"
+    log.say(f"{label} rc={os.waitstatus_to_exitcode(status)} {took} {told[0] if told else ''}".rstrip())
+    return status == 0
+
+
+def measure(log, root, name):
+    """Measures a crate, whose libraries are proved."""
+    folder = root / "crates" / name
+    well = measured(log, name, ["rt", "check", "--jobs", "1", "--progress"], folder)
+    if well and (folder / "src" / "lib.rt").exists():
+        well = subprocess.run(["rt", "lib"], cwd=folder, stdout=subprocess.DEVNULL, stderr=subprocess.DEVNULL).returncode == 0
+    if well and has_tests(name, root):
+        well = measured(log, f"{name} tests", ["rt", "check", "--test", "--jobs", "1", "--progress"], folder)
+    if well and edits(name, root):
+        well = measured(log, f"{name} edits", ["rt", "must-fail", name], root)
+    return well
+
+
+def run(path, jobs, names):
+    """Measures all crates, each once those below it are proved. Returns whether all passed."""
+    below, done, running, log = needs(), set(), {}, Log(path)
+    wanted = set(names) or set(below)
+    while more := {it for name in wanted for it in below[name]} - wanted:
+        wanted |= more
+    with tempfile.TemporaryDirectory() as name, concurrent.futures.ThreadPoolExecutor(jobs) as pool:
+        root = pathlib.Path(name)
+        copied(root)
+        while done != wanted:
+            for crate in sorted(wanted - done - set(running.values())):
+                if done.issuperset(below[crate]):
+                    running[pool.submit(measure, log, root, crate)] = crate
+            if not running:
+                return False
+            ended, _ = concurrent.futures.wait(running, return_when="FIRST_COMPLETED")
+            for it in ended:
+                crate = running.pop(it)
+                if not it.result():
+                    return False
+                done.add(crate)
+    return True
+
+
+# ---- tables
+
+
+def rows(paths):
+    """What logs say of each crate, of its tests and of its edits, and of each function."""
+    crates, functions = {}, {}
+    for path in paths:
+        for line in pathlib.Path(path).read_text().splitlines():
+            found, function = LINE.match(line), FUNCTION.match(line)
+            if function:
+                functions[function[1]] = float(function[2])
+            elif found and found[3] == "0":
+                crates.setdefault(found[1], {})[(found[2] or " proof").strip()] = found.groups()[4:]
+    return crates, functions
+
+
+def cell(took, i):
+    return took[i] if took and took[i] else ""
+
+
+def table(paths):
+    """Prints the tables."""
+    crates, functions = rows(paths)
+    crates = {name: crates.get(name, {}) for name in needs()}
+    proof = {name: int(cell(took.get("proof"), 0) or 0) for name, took in crates.items()}
+    print("| crate | processor seconds | peak MB | functions | seconds of its tests | edits | seconds of the edits |")
+    print("|---|---|---|---|---|---|---|")
+    for name in sorted(crates, key=lambda it: -proof[it]):
+        took = crates[name]
+        words = [*(cell(took.get("proof"), i) for i in range(3)), cell(took.get("tests"), 0), edits(name) or "", cell(took.get("edits"), 0)]
+        print(f"| `{name}` | " + " | ".join(map(str, words)) + " |")
+    counts = sum(int(cell(it.get("proof"), 2) or 0) for it in crates.values())
+    print(f"| all that was measured | {sum(proof.values())} | | {counts} | | {sum(map(edits, crates))} | |")
+    if functions:
+        print("\n| function | processor seconds |\n|---|---|")
+        for name in sorted(functions, key=lambda it: -functions[it])[:DEAREST]:
+            print(f"| `{name}` | {functions[name]} |")
+
+
+def main():
+    parser = argparse.ArgumentParser(description=__doc__, formatter_class=argparse.RawDescriptionHelpFormatter)
+    verbs = parser.add_subparsers(dest="verb", required=True)
+    runs = verbs.add_parser("run")
+    runs.add_argument("log")
+    runs.add_argument("names", nargs="*")
+    runs.add_argument("--jobs", type=int, default=1)
+    verbs.add_parser("table").add_argument("logs", nargs="+")
+    given = parser.parse_args()
+    if given.verb == "table":
+        return table(given.logs)
+    return 0 if run(given.log, given.jobs, given.names) else 1
+
+
+if __name__ == "__main__":
+    sys.exit(main())

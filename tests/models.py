@@ -1,0 +1,334 @@
+#!/usr/bin/env python3
+"""Holds what aig_script prints against plain programs that know nothing of the library.
+
+Clauses against runs of a file: for all values of the leaves, what the clauses fix is what the file's own lines say, step by step, and
+the further clauses of a query hold exactly on the runs to a bad state. The simulator knows the lines alone, and the solver the clauses.
+Hashing against trees: the nodes of a hashed circuit are the trees of the old one that differ, up to exchange. And circuits of a
+hundred thousand gates, each on the one before, which no call may take for a deep stack.
+"""
+import argparse
+import dataclasses
+import pathlib
+import re
+import subprocess
+import sys
+import tempfile
+
+import scripts
+
+
+def answers(program, steps, files={}):
+    """The lines that the program prints for each of the steps, with files that they name."""
+    with tempfile.TemporaryDirectory() as folder:
+        for name, text in {**files, "steps": "".join(it + "\n" for it in steps)}.items():
+            (pathlib.Path(folder) / name).write_text(text)
+        run = subprocess.run([program, "steps"], cwd=folder, capture_output=True, text=True, timeout=100, check=True)
+    return scripts.answers(run.stdout)
+
+
+# ---- circuits, as they are printed
+
+
+def edge(word):
+    """An edge: its node's number, and whether it is inverted."""
+    return int(word.lstrip("!")), word.startswith("!")
+
+
+def sections(lines):
+    """What stands behind each title of a circuit."""
+    return {title: words for title, *words in map(str.split, lines)}
+
+
+def nodes(words):
+    """The operands of each gate, and the kind of each other node."""
+    return [tuple(map(edge, word.split("&"))) if "&" in word else word for word in words]
+
+
+def sets(words):
+    """The sets of edges that stand in brackets."""
+    return [[edge(it) for it in inner.split()] for inner in re.findall(r"\[([^]]*)\]", " ".join(words))]
+
+
+# ---- the simulator
+
+
+@dataclasses.dataclass
+class Lines:
+    """What the lines of a text file say. Of justice there is one set, or none."""
+
+    inputs: list
+    latches: list
+    outputs: list
+    gates: list
+    bads: list
+    constraints: list
+    justice: list
+    fairness: list
+
+
+def lines_of(text):
+    """The lines of a text file with at most one justice set."""
+    header, *rest = text.splitlines()
+    counts = ([int(word) for word in header.split()[2:]] + [0] * 9)[:9]
+    rest = iter([int(word) for word in line.split()] for line in rest)
+
+    def section(count):
+        return [next(rest) for _ in range(count)]
+
+    def literals(count):
+        return [literal for (literal,) in section(count)]
+
+    inputs, latches, outputs, gates, bads, constraints, justice, fairness = counts[:8]
+    heads = literals(inputs), section(latches), literals(outputs)
+    properties = literals(bads), literals(constraints), literals(sum(literals(justice))), literals(fairness)
+    return Lines(sorted(heads[0]), *heads[1:], section(gates), *properties)
+
+
+def value(step, literal):
+    return step[literal // 2] != bool(literal % 2)
+
+
+def start_of(latch):
+    """A latch's initial value, or none where it is open."""
+    reset = latch[2] if len(latch) > 2 else 0
+    return bool(reset) if reset < 2 else None
+
+
+def run_of(lines, k, bits):
+    """The values of the steps 0 to k of a run, whose first state and inputs are the bits of a number, the lowest first."""
+    state, steps = {0: False}, []
+    for literal, *_ in lines.latches:
+        state[literal // 2], bits = bool(bits % 2), bits // 2
+    for _ in range(k + 1):
+        step = dict(state)
+        for literal in lines.inputs:
+            step[literal // 2], bits = bool(bits % 2), bits // 2
+        for gate, left, right in lines.gates:
+            step[gate // 2] = value(step, left) and value(step, right)
+        steps.append(step)
+        state = {0: False, **{latch[0] // 2: value(step, latch[1]) for latch in lines.latches}}
+    return steps
+
+
+def is_witness(lines, steps):
+    """Whether a run begins with the initial values, meets all constraints, and ends in a bad state."""
+    starts = all(start_of(it) in (None, value(steps[0], it[0])) for it in lines.latches)
+    allowed = all(value(step, literal) for step in steps for literal in lines.constraints)
+    return starts and allowed and any(value(steps[-1], literal) for literal in lines.bads)
+
+
+# ---- the solver
+
+
+def fixed(clauses, values):
+    """All values that the clauses and the given values leave no choice about."""
+    values = dict(values)
+
+    def is_false(literal):
+        return literal // 2 in values and not value(values, literal)
+
+    grown = True
+    while grown:
+        grown = False
+        for clause in clauses:
+            opened = [literal for literal in clause if not is_false(literal)]
+            if len(opened) == 1 and opened[0] // 2 not in values:
+                values[opened[0] // 2] = not opened[0] % 2
+                grown = True
+    return values
+
+
+def holds(values, clauses):
+    """Whether a literal of each clause is true."""
+    return all(any(literal // 2 in values and value(values, literal) for literal in clause) for clause in clauses)
+
+
+# ---- both
+
+
+def query(program, text, k, name):
+    """The circuit with k further steps, its clauses, and the further ones, as the program prints them."""
+    (lines,) = answers(program, [f"{name} file {k}"], {"file": text})
+    end = lines.index("extra")
+    clauses = [[int(word) for word in re.findall(r"\d+", line)] for line in lines[:end] if line.startswith("clause")]
+    extra = [[int(word) for word in re.findall(r"\d+", line)] for line in lines[end:] if line.startswith("clause")]
+    return sections([line for line in lines[:end] if not line.startswith(("clause", "variable"))][:-1]), clauses, extra
+
+
+def leaves(lines, circuit, steps):
+    """The values that a run gives to the leaves of the circuit: at the first step the file's own, and then the inputs that were added."""
+    values = {it[0] // 2: value(steps[0], it[0]) for it in lines.latches}
+    places = [literal // 2 for literal in lines.inputs] + [int(word) for word in circuit["inputs"][len(lines.inputs):]]
+    given = [value(step, literal) for step in steps for literal in lines.inputs]
+    return {**values, **dict(zip(places, given, strict=True))}
+
+
+def agree(lines, circuit, steps, values):
+    """Whether all properties of the circuit, and its next edges, have the values of the run."""
+    def are(edges, part, literals):
+        found = [values[id] != inverted for id, inverted in edges]
+        return found == [value(step, literal) for step in part for literal in literals]
+
+    lists = ("outputs", "bads", "constraints", "fairness")
+    justice = sets(circuit["justice"])
+    latches = [edge(word.split(":")[1]) for word in circuit["latches"]]
+    return (
+        all(are(map(edge, circuit[name]), steps, getattr(lines, name)) for name in lists)
+        and len(justice) == (len(steps) if lines.justice else 0)
+        and all(are(it, [step], lines.justice) for it, step in zip(justice, steps))
+        and are(latches, steps[-1:], [it[1] for it in lines.latches])
+    )
+
+
+def count_witnesses(program, text, k, name, runs):
+    """How many runs are witnesses, or none where the clauses say otherwise of one."""
+    lines = lines_of(text)
+    circuit, clauses, extra = query(program, text, k, name)
+    count = 0
+    for bits in range(runs):
+        steps = run_of(lines, k, bits)
+        values = fixed(clauses, leaves(lines, circuit, steps))
+        witness = is_witness(lines, steps)
+        if not holds(values, clauses) or not agree(lines, circuit, steps, values) or holds(values, extra) != witness:
+            return None
+        count += witness
+    return count
+
+
+# A counter of two bits, which begins odd, has to count at each step, and is bad where both bits are set. It has two exclusive ors, and
+# an inner gate of the first is an operand of the second.
+COUNTER = """aag 10 1 2 1 7 1 1
+2
+4 12 1
+6 18 6
+18
+20
+2
+8 4 2
+10 5 3
+12 11 9
+14 8 6
+16 9 7
+18 17 15
+20 6 4
+"""
+# A bit that takes the value of the second input where the first is set, by a choice, and is bad where it is set. While it is set the
+# first input has to be, too. The lines of the inputs stand in falling order.
+BIT = """aag 6 2 1 1 3 2 1 1 1
+4
+2
+6 13
+12
+6
+0
+11
+2
+6
+13
+3
+8 4 2
+10 6 3
+12 11 9
+"""
+# A file, the steps, how many runs it has, and how many of these end in a bad state.
+RUNS = [
+    (COUNTER, 0, 8, 1),
+    (COUNTER, 1, 16, 0),
+    (COUNTER, 2, 32, 1),
+    (BIT, 0, 8, 0),
+    (BIT, 1, 32, 2),
+    (BIT, 2, 128, 8),
+]
+
+# ---- hashing
+
+
+def random_gates(seed, gates):
+    """The literals of gates over two inputs and over one another that look random."""
+    state, pairs = seed, []
+
+    def number():
+        nonlocal state
+        state = (state * 6364136223846793005 + 1442695040888963407) % 2**64
+        return state >> 33
+
+    def literal(size):
+        node = number() % size
+        return 2 * node + number() % 2
+
+    for size in range(3, 3 + gates):
+        pairs.append((literal(size), literal(size)))
+    return pairs
+
+
+def hashed(circuit):
+    """The nodes of a circuit in which each tree stands once, with the lesser operand first."""
+    trees, numbers, made = {}, [], []
+    for id, node in enumerate(circuit):
+        if isinstance(node, tuple):
+            node = tuple(sorted((numbers[it], inverted) for it, inverted in node))
+        tree = node if isinstance(node, tuple) else (id,)
+        if tree not in trees:
+            trees[tree] = len(made)
+            made.append(node)
+        numbers.append(trees[tree])
+    return made
+
+
+def hashes(program, seed, gates):
+    """Whether hashing a circuit once and twice gives the nodes whose trees differ."""
+    steps = ["input", "input", *(f"trivial_and {a} {b}" for a, b in random_gates(seed, gates)), "show", "strash", "show", "strash", "show"]
+    before, once, twice = (nodes(sections(it)["nodes"]) for it in answers(program, steps) if len(it) > 1)
+    return len(before) == 3 + gates and once == twice == hashed(before)
+
+
+# ---- circuits that are deep
+
+DEEP = 100_000
+
+
+def refines_deep(program):
+    """Whether a chain of gates, each the and of the one before, inverted, and of the input, is kept whole by all that walks it."""
+    gates = (f"trivial_and {literal} 2" for literal in [3, *range(5, 2 * DEEP + 2, 2)])
+    steps = ["input", *gates, f"push outputs {2 * DEEP + 2}", f"fanin_logic_cone {2 * DEEP + 2}", "strash", "show", "coi_refine", "show"]
+    *_, cone, _, hashed, mapped, refined = answers(program, steps)
+    kept = [len(sections(it)["nodes"]) for it in (hashed, refined)]
+    return len(cone[0].split()) == DEEP + 1 and mapped[-1] == f"{DEEP + 2} mapped" and kept == [DEEP + 2] * 2
+
+
+def reads_falling(program):
+    """Whether a text is read in which each gate stands on the next line's."""
+    lines = (f"{literal + 2} {literal} {literal}\n" for literal in range(2 * DEEP, 0, -2))
+    text = f"aag {DEEP + 1} 1 0 1 {DEEP}\n2\n{2 * DEEP + 2}\n" + "".join(lines)
+    _, circuit = answers(program, ["read file 4096 16777216", "show"], {"file": text})
+    circuit = sections(circuit)
+    return len(circuit["nodes"]) == DEEP + 2 and circuit["outputs"] == [str(DEEP + 1)]
+
+
+def main():
+    parser = argparse.ArgumentParser(description=__doc__)
+    parser.add_argument("--program", type=pathlib.Path, default=scripts.PROGRAM)
+    program = parser.parse_args().program
+    faults, count = [], 0
+    for text, k, runs, witnesses in RUNS:
+        for name in ("query", "query_raw"):
+            found = count_witnesses(program, text, k, name, runs)
+            count += runs
+            if found != witnesses:
+                faults.append(f"{name} of {text.splitlines()[0]} with {k} steps: {found} witnesses, not {witnesses}")
+    for seed in range(40):
+        count += 1
+        if not hashes(program, seed, 14):
+            faults.append(f"hashing the circuit of {seed}")
+    for holds_so in (refines_deep, reads_falling):
+        count += 1
+        if not holds_so(program):
+            faults.append(holds_so.__doc__)
+    for fault in faults:
+        print(fault)
+    print(f"{count} runs and circuits, {len(faults)} faults")
+    return 1 if faults else 0
+
+
+if __name__ == "__main__":
+    sys.exit(main())
