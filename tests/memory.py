@@ -2,9 +2,9 @@
 """Refuses each request for memory in turn, and counts requests.
 
 Every call that takes memory is made by the program aig_memory, or on circuits by a step of aig_script, once for each of its own
-requests for memory, with that request refused, upwards until a run ends without a refusal. A refused call answers that memory ran out and nothing else, and leaves its
-receiver as it was; the last run answers what ample memory answers. The same of each command of aigtool, which says `aigtool:
-out of memory`, ends with status 1, prints at most a beginning, and leaves an old OUT as it was.
+requests for memory, with that request refused, upwards until a run ends without a refusal. A refused call answers that memory ran
+out and nothing else, and leaves its receiver as it was; the last run answers what ample memory answers. The same of each command of
+aigtool, which says `aigtool: out of memory`, ends with status 1, prints at most a beginning, and leaves an old OUT as it was.
 
 Requests are counted as well: long lines and comments make none, and no number of a file makes a large one, but for the room for
 nodes, which is reserved within the limit.
@@ -26,7 +26,6 @@ CRATES = HERE.parent / "crates"
 
 # Calls that ask for no memory, though they answer a result.
 ASK_NOTHING = {"write_text", "to_file"}
-# What a refused call answers, where it isn't `Err(Memory)`.
 # Calls that read a file first, and the call that reads the same file alone.
 READ_FIRST = {
     "encode": "from_aiger",
