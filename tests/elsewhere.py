@@ -46,7 +46,9 @@ def copy(folder, proved):
         leave = shutil.ignore_patterns() if proved else shutil.ignore_patterns("out")
         shutil.copytree(os.path.join(TOP, "crates", name), os.path.join(folder, "crates", name), symlinks=True, ignore=leave)
     caller = os.path.join(folder, "crates", "caller")
-    shutil.copytree(CALLER, caller, ignore=shutil.ignore_patterns("out"))
+    shutil.copytree(CALLER, caller)
+    os.mkdir(os.path.join(caller, "src"))
+    os.rename(os.path.join(caller, "main.rt.txt"), os.path.join(caller, "src", "main.rt"))
     for name in os.listdir(os.path.join(caller, "data")):
         shutil.copy(os.path.join(caller, "data", name), caller)
     for name in ("crates.txt", "HANDLES"):
