@@ -1,7 +1,8 @@
 //! A caller from another repository: it stands on a builder's value, on a law, and on the promise of `encode`.
 #![tactic(auto)]
 
-ghost use Rattle.std.specs.Prelude.{◌≡◌, ◌&&◌, ℕ, Bool, IfOk, not};
+ghost use Rattle.std.specs.Prelude.{◌≡◌, ◌&&◌, ◌||◌, ℕ, Bool, IfOk, not};
+ghost use Rattle.aig_circuit.specs.Build.{AddsOnlyGates};
 ghost use Rattle.aig_circuit.specs.Circuit.{IsInRange};
 ghost use Rattle.aig_circuit.specs.Tree.{edge_value};
 ghost use Rattle.aig_encode.specs.Encoding.{IsWithin};
@@ -24,18 +25,33 @@ fn without(aig: &mut Aig, one: AigEdge, other: AigEdge) -> Result<AigEdge, Memor
     ensures edge { IfOk result (λ e. IsInRange aig.new.nodes e) }
     ensures value { IfOk result (λ e. (x : ℕ → Bool) → edge_value aig.new.nodes x e
         ≡ (edge_value aig.old.nodes x one && not (edge_value aig.old.nodes x other))) }
+    ensures gates { AddsOnlyGates aig.old aig.new }
 {
     inverses_have_other_values();
     aig.new_and_node(one, !other)
 }
 
-/// Adds the bad state that the first output is true, and the second isn't.
+/// Adds gates for: one of both edges is true, and the other isn't.
+fn exclusive_or(aig: &mut Aig, one: AigEdge, other: AigEdge) -> Result<AigEdge, MemoryError>
+    requires one { IsInRange aig.old.nodes one }
+    requires other { IsInRange aig.old.nodes other }
+    ensures edge { IfOk result (λ e. IsInRange aig.new.nodes e) }
+    ensures value { IfOk result (λ e. (x : ℕ → Bool) → edge_value aig.new.nodes x e
+        ≡ ((edge_value aig.old.nodes x one && not (edge_value aig.old.nodes x other))
+        || (edge_value aig.old.nodes x other && not (edge_value aig.old.nodes x one)))) }
+{
+    let first = without(aig, one, other)?;
+    let second = without(aig, other, one)?;
+    aig.new_or_node(first, second)
+}
+
+/// Adds the bad state that the first two outputs differ.
 fn add_bad_state(aig: &mut Aig) -> Result<(), MemoryError> {
     if aig.outputs().len() < 2 {
         return Ok(());
     }
     let (one, other) = (aig.outputs()[0], aig.outputs()[1]);
-    let bad = without(aig, one, other)?;
+    let bad = exclusive_or(aig, one, other)?;
     aig.push_edge(PropList::Bads, bad)
 }
 
