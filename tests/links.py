@@ -68,8 +68,8 @@ def rust_faults(text, sources):
 
 def main():
     pages = [os.path.join(TOP, "README.md"), *sorted(glob.glob(os.path.join(TOP, "docs", "*.md")))]
-    sources = [read(path) for folder in ("crates", "examples")
-               for path in glob.glob(os.path.join(TOP, folder, "**", "src", "**", "*.rt"), recursive=True)]
+    code = [os.path.join(TOP, "crates", "*", "src", "**", "*.rt"), os.path.join(TOP, "examples", "*", "*.rt.txt")]
+    sources = [read(path) for pattern in code for path in glob.glob(pattern, recursive=True)]
     wrong = links = 0
     for page in pages:
         text = read(page)
