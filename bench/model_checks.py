@@ -7,41 +7,16 @@ last one, isn't reached up to step BOUND (50). Each row has seconds of processor
 the same and has the answers checked; and what part of the first two the last is.
 """
 import os
-import random
 import subprocess
 import sys
 import tempfile
 import time
 
+from circuits import pipeline
+
 TOP = os.path.join(os.path.dirname(os.path.abspath(__file__)), "..")
 PROVE = os.path.join(TOP, "examples", "prove.py")
 TOOL, CHECK = (os.path.join(TOP, "crates", name, "out", name) for name in ["aigtool", "aigcheck"])
-TOKENS, STAGES = 16, 52
-
-
-def pipeline(gates):
-    """The text of a file of so many gates, where tokens go on or stay as random gates say."""
-    rng = random.Random(1)
-    inputs = [2 * v for v in range(1, TOKENS + 1)]
-    latches = [2 * v for v in range(TOKENS + 1, TOKENS * (STAGES + 1) + 1)]
-    made, pool = [], inputs + latches
-
-    def both(left, right):
-        made.append((2 * (len(inputs) + len(latches) + len(made) + 1), max(left, right), min(left, right)))
-        return made[-1][0]
-
-    while len(made) < gates - 3 * len(latches) - 4:
-        pool.append(both(rng.choice(pool[-300:]) ^ rng.randrange(2), rng.choice(pool) ^ rng.randrange(2)))
-    nexts = []
-    for before, latch in zip(inputs + latches, latches):
-        goes, stays = both(before, rng.choice(pool) ^ rng.randrange(2)), both(latch, rng.choice(pool) ^ 1)
-        nexts.append(both(goes ^ 1, stays ^ 1) ^ 1)
-    bad = 1
-    for latch in latches[-4:]:
-        bad = both(bad, latch)
-    header = ["aag", len(inputs) + len(latches) + len(made), len(inputs), len(latches), 0, len(made), 1]
-    lines = [header, *([literal] for literal in inputs), *zip(latches, nexts), [bad], *made]
-    return "".join(" ".join(map(str, line)) + "\n" for line in lines)
 
 
 def measured(call):

@@ -10,72 +10,13 @@ processor time of the solver and of the check, what part the one is of the other
 which is seen only above this script's own, some 14 MiB.
 """
 import os
-import subprocess
 import sys
 import tempfile
 
+from circuits import multipliers
+from measuring import row, run
+
 FORMS = [("DRAT", []), ("LRAT", ["--lrat=1"])]
-
-
-class Gates:
-    """Gates of a text file, by literals."""
-
-    def __init__(self, inputs):
-        self.inputs = [2 * (n + 1) for n in range(inputs)]
-        self.gates = []
-
-    def both(self, a, b):
-        made = 2 * (len(self.inputs) + len(self.gates) + 1)
-        self.gates.append((made, max(a, b), min(a, b)))
-        return made
-
-    def either(self, a, b):
-        return self.both(a ^ 1, b ^ 1) ^ 1
-
-    def differ(self, a, b):
-        return self.both(self.either(a, b), self.both(a, b) ^ 1)
-
-    def sum_and_carry(self, a, b, c):
-        half = self.differ(a, b)
-        return self.differ(half, c), self.either(self.both(a, b), self.both(half, c))
-
-    def product(self, a, b):
-        """The bits of a product, the lowest first: the rows of `a`, one for each bit of `b`, are added up in turn."""
-        total = [0] * (len(a) + len(b))
-        for i, bit in enumerate(b):
-            carry = 0
-            for j, other in enumerate(a):
-                total[i + j], carry = self.sum_and_carry(total[i + j], self.both(other, bit), carry)
-            total[i + len(a)] = carry
-        return total
-
-    def text(self, bad):
-        """The text of a file whose one bad literal is this."""
-        count = len(self.inputs) + len(self.gates)
-        lines = [f"aag {count} {len(self.inputs)} 0 0 {len(self.gates)} 1", *map(str, self.inputs), str(bad)]
-        return "".join(line + "\n" for line in lines + [f"{a} {b} {c}" for a, b, c in self.gates])
-
-
-def multipliers(bits):
-    """A file that is bad where a product differs from that of the same numbers in the other order."""
-    gates = Gates(2 * bits)
-    a, b = gates.inputs[:bits], gates.inputs[bits:]
-    bad = 0
-    for one, other in zip(gates.product(a, b), gates.product(b, a)):
-        bad = gates.either(bad, gates.differ(one, other))
-    return gates.text(bad)
-
-
-def run(words, out=subprocess.DEVNULL):
-    """The status, processor seconds and peak kilobytes of one run."""
-    child = subprocess.Popen(words, stdout=out, stderr=subprocess.DEVNULL)
-    _, status, usage = os.wait4(child.pid, 0)
-    return os.waitstatus_to_exitcode(status), usage.ru_utime + usage.ru_stime, usage.ru_maxrss
-
-
-def row(words):
-    """A row of a table."""
-    print("| " + " | ".join(words) + " |", flush=True)
 
 
 def measure(tools, name, text, raw, folder):

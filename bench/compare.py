@@ -1,0 +1,160 @@
+#!/usr/bin/env python3
+"""Measures `aigtool` beside other programs: compare.py TOOL [--yardstick PROGRAM] [--runs N] [--instructions] [GATES ..]
+
+TOOL is the built program, crates/aigtool/out/aigtool after `rt run` in crates/aigtool. PROGRAM is any program with aigtool's
+command line; what both print is compared. ABC is run where `berkeley-abc` is installed (`&r; &w`, `&r; &write_cnf`), its start
+taken off, and `cat` of the same file. A file with its gates in any order is measured beside TOOL on the file in order. For each of GATES (100000 1000000 4000000) there is a file of random gates with latches,
+the shuffled one, a multiplier, and a pipeline of a twentieth of the gates that is unrolled 20 times. The
+programs of a row run in turn, N (5) times over; the least processor time of each counts, and the greatest peak of memory. Peaks
+are compared where both are above 16 MiB, since this script's own hides smaller ones. --instructions counts instructions by
+callgrind instead of time. In the end there are geometric means of the ratios in the first columns, for each command.
+"""
+import argparse
+import filecmp
+import math
+import os
+import shutil
+import subprocess
+import sys
+import tempfile
+
+from circuits import multiplier, pipeline
+from measuring import HERE, instructions, make_random, row, run
+
+ABC = shutil.which("berkeley-abc")
+SEEN = 16 * 1024
+STEPS = 20
+REWRITE, CLAUSES = "&r FILE; &w OUT", "&r FILE; &write_cnf OUT"
+# The command that a mean is made for, its words, the file, and the commands of ABC.
+ROWS = [
+    ("text", "text FILE", "random.aag", None),
+    ("text", "text FILE", "random.aig", None),
+    ("shuffled", "text FILE", "shuffled.aag", None),
+    ("binary", "binary FILE OUT", "random.aag", None),
+    ("binary", "binary FILE OUT", "random.aig", REWRITE),
+    ("strash", "strash FILE", "random.aig", REWRITE),
+    ("cnf 0", "cnf FILE 0", "random.aig", CLAUSES),
+    ("cnf 0 raw", "cnf FILE 0 raw", "random.aig", None),
+    ("binary", "binary FILE OUT", "multiplier.aig", REWRITE),
+    ("strash", "strash FILE", "multiplier.aig", REWRITE),
+    ("cnf 0", "cnf FILE 0", "multiplier.aig", CLAUSES),
+    ("cnf 0 raw", "cnf FILE 0 raw", "multiplier.aig", None),
+    (f"cnf {STEPS}", f"cnf FILE {STEPS}", "pipeline.aig", None),
+]
+
+
+def make_files(tool, gates, folder):
+    """Makes the files of so many gates. A process of its own makes each one, since a child's peak of memory counts its parent's."""
+    random, shuffled = (os.path.join(folder, name) for name in ["random.aag", "shuffled.aag"])
+    make_random(random, gates)
+    subprocess.run([sys.executable, os.path.join(HERE, "shuffle_gates.py"), random, shuffled, str(gates)], check=True)
+    for kind, count in [("multiplier", math.isqrt(gates // 10)), ("pipeline", gates // STEPS)]:
+        made = os.path.join(folder, kind + ".aag")
+        subprocess.run([sys.executable, os.path.join(HERE, "circuits.py"), kind, str(count), made], check=True)
+    for kind in ["random", "multiplier", "pipeline"]:
+        file = os.path.join(folder, kind)
+        subprocess.run([tool, "binary", file + ".aag", file + ".aig"], check=True)
+
+
+def programs(options, words, commands, file, folder):
+    """The words of each program of a row, and the file that each one writes."""
+    made = {}
+    ordered = file.replace("shuffled", "random")
+    beside = ("yardstick", options.yardstick, file) if ordered == file else ("ordered", options.tool, ordered)
+    for name, program, read in [("tool", options.tool, file), beside]:
+        if program:
+            out = os.path.join(folder, name)
+            made[name] = [program, *(out if word == "OUT" else read if word == "FILE" else word for word in words.split())], out
+    if ABC and commands and not options.instructions:
+        out = os.path.join(folder, "abc.aig")
+        made["abc"] = [ABC, "-q", commands.replace("FILE", file).replace("OUT", out)], out
+        made["start"] = [ABC, "-q", "quit"], out
+    if not options.instructions:
+        made["cat"] = ["cat", file], os.path.join(folder, "cat")
+    return made
+
+
+def run_to(words, out, to_file):
+    """Seconds and peak of a run; what it prints goes to `out` unless it writes that itself."""
+    with open(os.devnull if to_file else out, "wb") as sink:
+        status, seconds, peak = run(words, sink)
+    if status != 0:
+        sys.exit(f"{' '.join(words)} ended with status {status}")
+    return seconds, peak
+
+
+def least(options, made, to_file):
+    """The cost of each program of a row, and its peak: instructions and 0, or the least seconds and the greatest peak."""
+    costs = {}
+    for _ in range(1 if options.instructions else options.runs):
+        for name, (words, out) in made.items():
+            cost, peak = (instructions(words), 0) if options.instructions else run_to(words, out, to_file and name != "cat")
+            before = costs.get(name, (cost, peak))
+            costs[name] = min(before[0], cost), max(before[1], peak)
+    if "start" in costs:
+        costs["abc"] = max(costs["abc"][0] - costs.pop("start")[0], 0), costs["abc"][1]
+    return costs
+
+
+def check_same(made, to_file):
+    """Ends where the yardstick prints something else."""
+    if "yardstick" in made:
+        for name in ["tool", "yardstick"]:
+            run_to(*made[name], to_file)
+        if not filecmp.cmp(made["tool"][1], made["yardstick"][1], shallow=False):
+            sys.exit(f"{made['tool'][1]} is not as {made['yardstick'][1]}")
+
+
+def ratios(costs, other):
+    """The ratios of cost and of peak to another program, where they can be told."""
+    (mine, peak), (cost, others) = costs["tool"], costs.get(other, (0, 0))
+    return mine / cost if cost > 0 else None, peak / others if min(peak, others) > SEEN else None
+
+
+def shown(ratio):
+    return "" if ratio is None else f"{ratio:.2f}"
+
+
+def measure(options, gates, folder, found):
+    """Prints the rows of one count of gates, and adds the ratios to what was found for each command."""
+    make_files(options.tool, gates, folder)
+    for kind, words, name, commands in ROWS:
+        file, to_file = os.path.join(folder, name), "OUT" in words
+        made = programs(options, words, commands, file, folder)
+        check_same(made, to_file)
+        costs = least(options, made, to_file)
+        beside = ratios(costs, "ordered" if "ordered" in costs else "yardstick")
+        found.setdefault(kind, []).append(beside)
+        cost, peak = costs["tool"]
+        mine = [f"{cost / 1e6:.1f} million"] if options.instructions else [f"{cost:.3f} s", f"{peak / 1024:.0f} MiB"]
+        others = [beside[0]] if options.instructions else [*beside, *ratios(costs, "abc"), ratios(costs, "cat")[0]]
+        row([str(gates), f"{words.replace(' OUT', '').replace('FILE', name)}", *map(shown, others), *mine])
+
+
+def geometric_mean(values):
+    told = [value for value in values if value is not None]
+    return math.exp(sum(map(math.log, told)) / len(told)) if told else None
+
+
+def main():
+    words = argparse.ArgumentParser(description=__doc__, formatter_class=argparse.RawDescriptionHelpFormatter)
+    words.add_argument("tool")
+    words.add_argument("--yardstick")
+    words.add_argument("--runs", type=int, default=5)
+    words.add_argument("--instructions", action="store_true")
+    words.add_argument("gates", type=int, nargs="*", default=[100_000, 1_000_000, 4_000_000])
+    options = words.parse_intermixed_args()
+    titles = ["instructions / yardstick", "instructions"] if options.instructions else ["time / yardstick", "peak / yardstick", "time / ABC", "peak / ABC", "time / cat", "time", "peak"]
+    row(["gates", "command", *titles])
+    row(["---"] * (2 + len(titles)))
+    found = {}
+    for gates in options.gates:
+        with tempfile.TemporaryDirectory() as folder:
+            measure(options, gates, folder, found)
+    print()
+    for kind, values in found.items():
+        times, peaks = (shown(geometric_mean(part)) for part in zip(*values))
+        row([kind, times] if options.instructions else [kind, times, peaks])
+
+
+main()
