@@ -2,7 +2,7 @@
 use Rattle.std.proofs.Common.{◌≡◌, ℕ, suc, ◌+◌, ◌-◌, ◌*◌, ◌^◌, ◌<◌, ◌≤◌, ◌%◌, cond, ltb, List, [], ◌∷◌, Option, Some, None, refl, ap, ◌∙◌, arith}
 use Rattle.std.proofs.lemmas.Bool.{lt-ltb, le-ltb}
 use Rattle.std.proofs.Math.Nat.{mul-le-mul_left, pow-le-pow_right}
-use Rattle.aig_parsing.specs.Front.{◌>>=◌, groups_at, delta_at, mapped_at, tested_at}
+use Rattle.aig_parsing.specs.Parse.{◌>>=◌, groups_at, delta_at, mapped_at, tested_at}
 
 -- a value, and the bytes behind it
 abbrev read : ℕ → List ℕ → Option (ℕ × List ℕ)

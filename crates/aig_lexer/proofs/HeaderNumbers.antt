@@ -2,7 +2,7 @@
 use Rattle.std.proofs.Common.{◌≡◌, ℕ, suc, ◌+◌, ◌-◌, ◌≤◌, ◌<◌, Bool, true, false, cond, eqb, leb, List, [], ◌∷◌, ◌++◌, length, set, replicate, Option, Some, None, refl, sym, ap, ◌∙◌, append_assoc, arith}
 use Rattle.std.proofs.lemmas.Bool.{ne_eqb, eqb-true, le-leb, lt-leb}
 use Rattle.std.proofs.Math.Seq.{set-append_seam}
-use Rattle.aig_parsing.specs.Front.{◌>>=◌, number_at, line_at, mapped_at, header_from, header_numbers_at, tested_at}
+use Rattle.aig_parsing.specs.Parse.{◌>>=◌, number_at, line_at, mapped_at, header_from, header_numbers_at, tested_at}
 use Rattle.aig_format.specs.File.{HeaderNumbers}
 use Rattle.aig_parsing.proofs.Sections.{header_from-zeros}
 

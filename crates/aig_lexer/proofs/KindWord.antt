@@ -4,7 +4,7 @@ use Rattle.std.specs.Prelude.{option_map}
 use Rattle.aig_base.proofs.Mapping.{turned}
 use Rattle.aig_format.specs.declared.FileKind.{FileKind}
 use Rattle.aig_format.specs.declared.FileKind.TheVariants.{Text, Binary}
-use Rattle.aig_parsing.specs.Front.{◌>>=◌, kind_at, or_else, strip}
+use Rattle.aig_parsing.specs.Parse.{◌>>=◌, kind_at, or_else, strip}
 use Rattle.aig_lexer.specs.Takes.{Takes, Misses}
 use Rattle.aig_lexer.specs.Words.{expect_at, kind_byte_at, word_at}
 use Rattle.aig_lexer.proofs.Taking.{takes_same, misses_same, takes_bind, misses_first, misses_next, takes_mapped, misses_mapped}

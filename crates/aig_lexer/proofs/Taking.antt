@@ -1,7 +1,7 @@
 -- What readers that are joined take, from what their parts take.
 use Rattle.std.proofs.Common.{◌≡◌, ℕ, Bool, true, false, cond, List, [], ◌++◌, Option, Some, None, refl, sym, ap, ◌∙◌, append_assoc}
 use Rattle.std.proofs.KnownBytes.{Consumes-nil, Consumes-trans}
-use Rattle.aig_parsing.specs.Front.{◌>>=◌, both_at, tested_at, mapped_at}
+use Rattle.aig_parsing.specs.Parse.{◌>>=◌, both_at, tested_at, mapped_at}
 use Rattle.aig_lexer.specs.Takes.{Takes, Misses}
 use Rattle.aig_lexer.proofs.Going.{known_after, known_rest}
 

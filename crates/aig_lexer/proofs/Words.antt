@@ -2,8 +2,8 @@
 use Rattle.std.proofs.Common.{◌≡◌, ℕ, cond, eqb, List, ◌∷◌, Option, Some, None, Result, Ok, Err, option_to_list, refl}
 use Rattle.std.specs.Io.KnownBytes.{Consumes}
 use Rattle.std.proofs.lemmas.Bool.{eq-eqb, ne_eqb}
-use Rattle.aig_parsing.specs.Front.{◌>>=◌, number_at, ended_at}
-use Rattle.aig_parsing.specs.Fitting.{pair_at}
+use Rattle.aig_parsing.specs.Parse.{◌>>=◌, number_at, ended_at}
+use Rattle.aig_parsing.specs.ParseTested.{pair_at}
 use Rattle.aig_lexer.specs.declared.error.LexError.{LexError}
 use Rattle.aig_lexer.specs.declared.error.LexError.TheVariants.{Stream, Shape}
 use Rattle.aig_lexer.specs.Faults.{OnShape}

@@ -3,7 +3,7 @@
 use Rattle.std.specs.Prelude.{ℕ, ◌==◌, if◌then◌else◌, List, [], ◌∷◌, Option, Some, None}
 use Rattle.aig_format.specs.declared.FileKind.{FileKind}
 use Rattle.aig_format.specs.declared.FileKind.TheVariants.{Text, Binary}
-use Rattle.aig_parsing.specs.Front.{◌>>=◌, byte_at, number_at, strip, tested_at}
+use Rattle.aig_parsing.specs.Parse.{◌>>=◌, byte_at, number_at, strip, tested_at}
 
 -- this byte
 abbrev pub expect_at : ℕ → List ℕ → Option (ℕ × List ℕ)

@@ -1,7 +1,7 @@
 //! The header line.
 
 ghost use Rattle.std.specs.Prelude.{◌≡◌, ◌<◌, IsErrOf, OnOk, true};
-ghost use Rattle.aig_parsing.specs.Front.{header_at, header_from, header_numbers_at, kind_at};
+ghost use Rattle.aig_parsing.specs.Parse.{header_at, header_from, header_numbers_at, kind_at};
 ghost use Rattle.aig_lexer.specs.Faults.{OnShape};
 ghost use Rattle.aig_lexer.specs.Header.{numbers_of};
 ghost use Rattle.aig_lexer.specs.Takes.{Gives};

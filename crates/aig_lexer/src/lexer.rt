@@ -1,8 +1,8 @@
 //! Words of the format: bytes, numbers, lines of numbers, and differences.
 
 ghost use Rattle.std.specs.Prelude.{◌≡◌, ◌+◌, ◌<◌, ◌≤◌, length, IsErrOf, OnOk, true};
-ghost use Rattle.aig_parsing.specs.Front.{delta_at, ended_at, number_at};
-ghost use Rattle.aig_parsing.specs.Fitting.{next_at, pair_at};
+ghost use Rattle.aig_parsing.specs.Parse.{delta_at, ended_at, number_at};
+ghost use Rattle.aig_parsing.specs.ParseTested.{next_at, pair_at};
 ghost use Rattle.aig_lexer.specs.Faults.{OnShape};
 ghost use Rattle.aig_lexer.specs.Takes.{Gives};
 ghost use Rattle.aig_lexer.specs.Words.{expect_at, number_from_at, word_at};

@@ -7,7 +7,7 @@ use Rattle.aig_format.specs.Text.{◌then◌, Each, IsLine, Groups, IsDelta}
 use Rattle.aig_format.specs.declared.FileKind.TheVariants.{Binary}
 use Rattle.aig_format.specs.File.{LatchLine, GateLine}
 use Rattle.aig_format.specs.Spells.{Latch, Gate, places}
-use Rattle.aig_parsing.specs.Front.{◌>>=◌, line_at, both_at, tested_at, groups_at, delta_at, placed_at, placed_latch, placed_gate, fits_gate, placed_latch_at, placed_gate_at}
+use Rattle.aig_parsing.specs.Parse.{◌>>=◌, line_at, both_at, tested_at, groups_at, delta_at, placed_at, placed_latch, placed_gate, fits_gate, placed_latch_at, placed_gate_at}
 use Rattle.aig_format.proofs.Entries.{chosen}
 use Rattle.aig_parsing.proofs.Numbers.{bind_some}
 use Rattle.aig_parsing.proofs.Joined.{Begins, Reads, Reads-both, Reads-tested, Reads-seen}

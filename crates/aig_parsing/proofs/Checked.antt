@@ -3,7 +3,7 @@ use Rattle.std.proofs.Common.{◌≡◌, ◌↔◌, ℕ, zero, suc, Bool, true, 
 use Rattle.std.specs.List.{AllByRecursion, IsDistinct}
 use Rattle.std.proofs.lemmas.Option.{same_Some}
 use Rattle.aig_format.specs.Text.{Each}
-use Rattle.aig_parsing.specs.Front.{◌>>=◌, tested_at, checked_at, AllAfter}
+use Rattle.aig_parsing.specs.Parse.{◌>>=◌, tested_at, checked_at, AllAfter}
 use Rattle.aig_parsing.proofs.Numbers.{bind_some}
 use Rattle.aig_parsing.proofs.Joined.{Begins, Reads, Several, With, Reads-tested}
 

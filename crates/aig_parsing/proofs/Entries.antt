@@ -5,7 +5,7 @@ use Rattle.std.proofs.lemmas.List.{map-append}
 use Rattle.aig_format.specs.Text.{Each}
 use Rattle.aig_format.specs.Fits.{Rises}
 use Rattle.aig_format.proofs.Entries.{rec_weaker, rec_append}
-use Rattle.aig_parsing.specs.Front.{AllAfter}
+use Rattle.aig_parsing.specs.Parse.{AllAfter}
 
 -- a text for each entry, of entries that have a fact besides
 pub each_with : {A : Type 0} (F : A → Type 0) (P : A → List ℕ → Type 0) (xs : List A) (bytes : List ℕ) → Each (λ x text. F x × P x text) xs bytes ↔ (AllByRecursion F xs × Each P xs bytes)

@@ -9,8 +9,8 @@ use Rattle.aig_format.specs.File.{NameLine, File}
 use Rattle.aig_format.specs.Fits.{Accepts}
 use Rattle.aig_format.proofs.Examples.{and_file, and_text}
 use Rattle.aig_format.proofs.Gaps.{doubled, falling, gapped, mixed, short}
-use Rattle.aig_parsing.specs.Front.{number_at, digits_at, ended_at, line_at, kind_at, text_at, groups_at, sets_at, tail_at, file_at, too_many_at}
-use Rattle.aig_parsing.specs.Fitting.{next_at, literal_sets_at, fitting_tail_at, fitting_at}
+use Rattle.aig_parsing.specs.Parse.{number_at, digits_at, ended_at, line_at, kind_at, text_at, groups_at, sets_at, tail_at, file_at, too_many_at}
+use Rattle.aig_parsing.specs.ParseTested.{next_at, literal_sets_at, fitting_tail_at, fitting_at}
 use Rattle.aig_parsing.proofs.FittingFiles.{fitting_sound}
 
 -- the limit of the rows

@@ -7,7 +7,7 @@ use Rattle.aig_format.specs.declared.FileKind.{FileKind}
 use Rattle.aig_format.specs.declared.FileKind.TheVariants.{Text, Binary}
 use Rattle.aig_format.specs.File.{LatchLine, GateLine, NameLine, File, HeaderNumbers, header_of, defined}
 use Rattle.aig_format.specs.Spells.{Inputs, Latch, Gate, IsHeader, Body, Placed, places, Spells}
-use Rattle.aig_parsing.specs.Front.{◌>>=◌, header_at, latch_at, gate_at, inputs_at, latches_at, gates_at, justice_at, numbers_at, placed_latch_at, placed_gate_at, Parts, PropertyParts, property_parts, sections_at, sets_at, body_at, tail_at, file_from, file_at}
+use Rattle.aig_parsing.specs.Parse.{◌>>=◌, header_at, latch_at, gate_at, inputs_at, latches_at, gates_at, justice_at, numbers_at, placed_latch_at, placed_gate_at, Parts, PropertyParts, property_parts, sections_at, sets_at, body_at, tail_at, file_from, file_at}
 use Rattle.aig_parsing.proofs.Numbers.{bind_some}
 use Rattle.aig_parsing.proofs.Joined.{Begins, Reads, Several, With, Reads-both, Reads-times}
 use Rattle.aig_parsing.proofs.Sections.{HeaderIs, Reads-header, Reads-latch, Reads-gate, Reads-same, SoMany, Reads-numbers, SetsOf, Reads-sets}

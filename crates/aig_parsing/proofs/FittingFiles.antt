@@ -11,8 +11,8 @@ use Rattle.aig_format.specs.declared.FileKind.TheVariants.{Text, Binary}
 use Rattle.aig_format.specs.File.{LatchLine, GateLine, NameLine, File, HeaderNumbers, header_of, defined}
 use Rattle.aig_format.specs.Spells.{Latch, Gate, Placed, places, Spells}
 use Rattle.aig_format.specs.Fits.{IsDefinable, HasReset, IsOrdered, Rises, FitsOlder, FitsNewer, Fits, HasEnough, Accepts}
-use Rattle.aig_parsing.specs.Front.{◌>>=◌, header_at, is_good, ended_at, tested_at, numbers_at, placed_gate_at, Parts, PropertyParts, property_parts, body_at, file_from, AllAfter}
-use Rattle.aig_parsing.specs.Fitting.{is_within, keeps_rules, section_lines_at, fitting_header_at, defines, has_next, tests_latch, tests_gate, latch_line_at, binary_latch_at, gate_line_at, fitting_inputs_at, fitting_latches_at, fitting_gates_at, literal_justice_at, literal_sets_at, literals_at, fitting_properties_at, fitting_sections_at, fitting_body_at, fitting_tail_at, fitting_at}
+use Rattle.aig_parsing.specs.Parse.{◌>>=◌, header_at, is_good, ended_at, tested_at, numbers_at, placed_gate_at, Parts, PropertyParts, property_parts, body_at, file_from, AllAfter}
+use Rattle.aig_parsing.specs.ParseTested.{is_within, keeps_rules, section_lines_at, fitting_header_at, defines, has_next, tests_latch, tests_gate, latch_line_at, binary_latch_at, gate_line_at, fitting_inputs_at, fitting_latches_at, fitting_gates_at, literal_justice_at, literal_sets_at, literals_at, fitting_properties_at, fitting_sections_at, fitting_body_at, fitting_tail_at, fitting_at}
 use Rattle.aig_format.proofs.Entries.{rec_weaker, rec_both, rec_append}
 use Rattle.aig_parsing.proofs.Numbers.{bind_some}
 use Rattle.aig_parsing.proofs.Joined.{Reads, With, Reads-ended, Reads-tested}

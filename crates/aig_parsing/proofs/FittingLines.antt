@@ -9,8 +9,8 @@ use Rattle.aig_format.specs.declared.FileKind.TheVariants.{Text, Binary}
 use Rattle.aig_format.specs.File.{GateLine}
 use Rattle.aig_format.specs.Spells.{Latch, Gate}
 use Rattle.aig_format.specs.Fits.{IsOrdered}
-use Rattle.aig_parsing.specs.Front.{◌>>=◌, number_at, ended_at, both_at, tested_at, times_at, placed_at, placed_gate_at}
-use Rattle.aig_parsing.specs.Fitting.{is_literal, next_at, latch_of, latch_line_at, binary_latch_at, pair_at, triple_at, gate_of, gate_line_at, literals_at, literal_sets_at}
+use Rattle.aig_parsing.specs.Parse.{◌>>=◌, number_at, ended_at, both_at, tested_at, times_at, placed_at, placed_gate_at}
+use Rattle.aig_parsing.specs.ParseTested.{is_literal, next_at, latch_of, latch_line_at, binary_latch_at, pair_at, triple_at, gate_of, gate_line_at, literals_at, literal_sets_at}
 use Rattle.aig_format.proofs.Entries.{chosen}
 use Rattle.aig_parsing.proofs.Numbers.{bind_some, number_sound}
 use Rattle.aig_parsing.proofs.Joined.{Begins, Reads, Several, With, Reads-ended, Reads-both, Reads-tested, Reads-mapped, Reads-seen, Reads-times}

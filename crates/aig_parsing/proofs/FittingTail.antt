@@ -2,8 +2,8 @@
 use Rattle.std.proofs.Common.{◌≡◌, ℕ, zero, suc, true, false, cond, List, [], ◌∷◌, ◌++◌, Some, None, refl, subst, inl, inr}
 use Rattle.std.proofs.lemmas.Option.{same_Some, cond_some}
 use Rattle.aig_format.specs.File.{HeaderNumbers, NameLine}
-use Rattle.aig_parsing.specs.Front.{◌>>=◌, tested_at, is_comment, name_at, tail_at, AllAfter}
-use Rattle.aig_parsing.specs.Fitting.{tests_name, fitting_tail_at}
+use Rattle.aig_parsing.specs.Parse.{◌>>=◌, tested_at, is_comment, name_at, tail_at, AllAfter}
+use Rattle.aig_parsing.specs.ParseTested.{tests_name, fitting_tail_at}
 use Rattle.aig_format.proofs.Entries.{chosen}
 use Rattle.aig_parsing.proofs.Numbers.{bind_some}
 use Rattle.aig_parsing.proofs.Guards.{NameAfter, Decides-name}

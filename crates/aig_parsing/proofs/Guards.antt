@@ -16,10 +16,10 @@ use Rattle.aig_format.specs.Numbering.{is_older}
 use Rattle.aig_format.specs.declared.FileKind.{FileKind}
 use Rattle.aig_format.specs.declared.FileKind.TheVariants.{Text, Binary}
 use Rattle.aig_format.specs.Fits.{IsDefinable, HasReset, IsOrdered, IsNameOf, same_place, FitsOlder, HasEnough, count_defined}
-use Rattle.aig_parsing.specs.Front.{AllAfter, is_good}
+use Rattle.aig_parsing.specs.Parse.{AllAfter, is_good}
 use Rattle.aig_parsing.proofs.Checked.{IsNew, distinct_after}
 use Rattle.aig_format.specs.Letters.{count_of, is_kept}
-use Rattle.aig_parsing.specs.Fitting.{is_definable, defines, is_literal, is_reset, has_next, tests_latch, tests_gate, tests_name, is_within, uses_known, keeps_rules}
+use Rattle.aig_parsing.specs.ParseTested.{is_definable, defines, is_literal, is_reset, has_next, tests_latch, tests_gate, tests_name, is_within, uses_known, keeps_rules}
 use Rattle.aig_parsing.proofs.Binary.{latch_key, gate_key}
 use Rattle.aig_format.proofs.Entries.{rec_weaker, rec_both, rec_append, rec_map, rec_flat_map}
 use Rattle.aig_format.proofs.Older.{older-told, older-tested}

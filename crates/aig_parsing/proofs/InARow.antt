@@ -2,7 +2,7 @@
 use Rattle.std.proofs.Common.{◌≡◌, ℕ, List, ◌++◌, Option, refl, sym, ap, subst, ◌∙◌, append_assoc}
 use Rattle.aig_format.specs.Text.{◌then◌}
 use Rattle.aig_format.specs.File.{LatchLine, GateLine, HeaderNumbers}
-use Rattle.aig_parsing.specs.Front.{◌>>=◌, Parts, PropertyParts, mapped_at, properties_by, sections_by}
+use Rattle.aig_parsing.specs.Parse.{◌>>=◌, Parts, PropertyParts, mapped_at, properties_by, sections_by}
 use Rattle.aig_parsing.proofs.Numbers.{bind_some}
 use Rattle.aig_parsing.proofs.Joined.{Reads, With, Reads-seen}
 use Rattle.aig_parsing.proofs.Sections.{Reads-same}

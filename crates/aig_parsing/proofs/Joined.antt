@@ -3,7 +3,7 @@ use Rattle.std.proofs.Common.{◌≡◌, ℕ, zero, suc, Bool, true, cond, eqb, 
 use Rattle.std.proofs.lemmas.Bool.{eqb-true, eq-eqb}
 use Rattle.std.proofs.lemmas.Option.{same_Some, cond_some}
 use Rattle.aig_format.specs.Text.{◌then◌, Each, IsDigit, Ended}
-use Rattle.aig_parsing.specs.Front.{◌>>=◌, number_at, ended_at, both_at, tested_at, mapped_at, times_at}
+use Rattle.aig_parsing.specs.Parse.{◌>>=◌, number_at, ended_at, both_at, tested_at, mapped_at, times_at}
 use Rattle.aig_parsing.proofs.Numbers.{bind_some, number_sound, number_complete}
 
 -- the bytes begin with a text of x, and the rest follows

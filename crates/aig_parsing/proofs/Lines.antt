@@ -3,7 +3,7 @@ use Rattle.std.proofs.Common.{◌≡◌, ℕ, zero, suc, ◌≤◌, Bool, true, 
 use Rattle.std.proofs.lemmas.Bool.{eqb-true}
 use Rattle.std.proofs.lemmas.Option.{same_Some}
 use Rattle.aig_format.specs.Text.{IsDigit, Ended, IsLine}
-use Rattle.aig_parsing.specs.Front.{◌>>=◌, number_at, line_at}
+use Rattle.aig_parsing.specs.Parse.{◌>>=◌, number_at, line_at}
 use Rattle.aig_format.proofs.Entries.{chosen}
 use Rattle.aig_parsing.proofs.Numbers.{bind_some, number_sound, number_complete, Taken}
 use Rattle.aig_parsing.proofs.Joined.{Begins, Reads}

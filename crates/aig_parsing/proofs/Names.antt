@@ -7,7 +7,7 @@ use Rattle.std.proofs.lemmas.List.{length-append}
 use Rattle.aig_format.specs.Text.{◌then◌, Each, Just, IsDigit, Ended}
 use Rattle.aig_format.specs.File.{NameLine}
 use Rattle.aig_format.specs.Spells.{is_letter, Name, IsComment}
-use Rattle.aig_parsing.specs.Front.{◌>>=◌, is_digit, ended_at, both_at, tested_at, byte_at, text_at, name_from, name_at, is_comment, tail_at}
+use Rattle.aig_parsing.specs.Parse.{◌>>=◌, is_digit, ended_at, both_at, tested_at, byte_at, text_at, name_from, name_at, is_comment, tail_at}
 use Rattle.aig_format.proofs.Entries.{chosen}
 use Rattle.aig_parsing.proofs.Numbers.{bind_some, true_digit, digit_false, false_digit}
 use Rattle.aig_parsing.proofs.Joined.{Begins, Reads, Reads-ended, Reads-both, Reads-tested, Reads-seen}

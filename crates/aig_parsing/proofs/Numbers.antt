@@ -7,7 +7,7 @@ use Rattle.std.proofs.lemmas.Bool.{le-ltb, ltb-true, lt-ltb}
 use Rattle.std.proofs.lemmas.Option.{same_Some}
 use Rattle.aig_format.specs.Text.{IsDigit, value_of, IsNumber}
 use Rattle.aig_format.proofs.Entries.{chosen}
-use Rattle.aig_parsing.specs.Front.{◌>>=◌, is_digit, digits_at, number_at}
+use Rattle.aig_parsing.specs.Parse.{◌>>=◌, is_digit, digits_at, number_at}
 
 pub bind_some : {A B : Type 0} (o : Option A) (f : A → Option B) (y : B) → (o >>= f) ≡ Some y → (x : A) × (o ≡ Some x) × (f x ≡ Some y)
 bind_some (Some x) f y e = (x, refl, e)

@@ -9,8 +9,8 @@ use Rattle.aig_format.specs.Numbering.{is_older}
 use Rattle.aig_format.specs.Spells.{Placed}
 use Rattle.aig_format.proofs.Entries.{rec_weaker}
 use Rattle.aig_format.proofs.Older.{older-tested}
-use Rattle.aig_parsing.specs.Front.{Parts, file_from, is_good}
-use Rattle.aig_parsing.specs.Fitting.{section_lines_at}
+use Rattle.aig_parsing.specs.Parse.{Parts, file_from, is_good}
+use Rattle.aig_parsing.specs.ParseTested.{section_lines_at}
 use Rattle.aig_parsing.proofs.Binary.{latch_key}
 use Rattle.aig_parsing.proofs.Files.{SectionsPart, inputs_text, latches_text, gates_text, placed_all}
 use Rattle.aig_parsing.proofs.FittingFiles.{GatesFit, Reads-section_lines, VariablesFit, older_in_binary, rules_fit, variables_fit}

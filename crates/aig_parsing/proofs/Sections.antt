@@ -9,7 +9,7 @@ use Rattle.aig_format.specs.declared.FileKind.{FileKind}
 use Rattle.aig_format.specs.declared.FileKind.TheVariants.{Text, Binary}
 use Rattle.aig_format.specs.File.{HeaderNumbers}
 use Rattle.aig_format.specs.Spells.{magic, numbers_in, IsHeader, Latch, Gate}
-use Rattle.aig_parsing.specs.Front.{◌>>=◌, ended_at, line_at, strip, or_else, kind_at, header_from, header_numbers_at, header_at, latch_from, gate_from, numbers_at, latch_at, gate_at, sets_at, tested_at}
+use Rattle.aig_parsing.specs.Parse.{◌>>=◌, ended_at, line_at, strip, or_else, kind_at, header_from, header_numbers_at, header_at, latch_from, gate_from, numbers_at, latch_at, gate_at, sets_at, tested_at}
 use Rattle.aig_format.proofs.Entries.{chosen}
 use Rattle.aig_parsing.proofs.Numbers.{bind_some}
 use Rattle.aig_parsing.proofs.Joined.{Begins, Reads, Reads-ended, Reads-both, Reads-tested, Reads-seen, Reads-times}

@@ -4,7 +4,7 @@ use Rattle.std.proofs.lemmas.Bool.{and_from, and_parts, ltb-true, lt-ltb}
 use Rattle.aig_format.specs.declared.FileKind.{FileKind}
 use Rattle.aig_format.specs.File.{HeaderNumbers}
 use Rattle.aig_format.specs.Fits.{TooMany}
-use Rattle.aig_parsing.specs.Front.{header_at, is_good, too_many_of, too_many_at}
+use Rattle.aig_parsing.specs.Parse.{header_at, is_good, too_many_of, too_many_at}
 use Rattle.aig_parsing.proofs.Sections.{Reads-header}
 use Rattle.aig_parsing.proofs.Guards.{Decides-good}
 

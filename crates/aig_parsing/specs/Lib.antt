@@ -1,3 +1,3 @@
-pub mod Front
-pub mod Fitting
+pub mod Parse
+pub mod ParseTested
 pub mod Writable

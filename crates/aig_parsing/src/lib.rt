@@ -6,8 +6,8 @@ ghost use Rattle.aig_format.specs.File.{File};
 ghost use Rattle.aig_format.specs.Spells.{Spells};
 ghost use Rattle.aig_format.specs.Written.{spelling_of};
 ghost use Rattle.aig_format.specs.Fits.{TooMany, Accepts};
-ghost use Rattle.aig_parsing.specs.Front.{file_at, too_many_at};
-ghost use Rattle.aig_parsing.specs.Fitting.{fitting_at};
+ghost use Rattle.aig_parsing.specs.Parse.{file_at, too_many_at};
+ghost use Rattle.aig_parsing.specs.ParseTested.{fitting_at};
 ghost use Rattle.aig_parsing.specs.Writable.{CanWrite};
 
 /// What is read is spelled so, what is spelled so is read, and bytes spell one file at most.

@@ -8,8 +8,8 @@ use Rattle.aig_format.specs.File.{NameLine, File, HeaderNumbers}
 use Rattle.aig_format.specs.Fits.{Accepts}
 use Rattle.aig_parsing.proofs.FittingFiles.{fitting_sound, fitting_complete}
 use Rattle.aig_parsing.proofs.TooManyAt.{too_many_exact}
-use Rattle.aig_parsing.specs.Front.{◌>>=◌, Parts, file_from, too_many_at}
-use Rattle.aig_parsing.specs.Fitting.{fitting_at, fitting_body_at, fitting_header_at, fitting_sections_at}
+use Rattle.aig_parsing.specs.Parse.{◌>>=◌, Parts, file_from, too_many_at}
+use Rattle.aig_parsing.specs.ParseTested.{fitting_at, fitting_body_at, fitting_header_at, fitting_sections_at}
 use Rattle.aig_circuit.specs.declared.view.CircuitLists.{CircuitLists}
 use Rattle.aig_reader.specs.Names.{tail_of}
 use Rattle.aig_reader.specs.declared.error.ReadError.{ReadError}

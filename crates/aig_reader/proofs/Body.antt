@@ -3,8 +3,8 @@ use Rattle.std.proofs.Common.{◌≡◌, ℕ, ◌++◌, List, map, Option, Resul
 use Rattle.aig_format.specs.declared.FileKind.{FileKind}
 use Rattle.aig_format.specs.declared.FileKind.TheVariants.{Text, Binary}
 use Rattle.aig_format.specs.File.{LatchLine, GateLine, HeaderNumbers}
-use Rattle.aig_parsing.specs.Front.{◌>>=◌, Parts, PropertyParts, mapped_at, numbers_at}
-use Rattle.aig_parsing.specs.Fitting.{fitting_gates_at, fitting_inputs_at, fitting_latches_at, fitting_properties_at, section_lines_at, literal_justice_at, literal_sets_at, literals_at}
+use Rattle.aig_parsing.specs.Parse.{◌>>=◌, Parts, PropertyParts, mapped_at, numbers_at}
+use Rattle.aig_parsing.specs.ParseTested.{fitting_gates_at, fitting_inputs_at, fitting_latches_at, fitting_properties_at, section_lines_at, literal_justice_at, literal_sets_at, literals_at}
 use Rattle.aig_reader.specs.declared.error.Section.{Section}
 use Rattle.aig_reader.specs.declared.error.LineError.{LineError}
 use Rattle.aig_reader.specs.declared.error.LineError.TheVariants.{Memory, Stream, Syntax, Literal}

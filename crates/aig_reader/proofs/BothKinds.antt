@@ -5,9 +5,9 @@ use Rattle.aig_format.specs.declared.FileKind.{FileKind}
 use Rattle.aig_format.specs.declared.FileKind.TheVariants.{Text, Binary}
 use Rattle.aig_format.specs.File.{LatchLine, GateLine, HeaderNumbers}
 use Rattle.aig_format.specs.Spells.{places}
-use Rattle.aig_parsing.specs.Front.{◌>>=◌, both_at, delta_at, ended_at, fits_gate, mapped_at, placed_at, placed_gate, placed_gate_at, tested_at}
-use Rattle.aig_parsing.specs.Fitting.{binary_latch_at, defines, fitting_gates_at, fitting_inputs_at, fitting_latches_at, gate_line_at, gate_of, has_next, latch_line_at, latch_of, next_at, tests_gate, tests_latch}
-use Rattle.aig_reader.specs.Entries.{gate_at, input_at, latch_at, operands_at}
+use Rattle.aig_parsing.specs.Parse.{◌>>=◌, both_at, delta_at, ended_at, fits_gate, mapped_at, placed_at, placed_gate, placed_gate_at, tested_at}
+use Rattle.aig_parsing.specs.ParseTested.{binary_latch_at, defines, fitting_gates_at, fitting_inputs_at, fitting_latches_at, gate_line_at, gate_of, has_next, latch_line_at, latch_of, next_at, tests_gate, tests_latch}
+use Rattle.aig_reader.specs.ParseEntry.{gate_at, input_at, latch_at, operands_at}
 use Rattle.aig_reader.specs.Gates.{literals_of}
 use Rattle.aig_reader.proofs.Entries.{checked_is_entries, entries_at, length_push, placed_is_entries, put_first}
 

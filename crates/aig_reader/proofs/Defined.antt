@@ -9,7 +9,7 @@ use Rattle.aig_format.specs.Fits.{IsDefinable}
 use Rattle.aig_format.specs.Variables.{is_known}
 use Rattle.aig_format.proofs.Entries.{rec_append, rec_both, rec_parts, rec_weaker}
 use Rattle.aig_format.proofs.Numbers.{half_differs}
-use Rattle.aig_parsing.specs.Fitting.{defines}
+use Rattle.aig_parsing.specs.ParseTested.{defines}
 use Rattle.aig_parsing.proofs.Guards.{Decides-defines}
 use Rattle.aig_reader.specs.Bits.{bit_told}
 use Rattle.aig_reader.specs.declared.error.LineError.{LineError}

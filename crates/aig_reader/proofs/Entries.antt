@@ -4,8 +4,8 @@ use Rattle.std.proofs.lemmas.Option.{same_Some}
 use Rattle.std.proofs.lemmas.List.{map_push}
 use Rattle.std.proofs.Math.Seq.{get_or-append_seam}
 use Rattle.std.proofs.KnownBytes.{Consumes-nil, Consumes-trans}
-use Rattle.aig_parsing.specs.Front.{◌>>=◌, tested_at, times_at, checked_at, placed_at}
-use Rattle.aig_parsing.specs.Fitting.{literals_at, literal_sets_at}
+use Rattle.aig_parsing.specs.Parse.{◌>>=◌, tested_at, times_at, checked_at, placed_at}
+use Rattle.aig_parsing.specs.ParseTested.{literals_at, literal_sets_at}
 use Rattle.aig_parsing.proofs.Numbers.{bind_some}
 use Rattle.aig_lexer.specs.Takes.{Takes, Misses}
 use Rattle.aig_lexer.proofs.Going.{known_rest}

@@ -12,13 +12,13 @@ use Rattle.aig_format.specs.declared.FileKind.TheVariants.{Text, Binary}
 use Rattle.aig_format.specs.File.{GateLine}
 use Rattle.aig_format.specs.Numbering.{are_in_order, is_ordered, rises}
 use Rattle.aig_format.proofs.Entries.{rec_append, rec_parts}
-use Rattle.aig_parsing.specs.Fitting.{defines, is_literal}
+use Rattle.aig_parsing.specs.ParseTested.{defines, is_literal}
 use Rattle.aig_reader.specs.declared.variables.Variables.{Variables}
 use Rattle.aig_reader.specs.declared.places.Rising.{Rising}
 use Rattle.aig_reader.specs.declared.places.Gates.{Gates}
 use Rattle.aig_reader.specs.declared.table.Table.{Table}
 use Rattle.aig_reader.specs.declared.places.Gates.TheVariants as held
-use Rattle.aig_reader.specs.Entries.{may_define, may_stand, may_use}
+use Rattle.aig_reader.specs.ParseEntry.{may_define, may_stand, may_use}
 use Rattle.aig_reader.specs.Gates.{AreFirstNodes, AreGates, ArePlaced, AreRising, AreWaiting, HasWords, last_or, line_of, literals_of}
 use Rattle.aig_reader.specs.Variables.{AreDefined, IsNewAmong, is_marked}
 use Rattle.aig_reader.proofs.Defined.{unmarked_none}

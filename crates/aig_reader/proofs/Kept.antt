@@ -8,7 +8,7 @@ use Rattle.std.specs.Str.{IsUtf8, is_utf8}
 use Rattle.std.proofs.lemmas.Str.{IsUtf8-string_bytes, IsUtf8-from_is_utf8, is_utf8-from_IsUtf8}
 use Rattle.std.proofs.lemmas.Bool.{false_from_ne_true, false≢true}
 use Rattle.std.proofs.lemmas.Result.{err_from_is_err_and}
-use Rattle.aig_parsing.specs.Front.{tested_at, text_at}
+use Rattle.aig_parsing.specs.Parse.{tested_at, text_at}
 use Rattle.aig_lexer.specs.Takes.{Gives, Takes, Misses}
 use Rattle.aig_lexer.proofs.Taking.{takes_tested, misses_test}
 use Rattle.aig_reader.specs.declared.names.error.NameError.{NameError}

@@ -6,9 +6,9 @@ use Rattle.std.specs.Io.KnownBytes.{Consumes}
 use Rattle.aig_format.specs.File.{NameLine, HeaderNumbers}
 use Rattle.aig_format.specs.Fits.{same_place}
 use Rattle.aig_format.specs.Spells.{is_letter}
-use Rattle.aig_parsing.specs.Front.{◌>>=◌, tested_at, text_at, name_at, name_from}
+use Rattle.aig_parsing.specs.Parse.{◌>>=◌, tested_at, text_at, name_at, name_from}
 use Rattle.aig_format.specs.Letters.{count_of, is_kept}
-use Rattle.aig_parsing.specs.Fitting.{tests_name}
+use Rattle.aig_parsing.specs.ParseTested.{tests_name}
 use Rattle.aig_lexer.specs.Takes.{Takes, Misses}
 use Rattle.aig_lexer.proofs.Going.{GoesOn, goes_same, goes_call, goes_wrong, goes_nowhere, goes_done}
 use Rattle.aig_lexer.proofs.Taking.{misses_first}

@@ -9,7 +9,7 @@ use Rattle.aig_circuit.specs.declared.edge.AigEdge.{AigEdge}
 use Rattle.aig_format.specs.Circuit.{edge_of}
 use Rattle.aig_format.specs.File.{LatchLine, GateLine, File}
 use Rattle.aig_format.specs.Variables.{is_known}
-use Rattle.aig_parsing.specs.Fitting.{uses_known}
+use Rattle.aig_parsing.specs.ParseTested.{uses_known}
 use Rattle.aig_ordering.specs.declared.error.OrderError.{OrderError}
 use Rattle.aig_ordering.specs.declared.error.OrderError.TheVariants.{Memory, Variable}
 use Rattle.aig_ordering.specs.Lists.{edge_from}

@@ -1,10 +1,10 @@
 -- An entry: its own literal, what stands behind it, and a test.
 use Rattle.std.proofs.Common.{◌≡◌, ℕ, Bool, true, false, List, Option}
 use Rattle.aig_format.specs.declared.FileKind.{FileKind}
-use Rattle.aig_parsing.specs.Front.{both_at, mapped_at, tested_at}
+use Rattle.aig_parsing.specs.Parse.{both_at, mapped_at, tested_at}
 use Rattle.aig_lexer.specs.Takes.{Takes, Misses}
 use Rattle.aig_lexer.proofs.Taking.{misses_both, misses_either, misses_mapped, misses_test, misses_tested, takes_both, takes_mapped, takes_tested}
-use Rattle.aig_reader.specs.Entries.{own_at}
+use Rattle.aig_reader.specs.ParseEntry.{own_at}
 
 module _ {X Y : Type 0} (kind : FileKind) (end : ℕ) (literals : List ℕ) (rest : ℕ → List ℕ → Option (X × List ℕ)) (make : ℕ × X → Y) (test : Y → Bool) where
   abbrev both : List ℕ → Option ((ℕ × X) × List ℕ)

@@ -1,6 +1,6 @@
 -- A position, from a byte that came before on.
 use Rattle.std.proofs.Common.{◌≡◌, ℕ, List, Option}
-use Rattle.aig_parsing.specs.Front.{ended_at}
+use Rattle.aig_parsing.specs.Parse.{ended_at}
 use Rattle.aig_lexer.specs.Takes.{Takes, Misses}
 use Rattle.aig_lexer.specs.Words.{number_from_at}
 use Rattle.aig_lexer.proofs.Taking.{misses_first}

@@ -2,7 +2,7 @@
 use Rattle.std.proofs.Common.{◌≡◌, ◌≢◌, ℕ, List, [], Option, Some, None, Result, Ok, Err, IfSome, IfOk, OnOk, refl, subst}
 use Rattle.std.specs.Io.KnownBytes.{Consumes}
 use Rattle.aig_format.specs.File.{HeaderNumbers}
-use Rattle.aig_parsing.specs.Fitting.{fitting_tail_at}
+use Rattle.aig_parsing.specs.ParseTested.{fitting_tail_at}
 use Rattle.aig_reader.specs.declared.names.error.NameError.{NameError}
 use Rattle.aig_reader.specs.declared.names.error.NameError.TheVariants as name
 use Rattle.aig_reader.specs.NameFaults.{OnName}

@@ -5,7 +5,7 @@ use Rattle.std.proofs.KnownBytes.{Consumes-trans, Consumes-whole}
 use Rattle.std.proofs.lemmas.Bool.{eq-eqb, ne_eqb}
 use Rattle.aig_format.specs.Spells.{is_letter}
 use Rattle.aig_format.specs.Text.{IsDigit}
-use Rattle.aig_parsing.specs.Front.{is_comment, name_at, number_at, ended_at}
+use Rattle.aig_parsing.specs.Parse.{is_comment, name_at, number_at, ended_at}
 use Rattle.aig_parsing.proofs.Numbers.{false_digit}
 use Rattle.aig_reader.specs.NameSteps.{IsNoTail}
 

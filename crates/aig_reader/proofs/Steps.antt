@@ -8,8 +8,8 @@ use Rattle.aig_format.specs.Circuit.{circuit_of, latch_of}
 use Rattle.aig_format.specs.File.{File}
 use Rattle.aig_format.specs.Levels.{has_level}
 use Rattle.aig_format.specs.Numbering.{is_older, number_of}
-use Rattle.aig_parsing.specs.Front.{Parts, is_good}
-use Rattle.aig_parsing.specs.Fitting.{fitting_sections_at, keeps_rules, section_lines_at, uses_known}
+use Rattle.aig_parsing.specs.Parse.{Parts, is_good}
+use Rattle.aig_parsing.specs.ParseTested.{fitting_sections_at, keeps_rules, section_lines_at, uses_known}
 use Rattle.aig_parsing.proofs.Guards.{length-defined, on_used}
 use Rattle.aig_parsing.proofs.SectionFacts.{HasCounts, lines_tell}
 use Rattle.aig_ordering.specs.Tables.{AreNodesOf}

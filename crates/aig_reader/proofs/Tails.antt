@@ -5,8 +5,8 @@ use Rattle.std.proofs.KnownBytes.{Consumes-nil, Consumes-trans}
 use Rattle.std.proofs.lemmas.Option.{cond_some}
 use Rattle.std.proofs.lemmas.List.{length-append}
 use Rattle.aig_format.specs.File.{NameLine, HeaderNumbers}
-use Rattle.aig_parsing.specs.Front.{◌>>=◌, is_comment, name_at}
-use Rattle.aig_parsing.specs.Fitting.{tests_name, fitting_tail_at}
+use Rattle.aig_parsing.specs.Parse.{◌>>=◌, is_comment, name_at}
+use Rattle.aig_parsing.specs.ParseTested.{tests_name, fitting_tail_at}
 use Rattle.aig_parsing.proofs.Numbers.{bind_some}
 use Rattle.aig_parsing.proofs.Names.{Reads-name, name_is_some, name_goes_on}
 use Rattle.aig_lexer.specs.Takes.{Takes, Misses}

@@ -1,6 +1,6 @@
 -- A line whose numbers are tested.
 use Rattle.std.proofs.Common.{◌≡◌, ℕ, Bool, false, List, Option, Result, Ok, Err}
-use Rattle.aig_parsing.specs.Front.{tested_at}
+use Rattle.aig_parsing.specs.Parse.{tested_at}
 use Rattle.aig_reader.specs.declared.error.LineError.{LineError}
 use Rattle.aig_reader.specs.declared.error.LineError.TheVariants.{Memory, Stream, Syntax, Literal}
 use Rattle.aig_lexer.specs.declared.error.LexError.{LexError}

@@ -1,7 +1,7 @@
 -- A name's bytes, one by one.
 use Rattle.std.proofs.Common.{◌≡◌, ◌≢◌, ℕ, List, [], ◌∷◌, ◌++◌, Option, Some, None, refl, ap, append_assoc, append-nil, sym}
 use Rattle.std.proofs.lemmas.Bool.{ne_eqb}
-use Rattle.aig_parsing.specs.Front.{◌>>=◌, text_at}
+use Rattle.aig_parsing.specs.Parse.{◌>>=◌, text_at}
 
 -- a text behind some bytes
 abbrev behind : List ℕ → List ℕ × List ℕ → Option (List ℕ × List ℕ)

@@ -5,7 +5,7 @@ use Rattle.std.specs.Io.KnownBytes.{Consumes}
 use Rattle.std.specs.Ordering.{nat_cmp}
 use Rattle.std.specs.FinMap.{FinMap, insert}
 use Rattle.aig_format.specs.Letters.{letter_of_inputs, letter_of_latches}
-use Rattle.aig_parsing.specs.Front.{is_comment, name_at, ended_at}
+use Rattle.aig_parsing.specs.Parse.{is_comment, name_at, ended_at}
 use Rattle.aig_lexer.specs.declared.error.LexError.{LexError}
 use Rattle.aig_lexer.specs.Faults.{OnShape}
 use Rattle.aig_reader.specs.declared.names.section.NamedSection.{NamedSection}

@@ -6,7 +6,7 @@ use Rattle.std.specs.Ordering.{nat_cmp}
 use Rattle.std.specs.FinMap.{FinMap, from_entries}
 use Rattle.aig_format.specs.Letters.{letter_of_inputs, letter_of_latches}
 use Rattle.aig_format.specs.File.{NameLine, HeaderNumbers}
-use Rattle.aig_parsing.specs.Fitting.{fitting_tail_at}
+use Rattle.aig_parsing.specs.ParseTested.{fitting_tail_at}
 
 -- the names and the comment behind the gates, by the header's numbers
 abbrev pub tail_of : HeaderNumbers → List ℕ → Option (List NameLine)

@@ -1,7 +1,7 @@
 -- Serves private clauses alone.
 -- Outputs and properties.
 use Rattle.std.specs.Prelude.{◌≡◌, map}
-use Rattle.aig_parsing.specs.Front.{PropertyParts}
+use Rattle.aig_parsing.specs.Parse.{PropertyParts}
 use Rattle.aig_reader.specs.declared.properties.Properties.{Properties}
 use Rattle.aig_ordering.specs.Lists.{edge_from}
 

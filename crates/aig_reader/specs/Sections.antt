@@ -9,7 +9,7 @@ use Rattle.aig_format.specs.declared.FileKind.TheVariants.{Binary}
 use Rattle.aig_format.specs.File.{File, defined, used}
 use Rattle.aig_format.specs.Fits.{IsDefinable}
 use Rattle.aig_format.specs.Numbering.{is_older}
-use Rattle.aig_parsing.specs.Front.{Parts, file_from, property_parts}
+use Rattle.aig_parsing.specs.Parse.{Parts, file_from, property_parts}
 use Rattle.aig_lexer.specs.declared.header.Header.{Header}
 use Rattle.aig_lexer.specs.Header.{numbers_of}
 use Rattle.aig_ordering.specs.Lists.{latch_from, variable_of}

@@ -1,8 +1,8 @@
 //! Edges, and lines of one edge each.
 
 ghost use Rattle.std.specs.Prelude.{◌≡◌, [], map, true, IfErr, IsErrOf};
-ghost use Rattle.aig_parsing.specs.Fitting.{is_literal, literals_at};
-ghost use Rattle.aig_parsing.specs.Front.{ended_at, tested_at};
+ghost use Rattle.aig_parsing.specs.ParseTested.{is_literal, literals_at};
+ghost use Rattle.aig_parsing.specs.Parse.{ended_at, tested_at};
 ghost use Rattle.aig_lexer.specs.Takes.{Makes};
 ghost use Rattle.aig_reader.specs.Faults.{OnLine};
 ghost use Rattle.aig_ordering.specs.Lists.{edge_from};

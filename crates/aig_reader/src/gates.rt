@@ -1,13 +1,13 @@
 //! Gates: in a text file a line each, in a binary file two differences each.
 
 ghost use Rattle.std.specs.Prelude.{◌≡◌, ℕ, ◌+◌, ◌^◌, ◌<◌, ◌≤◌, [], ◌∷◌, ◌++◌, List, length, true, IfOk, IsErrOf};
-ghost use Rattle.aig_parsing.specs.Fitting.{fitting_gates_at};
+ghost use Rattle.aig_parsing.specs.ParseTested.{fitting_gates_at};
 ghost use Rattle.aig_format.specs.declared.FileKind.TheVariants.{Binary};
 ghost use Rattle.aig_format.specs.File.{GateLine};
 ghost use Rattle.aig_lexer.specs.Faults.{OnShape};
 ghost use Rattle.aig_lexer.specs.Header.{numbers_of};
 ghost use Rattle.aig_lexer.specs.Takes.{Gives, Makes};
-ghost use Rattle.aig_reader.specs.Entries.{gate_at, may_use, operands_at};
+ghost use Rattle.aig_reader.specs.ParseEntry.{gate_at, may_use, operands_at};
 ghost use Rattle.aig_reader.specs.Faults.{OnLine};
 ghost use Rattle.aig_reader.specs.Gates.{AreGates, HasSpace, line_of};
 ghost use Rattle.aig_reader.specs.Variables.{AreDefined, HasRoom, kind_by};

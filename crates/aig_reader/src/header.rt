@@ -1,8 +1,8 @@
 //! The header line.
 
 ghost use Rattle.std.specs.Prelude.{◌≡◌, ◌+◌, ◌≤◌, ◌↔◌, true, IfOk, IfSome, IsErrOf};
-ghost use Rattle.aig_parsing.specs.Fitting.{fitting_header_at};
-ghost use Rattle.aig_parsing.specs.Front.{is_good, too_many_at};
+ghost use Rattle.aig_parsing.specs.ParseTested.{fitting_header_at};
+ghost use Rattle.aig_parsing.specs.Parse.{is_good, too_many_at};
 ghost use Rattle.aig_lexer.specs.Header.{numbers_of};
 ghost use Rattle.aig_lexer.specs.Takes.{Gives};
 ghost use Rattle.aig_reader.specs.Faults.{OnRefusal};

@@ -1,10 +1,10 @@
 //! Inputs: in a text file a line each, in a binary file the first variables.
 
 ghost use Rattle.std.specs.Prelude.{◌≡◌, ℕ, ◌+◌, ◌^◌, ◌<◌, ◌≤◌, List, [], ◌∷◌, ◌++◌, map, true, vec_len, IfOk, IsErrOf};
-ghost use Rattle.aig_parsing.specs.Fitting.{fitting_inputs_at};
+ghost use Rattle.aig_parsing.specs.ParseTested.{fitting_inputs_at};
 ghost use Rattle.aig_lexer.specs.Header.{numbers_of};
 ghost use Rattle.aig_lexer.specs.Takes.{Makes};
-ghost use Rattle.aig_reader.specs.Entries.{input_at};
+ghost use Rattle.aig_reader.specs.ParseEntry.{input_at};
 ghost use Rattle.aig_reader.specs.Faults.{OnLine};
 ghost use Rattle.aig_ordering.specs.Lists.{variable_of};
 ghost use Rattle.aig_reader.specs.Variables.{AreDefined, HasRoom, kind_by};

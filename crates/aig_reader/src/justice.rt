@@ -1,8 +1,8 @@
 //! Justice properties: their sizes, and then their sets, one after the other.
 
 ghost use Rattle.std.specs.Prelude.{◌≡◌, map, true, IsErrOf};
-ghost use Rattle.aig_parsing.specs.Fitting.{literal_sets_at};
-ghost use Rattle.aig_parsing.specs.Front.{numbers_at};
+ghost use Rattle.aig_parsing.specs.ParseTested.{literal_sets_at};
+ghost use Rattle.aig_parsing.specs.Parse.{numbers_at};
 ghost use Rattle.aig_lexer.specs.Takes.{Makes};
 ghost use Rattle.aig_reader.specs.Faults.{OnLine};
 ghost use Rattle.aig_ordering.specs.Lists.{edge_from};

@@ -1,12 +1,12 @@
 //! Latches, a line each.
 
 ghost use Rattle.std.specs.Prelude.{◌≡◌, ℕ, ◌+◌, ◌^◌, ◌<◌, ◌≤◌, List, Option, [], ◌∷◌, ◌++◌, map, length, true, vec_len, IfErr, IfOk, IsErrOf};
-ghost use Rattle.aig_parsing.specs.Fitting.{fitting_latches_at, is_reset};
+ghost use Rattle.aig_parsing.specs.ParseTested.{fitting_latches_at, is_reset};
 ghost use Rattle.aig_format.specs.Circuit.{initial_of};
 ghost use Rattle.aig_format.specs.File.{LatchLine};
 ghost use Rattle.aig_lexer.specs.Header.{numbers_of};
 ghost use Rattle.aig_lexer.specs.Takes.{Makes};
-ghost use Rattle.aig_reader.specs.Entries.{latch_at};
+ghost use Rattle.aig_reader.specs.ParseEntry.{latch_at};
 ghost use Rattle.aig_reader.specs.Faults.{OnLine};
 ghost use Rattle.aig_ordering.specs.Lists.{latch_from};
 ghost use Rattle.aig_reader.specs.Variables.{AreDefined, HasRoom, Tested, kind_by};

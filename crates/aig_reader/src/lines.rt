@@ -1,8 +1,8 @@
 //! The lines of the sections, with each variable as its own number.
 
 ghost use Rattle.std.specs.Prelude.{◌≡◌, ◌+◌, ◌^◌, ◌<◌, ◌≤◌, ◌==◌, true, IfErr, IsErrOf};
-ghost use Rattle.aig_parsing.specs.Fitting.{section_lines_at};
-ghost use Rattle.aig_parsing.specs.Front.{is_good};
+ghost use Rattle.aig_parsing.specs.ParseTested.{section_lines_at};
+ghost use Rattle.aig_parsing.specs.Parse.{is_good};
 ghost use Rattle.aig_lexer.specs.Header.{numbers_of};
 ghost use Rattle.aig_lexer.specs.Takes.{Makes};
 ghost use Rattle.aig_reader.specs.Faults.{IsSectionFault, OnRefusal};

@@ -5,7 +5,7 @@ ghost use Rattle.std.specs.Io.KnownBytes.{IsAtEnd};
 ghost use Rattle.std.specs.Str.{is_utf8};
 ghost use Rattle.aig_circuit.specs.Circuit.{latch_leaves};
 ghost use Rattle.aig_circuit.specs.View.{names_of};
-ghost use Rattle.aig_parsing.specs.Front.{tested_at, text_at};
+ghost use Rattle.aig_parsing.specs.Parse.{tested_at, text_at};
 ghost use Rattle.aig_lexer.specs.Header.{numbers_of};
 ghost use Rattle.aig_lexer.specs.Takes.{Makes};
 ghost use Rattle.aig_reader.specs.NameFaults.{OnName};

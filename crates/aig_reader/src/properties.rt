@@ -1,7 +1,7 @@
 //! The sections between the latches and the gates.
 
 ghost use Rattle.std.specs.Prelude.{◌≡◌, true, IfErr, IsErrOf};
-ghost use Rattle.aig_parsing.specs.Fitting.{fitting_properties_at};
+ghost use Rattle.aig_parsing.specs.ParseTested.{fitting_properties_at};
 ghost use Rattle.aig_lexer.specs.Header.{numbers_of};
 ghost use Rattle.aig_lexer.specs.Takes.{Makes};
 ghost use Rattle.aig_reader.specs.Faults.{IsSectionFault, OnRefusal};

@@ -2,8 +2,8 @@
 
 ghost use Rattle.std.specs.Prelude.{◌≡◌, ◌+◌, ◌^◌, ◌<◌, ◌≤◌, true, false, IfErr, IfOk, IfSome, IsErrOf, IsTrue, OnOk, vec_len};
 ghost use Rattle.std.specs.Io.KnownBytes.{IsAtEnd};
-ghost use Rattle.aig_parsing.specs.Fitting.{fitting_sections_at};
-ghost use Rattle.aig_parsing.specs.Front.{is_good};
+ghost use Rattle.aig_parsing.specs.ParseTested.{fitting_sections_at};
+ghost use Rattle.aig_parsing.specs.Parse.{is_good};
 ghost use Rattle.aig_format.specs.Fits.{Accepts};
 ghost use Rattle.aig_lexer.specs.Header.{numbers_of};
 ghost use Rattle.aig_lexer.specs.Takes.{Makes};

@@ -1,13 +1,13 @@
 //! The variables of a file.
 
 ghost use Rattle.std.specs.Prelude.{◌≡◌, ℕ, ◌+◌, ◌/◌, ◌^◌, ◌<◌, ◌≤◌, List, [], ◌∷◌, ◌++◌, IfErr, IfOk, IsErrOf, MatchOption, OnOk, false, true, vec_len};
-ghost use Rattle.aig_parsing.specs.Fitting.{defines};
+ghost use Rattle.aig_parsing.specs.ParseTested.{defines};
 ghost use Rattle.aig_lexer.specs.Faults.{OnShape};
 ghost use Rattle.aig_lexer.specs.Takes.{Gives};
 ghost use Rattle.aig_format.specs.File.{File, defined};
 ghost use Rattle.aig_ordering.specs.Tables.{AreKnownOf};
 ghost use Rattle.aig_reader.specs.Bits.{bit_told};
-ghost use Rattle.aig_reader.specs.Entries.{may_define, own_at};
+ghost use Rattle.aig_reader.specs.ParseEntry.{may_define, own_at};
 ghost use Rattle.aig_reader.specs.Variables.{AreDefined, AreMarks, HasRoom, IsLiteralFault, IsNewAmong, IsNext, IsOwn, Tested, is_marked, kind_by};
 
 use crate::bits::{has_bit, set_bit};

@@ -3,7 +3,7 @@ use Rattle.std.proofs.Common.{◌≡◌, [], ◌∷◌, None, Some, refl}
 use Rattle.std.specs.Prelude.{codes}
 use Rattle.std.specs.Fmt.{digits}
 use Rattle.aig_base.specs.declared.logic.three.Lbool.TheVariants.{FALSE, TRUE, NONE}
-use Rattle.aig_parsing.specs.Front.{digits_at, ended_at, number_at}
+use Rattle.aig_parsing.specs.Parse.{digits_at, ended_at, number_at}
 use Rattle.aig_witness.specs.Reading.{next_at, row_behind, steps_behind}
 use Rattle.aig_witness.specs.Witness.{Witness, witness_text}
 

@@ -7,7 +7,7 @@ use Rattle.std.proofs.lemmas.List.{map-append}
 use Rattle.std.proofs.KnownBytes.{Consumes-trans}
 use Rattle.std.specs.Io.KnownBytes.{Consumes, IsAtEnd}
 use Rattle.aig_base.specs.declared.logic.three.Lbool.{Lbool}
-use Rattle.aig_parsing.specs.Front.{◌>>=◌, ended_at, mapped_at, strip}
+use Rattle.aig_parsing.specs.Parse.{◌>>=◌, ended_at, mapped_at, strip}
 use Rattle.aig_lexer.specs.Takes.{Gives}
 use Rattle.aig_lexer.specs.Words.{expect_at}
 use Rattle.aig_lexer.proofs.Taking.{misses_mapped, takes_mapped}

@@ -9,7 +9,7 @@ use Rattle.aig_base.specs.declared.logic.three.Lbool.{Lbool}
 use Rattle.aig_base.specs.declared.logic.three.Lbool.TheVariants.{FALSE, TRUE, NONE}
 use Rattle.aig_format.specs.Text.{◌then◌, Each, Ended, IsDigit, Just}
 use Rattle.aig_format.proofs.Entries.{chosen}
-use Rattle.aig_parsing.specs.Front.{◌>>=◌, both_at, ended_at, mapped_at, strip}
+use Rattle.aig_parsing.specs.Parse.{◌>>=◌, both_at, ended_at, mapped_at, strip}
 use Rattle.aig_parsing.proofs.Numbers.{bind_some}
 use Rattle.aig_parsing.proofs.Joined.{Reads, Reads-both, Reads-ended, Reads-mapped}
 use Rattle.aig_parsing.proofs.Sections.{Reads-behind}

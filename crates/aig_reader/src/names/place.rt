@@ -2,7 +2,7 @@
 
 ghost use Rattle.std.specs.Prelude.{◌≡◌, ◌<◌, nat_lt, length, IfOk, IsErrOf, OnOk, true};
 ghost use Rattle.aig_circuit.specs.Circuit.{latch_leaves};
-ghost use Rattle.aig_parsing.specs.Front.{tested_at};
+ghost use Rattle.aig_parsing.specs.Parse.{tested_at};
 ghost use Rattle.aig_format.specs.Letters.{count_of};
 ghost use Rattle.aig_lexer.specs.Faults.{OnShape};
 ghost use Rattle.aig_lexer.specs.Header.{numbers_of};

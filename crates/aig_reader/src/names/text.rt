@@ -3,7 +3,7 @@
 ghost use Rattle.std.specs.Prelude.{◌≡◌, ◌<◌, List, ℕ, IsErrOf, OnErr, OnOk, true, false, string_bytes};
 ghost use Rattle.std.specs.Io.KnownBytes.{Consumes, IsAtEnd};
 ghost use Rattle.std.specs.Str.{is_utf8};
-ghost use Rattle.aig_parsing.specs.Front.{tested_at, text_at};
+ghost use Rattle.aig_parsing.specs.Parse.{tested_at, text_at};
 ghost use Rattle.aig_lexer.specs.Faults.{OnShape};
 ghost use Rattle.aig_lexer.specs.Takes.{Gives, Makes};
 ghost use Rattle.aig_reader.specs.NameFaults.{OnName};

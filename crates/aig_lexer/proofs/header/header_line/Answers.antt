@@ -1,5 +1,5 @@
 use Rattle.aig_format.specs.declared.FileKind.{FileKind}
-use Rattle.aig_parsing.specs.Front.{header_from, header_numbers_at, kind_at}
+use Rattle.aig_parsing.specs.Parse.{header_from, header_numbers_at, kind_at}
 use Rattle.aig_lexer.proofs.Taking.{takes_both}
 use Rattle.aig_lexer.proofs.header.header_line.Goals as goal
 

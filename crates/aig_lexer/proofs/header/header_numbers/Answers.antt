@@ -1,7 +1,7 @@
 use Rattle.std.proofs.Common.{◌∙◌, ◌+◌, ◌-◌, ◌∷◌, ◌++◌, [], ◌≤◌, ℕ, None, length, refl, ap, subst, arith}
 use Rattle.std.proofs.lemmas.Result.{err_from_is_err_and}
 use Rattle.std.proofs.lemmas.List.{length-append}
-use Rattle.aig_parsing.specs.Front.{header_from, header_numbers_at, number_at}
+use Rattle.aig_parsing.specs.Parse.{header_from, header_numbers_at, number_at}
 use Rattle.aig_lexer.specs.Takes.{Takes, Misses}
 use Rattle.aig_lexer.proofs.Going.{goes_start, goes_call, goes_done, goes_wrong, goes_nowhere, goes_same}
 use Rattle.aig_lexer.proofs.HeaderNumbers.{numbers_behind, numbers_start, numbers_too_many, numbers_stop, numbers_go, numbers_give, numbers_break, numbers_set, header_from-set}

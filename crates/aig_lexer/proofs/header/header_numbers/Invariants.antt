@@ -1,5 +1,5 @@
 use Rattle.std.proofs.Common.{◌≡◌, ◌++◌, ◌-◌, ◌≤◌, ℕ, List, length, replicate}
-use Rattle.aig_parsing.specs.Front.{header_numbers_at}
+use Rattle.aig_parsing.specs.Parse.{header_numbers_at}
 use Rattle.aig_lexer.proofs.Going.{GoesOn}
 use Rattle.aig_lexer.proofs.HeaderNumbers.{numbers_behind}
 use Rattle.aig_lexer.proofs.header.header_numbers.Given as goal

@@ -1,6 +1,6 @@
 use Rattle.std.proofs.Common.{◌∙◌, ◌+◌, ◌-◌, ◌*◌, ◌%◌, ℕ, None, refl, sym, ap, arith}
 use Rattle.std.proofs.lemmas.Grind.{pow_more}
-use Rattle.aig_parsing.specs.Front.{delta_at}
+use Rattle.aig_parsing.specs.Parse.{delta_at}
 use Rattle.aig_lexer.proofs.Deltas.{groups_behind, delta_starts, delta_ends, delta_gives, delta_overflows, delta_goes, delta_too_long, group_fits, place_fits}
 use Rattle.aig_lexer.proofs.Going.{goes_start, goes_byte, goes_end, goes_done, goes_nowhere, goes_same}
 use Rattle.aig_lexer.proofs.lexer.delta.Goals as goal

@@ -1,5 +1,5 @@
 use Rattle.std.proofs.Common.{◌≡◌, ◌-◌, ◌^◌, ◌<◌, ◌≤◌}
-use Rattle.aig_parsing.specs.Front.{delta_at}
+use Rattle.aig_parsing.specs.Parse.{delta_at}
 use Rattle.aig_lexer.proofs.Deltas.{groups_behind}
 use Rattle.aig_lexer.proofs.Going.{GoesOn}
 use Rattle.aig_lexer.proofs.lexer.delta.Given as goal

@@ -1,4 +1,4 @@
-use Rattle.aig_parsing.specs.Front.{number_at}
+use Rattle.aig_parsing.specs.Parse.{number_at}
 use Rattle.aig_parsing.proofs.Numbers.{number_ends}
 use Rattle.aig_lexer.proofs.Going.{goes_start, goes_end}
 use Rattle.aig_lexer.proofs.Words.{gives_behind}

@@ -1,6 +1,6 @@
 use Rattle.std.proofs.Common.{◌∙◌, ◌+◌, ◌*◌, ◌-◌, ℕ, None, refl, arith}
 use Rattle.std.specs.Char.{IsNotAsciiDigit}
-use Rattle.aig_parsing.specs.Front.{digits_at}
+use Rattle.aig_parsing.specs.Parse.{digits_at}
 use Rattle.aig_parsing.proofs.Numbers.{OtherThanDigit, number_goes, number_stops, digits_go, digits_overflow, digits_stop, digits_end}
 use Rattle.aig_lexer.specs.Words.{number_from_at}
 use Rattle.aig_lexer.proofs.Going.{goes_start, goes_same, goes_byte, goes_end, goes_done, goes_nowhere}

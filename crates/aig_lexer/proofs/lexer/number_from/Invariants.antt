@@ -1,5 +1,5 @@
 use Rattle.std.proofs.Common.{◌≡◌, ◌<◌, ◌≤◌, ◌^◌}
-use Rattle.aig_parsing.specs.Front.{digits_at}
+use Rattle.aig_parsing.specs.Parse.{digits_at}
 use Rattle.aig_lexer.specs.Words.{number_from_at}
 use Rattle.aig_lexer.proofs.Going.{GoesOn}
 use Rattle.aig_lexer.proofs.lexer.number_from.Given as goal

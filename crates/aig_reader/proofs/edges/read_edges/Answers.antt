@@ -1,7 +1,7 @@
 use Rattle.std.proofs.Common.{◌≡◌, ◌∙◌, ◌∷◌, ◌++◌, [], ℕ, subst, arith}
 use Rattle.std.proofs.lemmas.Result.{err_from_is_err_and}
-use Rattle.aig_parsing.specs.Front.{ended_at, tested_at, times_at}
-use Rattle.aig_parsing.specs.Fitting.{is_literal}
+use Rattle.aig_parsing.specs.Parse.{ended_at, tested_at, times_at}
+use Rattle.aig_parsing.specs.ParseTested.{is_literal}
 use Rattle.aig_ordering.specs.Lists.{edge_from}
 use Rattle.aig_lexer.specs.Takes.{Takes, Misses}
 use Rattle.aig_lexer.proofs.Taking.{takes_same, misses_same}

@@ -1,6 +1,6 @@
 use Rattle.std.proofs.Common.{◌≡◌, [], map}
-use Rattle.aig_parsing.specs.Front.{ended_at, tested_at}
-use Rattle.aig_parsing.specs.Fitting.{is_literal}
+use Rattle.aig_parsing.specs.Parse.{ended_at, tested_at}
+use Rattle.aig_parsing.specs.ParseTested.{is_literal}
 use Rattle.aig_ordering.specs.Lists.{edge_from}
 use Rattle.aig_lexer.specs.Takes.{Made}
 use Rattle.aig_reader.proofs.Entries.{entries_at}

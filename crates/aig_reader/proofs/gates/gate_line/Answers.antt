@@ -1,6 +1,6 @@
 use Rattle.std.proofs.Common.{◌∙◌, ◌++◌, refl, sym}
-use Rattle.aig_parsing.specs.Fitting.{gate_of}
-use Rattle.aig_reader.specs.Entries.{may_stand, operands_at}
+use Rattle.aig_parsing.specs.ParseTested.{gate_of}
+use Rattle.aig_reader.specs.ParseEntry.{may_stand, operands_at}
 use Rattle.aig_reader.specs.Gates.{literals_of}
 use Rattle.aig_reader.specs.Variables.{kind_by}
 use Rattle.aig_reader.proofs.GateLines.{may_stand-both, more_gates, new_among}

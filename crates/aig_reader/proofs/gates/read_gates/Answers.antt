@@ -1,12 +1,12 @@
 use Rattle.std.proofs.Common.{◌≡◌, ◌∙◌, ◌∷◌, ◌++◌, ◌+◌, [], ℕ, subst, refl, sym, arith}
 use Rattle.std.proofs.lemmas.Result.{err_from_is_err_and}
-use Rattle.aig_parsing.specs.Fitting.{fitting_gates_at}
+use Rattle.aig_parsing.specs.ParseTested.{fitting_gates_at}
 use Rattle.aig_format.specs.declared.FileKind.{FileKind}
 use Rattle.aig_lexer.specs.Header.{numbers_of}
 use Rattle.aig_lexer.specs.Takes.{Takes, Misses}
 use Rattle.std.proofs.lemmas.List.{append-nil}
 use Rattle.aig_lexer.proofs.Taking.{takes_nothing, takes_same, misses_same}
-use Rattle.aig_reader.specs.Entries.{gate_at}
+use Rattle.aig_reader.specs.ParseEntry.{gate_at}
 use Rattle.aig_reader.specs.Faults.{OnLine}
 use Rattle.aig_reader.specs.Variables.{AreDefined, HasRoom, kind_by}
 use Rattle.aig_reader.proofs.BothKinds.{gates_is}

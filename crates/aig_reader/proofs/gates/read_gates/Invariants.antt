@@ -1,5 +1,5 @@
 use Rattle.std.proofs.Common.{◌≡◌, ℕ, ◌+◌, List, []}
-use Rattle.aig_reader.specs.Entries.{gate_at}
+use Rattle.aig_reader.specs.ParseEntry.{gate_at}
 use Rattle.aig_reader.specs.Gates.{AreGates, HasSpace}
 use Rattle.aig_reader.specs.Variables.{AreDefined, HasRoom, kind_by}
 use Rattle.aig_lexer.specs.Takes.{Made}

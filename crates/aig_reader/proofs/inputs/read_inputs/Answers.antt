@@ -1,11 +1,11 @@
 use Rattle.std.proofs.Common.{◌≡◌, ◌∙◌, ◌∷◌, ◌++◌, ◌+◌, [], ℕ, ap, subst, arith}
 use Rattle.std.proofs.lemmas.Result.{err_from_is_err_and}
-use Rattle.aig_parsing.specs.Fitting.{fitting_inputs_at}
+use Rattle.aig_parsing.specs.ParseTested.{fitting_inputs_at}
 use Rattle.aig_format.specs.declared.FileKind.{FileKind}
 use Rattle.aig_lexer.specs.Header.{numbers_of}
 use Rattle.aig_lexer.specs.Takes.{Takes, Misses}
 use Rattle.aig_lexer.proofs.Taking.{takes_same, misses_same}
-use Rattle.aig_reader.specs.Entries.{input_at}
+use Rattle.aig_reader.specs.ParseEntry.{input_at}
 use Rattle.aig_reader.specs.Faults.{OnLine}
 use Rattle.aig_ordering.specs.Lists.{variable_of}
 use Rattle.aig_reader.specs.Variables.{kind_by}

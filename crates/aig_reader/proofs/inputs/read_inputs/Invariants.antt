@@ -1,5 +1,5 @@
 use Rattle.std.proofs.Common.{◌≡◌, ℕ, ◌+◌, [], map, vec_len}
-use Rattle.aig_reader.specs.Entries.{input_at}
+use Rattle.aig_reader.specs.ParseEntry.{input_at}
 use Rattle.aig_ordering.specs.Lists.{variable_of}
 use Rattle.aig_reader.specs.Variables.{AreDefined, HasRoom, kind_by}
 use Rattle.aig_lexer.specs.Takes.{Made}

@@ -1,6 +1,6 @@
 use Rattle.std.proofs.Common.{◌≡◌, ◌∙◌, ◌∷◌, ◌++◌, [], ℕ, List, subst, ap, arith}
 use Rattle.std.proofs.lemmas.Result.{err_from_is_err_and}
-use Rattle.aig_parsing.specs.Front.{ended_at, numbers_at}
+use Rattle.aig_parsing.specs.Parse.{ended_at, numbers_at}
 use Rattle.aig_lexer.specs.Takes.{Takes, Misses}
 use Rattle.aig_lexer.proofs.Taking.{takes_same, misses_same}
 use Rattle.aig_reader.proofs.Entries.{entries_at, takes_more, misses_more, times_is_entries}

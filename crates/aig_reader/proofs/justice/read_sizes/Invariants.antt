@@ -1,5 +1,5 @@
 use Rattle.std.proofs.Common.{◌≡◌, []}
-use Rattle.aig_parsing.specs.Front.{ended_at}
+use Rattle.aig_parsing.specs.Parse.{ended_at}
 use Rattle.aig_lexer.specs.Takes.{Made}
 use Rattle.aig_reader.proofs.Entries.{entries_at}
 use Rattle.aig_reader.proofs.justice.read_sizes.Given as goal

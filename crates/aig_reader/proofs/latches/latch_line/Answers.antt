@@ -1,8 +1,8 @@
 use Rattle.std.proofs.Common.{◌≡◌, ◌&&◌, ◌++◌, false, map, refl}
 use Rattle.std.proofs.lemmas.Result.{err_from_is_err_and}
 use Rattle.aig_format.specs.File.{LatchLine}
-use Rattle.aig_parsing.specs.Fitting.{has_next, is_reset, latch_of, next_at}
-use Rattle.aig_reader.specs.Entries.{may_define}
+use Rattle.aig_parsing.specs.ParseTested.{has_next, is_reset, latch_of, next_at}
+use Rattle.aig_reader.specs.ParseEntry.{may_define}
 use Rattle.aig_reader.specs.Variables.{kind_by}
 use Rattle.aig_reader.proofs.OwnLines.{misses_line, takes_line}
 use Rattle.aig_reader.proofs.TestedLines.{on_line-weaker}

@@ -1,14 +1,14 @@
 use Rattle.std.proofs.Common.{◌≡◌, ◌∙◌, ◌∷◌, ◌++◌, ◌+◌, [], ℕ, List, map, ap, sym, subst, append_assoc, arith}
 use Rattle.std.proofs.lemmas.Result.{err_from_is_err_and}
 use Rattle.std.proofs.lemmas.List.{map_push}
-use Rattle.aig_parsing.specs.Fitting.{fitting_latches_at}
+use Rattle.aig_parsing.specs.ParseTested.{fitting_latches_at}
 use Rattle.aig_format.specs.declared.FileKind.{FileKind}
 use Rattle.aig_format.specs.File.{LatchLine}
 use Rattle.aig_lexer.specs.Header.{numbers_of}
 use Rattle.aig_lexer.specs.Takes.{Takes, Misses}
 use Rattle.aig_lexer.proofs.Taking.{takes_same, misses_same}
 use Rattle.aig_reader.specs.declared.variables.Variables.{Variables}
-use Rattle.aig_reader.specs.Entries.{latch_at}
+use Rattle.aig_reader.specs.ParseEntry.{latch_at}
 use Rattle.aig_reader.specs.Faults.{OnLine}
 use Rattle.aig_ordering.specs.Lists.{latch_from}
 use Rattle.aig_reader.specs.Variables.{AreDefined, kind_by}

@@ -1,5 +1,5 @@
 use Rattle.std.proofs.Common.{◌≡◌, ℕ, ◌+◌, List, [], ◌++◌, map, vec_len}
-use Rattle.aig_reader.specs.Entries.{latch_at}
+use Rattle.aig_reader.specs.ParseEntry.{latch_at}
 use Rattle.aig_ordering.specs.Lists.{latch_from}
 use Rattle.aig_reader.specs.Variables.{AreDefined, HasRoom, kind_by}
 use Rattle.aig_lexer.specs.Takes.{Made}

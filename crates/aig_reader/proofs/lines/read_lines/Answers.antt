@@ -1,8 +1,8 @@
 use Rattle.std.proofs.Common.{◌∙◌, ◌++◌, ◌+◌, [], ℕ, refl, ap, sym, subst, arith}
 use Rattle.std.specs.Prelude.{◌==◌}
 use Rattle.std.proofs.lemmas.Result.{err_from_is_err_and}
-use Rattle.aig_parsing.specs.Fitting.{fitting_gates_at}
-use Rattle.aig_parsing.specs.Front.{Parts}
+use Rattle.aig_parsing.specs.ParseTested.{fitting_gates_at}
+use Rattle.aig_parsing.specs.Parse.{Parts}
 use Rattle.aig_parsing.proofs.SectionFacts.{lines_tell}
 use Rattle.aig_format.specs.declared.FileKind.{FileKind}
 use Rattle.aig_lexer.specs.Header.{numbers_of}

@@ -1,5 +1,5 @@
 use Rattle.std.proofs.Common.{◌∙◌, List, ℕ, subst}
-use Rattle.aig_parsing.specs.Fitting.{literal_sets_at}
+use Rattle.aig_parsing.specs.ParseTested.{literal_sets_at}
 use Rattle.aig_lexer.specs.Header.{numbers_of}
 use Rattle.aig_lexer.specs.Takes.{Takes}
 use Rattle.aig_reader.specs.declared.error.Section.TheVariants.{Outputs, Bads, Constraints, Justice, Fairness}

@@ -1,5 +1,5 @@
 use Rattle.std.proofs.lemmas.Result.{err_from_is_err_and}
-use Rattle.aig_parsing.specs.Fitting.{keeps_rules, section_lines_at}
+use Rattle.aig_parsing.specs.ParseTested.{keeps_rules, section_lines_at}
 use Rattle.aig_lexer.specs.Header.{numbers_of}
 use Rattle.aig_lexer.proofs.Taking.{misses_tested}
 use Rattle.aig_reader.specs.Sections.{file_by}

@@ -1,5 +1,5 @@
 use Rattle.std.proofs.Common.{◌∷◌, ℕ, Option, None, List}
-use Rattle.aig_parsing.specs.Front.{mapped_at}
+use Rattle.aig_parsing.specs.Parse.{mapped_at}
 use Rattle.aig_lexer.specs.Words.{expect_at}
 use Rattle.aig_lexer.proofs.Going.{goes_call, goes_nowhere, goes_same, goes_start}
 use Rattle.aig_lexer.proofs.Taking.{misses_where}

@@ -1,6 +1,6 @@
 use Rattle.std.proofs.Common.{[]}
 use Rattle.std.proofs.lemmas.Result.{err_from_is_err_and}
-use Rattle.aig_parsing.specs.Front.{both_at}
+use Rattle.aig_parsing.specs.Parse.{both_at}
 use Rattle.aig_lexer.proofs.Taking.{misses_both, misses_either, takes_both}
 use Rattle.aig_witness.specs.Reading.{property_at, row_behind, steps_behind}
 use Rattle.aig_witness.specs.Witness.{rows_of}

@@ -1,5 +1,5 @@
 use Rattle.std.proofs.Common.{Some, refl}
-use Rattle.aig_parsing.specs.Front.{ended_at}
+use Rattle.aig_parsing.specs.Parse.{ended_at}
 use Rattle.aig_lexer.proofs.Going.{goes_byte, goes_call, goes_done, goes_start}
 use Rattle.aig_witness.specs.Reading.{property_at}
 use Rattle.aig_witness.proofs.Going.{property_begins}

@@ -1,5 +1,5 @@
 use Rattle.std.proofs.Common.{◌≡◌, ◌≤◌}
-use Rattle.aig_parsing.specs.Front.{text_at}
+use Rattle.aig_parsing.specs.Parse.{text_at}
 use Rattle.aig_lexer.proofs.Going.{GoesOn}
 use Rattle.aig_reader.proofs.Texts.{text_from}
 use Rattle.aig_reader.proofs.names.text.name_bytes.Given as goal

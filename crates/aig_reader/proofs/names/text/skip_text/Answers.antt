@@ -1,5 +1,5 @@
 use Rattle.std.proofs.Common.{◌++◌, ◌∷◌, [], ◌∙◌, arith}
-use Rattle.aig_parsing.specs.Front.{text_at}
+use Rattle.aig_parsing.specs.Parse.{text_at}
 use Rattle.aig_lexer.proofs.Going.{goes_byte, goes_end, goes_done}
 use Rattle.aig_reader.proofs.Texts.{text_from, text_goes, text_ends, text_stops}
 use Rattle.aig_reader.proofs.names.text.skip_text.Goals as goal

@@ -14,7 +14,7 @@ use Rattle.aig_format.specs.Numbering.{is_older}
 use Rattle.aig_format.specs.Letters.{count_of, is_kept}
 use Rattle.aig_format.specs.Spells.{places}
 use Rattle.aig_format.specs.Fits.{same_place}
-use Rattle.aig_parsing.specs.Front.{◌>>=◌, Parts, PropertyParts, both_at, checked_at, ended_at, file_from, header_at, is_comment, is_good, mapped_at, name_at, number_at, numbers_at, placed_at, placed_gate_at, properties_by, sections_by, tested_at, times_at}
+use Rattle.aig_parsing.specs.Parse.{◌>>=◌, Parts, PropertyParts, both_at, checked_at, ended_at, file_from, header_at, is_comment, is_good, mapped_at, name_at, number_at, numbers_at, placed_at, placed_gate_at, properties_by, sections_by, tested_at, times_at}
 
 -- ---- the header
 

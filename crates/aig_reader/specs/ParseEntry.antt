@@ -4,8 +4,8 @@ use Rattle.std.specs.Prelude.{ℕ, ◌+◌, ◌-◌, ◌*◌, ◌&&◌, Bool, tr
 use Rattle.aig_format.specs.declared.FileKind.{FileKind}
 use Rattle.aig_format.specs.declared.FileKind.TheVariants.{Text, Binary}
 use Rattle.aig_format.specs.File.{LatchLine, GateLine}
-use Rattle.aig_parsing.specs.Front.{both_at, delta_at, ended_at, mapped_at, tested_at}
-use Rattle.aig_parsing.specs.Fitting.{defines, gate_of, has_next, is_literal, latch_of, next_at, pair_at}
+use Rattle.aig_parsing.specs.Parse.{both_at, delta_at, ended_at, mapped_at, tested_at}
+use Rattle.aig_parsing.specs.ParseTested.{defines, gate_of, has_next, is_literal, latch_of, next_at, pair_at}
 
 -- the literal that an entry defines: in a text file it is written, in a binary file it is that of the next variable
 abbrev pub own_at : FileKind → ℕ → List ℕ → List ℕ → Option (ℕ × List ℕ)
