@@ -12,7 +12,7 @@ ghost use Rattle.aig.specs.Gates.{IsGateOf};
 
 mod builders;
 mod names;
-mod writing;
+mod setters;
 
 use aig_base::MemoryError;
 use aig_circuit::{
