@@ -879,7 +879,7 @@ def g37(t):
 
 
 def entries_into_order(t):
-    """The one function of aig_ordering/src/entries.rt goes to order.rt."""
+    """The one function of aig_ordering/src/order.rt goes to order.rt."""
     base = "crates/aig_ordering/src/"
     if base + "entries.rt" not in t.texts:
         return

@@ -22,7 +22,7 @@ use Rattle.aig_circuit.proofs.Writing.{IsCircuit-add_latch, IsCircuit-latchs}
 use Rattle.aig_circuit.specs.Edges.{HasPlainInit}
 use Rattle.aig_renumber.proofs.Places.{map-same}
 use Rattle.aig_change.specs.Changes.{GatesStarts, constant_start, first_step_latch, with_constant_start}
-use Rattle.aig_change.specs.Starting.{Constrains, OpenBegins, SayInSteps, SaysStart, is_variable, variable_latchs}
+use Rattle.aig_change.specs.Inits.{Constrains, OpenBegins, SayInSteps, SaysStart, is_variable, variable_latchs}
 use Rattle.aig_change.proofs.FirstStep.{AddsFirst, AreOldRuns-gated, AreOldRuns-itself}
 use Rattle.aig_change.proofs.Grown.{AddsLeaf-gates}
 use Rattle.aig_circuit.proofs.Lists.{All-first, All-second}

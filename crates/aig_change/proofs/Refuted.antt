@@ -18,7 +18,7 @@ use Rattle.aig_circuit.specs.Tree.{node_value, tree_of}
 use Rattle.aig_change.specs.Merge.{merged}
 use Rattle.aig_change.specs.Changes.{CompressesBads, GatesStarts, MovesConstraints, held_latch}
 use Rattle.aig_change.specs.Runs.{IsRunFromStart}
-use Rattle.aig_change.specs.Starting.{SaysStart}
+use Rattle.aig_change.specs.Inits.{SaysStart}
 
 abbrev node : ℕ → AigNodeType → AigNode
 node n kind = record { node_id = n; typ = kind }

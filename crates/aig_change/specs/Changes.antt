@@ -12,7 +12,7 @@ use Rattle.aig_circuit.specs.Edges.{HasPlainInit}
 use Rattle.std.specs.List.{AllZip}
 use Rattle.aig_circuit.specs.declared.node.AigNode.{AigNode}
 use Rattle.aig_change.specs.Joining.{JoinsInSteps}
-use Rattle.aig_change.specs.Starting.{SayInSteps, SaysStart, variable_latchs}
+use Rattle.aig_change.specs.Inits.{SayInSteps, SaysStart, variable_latchs}
 use Rattle.aig_change.specs.Runs.{AreOldRuns, ConstraintsHoldUpTo, IsAllowedRun, IsRunFromStart}
 
 -- On every run from a start the first edge holds at a step exactly where the old one holds there and every old constraint holds at each

@@ -7,9 +7,9 @@ ghost use Rattle.aig_circuit.specs.View.{lists_circuit};
 ghost use Rattle.aig_change.specs.Merge.{merged};
 ghost use Rattle.aig_change.specs.Changes.{CompressesBads, GatesStarts, MovesConstraints};
 
-use crate::behind;
+use crate::append;
 use crate::joining::{inverses, join_first};
-use crate::starting::{constrain_starts, make_plain};
+use crate::inits::{constrain_starts, make_plain};
 use aig_base::MemoryError;
 use aig_circuit::build::{new_and_node, new_ands_node, new_leaf_node};
 use aig_circuit::starts::are_plain;
@@ -27,16 +27,16 @@ pub fn merge(first: &mut CircuitLists, other: &CircuitView<'_>) -> Result<(), Me
 {
     let count = first.nodes.len();
     let size = other.nodes().len();
-    let mut justice = behind::sets(other.allocator(), count, size, other.justice())?;
-    behind::reserve(first, other)?;
+    let mut justice = append::sets(other.allocator(), count, size, other.justice())?;
+    append::reserve(first, other)?;
     first.justice.append(&mut justice)?;
-    behind::nodes(&mut first.nodes, other.nodes());
-    behind::inputs(&mut first.inputs, count, size, other.inputs());
-    behind::latchs(&mut first.latchs, count, size, other.latchs());
-    behind::edges(&mut first.outputs, count, size, other.outputs());
-    behind::edges(&mut first.bads, count, size, other.bads());
-    behind::edges(&mut first.constraints, count, size, other.constraints());
-    behind::edges(&mut first.fairness, count, size, other.fairness());
+    append::nodes(&mut first.nodes, other.nodes());
+    append::inputs(&mut first.inputs, count, size, other.inputs());
+    append::latchs(&mut first.latchs, count, size, other.latchs());
+    append::edges(&mut first.outputs, count, size, other.outputs());
+    append::edges(&mut first.bads, count, size, other.bads());
+    append::edges(&mut first.constraints, count, size, other.constraints());
+    append::edges(&mut first.fairness, count, size, other.fairness());
     Ok(())
 }
 

@@ -1,11 +1,11 @@
 //! Changes of circuits: one behind another, and changes of properties and initial edges.
 #![tactic(auto)]
 
-mod behind;
+mod append;
 mod changes;
 mod joining;
 mod laws;
-mod starting;
+mod inits;
 
 pub use changes::{aig_move, compress_property, gate_init_to_constraint, merge};
 pub use laws::{merging_is_circuit, merging_pairs_runs, merging_with_false};

@@ -7,7 +7,7 @@ ghost use Rattle.aig_ordering.specs.Gates.{nodes_in};
 ghost use Rattle.aig_ordering.specs.Search.{IsAt, IsAtRest, IsAtSome, IsLevelBy, IsTask, Opens, StaysOpen, work_of};
 ghost use Rattle.aig_ordering.specs.Tables.{AreLevelsOf, AreNodesOf, IfLevels, OnOrder, all_have_levels};
 
-use crate::entries::told;
+use crate::order::told;
 use crate::error::OrderError;
 use crate::gates::{Operands, variable_node};
 use aig_circuit::AigNodeType;

@@ -2,16 +2,15 @@
 //! numbers that its variables get as nodes, and the lists of its circuit under these numbers.
 #![tactic(auto)]
 
-mod entries;
 mod error;
 mod gates;
-mod kinds;
+mod gate_nodes;
 mod levels;
 mod lists;
 mod order;
 
 pub use error::OrderError;
 pub use gates::{Operands, edge_of, variable_node};
-pub use kinds::nodes;
+pub use gate_nodes::nodes;
 pub use lists::{edges, latchs, sets, variables};
 pub use order::{Ordered, order_by_level};

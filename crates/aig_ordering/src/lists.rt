@@ -3,7 +3,7 @@
 ghost use Rattle.std.specs.Prelude.{◌≡◌, map};
 ghost use Rattle.aig_ordering.specs.Numbers.{MakesAll, all_by, edge_by, latch_by, number_at};
 
-use crate::entries::told;
+use crate::order::told;
 use crate::error::OrderError;
 use aig_circuit::{AigEdge, AigLatch};
 use std::alloc::Global;

@@ -10,7 +10,7 @@ use Rattle.aig_circuit.specs.Edge.{edge_to}
 use Rattle.aig_circuit.specs.Edges.{HasPlainInit}
 use Rattle.aig_circuit.specs.View.{lists_circuit}
 use Rattle.aig_change.specs.Changes.{GatesStarts, first_step_latch, with_constant_start}
-use Rattle.aig_change.specs.Starting.{Constrains}
+use Rattle.aig_change.specs.Inits.{Constrains}
 use Rattle.aig_change.proofs.Constraining.{GatesStarts-plain, gated_starts}
 use Rattle.aig_change.proofs.changes.gate_init_to_constraint.Goals as goal
 

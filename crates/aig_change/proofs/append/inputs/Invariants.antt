@@ -1,7 +1,7 @@
 use Rattle.std.proofs.Common.{◌≡◌, ◌+◌, ◌≤◌, ◌++◌, map, take}
 use Rattle.std.specs.Prelude.{vec_capacity, vec_len}
 use Rattle.aig_change.specs.Merge.{shifted}
-use Rattle.aig_change.proofs.behind.inputs.Given as goal
+use Rattle.aig_change.proofs.append.inputs.Given as goal
 
 abbrev pub invariant-loop-input : goal.invariant-loop-input
 invariant-loop-input l = record {

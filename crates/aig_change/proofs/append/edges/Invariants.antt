@@ -2,7 +2,7 @@ use Rattle.std.proofs.Common.{◌≡◌, ◌+◌, ◌≤◌, ◌++◌, map, take
 use Rattle.std.specs.Prelude.{vec_capacity, vec_len}
 use Rattle.aig_circuit.specs.Renumber.{renumbered_edge}
 use Rattle.aig_change.specs.Merge.{shifted}
-use Rattle.aig_change.proofs.behind.edges.Given as goal
+use Rattle.aig_change.proofs.append.edges.Given as goal
 
 abbrev pub invariant-loop-e : goal.invariant-loop-e
 invariant-loop-e l = record {

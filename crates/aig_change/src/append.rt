@@ -6,7 +6,7 @@ ghost use Rattle.aig_circuit.specs.Circuit.{AreNodes};
 ghost use Rattle.aig_circuit.specs.Node.{IfAnd};
 ghost use Rattle.aig_circuit.specs.Renumber.{nodes_in_order, renumbered_edge, renumbered_kind, renumbered_latch};
 ghost use Rattle.aig_circuit.specs.View.{lists_circuit};
-ghost use Rattle.aig_change.specs.Behind.{HasRoom, IsEdgeBelow, IsLatchBelow};
+ghost use Rattle.aig_change.specs.Append.{HasRoom, IsEdgeBelow, IsLatchBelow};
 ghost use Rattle.aig_change.specs.Merge.{numbers_but_0, shifted};
 
 use aig_base::MemoryError;

@@ -2,7 +2,7 @@ use Rattle.std.proofs.Common.{arith}
 use Rattle.std.proofs.lemmas.Grind.{common_steps}
 use Rattle.std.proofs.lemmas.List.Edits.{map_over_more}
 use Rattle.aig_change.specs.Changes.{with_constant_start}
-use Rattle.aig_change.proofs.starting.make_plain.Goals as goal
+use Rattle.aig_change.proofs.inits.make_plain.Goals as goal
 
 pub loop-latch-preserved : goal.loop-latch-preserved
 loop-latch-preserved c = grind (arith, common_steps, map_over_more with_constant_start)

@@ -1,6 +1,6 @@
 use Rattle.std.proofs.Common.{◌∙◌, arith}
 use Rattle.aig_change.proofs.Merging.{nodes-behind_turn}
-use Rattle.aig_change.proofs.behind.nodes.Goals as goal
+use Rattle.aig_change.proofs.append.nodes.Goals as goal
 
 pub loop-i-preserved : goal.loop-i-preserved
 loop-i-preserved c = record {

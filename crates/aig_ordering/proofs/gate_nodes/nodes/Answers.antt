@@ -10,8 +10,8 @@ use Rattle.aig_ordering.proofs.Images.{all_by-missed, all_by-more, mapped_none, 
 use Rattle.aig_ordering.proofs.NodesIn.{length-nodes_in, node_under, nodes_in-at}
 use Rattle.aig_ordering.proofs.Numbering.{numbered-more}
 use Rattle.aig_ordering.proofs.Searching.{on_order}
-use Rattle.aig_ordering.proofs.kinds.nodes.Goals as goal
-use Rattle.aig_ordering.proofs.kinds.nodes.Goals.{After-push_node}
+use Rattle.aig_ordering.proofs.gate_nodes.nodes.Goals as goal
+use Rattle.aig_ordering.proofs.gate_nodes.nodes.Goals.{After-push_node}
 
 -- what a kind adds
 abbrev behind : (c : After-push_node) → AigNodeType → List AigNode

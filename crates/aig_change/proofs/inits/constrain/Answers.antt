@@ -2,7 +2,7 @@ use Rattle.std.proofs.Common.{◌∙◌, ap, sym}
 use Rattle.aig_circuit.specs.Edge.{edge_to}
 use Rattle.aig_circuit.proofs.Building.{AddsGates-then}
 use Rattle.aig_change.proofs.Constraining.{constrained_one}
-use Rattle.aig_change.proofs.starting.constrain.Goals as goal
+use Rattle.aig_change.proofs.inits.constrain.Goals as goal
 
 pub returns-in_ok-push-clause-gates : goal.returns-in_ok-push-clause-gates
 returns-in_ok-push-clause-gates c = AddsGates-then _ _ _ c.in_ok-equal.ensures.gates c.in_ok-implied.ensures.gates

@@ -4,7 +4,7 @@ use Rattle.aig_circuit.specs.declared.node.AigNodeType.{AigNodeType}
 use Rattle.aig_ordering.specs.Gates.{nodes_in}
 use Rattle.aig_ordering.specs.Numbers.{all_by, numbered}
 use Rattle.aig_ordering.proofs.NodesIn.{node_under}
-use Rattle.aig_ordering.proofs.kinds.nodes.Given as goal
+use Rattle.aig_ordering.proofs.gate_nodes.nodes.Given as goal
 
 abbrev pub invariant-loop-gate : goal.invariant-loop-gate
 invariant-loop-gate l = record {

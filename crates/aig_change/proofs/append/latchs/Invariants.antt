@@ -2,7 +2,7 @@ use Rattle.std.proofs.Common.{◌≡◌, ◌+◌, ◌≤◌, ◌++◌, map, take
 use Rattle.std.specs.Prelude.{vec_capacity, vec_len}
 use Rattle.aig_circuit.specs.Renumber.{renumbered_latch}
 use Rattle.aig_change.specs.Merge.{shifted}
-use Rattle.aig_change.proofs.behind.latchs.Given as goal
+use Rattle.aig_change.proofs.append.latchs.Given as goal
 
 abbrev pub invariant-loop-l : goal.invariant-loop-l
 invariant-loop-l l = record {

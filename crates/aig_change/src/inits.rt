@@ -6,7 +6,7 @@ ghost use Rattle.aig_circuit.specs.Build.{AddsGates, with_node};
 ghost use Rattle.aig_circuit.specs.Edge.{edge_to};
 ghost use Rattle.aig_circuit.specs.Circuit.{AreNodes, IsInRange, IsLatch};
 ghost use Rattle.aig_change.specs.Changes.{with_constant_start};
-ghost use Rattle.aig_change.specs.Starting.{Constrains};
+ghost use Rattle.aig_change.specs.Inits.{Constrains};
 
 use aig_base::MemoryError;
 use aig_circuit::build::{new_eq_node, new_leaf_node, new_or_node};

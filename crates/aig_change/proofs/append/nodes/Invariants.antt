@@ -2,7 +2,7 @@ use Rattle.std.proofs.Common.{◌≡◌, ◌+◌, ◌≤◌, ◌++◌, take, ◌
 use Rattle.std.specs.Prelude.{vec_capacity, vec_len}
 use Rattle.aig_circuit.specs.Renumber.{nodes_in_order}
 use Rattle.aig_change.specs.Merge.{numbers_but_0, shifted}
-use Rattle.aig_change.proofs.behind.nodes.Given as goal
+use Rattle.aig_change.proofs.append.nodes.Given as goal
 
 abbrev pub invariant-loop-i : goal.invariant-loop-i
 invariant-loop-i l = record {

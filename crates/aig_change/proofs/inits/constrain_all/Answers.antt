@@ -1,6 +1,6 @@
 use Rattle.aig_circuit.proofs.Building.{AddsGates-then}
 use Rattle.aig_change.proofs.Constraining.{Constrains-turn}
-use Rattle.aig_change.proofs.starting.constrain_all.Goals as goal
+use Rattle.aig_change.proofs.inits.constrain_all.Goals as goal
 
 pub loop-latch-preserved : goal.loop-latch-preserved
 loop-latch-preserved c = (
