@@ -357,8 +357,8 @@ def prose_outside(t, pairs, globs=None):
 @group("1", "Older rules are a compact file's")
 def g1(t):
     t.module("aig_format", "proofs", "Older", "Compact")
-    t.ident("FitsOlder", "IsCompact")
-    t.ident("is_older", "is_compact")
+    t.ident("IsCompact", "IsCompact")
+    t.ident("is_compact", "is_compact")
     f = crate("aig_format", "aig_format_laws", "aig_parsing", "aig_reader")
     t.sub(r"binary files keep the older\n-- rules", "binary files are\n-- compact", f, (".antt",))
     t.sub(r"^- \*\*A file fits by the older rules or by the newer\.\*\* By the older no variable is missing and the gates rise above their operands; "

@@ -8,7 +8,7 @@ use Rattle.aig_format.specs.declared.FileKind.TheVariants.{Text, Binary}
 use Rattle.aig_format.specs.File.{LatchLine, GateLine, File, HeaderNumbers}
 use Rattle.aig_format.specs.Written.{spelling_of, line_of}
 use Rattle.aig_format.specs.Levels.{level_of}
-use Rattle.aig_format.specs.Numbering.{is_older, number_of, variables_in_order}
+use Rattle.aig_format.specs.Numbering.{is_compact, number_of, variables_in_order}
 use Rattle.aig_format.specs.Fits.{Fits, HasEnough}
 use Rattle.aig_format.specs.Circuit.{circuit_of, file_of}
 use Rattle.aig_format.proofs.Examples.{and_file}
@@ -167,7 +167,7 @@ swapped-order : variables_in_order swapped ≡ 1 ∷ 3 ∷ []
 unfolding steps
 swapped-order = refl
 
--- ---- files of the older rules keep their numbers
+-- ---- compact files keep their numbers
 
 -- gates of levels 2, 1 and 3, in rising order
 abbrev pub deep : File
@@ -225,7 +225,7 @@ abbrev pub exchanged : File
 exchanged = file_with 2 [] [] (2 ∷ []) (gate 2 4 4 ∷ gate 4 2 2 ∷ [])
 
 exchanged-refused : (limit : ℕ) → Fits exchanged limit → ⊥
-exchanged-refused limit fits = elim fits.rules [ inl older ↦ omega (arith, older.ordered.0.0) | inr newer ↦ false≢true newer.levels.0 ]
+exchanged-refused limit fits = elim fits.rules [ inl compact ↦ omega (arith, compact.ordered.0.0) | inr newer ↦ false≢true newer.levels.0 ]
 
 exchanged-levels : map (level_of exchanged) (0 ∷ 1 ∷ 2 ∷ []) ≡ Some 0 ∷ None ∷ None ∷ []
 exchanged-levels = refl
@@ -235,7 +235,7 @@ abbrev pub own : File
 own = file_with 3 (2 ∷ []) [] [] (gate 4 4 2 ∷ gate 6 4 4 ∷ [])
 
 own-refused : (limit : ℕ) → Fits own limit → ⊥
-own-refused limit fits = elim fits.rules [ inl older ↦ omega (arith, older.ordered.0.0) | inr newer ↦ false≢true newer.levels.0 ]
+own-refused limit fits = elim fits.rules [ inl compact ↦ omega (arith, compact.ordered.0.0) | inr newer ↦ false≢true newer.levels.0 ]
 
 own-levels : map (level_of own) (1 ∷ 2 ∷ 3 ∷ []) ≡ Some 0 ∷ None ∷ None ∷ []
 own-levels = refl
@@ -245,14 +245,14 @@ abbrev pub lost_output : File
 lost_output = file_with 3 (2 ∷ []) [] (4 ∷ []) (gate 6 2 2 ∷ [])
 
 lost_output-refused : (limit : ℕ) → Fits lost_output limit → ⊥
-lost_output-refused limit fits = elim fits.rules [ inl older ↦ omega (arith, older.exact) | inr newer ↦ false≢true newer.known.0 ]
+lost_output-refused limit fits = elim fits.rules [ inl compact ↦ omega (arith, compact.exact) | inr newer ↦ false≢true newer.known.0 ]
 
 -- operand 2 is not defined
 abbrev pub lost_operand : File
 lost_operand = file_with 3 (2 ∷ []) [] [] (gate 6 4 2 ∷ [])
 
 lost_operand-refused : (limit : ℕ) → Fits lost_operand limit → ⊥
-lost_operand-refused limit fits = elim fits.rules [ inl older ↦ omega (arith, older.exact) | inr newer ↦ false≢true newer.known.0 ]
+lost_operand-refused limit fits = elim fits.rules [ inl compact ↦ omega (arith, compact.exact) | inr newer ↦ false≢true newer.known.0 ]
 
 -- ---- headers
 
@@ -276,11 +276,11 @@ gapped-too_many fits = omega (arith, fits.within)
 
 -- in binary no variable is missing
 short_in_binary : (limit : ℕ) → Fits (record short { kind = Binary }) limit → ⊥
-short_in_binary limit fits = elim fits.rules [ inl older ↦ omega (arith, older.exact) | inr newer ↦ cc ]
+short_in_binary limit fits = elim fits.rules [ inl compact ↦ omega (arith, compact.exact) | inr newer ↦ cc ]
 
--- whether the older rules hold
-older-tests : map is_older (deep ∷ late ∷ and_file ∷ in_binary ∷ []) ≡ true ∷ true ∷ true ∷ true ∷ []
-older-tests = refl
+-- whether a file is compact
+compact-tests : map is_compact (deep ∷ late ∷ and_file ∷ in_binary ∷ []) ≡ true ∷ true ∷ true ∷ true ∷ []
+compact-tests = refl
 
-newer-tests : map is_older (doubled ∷ mixed ∷ gapped ∷ falling ∷ short ∷ tied ∷ middle ∷ swapped ∷ moved ∷ []) ≡ false ∷ false ∷ false ∷ false ∷ false ∷ false ∷ false ∷ false ∷ false ∷ []
+newer-tests : map is_compact (doubled ∷ mixed ∷ gapped ∷ falling ∷ short ∷ tied ∷ middle ∷ swapped ∷ moved ∷ []) ≡ false ∷ false ∷ false ∷ false ∷ false ∷ false ∷ false ∷ false ∷ false ∷ []
 newer-tests = refl

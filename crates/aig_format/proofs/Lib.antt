@@ -3,7 +3,7 @@ pub mod Examples
 pub mod Gaps
 pub mod Members
 pub mod Searches
-pub mod Older
+pub mod Compact
 pub mod Levels
 pub mod Orders
 pub mod Numbers

@@ -1,4 +1,4 @@
--- The numbers of variables: by the older rules the variables themselves, else by level.
+-- The numbers of variables: in a compact file the variables themselves, else by level.
 use Rattle.std.proofs.Common.{◌≡◌, ℕ, zero, suc, ◌+◌, ◌*◌, ◌/◌, ◌%◌, ◌<◌, ◌≤◌, Bool, true, false, cond, eqb, ◌||◌, List, [], ◌∷◌, ◌++◌, length, map, refl, sym, ap, subst, ◌∙◌, arith, inl, inr}
 use Rattle.std.specs.Prelude.{nat_eq, ◌==◌, find, slice_index, Some}
 use Rattle.std.specs.List.{AllByRecursion, IsDistinct, list_any, flat_map}
@@ -10,13 +10,13 @@ use Rattle.aig_circuit.specs.Renumber.{place_of}
 use Rattle.aig_format.specs.File.{LatchLine, GateLine, File, defined, used}
 use Rattle.aig_format.specs.Variables.{is_defined, is_known, IsKnown, gate_of_variable}
 use Rattle.aig_format.specs.Levels.{level_of}
-use Rattle.aig_format.specs.Numbering.{is_older, numbers_from, variables_by_level, variables_in_order, number_of}
+use Rattle.aig_format.specs.Numbering.{is_compact, numbers_from, variables_by_level, variables_in_order, number_of}
 use Rattle.aig_format.specs.declared.FileKind.TheVariants.{Text, Binary}
-use Rattle.aig_format.specs.Fits.{IsDefinable, IsOrdered, Fits, FitsNewer, FitsOlder}
+use Rattle.aig_format.specs.Fits.{IsDefinable, IsOrdered, Fits, FitsNewer, IsCompact}
 use Rattle.aig_format.proofs.Entries.{rec_both, rec_map, rec_parts, rec_weaker}
 use Rattle.aig_format.proofs.Searches.{find_some}
 use Rattle.aig_format.proofs.Members.{has, has-numbers, index-place_of, place_of-index, place_of-numbers, place_of-one, place_of-within, distinct-numbers, rec_at, rec_numbers}
-use Rattle.aig_format.proofs.Older.{newer_only, older-told}
+use Rattle.aig_format.proofs.Compact.{newer_only, compact-told}
 use Rattle.aig_format.proofs.Levels.{level_of-gate, levelled, levels-ordered}
 use Rattle.aig_format.proofs.Orders.{defined-by_level, distinct-by_level, has-by_level, place_of-by_level, place_of-in_level, some-by_level}
 
@@ -30,15 +30,15 @@ pub number_of-zero : (f : File) → number_of f 0 ≡ 0
 unfolding number_of
 number_of-zero f = refl
 
--- by the older rules
-pub order-older : (f : File) → is_older f ≡ true → variables_in_order f ≡ numbers_from (length (defined f)) 1
+-- in a compact file
+pub order-compact : (f : File) → is_compact f ≡ true → variables_in_order f ≡ numbers_from (length (defined f)) 1
 unfolding variables_in_order
-order-older f older = cond-true (is_older f) (numbers_from (length (defined f)) 1) (variables_by_level f) older
+order-compact f compact = cond-true (is_compact f) (numbers_from (length (defined f)) 1) (variables_by_level f) compact
 
 -- else
-pub order-newer : (f : File) → is_older f ≡ false → variables_in_order f ≡ variables_by_level f
+pub order-newer : (f : File) → is_compact f ≡ false → variables_in_order f ≡ variables_by_level f
 unfolding variables_in_order
-order-newer f newer = cond-false (is_older f) (numbers_from (length (defined f)) 1) (variables_by_level f) newer
+order-newer f newer = cond-false (is_compact f) (numbers_from (length (defined f)) 1) (variables_by_level f) newer
 
 -- a variable other than 0 has its place among the others, and one more
 past_zero : (xs : List ℕ) (v : ℕ) → 1 ≤ v → place_of (0 ∷ xs) v ≡ place_of xs v + 1
@@ -47,29 +47,29 @@ past_zero xs v h = let differs : eqb 0 v ≡ false = ne_eqb 0 v (λ e. omega (ar
 number_of-some : (f : File) (v : ℕ) → 1 ≤ v → number_of f v ≡ place_of (variables_in_order f) v + 1
 number_of-some f v h = number_of-place f v ∙ past_zero (variables_in_order f) v h
 
--- by the older rules a variable is its own number
-pub number_of-older : (f : File) → is_older f ≡ true → (v : ℕ) → v ≤ f.greatest → number_of f v ≡ v
-number_of-older f older zero h = number_of-zero f
-number_of-older f older (suc v) h =
-    let m = (older-told f older).exact in
-    number_of-some f (suc v) (omega arith) ∙ ap (λ xs. place_of xs (suc v) + 1) (order-older f older) ∙ place_of-numbers (length (defined f)) 1 (suc v) (omega arith) (omega arith)
+-- in a compact file a variable is its own number
+pub number_of-compact : (f : File) → is_compact f ≡ true → (v : ℕ) → v ≤ f.greatest → number_of f v ≡ v
+number_of-compact f compact zero h = number_of-zero f
+number_of-compact f compact (suc v) h =
+    let m = (compact-told f compact).exact in
+    number_of-some f (suc v) (omega arith) ∙ ap (λ xs. place_of xs (suc v) + 1) (order-compact f compact) ∙ place_of-numbers (length (defined f)) 1 (suc v) (omega arith) (omega arith)
 
 -- each variable in the order is from 1 on
 order-some : (f : File) → AllByRecursion (λ v. 1 ≤ v) (variables_in_order f)
-order-some f = by_test (is_older f) refl
+order-some f = by_test (is_compact f) refl
   where
-    by_test : (b : Bool) → is_older f ≡ b → AllByRecursion (λ v. 1 ≤ v) (variables_in_order f)
-    by_test true is = subst (AllByRecursion (λ v. 1 ≤ v)) (sym (order-older f is)) (rec_numbers (length (defined f)) 1 1 (omega arith))
+    by_test : (b : Bool) → is_compact f ≡ b → AllByRecursion (λ v. 1 ≤ v) (variables_in_order f)
+    by_test true is = subst (AllByRecursion (λ v. 1 ≤ v)) (sym (order-compact f is)) (rec_numbers (length (defined f)) 1 1 (omega arith))
     by_test false is = subst (AllByRecursion (λ v. 1 ≤ v)) (sym (order-newer f is)) (some-by_level f)
 
 -- and none is there twice
 order-distinct : (f : File) → IsDistinct nat_eq (0 ∷ variables_in_order f)
 order-distinct f =
     IsDistinct-cons nat_eq 0 (variables_in_order f) (rec_weaker (λ v. 1 ≤ v) (λ v. nat_eq 0 v ≡ false) (λ v h. ne_eqb 0 v (λ e. omega (arith, e))) (variables_in_order f) (order-some f))
-    (by_test (is_older f) refl)
+    (by_test (is_compact f) refl)
   where
-    by_test : (b : Bool) → is_older f ≡ b → IsDistinct nat_eq (variables_in_order f)
-    by_test true is = subst (IsDistinct nat_eq) (sym (order-older f is)) (distinct-numbers (length (defined f)) 1)
+    by_test : (b : Bool) → is_compact f ≡ b → IsDistinct nat_eq (variables_in_order f)
+    by_test true is = subst (IsDistinct nat_eq) (sym (order-compact f is)) (distinct-numbers (length (defined f)) 1)
     by_test false is = subst (IsDistinct nat_eq) (sym (order-newer f is)) (distinct-by_level f)
 
 -- ---- variables that are defined
@@ -159,25 +159,25 @@ all_known f limit fits exact (suc v) h =
 
 -- what is used is 0 or defined
 pub used_known : (f : File) (limit : ℕ) → Fits f limit → AllByRecursion (IsKnown f) (used f)
-used_known f limit fits = by_test (is_older f) refl
+used_known f limit fits = by_test (is_compact f) refl
   where
-    by_test : (b : Bool) → is_older f ≡ b → AllByRecursion (IsKnown f) (used f)
-    by_test true is = rec_weaker (λ e. e ≤ 2 * f.greatest + 1) (IsKnown f) (λ e h. all_known f limit fits (older-told f is).exact (e / 2) (omega arith)) (used f) fits.in_range
+    by_test : (b : Bool) → is_compact f ≡ b → AllByRecursion (IsKnown f) (used f)
+    by_test true is = rec_weaker (λ e. e ≤ 2 * f.greatest + 1) (IsKnown f) (λ e h. all_known f limit fits (compact-told f is).exact (e / 2) (omega arith)) (used f) fits.in_range
     by_test false is = (newer_only f is fits.rules).known
 
 -- ---- the numbers of a file that fits
 
 -- each defined variable has its place
 pub defined_numbered : (f : File) (limit : ℕ) → Fits f limit → (v : ℕ) → is_defined f v ≡ true → has (variables_in_order f) v ≡ true
-defined_numbered f limit fits v there = by_test (is_older f) refl
+defined_numbered f limit fits v there = by_test (is_compact f) refl
   where
     bounds : (1 ≤ v) × (v ≤ f.greatest)
     bounds = defined_within f limit fits v there
 
-    by_test : (b : Bool) → is_older f ≡ b → has (variables_in_order f) v ≡ true
+    by_test : (b : Bool) → is_compact f ≡ b → has (variables_in_order f) v ≡ true
     by_test true is =
-        let m = (older-told f is).exact in
-        ap (λ xs. has xs v) (order-older f is) ∙ has-numbers (length (defined f)) 1 v bounds.0 (omega (arith, bounds.1))
+        let m = (compact-told f is).exact in
+        ap (λ xs. has xs v) (order-compact f is) ∙ has-numbers (length (defined f)) 1 v bounds.0 (omega (arith, bounds.1))
     by_test false is =
         let level = levelled f (newer_only f is fits.rules).levels v in
         ap (λ xs. has xs v) (order-newer f is) ∙ has-by_level f v level.0 there bounds.0 bounds.1 level.1
@@ -191,13 +191,13 @@ rows_within (suc n) w = (
 
 -- what has a place is defined
 order_defined : (f : File) (limit : ℕ) → Fits f limit → AllByRecursion (λ v. is_defined f v ≡ true) (variables_in_order f)
-order_defined f limit fits = by_test (is_older f) refl
+order_defined f limit fits = by_test (is_compact f) refl
   where
-    by_test : (b : Bool) → is_older f ≡ b → AllByRecursion (λ v. is_defined f v ≡ true) (variables_in_order f)
+    by_test : (b : Bool) → is_compact f ≡ b → AllByRecursion (λ v. is_defined f v ≡ true) (variables_in_order f)
     by_test true is =
-        let m = (older-told f is).exact in
+        let m = (compact-told f is).exact in
         let count = length (defined f) in
-        subst (AllByRecursion (λ v. is_defined f v ≡ true)) (sym (order-older f is))
+        subst (AllByRecursion (λ v. is_defined f v ≡ true)) (sym (order-compact f is))
         (rec_weaker (λ v. (1 ≤ v) × (v < 1 + count)) (λ v. is_defined f v ≡ true) (λ v h. all_defined f limit fits m v h.0 (let high = h.1 in omega arith)) (numbers_from count 1) (rows_within count 1))
     by_test false is = subst (AllByRecursion (λ v. is_defined f v ≡ true)) (sym (order-newer f is)) (defined-by_level f)
 
@@ -295,7 +295,7 @@ operands_known f limit fits v g found =
     (find_some (λ (g : GateLine). IsKnown f g.rhs0 × IsKnown f g.rhs1) (λ h. h.lhs / 2 == v) f.gates g (used_operands (IsKnown f) f (used_known f limit fits)) found).1
 
 -- of two variables that are 0 or defined, the one of the lesser level has the smaller number
-pub number_of-by_level : (f : File) (limit : ℕ) → Fits f limit → is_older f ≡ false → (u v j k : ℕ) → is_known f u ≡ true → 1 ≤ v → level_of f u ≡ Some j → level_of f v ≡ Some k → j < k → number_of f u < number_of f v
+pub number_of-by_level : (f : File) (limit : ℕ) → Fits f limit → is_compact f ≡ false → (u v j k : ℕ) → is_known f u ≡ true → 1 ≤ v → level_of f u ≡ Some j → level_of f v ≡ Some k → j < k → number_of f u < number_of f v
 number_of-by_level f limit fits is zero v j k known one ju kv less = omega (arith, number_of-zero f, number_of-some f v one)
 number_of-by_level f limit fits is (suc u) v j k known one ju kv less =
     let same : eqb (suc u) 0 ≡ false = ne_eqb (suc u) 0 (λ e. omega (arith, e)) in
@@ -307,20 +307,20 @@ number_of-by_level f limit fits is (suc u) v j k known one ju kv less =
 
 -- an operand's number is smaller than its gate's
 pub operands_before : (f : File) (limit : ℕ) → Fits f limit → (v : ℕ) (g : GateLine) → gate_of_variable f v ≡ Some g → (number_of f (g.rhs0 / 2) < number_of f v) × (number_of f (g.rhs1 / 2) < number_of f v)
-operands_before f limit fits v g found = by_test (is_older f) refl
+operands_before f limit fits v g found = by_test (is_compact f) refl
   where
     bounds : (1 ≤ v) × (v ≤ f.greatest)
     bounds = defined_within f limit fits v (gate-defined f v g found)
 
-    by_test : (b : Bool) → is_older f ≡ b → (number_of f (g.rhs0 / 2) < number_of f v) × (number_of f (g.rhs1 / 2) < number_of f v)
+    by_test : (b : Bool) → is_compact f ≡ b → (number_of f (g.rhs0 / 2) < number_of f v) × (number_of f (g.rhs1 / 2) < number_of f v)
     by_test true is =
-        let s = find_some IsOrdered (λ h. h.lhs / 2 == v) f.gates g (older-told f is).ordered found in
+        let s = find_some IsOrdered (λ h. h.lhs / 2 == v) f.gates g (compact-told f is).ordered found in
         let e = eqb-true (g.lhs / 2) v s.0 in
-        let own = number_of-older f is v bounds.1 in
+        let own = number_of-compact f is v bounds.1 in
         let less0 : g.rhs0 / 2 < v = subst (λ m. g.rhs0 / 2 < m) e s.1.0 in
         let less1 : g.rhs1 / 2 < v = subst (λ m. g.rhs1 / 2 < m) e s.1.1 in
-        let first = number_of-older f is (g.rhs0 / 2) (omega (arith, bounds.1, less0)) in
-        let second = number_of-older f is (g.rhs1 / 2) (omega (arith, bounds.1, less1)) in
+        let first = number_of-compact f is (g.rhs0 / 2) (omega (arith, bounds.1, less0)) in
+        let second = number_of-compact f is (g.rhs1 / 2) (omega (arith, bounds.1, less1)) in
         (omega (arith, own, first, less0), omega (arith, own, second, less1))
     by_test false is =
         let level = levelled f (newer_only f is fits.rules).levels v in
@@ -332,7 +332,7 @@ operands_before f limit fits v g found = by_test (is_older f) refl
         )
 
 -- within a level the smaller variable has the smaller number
-pub number_of-in_level : (f : File) (limit : ℕ) → Fits f limit → is_older f ≡ false → (u v k : ℕ) → is_defined f u ≡ true → is_defined f v ≡ true → level_of f u ≡ Some k → level_of f v ≡ Some k → u < v → number_of f u < number_of f v
+pub number_of-in_level : (f : File) (limit : ℕ) → Fits f limit → is_compact f ≡ false → (u v k : ℕ) → is_defined f u ≡ true → is_defined f v ≡ true → level_of f u ≡ Some k → level_of f v ≡ Some k → u < v → number_of f u < number_of f v
 number_of-in_level f limit fits is u v k first second ku kv less =
     let low = (defined_within f limit fits u first).0 in
     let high = (defined_within f limit fits v second).1 in
@@ -342,13 +342,13 @@ number_of-in_level f limit fits is u v k first second ku kv less =
 
 -- ---- the rules by kind
 
--- a text file keeps the newer rules also where it keeps the older ones
+-- a text file keeps the newer rules also where it is compact
 pub text_rules : (f : File) (limit : ℕ) → Fits f limit → f.kind ≡ Text → FitsNewer f
 text_rules f limit fits is = elim fits.rules [
-  | inl older ↦ (let exact = older.exact in record { text = is; enough = omega arith; known = used_known f limit fits; levels = levels-ordered f older.ordered })
+  | inl compact ↦ (let exact = compact.exact in record { text = is; enough = omega arith; known = used_known f limit fits; levels = levels-ordered f compact.ordered })
   | inr newer ↦ newer
 ]
 
--- a binary file keeps the older ones
-pub binary_rules : (f : File) (limit : ℕ) → Fits f limit → f.kind ≡ Binary → FitsOlder f
-binary_rules f limit fits is = elim fits.rules [ inl older ↦ older | inr newer ↦ (let text = newer.text in absurd cc) ]
+-- a binary file is compact
+pub binary_rules : (f : File) (limit : ℕ) → Fits f limit → f.kind ≡ Binary → IsCompact f
+binary_rules f limit fits is = elim fits.rules [ inl compact ↦ compact | inr newer ↦ (let text = newer.text in absurd cc) ]

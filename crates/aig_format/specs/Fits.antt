@@ -38,8 +38,8 @@ IsNameOf f n = (n.position < count_of (header_of f) n.letter) × ((n.letter ≡ 
 abbrev pub same_place : NameLine → NameLine → Bool
 same_place a b = (a.letter == b.letter) && (a.position == b.position)
 
--- the older rules: no variable is missing, and the gates rise, each above its operands
-pub record FitsOlder (f : File) : Type 0 where
+-- a compact file: no variable is missing, and the gates rise, each above its operands
+pub record IsCompact (f : File) : Type 0 where
   pub exact : f.greatest ≡ length (defined f)
   pub rising : Rises (map (λ g. g.lhs) f.gates)
   pub ordered : AllByRecursion IsOrdered f.gates
@@ -59,7 +59,7 @@ pub record Fits (f : File) (limit : ℕ) : Type 0 where
   pub distinct : IsDistinct nat_eq (defined f)
   pub in_range : AllByRecursion (λ e. e ≤ 2 * f.greatest + 1) (used f)
   pub resets : AllByRecursion HasReset f.latches
-  pub rules : FitsOlder f ⊎ FitsNewer f
+  pub rules : IsCompact f ⊎ FitsNewer f
   pub named : AllByRecursion (IsNameOf f) f.names
   pub once : IsDistinct same_place f.names
 

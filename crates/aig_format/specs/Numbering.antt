@@ -7,7 +7,7 @@ use Rattle.aig_format.specs.File.{GateLine, File, defined}
 use Rattle.aig_format.specs.Variables.{is_defined}
 use Rattle.aig_format.specs.Levels.{is_level, level_of}
 
--- ---- whether a file keeps the older rules
+-- ---- whether a file is compact
 
 -- whether each number is smaller than the next
 abbrev pub rises : List ℕ → Bool
@@ -24,8 +24,8 @@ abbrev pub are_in_order : List GateLine → Bool
 are_in_order gates = rises (map (λ g. g.lhs) gates) && list_all is_ordered gates
 
 -- whether no variable is missing, and the gates are in order
-abbrev pub is_older : File → Bool
-is_older f = f.greatest == length (defined f) && are_in_order f.gates
+abbrev pub is_compact : File → Bool
+is_compact f = f.greatest == length (defined f) && are_in_order f.gates
 
 -- ---- the order
 
@@ -42,9 +42,9 @@ variables_at f k = filter (λ v. is_defined f v && is_level k (level_of f v)) (n
 abbrev pub variables_by_level : File → List ℕ
 variables_by_level f = flat_map (variables_at f) (numbers_from (length f.gates + 1) 0)
 
--- the defined variables in the order of their nodes: by the older rules as they are, else by level
+-- the defined variables in the order of their nodes: in a compact file as they are, else by level
 unfoldable pub variables_in_order : File → List ℕ
-variables_in_order f = if is_older f then numbers_from (length (defined f)) 1 else variables_by_level f
+variables_in_order f = if is_compact f then numbers_from (length (defined f)) 1 else variables_by_level f
 
 -- the node of a variable: 0 is 0, and the others are numbered from 1 on
 unfoldable pub number_of : File → ℕ → ℕ

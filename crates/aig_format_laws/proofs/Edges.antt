@@ -6,10 +6,10 @@ use Rattle.aig_circuit.specs.declared.edge.AigEdge.{AigEdge}
 use Rattle.aig_circuit.specs.declared.node.AigLatch.{AigLatch}
 use Rattle.aig_circuit.specs.Edge.{edge_to, literal_of}
 use Rattle.aig_format.specs.File.{File}
-use Rattle.aig_format.specs.Numbering.{is_older, number_of}
+use Rattle.aig_format.specs.Numbering.{is_compact, number_of}
 use Rattle.aig_format.specs.Circuit.{edge_of, initial_of, latch_line, latch_of}
 use Rattle.aig_circuit.specs.Edges.{HasPlainInit}
-use Rattle.aig_format.proofs.Numbers.{number_of-older}
+use Rattle.aig_format.proofs.Numbers.{number_of-compact}
 
 -- the edge of an edge's literal
 edge_literal : (e : AigEdge) → edge_to (literal_of e / 2) (literal_of e % 2 == 1) ≡ e
@@ -35,18 +35,18 @@ literal_half e = by_compl e.compl
     by_compl true = omega arith
     by_compl false = omega arith
 
--- ---- in a file of the older rules
+-- ---- in a compact file
 
-module _ (f : File) (older : is_older f ≡ true) where
+module _ (f : File) (compact : is_compact f ≡ true) where
   -- the edge's node is no greater than the file's greatest variable
   abbrev pub IsWithin : AigEdge → Type 0
   IsWithin e = e.node_id ≤ f.greatest
 
   pub number_again : (n : ℕ) → n ≤ f.greatest → number_of f (2 * n / 2) ≡ n
-  number_again n h = let half : 2 * n / 2 ≡ n = omega arith in ap (number_of f) half ∙ number_of-older f older n h
+  number_again n h = let half : 2 * n / 2 ≡ n = omega arith in ap (number_of f) half ∙ number_of-compact f compact n h
 
   pub edge_again : (e : AigEdge) → IsWithin e → edge_of f (literal_of e) ≡ e
-  edge_again e h = ap (λ n. edge_to n (literal_of e % 2 == 1)) (number_of-older f older (literal_of e / 2) (omega (arith, h, literal_half e))) ∙ edge_literal e
+  edge_again e h = ap (λ n. edge_to n (literal_of e % 2 == 1)) (number_of-compact f compact (literal_of e / 2) (omega (arith, h, literal_half e))) ∙ edge_literal e
 
   pub edges_again : (es : List AigEdge) → AllByRecursion IsWithin es → map (edge_of f) (map literal_of es) ≡ es
   edges_again [] all = refl

@@ -16,10 +16,10 @@ use Rattle.aig_format.specs.declared.FileKind.{FileKind}
 use Rattle.aig_format.specs.File.{GateLine, defined}
 use Rattle.aig_format.specs.Circuit.{edge_of, file_of, kind_by, kind_of, nodes_from}
 use Rattle.aig_format.specs.Variables.{gate_of_variable}
-use Rattle.aig_format.specs.Numbering.{is_older, numbers_from, variables_in_order}
+use Rattle.aig_format.specs.Numbering.{is_compact, numbers_from, variables_in_order}
 use Rattle.aig_format.proofs.Searches.{find_none}
-use Rattle.aig_format.proofs.Older.{older-told}
-use Rattle.aig_format.proofs.Numbers.{order-older}
+use Rattle.aig_format.proofs.Compact.{compact-told}
+use Rattle.aig_format.proofs.Numbers.{order-compact}
 use Rattle.aig_format_laws.proofs.Edges.{edge_again}
 use Rattle.aig_format_laws.proofs.Gates.{AreNumbered, find_line, line_for, lines_all, lines_for, numbered_next}
 
@@ -30,7 +30,7 @@ numbered nodes are = λ i node h. omega (arith, are.numbered i node h)
 ordered_again : (a b : AigEdge) → literal_of a ≤ literal_of b → and_of b a ≡ And a b
 ordered_again a b h = and_of-turned b a ∙ elim (and_of-cases a b) [ inl p ↦ absurd (omega (arith, h, p.1)) | inr p ↦ p.0 ]
 
-module _ (kind : FileKind) (c : Circuit) (are : AreNodes c.nodes) (older : is_older (file_of kind c) ≡ true) where
+module _ (kind : FileKind) (c : Circuit) (are : AreNodes c.nodes) (compact : is_compact (file_of kind c) ≡ true) where
   not_zero : (m : ℕ) → kind_of (file_of kind c) (suc m) ≡ kind_by (file_of kind c) (gate_of_variable (file_of kind c) (suc m))
   not_zero m = ap (λ b. cond b False (kind_by (file_of kind c) (gate_of_variable (file_of kind c) (suc m)))) (ne_eqb (suc m) 0 (λ e. absurd (omega arith)))
 
@@ -46,8 +46,8 @@ module _ (kind : FileKind) (c : Circuit) (are : AreNodes c.nodes) (older : is_ol
       let second = are.ordered.second_before (suc m) a b h in
       not_zero m
       ∙ ap (kind_by (file_of kind c)) found
-      ∙ ap (λ x. and_of x (edge_of (file_of kind c) (literal_of a))) (edge_again (file_of kind c) older b (omega arith))
-      ∙ ap (and_of b) (edge_again (file_of kind c) older a (omega arith))
+      ∙ ap (λ x. and_of x (edge_of (file_of kind c) (literal_of a))) (edge_again (file_of kind c) compact b (omega arith))
+      ∙ ap (and_of b) (edge_again (file_of kind c) compact a (omega arith))
       ∙ ordered_again a b (are.ordered.in_order (suc m) a b h)
   kind_again (suc m) Leaf h =
       let none : gate_of_variable (file_of kind c) (suc m) ≡ None =
@@ -71,8 +71,8 @@ module _ (kind : FileKind) (c : Circuit) (are : AreNodes c.nodes) (older : is_ol
   pub nodes_again : nodes_from (file_of kind c) 0 (0 ∷ variables_in_order (file_of kind c)) ≡ c.nodes
   nodes_again =
       let there = kind_at-within c.nodes 0 False are.false_first in
-      let exact = (older-told (file_of kind c) older).exact in
+      let exact = (compact-told (file_of kind c) compact).exact in
       let count : suc (length (defined (file_of kind c))) ≡ length c.nodes = omega arith in
-      ap (λ vs. nodes_from (file_of kind c) 0 (0 ∷ vs)) (order-older (file_of kind c) older)
+      ap (λ vs. nodes_from (file_of kind c) 0 (0 ∷ vs)) (order-compact (file_of kind c) compact)
       ∙ ap (λ n. nodes_from (file_of kind c) 0 (numbers_from n 0)) count
       ∙ nodes_in_row 0 c.nodes (numbered c.nodes are) (λ i k h. let e : i ≡ 0 + i = omega arith in subst (λ n. kind_of (file_of kind c) n ≡ k) e (kind_again i k h))

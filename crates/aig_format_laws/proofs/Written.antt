@@ -24,16 +24,16 @@ use Rattle.aig_circuit.proofs.Circuits.{AreLeaves-of_circuit}
 use Rattle.aig_circuit.proofs.Counting.{closed-count}
 use Rattle.aig_format.specs.declared.FileKind.{FileKind}
 use Rattle.aig_format.specs.File.{File, GateLine, LatchLine, defined, header_of}
-use Rattle.aig_format.specs.Fits.{Fits, FitsOlder, HasReset, IsDefinable, IsNameOf, IsOrdered}
+use Rattle.aig_format.specs.Fits.{Fits, IsCompact, HasReset, IsDefinable, IsNameOf, IsOrdered}
 use Rattle.aig_format.specs.Letters.{letter_of_inputs, letter_of_latches}
-use Rattle.aig_format.specs.Numbering.{is_older, number_of}
+use Rattle.aig_format.specs.Numbering.{is_compact, number_of}
 use Rattle.aig_format.specs.Spells.{numbers_in, Placed}
 use Rattle.aig_format.specs.Circuit.{IsReadAgain, circuit_of, file_of, latch_line, latch_of, named_node, name_lines, without_other_names}
 use Rattle.aig_format.specs.Writable.{AreTexts, HasLineFeed, IsWritable, list_lengths}
 use Rattle.aig_circuit.specs.Edges.{HasPlainInit}
-use Rattle.aig_format.proofs.Numbers.{number_of-older}
+use Rattle.aig_format.proofs.Numbers.{number_of-compact}
 use Rattle.aig_format.proofs.Members.{distinct_append}
-use Rattle.aig_format.proofs.Older.{older-tested}
+use Rattle.aig_format.proofs.Compact.{compact-tested}
 use Rattle.aig_format.proofs.Entries.{rec_append, rec_map, rec_weaker}
 use Rattle.aig_parsing.specs.Writable.{CanWrite, GateSmall, IsSmall, LatchSmall, NameSmall}
 use Rattle.aig_parsing.proofs.Law.{spelling_spells}
@@ -237,12 +237,12 @@ module _ (kind : FileKind) (c : Circuit) (is : IsCircuit c) (w : IsWritable c) (
     names_all (IsNameOf f) letter_of_latches 0 (latch_leaves c.latchs) (get c.names) (λ i bytes h is. (omega (arith, latch_count), λ kept. texts_at _ bytes is)),
   )
 
-  -- a written file is of the older rules
-  fits_older : FitsOlder f
-  fits_older = record { exact = exact; rising = lefts_rise 0 c.nodes are_numbered; ordered = ordered }
+  -- a written file is compact
+  fits_compact : IsCompact f
+  fits_compact = record { exact = exact; rising = lefts_rise 0 c.nodes are_numbered; ordered = ordered }
 
-  older : is_older f ≡ true
-  older = older-tested f fits_older
+  compact : is_compact f ≡ true
+  compact = compact-tested f fits_compact
 
   fits : (limit : ℕ) → length c.nodes ≤ limit → Fits f limit
   fits limit within =
@@ -253,7 +253,7 @@ module _ (kind : FileKind) (c : Circuit) (is : IsCircuit c) (w : IsWritable c) (
         distinct = distinct;
         in_range = (on_used (λ e. e ≤ 2 * (length c.nodes - 1) + 1) f).1 in_range;
         resets = resets;
-        rules = inl fits_older;
+        rules = inl fits_compact;
         named = names_fit;
         once = names_distinct c.inputs (latch_leaves c.latchs) (get c.names);
       }
@@ -363,11 +363,11 @@ module _ (kind : FileKind) (c : Circuit) (is : IsCircuit c) (w : IsWritable c) (
 
   inputs_same : map (λ e. number_of f (e / 2)) f.inputs ≡ c.inputs
   inputs_same =
-      inputs_again f older c.inputs (rec_weaker (IsLeaf c.nodes) (λ m. m ≤ length c.nodes - 1) leaf_within c.inputs (recursion_from_All (IsLeaf c.nodes) c.inputs is.inputs))
+      inputs_again f compact c.inputs (rec_weaker (IsLeaf c.nodes) (λ m. m ≤ length c.nodes - 1) leaf_within c.inputs (recursion_from_All (IsLeaf c.nodes) c.inputs is.inputs))
 
   latches_same : map (latch_of f) f.latches ≡ c.latchs
   latches_same =
-      latches_again f older c.latchs (recursion_from_All (IsOfFile f older) c.latchs (λ k d h.
+      latches_again f compact c.latchs (recursion_from_All (IsOfFile f compact) c.latchs (λ k d h.
       let latch = is.latchs k d h in
       record { plain = w.start k d h; some = (leaf_first _ latch.leaf).0; within = leaf_within _ latch.leaf; next = within_file _ latch.next }))
 
@@ -378,7 +378,7 @@ module _ (kind : FileKind) (c : Circuit) (is : IsCircuit c) (w : IsWritable c) (
   -- the node at a place among leaves
   number_at : (ns : List ℕ) (i : ℕ) → i < length ns → AllByRecursion (IsLeaf c.nodes) ns → number_of f (slice_index (doubled ns) i / 2) ≡ slice_index ns i
   number_at ns i h leaves =
-      ap (number_of f) (doubled_at ns i h) ∙ number_of-older f older (slice_index ns i) (leaf_within _ (All-contains (IsLeaf c.nodes) ns _ (All-from_recursion (IsLeaf c.nodes) ns leaves) (Contains-get_or ns i 0 h)))
+      ap (number_of f) (doubled_at ns i h) ∙ number_of-compact f compact (slice_index ns i) (leaf_within _ (All-contains (IsLeaf c.nodes) ns _ (All-from_recursion (IsLeaf c.nodes) ns leaves) (Contains-get_or ns i 0 h)))
 
   names_same : from_entries (filter_map (named_node f) f.names) ≡ (without_other_names c).names
   names_same =
@@ -398,8 +398,8 @@ module _ (kind : FileKind) (c : Circuit) (is : IsCircuit c) (w : IsWritable c) (
 
   circuit_same : circuit_of f ≡ without_other_names c
   circuit_same =
-      let again = λ (es : List AigEdge) (all : All (IsInRange c.nodes) es). edges_again f older es (edges_within es all) in
-      same_parts (nodes_again kind c is.nodes older) inputs_same latches_same (again c.outputs is.outputs) (again c.bads is.bads) (again c.constraints is.constraints) (sets_again f older c.justice sets_within) (again c.fairness is.fairness) names_same
+      let again = λ (es : List AigEdge) (all : All (IsInRange c.nodes) es). edges_again f compact es (edges_within es all) in
+      same_parts (nodes_again kind c is.nodes compact) inputs_same latches_same (again c.outputs is.outputs) (again c.bads is.bads) (again c.constraints is.constraints) (sets_again f compact c.justice sets_within) (again c.fairness is.fairness) names_same
 
 -- what is written is read again
 pub is_read_again : (kind : FileKind) (c : Circuit) → IsCircuit c → IsWritable c → AreTexts c.names → Placed kind (defined (file_of kind c)) → IsReadAgain c (file_of kind c)

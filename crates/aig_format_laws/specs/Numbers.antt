@@ -1,5 +1,5 @@
 -- Part of what laws say, and of no promise of a call.
--- The order of variables that files without the older rules have.
+-- The order of variables that files which aren't compact have.
 use Rattle.std.specs.Prelude.{◌≡◌, ℕ, ◌<◌, ◌⊎◌, Some}
 use Rattle.aig_format.specs.File.{File}
 use Rattle.aig_format.specs.Levels.{level_of}

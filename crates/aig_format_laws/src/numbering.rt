@@ -3,17 +3,17 @@
 ghost use Rattle.std.specs.Prelude.{◌≡◌, ◌/◌, ◌<◌, ◌≤◌, ℕ, IsTrue, None, Some, length};
 ghost use Rattle.aig_format.specs.declared.FileKind.TheVariants.{Binary, Text};
 ghost use Rattle.aig_format.specs.File.{File, GateLine};
-ghost use Rattle.aig_format.specs.Fits.{Fits, FitsNewer, FitsOlder};
+ghost use Rattle.aig_format.specs.Fits.{Fits, FitsNewer, IsCompact};
 ghost use Rattle.aig_format.specs.Circuit.{circuit_of};
 ghost use Rattle.aig_format.specs.Levels.{level_above, level_of};
 ghost use Rattle.aig_format.specs.Numbering.{number_of};
 ghost use Rattle.aig_format.specs.Variables.{gate_of_variable, is_defined, is_known};
 ghost use Rattle.aig_format_laws.specs.Numbers.{ComesFirst};
 
-/// Law: a text file that fits keeps the newer rules, also where it keeps the older ones; a binary file keeps the older ones.
+/// Law: a text file that fits keeps the newer rules, also where it is compact; a binary file is compact.
 pub fn files_keep_rules()
     ensures text { (f : File) (limit : ℕ) → Fits f limit → f.kind ≡ Text → FitsNewer f }
-    ensures binary { (f : File) (limit : ℕ) → Fits f limit → f.kind ≡ Binary → FitsOlder f }
+    ensures binary { (f : File) (limit : ℕ) → Fits f limit → f.kind ≡ Binary → IsCompact f }
 {}
 
 /// Law: what no gate defines has level 0; the level of a gate's variable is one more than the greater level of its operands'
@@ -25,7 +25,7 @@ pub fn levels_stand_on_operands()
 {}
 
 /// Law: variable 0 is node 0; variable 0 and the defined variables have one node each, and every node is that of one of them.
-/// By the older rules a variable is its own number, and else variables are numbered by level and, within a level, by variable.
+/// In a compact file a variable is its own number, and else variables are numbered by level and, within a level, by variable.
 pub fn numbers_follow_levels()
     ensures zero { (f : File) → number_of f 0 ≡ 0 }
     ensures within { (f : File) (limit v : ℕ) → Fits f limit → IsTrue (is_known f v)
@@ -34,8 +34,8 @@ pub fn numbers_follow_levels()
         → number_of f u ≡ number_of f v → u ≡ v }
     ensures each { (f : File) (limit n : ℕ) → Fits f limit → n < length (circuit_of f).nodes
         → (v : ℕ) × IsTrue (is_known f v) × (number_of f v ≡ n) }
-    ensures older { (f : File) (v : ℕ) → FitsOlder f → v ≤ f.greatest → number_of f v ≡ v }
-    ensures newer { (f : File) (limit u v : ℕ) → Fits f limit → ¬ FitsOlder f
+    ensures compact { (f : File) (v : ℕ) → IsCompact f → v ≤ f.greatest → number_of f v ≡ v }
+    ensures newer { (f : File) (limit u v : ℕ) → Fits f limit → ¬ IsCompact f
         → IsTrue (is_defined f u) → IsTrue (is_defined f v) → ComesFirst f u v
         → number_of f u < number_of f v }
 {}

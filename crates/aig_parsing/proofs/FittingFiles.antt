@@ -10,7 +10,7 @@ use Rattle.aig_format.specs.declared.FileKind.{FileKind}
 use Rattle.aig_format.specs.declared.FileKind.TheVariants.{Text, Binary}
 use Rattle.aig_format.specs.File.{LatchLine, GateLine, NameLine, File, HeaderNumbers, header_of, defined}
 use Rattle.aig_format.specs.Spells.{Latch, Gate, Placed, places, Spells}
-use Rattle.aig_format.specs.Fits.{IsDefinable, HasReset, IsOrdered, Rises, FitsOlder, FitsNewer, Fits, HasEnough, Accepts}
+use Rattle.aig_format.specs.Fits.{IsDefinable, HasReset, IsOrdered, Rises, IsCompact, FitsNewer, Fits, HasEnough, Accepts}
 use Rattle.aig_parsing.specs.Parse.{◌>>=◌, header_at, is_good, ended_at, tested_at, numbers_at, placed_gate_at, Parts, PropertyParts, property_parts, body_at, file_from, AllAfter}
 use Rattle.aig_parsing.specs.ParseTested.{is_within, keeps_rules, section_lines_at, fitting_header_at, defines, has_next, tests_latch, tests_gate, latch_line_at, binary_latch_at, gate_line_at, fitting_inputs_at, fitting_latches_at, fitting_gates_at, literal_justice_at, literal_sets_at, literals_at, fitting_properties_at, fitting_sections_at, fitting_body_at, fitting_tail_at, fitting_at}
 use Rattle.aig_format.proofs.Entries.{rec_weaker, rec_both, rec_append}
@@ -219,8 +219,8 @@ variables_fit Binary f placed enough i l g =
 
 -- the rules of a file by the test behind its gates; in a binary file the gates rise by their places
 pub rules_fit : (kind : FileKind) (f : File) → f.kind ≡ kind → Placed kind (defined f) → HasEnough kind (header_of f) → GatesFit kind f.greatest (f.inputs ++ map latch_key f.latches) f.gates
-    → KeepsRules kind f → FitsOlder f ⊎ FitsNewer f
-rules_fit Text f is placed enough g (inl older) = inl older
+    → KeepsRules kind f → IsCompact f ⊎ FitsNewer f
+rules_fit Text f is placed enough g (inl compact) = inl compact
 rules_fit Text f is placed enough g (inr newer) = inr (record { text = is; enough = omega (arith, enough, length-defined f); known = newer.0; levels = newer.1 })
 rules_fit Binary f is placed enough g rules =
     let leaves = f.inputs ++ map latch_key f.latches in
@@ -231,25 +231,25 @@ rules_fit Binary f is placed enough g rules =
 abbrev pub VariablesPass : FileKind → File → Type 0
 VariablesPass kind f = InputsFit kind f.greatest f.inputs × LatchesFit kind f.greatest f.inputs f.latches × GatesFit kind f.greatest (f.inputs ++ map latch_key f.latches) f.gates
 
--- in a binary file the older rules hold
-pub older_in_binary : (f : File) → f.kind ≡ Binary → FitsOlder f ⊎ FitsNewer f → FitsOlder f
-older_in_binary f is (inl older) = older
-older_in_binary f is (inr newer) = let text = newer.text in absurd cc
+-- a binary file is compact
+pub compact_in_binary : (f : File) → f.kind ≡ Binary → IsCompact f ⊎ FitsNewer f → IsCompact f
+compact_in_binary f is (inl compact) = compact
+compact_in_binary f is (inr newer) = let text = newer.text in absurd cc
 
-variables_pass : (kind : FileKind) (f : File) → f.kind ≡ kind → FitsOlder f ⊎ FitsNewer f → VariablesFit f → VariablesPass kind f
+variables_pass : (kind : FileKind) (f : File) → f.kind ≡ kind → IsCompact f ⊎ FitsNewer f → VariablesFit f → VariablesPass kind f
 variables_pass Text f is rules v =
     let anew = (defined_by_section (Defines f.greatest) f).0 ((defined_anew f.greatest (defined f)).1 (v.definable, v.distinct)) in (
       anew.0,
       (latches_by_line f.greatest f.inputs f.latches).1 (anew.1, v.nexts),
       (gates_by_line f.greatest (f.inputs ++ map latch_key f.latches) f.gates).1 (anew.2, v.operands),
     )
-variables_pass Binary f is rules v = (tt, v.nexts, (older_in_binary f is rules).ordered)
+variables_pass Binary f is rules v = (tt, v.nexts, (compact_in_binary f is rules).ordered)
 
 -- a file's header has enough, and its gates keep the rules
-rules_pass : (kind : FileKind) (f : File) → f.kind ≡ kind → FitsOlder f ⊎ FitsNewer f → HasEnough kind (header_of f) × KeepsRules kind f
-rules_pass Text f is (inl older) = let exact = older.exact in (omega (arith, length-defined f), inl older)
+rules_pass : (kind : FileKind) (f : File) → f.kind ≡ kind → IsCompact f ⊎ FitsNewer f → HasEnough kind (header_of f) × KeepsRules kind f
+rules_pass Text f is (inl compact) = let exact = compact.exact in (omega (arith, length-defined f), inl compact)
 rules_pass Text f is (inr newer) = let enough = newer.enough in (omega (arith, length-defined f), inr (newer.known, newer.levels))
-rules_pass Binary f is rules = ((older_in_binary f is rules).exact ∙ length-defined f, tt)
+rules_pass Binary f is rules = ((compact_in_binary f is rules).exact ∙ length-defined f, tt)
 
 fits_from_lines : (f : File) (limit : ℕ) → HasEnough f.kind (header_of f) → f.greatest + 1 ≤ limit → Placed f.kind (defined f) → LinesFit f → Fits f limit
 fits_from_lines f limit enough within placed lines =
@@ -301,8 +301,8 @@ lines_from_fits f limit fits =
 -- the rules don't look at names
 rules_named : (kind : FileKind) (f : File) → KeepsRules kind (file_from (parts_of f) []) ↔ KeepsRules kind f
 rules_named Text f = (
-  λ rules. elim rules [ inl older ↦ inl (record { exact = older.exact; rising = older.rising; ordered = older.ordered }) | inr newer ↦ inr newer ],
-  λ rules. elim rules [ inl older ↦ inl (record { exact = older.exact; rising = older.rising; ordered = older.ordered }) | inr newer ↦ inr newer ],
+  λ rules. elim rules [ inl compact ↦ inl (record { exact = compact.exact; rising = compact.rising; ordered = compact.ordered }) | inr newer ↦ inr newer ],
+  λ rules. elim rules [ inl compact ↦ inl (record { exact = compact.exact; rising = compact.rising; ordered = compact.ordered }) | inr newer ↦ inr newer ],
 )
 rules_named Binary f = (λ rules. tt, λ rules. tt)
 

@@ -12,17 +12,17 @@ use Rattle.std.proofs.lemmas.List.{length-append, length-map}
 use Rattle.aig_format.specs.File.{LatchLine, GateLine, NameLine, File, HeaderNumbers, header_of, defined, used}
 use Rattle.aig_format.specs.Variables.{is_known, IsKnown}
 use Rattle.aig_format.specs.Levels.{has_level, HasLevel}
-use Rattle.aig_format.specs.Numbering.{is_older}
+use Rattle.aig_format.specs.Numbering.{is_compact}
 use Rattle.aig_format.specs.declared.FileKind.{FileKind}
 use Rattle.aig_format.specs.declared.FileKind.TheVariants.{Text, Binary}
-use Rattle.aig_format.specs.Fits.{IsDefinable, HasReset, IsOrdered, IsNameOf, same_place, FitsOlder, HasEnough, count_defined}
+use Rattle.aig_format.specs.Fits.{IsDefinable, HasReset, IsOrdered, IsNameOf, same_place, IsCompact, HasEnough, count_defined}
 use Rattle.aig_parsing.specs.Parse.{AllAfter, is_good}
 use Rattle.aig_parsing.proofs.Checked.{IsNew, distinct_after}
 use Rattle.aig_format.specs.Letters.{count_of, is_kept}
 use Rattle.aig_parsing.specs.ParseTested.{is_definable, defines, is_literal, is_reset, has_next, tests_latch, tests_gate, tests_name, is_within, uses_known, keeps_rules}
 use Rattle.aig_parsing.proofs.Binary.{latch_key, gate_key}
 use Rattle.aig_format.proofs.Entries.{rec_weaker, rec_both, rec_append, rec_map, rec_flat_map}
-use Rattle.aig_format.proofs.Older.{older-told, older-tested}
+use Rattle.aig_format.proofs.Compact.{compact-told, compact-tested}
 use Rattle.aig_parsing.proofs.Entries.{after_weaker, after_both, after_each, after_append, section_keys}
 
 -- ---- from tests to facts, and back
@@ -100,9 +100,9 @@ Decides-gate greatest leaves before g =
     (Decides-and is_defined is_first (Decides-defines greatest (leaves ++ map gate_key before) g.lhs) (Decides-literal greatest g.rhs0))
     (Decides-literal greatest g.rhs1))
 
--- in a text file the older rules hold, or what is used is known and the gates have levels
+-- a text file is compact, or what is used is known and the gates have levels
 abbrev pub KeepsRules : FileKind → File → Type 0
-KeepsRules Text f = FitsOlder f ⊎ (AllByRecursion (IsKnown f) (used f) × AllByRecursion (HasLevel f) f.gates)
+KeepsRules Text f = IsCompact f ⊎ (AllByRecursion (IsKnown f) (used f) × AllByRecursion (HasLevel f) f.gates)
 KeepsRules Binary f = Unit {0}
 
 Decides-test : (b : Bool) → Decides b (IsTrue b)
@@ -115,7 +115,7 @@ Decides-newer f =
     (Decides-list_all (has_level f) (HasLevel f) (λ g. Decides-test (has_level f g)) f.gates)
 
 pub Decides-rules : (kind : FileKind) (f : File) → Decides (keeps_rules kind f) (KeepsRules kind f)
-Decides-rules Text f = Decides-or (is_older f) (uses_known f && list_all (has_level f) f.gates) (older-told f, older-tested f) (Decides-newer f)
+Decides-rules Text f = Decides-or (is_compact f) (uses_known f && list_all (has_level f) f.gates) (compact-told f, compact-tested f) (Decides-newer f)
 Decides-rules Binary f = (λ _. tt, λ _. refl)
 
 -- a name of an input or a latch

@@ -5,15 +5,15 @@ use Rattle.aig_format.specs.declared.FileKind.{FileKind}
 use Rattle.aig_format.specs.declared.FileKind.TheVariants.{Text, Binary}
 use Rattle.aig_format.specs.File.{File, HeaderNumbers, header_of, defined, used}
 use Rattle.aig_format.specs.Fits.{HasEnough, count_defined}
-use Rattle.aig_format.specs.Numbering.{is_older}
+use Rattle.aig_format.specs.Numbering.{is_compact}
 use Rattle.aig_format.specs.Spells.{Placed}
 use Rattle.aig_format.proofs.Entries.{rec_weaker}
-use Rattle.aig_format.proofs.Older.{older-tested}
+use Rattle.aig_format.proofs.Compact.{compact-tested}
 use Rattle.aig_parsing.specs.Parse.{Parts, file_from, is_good}
 use Rattle.aig_parsing.specs.ParseTested.{section_lines_at}
 use Rattle.aig_parsing.proofs.Binary.{latch_key}
 use Rattle.aig_parsing.proofs.Files.{SectionsPart, inputs_text, latches_text, gates_text, placed_all}
-use Rattle.aig_parsing.proofs.FittingFiles.{GatesFit, Reads-section_lines, VariablesFit, older_in_binary, rules_fit, variables_fit}
+use Rattle.aig_parsing.proofs.FittingFiles.{GatesFit, Reads-section_lines, VariablesFit, compact_in_binary, rules_fit, variables_fit}
 use Rattle.aig_parsing.proofs.Guards.{Decides-good, HasNext, IsLiteral, length-defined, on_used}
 
 -- the file of these sections, with no names
@@ -45,7 +45,7 @@ pub record LinesTell (kind : FileKind) (ns : HeaderNumbers) (x : Parts) : Type 0
   pub variables : VariablesFit (file_by kind ns x)
   pub in_range : AllByRecursion (IsLiteral ns.greatest) (used (file_by kind ns x))
   pub enough : length (defined (file_by kind ns x)) ≤ ns.greatest
-  pub older : kind ≡ Binary → is_older (file_by kind ns x) ≡ true
+  pub compact : kind ≡ Binary → is_compact (file_by kind ns x) ≡ true
 
 enough_for : (kind : FileKind) (ns : HeaderNumbers) → HasEnough kind ns → count_defined ns ≤ ns.greatest
 enough_for Text ns h = h
@@ -56,10 +56,10 @@ enough_in : (kind : FileKind) (ns : HeaderNumbers) (f : File) → f.greatest ≡
 enough_in Text ns f top count h = omega (arith, top, count, h)
 enough_in Binary ns f top count h = top ∙ h ∙ sym count
 
--- a binary file keeps the older rules
-older_in : (kind : FileKind) (f : File) → f.kind ≡ kind → Placed kind (defined f) → HasEnough kind (header_of f) → GatesFit kind f.greatest (f.inputs ++ map latch_key f.latches) f.gates → kind ≡ Binary → is_older f ≡ true
-older_in Text f is placed enough g binary = absurd cc
-older_in Binary f is placed enough g binary = older-tested f (older_in_binary f is (rules_fit Binary f is placed enough g tt))
+-- a binary file is compact
+compact_in : (kind : FileKind) (f : File) → f.kind ≡ kind → Placed kind (defined f) → HasEnough kind (header_of f) → GatesFit kind f.greatest (f.inputs ++ map latch_key f.latches) f.gates → kind ≡ Binary → is_compact f ≡ true
+compact_in Text f is placed enough g binary = absurd cc
+compact_in Binary f is placed enough g binary = compact-tested f (compact_in_binary f is (rules_fit Binary f is placed enough g tt))
 
 -- the sections behind a good header, which were read
 pub lines_tell : (kind : FileKind) (ns : HeaderNumbers) (x : Parts) (bytes rest : List ℕ) → is_good kind ns ≡ true → section_lines_at kind ns bytes ≡ Some (x, rest) → LinesTell kind ns x
@@ -88,5 +88,5 @@ lines_tell kind ns x bytes rest good read =
         gates = variables.operands;
       });
       enough = omega (arith, all, high);
-      older = older_in kind f refl counts.placed (enough_in kind ns f refl header enough) fit.gates;
+      compact = compact_in kind f refl counts.placed (enough_in kind ns f refl header enough) fit.gates;
     }

@@ -10,7 +10,7 @@ use Rattle.aig_format.specs.declared.FileKind.TheVariants.{Text, Binary}
 use Rattle.aig_format.specs.File.{LatchLine, GateLine, NameLine, File, HeaderNumbers, used}
 use Rattle.aig_format.specs.Variables.{is_known}
 use Rattle.aig_format.specs.Levels.{has_level}
-use Rattle.aig_format.specs.Numbering.{is_older}
+use Rattle.aig_format.specs.Numbering.{is_compact}
 use Rattle.aig_format.specs.Letters.{count_of, is_kept}
 use Rattle.aig_format.specs.Spells.{places}
 use Rattle.aig_format.specs.Fits.{same_place}
@@ -152,7 +152,7 @@ uses_known f = list_all (λ e. is_known f (e / 2)) (used f)
 -- in a text file no variable is missing and the gates are in order, or else what is used is 0 or defined and no gate stands on itself;
 -- a binary file is in order by its lines
 abbrev pub keeps_rules : FileKind → File → Bool
-keeps_rules Text f = is_older f || (uses_known f && list_all (has_level f) f.gates)
+keeps_rules Text f = is_compact f || (uses_known f && list_all (has_level f) f.gates)
 keeps_rules Binary f = true
 
 -- the sections behind the header

@@ -18,7 +18,7 @@ use Rattle.aig_circuit.proofs.Building.{and_of-cases, and_of-not_false, and_of-t
 use Rattle.aig_format.specs.File.{LatchLine, GateLine, File, defined}
 use Rattle.aig_format.specs.Variables.{is_defined, is_known, IsKnown, gate_of_variable}
 use Rattle.aig_format.specs.Levels.{has_level, HasLevel}
-use Rattle.aig_format.specs.Numbering.{is_older, number_of, variables_by_level, variables_in_order}
+use Rattle.aig_format.specs.Numbering.{is_compact, number_of, variables_by_level, variables_in_order}
 use Rattle.aig_format.specs.Circuit.{circuit_of, edge_of, initial_of, kind_of, latch_of, nodes_from}
 use Rattle.aig_format.specs.Fits.{IsDefinable}
 use Rattle.aig_format.proofs.Circuits.{defined_known, differ_from}
@@ -65,7 +65,7 @@ map_id {A} (x ∷ xs) = ap (λ (ys : List A). x ∷ ys) (map_id xs)
 
 -- ---- the table of numbers
 
-module _ (f : File) (good : HasGoodLines f) (newer : is_older f ≡ false) (levels : list_all (has_level f) f.gates ≡ true) where
+module _ (f : File) (good : HasGoodLines f) (newer : is_compact f ≡ false) (levels : list_all (has_level f) f.gates ≡ true) where
   all_levels : AllByRecursion (HasLevel f) f.gates
   all_levels = (Decides-list_all (has_level f) (HasLevel f) (λ g. (λ h. h, λ h. h)) f.gates).0 levels
 
@@ -256,7 +256,7 @@ module _ (f : File) (table : List ℕ) (are : AreNumbersOf f table) where
       let made : AigNode = record { node_id = n; typ = kind_of f v } in
       ap (λ (node : AigNode). node ∷ numbered (n + 1) (map (kind_of f) vs)) (node_is n (kind_of f v) (not_false v all.0)) ∙ ap (λ (nodes : List AigNode). made ∷ nodes) (numbered_is (n + 1) vs all.1)
 
-  module _ (good : HasGoodLines f) (newer : is_older f ≡ false) (levels : list_all (has_level f) f.gates ≡ true) where
+  module _ (good : HasGoodLines f) (newer : is_compact f ≡ false) (levels : list_all (has_level f) f.gates ≡ true) where
     abbrev in_order : List ℕ
     in_order = 0 ∷ variables_by_level f
 

@@ -18,12 +18,12 @@ use Rattle.aig_format.specs.Circuit.{circuit_of, edge_of, initial_of, kind_of, l
 use Rattle.aig_format.specs.declared.FileKind.{FileKind}
 use Rattle.aig_format.specs.File.{LatchLine, GateLine, NameLine, File, defined, used, HeaderNumbers}
 use Rattle.aig_format.specs.Fits.{Fits, IsDefinable}
-use Rattle.aig_format.specs.Numbering.{is_older, number_of, numbers_from, variables_in_order}
+use Rattle.aig_format.specs.Numbering.{is_compact, number_of, numbers_from, variables_in_order}
 use Rattle.aig_format.specs.Variables.{gate_of_variable}
 use Rattle.aig_format.proofs.Circuits.{UsedHave, distinct_pairs, leaves_distinct, leaves_of_latches, numbers, used_by_section}
 use Rattle.aig_format.proofs.Entries.{rec_both, rec_flat_map, rec_parts, rec_unmap, rec_weaker}
-use Rattle.aig_format.proofs.Numbers.{number_of-older, number_of-zero, order-older}
-use Rattle.aig_format.proofs.Older.{older-told}
+use Rattle.aig_format.proofs.Numbers.{number_of-compact, number_of-zero, order-compact}
+use Rattle.aig_format.proofs.Compact.{compact-told}
 use Rattle.aig_format.proofs.Searches.{find_some}
 use Rattle.aig_ordering.specs.Lists.{edge_from, kind_by, kind_from, latch_from, nodes_in_row, nodes_of, variable_of}
 use Rattle.aig_reader.specs.Names.{kept_name, kept_names}
@@ -35,9 +35,9 @@ same_kept : (h k : NameLine → Option (ℕ × List ℕ)) → ((n : NameLine) �
 same_kept h k same [] = refl
 same_kept h k same (n ∷ names) = rw (same n, same_kept h k same names) refl
 
--- ---- by the older rules each variable is its own number
+-- ---- in a compact file each variable is its own number
 
-module _ (f : File) (good : HasGoodLines f) (older : is_older f ≡ true) where
+module _ (f : File) (good : HasGoodLines f) (compact : is_compact f ≡ true) where
   -- the literal's variable is no greater than the greatest
   abbrev IsWithin : ℕ → Type 0
   IsWithin e = e / 2 ≤ f.greatest
@@ -57,7 +57,7 @@ module _ (f : File) (good : HasGoodLines f) (older : is_older f ≡ true) where
       rec_parts IsWithin f.inputs literals (rec_parts IsWithin (f.inputs ++ literals) (map (λ (g : GateLine). g.lhs) f.gates) defined_within).0
 
   number_is : (e : ℕ) → IsWithin e → variable_of e ≡ number_of f (e / 2)
-  number_is e h = sym (number_of-older f older (e / 2) h)
+  number_is e h = sym (number_of-compact f compact (e / 2) h)
 
   edge_is : (e : ℕ) → IsWithin e → edge_from e ≡ edge_of f e
   edge_is e h = ap (λ n. edge_to n (e % 2 == 1)) (number_is e h)
@@ -113,12 +113,12 @@ module _ (f : File) (good : HasGoodLines f) (older : is_older f ≡ true) where
   nodes_same : nodes_of f.greatest f.gates ≡ (circuit_of f).nodes
   nodes_same =
       let n : f.greatest + 1 ≡ suc f.greatest = omega arith in
-      let exact = (older-told f older).exact in
-      ap (λ k. nodes_in_row f.gates k 0) n ∙ nodes_are (suc f.greatest) 0 ∙ ap (λ vs. nodes_from f 0 (0 ∷ vs)) (ap (λ n. numbers_from n 1) exact ∙ sym (order-older f older))
+      let exact = (compact-told f compact).exact in
+      ap (λ k. nodes_in_row f.gates k 0) n ∙ nodes_are (suc f.greatest) 0 ∙ ap (λ vs. nodes_from f 0 (0 ∷ vs)) (ap (λ n. numbers_from n 1) exact ∙ sym (order-compact f compact))
 
   -- the sections by variable are the file's circuit
-  pub older_circuit : (sections : Sections) → AreListsByVariable sections.lists f → sections.nodes.items ≡ nodes_of f.greatest f.gates → IsCircuitOf f sections
-  older_circuit sections h placed = λ names.
+  pub compact_circuit : (sections : Sections) → AreListsByVariable sections.lists f → sections.nodes.items ≡ nodes_of f.greatest f.gates → IsCircuitOf f sections
+  compact_circuit sections h placed = λ names.
       let p = h.properties in
       let used = sections_within in
       rw (placed, h.inputs, h.latchs, p.outputs, p.bads, p.constraints, p.justice, p.fairness, nodes_same, numbers_are f.inputs leaves_within.0, latches_are f.latches latches_within, edges_are f.outputs used.outputs, edges_are f.bads used.bads, edges_are f.constraints used.constraints, sets_are f.justice used.justice, edges_are f.fairness used.fairness) refl

@@ -81,7 +81,7 @@ module _ (greatest : ℕ) (leaves : List ℕ) (before : List GateLine) (lhs : �
       → ArePlaced greatest leaves (before ++ g ∷ []) (held.Table table)
   rises_no_more old table h other nodes = record { nodes = nodes; form = newer_order greatest leaves (before ++ g ∷ []) (order_with old h.form ∙ other) }
 
-  -- nor do they in a file of the older rules where one passes over a variable that isn't defined
+  -- nor do they in a compact file where one passes over a variable that isn't defined
   pub passes_over : (variables : Variables) (v : ℕ) (table : Table) → AreDefined greatest variables ((leaves ++ literals_of before) ++ lhs ∷ []) → 1 ≤ v → v < lhs / 2 → is_marked variables v ≡ false
       → AreWaiting (before ++ g ∷ []) table → ArePlaced greatest leaves (before ++ g ∷ []) (held.Table table)
   passes_over variables v table defined low below unmarked nodes =

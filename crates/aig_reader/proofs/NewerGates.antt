@@ -1,4 +1,4 @@
--- Gates that no file of the older rules begins with.
+-- Gates that no compact file begins with.
 use Rattle.std.proofs.Common.{◌≡◌, ℕ, ◌/◌, ◌<◌, ◌≤◌, Bool, true, false, ◌&&◌, List, [], ◌∷◌, ◌++◌, length, map, refl, sym, ap, subst, ◌∙◌, append_assoc, arith}
 use Rattle.std.specs.Prelude.{◌==◌, nat_lt}
 use Rattle.std.specs.List.{AllByRecursion, IsDistinct, list_all, list_any}
@@ -8,7 +8,7 @@ use Rattle.std.proofs.lemmas.List.{append-nil, map-append}
 use Rattle.std.proofs.lemmas.List.Folds.{list_all-append, list_any-append}
 use Rattle.aig_format.specs.File.{GateLine, File, defined}
 use Rattle.aig_format.specs.Fits.{IsDefinable}
-use Rattle.aig_format.specs.Numbering.{are_in_order, is_older, is_ordered, rises}
+use Rattle.aig_format.specs.Numbering.{are_in_order, is_compact, is_ordered, rises}
 use Rattle.aig_format.proofs.Entries.{rec_parts}
 use Rattle.aig_format.proofs.Numbers.{all_there}
 use Rattle.aig_reader.specs.declared.places.Gates.{Gates}
@@ -93,11 +93,11 @@ module _ (greatest : ℕ) (leaves : List ℕ) (before : List GateLine) (g : Gate
 
 -- ---- the gates of a file
 
--- gates that are held as nodes, in a file where no variable is missing, keep the older rules
-pub older_held : (f : File) (complete : Bool) (held : Gates) → complete ≡ (f.greatest == length (defined f)) → AllByRecursion (IsDefinable f.greatest) (defined f) → IsDistinct nat_eq (defined f)
-    → IsHeld f.greatest (f.inputs ++ map (λ l. l.literal) f.latches) f.gates held → (complete && is_rising held) ≡ is_older f
-older_held f complete (Rising rising) is definable distinct h = rw (is, h.in_order) refl
-older_held f complete (Table table) is definable distinct h = ap (λ (b : Bool). b && false) is ∙ by_test (f.greatest == length (defined f)) refl
+-- a file whose gates are held as nodes, and where no variable is missing, is compact
+pub compact_held : (f : File) (complete : Bool) (held : Gates) → complete ≡ (f.greatest == length (defined f)) → AllByRecursion (IsDefinable f.greatest) (defined f) → IsDistinct nat_eq (defined f)
+    → IsHeld f.greatest (f.inputs ++ map (λ l. l.literal) f.latches) f.gates held → (complete && is_rising held) ≡ is_compact f
+compact_held f complete (Rising rising) is definable distinct h = rw (is, h.in_order) refl
+compact_held f complete (Table table) is definable distinct h = ap (λ (b : Bool). b && false) is ∙ by_test (f.greatest == length (defined f)) refl
   where
     by_test : (b : Bool) → (f.greatest == length (defined f)) ≡ b → (b && false) ≡ (b && are_in_order f.gates)
     by_test true exact = sym (newer_told f.greatest (f.inputs ++ map (λ l. l.literal) f.latches) f.gates h definable distinct (eqb-true f.greatest (length (defined f)) exact))

@@ -7,7 +7,7 @@ use Rattle.aig_format.specs.declared.FileKind.TheVariants.{Text, Binary}
 use Rattle.aig_format.specs.Circuit.{circuit_of, latch_of}
 use Rattle.aig_format.specs.File.{File}
 use Rattle.aig_format.specs.Levels.{has_level}
-use Rattle.aig_format.specs.Numbering.{is_older, number_of}
+use Rattle.aig_format.specs.Numbering.{is_compact, number_of}
 use Rattle.aig_parsing.specs.Parse.{Parts, is_good}
 use Rattle.aig_parsing.specs.ParseTested.{fitting_sections_at, keeps_rules, section_lines_at, uses_known}
 use Rattle.aig_parsing.proofs.Guards.{length-defined, on_used}
@@ -26,7 +26,7 @@ use Rattle.aig_circuit.specs.declared.node.AigNode.{AigNode}
 use Rattle.aig_reader.specs.Gates.{AreFirstNodes}
 use Rattle.aig_reader.specs.Sections.{AreListsByVariable, HasGoodLines, file_by}
 use Rattle.aig_reader.proofs.Body.{on_refusal-weaker}
-use Rattle.aig_reader.proofs.FileCircuit.{inputs_is, latchs_is, older_circuit}
+use Rattle.aig_reader.proofs.FileCircuit.{inputs_is, latchs_is, compact_circuit}
 use Rattle.aig_reader.proofs.PlacedNodes.{first_all}
 
 module _ (header : Header) (x : Parts) (b a : Option (List ℕ)) (taken : Takes (section_lines_at header.kind (numbers_of header)) b a x) where
@@ -87,17 +87,17 @@ module _ (f : File) where
     few = omega (arith, length-defined f, good.enough);
   }
 
-  -- by the older rules the lines' sections are the circuit's
-  pub older_judged : (sections : Sections) → HasGoodLines f → AreListsByVariable sections.lists f → AreFirstNodes f.gates sections.nodes.items → vec_len sections.nodes ≡ f.greatest + 1 → is_older f ≡ true → (keeps_rules f.kind f ≡ true) × IsCircuitOf f sections
-  older_judged sections good lists nodes all older =
-      (by_kind f.kind, older_circuit f good older sections lists (first_all f.greatest f.gates sections.nodes.items nodes (omega (arith, all, sections.nodes.ok.0))))
+  -- in a compact file the lines' sections are the circuit's
+  pub compact_judged : (sections : Sections) → HasGoodLines f → AreListsByVariable sections.lists f → AreFirstNodes f.gates sections.nodes.items → vec_len sections.nodes ≡ f.greatest + 1 → is_compact f ≡ true → (keeps_rules f.kind f ≡ true) × IsCircuitOf f sections
+  compact_judged sections good lists nodes all compact =
+      (by_kind f.kind, compact_circuit f good compact sections lists (first_all f.greatest f.gates sections.nodes.items nodes (omega (arith, all, sections.nodes.ok.0))))
     where
       by_kind : (kind : FileKind) → keeps_rules kind f ≡ true
-      by_kind Text = ap (λ b. b || (uses_known f && list_all (has_level f) f.gates)) older
+      by_kind Text = ap (λ b. b || (uses_known f && list_all (has_level f) f.gates)) compact
       by_kind Binary = refl
 
   -- else the newer rules are tested
-  pub newer_judged : (result : Result Sections ReadError) → f.kind ≡ Text → is_older f ≡ false → Judged (uses_known f && list_all (has_level f) f.gates) (IsCircuitOf f) result → Judged (keeps_rules f.kind f) (IsCircuitOf f) result
+  pub newer_judged : (result : Result Sections ReadError) → f.kind ≡ Text → is_compact f ≡ false → Judged (uses_known f && list_all (has_level f) f.gates) (IsCircuitOf f) result → Judged (keeps_rules f.kind f) (IsCircuitOf f) result
   newer_judged result text newer h =
       let newer_rules = uses_known f && list_all (has_level f) f.gates in
       subst (λ b. Judged b (IsCircuitOf f) result) (sym (ap (λ k. keeps_rules k f) text ∙ ap (λ b. b || newer_rules) newer)) h

@@ -8,7 +8,7 @@ use Rattle.aig_circuit.specs.Circuit.{Circuit}
 use Rattle.aig_format.specs.declared.FileKind.TheVariants.{Binary}
 use Rattle.aig_format.specs.File.{File, defined, used}
 use Rattle.aig_format.specs.Fits.{IsDefinable}
-use Rattle.aig_format.specs.Numbering.{is_older}
+use Rattle.aig_format.specs.Numbering.{is_compact}
 use Rattle.aig_parsing.specs.Parse.{Parts, file_from, property_parts}
 use Rattle.aig_lexer.specs.declared.header.Header.{Header}
 use Rattle.aig_lexer.specs.Header.{numbers_of}
@@ -30,14 +30,14 @@ pub record AreListsByVariable (lists : Lists) (f : File) : Type 0 where
   pub latchs : lists.latchs.items ≡ map latch_from f.latches
   pub properties : ArePropertiesOf lists.properties (property_parts f)
 
--- what the lines of sections tell of their file: literals are defined once and are those of its variables, and binary files keep the older
--- rules
+-- what the lines of sections tell of their file: literals are defined once and are those of its variables, and binary files are
+-- compact
 pub record HasGoodLines (f : File) : Type 0 where
   pub definable : AllByRecursion (IsDefinable f.greatest) (defined f)
   pub distinct : IsDistinct nat_eq (defined f)
   pub enough : length (defined f) ≤ f.greatest
   pub in_range : AllByRecursion (λ e. e ≤ 2 * f.greatest + 1) (used f)
-  pub binary : f.kind ≡ Binary → is_older f ≡ true
+  pub binary : f.kind ≡ Binary → is_compact f ≡ true
 
 -- the lines of the file's sections were read: lists and gates by variable, what is defined, and whether any variable is missing
 pub record AreLinesOf (f : File) (lines : Lines) : Type 0 where
@@ -49,7 +49,7 @@ pub record AreLinesOf (f : File) (lines : Lines) : Type 0 where
   pub lists : AreListsByVariable lines.lists f
   pub gates : ArePlaced f.greatest (f.inputs ++ map (λ l. l.literal) f.latches) f.gates lines.gates
   pub space : HasSpace (f.greatest + 1) lines.gates
-  pub older : (lines.is_complete && is_rising lines.gates) ≡ is_older f
+  pub compact : (lines.is_complete && is_rising lines.gates) ≡ is_compact f
 
 -- the circuit of these sections, with these names
 abbrev pub circuit_with : Sections → FinMap nat_cmp (List ℕ) → Circuit

@@ -6,7 +6,7 @@ ghost use Rattle.std.specs.List.{list_all};
 ghost use Rattle.aig_format.specs.Circuit.{circuit_of};
 ghost use Rattle.aig_format.specs.File.{File};
 ghost use Rattle.aig_format.specs.Levels.{has_level};
-ghost use Rattle.aig_format.specs.Numbering.{is_older};
+ghost use Rattle.aig_format.specs.Numbering.{is_compact};
 ghost use Rattle.aig_parsing.specs.ParseTested.{keeps_rules, uses_known};
 ghost use Rattle.aig_parsing.specs.Parse.{property_parts};
 ghost use Rattle.aig_ordering.specs.Gates.{nodes_in};
@@ -36,7 +36,7 @@ fn number_nodes(
     requires tables { (f : File) × AreNodesOf f (nodes_in gates.items) × AreKnownOf f known.now }
     requires few { vec_len gates ≤ 2 ^ 31 }
     ensures { (f : File) → HasGoodLines f → AreNodesOf f (nodes_in gates.items)
-        → AreKnownOf f known.now → is_older f ≡ false
+        → AreKnownOf f known.now → is_compact f ≡ false
         → JudgedOrder (list_all (has_level f) f.gates && have_operands f)
         (λ x. (x.0.items ≡ (circuit_of f).nodes) × AreNumbersOf f x.1.items) result }
 {
@@ -107,7 +107,7 @@ impl Lists {
         requires tables { (f : File) × AreNodesOf f (nodes_in gates.items) × AreKnownOf f known.now }
         requires few { vec_len gates ≤ 2 ^ 31 }
         ensures exact { (f : File) → HasGoodLines f → AreNodesOf f (nodes_in gates.items)
-            → AreKnownOf f known.now → AreListsByVariable self.now f → is_older f ≡ false
+            → AreKnownOf f known.now → AreListsByVariable self.now f → is_compact f ≡ false
             → Judged (uses_known f && list_all (has_level f) f.gates) (IsCircuitOf f) result }
         ensures fault { IfErr result IsNumberFault }
     {

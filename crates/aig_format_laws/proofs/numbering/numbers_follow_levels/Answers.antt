@@ -3,17 +3,17 @@ use Rattle.std.specs.Prelude.{◌==◌}
 use Rattle.std.proofs.lemmas.Bool.{false_from_ne_true, or_right}
 use Rattle.aig_format.specs.File.{File}
 use Rattle.aig_format.specs.Variables.{is_defined}
-use Rattle.aig_format.specs.Numbering.{is_older, number_of}
-use Rattle.aig_format.specs.Fits.{Fits, FitsOlder}
-use Rattle.aig_format.proofs.Older.{older-tested, older-told}
-use Rattle.aig_format.proofs.Numbers.{defined_within, number_of-by_level, number_of-in_level, number_of-older, number_of-one, number_of-within, number_of-zero, variable_of}
+use Rattle.aig_format.specs.Numbering.{is_compact, number_of}
+use Rattle.aig_format.specs.Fits.{Fits, IsCompact}
+use Rattle.aig_format.proofs.Compact.{compact-tested, compact-told}
+use Rattle.aig_format.proofs.Numbers.{defined_within, number_of-by_level, number_of-in_level, number_of-compact, number_of-one, number_of-within, number_of-zero, variable_of}
 use Rattle.aig_format.proofs.Nodes.{length-nodes}
 use Rattle.aig_format_laws.specs.Numbers.{ComesFirst}
 use Rattle.aig_format_laws.proofs.numbering.numbers_follow_levels.Goals as goal
 
-later : (f : File) (limit u v : ℕ) → Fits f limit → ¬ FitsOlder f → is_defined f u ≡ true → is_defined f v ≡ true → ComesFirst f u v → number_of f u < number_of f v
+later : (f : File) (limit u v : ℕ) → Fits f limit → ¬ IsCompact f → is_defined f u ≡ true → is_defined f v ≡ true → ComesFirst f u v → number_of f u < number_of f v
 later f limit u v fits isnt first second order =
-    let newer = false_from_ne_true (is_older f) (λ is. isnt (older-told f is)) in
+    let newer = false_from_ne_true (is_compact f) (λ is. isnt (compact-told f is)) in
     let known = or_right (u == 0) (is_defined f u) first in
     let low = (defined_within f limit fits v second).0 in
     elim order.before [
@@ -33,8 +33,8 @@ returns-clause-one c = λ f limit u v fits known same. number_of-one f limit fit
 pub returns-clause-each : goal.returns-clause-each
 returns-clause-each c = λ f limit n fits h. let v = variable_of f limit fits n (omega (arith, length-nodes f, h)) in (v.variable, v.known, v.is)
 
-pub returns-clause-older : goal.returns-clause-older
-returns-clause-older c = λ f v older h. number_of-older f (older-tested f older) v h
+pub returns-clause-compact : goal.returns-clause-compact
+returns-clause-compact c = λ f v compact h. number_of-compact f (compact-tested f compact) v h
 
 pub returns-clause-newer : goal.returns-clause-newer
 returns-clause-newer c = later

@@ -12,7 +12,7 @@ use Rattle.aig_reader.specs.Faults.{OnRefusal, error_in, gate_error_in}
 use Rattle.aig_reader.specs.Gates.{HasSpace}
 use Rattle.aig_reader.specs.Sections.{file_by}
 use Rattle.aig_reader.specs.Variables.{HasRoom}
-use Rattle.aig_reader.proofs.NewerGates.{older_held}
+use Rattle.aig_reader.proofs.NewerGates.{compact_held}
 use Rattle.aig_reader.proofs.Body.{in_gates, made_in, missed_in, misses_gates, misses_properties, on_refusal-weaker, takes_sections}
 use Rattle.aig_reader.proofs.ReadLeaves.{LeavesRead, leaves_read, literals_with}
 use Rattle.aig_reader.proofs.ReadNames.{if_ok_in}
@@ -111,7 +111,7 @@ returns-clause-exact g c =
     let p = properties.1 in (
       y,
       record {
-        good = record { definable = tell.variables.definable; distinct = tell.variables.distinct; enough = tell.enough; in_range = tell.in_range; binary = tell.older };
+        good = record { definable = tell.variables.definable; distinct = tell.variables.distinct; enough = tell.enough; in_range = tell.in_range; binary = tell.compact };
         greatest = refl;
         few = c.requires.few;
         kind = c.read_gates-gates.ensures.kind ∙ same;
@@ -119,7 +119,7 @@ returns-clause-exact g c =
         lists = record { inputs = leaves.inputs_are; latchs = leaves.latchs_are; properties = record { outputs = p.outputs; bads = p.bads; constraints = p.constraints; justice = p.justice; fairness = p.fairness } };
         gates = gates.1.placed;
         space = if_ok_in (gate_error_in kind) (HasSpace (header.greatest + 1)) c.read_gates-gates.result c.gates_result.result c.in_ok-gates.gates c.gates_result.ensures c.in_ok-gates.was c.read_gates-gates.ensures.space;
-        older = older_held f c.is_complete.result c.in_ok-gates.gates (c.is_complete.ensures ∙ ap (λ (n : ℕ). header.greatest == n) (sym tell.count)) tell.variables.definable tell.variables.distinct gates.1.placed.form;
+        compact = compact_held f c.is_complete.result c.in_ok-gates.gates (c.is_complete.ensures ∙ ap (λ (n : ℕ). header.greatest == n) (sym tell.count)) tell.variables.definable tell.variables.distinct gates.1.placed.form;
       },
       taken,
     )

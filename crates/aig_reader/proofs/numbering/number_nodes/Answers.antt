@@ -7,7 +7,7 @@ use Rattle.aig_circuit.specs.declared.node.AigNodeType.{AigNodeType}
 use Rattle.aig_format.specs.Circuit.{circuit_of}
 use Rattle.aig_format.specs.File.{File}
 use Rattle.aig_format.specs.Levels.{has_level}
-use Rattle.aig_format.specs.Numbering.{is_older}
+use Rattle.aig_format.specs.Numbering.{is_compact}
 use Rattle.std.specs.List.{list_all}
 use Rattle.aig_ordering.specs.Gates.{nodes_in}
 use Rattle.aig_ordering.specs.Numbers.{all_by, numbered}
@@ -22,7 +22,7 @@ use Rattle.aig_reader.proofs.Numbered.{images_judged}
 use Rattle.aig_reader.proofs.numbering.number_nodes.Goals as goal
 use Rattle.aig_reader.proofs.numbering.number_nodes.Goals.{After-nodes}
 
-module _ (c : After-nodes) (f : File) (good : HasGoodLines f) (are : AreNodesOf f (nodes_in c.args.gates.items)) (known : AreKnownOf f c.args.known.now) (newer : is_older f ≡ false) where
+module _ (c : After-nodes) (f : File) (good : HasGoodLines f) (are : AreNodesOf f (nodes_in c.args.gates.items)) (known : AreKnownOf f c.args.known.now) (newer : is_compact f ≡ false) where
   ordered : (list_all (has_level f) f.gates ≡ true) × AreOrdered f c.args.gates.items c.in_ok-numbers.field-0
   ordered = rw c.deref.ensures.value at (c.in_ok-numbers.ensures f (rw c.deref.ensures.value are) known)
 

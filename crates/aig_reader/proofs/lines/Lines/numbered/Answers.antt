@@ -1,18 +1,18 @@
 use Rattle.std.proofs.Common.{◌≡◌, ◌+◌, ◌∙◌, true, false, length, refl, sym, arith}
 use Rattle.aig_format.specs.File.{File}
-use Rattle.aig_format.specs.Numbering.{is_older}
+use Rattle.aig_format.specs.Numbering.{is_compact}
 use Rattle.aig_ordering.specs.Gates.{nodes_in}
 use Rattle.aig_ordering.specs.Tables.{AreKnownOf, AreNodesOf}
 use Rattle.aig_ordering.proofs.NodesIn.{length-nodes_in}
 use Rattle.aig_reader.specs.Sections.{AreLinesOf}
-use Rattle.aig_reader.proofs.Steps.{newer_judged, nodes_placed, older_judged}
+use Rattle.aig_reader.proofs.Steps.{newer_judged, nodes_placed, compact_judged}
 use Rattle.aig_reader.proofs.lines.Lines.numbered.Goals as goal
 use Rattle.aig_reader.proofs.lines.Lines.numbered.Goals.{After-deref, else-is_complete-via-else-is_complete, else-is_complete-via-then-is_complete+else-are_rising}
 
 pub returns-then-are_rising-clause-exact : goal.returns-then-are_rising-clause-exact
 returns-then-are_rising-clause-exact c = λ f h.
-    let older : is_older f ≡ true = sym h.older ∙ rw (c.if-is_complete.true, sym c.are_rising.ensures, c.if-are_rising.true) refl in
-    older_judged f record { nodes = c.in_ok-nodes.nodes; lists = c.args.self.lists } h.good h.lists (c.in_ok-nodes.ensures.nodes f.greatest _ f.gates h.gates) (omega (arith, c.in_ok-nodes.ensures.len, h.greatest)) older
+    let compact : is_compact f ≡ true = sym h.compact ∙ rw (c.if-is_complete.true, sym c.are_rising.ensures, c.if-are_rising.true) refl in
+    compact_judged f record { nodes = c.in_ok-nodes.nodes; lists = c.args.self.lists } h.good h.lists (c.in_ok-nodes.ensures.nodes f.greatest _ f.gates h.gates) (omega (arith, c.in_ok-nodes.ensures.len, h.greatest)) compact
 
 -- where not all gates rise, or a variable is missing: what the tables tell
 module _ (c : After-deref) (f : File) (h : AreLinesOf f c.args.self) where
@@ -25,8 +25,8 @@ module _ (c : After-deref) (f : File) (h : AreLinesOf f c.args.self) where
   known_are : AreKnownOf f c.deref.result.now
   known_are = rw c.deref.ensures.value (c.in_ok-known-in-Marked.ensures f (rw c.in-Marked.is at h.defined))
 
-  newer : is_older f ≡ false
-  newer = sym h.older ∙ elim c.else-is_complete.branch [
+  newer : is_compact f ≡ false
+  newer = sym h.compact ∙ elim c.else-is_complete.branch [
     | else-is_complete-via-then-is_complete+else-are_rising w ↦ rw (w.if-is_complete.true, sym w.are_rising.ensures) w.if-are_rising.false
     | else-is_complete-via-else-is_complete w ↦ rw w.if-is_complete.false refl
   ]

@@ -7,7 +7,7 @@ use Rattle.aig_circuit.specs.declared.node.AigNode.{AigNode}
 use Rattle.aig_format.specs.Circuit.{circuit_of}
 use Rattle.aig_format.specs.File.{File}
 use Rattle.aig_format.specs.Levels.{has_level}
-use Rattle.aig_format.specs.Numbering.{is_older}
+use Rattle.aig_format.specs.Numbering.{is_compact}
 use Rattle.aig_ordering.specs.Gates.{nodes_in}
 use Rattle.aig_ordering.specs.Tables.{AreKnownOf, AreNodesOf}
 use Rattle.aig_reader.specs.declared.error.Section.TheVariants.{Gates}
@@ -26,7 +26,7 @@ module _ (f : File) where
   abbrev levels : Bool
   levels = list_all (has_level f) f.gates
 
-  nodes_judged : (c : After-numbered) → HasGoodLines f → AreNodesOf f (nodes_in c.args.gates.items) → AreKnownOf f c.args.known.now → is_older f ≡ false → Judged (levels && have_operands f) NodesAre c.numbered.result
+  nodes_judged : (c : After-numbered) → HasGoodLines f → AreNodesOf f (nodes_in c.args.gates.items) → AreKnownOf f c.args.known.now → is_compact f ≡ false → Judged (levels && have_operands f) NodesAre c.numbered.result
   nodes_judged c good are known newer = judged_by (levels && have_operands f) NodesAre Gates c.number_nodes-nodes.result c.numbered.result (c.number_nodes-nodes.ensures f good are known newer) c.numbered.ensures
 
   lists_judged : (c : After-numbered-2) → AreNumbersOf f c.in_ok-nodes.numbers.items → AreListsByVariable c.args.self.now f → Judged (knows_lists f) (AreListsByNumber f) c.numbered-2.result

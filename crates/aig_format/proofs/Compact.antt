@@ -1,11 +1,11 @@
--- The older rules and their test.
+-- Compact files and their test.
 use Rattle.std.proofs.Common.{◌≡◌, ℕ, ◌/◌, true, false, List, [], ◌∷◌, length, map, refl, sym, ◌∙◌, inl, inr, ◌⊎◌}
 use Rattle.std.specs.Prelude.{◌==◌, nat_lt}
 use Rattle.std.specs.List.{AllByRecursion, list_all}
 use Rattle.std.proofs.lemmas.Bool.{and_from, and_parts, eqb-true, eq-eqb, ltb-true, lt-ltb, false≢true}
 use Rattle.aig_format.specs.File.{GateLine, File, defined}
-use Rattle.aig_format.specs.Numbering.{rises, is_ordered, are_in_order, is_older}
-use Rattle.aig_format.specs.Fits.{IsOrdered, Rises, FitsOlder, FitsNewer}
+use Rattle.aig_format.specs.Numbering.{rises, is_ordered, are_in_order, is_compact}
+use Rattle.aig_format.specs.Fits.{IsOrdered, Rises, IsCompact, FitsNewer}
 
 rises-tested : (xs : List ℕ) → Rises xs → rises xs ≡ true
 rises-tested [] h = refl
@@ -36,22 +36,22 @@ ordered-told : (gs : List GateLine) → list_all is_ordered gs ≡ true → AllB
 ordered-told [] h = tt
 ordered-told (g ∷ gs) h = let p = and_parts (is_ordered g) (list_all is_ordered gs) h in (one_told g p.0, ordered-told gs p.1)
 
--- the test is true where the older rules hold
-pub older-tested : (f : File) → FitsOlder f → is_older f ≡ true
-older-tested f older =
+-- the test is true of compact files
+pub compact-tested : (f : File) → IsCompact f → is_compact f ≡ true
+compact-tested f compact =
     let lefts = map (λ (g : GateLine). g.lhs) f.gates in
-    and_from (f.greatest == length (defined f)) (are_in_order f.gates) (eq-eqb f.greatest (length (defined f)) older.exact)
-    (and_from (rises lefts) (list_all is_ordered f.gates) (rises-tested lefts older.rising) (ordered-tested f.gates older.ordered))
+    and_from (f.greatest == length (defined f)) (are_in_order f.gates) (eq-eqb f.greatest (length (defined f)) compact.exact)
+    (and_from (rises lefts) (list_all is_ordered f.gates) (rises-tested lefts compact.rising) (ordered-tested f.gates compact.ordered))
 
 -- and there alone
-pub older-told : (f : File) → is_older f ≡ true → FitsOlder f
-older-told f h =
+pub compact-told : (f : File) → is_compact f ≡ true → IsCompact f
+compact-told f h =
     let lefts = map (λ (g : GateLine). g.lhs) f.gates in
     let p = and_parts (f.greatest == length (defined f)) (are_in_order f.gates) h in
     let q = and_parts (rises lefts) (list_all is_ordered f.gates) p.1 in
     record { exact = eqb-true f.greatest (length (defined f)) p.0; rising = rises-told lefts q.0; ordered = ordered-told f.gates q.1 }
 
--- the newer rules hold where the older do not
-pub newer_only : (f : File) → is_older f ≡ false → FitsOlder f ⊎ FitsNewer f → FitsNewer f
-newer_only f h (inl older) = absurd (false≢true (sym h ∙ older-tested f older))
+-- the newer rules hold where the compact do not
+pub newer_only : (f : File) → is_compact f ≡ false → IsCompact f ⊎ FitsNewer f → FitsNewer f
+newer_only f h (inl compact) = absurd (false≢true (sym h ∙ compact-tested f compact))
 newer_only f h (inr newer) = newer
