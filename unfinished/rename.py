@@ -399,9 +399,9 @@ def g1(t):
 @group("2", "Newer rules are a well-founded file's")
 def g2(t):
     t.module("aig_reader", "proofs", "NewerGates", "TableGates")
-    t.ident("FitsNewer", "IsWellFounded")
-    t.ident("keeps_rules", "is_accepted_order")
-    law(t, "aig_format_laws", "numbering", "files_keep_rules", "text_files_are_well_founded")
+    t.ident("IsWellFounded", "IsWellFounded")
+    t.ident("is_accepted_order", "is_accepted_order")
+    law(t, "aig_format_laws", "numbering", "text_files_are_well_founded", "text_files_are_well_founded")
     t.ident("IsNewer", "IsNeverCompact", crate("aig_reader"))
     f = crate("aig_format", "aig_format_laws", "aig_parsing", "aig_reader")
     prose(t, [

@@ -5,7 +5,7 @@ use Rattle.std.specs.List.{AllByRecursion, list_all}
 use Rattle.std.proofs.lemmas.Bool.{and_from, and_parts, eqb-true, eq-eqb, ltb-true, lt-ltb, false≢true}
 use Rattle.aig_format.specs.File.{GateLine, File, defined}
 use Rattle.aig_format.specs.Numbering.{rises, is_ordered, are_in_order, is_compact}
-use Rattle.aig_format.specs.Fits.{IsOrdered, Rises, IsCompact, FitsNewer}
+use Rattle.aig_format.specs.Fits.{IsOrdered, Rises, IsCompact, IsWellFounded}
 
 rises-tested : (xs : List ℕ) → Rises xs → rises xs ≡ true
 rises-tested [] h = refl
@@ -51,7 +51,7 @@ compact-told f h =
     let q = and_parts (rises lefts) (list_all is_ordered f.gates) p.1 in
     record { exact = eqb-true f.greatest (length (defined f)) p.0; rising = rises-told lefts q.0; ordered = ordered-told f.gates q.1 }
 
--- the newer rules hold where the compact do not
-pub newer_only : (f : File) → is_compact f ≡ false → IsCompact f ⊎ FitsNewer f → FitsNewer f
-newer_only f h (inl compact) = absurd (false≢true (sym h ∙ compact-tested f compact))
-newer_only f h (inr newer) = newer
+-- what isn't compact is well-founded
+pub well_founded_only : (f : File) → is_compact f ≡ false → IsCompact f ⊎ IsWellFounded f → IsWellFounded f
+well_founded_only f h (inl compact) = absurd (false≢true (sym h ∙ compact-tested f compact))
+well_founded_only f h (inr well_founded) = well_founded

@@ -225,7 +225,7 @@ abbrev pub exchanged : File
 exchanged = file_with 2 [] [] (2 ∷ []) (gate 2 4 4 ∷ gate 4 2 2 ∷ [])
 
 exchanged-refused : (limit : ℕ) → Fits exchanged limit → ⊥
-exchanged-refused limit fits = elim fits.rules [ inl compact ↦ omega (arith, compact.ordered.0.0) | inr newer ↦ false≢true newer.levels.0 ]
+exchanged-refused limit fits = elim fits.rules [ inl compact ↦ omega (arith, compact.ordered.0.0) | inr well_founded ↦ false≢true well_founded.levels.0 ]
 
 exchanged-levels : map (level_of exchanged) (0 ∷ 1 ∷ 2 ∷ []) ≡ Some 0 ∷ None ∷ None ∷ []
 exchanged-levels = refl
@@ -235,7 +235,7 @@ abbrev pub own : File
 own = file_with 3 (2 ∷ []) [] [] (gate 4 4 2 ∷ gate 6 4 4 ∷ [])
 
 own-refused : (limit : ℕ) → Fits own limit → ⊥
-own-refused limit fits = elim fits.rules [ inl compact ↦ omega (arith, compact.ordered.0.0) | inr newer ↦ false≢true newer.levels.0 ]
+own-refused limit fits = elim fits.rules [ inl compact ↦ omega (arith, compact.ordered.0.0) | inr well_founded ↦ false≢true well_founded.levels.0 ]
 
 own-levels : map (level_of own) (1 ∷ 2 ∷ 3 ∷ []) ≡ Some 0 ∷ None ∷ None ∷ []
 own-levels = refl
@@ -245,14 +245,14 @@ abbrev pub lost_output : File
 lost_output = file_with 3 (2 ∷ []) [] (4 ∷ []) (gate 6 2 2 ∷ [])
 
 lost_output-refused : (limit : ℕ) → Fits lost_output limit → ⊥
-lost_output-refused limit fits = elim fits.rules [ inl compact ↦ omega (arith, compact.exact) | inr newer ↦ false≢true newer.known.0 ]
+lost_output-refused limit fits = elim fits.rules [ inl compact ↦ omega (arith, compact.exact) | inr well_founded ↦ false≢true well_founded.known.0 ]
 
 -- operand 2 is not defined
 abbrev pub lost_operand : File
 lost_operand = file_with 3 (2 ∷ []) [] [] (gate 6 4 2 ∷ [])
 
 lost_operand-refused : (limit : ℕ) → Fits lost_operand limit → ⊥
-lost_operand-refused limit fits = elim fits.rules [ inl compact ↦ omega (arith, compact.exact) | inr newer ↦ false≢true newer.known.0 ]
+lost_operand-refused limit fits = elim fits.rules [ inl compact ↦ omega (arith, compact.exact) | inr well_founded ↦ false≢true well_founded.known.0 ]
 
 -- ---- headers
 
@@ -276,11 +276,11 @@ gapped-too_many fits = omega (arith, fits.within)
 
 -- in binary no variable is missing
 short_in_binary : (limit : ℕ) → Fits (record short { kind = Binary }) limit → ⊥
-short_in_binary limit fits = elim fits.rules [ inl compact ↦ omega (arith, compact.exact) | inr newer ↦ cc ]
+short_in_binary limit fits = elim fits.rules [ inl compact ↦ omega (arith, compact.exact) | inr well_founded ↦ cc ]
 
 -- whether a file is compact
 compact-tests : map is_compact (deep ∷ late ∷ and_file ∷ in_binary ∷ []) ≡ true ∷ true ∷ true ∷ true ∷ []
 compact-tests = refl
 
-newer-tests : map is_compact (doubled ∷ mixed ∷ gapped ∷ falling ∷ short ∷ tied ∷ middle ∷ swapped ∷ moved ∷ []) ≡ false ∷ false ∷ false ∷ false ∷ false ∷ false ∷ false ∷ false ∷ false ∷ []
-newer-tests = refl
+well_founded-tests : map is_compact (doubled ∷ mixed ∷ gapped ∷ falling ∷ short ∷ tied ∷ middle ∷ swapped ∷ moved ∷ []) ≡ false ∷ false ∷ false ∷ false ∷ false ∷ false ∷ false ∷ false ∷ false ∷ []
+well_founded-tests = refl

@@ -12,11 +12,11 @@ use Rattle.aig_format.specs.Variables.{is_defined, is_known, IsKnown, gate_of_va
 use Rattle.aig_format.specs.Levels.{level_of}
 use Rattle.aig_format.specs.Numbering.{is_compact, numbers_from, variables_by_level, variables_in_order, number_of}
 use Rattle.aig_format.specs.declared.FileKind.TheVariants.{Text, Binary}
-use Rattle.aig_format.specs.Fits.{IsDefinable, IsOrdered, Fits, FitsNewer, IsCompact}
+use Rattle.aig_format.specs.Fits.{IsDefinable, IsOrdered, Fits, IsWellFounded, IsCompact}
 use Rattle.aig_format.proofs.Entries.{rec_both, rec_map, rec_parts, rec_weaker}
 use Rattle.aig_format.proofs.Searches.{find_some}
 use Rattle.aig_format.proofs.Members.{has, has-numbers, index-place_of, place_of-index, place_of-numbers, place_of-one, place_of-within, distinct-numbers, rec_at, rec_numbers}
-use Rattle.aig_format.proofs.Compact.{newer_only, compact-told}
+use Rattle.aig_format.proofs.Compact.{well_founded_only, compact-told}
 use Rattle.aig_format.proofs.Levels.{level_of-gate, levelled, levels-ordered}
 use Rattle.aig_format.proofs.Orders.{defined-by_level, distinct-by_level, has-by_level, place_of-by_level, place_of-in_level, some-by_level}
 
@@ -36,9 +36,9 @@ unfolding variables_in_order
 order-compact f compact = cond-true (is_compact f) (numbers_from (length (defined f)) 1) (variables_by_level f) compact
 
 -- else
-pub order-newer : (f : File) → is_compact f ≡ false → variables_in_order f ≡ variables_by_level f
+pub order-well_founded : (f : File) → is_compact f ≡ false → variables_in_order f ≡ variables_by_level f
 unfolding variables_in_order
-order-newer f newer = cond-false (is_compact f) (numbers_from (length (defined f)) 1) (variables_by_level f) newer
+order-well_founded f well_founded = cond-false (is_compact f) (numbers_from (length (defined f)) 1) (variables_by_level f) well_founded
 
 -- a variable other than 0 has its place among the others, and one more
 past_zero : (xs : List ℕ) (v : ℕ) → 1 ≤ v → place_of (0 ∷ xs) v ≡ place_of xs v + 1
@@ -60,7 +60,7 @@ order-some f = by_test (is_compact f) refl
   where
     by_test : (b : Bool) → is_compact f ≡ b → AllByRecursion (λ v. 1 ≤ v) (variables_in_order f)
     by_test true is = subst (AllByRecursion (λ v. 1 ≤ v)) (sym (order-compact f is)) (rec_numbers (length (defined f)) 1 1 (omega arith))
-    by_test false is = subst (AllByRecursion (λ v. 1 ≤ v)) (sym (order-newer f is)) (some-by_level f)
+    by_test false is = subst (AllByRecursion (λ v. 1 ≤ v)) (sym (order-well_founded f is)) (some-by_level f)
 
 -- and none is there twice
 order-distinct : (f : File) → IsDistinct nat_eq (0 ∷ variables_in_order f)
@@ -70,7 +70,7 @@ order-distinct f =
   where
     by_test : (b : Bool) → is_compact f ≡ b → IsDistinct nat_eq (variables_in_order f)
     by_test true is = subst (IsDistinct nat_eq) (sym (order-compact f is)) (distinct-numbers (length (defined f)) 1)
-    by_test false is = subst (IsDistinct nat_eq) (sym (order-newer f is)) (distinct-by_level f)
+    by_test false is = subst (IsDistinct nat_eq) (sym (order-well_founded f is)) (distinct-by_level f)
 
 -- ---- variables that are defined
 
@@ -163,7 +163,7 @@ used_known f limit fits = by_test (is_compact f) refl
   where
     by_test : (b : Bool) → is_compact f ≡ b → AllByRecursion (IsKnown f) (used f)
     by_test true is = rec_weaker (λ e. e ≤ 2 * f.greatest + 1) (IsKnown f) (λ e h. all_known f limit fits (compact-told f is).exact (e / 2) (omega arith)) (used f) fits.in_range
-    by_test false is = (newer_only f is fits.rules).known
+    by_test false is = (well_founded_only f is fits.rules).known
 
 -- ---- the numbers of a file that fits
 
@@ -179,8 +179,8 @@ defined_numbered f limit fits v there = by_test (is_compact f) refl
         let m = (compact-told f is).exact in
         ap (λ xs. has xs v) (order-compact f is) ∙ has-numbers (length (defined f)) 1 v bounds.0 (omega (arith, bounds.1))
     by_test false is =
-        let level = levelled f (newer_only f is fits.rules).levels v in
-        ap (λ xs. has xs v) (order-newer f is) ∙ has-by_level f v level.0 there bounds.0 bounds.1 level.1
+        let level = levelled f (well_founded_only f is fits.rules).levels v in
+        ap (λ xs. has xs v) (order-well_founded f is) ∙ has-by_level f v level.0 there bounds.0 bounds.1 level.1
 
 rows_within : (n w : ℕ) → AllByRecursion (λ v. (w ≤ v) × (v < w + n)) (numbers_from n w)
 rows_within zero w = tt
@@ -199,7 +199,7 @@ order_defined f limit fits = by_test (is_compact f) refl
         let count = length (defined f) in
         subst (AllByRecursion (λ v. is_defined f v ≡ true)) (sym (order-compact f is))
         (rec_weaker (λ v. (1 ≤ v) × (v < 1 + count)) (λ v. is_defined f v ≡ true) (λ v h. all_defined f limit fits m v h.0 (let high = h.1 in omega arith)) (numbers_from count 1) (rows_within count 1))
-    by_test false is = subst (AllByRecursion (λ v. is_defined f v ≡ true)) (sym (order-newer f is)) (defined-by_level f)
+    by_test false is = subst (AllByRecursion (λ v. is_defined f v ≡ true)) (sym (order-well_founded f is)) (defined-by_level f)
 
 -- the list of 0 and the defined variables has what is 0 or defined
 pub known_numbered : (f : File) (limit : ℕ) → Fits f limit → (v : ℕ) → is_known f v ≡ true → has (0 ∷ variables_in_order f) v ≡ true
@@ -302,7 +302,7 @@ number_of-by_level f limit fits is (suc u) v j k known one ju kv less =
     let there : is_defined f (suc u) ≡ true = ap (λ b. b || is_defined f (suc u)) (sym same) ∙ known in
     let bounds = defined_within f limit fits (suc u) there in
     let before = place_of-by_level f (suc u) v j k there bounds.0 bounds.1 ju kv less in
-    let in_order = subst (λ xs. place_of xs (suc u) < place_of xs v) (sym (order-newer f is)) before in
+    let in_order = subst (λ xs. place_of xs (suc u) < place_of xs v) (sym (order-well_founded f is)) before in
     omega (arith, number_of-some f (suc u) (omega arith), number_of-some f v one, in_order)
 
 -- an operand's number is smaller than its gate's
@@ -323,7 +323,7 @@ operands_before f limit fits v g found = by_test (is_compact f) refl
         let second = number_of-compact f is (g.rhs1 / 2) (omega (arith, bounds.1, less1)) in
         (omega (arith, own, first, less0), omega (arith, own, second, less1))
     by_test false is =
-        let level = levelled f (newer_only f is fits.rules).levels v in
+        let level = levelled f (well_founded_only f is fits.rules).levels v in
         let s = level_of-gate f v level.0 g found level.1 in
         let known = operands_known f limit fits v g found in
         let above = s.above in (
@@ -337,18 +337,18 @@ number_of-in_level f limit fits is u v k first second ku kv less =
     let low = (defined_within f limit fits u first).0 in
     let high = (defined_within f limit fits v second).1 in
     let before = place_of-in_level f u v k first second low less high ku kv in
-    let in_order = subst (λ xs. place_of xs u < place_of xs v) (sym (order-newer f is)) before in
+    let in_order = subst (λ xs. place_of xs u < place_of xs v) (sym (order-well_founded f is)) before in
     omega (arith, number_of-some f u low, number_of-some f v (omega arith), in_order)
 
 -- ---- the rules by kind
 
--- a text file keeps the newer rules also where it is compact
-pub text_rules : (f : File) (limit : ℕ) → Fits f limit → f.kind ≡ Text → FitsNewer f
+-- a text file is well-founded also where it is compact
+pub text_rules : (f : File) (limit : ℕ) → Fits f limit → f.kind ≡ Text → IsWellFounded f
 text_rules f limit fits is = elim fits.rules [
   | inl compact ↦ (let exact = compact.exact in record { text = is; enough = omega arith; known = used_known f limit fits; levels = levels-ordered f compact.ordered })
-  | inr newer ↦ newer
+  | inr well_founded ↦ well_founded
 ]
 
 -- a binary file is compact
 pub binary_rules : (f : File) (limit : ℕ) → Fits f limit → f.kind ≡ Binary → IsCompact f
-binary_rules f limit fits is = elim fits.rules [ inl compact ↦ compact | inr newer ↦ (let text = newer.text in absurd cc) ]
+binary_rules f limit fits is = elim fits.rules [ inl compact ↦ compact | inr well_founded ↦ (let text = well_founded.text in absurd cc) ]

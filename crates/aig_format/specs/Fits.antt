@@ -44,9 +44,9 @@ pub record IsCompact (f : File) : Type 0 where
   pub rising : Rises (map (λ g. g.lhs) f.gates)
   pub ordered : AllByRecursion IsOrdered f.gates
 
--- the newer rules, for text files: variables may be missing and gates stand in any order, but what is used is 0 or defined, and no gate
+-- a well-founded text file: variables may be missing and gates stand in any order, but what is used is 0 or defined, and no gate
 -- stands on itself
-pub record FitsNewer (f : File) : Type 0 where
+pub record IsWellFounded (f : File) : Type 0 where
   pub text : f.kind ≡ Text
   pub enough : length (defined f) ≤ f.greatest
   pub known : AllByRecursion (IsKnown f) (used f)
@@ -59,7 +59,7 @@ pub record Fits (f : File) (limit : ℕ) : Type 0 where
   pub distinct : IsDistinct nat_eq (defined f)
   pub in_range : AllByRecursion (λ e. e ≤ 2 * f.greatest + 1) (used f)
   pub resets : AllByRecursion HasReset f.latches
-  pub rules : IsCompact f ⊎ FitsNewer f
+  pub rules : IsCompact f ⊎ IsWellFounded f
   pub named : AllByRecursion (IsNameOf f) f.names
   pub once : IsDistinct same_place f.names
 

@@ -3,16 +3,16 @@
 ghost use Rattle.std.specs.Prelude.{◌≡◌, ◌/◌, ◌<◌, ◌≤◌, ℕ, IsTrue, None, Some, length};
 ghost use Rattle.aig_format.specs.declared.FileKind.TheVariants.{Binary, Text};
 ghost use Rattle.aig_format.specs.File.{File, GateLine};
-ghost use Rattle.aig_format.specs.Fits.{Fits, FitsNewer, IsCompact};
+ghost use Rattle.aig_format.specs.Fits.{Fits, IsWellFounded, IsCompact};
 ghost use Rattle.aig_format.specs.Circuit.{circuit_of};
 ghost use Rattle.aig_format.specs.Levels.{level_above, level_of};
 ghost use Rattle.aig_format.specs.Numbering.{number_of};
 ghost use Rattle.aig_format.specs.Variables.{gate_of_variable, is_defined, is_known};
 ghost use Rattle.aig_format_laws.specs.Numbers.{ComesFirst};
 
-/// Law: a text file that fits keeps the newer rules, also where it is compact; a binary file is compact.
-pub fn files_keep_rules()
-    ensures text { (f : File) (limit : ℕ) → Fits f limit → f.kind ≡ Text → FitsNewer f }
+/// Law: a text file that fits is well-founded, also where it is compact; a binary file is compact.
+pub fn text_files_are_well_founded()
+    ensures text { (f : File) (limit : ℕ) → Fits f limit → f.kind ≡ Text → IsWellFounded f }
     ensures binary { (f : File) (limit : ℕ) → Fits f limit → f.kind ≡ Binary → IsCompact f }
 {}
 
@@ -35,7 +35,7 @@ pub fn numbers_follow_levels()
     ensures each { (f : File) (limit n : ℕ) → Fits f limit → n < length (circuit_of f).nodes
         → (v : ℕ) × IsTrue (is_known f v) × (number_of f v ≡ n) }
     ensures compact { (f : File) (v : ℕ) → IsCompact f → v ≤ f.greatest → number_of f v ≡ v }
-    ensures newer { (f : File) (limit u v : ℕ) → Fits f limit → ¬ IsCompact f
+    ensures well_founded { (f : File) (limit u v : ℕ) → Fits f limit → ¬ IsCompact f
         → IsTrue (is_defined f u) → IsTrue (is_defined f v) → ComesFirst f u v
         → number_of f u < number_of f v }
 {}

@@ -10,9 +10,9 @@ use Rattle.aig_format.specs.declared.FileKind.{FileKind}
 use Rattle.aig_format.specs.declared.FileKind.TheVariants.{Text, Binary}
 use Rattle.aig_format.specs.File.{LatchLine, GateLine, NameLine, File, HeaderNumbers, header_of, defined}
 use Rattle.aig_format.specs.Spells.{Latch, Gate, Placed, places, Spells}
-use Rattle.aig_format.specs.Fits.{IsDefinable, HasReset, IsOrdered, Rises, IsCompact, FitsNewer, Fits, HasEnough, Accepts}
+use Rattle.aig_format.specs.Fits.{IsDefinable, HasReset, IsOrdered, Rises, IsCompact, IsWellFounded, Fits, HasEnough, Accepts}
 use Rattle.aig_parsing.specs.Parse.{◌>>=◌, header_at, is_good, ended_at, tested_at, numbers_at, placed_gate_at, Parts, PropertyParts, property_parts, body_at, file_from, AllAfter}
-use Rattle.aig_parsing.specs.ParseTested.{is_within, keeps_rules, section_lines_at, fitting_header_at, defines, has_next, tests_latch, tests_gate, latch_line_at, binary_latch_at, gate_line_at, fitting_inputs_at, fitting_latches_at, fitting_gates_at, literal_justice_at, literal_sets_at, literals_at, fitting_properties_at, fitting_sections_at, fitting_body_at, fitting_tail_at, fitting_at}
+use Rattle.aig_parsing.specs.ParseTested.{is_within, is_accepted_order, section_lines_at, fitting_header_at, defines, has_next, tests_latch, tests_gate, latch_line_at, binary_latch_at, gate_line_at, fitting_inputs_at, fitting_latches_at, fitting_gates_at, literal_justice_at, literal_sets_at, literals_at, fitting_properties_at, fitting_sections_at, fitting_body_at, fitting_tail_at, fitting_at}
 use Rattle.aig_format.proofs.Entries.{rec_weaker, rec_both, rec_append}
 use Rattle.aig_parsing.proofs.Numbers.{bind_some}
 use Rattle.aig_parsing.proofs.Joined.{Reads, With, Reads-ended, Reads-tested}
@@ -135,7 +135,7 @@ Reads-fitting_sections kind ns =
     let Keeps : Parts → Type 0 = λ x. KeepsRules kind (file x) in
     let Lines : Parts → List ℕ → Type 0 = With (PartsFit kind ns.greatest) (SectionsPart kind ns) in
     Reads-same (With Keeps Lines) (With (SectionsFit kind ns) (SectionsPart kind ns)) (fitting_sections_at kind ns)
-    (Reads-tested Lines Keeps (section_lines_at kind ns) (λ x. keeps_rules kind (file x)) (Reads-section_lines kind ns) (λ x. (Decides-rules kind (file x)).0) (λ x. (Decides-rules kind (file x)).1))
+    (Reads-tested Lines Keeps (section_lines_at kind ns) (λ x. is_accepted_order kind (file x)) (Reads-section_lines kind ns) (λ x. (Decides-rules kind (file x)).0) (λ x. (Decides-rules kind (file x)).1))
     (λ x bytes h. ((h.0, h.1.0), h.1.1)) (λ x bytes h. (h.0.0, (h.0.1, h.1)))
 
 -- a good header within the limit
@@ -219,9 +219,9 @@ variables_fit Binary f placed enough i l g =
 
 -- the rules of a file by the test behind its gates; in a binary file the gates rise by their places
 pub rules_fit : (kind : FileKind) (f : File) → f.kind ≡ kind → Placed kind (defined f) → HasEnough kind (header_of f) → GatesFit kind f.greatest (f.inputs ++ map latch_key f.latches) f.gates
-    → KeepsRules kind f → IsCompact f ⊎ FitsNewer f
+    → KeepsRules kind f → IsCompact f ⊎ IsWellFounded f
 rules_fit Text f is placed enough g (inl compact) = inl compact
-rules_fit Text f is placed enough g (inr newer) = inr (record { text = is; enough = omega (arith, enough, length-defined f); known = newer.0; levels = newer.1 })
+rules_fit Text f is placed enough g (inr well_founded) = inr (record { text = is; enough = omega (arith, enough, length-defined f); known = well_founded.0; levels = well_founded.1 })
 rules_fit Binary f is placed enough g rules =
     let leaves = f.inputs ++ map latch_key f.latches in
     let behind = split_places leaves (map gate_key f.gates) (length (defined f)) 1 placed in
@@ -232,11 +232,11 @@ abbrev pub VariablesPass : FileKind → File → Type 0
 VariablesPass kind f = InputsFit kind f.greatest f.inputs × LatchesFit kind f.greatest f.inputs f.latches × GatesFit kind f.greatest (f.inputs ++ map latch_key f.latches) f.gates
 
 -- a binary file is compact
-pub compact_in_binary : (f : File) → f.kind ≡ Binary → IsCompact f ⊎ FitsNewer f → IsCompact f
+pub compact_in_binary : (f : File) → f.kind ≡ Binary → IsCompact f ⊎ IsWellFounded f → IsCompact f
 compact_in_binary f is (inl compact) = compact
-compact_in_binary f is (inr newer) = let text = newer.text in absurd cc
+compact_in_binary f is (inr well_founded) = let text = well_founded.text in absurd cc
 
-variables_pass : (kind : FileKind) (f : File) → f.kind ≡ kind → IsCompact f ⊎ FitsNewer f → VariablesFit f → VariablesPass kind f
+variables_pass : (kind : FileKind) (f : File) → f.kind ≡ kind → IsCompact f ⊎ IsWellFounded f → VariablesFit f → VariablesPass kind f
 variables_pass Text f is rules v =
     let anew = (defined_by_section (Defines f.greatest) f).0 ((defined_anew f.greatest (defined f)).1 (v.definable, v.distinct)) in (
       anew.0,
@@ -246,9 +246,9 @@ variables_pass Text f is rules v =
 variables_pass Binary f is rules v = (tt, v.nexts, (compact_in_binary f is rules).ordered)
 
 -- a file's header has enough, and its gates keep the rules
-rules_pass : (kind : FileKind) (f : File) → f.kind ≡ kind → IsCompact f ⊎ FitsNewer f → HasEnough kind (header_of f) × KeepsRules kind f
+rules_pass : (kind : FileKind) (f : File) → f.kind ≡ kind → IsCompact f ⊎ IsWellFounded f → HasEnough kind (header_of f) × KeepsRules kind f
 rules_pass Text f is (inl compact) = let exact = compact.exact in (omega (arith, length-defined f), inl compact)
-rules_pass Text f is (inr newer) = let enough = newer.enough in (omega (arith, length-defined f), inr (newer.known, newer.levels))
+rules_pass Text f is (inr well_founded) = let enough = well_founded.enough in (omega (arith, length-defined f), inr (well_founded.known, well_founded.levels))
 rules_pass Binary f is rules = ((compact_in_binary f is rules).exact ∙ length-defined f, tt)
 
 fits_from_lines : (f : File) (limit : ℕ) → HasEnough f.kind (header_of f) → f.greatest + 1 ≤ limit → Placed f.kind (defined f) → LinesFit f → Fits f limit
@@ -301,8 +301,8 @@ lines_from_fits f limit fits =
 -- the rules don't look at names
 rules_named : (kind : FileKind) (f : File) → KeepsRules kind (file_from (parts_of f) []) ↔ KeepsRules kind f
 rules_named Text f = (
-  λ rules. elim rules [ inl compact ↦ inl (record { exact = compact.exact; rising = compact.rising; ordered = compact.ordered }) | inr newer ↦ inr newer ],
-  λ rules. elim rules [ inl compact ↦ inl (record { exact = compact.exact; rising = compact.rising; ordered = compact.ordered }) | inr newer ↦ inr newer ],
+  λ rules. elim rules [ inl compact ↦ inl (record { exact = compact.exact; rising = compact.rising; ordered = compact.ordered }) | inr well_founded ↦ inr well_founded ],
+  λ rules. elim rules [ inl compact ↦ inl (record { exact = compact.exact; rising = compact.rising; ordered = compact.ordered }) | inr well_founded ↦ inr well_founded ],
 )
 rules_named Binary f = (λ rules. tt, λ rules. tt)
 

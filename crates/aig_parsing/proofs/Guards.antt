@@ -19,7 +19,7 @@ use Rattle.aig_format.specs.Fits.{IsDefinable, HasReset, IsOrdered, IsNameOf, sa
 use Rattle.aig_parsing.specs.Parse.{AllAfter, is_good}
 use Rattle.aig_parsing.proofs.Checked.{IsNew, distinct_after}
 use Rattle.aig_format.specs.Letters.{count_of, is_kept}
-use Rattle.aig_parsing.specs.ParseTested.{is_definable, defines, is_literal, is_reset, has_next, tests_latch, tests_gate, tests_name, is_within, uses_known, keeps_rules}
+use Rattle.aig_parsing.specs.ParseTested.{is_definable, defines, is_literal, is_reset, has_next, tests_latch, tests_gate, tests_name, is_within, uses_known, is_accepted_order}
 use Rattle.aig_parsing.proofs.Binary.{latch_key, gate_key}
 use Rattle.aig_format.proofs.Entries.{rec_weaker, rec_both, rec_append, rec_map, rec_flat_map}
 use Rattle.aig_format.proofs.Compact.{compact-told, compact-tested}
@@ -108,14 +108,14 @@ KeepsRules Binary f = Unit {0}
 Decides-test : (b : Bool) → Decides b (IsTrue b)
 Decides-test b = (λ h. h, λ h. h)
 
-Decides-newer : (f : File) → Decides (uses_known f && list_all (has_level f) f.gates) (AllByRecursion (IsKnown f) (used f) × AllByRecursion (HasLevel f) f.gates)
-Decides-newer f =
+Decides-well_founded : (f : File) → Decides (uses_known f && list_all (has_level f) f.gates) (AllByRecursion (IsKnown f) (used f) × AllByRecursion (HasLevel f) f.gates)
+Decides-well_founded f =
     Decides-and (uses_known f) (list_all (has_level f) f.gates)
     (Decides-list_all (λ e. is_known f (e / 2)) (IsKnown f) (λ e. Decides-test (is_known f (e / 2))) (used f))
     (Decides-list_all (has_level f) (HasLevel f) (λ g. Decides-test (has_level f g)) f.gates)
 
-pub Decides-rules : (kind : FileKind) (f : File) → Decides (keeps_rules kind f) (KeepsRules kind f)
-Decides-rules Text f = Decides-or (is_compact f) (uses_known f && list_all (has_level f) f.gates) (compact-told f, compact-tested f) (Decides-newer f)
+pub Decides-rules : (kind : FileKind) (f : File) → Decides (is_accepted_order kind f) (KeepsRules kind f)
+Decides-rules Text f = Decides-or (is_compact f) (uses_known f && list_all (has_level f) f.gates) (compact-told f, compact-tested f) (Decides-well_founded f)
 Decides-rules Binary f = (λ _. tt, λ _. refl)
 
 -- a name of an input or a latch

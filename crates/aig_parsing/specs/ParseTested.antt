@@ -151,13 +151,13 @@ uses_known f = list_all (λ e. is_known f (e / 2)) (used f)
 
 -- in a text file no variable is missing and the gates are in order, or else what is used is 0 or defined and no gate stands on itself;
 -- a binary file is in order by its lines
-abbrev pub keeps_rules : FileKind → File → Bool
-keeps_rules Text f = is_compact f || (uses_known f && list_all (has_level f) f.gates)
-keeps_rules Binary f = true
+abbrev pub is_accepted_order : FileKind → File → Bool
+is_accepted_order Text f = is_compact f || (uses_known f && list_all (has_level f) f.gates)
+is_accepted_order Binary f = true
 
 -- the sections behind the header
 abbrev pub fitting_sections_at : FileKind → HeaderNumbers → List ℕ → Option (Parts × List ℕ)
-fitting_sections_at kind ns = tested_at (section_lines_at kind ns) (λ x. keeps_rules kind (file_from ((kind, ns), x) []))
+fitting_sections_at kind ns = tested_at (section_lines_at kind ns) (λ x. is_accepted_order kind (file_from ((kind, ns), x) []))
 
 -- the header within the limit, and the sections
 abbrev pub fitting_body_at : ℕ → List ℕ → Option (((FileKind × HeaderNumbers) × Parts) × List ℕ)

@@ -26,7 +26,7 @@ use Rattle.aig_format.proofs.Entries.{rec_both, rec_parts, rec_unmap, rec_weaker
 use Rattle.aig_format.proofs.Found.{found_all}
 use Rattle.aig_format.proofs.Levels.{levelled}
 use Rattle.aig_format.proofs.Members.{has, rec_has}
-use Rattle.aig_format.proofs.Numbers.{any_within, number_of-place, order-newer}
+use Rattle.aig_format.proofs.Numbers.{any_within, number_of-place, order-well_founded}
 use Rattle.aig_format.proofs.Orders.{defined-by_level, has-by_level, some-by_level}
 use Rattle.aig_format.proofs.Searches.{find_some}
 use Rattle.aig_parsing.proofs.Guards.{Decides-list_all}
@@ -65,7 +65,7 @@ map_id {A} (x ∷ xs) = ap (λ (ys : List A). x ∷ ys) (map_id xs)
 
 -- ---- the table of numbers
 
-module _ (f : File) (good : HasGoodLines f) (newer : is_compact f ≡ false) (levels : list_all (has_level f) f.gates ≡ true) where
+module _ (f : File) (good : HasGoodLines f) (well_founded : is_compact f ≡ false) (levels : list_all (has_level f) f.gates ≡ true) where
   all_levels : AllByRecursion (HasLevel f) f.gates
   all_levels = (Decides-list_all (has_level f) (HasLevel f) (λ g. (λ h. h, λ h. h)) f.gates).0 levels
 
@@ -73,7 +73,7 @@ module _ (f : File) (good : HasGoodLines f) (newer : is_compact f ≡ false) (le
   order = 0 ∷ variables_by_level f
 
   order_is : order ≡ 0 ∷ variables_in_order f
-  order_is = ap (λ (vs : List ℕ). 0 ∷ vs) (sym (order-newer f newer))
+  order_is = ap (λ (vs : List ℕ). 0 ∷ vs) (sym (order-well_founded f well_founded))
 
   known_there : (v : ℕ) → is_known f v ≡ true → has order v ≡ true
   known_there zero known = refl
@@ -256,7 +256,7 @@ module _ (f : File) (table : List ℕ) (are : AreNumbersOf f table) where
       let made : AigNode = record { node_id = n; typ = kind_of f v } in
       ap (λ (node : AigNode). node ∷ numbered (n + 1) (map (kind_of f) vs)) (node_is n (kind_of f v) (not_false v all.0)) ∙ ap (λ (nodes : List AigNode). made ∷ nodes) (numbered_is (n + 1) vs all.1)
 
-  module _ (good : HasGoodLines f) (newer : is_compact f ≡ false) (levels : list_all (has_level f) f.gates ≡ true) where
+  module _ (good : HasGoodLines f) (well_founded : is_compact f ≡ false) (levels : list_all (has_level f) f.gates ≡ true) where
     abbrev in_order : List ℕ
     in_order = 0 ∷ variables_by_level f
 
@@ -271,7 +271,7 @@ module _ (f : File) (table : List ℕ) (are : AreNumbersOf f table) where
     gate_told : AllByRecursion (λ v. kind_known v ≡ true) in_order → (g : GateLine) → IsDefinable f.greatest g.lhs → IsKnown f g.lhs → gate_of_variable f (g.lhs / 2) ≡ Some g → gate_known g ≡ true
     gate_told all g d known found =
         let low = d.1 in
-        let there = rec_has (λ v. kind_known v ≡ true) in_order (g.lhs / 2) (known_there f good newer levels (g.lhs / 2) known) all in
+        let there = rec_has (λ v. kind_known v ≡ true) in_order (g.lhs / 2) (known_there f good well_founded levels (g.lhs / 2) known) all in
         sym (ap (λ b. cond b true (known_by (gate_of_variable f (g.lhs / 2)))) (ne_eqb (g.lhs / 2) 0 (λ e. omega (arith, e))) ∙ ap known_by found) ∙ there
 
     Tells : {A : Type 0} (test : A → Bool) (xs : List A) → (list_all test xs ≡ true) ↔ AllByRecursion (λ x. test x ≡ true) xs
@@ -315,7 +315,7 @@ module _ (f : File) (table : List ℕ) (are : AreNumbersOf f table) where
     nodes_are old placed =
         ap (λ (vs : List ℕ). option_map (numbered 0) (all_by image vs)) (sym (map_id in_order))
         ∙ ap (λ (o : Option (List AigNodeType)). option_map (numbered 0) o)
-        (images image (λ v. v) kind_known (kind_of f) in_order (rec_weaker (λ v. is_known f v ≡ true) (λ v. image v ≡ cond (kind_known v) (Some (kind_of f v)) None) at_known in_order (order_known f good newer levels)))
+        (images image (λ v. v) kind_known (kind_of f) in_order (rec_weaker (λ v. is_known f v ≡ true) (λ v. image v ≡ cond (kind_known v) (Some (kind_of f v)) None) at_known in_order (order_known f good well_founded levels)))
         ∙ ap (λ b. option_map (numbered 0) (cond b (Some (map (kind_of f) in_order)) None)) kinds_known
         ∙ by_test (have_operands f)
       where
@@ -325,12 +325,12 @@ module _ (f : File) (table : List ℕ) (are : AreNumbersOf f table) where
         at_known : (v : ℕ) → is_known f v ≡ true → image v ≡ cond (kind_known v) (Some (kind_of f v)) None
         at_known v known =
             ap (λ (ns : List AigNode). option_and_then (kind_by number) (kind_at ns v)) placed
-            ∙ ap (λ (o : Option AigNodeType). option_and_then (kind_by number) o) (kind_at-variable f.greatest v f.gates (within f good newer levels v known)) ∙ kind_is v
+            ∙ ap (λ (o : Option AigNodeType). option_and_then (kind_by number) o) (kind_at-variable f.greatest v f.gates (within f good well_founded levels v known)) ∙ kind_is v
 
         all_nodes : numbered 0 (map (kind_of f) in_order) ≡ (circuit_of f).nodes
         all_nodes =
             ap (λ (nodes : List AigNode). node_of 0 (kind_of f 0) ∷ nodes) (numbered_is 1 (variables_by_level f) (some-by_level f))
-            ∙ ap (λ (vs : List ℕ). nodes_from f 0 vs) (order_is f good newer levels)
+            ∙ ap (λ (vs : List ℕ). nodes_from f 0 vs) (order_is f good well_founded levels)
 
         by_test : (b : Bool) → option_map (numbered 0) (cond b (Some (map (kind_of f) in_order)) None) ≡ cond b (Some (circuit_of f).nodes) None
         by_test true = ap Some all_nodes

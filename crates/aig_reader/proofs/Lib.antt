@@ -9,7 +9,7 @@ pub mod Rooms
 pub mod MarkedBits
 pub mod Defined
 pub mod GateLines
-pub mod NewerGates
+pub mod TableGates
 pub mod ByLevel
 pub mod Numbered
 pub mod Body

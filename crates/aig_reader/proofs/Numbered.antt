@@ -105,9 +105,9 @@ module _ (f : File) where
       ∙ seven (knows f nexts) (knows f f.outputs) (knows f f.bads) (knows f f.constraints) (knows f sets) (knows f f.fairness) (knows f operands)
       ∙ ap (λ b. (knows f nexts && b) && knows f operands) (sym knows_properties-is)
 
-  -- the test of the newer rules, from those of lists and operands
-  pub newer-is : (levels l o : Bool) → knows_lists f ≡ l → have_operands f ≡ o → (uses_known f && levels) ≡ (l && o) && levels
-  newer-is levels l o hl ho = ap (λ b. b && levels) (uses_known-is ∙ ap (λ b. b && have_operands f) hl ∙ ap (λ b. l && b) ho)
+  -- the test of a well-founded file, from those of lists and operands
+  pub well_founded-is : (levels l o : Bool) → knows_lists f ≡ l → have_operands f ≡ o → (uses_known f && levels) ≡ (l && o) && levels
+  well_founded-is levels l o hl ho = ap (λ b. b && levels) (uses_known-is ∙ ap (λ b. b && have_operands f) hl ∙ ap (λ b. l && b) ho)
 
 -- a test of levels and operands that fails
 pub no_nodes : (levels a o : Bool) → (levels && o) ≡ false → ((a && o) && levels) ≡ false

@@ -9,7 +9,7 @@ use Rattle.aig_format.specs.File.{File}
 use Rattle.aig_format.specs.Levels.{has_level}
 use Rattle.aig_format.specs.Numbering.{is_compact, number_of}
 use Rattle.aig_parsing.specs.Parse.{Parts, is_good}
-use Rattle.aig_parsing.specs.ParseTested.{fitting_sections_at, keeps_rules, section_lines_at, uses_known}
+use Rattle.aig_parsing.specs.ParseTested.{fitting_sections_at, is_accepted_order, section_lines_at, uses_known}
 use Rattle.aig_parsing.proofs.Guards.{length-defined, on_used}
 use Rattle.aig_parsing.proofs.SectionFacts.{HasCounts, lines_tell}
 use Rattle.aig_ordering.specs.Tables.{AreNodesOf}
@@ -31,7 +31,7 @@ use Rattle.aig_reader.proofs.PlacedNodes.{first_all}
 
 module _ (header : Header) (x : Parts) (b a : Option (List ℕ)) (taken : Takes (section_lines_at header.kind (numbers_of header)) b a x) where
   abbrev keeps : Parts → Bool
-  keeps y = keeps_rules header.kind (file_by header y)
+  keeps y = is_accepted_order header.kind (file_by header y)
 
   -- numbered sections, or a refusal, behind the last gate
   pub numbered_made : (result : Result Sections ReadError) → Judged (keeps x) (IsCircuitOf (file_by header x)) result
@@ -88,19 +88,19 @@ module _ (f : File) where
   }
 
   -- in a compact file the lines' sections are the circuit's
-  pub compact_judged : (sections : Sections) → HasGoodLines f → AreListsByVariable sections.lists f → AreFirstNodes f.gates sections.nodes.items → vec_len sections.nodes ≡ f.greatest + 1 → is_compact f ≡ true → (keeps_rules f.kind f ≡ true) × IsCircuitOf f sections
+  pub compact_judged : (sections : Sections) → HasGoodLines f → AreListsByVariable sections.lists f → AreFirstNodes f.gates sections.nodes.items → vec_len sections.nodes ≡ f.greatest + 1 → is_compact f ≡ true → (is_accepted_order f.kind f ≡ true) × IsCircuitOf f sections
   compact_judged sections good lists nodes all compact =
       (by_kind f.kind, compact_circuit f good compact sections lists (first_all f.greatest f.gates sections.nodes.items nodes (omega (arith, all, sections.nodes.ok.0))))
     where
-      by_kind : (kind : FileKind) → keeps_rules kind f ≡ true
+      by_kind : (kind : FileKind) → is_accepted_order kind f ≡ true
       by_kind Text = ap (λ b. b || (uses_known f && list_all (has_level f) f.gates)) compact
       by_kind Binary = refl
 
-  -- else the newer rules are tested
-  pub newer_judged : (result : Result Sections ReadError) → f.kind ≡ Text → is_compact f ≡ false → Judged (uses_known f && list_all (has_level f) f.gates) (IsCircuitOf f) result → Judged (keeps_rules f.kind f) (IsCircuitOf f) result
-  newer_judged result text newer h =
-      let newer_rules = uses_known f && list_all (has_level f) f.gates in
-      subst (λ b. Judged b (IsCircuitOf f) result) (sym (ap (λ k. keeps_rules k f) text ∙ ap (λ b. b || newer_rules) newer)) h
+  -- else it is tested whether the file is well-founded
+  pub well_founded_judged : (result : Result Sections ReadError) → f.kind ≡ Text → is_compact f ≡ false → Judged (uses_known f && list_all (has_level f) f.gates) (IsCircuitOf f) result → Judged (is_accepted_order f.kind f) (IsCircuitOf f) result
+  well_founded_judged result text well_founded h =
+      let well_founded_rules = uses_known f && list_all (has_level f) f.gates in
+      subst (λ b. Judged b (IsCircuitOf f) result) (sym (ap (λ k. is_accepted_order k f) text ∙ ap (λ b. b || well_founded_rules) well_founded)) h
 
   -- nodes and lists under the numbers of variables are the circuit's
   pub numbered_circuit : (sections : Sections) → sections.nodes.items ≡ (circuit_of f).nodes → AreListsByNumber f sections.lists → IsCircuitOf f sections

@@ -94,15 +94,15 @@ pub record AreRising (gates : List GateLine) (rising : Rising) : Type 0 where
   pub words : AllByRecursion HasWords gates
 
 -- behind these leaves, no gates that begin with these rise so that no variable up to the greatest is missing
-abbrev pub IsNewer : ℕ → List ℕ → List GateLine → Type 0
-IsNewer greatest leaves gates =
+abbrev pub IsNeverCompact : ℕ → List ℕ → List GateLine → Type 0
+IsNeverCompact greatest leaves gates =
     (rest : List GateLine) → let literals = leaves ++ literals_of (gates ++ rest) in
     AllByRecursion (IsDefinable greatest) literals → IsDistinct nat_eq literals → greatest ≡ length literals → are_in_order (gates ++ rest) ≡ false
 
--- as nodes they rise, in a table the file keeps the newer rules alone
+-- as nodes they rise, in a table the file is well-founded alone
 abbrev pub IsHeld : ℕ → List ℕ → List GateLine → Gates → Type 0
 IsHeld greatest leaves gates (held.Rising rising) = AreRising gates rising
-IsHeld greatest leaves gates (held.Table table) = IsNewer greatest leaves gates
+IsHeld greatest leaves gates (held.Table table) = IsNeverCompact greatest leaves gates
 
 -- behind these leaves, these gates are held
 pub record ArePlaced (greatest : ℕ) (leaves : List ℕ) (gates : List GateLine) (held : Gates) : Type 0 where

@@ -7,7 +7,7 @@ ghost use Rattle.aig_format.specs.Circuit.{circuit_of};
 ghost use Rattle.aig_format.specs.File.{File};
 ghost use Rattle.aig_format.specs.Levels.{has_level};
 ghost use Rattle.aig_format.specs.Numbering.{is_compact};
-ghost use Rattle.aig_parsing.specs.ParseTested.{keeps_rules, uses_known};
+ghost use Rattle.aig_parsing.specs.ParseTested.{is_accepted_order, uses_known};
 ghost use Rattle.aig_parsing.specs.Parse.{property_parts};
 ghost use Rattle.aig_ordering.specs.Gates.{nodes_in};
 ghost use Rattle.aig_ordering.specs.Tables.{AreKnownOf, AreNodesOf};
@@ -123,7 +123,7 @@ impl Lines {
     pub fn numbered(self, alloc: Global) -> Result<Sections, ReadError>
         requires { (f : File) × AreLinesOf f self }
         ensures exact { (f : File) → AreLinesOf f self
-            → Judged (keeps_rules f.kind f) (IsCircuitOf f) result }
+            → Judged (is_accepted_order f.kind f) (IsCircuitOf f) result }
         ensures fault { IfErr result IsNumberFault }
     {
         let Lines {

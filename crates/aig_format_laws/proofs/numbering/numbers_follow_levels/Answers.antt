@@ -13,12 +13,12 @@ use Rattle.aig_format_laws.proofs.numbering.numbers_follow_levels.Goals as goal
 
 later : (f : File) (limit u v : ℕ) → Fits f limit → ¬ IsCompact f → is_defined f u ≡ true → is_defined f v ≡ true → ComesFirst f u v → number_of f u < number_of f v
 later f limit u v fits isnt first second order =
-    let newer = false_from_ne_true (is_compact f) (λ is. isnt (compact-told f is)) in
+    let well_founded = false_from_ne_true (is_compact f) (λ is. isnt (compact-told f is)) in
     let known = or_right (u == 0) (is_defined f u) first in
     let low = (defined_within f limit fits v second).0 in
     elim order.before [
-      | inl less ↦ number_of-by_level f limit fits newer u v order.first order.second known low order.first_is order.second_is less
-      | inr same ↦ number_of-in_level f limit fits newer u v order.first first second order.first_is (order.second_is ∙ ap Some (sym same.0)) same.1
+      | inl less ↦ number_of-by_level f limit fits well_founded u v order.first order.second known low order.first_is order.second_is less
+      | inr same ↦ number_of-in_level f limit fits well_founded u v order.first first second order.first_is (order.second_is ∙ ap Some (sym same.0)) same.1
     ]
 
 pub returns-clause-zero : goal.returns-clause-zero
@@ -36,5 +36,5 @@ returns-clause-each c = λ f limit n fits h. let v = variable_of f limit fits n 
 pub returns-clause-compact : goal.returns-clause-compact
 returns-clause-compact c = λ f v compact h. number_of-compact f (compact-tested f compact) v h
 
-pub returns-clause-newer : goal.returns-clause-newer
-returns-clause-newer c = later
+pub returns-clause-well_founded : goal.returns-clause-well_founded
+returns-clause-well_founded c = later

@@ -12,7 +12,7 @@ use Rattle.aig_reader.specs.Faults.{OnRefusal, error_in, gate_error_in}
 use Rattle.aig_reader.specs.Gates.{HasSpace}
 use Rattle.aig_reader.specs.Sections.{file_by}
 use Rattle.aig_reader.specs.Variables.{HasRoom}
-use Rattle.aig_reader.proofs.NewerGates.{compact_held}
+use Rattle.aig_reader.proofs.TableGates.{compact_held}
 use Rattle.aig_reader.proofs.Body.{in_gates, made_in, missed_in, misses_gates, misses_properties, on_refusal-weaker, takes_sections}
 use Rattle.aig_reader.proofs.ReadLeaves.{LeavesRead, leaves_read, literals_with}
 use Rattle.aig_reader.proofs.ReadNames.{if_ok_in}

@@ -22,14 +22,14 @@ use Rattle.aig_reader.proofs.Numbered.{images_judged}
 use Rattle.aig_reader.proofs.numbering.number_nodes.Goals as goal
 use Rattle.aig_reader.proofs.numbering.number_nodes.Goals.{After-nodes}
 
-module _ (c : After-nodes) (f : File) (good : HasGoodLines f) (are : AreNodesOf f (nodes_in c.args.gates.items)) (known : AreKnownOf f c.args.known.now) (newer : is_compact f ≡ false) where
+module _ (c : After-nodes) (f : File) (good : HasGoodLines f) (are : AreNodesOf f (nodes_in c.args.gates.items)) (known : AreKnownOf f c.args.known.now) (well_founded : is_compact f ≡ false) where
   ordered : (list_all (has_level f) f.gates ≡ true) × AreOrdered f c.args.gates.items c.in_ok-numbers.field-0
   ordered = rw c.deref.ensures.value at (c.in_ok-numbers.ensures f (rw c.deref.ensures.value are) known)
 
   numbers_judged : AreNumbersOf f c.in_ok-numbers.field-0.numbers.items
   numbers_judged =
       let count = count-gates f c.args.gates.items are in
-      numbers_are f good newer ordered.0 c.in_ok-numbers.field-0.numbers.items (ordered.1.count ∙ count) (λ v low. ordered.1.numbers v (omega (arith, low, count)))
+      numbers_are f good well_founded ordered.0 c.in_ok-numbers.field-0.numbers.items (ordered.1.count ∙ count) (λ v low. ordered.1.numbers v (omega (arith, low, count)))
 
   nodes_judged : JudgedOrder (have_operands f) (λ new. new.items ≡ (circuit_of f).nodes) c.nodes.result
   nodes_judged =
@@ -37,19 +37,19 @@ module _ (c : After-nodes) (f : File) (good : HasGoodLines f) (are : AreNodesOf 
       let numbers = c.in_ok-numbers.field-0.numbers.items in
       let sorted = c.in_ok-numbers.field-0.gates.items in
       let kinds = images_ordered numbers gates f sorted (count-gates f gates are) ordered.1.gates in
-      let images = ap (λ (o : Option (List AigNodeType)). option_map (numbered 0) o) kinds ∙ nodes_are f numbers numbers_judged good newer ordered.0 (nodes_in gates) are.placed in
+      let images = ap (λ (o : Option (List AigNodeType)). option_map (numbered 0) o) kinds ∙ nodes_are f numbers numbers_judged good well_founded ordered.0 (nodes_in gates) are.placed in
       images_judged (λ (new : Vec AigNode Global). new.items) (option_map (numbered 0) (all_by (node_under numbers) (nodes_in sorted))) (have_operands f) (circuit_of f).nodes c.nodes.result images (rw (c.deref-2.ensures.value, c.deref-3.ensures.value) at c.nodes.ensures)
 
 pub returns-in_err-nodes : goal.returns-in_err-nodes
-returns-in_err-nodes c = λ f good are known newer.
+returns-in_err-nodes c = λ f good are known well_founded.
     let here = (goal.at.returns-in_err-nodes c).After-nodes in
     let p = err_from_is_err_and c.from_residual-in_err-nodes.result c.from_residual-in_err-nodes.ensures.1 in
     let e = c.in_err-nodes.field-0.0 in
-    let no : OnOrder e (have_operands f ≡ false) = subst (JudgedOrder (have_operands f) (λ (new : Vec AigNode Global). new.items ≡ (circuit_of f).nodes)) c.in_err-nodes.was (nodes_judged here f good are known newer) in
-    rw (p.1, p.2) (subst (λ (b : Bool). OnOrder e (b && have_operands f ≡ false)) (sym (ordered here f good are known newer).0) no)
+    let no : OnOrder e (have_operands f ≡ false) = subst (JudgedOrder (have_operands f) (λ (new : Vec AigNode Global). new.items ≡ (circuit_of f).nodes)) c.in_err-nodes.was (nodes_judged here f good are known well_founded) in
+    rw (p.1, p.2) (subst (λ (b : Bool). OnOrder e (b && have_operands f ≡ false)) (sym (ordered here f good are known well_founded).0) no)
 
 pub returns : goal.returns
-returns c = λ f good are known newer.
+returns c = λ f good are known well_founded.
     let here = (goal.at.returns c).After-nodes in
-    let made = subst (JudgedOrder (have_operands f) (λ (new : Vec AigNode Global). new.items ≡ (circuit_of f).nodes)) c.in_ok-nodes.was (nodes_judged here f good are known newer) in
-    (ap (λ (b : Bool). b && have_operands f) (ordered here f good are known newer).0 ∙ made.0, (made.1, numbers_judged here f good are known newer))
+    let made = subst (JudgedOrder (have_operands f) (λ (new : Vec AigNode Global). new.items ≡ (circuit_of f).nodes)) c.in_ok-nodes.was (nodes_judged here f good are known well_founded) in
+    (ap (λ (b : Bool). b && have_operands f) (ordered here f good are known well_founded).0 ∙ made.0, (made.1, numbers_judged here f good are known well_founded))

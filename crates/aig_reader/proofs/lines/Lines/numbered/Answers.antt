@@ -5,7 +5,7 @@ use Rattle.aig_ordering.specs.Gates.{nodes_in}
 use Rattle.aig_ordering.specs.Tables.{AreKnownOf, AreNodesOf}
 use Rattle.aig_ordering.proofs.NodesIn.{length-nodes_in}
 use Rattle.aig_reader.specs.Sections.{AreLinesOf}
-use Rattle.aig_reader.proofs.Steps.{newer_judged, nodes_placed, compact_judged}
+use Rattle.aig_reader.proofs.Steps.{well_founded_judged, nodes_placed, compact_judged}
 use Rattle.aig_reader.proofs.lines.Lines.numbered.Goals as goal
 use Rattle.aig_reader.proofs.lines.Lines.numbered.Goals.{After-deref, else-is_complete-via-else-is_complete, else-is_complete-via-then-is_complete+else-are_rising}
 
@@ -25,8 +25,8 @@ module _ (c : After-deref) (f : File) (h : AreLinesOf f c.args.self) where
   known_are : AreKnownOf f c.deref.result.now
   known_are = rw c.deref.ensures.value (c.in_ok-known-in-Marked.ensures f (rw c.in-Marked.is at h.defined))
 
-  newer : is_compact f ≡ false
-  newer = sym h.compact ∙ elim c.else-is_complete.branch [
+  well_founded : is_compact f ≡ false
+  well_founded = sym h.compact ∙ elim c.else-is_complete.branch [
     | else-is_complete-via-then-is_complete+else-are_rising w ↦ rw (w.if-is_complete.true, sym w.are_rising.ensures) w.if-are_rising.false
     | else-is_complete-via-else-is_complete w ↦ rw w.if-is_complete.false refl
   ]
@@ -37,5 +37,5 @@ by_level-requires-clause-tables c = (c.requires.0, gates_are c c.requires.0 c.re
 pub returns-clause-exact : goal.returns-clause-exact
 returns-clause-exact c = λ f h.
     let here = (goal.at.returns-clause-exact c).After-deref in
-    newer_judged f c.by_level.result (sym h.kind ∙ rw c.in-Marked.is refl) (newer here f h)
-    (c.by_level.ensures.exact f h.good (gates_are here f h) (known_are here f h) h.lists (newer here f h))
+    well_founded_judged f c.by_level.result (sym h.kind ∙ rw c.in-Marked.is refl) (well_founded here f h)
+    (c.by_level.ensures.exact f h.good (gates_are here f h) (known_are here f h) h.lists (well_founded here f h))

@@ -13,7 +13,7 @@ use Rattle.aig_format.proofs.Entries.{rec_parts}
 use Rattle.aig_format.proofs.Numbers.{all_there}
 use Rattle.aig_reader.specs.declared.places.Gates.{Gates}
 use Rattle.aig_reader.specs.declared.places.Gates.TheVariants.{Rising, Table}
-use Rattle.aig_reader.specs.Gates.{IsHeld, IsNewer, is_rising, literals_of}
+use Rattle.aig_reader.specs.Gates.{IsHeld, IsNeverCompact, is_rising, literals_of}
 
 -- ---- numbers that rise
 
@@ -40,8 +40,8 @@ none_below v x (y ∷ ys) h low =
 
 module _ (greatest : ℕ) (leaves : List ℕ) (gates : List GateLine) where
   -- gates that don't rise don't with more of them
-  pub newer_order : are_in_order gates ≡ false → IsNewer greatest leaves gates
-  newer_order h = λ rest definable distinct exact. by_test rest (are_in_order (gates ++ rest)) refl
+  pub well_founded_order : are_in_order gates ≡ false → IsNeverCompact greatest leaves gates
+  well_founded_order h = λ rest definable distinct exact. by_test rest (are_in_order (gates ++ rest)) refl
     where
       by_test : (rest : List GateLine) (b : Bool) → are_in_order (gates ++ rest) ≡ b → are_in_order (gates ++ rest) ≡ false
       by_test rest false is = is
@@ -52,12 +52,12 @@ module _ (greatest : ℕ) (leaves : List ℕ) (gates : List GateLine) where
           absurd (false≢true (sym h ∙ and_from (rises (literals_of gates)) (list_all is_ordered gates) front ordered.0))
 
   -- nor do they with one more
-  pub newer_more : (g : GateLine) → IsNewer greatest leaves gates → IsNewer greatest leaves (gates ++ g ∷ [])
-  newer_more g h = λ rest. subst (λ (gs : List GateLine). let literals = leaves ++ literals_of gs in AllByRecursion (IsDefinable greatest) literals → IsDistinct nat_eq literals → greatest ≡ length literals → are_in_order gs ≡ false) (sym (append_assoc gates (g ∷ []) rest)) (h (g ∷ rest))
+  pub well_founded_more : (g : GateLine) → IsNeverCompact greatest leaves gates → IsNeverCompact greatest leaves (gates ++ g ∷ [])
+  well_founded_more g h = λ rest. subst (λ (gs : List GateLine). let literals = leaves ++ literals_of gs in AllByRecursion (IsDefinable greatest) literals → IsDistinct nat_eq literals → greatest ≡ length literals → are_in_order gs ≡ false) (sym (append_assoc gates (g ∷ []) rest)) (h (g ∷ rest))
 
   -- and these are none themselves
-  pub newer_told : IsNewer greatest leaves gates → let literals = leaves ++ literals_of gates in AllByRecursion (IsDefinable greatest) literals → IsDistinct nat_eq literals → greatest ≡ length literals → are_in_order gates ≡ false
-  newer_told h = subst (λ (gs : List GateLine). let literals = leaves ++ literals_of gs in AllByRecursion (IsDefinable greatest) literals → IsDistinct nat_eq literals → greatest ≡ length literals → are_in_order gs ≡ false) (append-nil gates) (h [])
+  pub well_founded_told : IsNeverCompact greatest leaves gates → let literals = leaves ++ literals_of gates in AllByRecursion (IsDefinable greatest) literals → IsDistinct nat_eq literals → greatest ≡ length literals → are_in_order gates ≡ false
+  well_founded_told h = subst (λ (gs : List GateLine). let literals = leaves ++ literals_of gs in AllByRecursion (IsDefinable greatest) literals → IsDistinct nat_eq literals → greatest ≡ length literals → are_in_order gs ≡ false) (append-nil gates) (h [])
 
 -- where a variable below a gate is defined by none before, it is by one behind it, or is missing
 module _ (greatest : ℕ) (leaves : List ℕ) (before : List GateLine) (g : GateLine) (v : ℕ) (some : 1 ≤ v) (below : v < g.lhs / 2) where
@@ -78,8 +78,8 @@ module _ (greatest : ℕ) (leaves : List ℕ) (before : List GateLine) (g : Gate
       let p = and_parts (rises (literals_of (gates ++ rest))) (list_all is_ordered (gates ++ rest)) is in
       none_below v g.lhs (literals_of rest) (rises-back (literals_of before) g.lhs (literals_of rest) (sym (ap rises (behind_gate rest)) ∙ p.0)) below
 
-  pub newer_skipped : list_any is_here (leaves ++ literals_of gates) ≡ false → IsNewer greatest leaves gates
-  newer_skipped none = λ rest definable distinct exact.
+  pub well_founded_skipped : list_any is_here (leaves ++ literals_of gates) ≡ false → IsNeverCompact greatest leaves gates
+  well_founded_skipped none = λ rest definable distinct exact.
       let front = rec_parts (IsDefinable greatest) leaves (literals_of (gates ++ rest)) definable in
       let last = (rec_parts (IsDefinable greatest) (literals_of before) (g.lhs ∷ literals_of rest) (subst (AllByRecursion (IsDefinable greatest)) (behind_gate rest) front.1)).1.0.2 in
       by_test rest (are_in_order (gates ++ rest)) refl (all_there greatest _ definable distinct exact v some (omega (arith, below, last)))
@@ -100,5 +100,5 @@ compact_held f complete (Rising rising) is definable distinct h = rw (is, h.in_o
 compact_held f complete (Table table) is definable distinct h = ap (λ (b : Bool). b && false) is ∙ by_test (f.greatest == length (defined f)) refl
   where
     by_test : (b : Bool) → (f.greatest == length (defined f)) ≡ b → (b && false) ≡ (b && are_in_order f.gates)
-    by_test true exact = sym (newer_told f.greatest (f.inputs ++ map (λ l. l.literal) f.latches) f.gates h definable distinct (eqb-true f.greatest (length (defined f)) exact))
+    by_test true exact = sym (well_founded_told f.greatest (f.inputs ++ map (λ l. l.literal) f.latches) f.gates h definable distinct (eqb-true f.greatest (length (defined f)) exact))
     by_test false exact = refl

@@ -1,5 +1,5 @@
 use Rattle.aig_format.proofs.Numbers.{binary_rules, text_rules}
-use Rattle.aig_format_laws.proofs.numbering.files_keep_rules.Goals as goal
+use Rattle.aig_format_laws.proofs.numbering.text_files_are_well_founded.Goals as goal
 
 pub returns-clause-text : goal.returns-clause-text
 returns-clause-text c = text_rules
