@@ -423,8 +423,8 @@ def g2(t):
 
 @group("3", "A start is an initial state")
 def g3(t):
-    t.ident("IsStart", "IsInitial")
-    t.ident("IsRunFromStart", "IsRunFromInitial")
+    t.ident("IsInitial", "IsInitial")
+    t.ident("IsRunFromInitial", "IsRunFromInitial")
     prose_outside(t, [
         (r"\b(run|runs|Runs|state|where the run is|that every run with its values is|each such run is|a run is) from a start\b", r"\1 from an initial state"),
         (r"\bfrom a start\b", "from an initial state"),

@@ -101,7 +101,7 @@ impl Aig {
     /// ```
     pub fn merge(&mut self, other: &Aig) -> Result<(), MemoryError>
         ensures exact { OnOk result (self.new ≡ merged self.old other.now) }
-        // A run is a pair of runs, one of each circuit, and a start a pair of starts; edges keep their values.
+        // A run is a pair of runs, one of each circuit, and an initial state a pair of initial states; edges keep their values.
         ensures runs { OnOk result
             (PairsRuns self.old other.now self.new (shifted (length self.old.nodes))) }
         ensures err { OnErr result (self.new ≡ self.old) }
@@ -150,7 +150,7 @@ impl Aig {
     ///
     /// - `Memory`: memory was refused. The circuit stays as it was. Never where every initial edge is constant or none.
     pub fn gate_init_to_constraint(&mut self) -> Result<(), MemoryError>
-        // The runs from a start that meet the constraints are the old ones, one for one.
+        // The runs from an initial state that meet the constraints are the old ones, one for one.
         ensures starts { OnOk result (GatesStarts self.old self.new) }
         ensures plain { All HasPlainInit self.old.latchs → IsOk result }
         ensures err { OnErr result (self.new ≡ self.old) }
@@ -177,7 +177,7 @@ impl Aig {
         ensures exact { IfOk result (λ made. made ≡ reencoded self.now) }
         ensures closed { IfOk result (λ made. IsClosed made) }
         ensures long { IfOk result (λ made. AreAsLong self.now made) }
-        // Runs, starts, properties, next and initial edges stay, under the new numbers.
+        // Runs, initial states, properties, next and initial edges stay, under the new numbers.
         ensures kept { IfOk result (λ made. KeepsRuns self.now made (new_number self.now)) }
         ensures placed { IfOk result (λ made. IsReencoded made) }
         ensures twice { IfOk result (λ made. reencoded made ≡ made) }

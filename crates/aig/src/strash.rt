@@ -45,7 +45,7 @@ impl Aig {
         ensures kept { IfOk result (λ made. KeepsFirsts self.now made (image_of self.now.nodes)) }
         // Gates share a node exactly where their trees are equal up to exchange, and each has its image's tree.
         ensures merges { IfOk result (λ made. MergesTrees self.now made (image_of self.now.nodes)) }
-        // Runs, starts and all values stay, both ways.
+        // Runs, initial states and all values stay, both ways.
         ensures runs { IfOk result (λ made. KeepsRuns self.now made (image_of self.now.nodes)) }
         // What has a written form keeps one.
         ensures writable { IsWritable self.now → IfOk result IsWritable }

@@ -30,7 +30,7 @@ pub struct CircuitQuery {
     pub further: LitVvec,
 }
 
-/// Unrolls a circuit by `k` steps, makes the clauses of that, and asks by further clauses for a run from a start on which
+/// Unrolls a circuit by `k` steps, makes the clauses of that, and asks by further clauses for a run from an initial state on which
 /// every constraint holds at each of the steps 0 to `k` and some bad edge at step `k`. The circuit may have been built or
 /// changed, and its initial edges may be any.
 ///
@@ -73,7 +73,7 @@ pub fn query_of(
 }
 
 /// Checks a proof, in the LRAT or the DRAT format, that the clauses of a circuit's query for step `k` can't be satisfied: then
-/// no run of the circuit from a start reaches a bad edge at that step.
+/// no run of the circuit from an initial state reaches a bad edge at that step.
 ///
 /// The clauses have the order and the variables of the DIMACS form: those of each node's variable, and the further ones
 /// behind them. A circuit without bad edges is refused before anything else, as nothing is asked of it. Asks
@@ -87,7 +87,7 @@ pub fn check_query_of<P: Source>(
     proof: &mut P,
 ) -> Result<(), AnswerError>
     requires few { limit ≤ 2 ^ 31 }
-    // No run from a start meets every constraint at the steps 0 to k and some bad edge at step k.
+    // No run from an initial state meets every constraint at the steps 0 to k and some bad edge at step k.
     ensures answer { OnOk result (IsCircuitSafeAt circuit.now k) }
     // Which refusals come before the proof is read, and when.
     ensures none { IsErrOf result AnswerError.NoBads ↔ (circuit.now.bads ≡ []) }

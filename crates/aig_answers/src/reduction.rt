@@ -16,7 +16,7 @@ use std::alloc::Global;
 
 /// Reads a circuit from the bytes of an AIGER file, reduces it to what a query needs (`reduced`), and checks a proof, in the
 /// LRAT or the DRAT format, that the clauses of the reduced circuit's query for step `k` can't be satisfied: then no run of
-/// the file's machine from a start reaches a bad state at that step. Asks `1 <= limit <= 2^31`.
+/// the file's machine from an initial state reaches a bad state at that step. Asks `1 <= limit <= 2^31`.
 ///
 /// The clauses are those of `query_of` of the reduced circuit, and `TooLarge` is answered exactly where that circuit with its
 /// further steps passes the limit by the bound that `query_of` names. A file without bad state properties is refused, as
@@ -32,7 +32,7 @@ pub fn check_step_reduced<R: Source, P: Source>(
     requires some { 1 ≤ limit }
     requires few { limit ≤ 2 ^ 31 }
     // The bytes that were read are a file with a bad literal, whose reduced circuit is within the limit, and whose machine
-    // has no run from a start that meets every constraint at the steps 0 to k and some bad literal at step k.
+    // has no run from an initial state that meets every constraint at the steps 0 to k and some bad literal at step k.
     ensures answer { IfOk result (IsOfFile (IsReducedWithin limit k) (λ f _. IsSafeAt f k)
         (R.left r.old) (R.left r.new)) }
     ensures file { TellsOfReduced R.left R.failed limit k result r.old r.new }

@@ -13,7 +13,7 @@ use aig_refutation::{RefutationError, check_refutation};
 use std::alloc::Global;
 
 /// Reads a circuit from the bytes of an AIGER file, and checks a proof, in the LRAT format, that the clauses of its query for
-/// step `k` can't be satisfied: then no run from a start reaches a bad state at that step. Asks `1 <= limit <= 2^31`.
+/// step `k` can't be satisfied: then no run from an initial state reaches a bad state at that step. Asks `1 <= limit <= 2^31`.
 ///
 /// The clauses have the order and the variables of the DIMACS form: those of each node's variable, and the further ones
 /// behind them. A file without bad state properties is refused, as nothing is asked of it, before the proof is read.
@@ -27,7 +27,7 @@ pub fn check_step<R: Source, P: Source>(
 ) -> Result<(), AnswerError>
     requires some { 1 ≤ limit }
     requires few { limit ≤ 2 ^ 31 }
-    // The bytes that were read are a file within the limit, with a bad literal, whose machine has no run from a start that
+    // The bytes that were read are a file within the limit, with a bad literal, whose machine has no run from an initial state that
     // meets every constraint at the steps 0 to k and some bad literal at step k.
     ensures answer { IfOk result (IsOfFile (IsAsked limit k) (λ f _. IsSafeAt f k)
         (R.left r.old) (R.left r.new)) }

@@ -6,7 +6,7 @@ use Rattle.std.specs.Option.{option_and_then}
 use Rattle.std.proofs.lemmas.List.Elements.{All-contains, All-from_recursion, All-weaker, recursion_from_All}
 use Rattle.aig_format.specs.File.{File, GateLine, LatchLine}
 use Rattle.aig_format.specs.Fits.{Fits, IsDefinable}
-use Rattle.aig_format.specs.Machine.{IsRun, IsStart, IsStep, literal_value, start_of}
+use Rattle.aig_format.specs.Machine.{IsRun, IsInitial, IsStep, literal_value, start_of}
 use Rattle.aig_format.specs.Variables.{IsKnown}
 use Rattle.aig_format.proofs.Circuits.{differ_from, differs_half, distinct_front, used_by_section}
 use Rattle.aig_format.proofs.Entries.{rec_both, rec_unmap, rec_weaker}
@@ -55,7 +55,7 @@ module _ (g f : File) (extends : Extends g f) where
         carried Next f.latches g.latches extends.latches (is.moves t low);
   }
 
-  pub start_back : (run : ℕ → ℕ → Bool) → IsStart g run → IsStart f run
+  pub start_back : (run : ℕ → ℕ → Bool) → IsInitial g run → IsInitial f run
   start_back run start = carried (Starts (run 0)) f.latches g.latches extends.latches start
 
 -- ---- latches by their variables
@@ -129,7 +129,7 @@ kept None b is = refl
 
 module _ (g f : File) (bound limit : ℕ) (fits : Fits g bound) (fits_too : Fits f limit)
     (extends : Extends g f) (last : ℕ) (run : ℕ → ℕ → Bool) (is : IsRun f last run)
-    (start : IsStart f run) where
+    (start : IsInitial f run) where
   -- what the variable's latch in g starts with, if it has one that starts with a value
   abbrev start_at : ℕ → Option Bool
   start_at v = option_and_then start_of (latch_at g v)
@@ -158,7 +158,7 @@ module _ (g f : File) (bound limit : ℕ) (fits : Fits g bound) (fits_too : Fits
       let Agrees = λ (l : LatchLine). given 0 (l.literal / 2) ≡ other 0 (l.literal / 2) in
       rec_both (IsFound g) Agrees g.latches (latches_found g bound fits) agree.latches
 
-  is_start : IsStart g other
+  is_start : IsInitial g other
   is_start =
       rec_weaker IsGiven (Starts (other 0))
       (λ l p.
@@ -201,7 +201,7 @@ module _ (g f : File) (bound limit : ℕ) (fits : Fits g bound) (fits_too : Fits
       let back = run_back g f extends last other is_run in
       agree_on_known f limit last fits_too run other is back agree_back
 
-  pub run_forth : (r : ℕ → ℕ → Bool) × IsRun g last r × IsStart g r × AgreeOnKnown f last run r
+  pub run_forth : (r : ℕ → ℕ → Bool) × IsRun g last r × IsInitial g r × AgreeOnKnown f last run r
   run_forth = (other, is_run, is_start, agree_known)
 
 -- ---- safety

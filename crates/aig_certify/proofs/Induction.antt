@@ -2,7 +2,7 @@
 use Rattle.std.proofs.Common.{◌≡◌, ℕ, zero, suc, ◌+◌, ◌-◌, ◌<◌, ◌≤◌, Bool, subst, inl, inr, arith}
 use Rattle.std.proofs.lemmas.Bool.{cases_lt}
 use Rattle.aig_format.specs.File.{File}
-use Rattle.aig_format.specs.Machine.{IsRun, IsStart, Moves}
+use Rattle.aig_format.specs.Machine.{IsRun, IsInitial, Moves}
 use Rattle.aig_runs.specs.Queries.{IsSafeTo}
 use Rattle.aig_runs.proofs.Safety.{run_cut}
 use Rattle.aig_certify.specs.declared.window.Window.{Window}
@@ -21,8 +21,8 @@ window f last s k run is h = record {
 }
 
 module _ (f : File) (k : ℕ) (base : IsSafeTo f k) (step : IsKInductive Distinct f k) where
-  -- no bad literal holds at the end of a run from a start, by induction over its length
-  good_at : (m n : ℕ) → n < m → (run : ℕ → ℕ → Bool) → IsRun f n run → IsStart f run → ((t : ℕ) → t ≤ n → IsConstrained f (run t)) → IsGood f (run n)
+  -- no bad literal holds at the end of a run from an initial state, by induction over its length
+  good_at : (m n : ℕ) → n < m → (run : ℕ → ℕ → Bool) → IsRun f n run → IsInitial f run → ((t : ℕ) → t ≤ n → IsConstrained f (run t)) → IsGood f (run n)
   good_at zero n less run is start constraints = absurd (omega arith)
   good_at (suc m) n less run is start constraints = elim (cases_lt k n) [
     | inr small ↦ base n n run is start (omega arith) small constraints

@@ -1,15 +1,15 @@
--- An inductive invariant holds at each step of a run from a start, and one that says that nothing is
+-- An inductive invariant holds at each step of a run from an initial state, and one that says that nothing is
 -- bad is kept by each window of two steps.
 use Rattle.std.proofs.Common.{◌≡◌, ◌↔◌, ℕ, zero, suc, ◌+◌, ◌<◌, ◌≤◌, Bool, IsTrue, subst, arith}
 use Rattle.aig_format.specs.File.{File}
-use Rattle.aig_format.specs.Machine.{IsRun, IsStart, IsStep, Moves}
+use Rattle.aig_format.specs.Machine.{IsRun, IsInitial, IsStep, Moves}
 use Rattle.aig_runs.specs.Queries.{IsSafeTo}
 use Rattle.aig_certify.specs.declared.window.Window.TheVariants.{Plain}
 use Rattle.aig_certify.specs.Induction.{IsKInductive, IsWindow}
 use Rattle.aig_certify.specs.Inductive.{IsInductive}
 use Rattle.aig_certify.specs.Safety.{IsConstrained, IsGood}
 
-module _ (f : File) (invariant : (ℕ → Bool) → Bool) (is : IsInductive f invariant) (last : ℕ) (run : ℕ → ℕ → Bool) (runs : IsRun f last run) (start : IsStart f run) where
+module _ (f : File) (invariant : (ℕ → Bool) → Bool) (is : IsInductive f invariant) (last : ℕ) (run : ℕ → ℕ → Bool) (runs : IsRun f last run) (start : IsInitial f run) where
   holds_at : (t : ℕ) → t ≤ last → ((s : ℕ) → s ≤ t → IsConstrained f (run s)) → IsTrue (invariant (run t))
   holds_at zero low constraints = is.base (run 0) (runs.steps 0 low) start (constraints 0 (omega arith))
   holds_at (suc t) low constraints =

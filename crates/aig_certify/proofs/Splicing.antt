@@ -5,7 +5,7 @@ use Rattle.std.specs.List.{AllByRecursion}
 use Rattle.std.proofs.lemmas.Bool.{cases_lt}
 use Rattle.std.proofs.lemmas.Bool.Decides.{nat_tests}
 use Rattle.aig_format.specs.File.{File, LatchLine}
-use Rattle.aig_format.specs.Machine.{IsRun, IsStart, IsStep, Moves, literal_value, start_of}
+use Rattle.aig_format.specs.Machine.{IsRun, IsInitial, IsStep, Moves, literal_value, start_of}
 use Rattle.aig_certify.specs.Induction.{HasDistinctStates, IsSameState}
 
 -- ---- states
@@ -107,11 +107,11 @@ module _ (s gap : ℕ) (run : ℕ → ℕ → Bool) where
       ])
     ]
 
-    -- a run, from a start where the run is from one
+    -- a run, from an initial state where the run is from one
     pub spliced_run : IsRun f last (spliced s gap run)
     spliced_run = record { steps = spliced_each (IsStep f) last is.steps; moves = spliced_moves }
 
-    pub spliced_start : IsStart f run → IsStart f (spliced s gap run)
+    pub spliced_start : IsInitial f run → IsInitial f (spliced s gap run)
     spliced_start start =
         let Starts = λ (values : ℕ → Bool). AllByRecursion (λ (l : LatchLine). IfSome (start_of l) (λ b. values (l.literal / 2) ≡ b)) f.latches in
         elim (cases_lt 0 s) [

@@ -1,5 +1,5 @@
 -- Part of what laws say, and of no promise of a call.
--- Inductive invariants of a file's machine. (Unbounded model checking: an invariant that holds at starts, that each step keeps, and that
+-- Inductive invariants of a file's machine. (Unbounded model checking: an invariant that holds in initial states, that each step keeps, and that
 -- excludes the bad states, each under the constraints.)
 use Rattle.std.specs.Prelude.{◌≡◌, ℕ, ◌/◌, Bool, IfSome, IsTrue}
 use Rattle.std.specs.List.{AllByRecursion}
@@ -13,7 +13,7 @@ IsStarting f values = AllByRecursion (λ l. IfSome (start_of l) (λ b. values (l
 
 -- the invariant, a test of valuations, as a literal of the file is
 pub record IsInductive (f : File) (invariant : (ℕ → Bool) → Bool) : Type 0 where
-  -- it holds at starts
+  -- it holds in initial states
   pub base : (values : ℕ → Bool) → IsStep f values → IsStarting f values → IsConstrained f values → IsTrue (invariant values)
   -- each step keeps it
   pub step : (values after : ℕ → Bool) → IsStep f values → IsStep f after → Moves f values after → IsConstrained f values → IsConstrained f after

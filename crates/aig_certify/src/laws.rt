@@ -7,7 +7,7 @@ ghost use Rattle.aig_circuit.specs.Circuit.{Circuit};
 ghost use Rattle.aig_format.specs.File.{File};
 ghost use Rattle.aig_format.specs.Circuit.{circuit_of};
 ghost use Rattle.aig_format.specs.Fits.{Fits};
-ghost use Rattle.aig_format.specs.Machine.{IsRun, IsStart};
+ghost use Rattle.aig_format.specs.Machine.{IsRun, IsInitial};
 ghost use Rattle.aig_format_laws.specs.MachineRuns.{AgreeOnKnown};
 ghost use Rattle.aig_base.specs.Formula.{clauses_in, IsSatisfiable};
 ghost use Rattle.aig_runs.specs.Queries.{Asks, IsSafeTo};
@@ -29,7 +29,7 @@ pub fn refuted_queries_have_no_witness()
         → ¬ IsSatisfiable (clauses_in clauses ++ further) → IsSafeAt f k }
 {}
 
-/// Law: where that holds of the queries for 0 to n, no bad literal holds, at a step up to n, on any run from a start on which
+/// Law: where that holds of the queries for 0 to n, no bad literal holds, at a step up to n, on any run from an initial state on which
 /// the constraints hold up to there.
 pub fn refutations_are_safe()
     ensures { (f : File) (n : ℕ) (circuit unrolled : ℕ → Circuit)
@@ -46,7 +46,7 @@ pub fn safe_steps_are_safe()
     ensures { (f : File) (n : ℕ) → ((k : ℕ) → k ≤ n → IsSafeAt f k) → IsSafeTo f n }
 {}
 
-/// Law: an inductive invariant that excludes the bad literals means that none holds at any step of any run from a start on
+/// Law: an inductive invariant that excludes the bad literals means that none holds at any step of any run from an initial state on
 /// which the constraints hold up to there.
 pub fn inductive_invariants_are_safe()
     ensures { (f : File) (invariant : (ℕ → Bool) → Bool)
@@ -54,7 +54,7 @@ pub fn inductive_invariants_are_safe()
 {}
 
 /// Law: a test that passes exactly where no bad literal holds is an inductive invariant exactly
-/// where none holds at step 0 of a run from a start, and no window of two steps reaches one at its
+/// where none holds at step 0 of a run from an initial state, and no window of two steps reaches one at its
 /// end. So where a literal's inverse is the one bad literal, this makes the literal an invariant.
 pub fn invariants_are_windows()
     ensures { (f : File) (invariant : (ℕ → Bool) → Bool)
@@ -89,16 +89,16 @@ pub fn refuted_windows_are_inductive()
 {}
 
 /// Law: a file that extends another by inputs, latches or gates has its runs: for each run of the
-/// other from a start there is one with the same values of all that the other defines; and each of
+/// other from an initial state there is one with the same values of all that the other defines; and each of
 /// its own runs is one of the other.
 pub fn extended_files_have_runs()
     ensures forth { (g f : File) (bound limit last : ℕ) (run : ℕ → ℕ → Bool)
-        → Fits g bound → Fits f limit → Extends g f → IsRun f last run → IsStart f run
-        → (r : ℕ → ℕ → Bool) × IsRun g last r × IsStart g r × AgreeOnKnown f last run r }
+        → Fits g bound → Fits f limit → Extends g f → IsRun f last run → IsInitial f run
+        → (r : ℕ → ℕ → Bool) × IsRun g last r × IsInitial g r × AgreeOnKnown f last run r }
     ensures back { (g f : File) (last : ℕ) (run : ℕ → ℕ → Bool) → Extends g f
         → IsRun g last run → IsRun f last run }
     ensures starts { (g f : File) (run : ℕ → ℕ → Bool) → Extends g f
-        → IsStart g run → IsStart f run }
+        → IsInitial g run → IsInitial f run }
 {}
 
 /// Law: a file is safe as far as its certificate is, and so at every step where the certificate is

@@ -11,7 +11,7 @@ use Rattle.aig_circuit.specs.Circuit.{Circuit, IsCircuit, IsLeaf}
 use Rattle.aig_circuit.specs.Runs.{AgreeOnLeaves}
 use Rattle.aig_circuit.proofs.Trees.{kind_at-within, node_value-false}
 use Rattle.aig_change.specs.Changes.{JoinsConstraints, held_latch}
-use Rattle.aig_change.specs.Runs.{AreOldRuns, ConstraintsHoldUpTo, IsRunFromStart}
+use Rattle.aig_change.specs.Runs.{AreOldRuns, ConstraintsHoldUpTo, IsRunFromInitial}
 use Rattle.aig_change.proofs.Grown.{AddsLeaf, Begins, Follows, all_hold, all_hold-same, begins_back, begins_forth, follows_back, follows_forth}
 use Rattle.aig_circuit.proofs.Lists.{All-first, All-second}
 
@@ -57,7 +57,7 @@ held_before-same c is last x z agree (suc t) h =
 module _ (old new : Circuit) (leaf : ℕ) (next : AigEdge) (is : IsCircuit old) (adds : AddsHeld old new leaf next) where
   -- ---- runs of the new circuit
 
-  module _ (last : ℕ) (z : ℕ → ℕ → Bool) (run : IsRunFromStart new last z) where
+  module _ (last : ℕ) (z : ℕ → ℕ → Bool) (run : IsRunFromInitial new last z) where
     follows : (t : ℕ) → t < last → All (Follows new.nodes (z t) (z (t + 1))) (old.latchs ++ held_latch leaf next ∷ [])
     follows t h = subst (All (Follows new.nodes (z t) (z (t + 1)))) adds.latchs (run.run t h)
 
@@ -80,7 +80,7 @@ module _ (old new : Circuit) (leaf : ℕ) (next : AigEdge) (is : IsCircuit old) 
     leaf_held zero h = starts_true
     leaf_held (suc t) h = moves_on t (omega arith) ∙ ap (λ b. b && all_hold old (z t)) (leaf_held t (omega arith))
 
-    pub cut_run : IsRunFromStart old last z
+    pub cut_run : IsRunFromInitial old last z
     cut_run = record {
       run = λ t h. follows_forth old new.nodes is adds.nodes.grows (z t) (z (t + 1)) (All-first (Follows new.nodes (z t) (z (t + 1))) old.latchs (held_latch leaf next ∷ []) (follows t h));
       start = λ k d h. begins_forth old new.nodes is adds.nodes.grows (z 0) (get_or old.latchs k d).input (get_or old.latchs k d).init (is.latchs k d h).init
@@ -115,7 +115,7 @@ module _ (old new : Circuit) (leaf : ℕ) (next : AigEdge) (is : IsCircuit old) 
       let differ : n ≢ leaf = λ e. absurd (omega (arith, e, kind_at-within old.nodes n Leaf h, adds.nodes.past)) in
       ap (λ b. cond b (held_before old x t) (x t n)) (ne_eqb n leaf differ)
 
-  module _ (last : ℕ) (x : ℕ → ℕ → Bool) (run : IsRunFromStart old last x) where
+  module _ (last : ℕ) (x : ℕ → ℕ → Bool) (run : IsRunFromInitial old last x) where
     extended_follows : (t : ℕ) → t < last → All (Follows new.nodes (extended_by x t) (extended_by x (t + 1))) (old.latchs ++ held_latch leaf next ∷ [])
     unfolding held_before
     extended_follows t h = All-push (Follows new.nodes (extended_by x t) (extended_by x (t + 1))) old.latchs (held_latch leaf next)
@@ -131,14 +131,14 @@ module _ (old new : Circuit) (leaf : ℕ) (next : AigEdge) (is : IsCircuit old) 
         (λ k d h. begins_back old new.nodes is adds.nodes.grows (extended_by x 0) (x 0) (extended_old x 0) (get_or old.latchs k d).input (is.latchs k d h).leaf (get_or old.latchs k d).init (is.latchs k d h).init (run.start k d h))
         (ap not (node_value-false new.nodes (extended_by x 0) 0 adds.nodes.grows.sound.false_first) ∙ sym (extended_leaf x 0))
 
-    pub extended_run : IsRunFromStart new last (extended_by x)
+    pub extended_run : IsRunFromInitial new last (extended_by x)
     extended_run = record {
       run = λ t h. subst (All (Follows new.nodes (extended_by x t) (extended_by x (t + 1)))) (sym adds.latchs) (extended_follows t h);
       start = subst (All (Begins new.nodes (extended_by x 0))) (sym adds.latchs) extended_begins;
     }
 
-  -- runs from a start are the old ones
-  pub AreOldRuns-held : AreOldRuns old new (IsRunFromStart new) (IsRunFromStart old)
+  -- runs from an initial state are the old ones
+  pub AreOldRuns-held : AreOldRuns old new (IsRunFromInitial new) (IsRunFromInitial old)
   AreOldRuns-held = record {
     cut = cut_run;
     extended = λ last x run. (extended_by x, extended_run last x run, λ t n h leaf. extended_old x t n leaf);

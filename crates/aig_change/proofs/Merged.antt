@@ -11,7 +11,7 @@ use Rattle.aig_circuit.specs.declared.node.AigLatch.{AigLatch}
 use Rattle.aig_circuit.specs.Edge.{inverted_if}
 use Rattle.aig_circuit.specs.Tree.{edge_value}
 use Rattle.aig_circuit.specs.Circuit.{Circuit, IsCircuit, IsInRange, IsLatch, IsLeaf, latch_leaves, only_false}
-use Rattle.aig_circuit.specs.Runs.{IsRun, IsStart}
+use Rattle.aig_circuit.specs.Runs.{IsRun, IsInitial}
 use Rattle.aig_circuit.specs.Renumber.{renumbered_edge, renumbered_latch}
 use Rattle.aig_circuit.proofs.Building.{Grows-kept, Grows-longer, edge_value-Grows}
 use Rattle.aig_circuit.proofs.Circuits.{AllPairs-append, init_grown, latch_leaves-leaves}
@@ -191,7 +191,7 @@ module _ (first second : Circuit) (is : IsCircuit first) (other : IsCircuit seco
   second_back z n (Some e) h = any_value z e ∙ h
   second_back z n None h = tt
 
-  starts_merged : (z : ℕ → Bool) → IsStart (merged first second) z ↔ (IsStart first z × IsStart second (λ n. z (number n)))
+  starts_merged : (z : ℕ → Bool) → IsInitial (merged first second) z ↔ (IsInitial first z × IsInitial second (λ n. z (number n)))
   starts_merged z = (
     λ start. (
       λ k d l.

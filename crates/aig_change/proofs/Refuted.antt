@@ -13,11 +13,11 @@ use Rattle.aig_circuit.specs.Build.{Folds, FoldsOrAdds, false_second, true_first
 use Rattle.aig_circuit.specs.Circuit.{Circuit}
 use Rattle.aig_circuit.specs.Edge.{edge_to}
 use Rattle.aig_circuit.specs.Edges.{HasPlainInit}
-use Rattle.aig_circuit.specs.Runs.{IsRun, IsStart}
+use Rattle.aig_circuit.specs.Runs.{IsRun, IsInitial}
 use Rattle.aig_circuit.specs.Tree.{node_value, tree_of}
 use Rattle.aig_change.specs.Merge.{merged}
 use Rattle.aig_change.specs.Changes.{CompressesBads, GatesStarts, MovesConstraints, held_latch}
-use Rattle.aig_change.specs.Runs.{IsRunFromStart}
+use Rattle.aig_change.specs.Runs.{IsRunFromInitial}
 use Rattle.aig_change.specs.Inits.{SaysStart}
 
 abbrev node : ℕ → AigNodeType → AigNode
@@ -113,10 +113,10 @@ not_present_alone m =
     let held = (says.0 refl).1 0 (omega arith) 0 (edge_to 1 false) (omega arith) in
     false≢true held
   where
-    from_start : IsRunFromStart present_alone 1 fails_once
+    from_start : IsRunFromInitial present_alone 1 fails_once
     from_start = record { run = runs; start = starts }
       where
-        starts : IsStart present_alone (fails_once 0)
+        starts : IsInitial present_alone (fails_once 0)
         starts zero d h = refl
         starts (suc k) d h = absurd (omega arith)
 

@@ -13,17 +13,17 @@ use Rattle.std.specs.List.{AllZip}
 use Rattle.aig_circuit.specs.declared.node.AigNode.{AigNode}
 use Rattle.aig_change.specs.Joining.{JoinsInSteps}
 use Rattle.aig_change.specs.Inits.{SayInSteps, SaysStart, variable_latchs}
-use Rattle.aig_change.specs.Runs.{AreOldRuns, ConstraintsHoldUpTo, IsAllowedRun, IsRunFromStart}
+use Rattle.aig_change.specs.Runs.{AreOldRuns, ConstraintsHoldUpTo, IsAllowedRun, IsRunFromInitial}
 
--- On every run from a start the first edge holds at a step exactly where the old one holds there and every old constraint holds at each
+-- On every run from an initial state the first edge holds at a step exactly where the old one holds there and every old constraint holds at each
 -- step up to it. The other edges stay.
 pub record JoinsConstraints (old new : Circuit) (edges joined : List AigEdge) : Type 0 where
   pub others : drop 1 joined ≡ drop 1 edges
   pub count : length joined ≡ length edges
-  pub first : (last : ℕ) (z : ℕ → ℕ → Bool) → IsRunFromStart new last z → (t : ℕ) (e f : AigEdge) → t ≤ last → slice_get edges 0 ≡ Some e → slice_get joined 0 ≡ Some f →
+  pub first : (last : ℕ) (z : ℕ → ℕ → Bool) → IsRunFromInitial new last z → (t : ℕ) (e f : AigEdge) → t ≤ last → slice_get edges 0 ≡ Some e → slice_get joined 0 ≡ Some f →
       IsTrue (edge_value new.nodes (z t) f) ↔ (IsTrue (edge_value old.nodes (z t) e) × ConstraintsHoldUpTo old t z)
 
--- the latch that is true at a start, with this next edge
+-- the latch that is true in an initial state, with this next edge
 abbrev pub held_latch : ℕ → AigEdge → AigLatch
 held_latch leaf next = record { input = leaf; next = next; init = Some (edge_to 0 true) }
 
@@ -38,7 +38,7 @@ pub record MovesConstraints (old new : Circuit) : Type 0 where
   pub outputs : JoinsConstraints old new old.outputs new.outputs
   -- inputs, names, justice and fairness stay
   pub rest : new ≡ record old { nodes = new.nodes; latchs = new.latchs; outputs = new.outputs; bads = new.bads; constraints = new.constraints }
-  pub runs : AreOldRuns old new (IsRunFromStart new) (IsRunFromStart old)
+  pub runs : AreOldRuns old new (IsRunFromInitial new) (IsRunFromInitial old)
 
 -- The one bad edge is the or of the old ones, joined by the rule of `new_ors_node`.
 pub record CompressesBads (old new : Circuit) : Type 0 where

@@ -4,7 +4,7 @@ use Rattle.std.specs.Prelude.{◌≡◌, ℕ, ◌+◌, ◌-◌, ◌==◌, ◌↔
 use Rattle.aig_circuit.specs.declared.edge.AigEdge.{AigEdge}
 use Rattle.aig_circuit.specs.declared.node.AigNode.{AigNode}
 use Rattle.aig_circuit.specs.Circuit.{Circuit, IsInRange, IsLeaf}
-use Rattle.aig_circuit.specs.Runs.{HaveSameValues, IsRun, IsStart}
+use Rattle.aig_circuit.specs.Runs.{HaveSameValues, IsRun, IsInitial}
 use Rattle.aig_circuit.specs.Renumber.{nodes_in_order, renumbered_edge, renumbered_latch}
 
 -- the number that node n gets behind so many nodes: 0 stays 0, and the others follow on
@@ -32,11 +32,11 @@ merged first second =
       names = first.names;
     }
 
--- A run of the joint circuit is a pair of runs, one of each circuit, and a start a pair of starts. Node n of the first circuit is node n
+-- A run of the joint circuit is a pair of runs, one of each circuit, and an initial state a pair of initial states. Node n of the first circuit is node n
 -- of the joint one, and node n of the second is `number n`. Every pair is met, and every edge keeps its value.
 pub record PairsRuns (first second joint : Circuit) (number : ℕ → ℕ) : Type 0 where
   pub runs : (last : ℕ) (z : ℕ → ℕ → Bool) → IsRun joint last z ↔ (IsRun first last z × IsRun second last (λ t n. z t (number n)))
-  pub starts : (z : ℕ → Bool) → IsStart joint z ↔ (IsStart first z × IsStart second (λ n. z (number n)))
+  pub starts : (z : ℕ → Bool) → IsInitial joint z ↔ (IsInitial first z × IsInitial second (λ n. z (number n)))
   pub each : (x y : ℕ → Bool) → (z : ℕ → Bool) × ((n : ℕ) → IsLeaf first.nodes n → z n ≡ x n) × ((n : ℕ) → IsLeaf second.nodes n → z (number n) ≡ y n)
   pub first_values : (z : ℕ → Bool) (es : List AigEdge) → All (IsInRange first.nodes) es → HaveSameValues first.nodes z es joint.nodes z es
   pub second_values : (z : ℕ → Bool) (es : List AigEdge) → HaveSameValues second.nodes (λ n. z (number n)) es joint.nodes z (map (renumbered_edge number) es)

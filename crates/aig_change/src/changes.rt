@@ -41,7 +41,7 @@ pub fn merge(first: &mut CircuitLists, other: &CircuitView<'_>) -> Result<(), Me
 }
 
 /// Returns the circuit with its constraints joined to the first bad and the first output edge, and none left (crate aig,
-/// `aig_move`). A latch is added that is true at a start and stays so while all constraints hold. The one error is
+/// `aig_move`). A latch is added that is true in an initial state and stays so while all constraints hold. The one error is
 /// refused memory.
 pub fn aig_move(circuit: &CircuitView<'_>) -> Result<CircuitLists, MemoryError>
     ensures circuit { IfOk result (λ lists. IsCircuit (lists_circuit lists)) }
@@ -78,7 +78,7 @@ pub fn compress_property(lists: &mut CircuitLists) -> Result<Vec<AigEdge>, Memor
     Ok(mem::replace(&mut lists.bads, bads))
 }
 
-/// Says initial edges that aren't constant by constraints, with a latch more that is true at a start and false from then
+/// Says initial edges that aren't constant by constraints, with a latch more that is true in an initial state and false from then
 /// on (crate aig, `gate_init_to_constraint`). Where every initial edge is constant or none, nothing changes. After an
 /// `Err`, which is refused memory, the circuit is as it was.
 pub fn gate_init_to_constraint(lists: &mut CircuitLists) -> Result<(), MemoryError>

@@ -10,7 +10,7 @@ pub fn merging_is_circuit()
         → IsCircuit (merged first second) }
 {}
 
-/// Law: a run of two circuits merged is a pair of runs, and a start a pair of starts.
+/// Law: a run of two circuits merged is a pair of runs, and an initial state a pair of initial states.
 pub fn merging_pairs_runs()
     ensures { (first second : Circuit) → IsCircuit first → IsCircuit second
         → PairsRuns first second (merged first second) (shifted (length first.nodes)) }

@@ -8,7 +8,7 @@ use Rattle.std.specs.FinMap.{FinMap, get}
 use Rattle.aig_circuit.specs.declared.edge.AigEdge.{AigEdge}
 use Rattle.aig_circuit.specs.Circuit.{Circuit, IsLeaf, latch_leaves}
 use Rattle.aig_circuit.specs.Edges.{property_edges, initial_edges}
-use Rattle.aig_circuit.specs.Runs.{HaveSameProperties, HaveSameValues, IsRun, IsStart, next_edges}
+use Rattle.aig_circuit.specs.Runs.{HaveSameProperties, HaveSameValues, IsRun, IsInitial, next_edges}
 use Rattle.aig_circuit.specs.Renumber.{place_of, kept_circuit}
 use Rattle.aig_circuit.specs.Reach.{IsInCone}
 
@@ -49,11 +49,11 @@ abbrev pub cut_to : List ℕ → (ℕ → Bool) → ℕ → Bool
 cut_to kept x n = x (slice_index kept n)
 
 -- Every run of the old circuit, cut to the kept leaves, is a run of the new one, and each run of the new one is such a cut.
--- Starts are starts, and each property, next edge and initial edge keeps its value.
+-- Initial states are initial states, and each property, next edge and initial edge keeps its value.
 pub record CutsRuns (old new : Circuit) (kept : List ℕ) : Type 0 where
   pub cut : (last : ℕ) (x : ℕ → ℕ → Bool) → IsRun old last x → IsRun new last (λ t. cut_to kept (x t))
   pub each : (last : ℕ) (z : ℕ → ℕ → Bool) → IsRun new last z → (x : ℕ → ℕ → Bool) × IsRun old last x × ((t n : ℕ) → IsLeaf new.nodes n → cut_to kept (x t) n ≡ z t n)
-  pub starts : (x : ℕ → Bool) → IsStart new (cut_to kept x) ↔ IsStart old x
+  pub starts : (x : ℕ → Bool) → IsInitial new (cut_to kept x) ↔ IsInitial old x
   pub properties : (x : ℕ → Bool) → HaveSameProperties old x new (cut_to kept x)
   pub next : (x : ℕ → Bool) → HaveSameValues old.nodes x (next_edges old.latchs) new.nodes (cut_to kept x) (next_edges new.latchs)
   pub initial : (x : ℕ → Bool) → HaveSameValues old.nodes x (initial_edges old.latchs) new.nodes (cut_to kept x) (initial_edges new.latchs)

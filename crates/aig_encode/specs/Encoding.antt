@@ -21,7 +21,7 @@ use Rattle.aig_encode.specs.declared.further.Query.{Query}
 abbrev pub IsEncoding : ℕ → Bool → File → Encoded → Type 0
 IsEncoding k optimize f e = Encodes f k optimize e.circuit e.unrolled e.clauses
 
--- the file is encoded, and the further clauses ask for a run from a start to a bad literal at step k
+-- the file is encoded, and the further clauses ask for a run from an initial state to a bad literal at step k
 abbrev pub IsQuery : ℕ → Bool → File → Query → Type 0
 IsQuery k optimize f q = IsEncoding k optimize f q.encoded × Asks f k q.encoded.circuit q.encoded.unrolled q.encoded.clauses q.extra
 

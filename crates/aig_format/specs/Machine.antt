@@ -27,6 +27,6 @@ pub record IsRun (f : File) (T : ℕ) (run : ℕ → ℕ → Bool) : Type 0 wher
 abbrev pub start_of : LatchLine → Option Bool
 start_of l = let r = unwrap_or l.reset 0 in if r == 0 then Some false else if r == 1 then Some true else None
 
--- a run is from a start
-abbrev pub IsStart : File → (ℕ → ℕ → Bool) → Type 0
-IsStart f run = AllByRecursion (λ l. IfSome (start_of l) (λ b. run 0 (l.literal / 2) ≡ b)) f.latches
+-- a run is from an initial state
+abbrev pub IsInitial : File → (ℕ → ℕ → Bool) → Type 0
+IsInitial f run = AllByRecursion (λ l. IfSome (start_of l) (λ b. run 0 (l.literal / 2) ≡ b)) f.latches

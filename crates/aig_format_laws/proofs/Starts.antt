@@ -1,4 +1,4 @@
--- The starts of a file's machine are the starts of its circuit.
+-- The initial states of a file's machine are those of its circuit.
 use Rattle.std.proofs.Common.{◌≡◌, ◌↔◌, ℕ, zero, suc, ◌/◌, ◌≤◌, Bool, true, false, cond, Option, Some, None, List, sym, ap, ◌∙◌, arith}
 use Rattle.std.specs.Prelude.{IfSome, nat_lt, unwrap_or, ◌==◌}
 use Rattle.std.specs.List.{AllByRecursion}
@@ -13,7 +13,7 @@ use Rattle.aig_circuit.specs.Edge.{edge_to, inverted_if}
 use Rattle.aig_circuit.specs.Node.{kind_at}
 use Rattle.aig_circuit.specs.Circuit.{IsLatch, IsLeaf}
 use Rattle.aig_circuit.specs.Tree.{edge_value}
-use Rattle.aig_circuit.specs.Runs.{IsStart}
+use Rattle.aig_circuit.specs.Runs.{IsInitial}
 use Rattle.aig_circuit.proofs.Trees.{node_value-false, node_value-leaf}
 use Rattle.aig_format.specs.File.{File, LatchLine}
 use Rattle.aig_format.specs.Fits.{Fits}
@@ -54,7 +54,7 @@ module _ (nodes : List AigNode) (x : ℕ → Bool) (zero_false : kind_at nodes 0
       let large : nat_lt (suc (suc r)) 2 ≡ false = grind (arith, nat_tests) in
       none_says (suc (suc r) == 0) (suc (suc r) == 1) (nat_lt (suc (suc r)) 2) (suc (suc r) == 1) (ne_eqb (suc (suc r)) 0 (λ e. absurd (omega arith))) (ne_eqb (suc (suc r)) 1 (λ e. absurd (omega arith))) large
 
-pub starts_agree : (f : File) (limit last : ℕ) (x run : ℕ → ℕ → Bool) → Fits f limit → HasNodeValues f last x run → machine.IsStart f run ↔ IsStart (circuit_of f) (x 0)
+pub starts_agree : (f : File) (limit last : ℕ) (x run : ℕ → ℕ → Bool) → Fits f limit → HasNodeValues f last x run → machine.IsInitial f run ↔ IsInitial (circuit_of f) (x 0)
 starts_agree f limit last x run fits same = (forth, back)
   where
     c_nodes : List AigNode
@@ -81,11 +81,11 @@ starts_agree f limit last x run fits same = (forth, back)
         by_reset (circuit_of f).nodes (x 0) (IsCircuit-of_file f limit fits).nodes.false_first (run 0 (l.literal / 2)) (x 0 (number_of f (l.literal / 2)))
         (sym (same 0 (l.literal / 2) none k.0) ∙ node_value-leaf (circuit_of f).nodes (x 0) (number_of f (l.literal / 2)) k.1) (unwrap_or l.reset 0)
 
-    forth : machine.IsStart f run → IsStart (circuit_of f) (x 0)
+    forth : machine.IsInitial f run → IsInitial (circuit_of f) (x 0)
     forth start = All-from_recursion Begins (circuit_of f).latchs ((rec_map Begins (latch_of f) f.latches).1
         (rec_weaker (λ (l : LatchLine). Known l × Starts l) (λ (l : LatchLine). Begins (latch_of f l)) (λ l p. (each l p.0).0 p.1) f.latches (rec_both Known Starts f.latches known start)))
 
-    back : IsStart (circuit_of f) (x 0) → machine.IsStart f run
+    back : IsInitial (circuit_of f) (x 0) → machine.IsInitial f run
     back start =
         let begins = rec_unmap Begins (latch_of f) f.latches (recursion_from_All Begins (circuit_of f).latchs start) in
         rec_weaker (λ (l : LatchLine). Known l × Begins (latch_of f l)) Starts (λ l p. (each l p.0).1 p.1) f.latches (rec_both Known (λ (l : LatchLine). Begins (latch_of f l)) f.latches known begins)

@@ -3,7 +3,7 @@
 ghost use Rattle.std.specs.Prelude.{◌≡◌, ◌≤◌, ◌^◌, ◌↔◌, ℕ, Bool, List, length};
 ghost use Rattle.std.specs.List.{AllByRecursion};
 ghost use Rattle.aig_circuit.specs.Circuit.{IsCircuit, IsClosed};
-ghost use Rattle.aig_circuit.specs.Runs.{IsRun, IsStart};
+ghost use Rattle.aig_circuit.specs.Runs.{IsRun, IsInitial};
 ghost use Rattle.aig_circuit.specs.Tree.{edge_value};
 ghost use Rattle.aig_format.specs.File.{File, used};
 ghost use Rattle.aig_format.specs.Fits.{Accepts, Fits};
@@ -28,7 +28,7 @@ pub fn files_are_circuits()
 {}
 
 /// Law: each run of the machine has leaf values that are a run of the circuit, whose nodes have the variables' values; the
-/// values that each run of the circuit gives the nodes of the variables are a run of the machine; starts are starts; and a
+/// values that each run of the circuit gives the nodes of the variables are a run of the machine; initial states are initial states; and a
 /// literal has the value of its edge.
 pub fn joins_runs()
     ensures forth { (f : File) (limit last : ℕ) (run : ℕ → ℕ → Bool)
@@ -39,7 +39,7 @@ pub fn joins_runs()
         → machine.IsRun f last (values_over f x) }
     ensures starts { (f : File) (limit last : ℕ) (x run : ℕ → ℕ → Bool)
         → Fits f limit → HasNodeValues f last x run
-        → machine.IsStart f run ↔ IsStart (circuit_of f) (x 0) }
+        → machine.IsInitial f run ↔ IsInitial (circuit_of f) (x 0) }
     ensures literals { (f : File) (last : ℕ) (x run : ℕ → ℕ → Bool) → HasNodeValues f last x run
         → (t e : ℕ) → t ≤ last → IsKnown f e
         → edge_value (circuit_of f).nodes (x t) (edge_of f e) ≡ literal_value (run t) e }

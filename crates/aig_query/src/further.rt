@@ -62,7 +62,7 @@ fn push_any(alloc: Global, extra: &mut LitVvec, edges: &[AigEdge]) -> Result<(),
     extra.push(&clause)
 }
 
-/// Returns the clauses that ask for a run from a start of the circuit on which every constraint holds at each of the steps 0
+/// Returns the clauses that ask for a run from an initial state of the circuit on which every constraint holds at each of the steps 0
 /// to `k` and some bad edge at step `k`, over the nodes of the circuit unrolled by `k` steps.
 ///
 /// They are, in order: for each latch with an initial edge that its leaf has that edge's value, in one clause where the edge

@@ -6,7 +6,7 @@ use Rattle.std.proofs.lemmas.List.Elements.{All-from_recursion, recursion_from_A
 use Rattle.aig_circuit.specs.declared.edge.AigEdge.{AigEdge}
 use Rattle.aig_circuit.specs.declared.node.AigNode.{AigNode}
 use Rattle.aig_circuit.specs.Circuit.{Circuit, IsCircuit}
-use Rattle.aig_circuit.specs.Runs.{AgreeOnLeaves, HaveSameProperties, HaveSameValues, IsRun, IsStart}
+use Rattle.aig_circuit.specs.Runs.{AgreeOnLeaves, HaveSameProperties, HaveSameValues, IsRun, IsInitial}
 use Rattle.aig_circuit.specs.Tree.{edge_value}
 use Rattle.aig_circuit.proofs.Values.{edge_value_by_leaves}
 use Rattle.aig_runs.specs.CircuitQueries.{IsCircuitWitness}
@@ -48,7 +48,7 @@ module _ (xs ys : List AigNode) (x y : ℕ → Bool) where
 -- ---- witnesses
 
 module _ (c d : Circuit) (k : ℕ) (x y : ℕ → ℕ → Bool) (properties : (t : ℕ) → HaveSameProperties c (x t) d (y t)) where
-  pub witness_forth : IsRun d k y → IsStart d (y 0) → IsCircuitWitness c k x → IsCircuitWitness d k y
+  pub witness_forth : IsRun d k y → IsInitial d (y 0) → IsCircuitWitness c k x → IsCircuitWitness d k y
   witness_forth is start w = record {
     is_run = is;
     start = start;
@@ -56,7 +56,7 @@ module _ (c d : Circuit) (k : ℕ) (x y : ℕ → ℕ → Bool) (properties : (t
     bad = sym (any_same c.nodes d.nodes (x k) (y k) c.bads d.bads (properties k).bads) ∙ w.bad;
   }
 
-  pub witness_back : IsRun c k x → IsStart c (x 0) → IsCircuitWitness d k y → IsCircuitWitness c k x
+  pub witness_back : IsRun c k x → IsInitial c (x 0) → IsCircuitWitness d k y → IsCircuitWitness c k x
   witness_back is start w = record {
     is_run = is;
     start = start;

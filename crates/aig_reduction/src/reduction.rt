@@ -11,7 +11,7 @@ use aig_base::MemoryError;
 /// constraints, the latches and the initial edges that aren't constant reach (`coi_refine`), and lets gates share one node
 /// where their trees are equal (`strash`).
 ///
-/// At each step the result has a run from a start that meets the constraints and some bad edge exactly where the circuit
+/// At each step the result has a run from an initial state that meets the constraints and some bad edge exactly where the circuit
 /// has one. Names stay at the nodes that stay. Asks `fits_lits`.
 pub fn reduced(mut circuit: Aig) -> Result<Aig, MemoryError>
     requires { length circuit.nodes ≤ 2 ^ 31 }

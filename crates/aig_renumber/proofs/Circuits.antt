@@ -11,7 +11,7 @@ use Rattle.aig_circuit.specs.declared.node.AigLatch.{AigLatch}
 use Rattle.aig_circuit.specs.Tree.{edge_value}
 use Rattle.aig_circuit.specs.Circuit.{Circuit, IsCircuit, IsClosed, IsInRange, IsLatch, IsLeaf, latch_leaves}
 use Rattle.aig_circuit.specs.Edges.{initial_edges}
-use Rattle.aig_circuit.specs.Runs.{AreAsLong, HaveSameProperties, HaveSameValues, IsRun, IsStart, KeepsRuns, next_edges}
+use Rattle.aig_circuit.specs.Runs.{AreAsLong, HaveSameProperties, HaveSameValues, IsRun, IsInitial, KeepsRuns, next_edges}
 use Rattle.aig_circuit.specs.Renumber.{nodes_in_order, renumbered_circuit, renumbered_edge, renumbered_latch}
 use Rattle.aig_circuit.proofs.Trees.{kind_at-within}
 use Rattle.aig_renumber.specs.Numbers.{IsEdgeIn, IsLatchIn, SpeaksOf}
@@ -158,7 +158,7 @@ module _ (c : Circuit) (S : ℕ → Type 0) (ns : List ℕ) (number : ℕ → �
         run t h k d l ∙ sym (value (z t) (get_or c.latchs k d).next (speaks.latchs k d l).next)),
   )
 
-  pub starts-renumbered : (z : ℕ → Bool) → IsStart (renumbered_circuit number ns c) z ↔ IsStart c (λ n. z (number n))
+  pub starts-renumbered : (z : ℕ → Bool) → IsInitial (renumbered_circuit number ns c) z ↔ IsInitial c (λ n. z (number n))
   starts-renumbered z = (
     λ start k d l.
         let latch = get_or c.latchs k d in

@@ -17,7 +17,7 @@ pub fn reencoding_is_placed()
     ensures { (c : Circuit) → IsCircuit c → IsClosed c → IsReencoded (reencoded c) }
 {}
 
-/// Law: the re-encoded circuit has the runs, starts and values of the old one, under the new numbers.
+/// Law: the re-encoded circuit has the runs, initial states and values of the old one, under the new numbers.
 pub fn reencoding_keeps_runs()
     ensures { (c : Circuit) → IsCircuit c → IsClosed c → KeepsRuns c (reencoded c) (new_number c) }
 {}

@@ -9,7 +9,7 @@ use Rattle.aig_circuit.specs.declared.edge.AigEdge.{AigEdge}
 use Rattle.aig_circuit.specs.Circuit.{Circuit, IsCircuit}
 use Rattle.aig_circuit.specs.Edge.{lit_of}
 use Rattle.aig_circuit.specs.Edges.{initial_edges}
-use Rattle.aig_circuit.specs.Runs.{IsRun, IsStart}
+use Rattle.aig_circuit.specs.Runs.{IsRun, IsInitial}
 use Rattle.aig_circuit.specs.Tree.{edge_value}
 use Rattle.aig_circuit.proofs.Trees.{node_value-false}
 use Rattle.aig_cnf.specs.Cnf.{FixesRoots, IsFixed, NodeValuesSatisfy, edge_in}
@@ -42,7 +42,7 @@ module _ (c u : Circuit) (k : ℕ) (lists : List (List (List Lit))) (unrolls : U
     shows : ShowsSteps c u k (edge_in v) x
     shows = shown c u k lists v x fixes holds (unrolls.same v x is_run reads)
 
-    starts_are : AllByRecursion (Holds v) starts ↔ IsStart c (x 0)
+    starts_are : AllByRecursion (Holds v) starts ↔ IsInitial c (x 0)
     starts_are =
         let zero = node_value-false u.nodes v 0 unrolls.keeps.nodes.sound.false_first in
         let IsSame = λ (e : AigEdge). edge_in v e ≡ edge_value u.nodes v e in

@@ -1,4 +1,4 @@
--- The clauses of initial edges hold exactly where the leaf values are a start.
+-- The clauses of initial edges hold exactly where the leaf values are an initial state.
 use Rattle.std.proofs.Common.{◌≡◌, ◌↔◌, ℕ, Bool, true, false, cond, not, ◌||◌, Option, Some, None, List, [], ◌∷◌, ◌++◌, IsTrue, refl, ap, ◌∙◌}
 use Rattle.std.specs.Prelude.{IfSome, option_to_list, ◌==◌}
 use Rattle.std.specs.List.{AllByRecursion, flat_map}
@@ -13,7 +13,7 @@ use Rattle.aig_circuit.specs.declared.node.AigNode.{AigNode}
 use Rattle.aig_circuit.specs.Circuit.{Circuit, latch_leaves}
 use Rattle.aig_circuit.specs.Edge.{edge_to, inverse, inverted_if, lit_of}
 use Rattle.aig_circuit.specs.Edges.{initial_edges}
-use Rattle.aig_circuit.specs.Runs.{IsStart}
+use Rattle.aig_circuit.specs.Runs.{IsInitial}
 use Rattle.aig_circuit.specs.Tree.{edge_value, node_value}
 use Rattle.aig_cnf.specs.Cnf.{edge_in}
 use Rattle.aig_cnf.proofs.Forms.{literal_value-lit_of}
@@ -98,9 +98,9 @@ module _ (nodes : List AigNode) (v : ℕ → Bool) (zero : node_value nodes v 0 
       let rest = all_say ls same.1 in
       (λ h. let p = both.0 h in (one.0 p.0, rest.0 p.1), λ h. both.1 (one.1 h.0, rest.1 h.1))
 
--- the clauses hold exactly where the leaf values are a start
+-- the clauses hold exactly where the leaf values are an initial state
 pub starts_say : (c : Circuit) (v : ℕ → Bool) → node_value c.nodes v 0 ≡ false → AllByRecursion (λ e. edge_in v e ≡ edge_value c.nodes v e) (initial_edges c.latchs)
-    → AllByRecursion (Holds v) (flat_map start_clauses c.latchs) ↔ IsStart c v
+    → AllByRecursion (Holds v) (flat_map start_clauses c.latchs) ↔ IsInitial c v
 starts_say c v zero same =
     let Is = λ (l : AigLatch). Starts c.nodes v zero l.input l.init in
     let say = all_say c.nodes v zero c.latchs ((rec_flat_map (IsSame c.nodes v zero) (λ (l : AigLatch). option_to_list l.init) c.latchs).0 same) in

@@ -1,19 +1,19 @@
 -- Part of what is promised.
--- What a query asks of a circuit: a run from a start on which every constraint holds and, at the last step, some bad edge. (AIGER 1.9,
+-- What a query asks of a circuit: a run from an initial state on which every constraint holds and, at the last step, some bad edge. (AIGER 1.9,
 -- "Properties" and "Reset logic"; bounded model checking.)
 use Rattle.std.specs.Prelude.{◌≡◌, ℕ, ◌≤◌, ◌↔◌, Bool, IsTrue, List, All}
 use Rattle.std.specs.List.{list_any}
 use Rattle.aig_base.specs.declared.logic.literal.Lit.{Lit}
 use Rattle.aig_circuit.specs.Circuit.{Circuit}
-use Rattle.aig_circuit.specs.Runs.{IsRun, IsStart}
+use Rattle.aig_circuit.specs.Runs.{IsRun, IsInitial}
 use Rattle.aig_circuit.specs.Tree.{edge_value}
 use Rattle.aig_unroll.specs.Places.{Reads}
 use Rattle.aig_runs.specs.Queries.{SatisfiesBoth, query_clauses}
 
--- a run from a start, whose initial edges may be any, with every constraint at the steps 0 to k, and some bad edge at step k
+-- a run from an initial state, whose initial edges may be any, with every constraint at the steps 0 to k, and some bad edge at step k
 pub record IsCircuitWitness (c : Circuit) (k : ℕ) (run : ℕ → ℕ → Bool) : Type 0 where
   pub is_run : IsRun c k run
-  pub start : IsStart c (run 0)
+  pub start : IsInitial c (run 0)
   pub constraints : (t : ℕ) → t ≤ k → All (λ e. IsTrue (edge_value c.nodes (run t) e)) c.constraints
   pub bad : IsTrue (list_any (edge_value c.nodes (run k)) c.bads)
 

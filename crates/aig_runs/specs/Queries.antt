@@ -1,5 +1,5 @@
 -- Part of what is promised.
--- What a query asks: a run from a start on which every constraint holds and, at the last step, some bad literal. (AIGER 1.9, "Properties";
+-- What a query asks: a run from an initial state on which every constraint holds and, at the last step, some bad literal. (AIGER 1.9, "Properties";
 -- bounded model checking.)
 use Rattle.std.specs.Prelude.{◌≡◌, ℕ, ◌*◌, ◌==◌, ◌≤◌, ◌↔◌, if◌then◌else◌, Bool, true, false, Option, Some, None, IsTrue, List, [], ◌∷◌, ◌++◌, length, map, drop}
 use Rattle.std.specs.List.{AllByRecursion, flat_map, list_any}
@@ -10,13 +10,13 @@ use Rattle.aig_circuit.specs.declared.node.AigLatch.{AigLatch}
 use Rattle.aig_circuit.specs.Edge.{inverse, lit_of}
 use Rattle.aig_circuit.specs.Circuit.{Circuit}
 use Rattle.aig_format.specs.File.{File}
-use Rattle.aig_format.specs.Machine.{literal_value, IsRun, IsStart}
+use Rattle.aig_format.specs.Machine.{literal_value, IsRun, IsInitial}
 use Rattle.aig_runs.specs.Files.{HasLeafValues}
 
--- a run from a start with every constraint at the steps 0 to k, and some bad literal at step k
+-- a run from an initial state with every constraint at the steps 0 to k, and some bad literal at step k
 pub record IsWitness (f : File) (k : ℕ) (run : ℕ → ℕ → Bool) : Type 0 where
   pub is_run : IsRun f k run
-  pub start : IsStart f run
+  pub start : IsInitial f run
   pub constraints : (t : ℕ) → t ≤ k → AllByRecursion (λ e. IsTrue (literal_value (run t) e)) f.constraints
   pub bad : IsTrue (list_any (literal_value (run k)) f.bads)
 
@@ -69,9 +69,9 @@ pub record Asks (f : File) (k : ℕ) (circuit unrolled : Circuit) (clauses : Lis
 abbrev pub IsRefuted : List (List (List Lit)) → List (List Lit) → Type 0
 IsRefuted clauses further = ¬ ((v : ℕ → Bool) × SatisfiesBoth v clauses further)
 
--- On every run from a start, each bad literal is false at each step up to n at which, and before which, every constraint holds.
+-- On every run from an initial state, each bad literal is false at each step up to n at which, and before which, every constraint holds.
 abbrev pub IsSafeTo : File → ℕ → Type 0
 IsSafeTo f n =
-    (last t : ℕ) (run : ℕ → ℕ → Bool) → IsRun f last run → IsStart f run → t ≤ last → t ≤ n
+    (last t : ℕ) (run : ℕ → ℕ → Bool) → IsRun f last run → IsInitial f run → t ≤ last → t ≤ n
     → ((s : ℕ) → s ≤ t → AllByRecursion (λ e. IsTrue (literal_value (run s) e)) f.constraints)
     → AllByRecursion (λ e. literal_value (run t) e ≡ false) f.bads

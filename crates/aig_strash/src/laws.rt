@@ -27,7 +27,7 @@ pub fn strashing_merges_trees()
     ensures { (c : Circuit) → IsCircuit c → MergesTrees c (strashed c) (image_of c.nodes) }
 {}
 
-/// Law: the strashed circuit has the runs, starts and values of the old one.
+/// Law: the strashed circuit has the runs, initial states and values of the old one.
 pub fn strashing_keeps_runs()
     ensures { (c : Circuit) → IsCircuit c → KeepsRuns c (strashed c) (image_of c.nodes) }
 {}

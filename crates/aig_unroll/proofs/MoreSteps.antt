@@ -11,7 +11,7 @@ use Rattle.aig_circuit.specs.declared.node.AigNodeType.TheVariants.{Leaf}
 use Rattle.aig_circuit.specs.Tree.{edge_value}
 use Rattle.aig_circuit.specs.Renumber.{place_of}
 use Rattle.aig_circuit.specs.Circuit.{Circuit, IsCircuit, IsInRange, IsLeaf, latch_leaves}
-use Rattle.aig_circuit.specs.Runs.{AgreeOnLeaves, IsRun, IsStart}
+use Rattle.aig_circuit.specs.Runs.{AgreeOnLeaves, IsRun, IsInitial}
 use Rattle.aig_circuit.proofs.Building.{Grows-kept, Grows-longer, Grows-then, edge_value-Grows}
 use Rattle.aig_circuit.proofs.Trees.{kind_at-within}
 use Rattle.aig_renumber.proofs.Places.{place_of-get_or, place_of-within}
@@ -178,10 +178,10 @@ module _ (c old new : Circuit) (k : ℕ) (is : IsCircuit c) (is_old : IsCircuit 
       value : ℕ → AigEdge → Bool
       value t = edge_value c.nodes (x t)
 
-  -- ---- starts
+  -- ---- initial states
 
-  -- the values y are a start of the new circuit exactly if they are one of the old
-  start_kept : (y : ℕ → Bool) → IsStart new y ↔ IsStart old y
+  -- the values y are an initial state of the new circuit exactly if they are one of the old
+  start_kept : (y : ℕ → Bool) → IsInitial new y ↔ IsInitial old y
   start_kept y = (
     λ start j d h.
         let latch = get_or old.latchs j d in
@@ -198,8 +198,8 @@ module _ (c old new : Circuit) (k : ℕ) (is : IsCircuit c) (is_old : IsCircuit 
       moves xs ys n None same there h = tt
       moves xs ys n (Some e) same there h = sym (same e there) ∙ h
 
-  -- starts are those of the first step
-  pub starts_more : (y : ℕ → Bool) (x : ℕ → ℕ → Bool) → IsRun c (k + 1) x → Reads c new (k + 1) y x → IsStart new y ↔ IsStart c (x 0)
+  -- initial states are those of the first step
+  pub starts_more : (y : ℕ → Bool) (x : ℕ → ℕ → Bool) → IsRun c (k + 1) x → Reads c new (k + 1) y x → IsInitial new y ↔ IsInitial c (x 0)
   starts_more y x run reads =
       let early = to.starts y x (run_kept c old new k is to once x run) (reads_kept c old new k is to once y x reads) in
       let kept = start_kept y in

@@ -9,7 +9,7 @@ use Rattle.aig_circuit.specs.Node.{kind_at}
 use Rattle.aig_circuit.specs.Tree.{edge_value}
 use Rattle.aig_circuit.specs.Circuit.{Circuit, IsLeaf, latch_leaves}
 use Rattle.aig_circuit.specs.Build.{Grows}
-use Rattle.aig_circuit.specs.Runs.{AgreeOnLeaves, HaveSameValues, IsRun, IsStart, next_edges}
+use Rattle.aig_circuit.specs.Runs.{AgreeOnLeaves, HaveSameValues, IsRun, IsInitial, next_edges}
 use Rattle.aig_unroll.specs.Places.{Reads, leaves_behind, other_leaves, unrolled_size}
 
 -- the initial edges of the latches, in order
@@ -88,7 +88,7 @@ pub record UnrollsTo (c : Circuit) (k : ℕ) (unrolled : Circuit) : Type 0 where
   pub one_run : (y : ℕ → Bool) (x z : ℕ → ℕ → Bool) → IsRun c k x → IsRun c k z → Reads c unrolled k y x → Reads c unrolled k y z → AgreeOnLeaves c k x z
   pub one_value : (x : ℕ → ℕ → Bool) (y z : ℕ → Bool) → Reads c unrolled k y x → Reads c unrolled k z x → (n : ℕ) → IsLeaf unrolled.nodes n → y n ≡ z n
   pub same : (y : ℕ → Bool) (x : ℕ → ℕ → Bool) → IsRun c k x → Reads c unrolled k y x → ShowsSteps c unrolled k (edge_value unrolled.nodes y) x
-  pub starts : (y : ℕ → Bool) (x : ℕ → ℕ → Bool) → IsRun c k x → Reads c unrolled k y x → IsStart unrolled y ↔ IsStart c (x 0)
+  pub starts : (y : ℕ → Bool) (x : ℕ → ℕ → Bool) → IsRun c k x → Reads c unrolled k y x → IsInitial unrolled y ↔ IsInitial c (x 0)
   pub size : length unrolled.nodes ≤ unrolled_size c k
 
 -- the circuit d is c with so many steps added, one after another

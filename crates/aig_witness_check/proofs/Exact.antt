@@ -12,7 +12,7 @@ use Rattle.aig_circuit.specs.declared.node.AigLatch.{AigLatch}
 use Rattle.aig_circuit.specs.Edge.{edge_to}
 use Rattle.aig_circuit.specs.Tree.{edge_value}
 use Rattle.aig_circuit.specs.Circuit.{Circuit, IsCircuit, IsInRange, latch_leaves}
-use Rattle.aig_circuit.specs.Runs.{IsStart}
+use Rattle.aig_circuit.specs.Runs.{IsInitial}
 use Rattle.aig_format.specs.File.{File, LatchLine}
 use Rattle.aig_format.specs.Fits.{Fits}
 use Rattle.aig_format.specs.Machine.{literal_value}
@@ -85,7 +85,7 @@ module _ (f : File) (limit : ℕ) (w : Witness) (fits : Fits f limit) (given : I
   starts i d h =
       let latch = get_or c.latchs i d in
       let constant : All (λ (l : AigLatch). IfSome l.init (λ e. e.node_id ≡ 0)) c.latchs = All-map (λ (l : AigLatch). IfSome l.init (λ e. e.node_id ≡ 0)) (latch_of f) f.latches (λ j b lt. constant_init (get_or f.latches j b)) in
-      let start : IsStart c (x 0) = (starts_agree f limit last x run fits values).0 (shows.each run shows.there.1 shows.there.2).0.start in
+      let start : IsInitial c (x 0) = (starts_agree f limit last x run fits values).0 (shows.each run shows.there.1 shows.there.2).0.start in
       let zip = zip_unmade (λ (l : AigLatch). l.input) (λ n v. v ≡ known_of (x 0 n)) c.latchs w.state (known_zip (x 0) (latch_leaves c.latchs) w.state given.state filling.first) in
       known_start c is_circuit (x 0) latch.input (get_or w.state i NONE) latch.init (constant i d h) (start i d h) (zip_at (λ (l : AigLatch) v. v ≡ known_of (x 0 l.input)) c.latchs w.state i d NONE zip h)
 

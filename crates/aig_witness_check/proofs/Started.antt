@@ -10,7 +10,7 @@ use Rattle.aig_circuit.specs.declared.node.AigLatch.{AigLatch}
 use Rattle.aig_circuit.specs.Edge.{inverted_if}
 use Rattle.aig_circuit.specs.Tree.{edge_value, node_value}
 use Rattle.aig_circuit.specs.Circuit.{Circuit, IsCircuit, latch_leaves}
-use Rattle.aig_circuit.specs.Runs.{IsStart}
+use Rattle.aig_circuit.specs.Runs.{IsInitial}
 use Rattle.aig_circuit.proofs.Trees.{node_value-false}
 use Rattle.aig_unroll.proofs.Lists.{zip_at}
 use Rattle.aig_witness_check.specs.Shown.{AreStarts, known_of}
@@ -29,8 +29,8 @@ pub constant_edge : (c : Circuit) → IsCircuit c → (x : ℕ → Bool) (e : Ai
 constant_edge c circuit x e zero_node =
     ap (inverted_if e.compl) (ap (node_value c.nodes x) zero_node ∙ node_value-false c.nodes x 0 circuit.nodes.false_first) ∙ constant_value e.compl
 
--- starts that the state has are a start of what agrees with it
-pub starts_hold : (c : Circuit) (state : List Lbool) → IsCircuit c → AreStarts c.latchs state → (x : ℕ → Bool) → AllZip (λ n known. Agrees known (x n)) (latch_leaves c.latchs) state → IsStart c x
+-- starts that the state has are an initial state of what agrees with it
+pub starts_hold : (c : Circuit) (state : List Lbool) → IsCircuit c → AreStarts c.latchs state → (x : ℕ → Bool) → AllZip (λ n known. Agrees known (x n)) (latch_leaves c.latchs) state → IsInitial c x
 starts_hold c state circuit starts x given i d h =
     let latch = get_or c.latchs i d in
     let Is = λ (l : AigLatch) (known : Lbool). Agrees known (x l.input) in

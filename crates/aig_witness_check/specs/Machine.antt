@@ -15,7 +15,7 @@ pub record HasGiven (f : File) (w : Witness) (run : ℕ → ℕ → Bool) : Type
   pub state : AllZip (λ l known. Agrees known (run 0 (l.literal / 2))) f.latches w.state
   pub inputs : (t : ℕ) (line : List Lbool) → slice_get w.steps t ≡ Some line → AllZip (λ e known. Agrees known (run t (e / 2))) f.inputs line
 
--- The witness shows a bad state: there is a run with the values that are given, and each such run is from a start, meets every constraint,
+-- The witness shows a bad state: there is a run with the values that are given, and each such run is from an initial state, meets every constraint,
 -- and has the named bad literal at its last step.
 pub record ShowsBad (f : File) (w : Witness) : Type 0 where
   pub some : 0 < length w.steps

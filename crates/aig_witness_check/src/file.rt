@@ -88,7 +88,7 @@ fn read_first<W: Source>(alloc: Global, w: &mut W) -> Result<Witness, ShowError>
 }
 
 /// Reads a circuit from the bytes of an AIGER file, and the next witness of another stream, and checks that this shows a bad
-/// state of the file's machine: that every run with its values is from a start, meets each constraint at each step, and has
+/// state of the file's machine: that every run with its values is from an initial state, meets each constraint at each step, and has
 /// the bad literal that it names at its last step. Answers which bad state property that is, and at which step. Asks
 /// `1 <= limit <= 2^31`.
 ///
