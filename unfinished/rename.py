@@ -456,7 +456,7 @@ def g3(t):
 
 @group("4", "Levels follow operands; a gate in a cycle depends on itself")
 def g4(t):
-    law(t, "aig_format_laws", "numbering", "levels_stand_on_operands", "levels_follow_operands")
+    law(t, "aig_format_laws", "numbering", "levels_follow_operands", "levels_follow_operands")
     prose(t, [
         (r"doesn't stand on itself", "doesn't depend on itself"),
         (r"\bno gate stands on itself\b", "no gate depends on itself"),

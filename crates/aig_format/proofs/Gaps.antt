@@ -230,7 +230,7 @@ exchanged-refused limit fits = elim fits.rules [ inl compact ↦ omega (arith, c
 exchanged-levels : map (level_of exchanged) (0 ∷ 1 ∷ 2 ∷ []) ≡ Some 0 ∷ None ∷ None ∷ []
 exchanged-levels = refl
 
--- gate 2 stands on itself; gate 3 stands on it
+-- gate 2 depends on itself; gate 3 depends on it
 abbrev pub own : File
 own = file_with 3 (2 ∷ []) [] [] (gate 4 4 2 ∷ gate 6 4 4 ∷ [])
 

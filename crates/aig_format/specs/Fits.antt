@@ -45,7 +45,7 @@ pub record IsCompact (f : File) : Type 0 where
   pub ordered : AllByRecursion IsOrdered f.gates
 
 -- a well-founded text file: variables may be missing and gates stand in any order, but what is used is 0 or defined, and no gate
--- stands on itself
+-- depends on itself
 pub record IsWellFounded (f : File) : Type 0 where
   pub text : f.kind ≡ Text
   pub enough : length (defined f) ≤ f.greatest

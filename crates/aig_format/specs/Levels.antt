@@ -30,7 +30,7 @@ abbrev pub is_level : ℕ → Option ℕ → Bool
 is_level k (Some n) = n == k
 is_level k None = false
 
--- whether a gate has a level: it doesn't stand on itself
+-- whether a gate has a level: it doesn't depend on itself
 abbrev pub has_level : File → GateLine → Bool
 has_level f g = is_some (level_of f (g.lhs / 2))
 

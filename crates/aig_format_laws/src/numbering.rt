@@ -18,7 +18,7 @@ pub fn text_files_are_well_founded()
 
 /// Law: what no gate defines has level 0; the level of a gate's variable is one more than the greater level of its operands'
 /// variables, and it has none where one of these has none.
-pub fn levels_stand_on_operands()
+pub fn levels_follow_operands()
     ensures leaf { (f : File) (v : ℕ) → gate_of_variable f v ≡ None → level_of f v ≡ Some 0 }
     ensures gate { (f : File) (v : ℕ) (g : GateLine) → gate_of_variable f v ≡ Some g
         → level_of f v ≡ level_above (level_of f (g.rhs0 / 2)) (level_of f (g.rhs1 / 2)) }

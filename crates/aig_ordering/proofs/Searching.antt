@@ -111,7 +111,7 @@ module _ (f : File) (nodes : List AigNode) (are : AreNodesOf f nodes) where
           let old : get_or s.opened.items w false ≡ true = sym (get_or-set_other s.opened.items u w true false differs) ∙ ap (λ (ms : List Bool). get_or ms w false) (sym o.opened) ∙ is in
           elim (at.opened w old) [ inl has ↦ inl (found w has) | inr there ↦ inr (Contains-append_left (s.path.items ++ v ∷ []) (u ∷ []) w there) ]
 
-  -- a variable that is open already stands on itself
+  -- a variable that is open already depends on itself
   pub cycle : (s : Search) (v u : ℕ) → IsAt f s v → Descends f v u → get_or s.opened.items u false ≡ true → level_at s.levels.items u ≡ None → all_have_levels f ≡ false
   cycle s v u at down opened unknown = some_level_missing f u (λ k is. by_case k is (at.opened u opened))
     where

@@ -32,7 +32,7 @@ abbrev pub OnOrder : OrderError → Type 0 → Type 0
 OnOrder Memory P = Unit {0}
 OnOrder Variable P = P
 
--- no gate of the file stands on itself
+-- no gate of the file depends on itself
 abbrev pub all_have_levels : File → Bool
 all_have_levels f = list_all (has_level f) f.gates
 

@@ -10,7 +10,7 @@ use std::alloc::{AllocError, AllocFailed};
 pub enum OrderError {
     /// Memory ran out.
     Memory,
-    /// A variable has no number: nothing defines it, or its gate stands on itself.
+    /// A variable has no number: nothing defines it, or its gate depends on itself.
     Variable,
 }
 

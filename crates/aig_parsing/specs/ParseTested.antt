@@ -149,7 +149,7 @@ section_lines_at kind ns =
 abbrev pub uses_known : File → Bool
 uses_known f = list_all (λ e. is_known f (e / 2)) (used f)
 
--- in a text file no variable is missing and the gates are in order, or else what is used is 0 or defined and no gate stands on itself;
+-- in a text file no variable is missing and the gates are in order, or else what is used is 0 or defined and no gate depends on itself;
 -- a binary file is in order by its lines
 abbrev pub is_accepted_order : FileKind → File → Bool
 is_accepted_order Text f = is_compact f || (uses_known f && list_all (has_level f) f.gates)
