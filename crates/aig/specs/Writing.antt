@@ -1,5 +1,5 @@
 -- Part of what is promised.
--- What a writing call answers.
+-- What a writing call returns.
 use Rattle.std.specs.Prelude.{All, Any, Result, Ok, Err}
 use Rattle.aig_circuit.specs.Circuit.{Circuit, HasFreeLeaf, IsClosed}
 use Rattle.aig_format.specs.Writable.{HasLineFeed, IsSmall, IsWritable, named_nodes}

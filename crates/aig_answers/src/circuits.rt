@@ -39,7 +39,7 @@ pub struct CircuitQuery {
 /// edges of step `k`, which is empty where there are none.
 ///
 /// `TooLarge` is answered exactly where `n + k * (n - 1 - l)` passes the limit, for the `n` nodes and `l` latches of the
-/// circuit. Asks `limit <= 2^31`.
+/// circuit. Requires `limit <= 2^31`.
 pub fn query_of(
     alloc: Global,
     circuit: &Aig,
@@ -76,7 +76,7 @@ pub fn query_of(
 /// no run of the circuit from an initial state reaches a bad edge at that step.
 ///
 /// The clauses have the order and the variables of the DIMACS form: those of each node's variable, and the further ones
-/// behind them. A circuit without bad edges is refused before anything else, as nothing is asked of it. Asks
+/// behind them. A circuit without bad edges is refused before anything else, as nothing is asked of it. Requires
 /// `limit <= 2^31`.
 pub fn check_query_of<P: Source>(
     alloc: Global,

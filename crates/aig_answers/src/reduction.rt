@@ -16,7 +16,7 @@ use std::alloc::Global;
 
 /// Reads a circuit from the bytes of an AIGER file, reduces it to what a query needs (`reduced`), and checks a proof, in the
 /// LRAT or the DRAT format, that the clauses of the reduced circuit's query for step `k` can't be satisfied: then no run of
-/// the file's machine from an initial state reaches a bad state at that step. Asks `1 <= limit <= 2^31`.
+/// the file's machine from an initial state reaches a bad state at that step. Requires `1 <= limit <= 2^31`.
 ///
 /// The clauses are those of `query_of` of the reduced circuit, and `TooLarge` is answered exactly where that circuit with its
 /// further steps passes the limit by the bound that `query_of` names. A file without bad state properties is refused, as

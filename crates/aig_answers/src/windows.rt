@@ -141,7 +141,7 @@ fn ask_window(
 ///
 /// `AnswerError::TooLarge` is answered, before any step, exactly where in the distinct form
 /// `n + (k + 1) * (n - 1 - l) + (k + 1) * (k + 2) / 2 * l` passes the limit, for the `n` nodes and `l` latches of the
-/// circuit, and the bound of its further steps, without the last summand, doesn't. Asks `1 <= limit <= 2^31`.
+/// circuit, and the bound of its further steps, without the last summand, doesn't. Requires `1 <= limit <= 2^31`.
 pub fn window<R: Source>(
     alloc: Global,
     r: &mut R,

@@ -16,7 +16,7 @@ use crate::node::{AigNode, gate_node, leaf_node};
 use aig_base::MemoryError;
 use std::alloc::Global;
 
-/// Adds a leaf, and answers its number (crate aig, `new_leaf_node`).
+/// Adds a leaf, and returns its number (crate aig, `new_leaf_node`).
 pub fn new_leaf_node(nodes: &mut Vec<AigNode>) -> Result<usize, MemoryError>
     requires { AreNodes nodes.old.items }
     ensures number { IfOk result (λ id. id ≡ length nodes.old.items) }
@@ -29,7 +29,7 @@ pub fn new_leaf_node(nodes: &mut Vec<AigNode>) -> Result<usize, MemoryError>
     Ok(id)
 }
 
-/// Adds one gate, the and of two edges, with its operands put in order, and answers the edge to it (crate aig,
+/// Adds one gate, the and of two edges, with its operands put in order, and returns the edge to it (crate aig,
 /// `trivial_new_and_node`).
 pub fn trivial_new_and_node(
     nodes: &mut Vec<AigNode>,
@@ -91,7 +91,7 @@ pub fn new_and_node(
     trivial_new_and_node(nodes, fanin0, fanin1)
 }
 
-/// Adds one gate for the or of two edges, and answers the inverse of the edge to it: the gate is the and of their inverses
+/// Adds one gate for the or of two edges, and returns the inverse of the edge to it: the gate is the and of their inverses
 /// (crate aig, `trivial_new_or_node`).
 pub fn trivial_new_or_node(
     nodes: &mut Vec<AigNode>,

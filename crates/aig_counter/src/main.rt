@@ -31,7 +31,7 @@ fn close(aig: &mut Aig, place: usize, next: AigEdge)
     aig.set_next(place, next);
 }
 
-/// Adds a latch that starts with 0 and changes at the steps at which `flip` holds, and answers its edge.
+/// Adds a latch that starts with 0 and changes at the steps at which `flip` holds, and returns its edge.
 fn add_bit(aig: &mut Aig, flip: AigEdge, name: &str) -> Result<AigEdge, MemoryError>
     requires { IsInRange aig.old.nodes flip }
     ensures grows { length aig.old.nodes ≤ length aig.new.nodes }

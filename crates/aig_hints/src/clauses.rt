@@ -123,7 +123,7 @@ impl Clauses {
         self.words.len()
     }
 
-    /// Appends a clause, and answers its place. More than 2^32 words count as too much memory.
+    /// Appends a clause, and returns its place. More than 2^32 words count as too much memory.
     pub(crate) fn push(&mut self, number: u32, lits: &[Lit]) -> Result<u32, MemoryError> {
         let (Ok(place), Ok(len)) = (u32::try_from(self.words.len()), u32::try_from(lits.len()))
         else {

@@ -163,7 +163,7 @@ impl Search {
         Ok(conflict)
     }
 
-    /// Makes true what follows, up to a clause whose literals are all false, and answers its place.
+    /// Makes true what follows, up to a clause whose literals are all false, and returns its place.
     fn propagate(&mut self) -> Result<Option<u32>, MemoryError> {
         for _ in 0..self.units.len() {
             let Some(lit) = self.trail.take() else {
@@ -293,7 +293,7 @@ impl Search {
         }
     }
 
-    /// Removes a clause of these literals, if there is one, and answers its number. A clause of one
+    /// Removes a clause of these literals, if there is one, and returns its number. A clause of one
     /// literal stays, and so do all once they are in conflict.
     pub fn remove(&mut self, clause: &[Lit]) -> Result<Option<u32>, MemoryError> {
         self.marked.set(clause)?;

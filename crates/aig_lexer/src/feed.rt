@@ -49,7 +49,7 @@ pub struct Buffered<'a, R: Source> {
 }
 
 impl<'a, R: Source> Buffered<'a, R> {
-    /// Reads `source` from where it is, through `window`, whose bytes are overwritten. Asks that it has `WINDOW_SIZE` bytes.
+    /// Reads `source` from where it is, through `window`, whose bytes are overwritten. Requires that it has `WINDOW_SIZE` bytes.
     pub fn new(source: &'a mut R, window: &'a mut [u8]) -> Self
         requires { length window.old ≡ WINDOW_SIZE }
         ensures bytes { coming_of result.window.now result.at result.end (R.left result.source.now)

@@ -41,7 +41,7 @@ pub struct Header {
 /// Reads the header line: the kind's word, and five to nine numbers (AIGER format 20071012, "Header"; the numbers behind the
 /// first five are those of AIGER 1.9, and 0 where they are not written).
 ///
-/// Answers `Shape` where the bytes are no such line, or end in it, and `Stream` where a read failed.
+/// Returns `Shape` where the bytes are no such line, or end in it, and `Stream` where a read failed.
 pub fn header_line<F: ByteFeed>(f: &mut F) -> Result<Header, LexError>
     ensures exact { Gives OnShape (λ h. (h.kind, numbers_of h))
         (F.coming f.old) (F.coming f.new) result header_at }

@@ -27,7 +27,7 @@ pub(crate) fn expect<F: ByteFeed>(f: &mut F, byte: u8) -> Result<(), LexError>
 /// Reads on in a number whose first byte, which was read before, is `first`: its value, and the byte that ends it.
 ///
 /// A number is one or more decimal digits (AIGER format 20071012, "Header"); zeros may lead, and its value is below 2^32.
-/// Answers `Shape` where there is no such number, or the bytes end in it, and `Stream` where a read failed.
+/// Returns `Shape` where there is no such number, or the bytes end in it, and `Stream` where a read failed.
 pub fn number_from<F: ByteFeed>(f: &mut F, first: u8) -> Result<(u32, u8), LexError>
     ensures exact { Gives OnShape (λ x. (x.0, x.1))
         (F.coming f.old) (F.coming f.new) result (number_from_at first) }
@@ -67,7 +67,7 @@ pub(crate) fn number<F: ByteFeed>(f: &mut F) -> Result<(u32, u8), LexError>
 
 /// Reads a number that the byte `end` ends.
 ///
-/// Answers `Shape` where there is no such number, or another byte ends it, and `Stream` where a read failed.
+/// Returns `Shape` where there is no such number, or another byte ends it, and `Stream` where a read failed.
 pub fn ended<F: ByteFeed>(f: &mut F, end: u8) -> Result<u32, LexError>
     ensures exact { Gives OnShape (λ x. x) (F.coming f.old) (F.coming f.new) result (ended_at end) }
     ensures stream { IsErrOf result LexError.Stream → F.failed f.new ≡ true }
@@ -84,7 +84,7 @@ pub fn ended<F: ByteFeed>(f: &mut F, end: u8) -> Result<u32, LexError>
 /// Reads a line of two numbers, with one space between them, as an and gate's operands are written in a text file (AIGER
 /// format 20071012, "Input/Latch/Output/And section").
 ///
-/// Answers `Shape` where there is no such line, and `Stream` where a read failed.
+/// Returns `Shape` where there is no such line, and `Stream` where a read failed.
 pub fn pair<F: ByteFeed>(f: &mut F) -> Result<(u32, u32), LexError>
     ensures exact { Gives OnShape (λ x. (x.0, x.1))
         (F.coming f.old) (F.coming f.new) result pair_at }
@@ -100,7 +100,7 @@ pub fn pair<F: ByteFeed>(f: &mut F) -> Result<(u32, u32), LexError>
 /// Reads a latch's next literal, and its reset if one is written, up to the end of the line (AIGER format 20071012,
 /// "Input/Latch/Output/And section"; AIGER 1.9: "Reset logic").
 ///
-/// Answers `Shape` where there is no such line, and `Stream` where a read failed. Which resets a latch may have is not
+/// Returns `Shape` where there is no such line, and `Stream` where a read failed. Which resets a latch may have is not
 /// tested here.
 pub fn next_line<F: ByteFeed>(f: &mut F) -> Result<(u32, Option<u32>), LexError>
     ensures exact { Gives OnShape (λ x. (x.0, x.1))
@@ -126,7 +126,7 @@ const MOST_GROUPS: u32 = 5;
 /// Reads a difference of a binary file (AIGER format 20071012, "Binary encoding"): groups of seven bits, the lowest first; a
 /// byte whose top bit is clear ends it.
 ///
-/// A spelling need not be the shortest. Answers `Shape` where the difference has more than five bytes or is not below 2^32,
+/// A spelling need not be the shortest. Returns `Shape` where the difference has more than five bytes or is not below 2^32,
 /// or the bytes end in it, and `Stream` where a read failed.
 pub fn delta<F: ByteFeed>(f: &mut F) -> Result<u32, LexError>
     ensures exact { Gives OnShape (λ d. d) (F.coming f.old) (F.coming f.new) result delta_at }

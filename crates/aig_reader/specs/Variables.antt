@@ -1,5 +1,5 @@
 -- Serves private clauses alone.
--- The variables that are defined so far, and what a test of a literal answers.
+-- The variables that are defined so far, and what a test of a literal returns.
 use Rattle.std.specs.Prelude.{◌≡◌, ◌≢◌, ℕ, ◌+◌, ◌*◌, ◌/◌, ◌%◌, ◌<◌, ◌≤◌, ◌==◌, ◌⊎◌, Bool, true, false, List, length, nat_le, Result, Ok, Err}
 use Rattle.std.specs.List.{AllByRecursion, list_any}
 use Rattle.aig_format.specs.Fits.{IsDefinable}

@@ -88,7 +88,7 @@ fn read_name<F: ByteFeed>(
 /// inputs and latches have to be UTF-8 and are answered by their nodes: `inputs` has the nodes of the inputs, and the
 /// leaves of `latchs` are those of the latches, all of them different. Other names are read and not held.
 ///
-/// Answers `Shape` where the bytes are no such names and comment, `Stream` where a read failed, and `Memory` where a growth
+/// Returns `Shape` where the bytes are no such names and comment, `Stream` where a read failed, and `Memory` where a growth
 /// was refused.
 pub fn read_names<F: ByteFeed>(
     alloc: Global,

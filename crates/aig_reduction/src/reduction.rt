@@ -12,7 +12,7 @@ use aig_base::MemoryError;
 /// where their trees are equal (`strash`).
 ///
 /// At each step the result has a run from an initial state that meets the constraints and some bad edge exactly where the circuit
-/// has one. Names stay at the nodes that stay. Asks `fits_lits`.
+/// has one. Names stay at the nodes that stay. Requires `fits_lits`.
 pub fn reduced(mut circuit: Aig) -> Result<Aig, MemoryError>
     requires { length circuit.nodes ≤ 2 ^ 31 }
     ensures { IfOk result (IsReduced circuit) }

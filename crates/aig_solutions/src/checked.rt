@@ -57,7 +57,7 @@ fn copied_lists(alloc: Global, circuit: &Aig) -> Result<CircuitLists, MemoryErro
 }
 
 /// Reads a solver's answer to the clauses of a query, as `read_solution` does, and returns the witness that it says, which was
-/// checked: nothing of the answer is trusted. Asks that the query is of step `k`, which is below 2^32.
+/// checked: nothing of the answer is trusted. Requires that the query is of step `k`, which is below 2^32.
 ///
 /// # Errors
 ///

@@ -88,7 +88,7 @@ impl<'a> Places<'a> {
         })
     }
 
-    /// The node that stands for leaf `n`, which is no latch's, at step `t` of the circuit unrolled. Asks that it has the
+    /// The node that stands for leaf `n`, which is no latch's, at step `t` of the circuit unrolled. Requires that it has the
     /// inputs of that step.
     pub fn place(&self, unrolled: &Aig, t: usize, n: usize) -> usize
         requires leaf { Contains (other_leaves self.now) n }

@@ -98,7 +98,7 @@ fn first_true(edges: &[AigEdge], values: &[Lbool]) -> Option<u32>
 
 /// Returns the witness that values of the variables of a query's clauses say: the values of the latches' leaves, at each
 /// step those at the places of the inputs, and the first bad state property that is true at step `k`. A value is unknown
-/// where there is none for its variable. Asks that the query is of step `k`, which is below 2^32.
+/// where there is none for its variable. Requires that the query is of step `k`, which is below 2^32.
 ///
 /// Where the values are a solution of the query, the witness shows a bad state of the file's machine (`solutions_show`).
 ///

@@ -248,7 +248,7 @@ fn change(alloc: Global, aig: &mut Aig, step: Step<'_>) -> Result<(), StepError>
     }
 }
 
-/// Takes a step, and gives the edge that it answers, if it is one that adds gates.
+/// Takes a step, and gives the edge that it returns, if it is one that adds gates.
 pub fn take(alloc: Global, aig: &mut Aig, step: Step<'_>) -> Result<Option<AigEdge>, StepError> {
     let added = match step {
         Step::Gate(pair, a, b) => add_gate(aig, pair, edge(a), edge(b)),

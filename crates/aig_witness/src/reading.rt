@@ -142,7 +142,7 @@ fn read_behind<F: ByteFeed>(alloc: Global, f: &mut F, first: u8) -> Result<Witne
     read_parts(alloc, f)
 }
 
-/// Reads the next witness of a stream, behind comments, or answers none where only comments are left (AIGER 1.9, "Witness
+/// Reads the next witness of a stream, behind comments, or returns none where only comments are left (AIGER 1.9, "Witness
 /// format").
 ///
 /// A witness is the line `1`, a line `b` and the number of one bad state property, a line of a value for each latch, a line of

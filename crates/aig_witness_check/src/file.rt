@@ -89,7 +89,7 @@ fn read_first<W: Source>(alloc: Global, w: &mut W) -> Result<Witness, ShowError>
 
 /// Reads a circuit from the bytes of an AIGER file, and the next witness of another stream, and checks that this shows a bad
 /// state of the file's machine: that every run with its values is from an initial state, meets each constraint at each step, and has
-/// the bad literal that it names at its last step. Answers which bad state property that is, and at which step. Asks
+/// the bad literal that it names at its last step. Returns which bad state property that is, and at which step. Requires
 /// `1 <= limit <= 2^31`.
 ///
 /// An unknown value may be either. What follows the witness is not checked: for several witnesses of one file, read each by

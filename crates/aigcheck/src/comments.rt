@@ -149,7 +149,7 @@ fn buffer_comments<W: Sink>(
 }
 
 /// Writes the comments of a query for step `k`: a line for each input at each step, for each latch at step 0, and for each bad
-/// state property at step `k`, that says which literal of the clauses stands for it. Asks that the query is of step `k`, which
+/// state property at step `k`, that says which literal of the clauses stands for it. Requires that the query is of step `k`, which
 /// is below 2^32.
 pub(crate) fn write_comments<W: Sink>(
     w: &mut W,

@@ -138,7 +138,7 @@ fn write_shown<W: Sink>(w: &mut W, shown: Shown) -> Result<(), StreamFault>
     buffer.flush(w)
 }
 
-/// Prints the clauses that ask for a window of a file's machine. Asks that `k` is below 2^32.
+/// Prints the clauses that ask for a window of a file's machine. Requires that `k` is below 2^32.
 pub fn print_window<R: Source, W: Sink>(
     alloc: Global,
     k: usize,
@@ -172,7 +172,7 @@ pub fn print_refuted<R: Source, P: Source, W: Sink>(
     Ok(write_line(w, b"no bad state at step ", k)?)
 }
 
-/// Checks a proof that no window of `k + 2` steps has a bad state first at its end, and prints what that means. Asks that
+/// Checks a proof that no window of `k + 2` steps has a bad state first at its end, and prints what that means. Requires that
 /// `k` is below 2^32.
 pub fn print_inductive<R: Source, P: Source, W: Sink>(
     alloc: Global,
@@ -214,7 +214,7 @@ fn asked_query<R: Source>(
 }
 
 /// Prints the clauses of the query of a file for step `k`, as `write_dimacs` does, and before them comments that say which
-/// literals stand for its inputs at each step, its latches at step 0, and its bad state properties at step `k`. Asks that `k`
+/// literals stand for its inputs at each step, its latches at step 0, and its bad state properties at step `k`. Requires that `k`
 /// is below 2^32.
 pub fn print_clauses<R: Source, W: Sink>(
     alloc: Global,
@@ -233,7 +233,7 @@ pub fn print_clauses<R: Source, W: Sink>(
     Ok(write_dimacs(w, &asked.encoded.clauses, &asked.extra)?)
 }
 
-/// Reads a solver's answer to the query of a file for step `k`, and prints the witness that it says, which was checked. Asks
+/// Reads a solver's answer to the query of a file for step `k`, and prints the witness that it says, which was checked. Requires
 /// that `k` is below 2^32.
 pub fn print_witness<R: Source, P: Source, W: Sink>(
     alloc: Global,
