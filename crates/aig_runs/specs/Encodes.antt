@@ -15,7 +15,7 @@ pub record Encodes (f : File) (k : ℕ) (optimize : Bool) (circuit unrolled : Ci
   pub of_file : circuit ≡ circuit_of f
   -- leaf values of the unrolled circuit are, by their places, exactly the runs of k + 1 steps, and its entries are the circuit's at each step
   pub steps : UnrollsTo circuit k unrolled
-  -- each gate that is called for has the clauses of its form, and no other node has any
+  -- each gate that is needed has the clauses of its form, and no other node has any
   pub has_clauses : HasClauses unrolled optimize clauses
   -- each satisfying assignment gives each edge of a list its value under the assignment's leaf values, and node values under any satisfy
   pub fixes : FixesRoots unrolled clauses
