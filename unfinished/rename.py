@@ -513,7 +513,7 @@ def g7(t):
         (r"Initial edges that aren't constant are said by constraints", "Initial edges that aren't constant are replaced by constraints"),
         (r"each of these is said by a constraint", "each of these is replaced by a constraint"),
     ])
-    law(t, "aig_tests", "tests", "says_starts_by_constraints", "replaces_initial_values_by_constraints")
+    law(t, "aig_tests", "tests", "replaces_initial_values_by_constraints", "replaces_initial_values_by_constraints")
 
 
 @group("8", "What comes after is after, what is dropped is dropped")

@@ -62,7 +62,7 @@ with_constant_start latch = record latch { init = constant_start latch.init }
 abbrev pub first_step_latch : ℕ → AigLatch
 first_step_latch leaf = record { input = leaf; next = edge_to 0 false; init = Some (edge_to 0 true) }
 
--- Initial edges that aren't constant are said by constraints, with one latch more that is true in the first step alone.
+-- Initial edges that aren't constant are replaced by constraints, with one latch more that is true in the first step alone.
 pub record GatesStarts (old new : Circuit) : Type 0 where
   pub leaf : Option ℕ
   pub latchs : new.latchs ≡ map with_constant_start old.latchs ++ map first_step_latch (option_to_list leaf)

@@ -78,7 +78,7 @@ pub fn compress_property(lists: &mut CircuitLists) -> Result<Vec<AigEdge>, Memor
     Ok(mem::replace(&mut lists.bads, bads))
 }
 
-/// Says initial edges that aren't constant by constraints, with a latch more that is true in an initial state and false from then
+/// Replaces initial edges that aren't constant by constraints, with a latch more that is true in an initial state and false from then
 /// on (crate aig, `gate_init_to_constraint`). Where every initial edge is constant or none, nothing changes. After an
 /// `Err`, which is refused memory, the circuit is as it was.
 pub fn gate_init_to_constraint(lists: &mut CircuitLists) -> Result<(), MemoryError>

@@ -53,7 +53,7 @@ fn add_node(
 
 /// Encodes a circuit: returns the clauses of the gates that the properties, the next and the initial edges need, with one
 /// variable a node, numbered as the node is (Tseitin encoding; crate aig, `cnf`). Variable 0 is false. With `optimize` a
-/// gate that is an exclusive or or an if-then-else is said as such, and does not need the clauses of its inner gates.
+/// gate that is an exclusive or or an if-then-else is encoded as such, and does not need the clauses of its inner gates.
 /// Requires at most 2^31 nodes, so that each has a variable. The one error is refused memory.
 pub fn encode(
     alloc: Global,
