@@ -545,7 +545,7 @@ def g9(t):
     for old, new in [("latch_of", "latch_text"), ("gate_of", "gate_text"), ("name_of", "name_text"), ("inputs_of", "inputs_text"),
                      ("lines_of", "lines_text"), ("line_of", "line_text")]:
         t.spec(m, old, new)
-    t.ident("spelling_of", "file_text")
+    t.ident("file_text", "file_text")
 
 
 @group("10", "The lines of a latch and a gate are made from numbers")

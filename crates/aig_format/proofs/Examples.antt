@@ -4,7 +4,7 @@ use Rattle.std.proofs.Common.{lit<, lit≤, arith}
 use Rattle.aig_format.specs.Text.{IsDelta}
 use Rattle.aig_format.specs.declared.FileKind.TheVariants.{Text}
 use Rattle.aig_format.specs.File.{File}
-use Rattle.aig_format.specs.Written.{spelling_of, line_of}
+use Rattle.aig_format.specs.Written.{file_text, line_text}
 use Rattle.std.specs.Fmt.{digits}
 
 -- and(1,2)
@@ -26,8 +26,8 @@ and_file = record {
 abbrev pub and_text : List ℕ
 and_text = codes "aag 3 2 0 1 1\n2\n4\n6\n6 4 2\n"
 
-pub and_file-written : spelling_of and_file ≡ and_text
-unfolding spelling_of line_of digits
+pub and_file-written : file_text and_file ≡ and_text
+unfolding file_text line_text digits
 and_file-written = refl
 
 -- 82 00 is 2, and so is 02

@@ -6,7 +6,7 @@ use Rattle.std.proofs.lemmas.Bool.{false≢true}
 use Rattle.std.specs.List.{IsDistinct}
 use Rattle.aig_format.specs.declared.FileKind.TheVariants.{Text, Binary}
 use Rattle.aig_format.specs.File.{LatchLine, GateLine, File, HeaderNumbers}
-use Rattle.aig_format.specs.Written.{spelling_of, line_of}
+use Rattle.aig_format.specs.Written.{file_text, line_text}
 use Rattle.aig_format.specs.Levels.{level_of}
 use Rattle.aig_format.specs.Numbering.{is_compact, number_of, variables_in_order}
 use Rattle.aig_format.specs.Fits.{Fits, HasEnough}
@@ -36,11 +36,11 @@ gate lhs rhs0 rhs1 = record { lhs = lhs; rhs0 = rhs0; rhs1 = rhs1 }
 
 -- the circuit as it is printed; the files here have no names
 abbrev printed : File → List ℕ
-printed f = spelling_of (record (file_of Text (circuit_of f)) { names = [] })
+printed f = file_text (record (file_of Text (circuit_of f)) { names = [] })
 
 -- what the rows compute by
 steps : Unit {0}
-unfolding spelling_of line_of digits number_of variables_in_order
+unfolding file_text line_text digits number_of variables_in_order
 steps = tt
 
 -- ---- files that are printed by level

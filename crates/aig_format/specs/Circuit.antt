@@ -20,7 +20,7 @@ use Rattle.aig_format.specs.Letters.{letter_of_inputs, letter_of_latches}
 use Rattle.aig_format.specs.Variables.{gate_of_variable}
 use Rattle.aig_format.specs.Numbering.{number_of, variables_in_order}
 use Rattle.aig_format.specs.Fits.{Accepts}
-use Rattle.aig_format.specs.Written.{spelling_of}
+use Rattle.aig_format.specs.Written.{file_text}
 
 -- ---- from a file to its circuit
 
@@ -117,11 +117,11 @@ file_of kind c = record {
 
 -- the one text form of a circuit
 abbrev pub text_of : Circuit → List ℕ
-text_of c = spelling_of (file_of Text c)
+text_of c = file_text (file_of Text c)
 
 -- the one binary form of a circuit: that of its re-encoding
 abbrev pub binary_of : Circuit → List ℕ
-binary_of c = spelling_of (file_of Binary (reencoded c))
+binary_of c = file_text (file_of Binary (reencoded c))
 
 -- the circuit without the names of nodes that are neither inputs nor latches
 abbrev pub without_other_names : Circuit → Circuit
@@ -129,4 +129,4 @@ without_other_names c = record c { names = retain_keys c.names (λ n. list_any (
 
 -- the text spells a file that fits any limit from the count of nodes up, and whose circuit is c without other names
 abbrev pub IsReadAgain : Circuit → File → Type 0
-IsReadAgain c f = ((limit : ℕ) → length c.nodes ≤ limit → Accepts (spelling_of f) limit f) × (circuit_of f ≡ without_other_names c)
+IsReadAgain c f = ((limit : ℕ) → length c.nodes ≤ limit → Accepts (file_text f) limit f) × (circuit_of f ≡ without_other_names c)

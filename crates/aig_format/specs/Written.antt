@@ -9,14 +9,14 @@ use Rattle.aig_format.specs.File.{LatchLine, GateLine, NameLine, File}
 use Rattle.aig_format.specs.Spells.{magic, next_and_reset}
 
 -- numbers apart by one space each, and a line feed
-unfoldable pub line_of : List ℕ → List ℕ
-line_of [] = 10 ∷ []
-line_of (n ∷ []) = decimal n ++ 10 ∷ []
-line_of (n ∷ m ∷ ns) = decimal n ++ 32 ∷ line_of (m ∷ ns)
+unfoldable pub line_text : List ℕ → List ℕ
+line_text [] = 10 ∷ []
+line_text (n ∷ []) = decimal n ++ 10 ∷ []
+line_text (n ∷ m ∷ ns) = decimal n ++ 32 ∷ line_text (m ∷ ns)
 
 -- a line of one number for each number
-abbrev pub lines_of : List ℕ → List ℕ
-lines_of = flat_map (λ n. line_of (n ∷ []))
+abbrev pub lines_text : List ℕ → List ℕ
+lines_text = flat_map (λ n. line_text (n ∷ []))
 
 -- a number in front, unless it is a 0 with nothing behind it
 abbrev pub in_front : ℕ → List ℕ → List ℕ
@@ -30,7 +30,7 @@ shortened (n ∷ ns) = in_front n (shortened ns)
 
 -- the numbers of the header: five, and of the other four as many as up to the last that is not 0
 abbrev pub header_line_of : File → List ℕ
-header_line_of f = magic f.kind ++ line_of (f.greatest ∷ length f.inputs ∷ length f.latches ∷ length f.outputs ∷ length f.gates
+header_line_of f = magic f.kind ++ line_text (f.greatest ∷ length f.inputs ∷ length f.latches ∷ length f.outputs ∷ length f.gates
     ∷ shortened (length f.bads ∷ length f.constraints ∷ length f.justice ∷ length f.fairness ∷ []))
 
 -- groups of seven bits, at most k and one more, the lowest first
@@ -43,26 +43,26 @@ unfoldable pub delta_of : ℕ → List ℕ
 delta_of = groups_of 4
 
 -- a latch line
-abbrev pub latch_of : FileKind → LatchLine → List ℕ
-latch_of Text l = line_of (l.literal ∷ next_and_reset l)
-latch_of Binary l = line_of (next_and_reset l)
+abbrev pub latch_text : FileKind → LatchLine → List ℕ
+latch_text Text l = line_text (l.literal ∷ next_and_reset l)
+latch_text Binary l = line_text (next_and_reset l)
 
 -- a gate: a line of a text file, or two differences
-abbrev pub gate_of : FileKind → GateLine → List ℕ
-gate_of Text g = line_of (g.lhs ∷ g.rhs0 ∷ g.rhs1 ∷ [])
-gate_of Binary g = delta_of (g.lhs - g.rhs0) ++ delta_of (g.rhs0 - g.rhs1)
+abbrev pub gate_text : FileKind → GateLine → List ℕ
+gate_text Text g = line_text (g.lhs ∷ g.rhs0 ∷ g.rhs1 ∷ [])
+gate_text Binary g = delta_of (g.lhs - g.rhs0) ++ delta_of (g.rhs0 - g.rhs1)
 
 -- the inputs: in a binary file they have no bytes
-abbrev pub inputs_of : FileKind → List ℕ → List ℕ
-inputs_of Text inputs = lines_of inputs
-inputs_of Binary inputs = []
+abbrev pub inputs_text : FileKind → List ℕ → List ℕ
+inputs_text Text inputs = lines_text inputs
+inputs_text Binary inputs = []
 
 -- a name line
-abbrev pub name_of : NameLine → List ℕ
-name_of n = n.letter ∷ decimal n.position ++ 32 ∷ n.name ++ 10 ∷ []
+abbrev pub name_text : NameLine → List ℕ
+name_text n = n.letter ∷ decimal n.position ++ 32 ∷ n.name ++ 10 ∷ []
 
 -- the text of a file: the header, the sections in order, the names
-unfoldable pub spelling_of : File → List ℕ
-spelling_of f = header_line_of f ++ inputs_of f.kind f.inputs ++ flat_map (latch_of f.kind) f.latches
-    ++ lines_of f.outputs ++ lines_of f.bads ++ lines_of f.constraints ++ lines_of (map length f.justice) ++ flat_map lines_of f.justice
-    ++ lines_of f.fairness ++ flat_map (gate_of f.kind) f.gates ++ flat_map name_of f.names
+unfoldable pub file_text : File → List ℕ
+file_text f = header_line_of f ++ inputs_text f.kind f.inputs ++ flat_map (latch_text f.kind) f.latches
+    ++ lines_text f.outputs ++ lines_text f.bads ++ lines_text f.constraints ++ lines_text (map length f.justice) ++ flat_map lines_text f.justice
+    ++ lines_text f.fairness ++ flat_map (gate_text f.kind) f.gates ++ flat_map name_text f.names

@@ -15,7 +15,7 @@ use Rattle.aig_format.specs.declared.FileKind.{FileKind}
 use Rattle.aig_format.specs.declared.FileKind.TheVariants.{Text, Binary}
 use Rattle.aig_format.specs.File.{LatchLine, File}
 use Rattle.aig_format.specs.Numbering.{number_of, variables_in_order}
-use Rattle.aig_format.specs.Written.{spelling_of, line_of, delta_of}
+use Rattle.aig_format.specs.Written.{file_text, line_text, delta_of}
 use Rattle.aig_format.proofs.Examples.{and_file}
 use Rattle.aig_format.specs.Circuit.{circuit_of, file_of}
 
@@ -83,7 +83,7 @@ unnamed nodes inputs latchs outputs justice fairness =
 
 -- the text of a circuit without its names, which are looked up and don't compute
 abbrev pub lists_text : FileKind → Circuit → List ℕ
-lists_text kind c = spelling_of (record (file_of kind c) { names = [] })
+lists_text kind c = file_text (record (file_of kind c) { names = [] })
 
 -- leaf 1 a latch with next 2 and initial edge false, leaf 2 an input, output 1
 abbrev pub latch_before_input : Circuit
@@ -108,12 +108,12 @@ two_steps = unnamed (node 0 False ∷ node 1 Leaf ∷ node 2 Leaf ∷ node 3 (An
     (1 ∷ 4 ∷ []) (record { input = 2; next = edge_to 5 false; init = Some (edge_to 0 false) } ∷ []) (edge_to 3 false ∷ edge_to 5 false ∷ []) [] []
 
 two_steps-text : lists_text Text two_steps ≡ codes "aag 5 2 1 2 2\n2\n8\n4 10\n6\n10\n6 4 2\n10 8 6\n"
-unfolding spelling_of line_of digits
+unfolding file_text line_text digits
 two_steps-text = refl
 
 -- in the binary form the inputs come first, and the two differences of each gate are 2 and 4
 two_steps-binary : lists_text Binary (reencoded two_steps) ≡ codes "aig 5 2 1 2 2\n10\n8\n10\n" ++ 2 ∷ 4 ∷ 2 ∷ 4 ∷ []
-unfolding spelling_of line_of digits delta_of
+unfolding file_text line_text digits delta_of
 two_steps-binary = refl
 
 -- justice sets 1, !2 and 2, fairness !1 over two inputs
@@ -121,12 +121,12 @@ abbrev pub justice_sets : Circuit
 justice_sets = unnamed (node 0 False ∷ node 1 Leaf ∷ node 2 Leaf ∷ []) (1 ∷ 2 ∷ []) [] [] ((edge_to 1 false ∷ edge_to 2 true ∷ []) ∷ (edge_to 2 false ∷ []) ∷ []) (edge_to 1 true ∷ [])
 
 justice_sets-text : lists_text Text justice_sets ≡ codes "aag 2 2 0 0 0 0 0 2 1\n2\n4\n2\n1\n2\n5\n4\n3\n"
-unfolding spelling_of line_of digits
+unfolding file_text line_text digits
 justice_sets-text = refl
 
 -- the output true, and no list behind it that is written
 justice_sets-constant : lists_text Text (unnamed (node 0 False ∷ []) [] [] (edge_to 0 true ∷ []) [] []) ≡ codes "aag 0 0 0 1 0\n1\n"
-unfolding spelling_of line_of digits
+unfolding file_text line_text digits
 justice_sets-constant = refl
 
 -- a reset of 0 isn't written, 1 and the latch's own literal are
@@ -134,13 +134,13 @@ abbrev latch_text : (init : Option AigEdge) → List ℕ
 latch_text init = lists_text Text (unnamed (node 0 False ∷ node 1 Leaf ∷ []) [] (record { input = 1; next = edge_to 1 true; init = init } ∷ []) (edge_to 1 false ∷ []) [] [])
 
 latch_text_false : latch_text (Some (edge_to 0 false)) ≡ codes "aag 1 0 1 1 0\n2 3\n2\n"
-unfolding spelling_of line_of digits
+unfolding file_text line_text digits
 latch_text_false = refl
 
 latch_text_true : latch_text (Some (edge_to 0 true)) ≡ codes "aag 1 0 1 1 0\n2 3 1\n2\n"
-unfolding spelling_of line_of digits
+unfolding file_text line_text digits
 latch_text_true = refl
 
 latch_text_none : latch_text None ≡ codes "aag 1 0 1 1 0\n2 3 2\n2\n"
-unfolding spelling_of line_of digits
+unfolding file_text line_text digits
 latch_text_none = refl

@@ -8,7 +8,7 @@ use Rattle.aig_format.specs.declared.FileKind.{FileKind}
 use Rattle.aig_format.specs.declared.FileKind.TheVariants.{Text, Binary}
 use Rattle.aig_format.specs.File.{LatchLine, GateLine, NameLine, File, HeaderNumbers, header_of}
 use Rattle.aig_format.specs.Spells.{magic, numbers_in, IsHeader, Inputs, Latch, Gate, Name, next_and_reset, Spells}
-use Rattle.aig_format.specs.Written.{line_of, lines_of, in_front, shortened, header_line_of, inputs_of, latch_of, gate_of, name_of, delta_of, spelling_of}
+use Rattle.aig_format.specs.Written.{line_text, lines_text, in_front, shortened, header_line_of, inputs_text, latch_text, gate_text, name_text, delta_of, file_text}
 use Rattle.aig_parsing.specs.Writable.{IsSmall, LatchSmall, GateSmall, NameSmall, SetSmall, CanWrite}
 use Rattle.aig_format.proofs.Entries.{chosen}
 use Rattle.aig_parsing.proofs.Printed.{number_written, line_written, delta_written, each_written}
@@ -39,7 +39,7 @@ shortened_small (n ∷ ns) all = in_front_small n (shortened ns) all.0 (shortene
 
 -- the written line of the header
 header_written : (kind : FileKind) (n : HeaderNumbers) → AllByRecursion IsSmall (numbers_in n)
-    → IsHeader kind n (magic kind ++ line_of (n.greatest ∷ n.inputs ∷ n.latches ∷ n.outputs ∷ n.gates ∷ shortened (n.bads ∷ n.constraints ∷ n.justice ∷ n.fairness ∷ [])))
+    → IsHeader kind n (magic kind ++ line_text (n.greatest ∷ n.inputs ∷ n.latches ∷ n.outputs ∷ n.gates ∷ shortened (n.bads ∷ n.constraints ∷ n.justice ∷ n.fairness ∷ [])))
 header_written kind n h =
     let four = n.bads ∷ n.constraints ∷ n.justice ∷ n.fairness ∷ [] in
     let behind = n.inputs ∷ n.latches ∷ n.outputs ∷ n.gates ∷ shortened four in
@@ -49,27 +49,27 @@ header_written kind n h =
       s.0,
       ap (λ (zs : List ℕ). n.greatest ∷ n.inputs ∷ n.latches ∷ n.outputs ∷ n.gates ∷ zs) s.1,
       omega arith,
-      (magic kind, line_of (n.greatest ∷ behind), refl, refl, line_written n.greatest behind h.0 (h.1.0, (h.1.1.0, (h.1.1.1.0, (t.0, shortened_small four t.1))))),
+      (magic kind, line_text (n.greatest ∷ behind), refl, refl, line_written n.greatest behind h.0 (h.1.0, (h.1.1.0, (h.1.1.1.0, (t.0, shortened_small four t.1))))),
     )
 
-lines_written : (ns : List ℕ) → AllByRecursion IsSmall ns → Lines ns (lines_of ns)
-lines_written ns all = each_written (λ n. IsLine (n ∷ [])) IsSmall (λ n. line_of (n ∷ [])) (λ n h. line_written n [] h tt) ns all
+lines_written : (ns : List ℕ) → AllByRecursion IsSmall ns → Lines ns (lines_text ns)
+lines_written ns all = each_written (λ n. IsLine (n ∷ [])) IsSmall (λ n. line_text (n ∷ [])) (λ n h. line_written n [] h tt) ns all
 
-latch_written : (kind : FileKind) (l : LatchLine) → LatchSmall l → Latch kind l (latch_of kind l)
+latch_written : (kind : FileKind) (l : LatchLine) → LatchSmall l → Latch kind l (latch_text kind l)
 latch_written Text l h = line_written l.literal (next_and_reset l) h.0 (h.1, h.2)
 latch_written Binary l h = line_written l.next (option_to_list l.reset) h.1 h.2
 
-gate_written : (kind : FileKind) (g : GateLine) → GateSmall g → Gate kind g (gate_of kind g)
+gate_written : (kind : FileKind) (g : GateLine) → GateSmall g → Gate kind g (gate_text kind g)
 gate_written Text g h = line_written g.lhs (g.rhs0 ∷ g.rhs1 ∷ []) h.0 (omega (arith, h.0, h.1), (omega (arith, h.0, h.1, h.2), tt))
 gate_written Binary g h =
     let a = h.0 in let b = h.1 in let c = h.2 in
     (g.lhs - g.rhs0, g.rhs0 - g.rhs1, omega arith, omega arith, (delta_of (g.lhs - g.rhs0), delta_of (g.rhs0 - g.rhs1), refl, delta_written (g.lhs - g.rhs0) (omega arith), delta_written (g.rhs0 - g.rhs1) (omega arith)))
 
-inputs_written : (kind : FileKind) (ns : List ℕ) → AllByRecursion IsSmall ns → Inputs kind ns (inputs_of kind ns)
+inputs_written : (kind : FileKind) (ns : List ℕ) → AllByRecursion IsSmall ns → Inputs kind ns (inputs_text kind ns)
 inputs_written Text ns all = lines_written ns all
 inputs_written Binary ns all = refl
 
-name_written : (n : NameLine) → NameSmall n → Name n (name_of n)
+name_written : (n : NameLine) → NameSmall n → Name n (name_text n)
 name_written n h =
     let d = decimal n.position in
     let same : (d ++ 32 ∷ n.name) ++ 10 ∷ [] ≡ (d ++ 32 ∷ []) ++ (n.name ++ 10 ∷ []) = simp append_assoc in (
@@ -87,12 +87,12 @@ name_written n h =
 regrouped : (a b c d e f g h i j k : List ℕ) → a ++ b ++ c ++ d ++ e ++ f ++ g ++ h ++ i ++ j ++ k ≡ (a ++ (b ++ (c ++ (d ++ (e ++ (f ++ (g ++ (h ++ (i ++ j))))))))) ++ k
 regrouped a b c d e f g h i j k = simp append_assoc
 
-pub spelling_spells : (f : File) → CanWrite f → Spells f (spelling_of f)
-unfolding spelling_of
+pub spelling_spells : (f : File) → CanWrite f → Spells f (file_text f)
+unfolding file_text
 spelling_spells f w =
-    let a = header_line_of f in let b = inputs_of f.kind f.inputs in let c = flat_map (latch_of f.kind) f.latches in let d = lines_of f.outputs in
-    let e = lines_of f.bads in let g = lines_of f.constraints in let h = lines_of (map length f.justice) in let i = flat_map lines_of f.justice in
-    let j = lines_of f.fairness in let k = flat_map (gate_of f.kind) f.gates in let l = flat_map name_of f.names in
+    let a = header_line_of f in let b = inputs_text f.kind f.inputs in let c = flat_map (latch_text f.kind) f.latches in let d = lines_text f.outputs in
+    let e = lines_text f.bads in let g = lines_text f.constraints in let h = lines_text (map length f.justice) in let i = flat_map lines_text f.justice in
+    let j = lines_text f.fairness in let k = flat_map (gate_text f.kind) f.gates in let l = flat_map name_text f.names in
     record {
       sections = (
         a ++ (b ++ (c ++ (d ++ (e ++ (g ++ (h ++ (i ++ (j ++ k)))))))),
@@ -112,7 +112,7 @@ spelling_spells f w =
               c,
               d ++ (e ++ (g ++ (h ++ (i ++ (j ++ k))))),
               refl,
-              each_written (Latch f.kind) LatchSmall (latch_of f.kind) (latch_written f.kind) f.latches w.latches,
+              each_written (Latch f.kind) LatchSmall (latch_text f.kind) (latch_written f.kind) f.latches w.latches,
               (
                 d,
                 e ++ (g ++ (h ++ (i ++ (j ++ k)))),
@@ -137,8 +137,8 @@ spelling_spells f w =
                         i,
                         j ++ k,
                         refl,
-                        each_written Lines SetSmall lines_of lines_written f.justice w.justice,
-                        (j, k, refl, lines_written f.fairness w.fairness, each_written (Gate f.kind) GateSmall (gate_of f.kind) (gate_written f.kind) f.gates w.gates),
+                        each_written Lines SetSmall lines_text lines_written f.justice w.justice,
+                        (j, k, refl, lines_written f.fairness w.fairness, each_written (Gate f.kind) GateSmall (gate_text f.kind) (gate_written f.kind) f.gates w.gates),
                       ),
                     ),
                   ),
@@ -147,7 +147,7 @@ spelling_spells f w =
             ),
           ),
         ),
-        (l, [], sym (append-nil l), each_written Name NameSmall name_of name_written f.names w.names, tt),
+        (l, [], sym (append-nil l), each_written Name NameSmall name_text name_written f.names w.names, tt),
       );
       placed = w.placed;
     }

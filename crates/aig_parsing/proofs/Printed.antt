@@ -8,7 +8,7 @@ use Rattle.std.proofs.lemmas.Fmt.{decimal_by_steps}
 use Rattle.std.proofs.lemmas.Bool.{cases_lt, lt-ltb, le-ltb}
 use Rattle.std.proofs.Common.{inl, inr}
 use Rattle.aig_format.specs.Text.{Each, IsDigit, value_of, IsNumber, IsLine, Groups, IsDelta}
-use Rattle.aig_format.specs.Written.{line_of, groups_of, delta_of}
+use Rattle.aig_format.specs.Written.{line_text, groups_of, delta_of}
 
 value_push : (ds : List ℕ) (g : ℕ) → value_of (ds ++ g ∷ []) ≡ value_of ds * 10 + (g - 48)
 value_push [] g = omega arith
@@ -46,11 +46,11 @@ number_written n lt =
     let s = decimal_by_steps Spelled one more n (omega arith) in
     record { some = s.some; each = s.each; value = s.value; small = lt }
 
-pub line_written : (n : ℕ) (ns : List ℕ) → n < 2 ^ 32 → AllByRecursion (λ m. m < 2 ^ 32) ns → IsLine (n ∷ ns) (line_of (n ∷ ns))
-unfolding line_of
+pub line_written : (n : ℕ) (ns : List ℕ) → n < 2 ^ 32 → AllByRecursion (λ m. m < 2 ^ 32) ns → IsLine (n ∷ ns) (line_text (n ∷ ns))
+unfolding line_text
 line_written n [] lt all = (decimal n, 10 ∷ [], refl, number_written n lt, refl)
 line_written n (m ∷ ns) lt all =
-    (decimal n ++ 32 ∷ [], line_of (m ∷ ns), sym (append_assoc (decimal n) (32 ∷ []) (line_of (m ∷ ns))), (decimal n, 32 ∷ [], refl, number_written n lt, refl), line_written m ns all.0 all.1)
+    (decimal n ++ 32 ∷ [], line_text (m ∷ ns), sym (append_assoc (decimal n) (32 ∷ []) (line_text (m ∷ ns))), (decimal n, 32 ∷ [], refl, number_written n lt, refl), line_written m ns all.0 all.1)
 
 -- a text for each entry
 pub each_written : {A : Type 0} (P : A → List ℕ → Type 0) (Q : A → Type 0) (text : A → List ℕ) → ((x : A) → Q x → P x (text x)) → (xs : List A) → AllByRecursion Q xs → Each P xs (flat_map text xs)

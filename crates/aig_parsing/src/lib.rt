@@ -4,7 +4,7 @@
 ghost use Rattle.std.specs.Prelude.{◌≡◌, ◌↔◌, ℕ, List, Some, true};
 ghost use Rattle.aig_format.specs.File.{File};
 ghost use Rattle.aig_format.specs.Spells.{Spells};
-ghost use Rattle.aig_format.specs.Written.{spelling_of};
+ghost use Rattle.aig_format.specs.Written.{file_text};
 ghost use Rattle.aig_format.specs.Fits.{TooMany, Accepts};
 ghost use Rattle.aig_parsing.specs.Parse.{file_at, too_many_at};
 ghost use Rattle.aig_parsing.specs.ParseTested.{fitting_at};
@@ -19,7 +19,7 @@ pub fn reads_exactly()
 
 /// The written form of a file spells it.
 pub fn writes_spelled()
-    ensures { (f : File) → CanWrite f → Spells f (spelling_of f) }
+    ensures { (f : File) → CanWrite f → Spells f (file_text f) }
 {}
 
 /// Whether a header line is good and passes the limit can be read from the front.

@@ -14,7 +14,7 @@ use Rattle.aig_format.specs.Spells.{magic, numbers_in}
 use Rattle.aig_format.specs.Circuit.{gate_line}
 use Rattle.std.proofs.lemmas.List.{take_more}
 use Rattle.std.proofs.lemmas.Bool.Decides.{nat_tests}
-use Rattle.aig_format.specs.Written.{in_front, shortened, line_of, header_line_of}
+use Rattle.aig_format.specs.Written.{in_front, shortened, line_text, header_line_of}
 
 -- a 0 at the end is left out
 shortened-zero : (ns : List ℕ) → shortened (ns ++ 0 ∷ []) ≡ shortened ns
@@ -81,6 +81,6 @@ take-five m i l o a rest k h =
     ∙ ap (λ ns. m ∷ i ∷ l ∷ o ∷ a ∷ ns) h
 
 pub header_text : (f : File) (k : ℕ) (numbers : List ℕ) → numbers ≡ numbers_in (header_of f) → take k (take 4 (drop 5 numbers)) ≡ shortened (take 4 (drop 5 numbers))
-    → header_line_of f ≡ magic f.kind ++ line_of (take (5 + k) numbers)
+    → header_line_of f ≡ magic f.kind ++ line_text (take (5 + k) numbers)
 header_text f k numbers same h =
-    ap (λ ns. magic f.kind ++ line_of ns) (sym (take-five f.greatest (length f.inputs) (length f.latches) (length f.outputs) (length f.gates) _ k (rw same at h)) ∙ ap (take (5 + k)) (sym same))
+    ap (λ ns. magic f.kind ++ line_text ns) (sym (take-five f.greatest (length f.inputs) (length f.latches) (length f.outputs) (length f.gates) _ k (rw same at h)) ∙ ap (take (5 + k)) (sym same))

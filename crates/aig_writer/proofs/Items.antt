@@ -10,7 +10,7 @@ use Rattle.aig_circuit.specs.declared.node.AigNode.{AigNode}
 use Rattle.aig_circuit.specs.declared.node.AigLatch.{AigLatch}
 use Rattle.aig_circuit.specs.Edge.{literal_of}
 use Rattle.aig_format.specs.declared.FileKind.{FileKind}
-use Rattle.aig_format.specs.Written.{line_of, lines_of, latch_of, gate_of}
+use Rattle.aig_format.specs.Written.{line_text, lines_text, latch_text, gate_text}
 use Rattle.aig_format.specs.Circuit.{latch_line, gate_line}
 use Rattle.aig_writer.specs.Literals.{IsSmallEdge}
 use Rattle.aig_writer.specs.Parts.{edges_of, literal_sets}
@@ -18,40 +18,40 @@ use Rattle.aig_writer.specs.Numbering.{renumbered_node}
 use Rattle.aig_circuit.specs.Renumber.{renumbered_edge, renumbered_latch}
 
 abbrev pub input_line : ℕ → List ℕ
-input_line n = line_of (2 * n ∷ [])
+input_line n = line_text (2 * n ∷ [])
 
 abbrev pub edge_line : AigEdge → List ℕ
-edge_line e = line_of (literal_of e ∷ [])
+edge_line e = line_text (literal_of e ∷ [])
 
-abbrev pub latch_text : FileKind → AigLatch → List ℕ
-latch_text kind latch = latch_of kind (latch_line latch)
+abbrev pub text_of_latch : FileKind → AigLatch → List ℕ
+text_of_latch kind latch = latch_text kind (latch_line latch)
 
 abbrev pub size_line : Vec AigEdge Global → List ℕ
-size_line set = line_of (length set.items ∷ [])
+size_line set = line_text (length set.items ∷ [])
 
 abbrev pub set_lines : Vec AigEdge Global → List ℕ
-set_lines set = lines_of (map literal_of set.items)
+set_lines set = lines_text (map literal_of set.items)
 
-abbrev pub gate_text : FileKind → AigNode → List ℕ
-gate_text kind node = flat_map (gate_of kind) (option_to_list (gate_line node))
+abbrev pub text_of_gate : FileKind → AigNode → List ℕ
+text_of_gate kind node = flat_map (gate_text kind) (option_to_list (gate_line node))
 
-pub input_lines : (ns : List ℕ) → lines_of (map (λ n. 2 * n) ns) ≡ flat_map input_line ns
-input_lines ns = flat_map-map (λ n. line_of (n ∷ [])) (λ n. 2 * n) ns
+pub input_lines : (ns : List ℕ) → lines_text (map (λ n. 2 * n) ns) ≡ flat_map input_line ns
+input_lines ns = flat_map-map (λ n. line_text (n ∷ [])) (λ n. 2 * n) ns
 
-pub edge_lines : (es : List AigEdge) → lines_of (map literal_of es) ≡ flat_map edge_line es
-edge_lines es = flat_map-map (λ n. line_of (n ∷ [])) literal_of es
+pub edge_lines : (es : List AigEdge) → lines_text (map literal_of es) ≡ flat_map edge_line es
+edge_lines es = flat_map-map (λ n. line_text (n ∷ [])) literal_of es
 
-pub latch_texts : (kind : FileKind) (latchs : List AigLatch) → flat_map (latch_of kind) (map latch_line latchs) ≡ flat_map (latch_text kind) latchs
-latch_texts kind latchs = flat_map-map (latch_of kind) latch_line latchs
+pub latch_texts : (kind : FileKind) (latchs : List AigLatch) → flat_map (latch_text kind) (map latch_line latchs) ≡ flat_map (text_of_latch kind) latchs
+latch_texts kind latchs = flat_map-map (latch_text kind) latch_line latchs
 
 pub len_is : (set : Vec AigEdge Global) → vec_len set ≡ length set.items
 len_is set = set.ok.0
 
-pub size_lines : (sets : List (Vec AigEdge Global)) → lines_of (map length (literal_sets sets)) ≡ flat_map size_line sets
+pub size_lines : (sets : List (Vec AigEdge Global)) → lines_text (map length (literal_sets sets)) ≡ flat_map size_line sets
 size_lines [] = refl
-size_lines (set ∷ sets) = ap (λ n. line_of (n ∷ []) ++ lines_of (map length (literal_sets sets))) (length-map set.items literal_of) ∙ ap (λ l. size_line set ++ l) (size_lines sets)
+size_lines (set ∷ sets) = ap (λ n. line_text (n ∷ []) ++ lines_text (map length (literal_sets sets))) (length-map set.items literal_of) ∙ ap (λ l. size_line set ++ l) (size_lines sets)
 
-pub sets_lines : (sets : List (Vec AigEdge Global)) → flat_map lines_of (literal_sets sets) ≡ flat_map set_lines sets
+pub sets_lines : (sets : List (Vec AigEdge Global)) → flat_map lines_text (literal_sets sets) ≡ flat_map set_lines sets
 sets_lines [] = refl
 sets_lines (set ∷ sets) = ap (λ l. set_lines set ++ l) (sets_lines sets)
 
@@ -63,32 +63,32 @@ flat_map-filter_map f h (x ∷ xs) = by_option f (h x) (filter_map h xs) ∙ ap 
     by_option f None ys = refl
     by_option f (Some y) ys = ap (λ l. l ++ flat_map f ys) (sym (append-nil (f y)))
 
-pub gate_texts : (kind : FileKind) (nodes : List AigNode) → flat_map (gate_of kind) (filter_map gate_line nodes) ≡ flat_map (gate_text kind) nodes
-gate_texts kind nodes = flat_map-filter_map (gate_of kind) gate_line nodes
+pub gate_texts : (kind : FileKind) (nodes : List AigNode) → flat_map (gate_text kind) (filter_map gate_line nodes) ≡ flat_map (text_of_gate kind) nodes
+gate_texts kind nodes = flat_map-filter_map (gate_text kind) gate_line nodes
 
 -- ---- entries under other numbers
 
-pub numbered_inputs : (number : ℕ → ℕ) (ns : List ℕ) → lines_of (map (λ n. 2 * n) (map number ns)) ≡ flat_map (λ n. input_line (number n)) ns
+pub numbered_inputs : (number : ℕ → ℕ) (ns : List ℕ) → lines_text (map (λ n. 2 * n) (map number ns)) ≡ flat_map (λ n. input_line (number n)) ns
 numbered_inputs number ns = input_lines (map number ns) ∙ flat_map-map input_line number ns
 
-pub numbered_edges : (number : ℕ → ℕ) (es : List AigEdge) → lines_of (map literal_of (map (renumbered_edge number) es)) ≡ flat_map (λ e. edge_line (renumbered_edge number e)) es
+pub numbered_edges : (number : ℕ → ℕ) (es : List AigEdge) → lines_text (map literal_of (map (renumbered_edge number) es)) ≡ flat_map (λ e. edge_line (renumbered_edge number e)) es
 numbered_edges number es = edge_lines (map (renumbered_edge number) es) ∙ flat_map-map edge_line (renumbered_edge number) es
 
-pub numbered_latches : (number : ℕ → ℕ) (kind : FileKind) (latchs : List AigLatch) → flat_map (latch_of kind) (map latch_line (map (renumbered_latch number) latchs)) ≡ flat_map (λ l. latch_text kind (renumbered_latch number l)) latchs
-numbered_latches number kind latchs = latch_texts kind (map (renumbered_latch number) latchs) ∙ flat_map-map (latch_text kind) (renumbered_latch number) latchs
+pub numbered_latches : (number : ℕ → ℕ) (kind : FileKind) (latchs : List AigLatch) → flat_map (latch_text kind) (map latch_line (map (renumbered_latch number) latchs)) ≡ flat_map (λ l. text_of_latch kind (renumbered_latch number l)) latchs
+numbered_latches number kind latchs = latch_texts kind (map (renumbered_latch number) latchs) ∙ flat_map-map (text_of_latch kind) (renumbered_latch number) latchs
 
-pub numbered_gates : (number : ℕ → ℕ) (kind : FileKind) (nodes : List AigNode) → flat_map (gate_of kind) (filter_map gate_line (map (renumbered_node number) nodes)) ≡ flat_map (λ node. gate_text kind (renumbered_node number node)) nodes
-numbered_gates number kind nodes = gate_texts kind (map (renumbered_node number) nodes) ∙ flat_map-map (gate_text kind) (renumbered_node number) nodes
+pub numbered_gates : (number : ℕ → ℕ) (kind : FileKind) (nodes : List AigNode) → flat_map (gate_text kind) (filter_map gate_line (map (renumbered_node number) nodes)) ≡ flat_map (λ node. text_of_gate kind (renumbered_node number node)) nodes
+numbered_gates number kind nodes = gate_texts kind (map (renumbered_node number) nodes) ∙ flat_map-map (text_of_gate kind) (renumbered_node number) nodes
 
 -- the lines of a set under other numbers
 abbrev pub numbered_set : (ℕ → ℕ) → Vec AigEdge Global → List ℕ
-numbered_set number set = lines_of (map literal_of (map (renumbered_edge number) set.items))
+numbered_set number set = lines_text (map literal_of (map (renumbered_edge number) set.items))
 
-pub numbered_sets : (number : ℕ → ℕ) (sets : List (Vec AigEdge Global)) → flat_map lines_of (map (map literal_of) (map (map (renumbered_edge number)) (edges_of sets))) ≡ flat_map (numbered_set number) sets
+pub numbered_sets : (number : ℕ → ℕ) (sets : List (Vec AigEdge Global)) → flat_map lines_text (map (map literal_of) (map (map (renumbered_edge number)) (edges_of sets))) ≡ flat_map (numbered_set number) sets
 numbered_sets number [] = refl
 numbered_sets number (set ∷ sets) = ap (λ l. numbered_set number set ++ l) (numbered_sets number sets)
 
-pub set_sizes : (sets : List (Vec AigEdge Global)) → lines_of (map length (edges_of sets)) ≡ flat_map size_line sets
+pub set_sizes : (sets : List (Vec AigEdge Global)) → lines_text (map length (edges_of sets)) ≡ flat_map size_line sets
 set_sizes [] = refl
 set_sizes (set ∷ sets) = ap (λ l. size_line set ++ l) (set_sizes sets)
 

@@ -15,8 +15,8 @@ use Rattle.aig_circuit.specs.Edge.{literal_of}
 use Rattle.aig_format.specs.declared.FileKind.TheVariants.{Text}
 use Rattle.aig_format.specs.File.{File, header_of}
 use Rattle.aig_format.specs.Spells.{numbers_in}
-use Rattle.aig_format.specs.Written.{line_of}
-use Rattle.aig_writer.proofs.Items.{gate_text}
+use Rattle.aig_format.specs.Written.{line_text}
+use Rattle.aig_writer.proofs.Items.{text_of_gate}
 
 module _ {W : Type 0} (took : W → List ℕ → W → Type 0) where
   -- if the formatter indents nothing, the text was written
@@ -53,17 +53,17 @@ abbrev pub spaced : ℕ → List ℕ
 spaced n = decimal n ++ 32 ∷ []
 
 -- a line of k numbers and one more
-pub line_of-last : (ns : List ℕ) (k d : ℕ) → length ns ≡ k + 1 → flat_map spaced (take k ns) ++ (decimal (get_or ns k d) ++ 10 ∷ []) ≡ line_of ns
-unfolding line_of
-line_of-last [] k d h = absurd (omega arith)
-line_of-last (n ∷ []) zero d h = refl
-line_of-last (n ∷ m ∷ ns) zero d h = absurd (omega arith)
-line_of-last (n ∷ []) (suc k) d h = absurd (omega arith)
-line_of-last (n ∷ m ∷ ns) (suc k) d h =
+pub line_text-last : (ns : List ℕ) (k d : ℕ) → length ns ≡ k + 1 → flat_map spaced (take k ns) ++ (decimal (get_or ns k d) ++ 10 ∷ []) ≡ line_text ns
+unfolding line_text
+line_text-last [] k d h = absurd (omega arith)
+line_text-last (n ∷ []) zero d h = refl
+line_text-last (n ∷ m ∷ ns) zero d h = absurd (omega arith)
+line_text-last (n ∷ []) (suc k) d h = absurd (omega arith)
+line_text-last (n ∷ m ∷ ns) (suc k) d h =
     let rest = flat_map spaced (take k (m ∷ ns)) in
     let last = decimal (get_or (m ∷ ns) k d) ++ 10 ∷ [] in
     append_assoc (spaced n) rest last ∙ append_assoc (decimal n) (32 ∷ []) (rest ++ last)
-    ∙ ap (λ l. decimal n ++ (32 ∷ l)) (line_of-last (m ∷ ns) k d (omega arith))
+    ∙ ap (λ l. decimal n ++ (32 ∷ l)) (line_text-last (m ∷ ns) k d (omega arith))
 
 -- some of the numbers of a header are shown
 pub some_shown : (f : File) (k : ℕ) (numbers : List ℕ) → numbers ≡ numbers_in (header_of f) → 0 < length (take (5 + k) numbers)
@@ -74,6 +74,6 @@ some_shown f k numbers same =
 -- ---- a gate
 
 -- the text of a node that is a gate
-pub gate_line-text : (node : AigNode) (a b : AigEdge) → node.typ ≡ And a b → line_of (2 * node.node_id ∷ literal_of b ∷ literal_of a ∷ []) ≡ gate_text Text node
+pub gate_line-text : (node : AigNode) (a b : AigEdge) → node.typ ≡ And a b → line_text (2 * node.node_id ∷ literal_of b ∷ literal_of a ∷ []) ≡ text_of_gate Text node
 gate_line-text node a b h =
-    sym (append-nil (line_of (2 * node.node_id ∷ literal_of b ∷ literal_of a ∷ []))) ∙ ap (λ typ. gate_text Text (record { node_id = node.node_id; typ = typ })) (sym h)
+    sym (append-nil (line_text (2 * node.node_id ∷ literal_of b ∷ literal_of a ∷ []))) ∙ ap (λ typ. text_of_gate Text (record { node_id = node.node_id; typ = typ })) (sym h)

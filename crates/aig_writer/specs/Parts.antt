@@ -6,7 +6,7 @@ use Rattle.std.specs.List.{flat_map}
 use Rattle.aig_circuit.specs.declared.edge.AigEdge.{AigEdge}
 use Rattle.aig_circuit.specs.Edge.{literal_of}
 use Rattle.aig_format.specs.File.{File}
-use Rattle.aig_format.specs.Written.{lines_of, name_of}
+use Rattle.aig_format.specs.Written.{lines_text, name_text}
 
 -- the edges of each set
 abbrev pub edges_of : List (Vec AigEdge Global) → List (List AigEdge)
@@ -17,10 +17,10 @@ abbrev pub literal_sets : List (Vec AigEdge Global) → List (List ℕ)
 literal_sets sets = map (map literal_of) (edges_of sets)
 
 -- the line of a name, where there is one
-abbrev pub name_text : ℕ → ℕ → Option (List ℕ) → List ℕ
-name_text letter position None = []
-name_text letter position (Some name) = name_of (record { letter = letter; position = position; name = name })
+abbrev pub text_of_name : ℕ → ℕ → Option (List ℕ) → List ℕ
+text_of_name letter position None = []
+text_of_name letter position (Some name) = name_text (record { letter = letter; position = position; name = name })
 
 -- the sections between the latches and the gates
 abbrev pub properties_of : File → List ℕ
-properties_of f = lines_of f.outputs ++ lines_of f.bads ++ lines_of f.constraints ++ lines_of (map length f.justice) ++ flat_map lines_of f.justice ++ lines_of f.fairness
+properties_of f = lines_text f.outputs ++ lines_text f.bads ++ lines_text f.constraints ++ lines_text (map length f.justice) ++ flat_map lines_text f.justice ++ lines_text f.fairness

@@ -1,7 +1,7 @@
 //! A buffer of bytes in front of a sink.
 
 ghost use Rattle.std.specs.Prelude.{◌≡◌, ◌+◌, ◌^◌, ◌<◌, ◌≤◌, ◌++◌, ◌∷◌, [], List, ℕ, length, take, decimal, OnOk};
-ghost use Rattle.aig_format.specs.Written.{delta_of, line_of};
+ghost use Rattle.aig_format.specs.Written.{delta_of, line_text};
 ghost use Rattle.aig_writer.specs.Sinks.{BuffersOrStops, WritesOrStops};
 
 use crate::put::put_all;
@@ -106,7 +106,7 @@ impl OutputBuffer {
     pub fn write_line<W: Sink>(&mut self, w: &mut W, numbers: &[usize]) -> Result<(), StreamFault>
         requires some { 0 < length numbers.now }
         requires few { length numbers.now ≤ 9 }
-        ensures { let text = line_of numbers.now in
+        ensures { let text = line_text numbers.now in
             BuffersOrStops W.held W.failed self.old w.old result text self.new w.new }
     {
         let mut text = [b' '; LINE];

@@ -3,7 +3,7 @@
 ghost use Rattle.std.specs.Prelude.{◌≡◌, ◌≤◌, ◌^◌, All, length};
 ghost use Rattle.aig_circuit.specs.Circuit.{IsCircuit, IsClosed};
 ghost use Rattle.aig_format.specs.declared.FileKind.TheVariants.{Text};
-ghost use Rattle.aig_format.specs.Written.{spelling_of};
+ghost use Rattle.aig_format.specs.Written.{file_text};
 ghost use Rattle.aig_format.specs.Circuit.{binary_of, text_of};
 ghost use Rattle.aig_writer.specs.Literals.{HasSmallNumbers, IsSmall};
 ghost use Rattle.aig_writer.specs.Numbering.{FitsBinary, IsBinaryNumbering, number_in, numbered_file};
@@ -51,7 +51,7 @@ fn write_sections<W: Sink>(
     requires table { All IsSmall numbers.now }
     requires few { length circuit.now.nodes ≤ 2 ^ 63 }
     requires binary { kind ≡ FileKind.Binary → FitsBinary circuit.now numbers.now }
-    ensures writes { let text = spelling_of
+    ensures writes { let text = file_text
         (numbered_file (number_in numbers.now) kind circuit.now) in
         BuffersOrStops W.held W.failed buffer.old w.old result text buffer.new w.new }
     ensures circuit { IsCircuit circuit.now }
@@ -74,7 +74,7 @@ fn write_form<W: Sink>(
     requires table { All IsSmall numbers.now }
     requires few { length circuit.now.nodes ≤ 2 ^ 63 }
     requires binary { kind ≡ FileKind.Binary → FitsBinary circuit.now numbers.now }
-    ensures writes { let text = spelling_of
+    ensures writes { let text = file_text
         (numbered_file (number_in numbers.now) kind circuit.now) in
         WritesOrStops W.held W.failed w.old result text w.new }
     ensures circuit { IsCircuit circuit.now }

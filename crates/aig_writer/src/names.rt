@@ -4,12 +4,12 @@ ghost use Rattle.std.specs.Prelude.{◌≡◌, ℕ};
 ghost use Rattle.std.specs.List.{flat_map};
 ghost use Rattle.std.specs.FinMap.{get};
 ghost use Rattle.aig_circuit.specs.Circuit.{latch_leaves};
-ghost use Rattle.aig_format.specs.Written.{name_of};
+ghost use Rattle.aig_format.specs.Written.{name_text};
 ghost use Rattle.aig_format.specs.declared.FileKind.TheVariants.{Text};
 ghost use Rattle.aig_format.specs.Circuit.{file_of, name_lines};
 ghost use Rattle.aig_writer.specs.Sinks.{BuffersOrStops};
 ghost use Rattle.aig_circuit.specs.View.{names_of};
-ghost use Rattle.aig_writer.specs.Parts.{name_text};
+ghost use Rattle.aig_writer.specs.Parts.{text_of_name};
 
 use crate::buffer::OutputBuffer;
 use aig_base::{Sink, StreamFault};
@@ -30,7 +30,7 @@ fn write_name_line<W: Sink>(
     position: usize,
     name: &[u8],
 ) -> Result<(), StreamFault>
-    ensures { let text = name_of
+    ensures { let text = name_text
         (record { letter = letter; position = position; name = name.now }) in
         BuffersOrStops W.held W.failed buffer.old w.old result text buffer.new w.new }
 {
@@ -49,7 +49,7 @@ fn write_node_name<W: Sink>(
     position: usize,
     node: usize,
 ) -> Result<(), StreamFault>
-    ensures { let text = name_text letter position (get (names_of names.now.entries) node) in
+    ensures { let text = text_of_name letter position (get (names_of names.now.entries) node) in
         BuffersOrStops W.held W.failed buffer.old w.old result text buffer.new w.new }
 {
     match names.get(&node) {
@@ -66,7 +66,7 @@ fn write_input_names<W: Sink>(
     inputs: &[usize],
 ) -> Result<(), StreamFault>
     ensures { let lines = name_lines INPUT 0 inputs.now (get (names_of names.now.entries)) in
-        let text = flat_map name_of lines in
+        let text = flat_map name_text lines in
         BuffersOrStops W.held W.failed buffer.old w.old result text buffer.new w.new }
 {
     for (i, n) in inputs.iter().enumerate() {
@@ -83,7 +83,7 @@ fn write_latch_names<W: Sink>(
     latchs: &[AigLatch],
 ) -> Result<(), StreamFault>
     ensures { let leaves = latch_leaves latchs.now in
-        let text = flat_map name_of
+        let text = flat_map name_text
         (name_lines LATCH 0 leaves (get (names_of names.now.entries))) in
         BuffersOrStops W.held W.failed buffer.old w.old result text buffer.new w.new }
 {
@@ -99,7 +99,7 @@ pub(crate) fn write_names<W: Sink>(
     w: &mut W,
     circuit: &CircuitView<'_>,
 ) -> Result<(), StreamFault>
-    ensures { let text = flat_map name_of (file_of Text circuit.now).names in
+    ensures { let text = flat_map name_text (file_of Text circuit.now).names in
         BuffersOrStops W.held W.failed buffer.old w.old result text buffer.new w.new }
 {
     write_input_names(buffer, w, circuit.names(), circuit.inputs())?;

@@ -4,7 +4,7 @@ ghost use Rattle.std.specs.Prelude.{◌≡◌, ◌-◌, ◌*◌, ◌^◌, ◌<�
 ghost use Rattle.std.specs.List.{flat_map};
 ghost use Rattle.aig_circuit.specs.Edge.{literal_of};
 ghost use Rattle.aig_circuit.specs.Renumber.{renumbered_edge, renumbered_latch};
-ghost use Rattle.aig_format.specs.Written.{delta_of, gate_of, inputs_of, latch_of, lines_of};
+ghost use Rattle.aig_format.specs.Written.{delta_of, gate_text, inputs_text, latch_text, lines_text};
 ghost use Rattle.aig_format.specs.Circuit.{latch_line, gate_line};
 ghost use Rattle.aig_writer.specs.Sinks.{BuffersOrStops};
 ghost use Rattle.aig_writer.specs.Parts.{edges_of};
@@ -27,7 +27,7 @@ fn write_input_lines<W: Sink>(
 ) -> Result<(), StreamFault>
     requires table { All IsSmall numbers.now }
     requires inputs { All IsSmall inputs.now }
-    ensures { let text = lines_of (map (λ n. 2 * n) (map (number_in numbers.now) inputs.now)) in
+    ensures { let text = lines_text (map (λ n. 2 * n) (map (number_in numbers.now) inputs.now)) in
         BuffersOrStops W.held W.failed buffer.old w.old result text buffer.new w.new }
 {
     for n in inputs {
@@ -47,7 +47,7 @@ pub(crate) fn write_inputs<W: Sink>(
     requires table { All IsSmall numbers.now }
     requires inputs { All IsSmall inputs.now }
     ensures { let literals = map (λ n. 2 * n) (map (number_in numbers.now) inputs.now) in
-        let text = inputs_of kind literals in
+        let text = inputs_text kind literals in
         BuffersOrStops W.held W.failed buffer.old w.old result text buffer.new w.new }
 {
     match kind {
@@ -64,7 +64,7 @@ fn write_latch<W: Sink>(
     latch: &AigLatch,
 ) -> Result<(), StreamFault>
     requires { IsSmallLatch latch.now }
-    ensures { let text = latch_of kind (latch_line latch.now) in
+    ensures { let text = latch_text kind (latch_line latch.now) in
         BuffersOrStops W.held W.failed buffer.old w.old result text buffer.new w.new }
 {
     let own = 2 * latch.input();
@@ -88,7 +88,7 @@ pub(crate) fn write_latches<W: Sink>(
     requires table { All IsSmall numbers.now }
     requires latches { All IsSmallLatch latchs.now }
     ensures { let latches = map (renumbered_latch (number_in numbers.now)) latchs.now in
-        let text = flat_map (latch_of kind) (map latch_line latches) in
+        let text = flat_map (latch_text kind) (map latch_line latches) in
         BuffersOrStops W.held W.failed buffer.old w.old result text buffer.new w.new }
 {
     for latch in latchs {
@@ -107,7 +107,7 @@ pub(crate) fn write_edges<W: Sink>(
     requires table { All IsSmall numbers.now }
     requires edges { All IsSmallEdge edges.now }
     ensures { let written = map (renumbered_edge (number_in numbers.now)) edges.now in
-        let text = lines_of (map literal_of written) in
+        let text = lines_text (map literal_of written) in
         BuffersOrStops W.held W.failed buffer.old w.old result text buffer.new w.new }
 {
     for e in edges {
@@ -122,7 +122,7 @@ pub(crate) fn write_set_sizes<W: Sink>(
     w: &mut W,
     sets: &[Vec<AigEdge>],
 ) -> Result<(), StreamFault>
-    ensures { let text = lines_of (map length (edges_of sets.now)) in
+    ensures { let text = lines_text (map length (edges_of sets.now)) in
         BuffersOrStops W.held W.failed buffer.old w.old result text buffer.new w.new }
 {
     for set in sets {
@@ -142,7 +142,7 @@ pub(crate) fn write_sets<W: Sink>(
     requires sets { All (λ set. All IsSmallEdge set.items) sets.now }
     ensures { let written = map (map (renumbered_edge (number_in numbers.now)))
         (edges_of sets.now) in
-        let text = flat_map lines_of (map (map literal_of) written) in
+        let text = flat_map lines_text (map (map literal_of) written) in
         BuffersOrStops W.held W.failed buffer.old w.old result text buffer.new w.new }
 {
     for set in sets {
@@ -179,7 +179,7 @@ fn write_gate<W: Sink>(
 ) -> Result<(), StreamFault>
     requires small { IsSmallNode gate.now }
     requires falls { kind ≡ FileKind.Binary → FallsBelow gate.now }
-    ensures { let text = flat_map (gate_of kind) (option_to_list (gate_line gate.now)) in
+    ensures { let text = flat_map (gate_text kind) (option_to_list (gate_line gate.now)) in
         BuffersOrStops W.held W.failed buffer.old w.old result text buffer.new w.new }
 {
     let AigNodeType::And(first, second) = *gate.typ() else {
@@ -205,7 +205,7 @@ fn write_node<W: Sink>(
     requires falls { kind ≡ FileKind.Binary
         → FallsBelow (renumbered_node (number_in numbers.now) node.now) }
     ensures { let written = renumbered_node (number_in numbers.now) node.now in
-        let text = flat_map (gate_of kind) (option_to_list (gate_line written)) in
+        let text = flat_map (gate_text kind) (option_to_list (gate_line written)) in
         BuffersOrStops W.held W.failed buffer.old w.old result text buffer.new w.new }
 {
     match *node.typ() {
@@ -232,7 +232,7 @@ pub(crate) fn write_gates<W: Sink>(
     requires falls { kind ≡ FileKind.Binary →
         All (λ node. FallsBelow (renumbered_node (number_in numbers.now) node)) nodes.now }
     ensures { let written = map (renumbered_node (number_in numbers.now)) nodes.now in
-        let text = flat_map (gate_of kind) (filter_map gate_line written) in
+        let text = flat_map (gate_text kind) (filter_map gate_line written) in
         BuffersOrStops W.held W.failed buffer.old w.old result text buffer.new w.new }
 {
     for node in nodes {

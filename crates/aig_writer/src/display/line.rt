@@ -2,7 +2,7 @@
 
 ghost use Rattle.std.specs.Prelude.{◌<◌, ◌++◌, length, decimal};
 ghost use Rattle.std.specs.Fmt.{WritesStyledOnOk};
-ghost use Rattle.aig_format.specs.Written.{line_of};
+ghost use Rattle.aig_format.specs.Written.{line_text};
 
 use itoa::Buffer;
 use std::fmt;
@@ -19,7 +19,7 @@ pub fn write_number<W: Write>(n: usize, end: &str, f: &mut Formatter<W>) -> fmt:
 /// Writes a line of numbers, one at least, apart by one space each.
 pub fn write_line<W: Write>(numbers: &[usize], f: &mut Formatter<W>) -> fmt::Result
     requires { 0 < length numbers.now }
-    ensures { WritesStyledOnOk W.write_str_gives f.old result (line_of numbers.now) f.new }
+    ensures { WritesStyledOnOk W.write_str_gives f.old result (line_text numbers.now) f.new }
 {
     let last = numbers.len() - 1;
     for n in &numbers[..last] {

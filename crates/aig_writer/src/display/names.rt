@@ -6,10 +6,10 @@ ghost use Rattle.std.specs.FinMap.{get};
 ghost use Rattle.std.specs.Fmt.{WritesStyledOnOk};
 ghost use Rattle.aig_circuit.specs.Circuit.{latch_leaves};
 ghost use Rattle.aig_circuit.specs.View.{names_of};
-ghost use Rattle.aig_format.specs.Written.{name_of};
+ghost use Rattle.aig_format.specs.Written.{name_text};
 ghost use Rattle.aig_format.specs.declared.FileKind.TheVariants.{Text};
 ghost use Rattle.aig_format.specs.Circuit.{file_of, name_lines};
-ghost use Rattle.aig_writer.specs.Parts.{name_text};
+ghost use Rattle.aig_writer.specs.Parts.{text_of_name};
 
 use crate::display::line::write_number;
 use aig_circuit::{AigLatch, CircuitView};
@@ -31,7 +31,7 @@ fn write_name_line<W: Write>(
     f: &mut Formatter<W>,
 ) -> fmt::Result
     requires { letter < 128 }
-    ensures { let text = name_of
+    ensures { let text = name_text
         (record { letter = letter; position = position; name = name.now }) in
         WritesStyledOnOk W.write_str_gives f.old result text f.new }
 {
@@ -50,7 +50,7 @@ fn write_node_name<W: Write>(
     f: &mut Formatter<W>,
 ) -> fmt::Result
     requires { letter < 128 }
-    ensures { let text = name_text letter position (get (names_of names.now.entries) node) in
+    ensures { let text = text_of_name letter position (get (names_of names.now.entries) node) in
         WritesStyledOnOk W.write_str_gives f.old result text f.new }
 {
     match names.get(&node) {
@@ -66,7 +66,7 @@ fn write_input_names<W: Write>(
     f: &mut Formatter<W>,
 ) -> fmt::Result
     ensures { let lines = name_lines INPUT 0 inputs.now (get (names_of names.now.entries)) in
-        WritesStyledOnOk W.write_str_gives f.old result (flat_map name_of lines) f.new }
+        WritesStyledOnOk W.write_str_gives f.old result (flat_map name_text lines) f.new }
 {
     for (i, n) in inputs.iter().enumerate() {
         write_node_name(names, INPUT, i, *n, f)?;
@@ -82,7 +82,7 @@ fn write_latch_names<W: Write>(
 ) -> fmt::Result
     ensures { let leaves = latch_leaves latchs.now in
         let lines = name_lines LATCH 0 leaves (get (names_of names.now.entries)) in
-        WritesStyledOnOk W.write_str_gives f.old result (flat_map name_of lines) f.new }
+        WritesStyledOnOk W.write_str_gives f.old result (flat_map name_text lines) f.new }
 {
     for (i, latch) in latchs.iter().enumerate() {
         write_node_name(names, LATCH, i, latch.input(), f)?;
@@ -92,7 +92,7 @@ fn write_latch_names<W: Write>(
 
 /// Writes the names of inputs and latches.
 pub fn write_names<W: Write>(circuit: &CircuitView<'_>, f: &mut Formatter<W>) -> fmt::Result
-    ensures { let text = flat_map name_of (file_of Text circuit.now).names in
+    ensures { let text = flat_map name_text (file_of Text circuit.now).names in
         WritesStyledOnOk W.write_str_gives f.old result text f.new }
 {
     write_input_names(circuit.names(), circuit.inputs(), f)?;

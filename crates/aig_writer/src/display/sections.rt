@@ -5,7 +5,7 @@ ghost use Rattle.std.specs.List.{flat_map};
 ghost use Rattle.std.specs.Fmt.{WritesStyledOnOk};
 ghost use Rattle.aig_circuit.specs.Edge.{literal_of};
 ghost use Rattle.aig_format.specs.declared.FileKind.TheVariants.{Text};
-ghost use Rattle.aig_format.specs.Written.{lines_of, latch_of, gate_of};
+ghost use Rattle.aig_format.specs.Written.{lines_text, latch_text, gate_text};
 ghost use Rattle.aig_format.specs.Circuit.{latch_line, gate_line};
 ghost use Rattle.aig_writer.specs.Parts.{literal_sets};
 ghost use Rattle.aig_writer.specs.Literals.{IsSmall, IsSmallEdge, IsSmallLatch, IsSmallNode};
@@ -19,7 +19,7 @@ use std::fmt::{Formatter, Write};
 /// Writes a line for each input, its literal.
 pub fn write_inputs<W: Write>(inputs: &[usize], f: &mut Formatter<W>) -> fmt::Result
     requires { All IsSmall inputs.now }
-    ensures { let text = lines_of (map (λ n. 2 * n) inputs.now) in
+    ensures { let text = lines_text (map (λ n. 2 * n) inputs.now) in
         WritesStyledOnOk W.write_str_gives f.old result text f.new }
 {
     for n in inputs {
@@ -31,7 +31,7 @@ pub fn write_inputs<W: Write>(inputs: &[usize], f: &mut Formatter<W>) -> fmt::Re
 /// Writes a line for a latch: its literal, its next literal, and its reset if it is not 0.
 fn write_latch<W: Write>(latch: &AigLatch, f: &mut Formatter<W>) -> fmt::Result
     requires { IsSmallLatch latch.now }
-    ensures { let text = latch_of Text (latch_line latch.now) in
+    ensures { let text = latch_text Text (latch_line latch.now) in
         WritesStyledOnOk W.write_str_gives f.old result text f.new }
 {
     let own = 2 * latch.input();
@@ -45,7 +45,7 @@ fn write_latch<W: Write>(latch: &AigLatch, f: &mut Formatter<W>) -> fmt::Result
 /// Writes a line for each latch.
 pub fn write_latches<W: Write>(latchs: &[AigLatch], f: &mut Formatter<W>) -> fmt::Result
     requires { All IsSmallLatch latchs.now }
-    ensures { let text = flat_map (latch_of Text) (map latch_line latchs.now) in
+    ensures { let text = flat_map (latch_text Text) (map latch_line latchs.now) in
         WritesStyledOnOk W.write_str_gives f.old result text f.new }
 {
     for latch in latchs {
@@ -57,7 +57,7 @@ pub fn write_latches<W: Write>(latchs: &[AigLatch], f: &mut Formatter<W>) -> fmt
 /// Writes a line for each edge, its literal.
 pub fn write_edges<W: Write>(edges: &[AigEdge], f: &mut Formatter<W>) -> fmt::Result
     requires { All IsSmallEdge edges.now }
-    ensures { let text = lines_of (map literal_of edges.now) in
+    ensures { let text = lines_text (map literal_of edges.now) in
         WritesStyledOnOk W.write_str_gives f.old result text f.new }
 {
     for e in edges {
@@ -68,7 +68,7 @@ pub fn write_edges<W: Write>(edges: &[AigEdge], f: &mut Formatter<W>) -> fmt::Re
 
 /// Writes a line for each set, how many edges it has.
 pub fn write_set_sizes<W: Write>(sets: &[Vec<AigEdge>], f: &mut Formatter<W>) -> fmt::Result
-    ensures { let text = lines_of (map length (literal_sets sets.now)) in
+    ensures { let text = lines_text (map length (literal_sets sets.now)) in
         WritesStyledOnOk W.write_str_gives f.old result text f.new }
 {
     for set in sets {
@@ -80,7 +80,7 @@ pub fn write_set_sizes<W: Write>(sets: &[Vec<AigEdge>], f: &mut Formatter<W>) ->
 /// Writes the lines of each set of edges.
 pub fn write_sets<W: Write>(sets: &[Vec<AigEdge>], f: &mut Formatter<W>) -> fmt::Result
     requires { All (λ set. All IsSmallEdge set.items) sets.now }
-    ensures { let text = flat_map lines_of (literal_sets sets.now) in
+    ensures { let text = flat_map lines_text (literal_sets sets.now) in
         WritesStyledOnOk W.write_str_gives f.old result text f.new }
 {
     for set in sets {
@@ -92,7 +92,7 @@ pub fn write_sets<W: Write>(sets: &[Vec<AigEdge>], f: &mut Formatter<W>) -> fmt:
 /// Writes a line for a node that is a gate: its literal, its second operand, its first.
 fn write_gate<W: Write>(node: &AigNode, f: &mut Formatter<W>) -> fmt::Result
     requires { IsSmallNode node.now }
-    ensures { let text = flat_map (gate_of Text) (option_to_list (gate_line node.now)) in
+    ensures { let text = flat_map (gate_text Text) (option_to_list (gate_line node.now)) in
         WritesStyledOnOk W.write_str_gives f.old result text f.new }
 {
     match node.typ() {
@@ -107,7 +107,7 @@ fn write_gate<W: Write>(node: &AigNode, f: &mut Formatter<W>) -> fmt::Result
 /// Writes a line for each node that is a gate.
 pub fn write_gates<W: Write>(nodes: &[AigNode], f: &mut Formatter<W>) -> fmt::Result
     requires { All IsSmallNode nodes.now }
-    ensures { let text = flat_map (gate_of Text) (filter_map gate_line nodes.now) in
+    ensures { let text = flat_map (gate_text Text) (filter_map gate_line nodes.now) in
         WritesStyledOnOk W.write_str_gives f.old result text f.new }
 {
     for node in nodes {

@@ -1,5 +1,5 @@
 use Rattle.aig_format.specs.Circuit.{file_of}
-use Rattle.aig_format.specs.Written.{line_of}
+use Rattle.aig_format.specs.Written.{line_text}
 use Rattle.std.proofs.Common.{◌+◌, take, ◌∷◌, [], rules}
 use Rattle.aig_writer.proofs.Counts.{header_text}
 use Rattle.aig_writer.proofs.Putting.{failed_first, then_call}
@@ -11,7 +11,7 @@ returns-in_err-write_bytes-clause-writes g c =
     let numbers = c.header_numbers-numbers.result in
     let count = c.written_count-written.result in
     rw (header_text (file_of c.args.kind c.args.circuit.now) count numbers (c.header_numbers-numbers.ensures.value c.args.kind) c.written_count-written.ensures.value)
-    (failed_first (line_of (take (5 + count) numbers) ∷ []) (rw word at c.in_err-write_bytes.ensures) (search rules))
+    (failed_first (line_text (take (5 + count) numbers) ∷ []) (rw word at c.in_err-write_bytes.ensures) (search rules))
 
 pub returns-clause-writes : goal.returns-clause-writes
 returns-clause-writes g c =

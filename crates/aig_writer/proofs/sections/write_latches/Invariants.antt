@@ -3,8 +3,8 @@ use Rattle.std.specs.List.{flat_map}
 use Rattle.aig_writer.specs.Sinks.{Buffers}
 use Rattle.aig_writer.specs.Numbering.{number_in}
 use Rattle.aig_circuit.specs.Renumber.{renumbered_latch}
-use Rattle.aig_writer.proofs.Items.{latch_text}
+use Rattle.aig_writer.proofs.Items.{text_of_latch}
 use Rattle.aig_writer.proofs.sections.write_latches.Given as goal
 
 abbrev pub invariant-loop-latch : goal.invariant-loop-latch
-invariant-loop-latch g l = Buffers l.fn.buffer (g.W.Sink.held l.fn.w) l.buffer (g.W.Sink.held l.w) (flat_map (λ latch. latch_text l.kind (renumbered_latch (number_in l.numbers) latch)) (take l.latch-index l.latchs))
+invariant-loop-latch g l = Buffers l.fn.buffer (g.W.Sink.held l.fn.w) l.buffer (g.W.Sink.held l.w) (flat_map (λ latch. text_of_latch l.kind (renumbered_latch (number_in l.numbers) latch)) (take l.latch-index l.latchs))
