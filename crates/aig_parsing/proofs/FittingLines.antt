@@ -10,7 +10,7 @@ use Rattle.aig_format.specs.File.{GateLine}
 use Rattle.aig_format.specs.Spells.{Latch, Gate}
 use Rattle.aig_format.specs.Fits.{IsOrdered}
 use Rattle.aig_parsing.specs.Parse.{◌>>=◌, number_at, ended_at, both_at, tested_at, times_at, placed_at, placed_gate_at}
-use Rattle.aig_parsing.specs.ParseTested.{is_literal, next_at, latch_of, latch_line_at, binary_latch_at, pair_at, triple_at, gate_of, gate_line_at, literals_at, literal_sets_at}
+use Rattle.aig_parsing.specs.ParseTested.{is_literal, next_at, latch_line_from, latch_line_at, binary_latch_at, pair_at, triple_at, gate_line_from, gate_line_at, literals_at, literal_sets_at}
 use Rattle.aig_format.proofs.Entries.{chosen}
 use Rattle.aig_parsing.proofs.Numbers.{bind_some, number_sound}
 use Rattle.aig_parsing.proofs.Joined.{Begins, Reads, Several, With, Reads-ended, Reads-both, Reads-tested, Reads-mapped, Reads-seen, Reads-times}
@@ -105,14 +105,14 @@ Reads-next = record { sound = next_sound; complete = λ x front rest h. next_com
 
 pub Reads-latch_line : Reads (Latch Text) latch_line_at
 Reads-latch_line =
-    Reads-mapped (λ x. IsLine (x.0 ∷ x.1.0 ∷ option_to_list x.1.1)) (Latch Text) (both_at (ended_at 32) (λ _. next_at)) (λ x. latch_of x.0 x.1) (λ l. (l.literal, (l.next, l.reset)))
+    Reads-mapped (λ x. IsLine (x.0 ∷ x.1.0 ∷ option_to_list x.1.1)) (Latch Text) (both_at (ended_at 32) (λ _. next_at)) (λ x. latch_line_from x.0 x.1) (λ l. (l.literal, (l.next, l.reset)))
     (Reads-both (Ended 32) (λ _. IsNext) (ended_at 32) (λ _. next_at) Reads-space_end (λ _. Reads-next))
     (λ x bytes h. h) (λ l bytes h. h) (λ l. refl)
 
 pub Reads-binary_latch : (v : ℕ) → Reads (At latch_key (Latch Binary) v) (binary_latch_at v)
 Reads-binary_latch v =
-    Reads-seen IsNext (At latch_key (Latch Binary) v) next_at (latch_of (2 * v)) Reads-next (λ x bytes h. (refl, h))
-    (λ l bytes h. ((l.next, l.reset), h.1, ap (λ (k : ℕ). latch_of k (l.next, l.reset)) (sym h.0)))
+    Reads-seen IsNext (At latch_key (Latch Binary) v) next_at (latch_line_from (2 * v)) Reads-next (λ x bytes h. (refl, h))
+    (λ l bytes h. ((l.next, l.reset), h.1, ap (λ (k : ℕ). latch_line_from k (l.next, l.reset)) (sym h.0)))
 
 Reads-pair : Reads (λ x. IsLine (x.0 ∷ x.1 ∷ [])) pair_at
 Reads-pair = Reads-both (Ended 32) (λ _. Ended 10) (ended_at 32) (λ _. ended_at 10) Reads-space_end (λ _. Reads-line_end)
@@ -122,7 +122,7 @@ Reads-triple = Reads-both (Ended 32) (λ _ y. IsLine (y.0 ∷ y.1 ∷ [])) (ende
 
 pub Reads-gate_line : Reads (Gate Text) gate_line_at
 Reads-gate_line =
-    Reads-mapped (λ x. IsLine (x.0 ∷ x.1.0 ∷ x.1.1 ∷ [])) (Gate Text) triple_at gate_of (λ g. (g.lhs, (g.rhs0, g.rhs1))) Reads-triple
+    Reads-mapped (λ x. IsLine (x.0 ∷ x.1.0 ∷ x.1.1 ∷ [])) (Gate Text) triple_at gate_line_from (λ g. (g.lhs, (g.rhs0, g.rhs1))) Reads-triple
     (λ x bytes h. h) (λ g bytes h. h) (λ g. refl)
 
 abbrev pub is_below : GateLine → Bool

@@ -71,16 +71,16 @@ next_at bytes = do
   if n.0.1 == 10 then Some ((n.0.0, None), n.1) else if n.0.1 == 32 then (ended_at 10 n.1 >>= λ r. Some ((n.0.0, Some r.0), r.1)) else None
 
 -- a latch of this literal
-abbrev pub latch_of : ℕ → ℕ × Option ℕ → LatchLine
-latch_of own x = record { literal = own; next = x.0; reset = x.1 }
+abbrev pub latch_line_from : ℕ → ℕ × Option ℕ → LatchLine
+latch_line_from own x = record { literal = own; next = x.0; reset = x.1 }
 
 -- a latch line of a text file
 abbrev pub latch_line_at : List ℕ → Option (LatchLine × List ℕ)
-latch_line_at = mapped_at (λ x. latch_of x.0 x.1) (both_at (ended_at 32) (λ _. next_at))
+latch_line_at = mapped_at (λ x. latch_line_from x.0 x.1) (both_at (ended_at 32) (λ _. next_at))
 
 -- a latch line of a binary file, for the latch of variable v
 abbrev pub binary_latch_at : ℕ → List ℕ → Option (LatchLine × List ℕ)
-binary_latch_at v = mapped_at (latch_of (2 * v)) next_at
+binary_latch_at v = mapped_at (latch_line_from (2 * v)) next_at
 
 -- two numbers in a line
 abbrev pub pair_at : List ℕ → Option ((ℕ × ℕ) × List ℕ)
@@ -91,12 +91,12 @@ abbrev pub triple_at : List ℕ → Option ((ℕ × (ℕ × ℕ)) × List ℕ)
 triple_at = both_at (ended_at 32) (λ _. pair_at)
 
 -- the gate of three numbers
-abbrev pub gate_of : ℕ × (ℕ × ℕ) → GateLine
-gate_of x = record { lhs = x.0; rhs0 = x.1.0; rhs1 = x.1.1 }
+abbrev pub gate_line_from : ℕ × (ℕ × ℕ) → GateLine
+gate_line_from x = record { lhs = x.0; rhs0 = x.1.0; rhs1 = x.1.1 }
 
 -- a gate line of a text file
 abbrev pub gate_line_at : List ℕ → Option (GateLine × List ℕ)
-gate_line_at = mapped_at gate_of triple_at
+gate_line_at = mapped_at gate_line_from triple_at
 
 -- ---- the sections
 

@@ -6,7 +6,7 @@ use Rattle.aig_format.specs.declared.FileKind.TheVariants.{Text, Binary}
 use Rattle.aig_format.specs.File.{LatchLine, GateLine, HeaderNumbers}
 use Rattle.aig_format.specs.Spells.{places}
 use Rattle.aig_parsing.specs.Parse.{◌>>=◌, both_at, delta_at, ended_at, fits_gate, mapped_at, placed_at, placed_gate, placed_gate_at, tested_at}
-use Rattle.aig_parsing.specs.ParseTested.{binary_latch_at, defines, fitting_gates_at, fitting_inputs_at, fitting_latches_at, gate_line_at, gate_of, has_next, latch_line_at, latch_of, next_at, tests_gate, tests_latch}
+use Rattle.aig_parsing.specs.ParseTested.{binary_latch_at, defines, fitting_gates_at, fitting_inputs_at, fitting_latches_at, gate_line_at, gate_line_from, has_next, latch_line_at, latch_line_from, next_at, tests_gate, tests_latch}
 use Rattle.aig_reader.specs.ParseEntry.{gate_at, input_at, latch_at, operands_at}
 use Rattle.aig_reader.specs.Gates.{literals_of}
 use Rattle.aig_reader.proofs.Entries.{checked_is_entries, entries_at, length_push, placed_is_entries, put_first}
@@ -42,7 +42,7 @@ module _ (greatest : ℕ) (inputs : List ℕ) where
   latch_here : (front : List LatchLine) (bs : List ℕ) → latch_at Binary greatest inputs front bs ≡ tested_at (binary_latch_at (length (literals front) + 1)) (has_next greatest) bs
   latch_here front bs = go (2 * (length (literals front) + 1)) (next_at bs)
     where
-      go : (own : ℕ) (o : Option ((ℕ × Option ℕ) × List ℕ)) → (((o >>= beside own) >>= seen (λ x. latch_of x.0 x.1)) >>= passing (λ l. true && has_next greatest l)) ≡ ((o >>= seen (latch_of own)) >>= passing (has_next greatest))
+      go : (own : ℕ) (o : Option ((ℕ × Option ℕ) × List ℕ)) → (((o >>= beside own) >>= seen (λ x. latch_line_from x.0 x.1)) >>= passing (λ l. true && has_next greatest l)) ≡ ((o >>= seen (latch_line_from own)) >>= passing (has_next greatest))
       go own None = refl
       go own (Some y) = refl
 
@@ -77,7 +77,7 @@ module _ (greatest : ℕ) (leaves : List ℕ) where
 
   -- a gate of variable v
   abbrev gate_by : ℕ → List ℕ → Option (GateLine × List ℕ)
-  gate_by v = tested_at (mapped_at gate_of (both_at (λ bytes. Some (2 * v, bytes)) (operands_at Binary))) first_below
+  gate_by v = tested_at (mapped_at gate_line_from (both_at (λ bytes. Some (2 * v, bytes)) (operands_at Binary))) first_below
 
   abbrev operands_of : ℕ → ℕ × ℕ → ℕ × ℕ
   operands_of lhs d = (lhs - d.0, lhs - d.0 - d.1)
@@ -85,7 +85,7 @@ module _ (greatest : ℕ) (leaves : List ℕ) where
   gate_here : (v : ℕ) (bs : List ℕ) → gate_by v bs ≡ tested_at (placed_gate_at v) first_below bs
   gate_here v bs = go (tested_at (both_at delta_at (λ _. delta_at)) (fits_gate v) bs)
     where
-      go : (o : Option ((ℕ × ℕ) × List ℕ)) → ((((o >>= seen (operands_of (2 * v))) >>= beside (2 * v)) >>= seen gate_of) >>= passing first_below) ≡ ((o >>= seen (placed_gate v)) >>= passing first_below)
+      go : (o : Option ((ℕ × ℕ) × List ℕ)) → ((((o >>= seen (operands_of (2 * v))) >>= beside (2 * v)) >>= seen gate_line_from) >>= passing first_below) ≡ ((o >>= seen (placed_gate v)) >>= passing first_below)
       go None = refl
       go (Some d) = refl
 

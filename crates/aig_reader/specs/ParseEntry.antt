@@ -5,7 +5,7 @@ use Rattle.aig_format.specs.declared.FileKind.{FileKind}
 use Rattle.aig_format.specs.declared.FileKind.TheVariants.{Text, Binary}
 use Rattle.aig_format.specs.File.{LatchLine, GateLine}
 use Rattle.aig_parsing.specs.Parse.{both_at, delta_at, ended_at, mapped_at, tested_at}
-use Rattle.aig_parsing.specs.ParseTested.{defines, gate_of, has_next, is_literal, latch_of, next_at, pair_at}
+use Rattle.aig_parsing.specs.ParseTested.{defines, gate_line_from, has_next, is_literal, latch_line_from, next_at, pair_at}
 
 -- the literal that an entry defines: in a text file it is written, in a binary file it is that of the next variable
 abbrev pub own_at : FileKind → ℕ → List ℕ → List ℕ → Option (ℕ × List ℕ)
@@ -25,7 +25,7 @@ input_at kind greatest before = tested_at (own_at kind 10 before) (may_define ki
 abbrev pub latch_at : FileKind → ℕ → List ℕ → List LatchLine → List ℕ → Option (LatchLine × List ℕ)
 latch_at kind greatest inputs before =
     let literals = inputs ++ map (λ m. m.literal) before in
-    tested_at (mapped_at (λ x. latch_of x.0 x.1) (both_at (own_at kind 32 literals) (λ _. next_at))) (λ l. may_define kind greatest literals l.literal && has_next greatest l)
+    tested_at (mapped_at (λ x. latch_line_from x.0 x.1) (both_at (own_at kind 32 literals) (λ _. next_at))) (λ l. may_define kind greatest literals l.literal && has_next greatest l)
 
 -- the operands of a gate of this literal: in a text file two numbers, in a binary file by their differences
 abbrev pub operands_at : FileKind → ℕ → List ℕ → Option ((ℕ × ℕ) × List ℕ)
@@ -47,4 +47,4 @@ may_stand Binary greatest before g = nat_lt g.rhs0 g.lhs
 abbrev pub gate_at : FileKind → ℕ → List ℕ → List GateLine → List ℕ → Option (GateLine × List ℕ)
 gate_at kind greatest leaves before =
     let literals = leaves ++ map (λ h. h.lhs) before in
-    tested_at (mapped_at gate_of (both_at (own_at kind 32 literals) (operands_at kind))) (may_stand kind greatest literals)
+    tested_at (mapped_at gate_line_from (both_at (own_at kind 32 literals) (operands_at kind))) (may_stand kind greatest literals)
