@@ -9,7 +9,7 @@ use Rattle.aig_base.specs.declared.logic.literal.Lit.{Lit}
 use Rattle.aig_base.specs.Clauses.{AreBelow, is_positive, lit_to, variable_of}
 use Rattle.aig_parsing.specs.Parse.{◌>>=◌}
 use Rattle.aig_dimacs.specs.Text.{IsFormula, clause_line, dimacs_of, literal_text}
-use Rattle.aig_dimacs.specs.Reading.{clauses_from, counted_in, formula_at, signed_in, words_from}
+use Rattle.aig_dimacs.specs.Reading.{clauses_from, counted_in, parse_formula, signed_in, words_from}
 use Rattle.aig_dimacs.proofs.Words.{decimal_plain, decimal_some, number_in-decimal, signed_in-word_of, word_of, word_plain, word_some, words_from-word}
 
 -- a literal is that of its variable and polarity
@@ -89,13 +89,13 @@ unfolding counted_in
 counted variables clauses h =
     rw (number_in-decimal variables h.few, number_in-decimal (length clauses) h.count, clauses_from-lines variables clauses h.few (below_by_recursion variables clauses h.below), itself (length clauses)) refl
 
-pub formula_at-dimacs_of : (variables : ℕ) (clauses : List (List Lit)) → IsFormula variables clauses → formula_at (dimacs_of variables clauses) ≡ Some (variables, clauses)
-unfolding formula_at dimacs_of
-formula_at-dimacs_of variables clauses h =
+pub parse_formula-dimacs_of : (variables : ℕ) (clauses : List (List Lit)) → IsFormula variables clauses → parse_formula (dimacs_of variables clauses) ≡ Some (variables, clauses)
+unfolding parse_formula dimacs_of
+parse_formula-dimacs_of variables clauses h =
     ap counted_in (words_from-header variables (length clauses) (flat_map clause_line clauses) h.few h.count) ∙ counted variables clauses h
 
 pub dimacs_of-injective : (variables others : ℕ) (clauses further : List (List Lit)) → IsFormula variables clauses → IsFormula others further → dimacs_of variables clauses ≡ dimacs_of others further
     → (variables ≡ others) × (clauses ≡ further)
 dimacs_of-injective variables others clauses further h k same =
-    let pair : (variables, clauses) ≡ (others, further) = same_Some _ _ (sym (formula_at-dimacs_of variables clauses h) ∙ ap formula_at same ∙ formula_at-dimacs_of others further k) in
+    let pair : (variables, clauses) ≡ (others, further) = same_Some _ _ (sym (parse_formula-dimacs_of variables clauses h) ∙ ap parse_formula same ∙ parse_formula-dimacs_of others further k) in
     (ap (λ p. p.0) pair, ap (λ p. p.1) pair)

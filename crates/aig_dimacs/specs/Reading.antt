@@ -54,5 +54,5 @@ counted_in (first ∷ second ∷ words) = do
   if length clauses == count then Some (variables, clauses) else None
 
 -- the count of variables and the clauses that bytes say, if they are such a text
-unfoldable pub formula_at : List ℕ → Option (ℕ × List (List Lit))
-formula_at bytes = strip (codes "p cnf ") bytes >>= λ rest. counted_in (words_from [] rest)
+unfoldable pub parse_formula : List ℕ → Option (ℕ × List (List Lit))
+parse_formula bytes = strip (codes "p cnf ") bytes >>= λ rest. counted_in (words_from [] rest)

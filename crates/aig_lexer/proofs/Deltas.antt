@@ -2,7 +2,7 @@
 use Rattle.std.proofs.Common.{◌≡◌, ℕ, suc, ◌+◌, ◌-◌, ◌*◌, ◌^◌, ◌<◌, ◌≤◌, ◌%◌, cond, ltb, List, [], ◌∷◌, Option, Some, None, refl, ap, ◌∙◌, arith}
 use Rattle.std.proofs.lemmas.Bool.{lt-ltb, le-ltb}
 use Rattle.std.proofs.Math.Nat.{mul-le-mul_left, pow-le-pow_right}
-use Rattle.aig_parsing.specs.Parse.{◌>>=◌, groups_at, delta_at, mapped_at, tested_at}
+use Rattle.aig_parsing.specs.Parse.{◌>>=◌, parse_groups, parse_delta, parse_map, parse_if}
 
 -- a value, and the bytes behind it
 abbrev read : ℕ → List ℕ → Option (ℕ × List ℕ)
@@ -13,10 +13,10 @@ small x = cond (ltb x.0 (2 ^ 32)) (Some x) None
 
 -- at most k groups behind those that make this value; the next one counts `place` times
 abbrev pub groups_behind : ℕ → ℕ → ℕ → List ℕ → Option (ℕ × List ℕ)
-groups_behind value place k = tested_at (mapped_at (λ d. value + place * d) (groups_at k)) (λ d. ltb d (2 ^ 32))
+groups_behind value place k = parse_if (parse_map (λ d. value + place * d) (parse_groups k)) (λ d. ltb d (2 ^ 32))
 
-pub delta_starts : (bs : List ℕ) → delta_at bs ≡ groups_behind 0 1 5 bs
-delta_starts bs = go (groups_at 5 bs)
+pub delta_starts : (bs : List ℕ) → parse_delta bs ≡ groups_behind 0 1 5 bs
+delta_starts bs = go (parse_groups 5 bs)
   where
     go : (o : Option (ℕ × List ℕ)) → (o >>= small) ≡ ((o >>= λ x. read (0 + 1 * x.0) x.1) >>= small)
     go None = refl
@@ -29,12 +29,12 @@ one_left : (i : ℕ) → i < 5 → 5 - i ≡ suc (5 - (i + 1))
 one_left i lt = omega arith
 
 pub delta_ends : (value place i : ℕ) → i < 5 → groups_behind value place (5 - i) [] ≡ None
-unfolding groups_at
+unfolding parse_groups
 delta_ends value place i lt = rw (one_left i lt) refl
 
 module _ (value place i b : ℕ) (bs : List ℕ) (lt : i < 5) where
   delta_stops : b < 128 → groups_behind value place (5 - i) (b ∷ bs) ≡ small (value + place * (b % 128), bs)
-  unfolding groups_at
+  unfolding parse_groups
   delta_stops low = let r : b % 128 ≡ b = omega arith in rw (one_left i lt, lt-ltb b 128 low, r) refl
 
   -- the last group
@@ -47,8 +47,8 @@ module _ (value place i b : ℕ) (bs : List ℕ) (lt : i < 5) where
 
   -- a group with others behind it
   pub delta_goes : 128 ≤ b → b < 256 → groups_behind value place (5 - i) (b ∷ bs) ≡ groups_behind (value + place * (b % 128)) (place * 128) (5 - (i + 1)) bs
-  unfolding groups_at
-  delta_goes high byte = let r : b % 128 ≡ b - 128 = omega arith in rw (one_left i lt, le-ltb b 128 high, r) (go (groups_at (5 - (i + 1)) bs))
+  unfolding parse_groups
+  delta_goes high byte = let r : b % 128 ≡ b - 128 = omega arith in rw (one_left i lt, le-ltb b 128 high, r) (go (parse_groups (5 - (i + 1)) bs))
     where
       go : (o : Option (ℕ × List ℕ)) → (((o >>= λ x. read ((b - 128) + 128 * x.0) x.1) >>= λ x. read (value + place * x.0) x.1) >>= small)
           ≡ ((o >>= λ x. read ((value + place * (b - 128)) + place * 128 * x.0) x.1) >>= small)
@@ -58,7 +58,7 @@ module _ (value place i b : ℕ) (bs : List ℕ) (lt : i < 5) where
           ap (λ (d : ℕ). small (d, x.1)) e
 
 pub delta_too_long : (value place i : ℕ) → 5 ≤ i → (bs : List ℕ) → groups_behind value place (5 - i) bs ≡ None
-unfolding groups_at
+unfolding parse_groups
 delta_too_long value place i le bs = let k : 5 - i ≡ 0 = omega arith in rw k refl
 
 -- ---- sizes

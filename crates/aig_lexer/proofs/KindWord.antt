@@ -4,9 +4,9 @@ use Rattle.std.specs.Prelude.{option_map}
 use Rattle.aig_base.proofs.Mapping.{turned}
 use Rattle.aig_format.specs.declared.FileKind.{FileKind}
 use Rattle.aig_format.specs.declared.FileKind.TheVariants.{Text, Binary}
-use Rattle.aig_parsing.specs.Parse.{◌>>=◌, kind_at, or_else, strip}
+use Rattle.aig_parsing.specs.Parse.{◌>>=◌, parse_kind, or_else, strip}
 use Rattle.aig_lexer.specs.Takes.{Takes, Misses}
-use Rattle.aig_lexer.specs.Words.{expect_at, kind_byte_at, word_at}
+use Rattle.aig_lexer.specs.Words.{parse_expected, parse_kind_byte, parse_word}
 use Rattle.aig_lexer.proofs.Taking.{takes_same, misses_same, takes_bind, misses_first, misses_next, takes_mapped, misses_mapped}
 
 abbrev named : FileKind → List ℕ → FileKind × List ℕ
@@ -20,11 +20,11 @@ end_text = 103 ∷ 32 ∷ []
 
 -- the word behind the byte that tells the kind
 abbrev behind_kind : FileKind × List ℕ → Option (FileKind × List ℕ)
-behind_kind k = word_at end_text k.1 >>= λ w. Some (named k.0 w.1)
+behind_kind k = parse_word end_text k.1 >>= λ w. Some (named k.0 w.1)
 
 -- the word behind its first byte
 abbrev behind_first : ℕ × List ℕ → Option (FileKind × List ℕ)
-behind_first x = kind_byte_at x.1 >>= behind_kind
+behind_first x = parse_kind_byte x.1 >>= behind_kind
 
 -- either kind's word behind its first byte
 abbrev either_kind : List ℕ → Option (FileKind × List ℕ)
@@ -49,8 +49,8 @@ is_either (b ∷ bs) = rw (turned b 97, turned b 105) (go (eqb 97 b) (eqb 105 b)
     go false true = binary (strip end_text bs)
     go false false = refl
 
-kind_is : (bs : List ℕ) → (expect_at 97 bs >>= behind_first) ≡ kind_at bs
-unfolding kind_at
+kind_is : (bs : List ℕ) → (parse_expected 97 bs >>= behind_first) ≡ parse_kind bs
+unfolding parse_kind
 kind_is [] = refl
 kind_is (b ∷ bs) = go (eqb 97 b)
   where
@@ -59,19 +59,19 @@ kind_is (b ∷ bs) = go (eqb 97 b)
     go false = refl
 
 -- the word, and where it stops to be one
-pub takes_kind : (b m n a : Option (List ℕ)) (kind : FileKind) → Takes (expect_at 97) b m 97 → Takes kind_byte_at m n kind → Takes (word_at end_text) n a tt → Takes kind_at b a kind
+pub takes_kind : (b m n a : Option (List ℕ)) (kind : FileKind) → Takes (parse_expected 97) b m 97 → Takes parse_kind_byte m n kind → Takes (parse_word end_text) n a tt → Takes parse_kind b a kind
 takes_kind b m n a kind first second rest =
-    takes_same (λ bs. expect_at 97 bs >>= behind_first) kind_at b a kind
-    (takes_bind (expect_at 97) behind_first b m a 97 kind first (takes_bind kind_byte_at behind_kind m n a kind kind second (takes_mapped (λ (_ : Unit {0}). kind) (word_at end_text) n a tt rest))) kind_is
+    takes_same (λ bs. parse_expected 97 bs >>= behind_first) parse_kind b a kind
+    (takes_bind (parse_expected 97) behind_first b m a 97 kind first (takes_bind parse_kind_byte behind_kind m n a kind kind second (takes_mapped (λ (_ : Unit {0}). kind) (parse_word end_text) n a tt rest))) kind_is
 
-pub misses_first_byte : (b : Option (List ℕ)) → Misses (expect_at 97) b → Misses kind_at b
-misses_first_byte b h = misses_same (λ bs. expect_at 97 bs >>= behind_first) kind_at b (misses_first (expect_at 97) behind_first b h) kind_is
+pub misses_first_byte : (b : Option (List ℕ)) → Misses (parse_expected 97) b → Misses parse_kind b
+misses_first_byte b h = misses_same (λ bs. parse_expected 97 bs >>= behind_first) parse_kind b (misses_first (parse_expected 97) behind_first b h) kind_is
 
-module _ (b m : Option (List ℕ)) (first : Takes (expect_at 97) b m 97) where
-  pub misses_kind_byte : Misses kind_byte_at m → Misses kind_at b
-  misses_kind_byte h = misses_same (λ bs. expect_at 97 bs >>= behind_first) kind_at b (misses_next (expect_at 97) behind_first b m 97 first (misses_first kind_byte_at behind_kind m h)) kind_is
+module _ (b m : Option (List ℕ)) (first : Takes (parse_expected 97) b m 97) where
+  pub misses_kind_byte : Misses parse_kind_byte m → Misses parse_kind b
+  misses_kind_byte h = misses_same (λ bs. parse_expected 97 bs >>= behind_first) parse_kind b (misses_next (parse_expected 97) behind_first b m 97 first (misses_first parse_kind_byte behind_kind m h)) kind_is
 
-  pub misses_word : (n : Option (List ℕ)) (kind : FileKind) → Takes kind_byte_at m n kind → Misses (word_at end_text) n → Misses kind_at b
+  pub misses_word : (n : Option (List ℕ)) (kind : FileKind) → Takes parse_kind_byte m n kind → Misses (parse_word end_text) n → Misses parse_kind b
   misses_word n kind second h =
-      misses_same (λ bs. expect_at 97 bs >>= behind_first) kind_at b
-      (misses_next (expect_at 97) behind_first b m 97 first (misses_next kind_byte_at behind_kind m n kind second (misses_mapped (λ (_ : Unit {0}). kind) (word_at end_text) n h))) kind_is
+      misses_same (λ bs. parse_expected 97 bs >>= behind_first) parse_kind b
+      (misses_next (parse_expected 97) behind_first b m 97 first (misses_next parse_kind_byte behind_kind m n kind second (misses_mapped (λ (_ : Unit {0}). kind) (parse_word end_text) n h))) kind_is

@@ -1,7 +1,7 @@
 -- What readers that are joined take, from what their parts take.
 use Rattle.std.proofs.Common.{◌≡◌, ℕ, Bool, true, false, cond, List, [], ◌++◌, Option, Some, None, refl, sym, ap, ◌∙◌, append_assoc}
 use Rattle.std.proofs.KnownBytes.{Consumes-nil, Consumes-trans}
-use Rattle.aig_parsing.specs.Parse.{◌>>=◌, both_at, tested_at, mapped_at}
+use Rattle.aig_parsing.specs.Parse.{◌>>=◌, parse_both, parse_if, parse_map}
 use Rattle.aig_lexer.specs.Takes.{Takes, Misses}
 use Rattle.aig_lexer.proofs.Going.{known_after, known_rest}
 
@@ -41,37 +41,37 @@ module _ {A B : Type 0} (p : List ℕ → Option (A × List ℕ)) (next : A × L
 pub takes_nothing : {A : Type 0} (b : Option (List ℕ)) (x : A) → Takes (λ bs. Some (x, bs)) b b x
 takes_nothing b x = record { taken = []; reads = λ rest. refl; consumed = Consumes-nil b }
 
-pub takes_mapped : {A B : Type 0} (f : A → B) (p : List ℕ → Option (A × List ℕ)) (b a : Option (List ℕ)) (x : A) → Takes p b a x → Takes (mapped_at f p) b a (f x)
+pub takes_mapped : {A B : Type 0} (f : A → B) (p : List ℕ → Option (A × List ℕ)) (b a : Option (List ℕ)) (x : A) → Takes p b a x → Takes (parse_map f p) b a (f x)
 takes_mapped f p b a x h = takes_bind p (λ x. Some (f x.0, x.1)) b a a x (f x) h (takes_nothing a (f x))
 
-pub misses_mapped : {A B : Type 0} (f : A → B) (p : List ℕ → Option (A × List ℕ)) (b : Option (List ℕ)) → Misses p b → Misses (mapped_at f p) b
+pub misses_mapped : {A B : Type 0} (f : A → B) (p : List ℕ → Option (A × List ℕ)) (b : Option (List ℕ)) → Misses p b → Misses (parse_map f p) b
 misses_mapped f p b h = misses_first p (λ x. Some (f x.0, x.1)) b h
 
 -- ---- one reader, and then another
 
 module _ {A B : Type 0} (p : List ℕ → Option (A × List ℕ)) (q : A → List ℕ → Option (B × List ℕ)) where
-  pub takes_both : (b m a : Option (List ℕ)) (x : A) (y : B) → Takes p b m x → Takes (q x) m a y → Takes (both_at p q) b a (x, y)
+  pub takes_both : (b m a : Option (List ℕ)) (x : A) (y : B) → Takes p b m x → Takes (q x) m a y → Takes (parse_both p q) b a (x, y)
   takes_both b m a x y h k = takes_bind p (λ x. q x.0 x.1 >>= λ y. Some ((x.0, y.0), y.1)) b m a x (x, y) h (takes_mapped (λ (y : B). (x, y)) (q x) m a y k)
 
-  pub misses_both : (b m : Option (List ℕ)) (x : A) → Takes p b m x → Misses (q x) m → Misses (both_at p q) b
+  pub misses_both : (b m : Option (List ℕ)) (x : A) → Takes p b m x → Misses (q x) m → Misses (parse_both p q) b
   misses_both b m x h k = misses_next p (λ x. q x.0 x.1 >>= λ y. Some ((x.0, y.0), y.1)) b m x h (misses_mapped (λ (y : B). (x, y)) (q x) m k)
 
-  pub misses_either : (b : Option (List ℕ)) → Misses p b → Misses (both_at p q) b
+  pub misses_either : (b : Option (List ℕ)) → Misses p b → Misses (parse_both p q) b
   misses_either b h = misses_first p (λ x. q x.0 x.1 >>= λ y. Some ((x.0, y.0), y.1)) b h
 
 -- ---- a test
 
 module _ {A : Type 0} (p : List ℕ → Option (A × List ℕ)) (test : A → Bool) where
-  pub takes_tested : (b a : Option (List ℕ)) (x : A) → Takes p b a x → test x ≡ true → Takes (tested_at p test) b a x
+  pub takes_tested : (b a : Option (List ℕ)) (x : A) → Takes p b a x → test x ≡ true → Takes (parse_if p test) b a x
   takes_tested b a x h e = record {
     taken = h.taken;
     reads = λ rest. ap (λ (o : Option (A × List ℕ)). o >>= λ x. cond (test x.0) (Some x) None) (h.reads rest) ∙ ap (λ (c : Bool). cond c (Some (x, rest)) None) e;
     consumed = h.consumed;
   }
 
-  pub misses_test : (b a : Option (List ℕ)) (x : A) → Takes p b a x → test x ≡ false → Misses (tested_at p test) b
-  misses_test b a x h e = known_after b a h.taken (λ bs. tested_at p test bs ≡ None) h.consumed
+  pub misses_test : (b a : Option (List ℕ)) (x : A) → Takes p b a x → test x ≡ false → Misses (parse_if p test) b
+  misses_test b a x h e = known_after b a h.taken (λ bs. parse_if p test bs ≡ None) h.consumed
       (λ rest. ap (λ (o : Option (A × List ℕ)). o >>= λ x. cond (test x.0) (Some x) None) (h.reads rest) ∙ ap (λ (c : Bool). cond c (Some (x, rest)) None) e)
 
-  pub misses_tested : (b : Option (List ℕ)) → Misses p b → Misses (tested_at p test) b
+  pub misses_tested : (b : Option (List ℕ)) → Misses p b → Misses (parse_if p test) b
   misses_tested b h = misses_first p (λ x. cond (test x.0) (Some x) None) b h

@@ -1,24 +1,24 @@
 -- A word, byte by byte.
 use Rattle.std.proofs.Common.{◌≡◌, ℕ, Bool, true, false, cond, eqb, List, [], ◌∷◌, Option, Some, None, refl, ap}
 use Rattle.std.proofs.lemmas.Option.{same_Some}
-use Rattle.aig_lexer.specs.Words.{expect_at, word_at}
+use Rattle.aig_lexer.specs.Words.{parse_expected, parse_word}
 
 abbrev read : {A : Type 0} → A → List ℕ → Option (A × List ℕ)
 read x bytes = Some (x, bytes)
 
 -- a byte was expected, and came
-pub word_goes : (b : ℕ) (text bs rest : List ℕ) → expect_at b bs ≡ Some (b, rest) → word_at (b ∷ text) bs ≡ word_at text rest
+pub word_goes : (b : ℕ) (text bs rest : List ℕ) → parse_expected b bs ≡ Some (b, rest) → parse_word (b ∷ text) bs ≡ parse_word text rest
 word_goes b text [] rest e = absurd cc
 word_goes b text (c ∷ bs) rest e = go (eqb b c) refl e
   where
-    go : (t : Bool) → eqb b c ≡ t → cond t (read c bs) None ≡ Some (b, rest) → word_at (b ∷ text) (c ∷ bs) ≡ word_at text rest
-    go true is same = let both = same_Some _ _ same in rw is (ap (λ (x : ℕ × List ℕ). word_at text x.1) both)
+    go : (t : Bool) → eqb b c ≡ t → cond t (read c bs) None ≡ Some (b, rest) → parse_word (b ∷ text) (c ∷ bs) ≡ parse_word text rest
+    go true is same = let both = same_Some _ _ same in rw is (ap (λ (x : ℕ × List ℕ). parse_word text x.1) both)
     go false is same = absurd cc
 
-pub word_stops : (b : ℕ) (text bs : List ℕ) → expect_at b bs ≡ None → word_at (b ∷ text) bs ≡ None
+pub word_stops : (b : ℕ) (text bs : List ℕ) → parse_expected b bs ≡ None → parse_word (b ∷ text) bs ≡ None
 word_stops b text [] e = refl
 word_stops b text (c ∷ bs) e = go (eqb b c) refl e
   where
-    go : (t : Bool) → eqb b c ≡ t → cond t (read c bs) None ≡ None → word_at (b ∷ text) (c ∷ bs) ≡ None
+    go : (t : Bool) → eqb b c ≡ t → cond t (read c bs) None ≡ None → parse_word (b ∷ text) (c ∷ bs) ≡ None
     go true is none = absurd cc
     go false is none = rw is refl

@@ -2,8 +2,8 @@
 use Rattle.std.proofs.Common.{◌≡◌, ℕ, cond, eqb, List, ◌∷◌, Option, Some, None, Result, Ok, Err, option_to_list, refl}
 use Rattle.std.specs.Io.KnownBytes.{Consumes}
 use Rattle.std.proofs.lemmas.Bool.{eq-eqb, ne_eqb}
-use Rattle.aig_parsing.specs.Parse.{◌>>=◌, number_at, ended_at}
-use Rattle.aig_parsing.specs.ParseTested.{pair_at}
+use Rattle.aig_parsing.specs.Parse.{◌>>=◌, parse_number, parse_ended}
+use Rattle.aig_parsing.specs.ParseTested.{parse_pair}
 use Rattle.aig_lexer.specs.declared.error.LexError.{LexError}
 use Rattle.aig_lexer.specs.declared.error.LexError.TheVariants.{Stream, Shape}
 use Rattle.aig_lexer.specs.Faults.{OnShape}
@@ -39,17 +39,17 @@ module _ (read : List ℕ → Option ((ℕ × ℕ) × List ℕ)) (end : ℕ) whe
   misses_before b None n found h ne = misses_next read (with_end end) b None (n, found) h tt
   misses_before b (Some bs) n found h ne = misses_next read (with_end end) b (Some bs) (n, found) h (rw (ne_eqb found end ne) refl)
 
-pub takes_ended : (end : ℕ) (b a : Option (List ℕ)) (n found : ℕ) → Takes number_at b a (n, found) → found ≡ end → Takes (ended_at end) b a n
-unfolding ended_at
-takes_ended end b a n found h is = takes_before number_at end b a n found h is
+pub takes_ended : (end : ℕ) (b a : Option (List ℕ)) (n found : ℕ) → Takes parse_number b a (n, found) → found ≡ end → Takes (parse_ended end) b a n
+unfolding parse_ended
+takes_ended end b a n found h is = takes_before parse_number end b a n found h is
 
-pub misses_number : (end : ℕ) (b : Option (List ℕ)) → Misses number_at b → Misses (ended_at end) b
-unfolding ended_at
-misses_number end b h = misses_first number_at (with_end end) b h
+pub misses_number : (end : ℕ) (b : Option (List ℕ)) → Misses parse_number b → Misses (parse_ended end) b
+unfolding parse_ended
+misses_number end b h = misses_first parse_number (with_end end) b h
 
-pub misses_end : (end : ℕ) (b a : Option (List ℕ)) (n found : ℕ) → Takes number_at b a (n, found) → (found ≡ end → ⊥) → Misses (ended_at end) b
-unfolding ended_at
-misses_end end b a n found h ne = misses_before number_at end b a n found h ne
+pub misses_end : (end : ℕ) (b a : Option (List ℕ)) (n found : ℕ) → Takes parse_number b a (n, found) → (found ≡ end → ⊥) → Misses (parse_ended end) b
+unfolding parse_ended
+misses_end end b a n found h ne = misses_before parse_number end b a n found h ne
 
-pub takes_pair : (b m a : Option (List ℕ)) (x y : ℕ) → Takes (ended_at 32) b m x → Takes (ended_at 10) m a y → Takes pair_at b a (x, y)
-takes_pair b m a x y h k = takes_both (ended_at 32) (λ _. ended_at 10) b m a x y h k
+pub takes_pair : (b m a : Option (List ℕ)) (x y : ℕ) → Takes (parse_ended 32) b m x → Takes (parse_ended 10) m a y → Takes parse_pair b a (x, y)
+takes_pair b m a x y h k = takes_both (parse_ended 32) (λ _. parse_ended 10) b m a x y h k

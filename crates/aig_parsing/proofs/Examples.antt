@@ -9,8 +9,8 @@ use Rattle.aig_format.specs.File.{NameLine, File}
 use Rattle.aig_format.specs.Fits.{Accepts}
 use Rattle.aig_format.proofs.Examples.{and_file, and_text}
 use Rattle.aig_format.proofs.Gaps.{doubled, falling, gapped, mixed, short}
-use Rattle.aig_parsing.specs.Parse.{number_at, digits_at, ended_at, line_at, kind_at, text_at, groups_at, sets_at, tail_at, file_at, too_many_at}
-use Rattle.aig_parsing.specs.ParseTested.{next_at, literal_sets_at, fitting_tail_at, fitting_at}
+use Rattle.aig_parsing.specs.Parse.{parse_number, parse_digits, parse_ended, parse_line, parse_kind, parse_text, parse_groups, parse_sets, parse_tail, parse_file, too_many_at}
+use Rattle.aig_parsing.specs.ParseTested.{parse_next_and_reset, parse_literal_sets, parse_fitting_tail, parse_fitting}
 use Rattle.aig_parsing.proofs.FittingFiles.{fitting_sound}
 
 -- the limit of the rows
@@ -18,14 +18,14 @@ abbrev limit : ℕ
 limit = 16777216
 
 abbrev IsRead : List ℕ → File → Type 0
-IsRead bytes f = fitting_at limit bytes ≡ Some f
+IsRead bytes f = parse_fitting limit bytes ≡ Some f
 
 abbrev AreRefused : List (List ℕ) → Type 0
-AreRefused = AllByRecursion (λ bytes. fitting_at limit bytes ≡ None)
+AreRefused = AllByRecursion (λ bytes. parse_fitting limit bytes ≡ None)
 
 -- what the rows compute by
 steps : Unit {0}
-unfolding number_at digits_at ended_at line_at kind_at next_at groups_at text_at sets_at literal_sets_at is_utf8 chars encode tail_at fitting_tail_at file_at fitting_at
+unfolding parse_number parse_digits parse_ended parse_line parse_kind parse_next_and_reset parse_groups parse_text parse_sets parse_literal_sets is_utf8 chars encode parse_tail parse_fitting_tail parse_file parse_fitting
 steps = tt
 
 -- a text file of inputs alone
@@ -161,7 +161,7 @@ no_second_name = (refl, tt)
 -- ---- headers and lines
 
 -- the constant alone, at the least limit, and with a comment
-pub empty-read : (fitting_at 1 (codes "aag 0 0 0 0 0\n") ≡ Some (of_inputs 0 [])) × IsRead (codes "aag 0 0 0 0 0\nc") (of_inputs 0 [])
+pub empty-read : (parse_fitting 1 (codes "aag 0 0 0 0 0\n") ≡ Some (of_inputs 0 [])) × IsRead (codes "aag 0 0 0 0 0\nc") (of_inputs 0 [])
 unfolding steps
 empty-read = (refl, refl)
 
@@ -197,7 +197,7 @@ unfolding steps
 gaps-read = (refl, refl, refl, refl, refl)
 
 -- the limit is on the greatest variable, however few are defined
-pub gap-limited : (fitting_at 4 (codes "aag 3 1 0 0 1\n2\n6 2 2\n") ≡ Some gapped) × (fitting_at 3 (codes "aag 3 1 0 0 1\n2\n6 2 2\n") ≡ None)
+pub gap-limited : (parse_fitting 4 (codes "aag 3 1 0 0 1\n2\n6 2 2\n") ≡ Some gapped) × (parse_fitting 3 (codes "aag 3 1 0 0 1\n2\n6 2 2\n") ≡ None)
     × (too_many_at 3 (codes "aag 3 1 0 0 1\n2\n6 2 2\n") ≡ true) × (too_many_at 3 (codes "aig 3 1 0 0 1\n2\n6 2 2\n") ≡ false)
 unfolding steps
 gap-limited = (refl, refl, refl, refl)
@@ -212,6 +212,6 @@ pub too_many-told : (too_many_at 100 (codes "aag 4000 4000 0 0 0\n") ≡ true) �
 unfolding steps
 too_many-told = (refl, refl)
 
-pub too_many-refused : fitting_at 100 (codes "aag 4000 4000 0 0 0\n") ≡ None
+pub too_many-refused : parse_fitting 100 (codes "aag 4000 4000 0 0 0\n") ≡ None
 unfolding steps
 too_many-refused = refl

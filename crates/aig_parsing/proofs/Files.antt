@@ -7,7 +7,7 @@ use Rattle.aig_format.specs.declared.FileKind.{FileKind}
 use Rattle.aig_format.specs.declared.FileKind.TheVariants.{Text, Binary}
 use Rattle.aig_format.specs.File.{LatchLine, GateLine, NameLine, File, HeaderNumbers, header_of, defined}
 use Rattle.aig_format.specs.Spells.{Inputs, Latch, Gate, IsHeader, Body, Placed, places, Spells}
-use Rattle.aig_parsing.specs.Parse.{◌>>=◌, header_at, latch_at, gate_at, inputs_at, latches_at, gates_at, justice_at, numbers_at, placed_latch_at, placed_gate_at, Parts, PropertyParts, property_parts, sections_at, sets_at, body_at, tail_at, file_from, file_at}
+use Rattle.aig_parsing.specs.Parse.{◌>>=◌, parse_header, parse_latch, parse_gate, parse_inputs, parse_latches, parse_gates, parse_justice, parse_numbers, parse_placed_latch, parse_placed_gate, Parts, PropertyParts, property_parts, parse_sections, parse_sets, parse_body, parse_tail, file_from, parse_file}
 use Rattle.aig_parsing.proofs.Numbers.{bind_some}
 use Rattle.aig_parsing.proofs.Joined.{Begins, Reads, Several, With, Reads-both, Reads-times}
 use Rattle.aig_parsing.proofs.Sections.{HeaderIs, Reads-header, Reads-latch, Reads-gate, Reads-same, SoMany, Reads-numbers, SetsOf, Reads-sets}
@@ -59,31 +59,31 @@ abbrev pub GatesPart : FileKind → ℕ → ℕ → ℕ → List GateLine → Li
 GatesPart Text i l n gs bytes = Several (Gate Text) n gs bytes
 GatesPart Binary i l n gs bytes = InPlaces gate_key (Gate Binary) n (1 + i + l) gs bytes
 
-pub Reads-inputs : (kind : FileKind) (ns : HeaderNumbers) → Reads (InputsPart kind ns.inputs) (inputs_at kind ns)
+pub Reads-inputs : (kind : FileKind) (ns : HeaderNumbers) → Reads (InputsPart kind ns.inputs) (parse_inputs kind ns)
 Reads-inputs Text ns = Reads-numbers ns.inputs
 Reads-inputs Binary ns = record {
   sound = λ bytes x h. subst (Begins (InputsPart Binary ns.inputs) bytes) (same_Some _ _ h) ([], refl, (refl, refl));
   complete = λ xs front rest h. rw (h.1, h.0) refl;
 }
 
-Reads-latches : (kind : FileKind) (ns : HeaderNumbers) → Reads (LatchesPart kind ns.inputs ns.latches) (latches_at kind ns)
-Reads-latches Text ns = Reads-times (Latch Text) latch_at ns.latches Reads-latch
-Reads-latches Binary ns = Reads-placed latch_key (Latch Binary) placed_latch_at Reads-placed_latch ns.latches (1 + ns.inputs)
+Reads-latches : (kind : FileKind) (ns : HeaderNumbers) → Reads (LatchesPart kind ns.inputs ns.latches) (parse_latches kind ns)
+Reads-latches Text ns = Reads-times (Latch Text) parse_latch ns.latches Reads-latch
+Reads-latches Binary ns = Reads-placed latch_key (Latch Binary) parse_placed_latch Reads-placed_latch ns.latches (1 + ns.inputs)
 
-Reads-gates : (kind : FileKind) (ns : HeaderNumbers) → Reads (GatesPart kind ns.inputs ns.latches ns.gates) (gates_at kind ns)
-Reads-gates Text ns = Reads-times (Gate Text) gate_at ns.gates Reads-gate
-Reads-gates Binary ns = Reads-placed gate_key (Gate Binary) placed_gate_at Reads-placed_gate ns.gates (1 + ns.inputs + ns.latches)
+Reads-gates : (kind : FileKind) (ns : HeaderNumbers) → Reads (GatesPart kind ns.inputs ns.latches ns.gates) (parse_gates kind ns)
+Reads-gates Text ns = Reads-times (Gate Text) parse_gate ns.gates Reads-gate
+Reads-gates Binary ns = Reads-placed gate_key (Gate Binary) parse_placed_gate Reads-placed_gate ns.gates (1 + ns.inputs + ns.latches)
 
 -- so many sets: their sizes, and then their literals
 abbrev pub JusticePart : ℕ → List (List ℕ) → List ℕ → Type 0
 JusticePart n sets bytes = (length sets ≡ n) × (Lines (map length sets) then Each Lines sets) bytes
 
-Reads-justice : (n : ℕ) → Reads (JusticePart n) (justice_at n)
+Reads-justice : (n : ℕ) → Reads (JusticePart n) (parse_justice n)
 Reads-justice n =
     let Nothing : List (List ℕ) → Type 0 = λ _. Unit {0} in
-    Reads-same (With Nothing (λ sets. SoMany n (map length sets) then Each Lines sets)) (JusticePart n) (justice_at n)
-    (Reads-part (λ sets. map length sets) Nothing (SoMany n) (Each Lines) (numbers_at n) sets_at (Reads-numbers n) (λ sizes.
-    Reads-same (SetsOf sizes) (With (λ sets. Nothing sets × (map length sets ≡ sizes)) (Each Lines)) (sets_at sizes) (Reads-sets sizes)
+    Reads-same (With Nothing (λ sets. SoMany n (map length sets) then Each Lines sets)) (JusticePart n) (parse_justice n)
+    (Reads-part (λ sets. map length sets) Nothing (SoMany n) (Each Lines) (parse_numbers n) parse_sets (Reads-numbers n) (λ sizes.
+    Reads-same (SetsOf sizes) (With (λ sets. Nothing sets × (map length sets ≡ sizes)) (Each Lines)) (parse_sets sizes) (Reads-sets sizes)
     (λ sets bytes h. ((tt, h.0), h.1)) (λ sets bytes h. (h.0.1, h.1))))
     (λ sets bytes h. let w = h.1 in (sym (length-map sets length) ∙ w.3.0, (w.0, w.1, w.2, w.3.1, w.4)))
     (λ sets bytes h. let w = h.1 in (tt, (w.0, w.1, w.2, (length-map sets length ∙ h.0, w.3), w.4)))
@@ -95,16 +95,16 @@ PropertiesPart = PropertiesBy SoMany JusticePart
 abbrev pub SectionsPart : FileKind → HeaderNumbers → Parts → List ℕ → Type 0
 SectionsPart kind ns = SectionsBy (InputsPart kind ns.inputs) (λ _. LatchesPart kind ns.inputs ns.latches) (PropertiesPart ns) (λ _ _. GatesPart kind ns.inputs ns.latches ns.gates)
 
-Reads-sections : (kind : FileKind) (ns : HeaderNumbers) → Reads (SectionsPart kind ns) (sections_at kind ns)
+Reads-sections : (kind : FileKind) (ns : HeaderNumbers) → Reads (SectionsPart kind ns) (parse_sections kind ns)
 Reads-sections kind ns =
     Reads-sections_by (InputsPart kind ns.inputs) (λ _. LatchesPart kind ns.inputs ns.latches) (PropertiesPart ns) (λ _ _. GatesPart kind ns.inputs ns.latches ns.gates) _ _ _ _
-    (Reads-inputs kind ns) (λ _. Reads-latches kind ns) (Reads-properties_by SoMany JusticePart numbers_at justice_at Reads-numbers Reads-justice ns) (λ _ _. Reads-gates kind ns)
+    (Reads-inputs kind ns) (λ _. Reads-latches kind ns) (Reads-properties_by SoMany JusticePart parse_numbers parse_justice Reads-numbers Reads-justice ns) (λ _ _. Reads-gates kind ns)
 
 abbrev pub IsBody : (FileKind × HeaderNumbers) × Parts → List ℕ → Type 0
 IsBody b = HeaderIs b.0 then SectionsPart b.0.0 b.0.1 b.1
 
-pub Reads-body : Reads IsBody body_at
-Reads-body = Reads-both HeaderIs (λ h. SectionsPart h.0 h.1) header_at (λ h. sections_at h.0 h.1) Reads-header (λ h. Reads-sections h.0 h.1)
+pub Reads-body : Reads IsBody parse_body
+Reads-body = Reads-both HeaderIs (λ h. SectionsPart h.0 h.1) parse_header (λ h. parse_sections h.0 h.1) Reads-header (λ h. Reads-sections h.0 h.1)
 
 -- ---- from the parts to the file
 
@@ -220,22 +220,22 @@ pub spelled : (b : (FileKind × HeaderNumbers) × Parts) (names : List NameLine)
 spelled b names bytes front rest whole body tail = let w = body_to b names front body in record { sections = (front, rest, whole, w.0, tail); placed = w.1 }
 
 -- the parts of a file are read from each text that spells it
-pub body_read : (f : File) (bytes : List ℕ) (h : Spells f bytes) → body_at bytes ≡ Some (parts_of f, h.sections.1)
-body_read f bytes h = let w = h.sections in ap body_at w.2 ∙ Reads-body.complete (parts_of f) w.0 w.1 (body_from f w.0 w.3 h.placed)
+pub body_read : (f : File) (bytes : List ℕ) (h : Spells f bytes) → parse_body bytes ≡ Some (parts_of f, h.sections.1)
+body_read f bytes h = let w = h.sections in ap parse_body w.2 ∙ Reads-body.complete (parts_of f) w.0 w.1 (body_from f w.0 w.3 h.placed)
 
 -- What is read is spelled so, and what is spelled so is read: so there is one file at most.
-pub file_sound : (bytes : List ℕ) (f : File) → file_at bytes ≡ Some f → Spells f bytes
-unfolding file_at
+pub file_sound : (bytes : List ℕ) (f : File) → parse_file bytes ≡ Some f → Spells f bytes
+unfolding parse_file
 file_sound bytes f h =
-    let b = bind_some (body_at bytes) (λ b. tail_at (suc (length b.1)) b.1 >>= λ names. Some (file_from b.0 names)) f h in
-    let c = bind_some (tail_at (suc (length b.0.1)) b.0.1) (λ names. Some (file_from b.0.0 names)) f b.2 in
+    let b = bind_some (parse_body bytes) (λ b. parse_tail (suc (length b.1)) b.1 >>= λ names. Some (file_from b.0 names)) f h in
+    let c = bind_some (parse_tail (suc (length b.0.1)) b.0.1) (λ names. Some (file_from b.0.0 names)) f b.2 in
     let s = Reads-body.sound bytes b.0 b.1 in
     let t = tail_sound (suc (length b.0.1)) b.0.1 c.0 c.1 in
     subst (λ (g : File). Spells g bytes) (same_Some _ _ c.2) (spelled b.0.0 c.0 bytes s.0 b.0.1 s.1 s.2 t)
 
-pub file_complete : (f : File) (bytes : List ℕ) → Spells f bytes → file_at bytes ≡ Some f
-unfolding file_at
+pub file_complete : (f : File) (bytes : List ℕ) → Spells f bytes → parse_file bytes ≡ Some f
+unfolding parse_file
 file_complete f bytes h =
     let w = h.sections in
-    let one : body_at bytes ≡ Some (parts_of f, w.1) = body_read f bytes h in
+    let one : parse_body bytes ≡ Some (parts_of f, w.1) = body_read f bytes h in
     rw (one, tail_complete f.names (suc (length w.1)) w.1 (omega arith) w.4) refl

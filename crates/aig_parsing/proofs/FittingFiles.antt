@@ -11,8 +11,8 @@ use Rattle.aig_format.specs.declared.FileKind.TheVariants.{Text, Binary}
 use Rattle.aig_format.specs.File.{LatchLine, GateLine, NameLine, File, HeaderNumbers, header_of, defined}
 use Rattle.aig_format.specs.Spells.{Latch, Gate, Placed, places, Spells}
 use Rattle.aig_format.specs.Fits.{IsDefinable, HasReset, IsOrdered, Rises, IsCompact, IsWellFounded, Fits, HasEnough, Accepts}
-use Rattle.aig_parsing.specs.Parse.{◌>>=◌, header_at, is_good, ended_at, tested_at, numbers_at, placed_gate_at, Parts, PropertyParts, property_parts, body_at, file_from, AllAfter}
-use Rattle.aig_parsing.specs.ParseTested.{is_within, is_accepted_order, section_lines_at, fitting_header_at, defines, has_next, tests_latch, tests_gate, latch_line_at, binary_latch_at, gate_line_at, fitting_inputs_at, fitting_latches_at, fitting_gates_at, literal_justice_at, literal_sets_at, literals_at, fitting_properties_at, fitting_sections_at, fitting_body_at, fitting_tail_at, fitting_at}
+use Rattle.aig_parsing.specs.Parse.{◌>>=◌, parse_header, is_good, parse_ended, parse_if, parse_numbers, parse_placed_gate, Parts, PropertyParts, property_parts, parse_body, file_from, AllAfter}
+use Rattle.aig_parsing.specs.ParseTested.{is_within, is_accepted_order, parse_section_lines, parse_fitting_header, defines, has_next, tests_latch, tests_gate, parse_latch_line, parse_binary_latch, parse_gate_line, parse_fitting_inputs, parse_fitting_latches, parse_fitting_gates, parse_literal_justice, parse_literal_sets, parse_literals, parse_fitting_properties, parse_fitting_sections, parse_fitting_body, parse_fitting_tail, parse_fitting}
 use Rattle.aig_format.proofs.Entries.{rec_weaker, rec_both, rec_append}
 use Rattle.aig_parsing.proofs.Numbers.{bind_some}
 use Rattle.aig_parsing.proofs.Joined.{Reads, With, Reads-ended, Reads-tested}
@@ -42,31 +42,31 @@ abbrev pub GatesFit : FileKind → ℕ → List ℕ → List GateLine → Type 0
 GatesFit Text greatest leaves gates = AllAfter (GateAfter greatest leaves) [] gates
 GatesFit Binary greatest leaves gates = AllByRecursion IsOrdered gates
 
-Reads-fitting_inputs : (kind : FileKind) (ns : HeaderNumbers) → Reads (With (InputsFit kind ns.greatest) (InputsPart kind ns.inputs)) (fitting_inputs_at kind ns)
+Reads-fitting_inputs : (kind : FileKind) (ns : HeaderNumbers) → Reads (With (InputsFit kind ns.greatest) (InputsPart kind ns.inputs)) (parse_fitting_inputs kind ns)
 Reads-fitting_inputs Text ns =
     let greatest = ns.greatest in
     let test = Decides-defines greatest in
-    Reads-checked (Ended 10) (Defines greatest) (ended_at 10) (defines greatest) (Reads-ended 10 not_10) (λ before e. (test before e).0) (λ before e. (test before e).1) ns.inputs []
-Reads-fitting_inputs Binary ns = Reads-any (InputsPart Binary ns.inputs) (fitting_inputs_at Binary ns) (Reads-inputs Binary ns)
+    Reads-checked (Ended 10) (Defines greatest) (parse_ended 10) (defines greatest) (Reads-ended 10 not_10) (λ before e. (test before e).0) (λ before e. (test before e).1) ns.inputs []
+Reads-fitting_inputs Binary ns = Reads-any (InputsPart Binary ns.inputs) (parse_fitting_inputs Binary ns) (Reads-inputs Binary ns)
 
-Reads-fitting_latches : (kind : FileKind) (ns : HeaderNumbers) (inputs : List ℕ) → Reads (With (LatchesFit kind ns.greatest inputs) (LatchesPart kind ns.inputs ns.latches)) (fitting_latches_at kind ns inputs)
+Reads-fitting_latches : (kind : FileKind) (ns : HeaderNumbers) (inputs : List ℕ) → Reads (With (LatchesFit kind ns.greatest inputs) (LatchesPart kind ns.inputs ns.latches)) (parse_fitting_latches kind ns inputs)
 Reads-fitting_latches Text ns inputs =
     let greatest = ns.greatest in
     let test = Decides-latch greatest inputs in
-    Reads-checked (Latch Text) (LatchAfter greatest inputs) latch_line_at (tests_latch greatest inputs) Reads-latch_line (λ before l. (test before l).0) (λ before l. (test before l).1) ns.latches []
+    Reads-checked (Latch Text) (LatchAfter greatest inputs) parse_latch_line (tests_latch greatest inputs) Reads-latch_line (λ before l. (test before l).0) (λ before l. (test before l).1) ns.latches []
 Reads-fitting_latches Binary ns inputs =
     let greatest = ns.greatest in
     let test = Decides-next greatest in
-    Reads-placed_with latch_key (HasNext greatest) (Latch Binary) (λ v. tested_at (binary_latch_at v) (has_next greatest)) ns.latches (1 + ns.inputs)
-    (λ v. Reads-tested (At latch_key (Latch Binary) v) (HasNext greatest) (binary_latch_at v) (has_next greatest) (Reads-binary_latch v) (λ l. (test l).0) (λ l. (test l).1))
+    Reads-placed_with latch_key (HasNext greatest) (Latch Binary) (λ v. parse_if (parse_binary_latch v) (has_next greatest)) ns.latches (1 + ns.inputs)
+    (λ v. Reads-tested (At latch_key (Latch Binary) v) (HasNext greatest) (parse_binary_latch v) (has_next greatest) (Reads-binary_latch v) (λ l. (test l).0) (λ l. (test l).1))
 
-Reads-fitting_gates : (kind : FileKind) (ns : HeaderNumbers) (leaves : List ℕ) → Reads (With (GatesFit kind ns.greatest leaves) (GatesPart kind ns.inputs ns.latches ns.gates)) (fitting_gates_at kind ns leaves)
+Reads-fitting_gates : (kind : FileKind) (ns : HeaderNumbers) (leaves : List ℕ) → Reads (With (GatesFit kind ns.greatest leaves) (GatesPart kind ns.inputs ns.latches ns.gates)) (parse_fitting_gates kind ns leaves)
 Reads-fitting_gates Text ns leaves =
     let greatest = ns.greatest in
     let test = Decides-gate greatest leaves in
-    Reads-checked (Gate Text) (GateAfter greatest leaves) gate_line_at (tests_gate greatest leaves) Reads-gate_line (λ before g. (test before g).0) (λ before g. (test before g).1) ns.gates []
+    Reads-checked (Gate Text) (GateAfter greatest leaves) parse_gate_line (tests_gate greatest leaves) Reads-gate_line (λ before g. (test before g).0) (λ before g. (test before g).1) ns.gates []
 Reads-fitting_gates Binary ns leaves =
-    Reads-placed_with gate_key IsOrdered (Gate Binary) (λ v. tested_at (placed_gate_at v) is_below) ns.gates (1 + ns.inputs + ns.latches) Reads-binary_gate
+    Reads-placed_with gate_key IsOrdered (Gate Binary) (λ v. parse_if (parse_placed_gate v) is_below) ns.gates (1 + ns.inputs + ns.latches) Reads-binary_gate
 
 -- what the tests on the lines of outputs and properties say
 pub record PropertiesFit (greatest : ℕ) (x : PropertyParts) : Type 0 where
@@ -76,24 +76,24 @@ pub record PropertiesFit (greatest : ℕ) (x : PropertyParts) : Type 0 where
   pub justice : AreSets greatest x.justice
   pub fairness : AreLiterals greatest x.fairness
 
-Reads-literal_justice : (greatest n : ℕ) → Reads (With (AreSets greatest) (JusticePart n)) (literal_justice_at greatest n)
+Reads-literal_justice : (greatest n : ℕ) → Reads (With (AreSets greatest) (JusticePart n)) (parse_literal_justice greatest n)
 Reads-literal_justice greatest n =
     let Nothing : List (List ℕ) → Type 0 = λ _. Unit {0} in
     let Sets : List (List ℕ) → List ℕ → Type 0 = With (AreSets greatest) (Each Lines) in
-    Reads-same (With Nothing (λ sets. SoMany n (map length sets) then Sets sets)) (With (AreSets greatest) (JusticePart n)) (literal_justice_at greatest n)
-    (Reads-part (λ sets. map length sets) Nothing (SoMany n) Sets (numbers_at n) (literal_sets_at greatest) (Reads-numbers n) (λ sizes.
-    Reads-same (With (AreSets greatest) (SetsOf sizes)) (With (λ sets. Nothing sets × (map length sets ≡ sizes)) Sets) (literal_sets_at greatest sizes) (Reads-literal_sets greatest sizes)
+    Reads-same (With Nothing (λ sets. SoMany n (map length sets) then Sets sets)) (With (AreSets greatest) (JusticePart n)) (parse_literal_justice greatest n)
+    (Reads-part (λ sets. map length sets) Nothing (SoMany n) Sets (parse_numbers n) (parse_literal_sets greatest) (Reads-numbers n) (λ sizes.
+    Reads-same (With (AreSets greatest) (SetsOf sizes)) (With (λ sets. Nothing sets × (map length sets ≡ sizes)) Sets) (parse_literal_sets greatest sizes) (Reads-literal_sets greatest sizes)
     (λ sets bytes h. ((tt, h.1.0), (h.0, h.1.1))) (λ sets bytes h. (h.1.0, (h.0.1, h.1.1)))))
     (λ sets bytes h. let w = h.1 in (w.4.0, (sym (length-map sets length) ∙ w.3.0, (w.0, w.1, w.2, w.3.1, w.4.1))))
     (λ sets bytes h. let w = h.1.1 in (tt, (w.0, w.1, w.2, (length-map sets length ∙ h.1.0, w.3), (h.0, w.4))))
 
-Reads-fitting_properties : (ns : HeaderNumbers) → Reads (With (PropertiesFit ns.greatest) (PropertiesPart ns)) (fitting_properties_at ns)
+Reads-fitting_properties : (ns : HeaderNumbers) → Reads (With (PropertiesFit ns.greatest) (PropertiesPart ns)) (parse_fitting_properties ns)
 Reads-fitting_properties ns =
     let greatest = ns.greatest in
     let Literals : ℕ → List ℕ → List ℕ → Type 0 = λ n. With (AreLiterals greatest) (SoMany n) in
     let Sets : ℕ → List (List ℕ) → List ℕ → Type 0 = λ n. With (AreSets greatest) (JusticePart n) in
-    Reads-same (PropertiesBy Literals Sets ns) (With (PropertiesFit greatest) (PropertiesPart ns)) (fitting_properties_at ns)
-    (Reads-properties_by Literals Sets (literals_at greatest) (literal_justice_at greatest) (Reads-literals greatest) (Reads-literal_justice greatest) ns)
+    Reads-same (PropertiesBy Literals Sets ns) (With (PropertiesFit greatest) (PropertiesPart ns)) (parse_fitting_properties ns)
+    (Reads-properties_by Literals Sets (parse_literals greatest) (parse_literal_justice greatest) (Reads-literals greatest) (Reads-literal_justice greatest) ns)
     (λ x bytes o. let b = o.4 in let c = b.4 in let j = c.4 in (
       record { outputs = o.3.0; bads = b.3.0; constraints = c.3.0; justice = j.3.0; fairness = j.4.0 },
       (o.0, o.1, o.2, o.3.1, (b.0, b.1, b.2, b.3.1, (c.0, c.1, c.2, c.3.1, (j.0, j.1, j.2, j.3.1, j.4.1)))),
@@ -108,14 +108,14 @@ pub record PartsFit (kind : FileKind) (greatest : ℕ) (x : Parts) : Type 0 wher
   pub properties : PropertiesFit greatest x.properties
   pub gates : GatesFit kind greatest (x.inputs ++ map latch_key x.latches) x.gates
 
-pub Reads-section_lines : (kind : FileKind) (ns : HeaderNumbers) → Reads (With (PartsFit kind ns.greatest) (SectionsPart kind ns)) (section_lines_at kind ns)
+pub Reads-section_lines : (kind : FileKind) (ns : HeaderNumbers) → Reads (With (PartsFit kind ns.greatest) (SectionsPart kind ns)) (parse_section_lines kind ns)
 Reads-section_lines kind ns =
     let greatest = ns.greatest in
     let Inputs : List ℕ → List ℕ → Type 0 = With (InputsFit kind greatest) (InputsPart kind ns.inputs) in
     let Latches : List ℕ → List LatchLine → List ℕ → Type 0 = λ inputs. With (LatchesFit kind greatest inputs) (LatchesPart kind ns.inputs ns.latches) in
     let Properties : PropertyParts → List ℕ → Type 0 = With (PropertiesFit greatest) (PropertiesPart ns) in
     let Gates : List ℕ → List LatchLine → List GateLine → List ℕ → Type 0 = λ inputs latches. With (GatesFit kind greatest (inputs ++ map latch_key latches)) (GatesPart kind ns.inputs ns.latches ns.gates) in
-    Reads-same (SectionsBy Inputs Latches Properties Gates) (With (PartsFit kind greatest) (SectionsPart kind ns)) (section_lines_at kind ns)
+    Reads-same (SectionsBy Inputs Latches Properties Gates) (With (PartsFit kind greatest) (SectionsPart kind ns)) (parse_section_lines kind ns)
     (Reads-sections_by Inputs Latches Properties Gates _ _ _ _ (Reads-fitting_inputs kind ns) (Reads-fitting_latches kind ns) (Reads-fitting_properties ns)
     (λ inputs latches. Reads-fitting_gates kind ns (inputs ++ map latch_key latches)))
     (λ x bytes i. let l = i.4 in let p = l.4 in (
@@ -129,13 +129,13 @@ Reads-section_lines kind ns =
 abbrev pub SectionsFit : FileKind → HeaderNumbers → Parts → Type 0
 SectionsFit kind ns x = KeepsRules kind (file_from ((kind, ns), x) []) × PartsFit kind ns.greatest x
 
-Reads-fitting_sections : (kind : FileKind) (ns : HeaderNumbers) → Reads (With (SectionsFit kind ns) (SectionsPart kind ns)) (fitting_sections_at kind ns)
+Reads-fitting_sections : (kind : FileKind) (ns : HeaderNumbers) → Reads (With (SectionsFit kind ns) (SectionsPart kind ns)) (parse_fitting_sections kind ns)
 Reads-fitting_sections kind ns =
     let file = λ (x : Parts). file_from ((kind, ns), x) [] in
     let Keeps : Parts → Type 0 = λ x. KeepsRules kind (file x) in
     let Lines : Parts → List ℕ → Type 0 = With (PartsFit kind ns.greatest) (SectionsPart kind ns) in
-    Reads-same (With Keeps Lines) (With (SectionsFit kind ns) (SectionsPart kind ns)) (fitting_sections_at kind ns)
-    (Reads-tested Lines Keeps (section_lines_at kind ns) (λ x. is_accepted_order kind (file x)) (Reads-section_lines kind ns) (λ x. (Decides-rules kind (file x)).0) (λ x. (Decides-rules kind (file x)).1))
+    Reads-same (With Keeps Lines) (With (SectionsFit kind ns) (SectionsPart kind ns)) (parse_fitting_sections kind ns)
+    (Reads-tested Lines Keeps (parse_section_lines kind ns) (λ x. is_accepted_order kind (file x)) (Reads-section_lines kind ns) (λ x. (Decides-rules kind (file x)).0) (λ x. (Decides-rules kind (file x)).1))
     (λ x bytes h. ((h.0, h.1.0), h.1.1)) (λ x bytes h. (h.0.0, (h.0.1, h.1)))
 
 -- a good header within the limit
@@ -145,14 +145,14 @@ HeaderFits limit h = HasEnough h.0 h.1 × IsWithin limit h.1
 abbrev pub BodyFits : ℕ → (FileKind × HeaderNumbers) × Parts → Type 0
 BodyFits limit b = HeaderFits limit b.0 × SectionsFit b.0.0 b.0.1 b.1
 
-Reads-fitting_header : (limit : ℕ) → Reads (With (HeaderFits limit) HeaderIs) (fitting_header_at limit)
+Reads-fitting_header : (limit : ℕ) → Reads (With (HeaderFits limit) HeaderIs) (parse_fitting_header limit)
 Reads-fitting_header limit =
     let test = Decides-good_within limit in
-    Reads-tested HeaderIs (HeaderFits limit) header_at (λ h. is_good h.0 h.1 && is_within limit h.1) Reads-header (λ h. (test h.0 h.1).0) (λ h. (test h.0 h.1).1)
+    Reads-tested HeaderIs (HeaderFits limit) parse_header (λ h. is_good h.0 h.1 && is_within limit h.1) Reads-header (λ h. (test h.0 h.1).0) (λ h. (test h.0 h.1).1)
 
-pub Reads-fitting_body : (limit : ℕ) → Reads (With (BodyFits limit) IsBody) (fitting_body_at limit)
+pub Reads-fitting_body : (limit : ℕ) → Reads (With (BodyFits limit) IsBody) (parse_fitting_body limit)
 Reads-fitting_body limit =
-    Reads-both_with (HeaderFits limit) (λ h. SectionsFit h.0 h.1) HeaderIs (λ h. SectionsPart h.0 h.1) (fitting_header_at limit) (λ h. fitting_sections_at h.0 h.1)
+    Reads-both_with (HeaderFits limit) (λ h. SectionsFit h.0 h.1) HeaderIs (λ h. SectionsPart h.0 h.1) (parse_fitting_header limit) (λ h. parse_fitting_sections h.0 h.1)
     (Reads-fitting_header limit) (λ h. Reads-fitting_sections h.0 h.1)
 
 -- ---- literals in their places may be defined, are distinct, and rise
@@ -335,34 +335,34 @@ body_from_lines f limit enough within l =
 abbrev WholeFits : ℕ → List NameLine → (FileKind × HeaderNumbers) × Parts → Type 0
 WholeFits limit names b = BodyFits limit b × AllAfter (NameAfter b.0.1) [] names
 
-whole_fits : (limit : ℕ) (bytes rest : List ℕ) (b : (FileKind × HeaderNumbers) × Parts) (names : List NameLine) → body_at bytes ≡ Some (b, rest) → Spells (file_from b names) bytes → WholeFits limit names b → Fits (file_from b names) limit
+whole_fits : (limit : ℕ) (bytes rest : List ℕ) (b : (FileKind × HeaderNumbers) × Parts) (names : List NameLine) → parse_body bytes ≡ Some (b, rest) → Spells (file_from b names) bytes → WholeFits limit names b → Fits (file_from b names) limit
 whole_fits limit bytes rest b names read spells whole =
     let f = file_from b names in
     let same : b ≡ parts_of f = ap (λ (x : ((FileKind × HeaderNumbers) × Parts) × List ℕ). x.0) (same_Some _ _ (sym read ∙ body_read f bytes spells)) in
     let w = subst (WholeFits limit names) same whole in
     fits_from_lines f limit w.0.0.0 w.0.0.1 spells.placed (lines_from_body f limit w.0 w.1)
 
-pub fitting_sound : (limit : ℕ) (bytes : List ℕ) (f : File) → fitting_at limit bytes ≡ Some f → Accepts bytes limit f
-unfolding fitting_at
+pub fitting_sound : (limit : ℕ) (bytes : List ℕ) (f : File) → parse_fitting limit bytes ≡ Some f → Accepts bytes limit f
+unfolding parse_fitting
 fitting_sound limit bytes f h =
-    let b = bind_some (fitting_body_at limit bytes) (λ b. fitting_tail_at b.0.0.1 (suc (length b.1)) [] b.1 >>= λ names. Some (file_from b.0 names)) f h in
+    let b = bind_some (parse_fitting_body limit bytes) (λ b. parse_fitting_tail b.0.0.1 (suc (length b.1)) [] b.1 >>= λ names. Some (file_from b.0 names)) f h in
     let rest = b.0.1 in
-    let c = bind_some (fitting_tail_at b.0.0.0.1 (suc (length rest)) [] rest) (λ names. Some (file_from b.0.0 names)) f b.2 in
+    let c = bind_some (parse_fitting_tail b.0.0.0.1 (suc (length rest)) [] rest) (λ names. Some (file_from b.0.0 names)) f b.2 in
     let s = (Reads-fitting_body limit).sound bytes b.0 b.1 in
     let t = fitting_tail_sound b.0.0.0.1 (suc (length rest)) [] rest c.0 c.1 in
     let spells = spelled b.0.0 c.0 bytes s.0 rest s.1 s.2.1 (tail_sound (suc (length rest)) rest c.0 t.0) in
-    let read : body_at bytes ≡ Some (b.0.0, rest) = ap body_at s.1 ∙ Reads-body.complete b.0.0 s.0 rest s.2.1 in
+    let read : parse_body bytes ≡ Some (b.0.0, rest) = ap parse_body s.1 ∙ Reads-body.complete b.0.0 s.0 rest s.2.1 in
     subst (λ (g : File). Accepts bytes limit g) (same_Some _ _ c.2) (spells, whole_fits limit bytes rest b.0.0 c.0 read spells (s.2.0, t.1))
 
-pub fitting_complete : (limit : ℕ) (bytes : List ℕ) (f : File) → Accepts bytes limit f → fitting_at limit bytes ≡ Some f
-unfolding fitting_at
+pub fitting_complete : (limit : ℕ) (bytes : List ℕ) (f : File) → Accepts bytes limit f → parse_fitting limit bytes ≡ Some f
+unfolding parse_fitting
 fitting_complete limit bytes f h =
     let w = h.0.sections in
     let fits = h.1 in
     let lines = lines_from_fits f limit fits in
     let facts = body_from_lines f limit (rules_pass f.kind f refl fits.rules).0 fits.within lines in
-    let one : fitting_body_at limit bytes ≡ Some (parts_of f, w.1) =
-    ap (fitting_body_at limit) w.2 ∙ (Reads-fitting_body limit).complete (parts_of f) w.0 w.1 (facts, body_from f w.0 w.3 h.0.placed) in
-    let tail : fitting_tail_at (header_of f) (suc (length w.1)) [] w.1 ≡ Some f.names =
+    let one : parse_fitting_body limit bytes ≡ Some (parts_of f, w.1) =
+    ap (parse_fitting_body limit) w.2 ∙ (Reads-fitting_body limit).complete (parts_of f) w.0 w.1 (facts, body_from f w.0 w.3 h.0.placed) in
+    let tail : parse_fitting_tail (header_of f) (suc (length w.1)) [] w.1 ≡ Some f.names =
     fitting_tail_complete (header_of f) (suc (length w.1)) [] w.1 f.names (tail_complete f.names (suc (length w.1)) w.1 (omega arith) w.4, lines.names) in
     rw (one, tail) refl

@@ -2,7 +2,7 @@
 use Rattle.std.proofs.Common.{◌≡◌, ℕ, List, ◌++◌, Option, refl, sym, ap, subst, ◌∙◌, append_assoc}
 use Rattle.aig_format.specs.Text.{◌then◌}
 use Rattle.aig_format.specs.File.{LatchLine, GateLine, HeaderNumbers}
-use Rattle.aig_parsing.specs.Parse.{◌>>=◌, Parts, PropertyParts, mapped_at, properties_by, sections_by}
+use Rattle.aig_parsing.specs.Parse.{◌>>=◌, Parts, PropertyParts, parse_map, properties_by, sections_by}
 use Rattle.aig_parsing.proofs.Numbers.{bind_some}
 use Rattle.aig_parsing.proofs.Joined.{Reads, With, Reads-seen}
 use Rattle.aig_parsing.proofs.Sections.{Reads-same}
@@ -37,7 +37,7 @@ module _ {A C : Type 0} (part : C → A) (K : C → Type 0) where
 
   -- the last part is read, and with those before it makes the whole
   pub Reads-last : (P : A → List ℕ → Type 0) (p : List ℕ → Option (A × List ℕ)) (make : A → C)
-      → Reads P p → ((x : A) → K (make x)) → ((x : A) → part (make x) ≡ x) → ((c : C) → K c → make (part c) ≡ c) → Reads (With K (λ c. P (part c))) (mapped_at make p)
+      → Reads P p → ((x : A) → K (make x)) → ((x : A) → part (make x) ≡ x) → ((c : C) → K c → make (part c) ≡ c) → Reads (With K (λ c. P (part c))) (parse_map make p)
   Reads-last P p make hp known same back =
       Reads-seen P (With K (λ c. P (part c))) p make hp
       (λ x bytes h. (known x, subst (λ (y : A). P y bytes) (sym (same x)) h)) (λ c bytes h. (part c, h.1, back c h.0))

@@ -3,7 +3,7 @@ use Rattle.std.proofs.Common.{◌≡◌, ℕ, zero, suc, Bool, true, cond, eqb, 
 use Rattle.std.proofs.lemmas.Bool.{eqb-true, eq-eqb}
 use Rattle.std.proofs.lemmas.Option.{same_Some, cond_some}
 use Rattle.aig_format.specs.Text.{◌then◌, Each, IsDigit, Ended}
-use Rattle.aig_parsing.specs.Parse.{◌>>=◌, number_at, ended_at, both_at, tested_at, mapped_at, times_at}
+use Rattle.aig_parsing.specs.Parse.{◌>>=◌, parse_number, parse_ended, parse_both, parse_if, parse_map, parse_times}
 use Rattle.aig_parsing.proofs.Numbers.{bind_some, number_sound, number_complete}
 
 -- the bytes begin with a text of x, and the rest follows
@@ -15,28 +15,28 @@ pub record Reads {A : Type 0} (text : A → List ℕ → Type 0) (read : List �
   pub sound : (bytes : List ℕ) (x : A × List ℕ) → read bytes ≡ Some x → Begins text bytes x
   pub complete : (x : A) (front rest : List ℕ) → text x front → read (front ++ rest) ≡ Some (x, rest)
 
-ended_sound : (end : ℕ) (bytes : List ℕ) (x : ℕ × List ℕ) → ended_at end bytes ≡ Some x → Begins (Ended end) bytes x
-unfolding ended_at
+ended_sound : (end : ℕ) (bytes : List ℕ) (x : ℕ × List ℕ) → parse_ended end bytes ≡ Some x → Begins (Ended end) bytes x
+unfolding parse_ended
 ended_sound end bytes x h =
-    let b = bind_some (number_at bytes) (λ y. cond (eqb y.0.1 end) (Some (y.0.0, y.1)) None) x h in
+    let b = bind_some (parse_number bytes) (λ y. cond (eqb y.0.1 end) (Some (y.0.0, y.1)) None) x h in
     let g = cond_some (eqb b.0.0.1 end) (b.0.0.0, b.0.1) x b.2 in
     let t = number_sound bytes b.0.0.0 b.0.0.1 b.0.1 b.1 in
     let e : b.0.0.1 ≡ end = eqb-true _ _ g.0 in
     let whole : bytes ≡ (t.digits ++ end ∷ []) ++ b.0.1 = t.whole ∙ ap (λ (k : ℕ). t.digits ++ k ∷ b.0.1) e ∙ sym (append_assoc t.digits (end ∷ []) b.0.1) in
     subst (Begins (Ended end) bytes) g.1 (t.digits ++ end ∷ [], whole, (t.digits, end ∷ [], refl, t.is, refl))
 
-ended_complete : (end : ℕ) (ends : IsDigit end → ⊥) (n : ℕ) (front rest : List ℕ) → Ended end n front → ended_at end (front ++ rest) ≡ Some (n, rest)
-unfolding ended_at
+ended_complete : (end : ℕ) (ends : IsDigit end → ⊥) (n : ℕ) (front rest : List ℕ) → Ended end n front → parse_ended end (front ++ rest) ≡ Some (n, rest)
+unfolding parse_ended
 ended_complete end ends n front rest h =
     let same : front ++ rest ≡ h.0 ++ end ∷ rest = ap (λ (xs : List ℕ). xs ++ rest) (h.2 ∙ ap (λ (xs : List ℕ). h.0 ++ xs) h.4) ∙ append_assoc h.0 (end ∷ []) rest in
     rw (same, number_complete h.0 n end rest h.3 ends, eq-eqb end end refl) refl
 
-pub Reads-ended : (end : ℕ) → (IsDigit end → ⊥) → Reads (Ended end) (ended_at end)
+pub Reads-ended : (end : ℕ) → (IsDigit end → ⊥) → Reads (Ended end) (parse_ended end)
 Reads-ended end ends = record { sound = ended_sound end; complete = ended_complete end ends }
 
 -- one after the other
 pub Reads-both : {A B : Type 0} (P : A → List ℕ → Type 0) (Q : A → B → List ℕ → Type 0) (p : List ℕ → Option (A × List ℕ)) (q : A → List ℕ → Option (B × List ℕ))
-    → Reads P p → ((x : A) → Reads (Q x) (q x)) → Reads (λ xy. P xy.0 then Q xy.0 xy.1) (both_at p q)
+    → Reads P p → ((x : A) → Reads (Q x) (q x)) → Reads (λ xy. P xy.0 then Q xy.0 xy.1) (parse_both p q)
 Reads-both {A} {B} P Q p q hp hq = record {
   sound = λ bytes x h.
       let b = bind_some (p bytes) (λ x. q x.0 x.1 >>= λ y. Some ((x.0, y.0), y.1)) x h in
@@ -56,7 +56,7 @@ With F P x bytes = F x × P x bytes
 
 -- with a test
 pub Reads-tested : {A : Type 0} (P : A → List ℕ → Type 0) (F : A → Type 0) (p : List ℕ → Option (A × List ℕ)) (test : A → Bool)
-    → Reads P p → ((x : A) → test x ≡ true → F x) → ((x : A) → F x → test x ≡ true) → Reads (With F P) (tested_at p test)
+    → Reads P p → ((x : A) → test x ≡ true → F x) → ((x : A) → F x → test x ≡ true) → Reads (With F P) (parse_if p test)
 Reads-tested P F p test hp to from = record {
   sound = λ bytes x h.
       let b = bind_some (p bytes) (λ y. cond (test y.0) (Some y) None) x h in
@@ -68,7 +68,7 @@ Reads-tested P F p test hp to from = record {
 
 -- seen otherwise
 pub Reads-mapped : {A B : Type 0} (P : A → List ℕ → Type 0) (Q : B → List ℕ → Type 0) (p : List ℕ → Option (A × List ℕ)) (f : A → B) (g : B → A)
-    → Reads P p → ((x : A) (bytes : List ℕ) → P x bytes → Q (f x) bytes) → ((y : B) (bytes : List ℕ) → Q y bytes → P (g y) bytes) → ((y : B) → f (g y) ≡ y) → Reads Q (mapped_at f p)
+    → Reads P p → ((x : A) (bytes : List ℕ) → P x bytes → Q (f x) bytes) → ((y : B) (bytes : List ℕ) → Q y bytes → P (g y) bytes) → ((y : B) → f (g y) ≡ y) → Reads Q (parse_map f p)
 Reads-mapped P Q p f g hp to from back = record {
   sound = λ bytes x h.
       let b = bind_some (p bytes) (λ y. Some (f y.0, y.1)) x h in
@@ -83,32 +83,32 @@ Several P n xs bytes = (length xs ≡ n) × Each P xs bytes
 
 -- n times
 pub times_sound : {A : Type 0} (P : A → List ℕ → Type 0) (p : List ℕ → Option (A × List ℕ)) → Reads P p
-    → (n : ℕ) (bytes : List ℕ) (x : List A × List ℕ) → times_at p n bytes ≡ Some x → Begins (Several P n) bytes x
+    → (n : ℕ) (bytes : List ℕ) (x : List A × List ℕ) → parse_times p n bytes ≡ Some x → Begins (Several P n) bytes x
 times_sound {A} P p hp zero bytes x h = subst (Begins (Several P 0) bytes) (same_Some _ _ h) ([], refl, (refl, refl))
 times_sound {A} P p hp (suc n) bytes x h =
-    let b = bind_some (p bytes) (λ x. times_at p n x.1 >>= λ xs. Some (x.0 ∷ xs.0, xs.1)) x h in
-    let c = bind_some (times_at p n b.0.1) (λ xs. Some (b.0.0 ∷ xs.0, xs.1)) x b.2 in
+    let b = bind_some (p bytes) (λ x. parse_times p n x.1 >>= λ xs. Some (x.0 ∷ xs.0, xs.1)) x h in
+    let c = bind_some (parse_times p n b.0.1) (λ xs. Some (b.0.0 ∷ xs.0, xs.1)) x b.2 in
     let s = hp.sound bytes b.0 b.1 in
     let t = times_sound P p hp n b.0.1 c.0 c.1 in
     let whole : bytes ≡ (s.0 ++ t.0) ++ c.0.1 = s.1 ∙ ap (λ (xs : List ℕ). s.0 ++ xs) t.1 ∙ sym (append_assoc s.0 t.0 c.0.1) in
     subst (Begins (Several P (suc n)) bytes) (same_Some _ _ c.2) (s.0 ++ t.0, whole, (ap suc t.2.0, (s.0, t.0, refl, s.2, t.2.1)))
 
 pub times_complete : {A : Type 0} (P : A → List ℕ → Type 0) (p : List ℕ → Option (A × List ℕ)) → Reads P p
-    → (xs : List A) (front rest : List ℕ) → Each P xs front → times_at p (length xs) (front ++ rest) ≡ Some (xs, rest)
+    → (xs : List A) (front rest : List ℕ) → Each P xs front → parse_times p (length xs) (front ++ rest) ≡ Some (xs, rest)
 times_complete P p hp [] front rest h = rw h refl
 times_complete P p hp (x ∷ xs) front rest h =
     let same : front ++ rest ≡ h.0 ++ (h.1 ++ rest) = ap (λ (ys : List ℕ). ys ++ rest) h.2 ∙ append_assoc h.0 h.1 rest in
     rw (same, hp.complete x h.0 (h.1 ++ rest) h.3, times_complete P p hp xs h.1 rest h.4) refl
 
-pub Reads-times : {A : Type 0} (P : A → List ℕ → Type 0) (p : List ℕ → Option (A × List ℕ)) (n : ℕ) → Reads P p → Reads (Several P n) (times_at p n)
+pub Reads-times : {A : Type 0} (P : A → List ℕ → Type 0) (p : List ℕ → Option (A × List ℕ)) (n : ℕ) → Reads P p → Reads (Several P n) (parse_times p n)
 Reads-times P p n hp = record {
   sound = times_sound P p hp n;
-  complete = λ xs front rest h. ap (λ (k : ℕ). times_at p k (front ++ rest)) (sym h.0) ∙ times_complete P p hp xs front rest h.1;
+  complete = λ xs front rest h. ap (λ (k : ℕ). parse_times p k (front ++ rest)) (sym h.0) ∙ times_complete P p hp xs front rest h.1;
 }
 
 -- seen otherwise, where several values may be seen as one
 pub Reads-seen : {A B : Type 0} (P : A → List ℕ → Type 0) (Q : B → List ℕ → Type 0) (p : List ℕ → Option (A × List ℕ)) (f : A → B)
-    → Reads P p → ((x : A) (bytes : List ℕ) → P x bytes → Q (f x) bytes) → ((y : B) (bytes : List ℕ) → Q y bytes → (x : A) × P x bytes × (f x ≡ y)) → Reads Q (mapped_at f p)
+    → Reads P p → ((x : A) (bytes : List ℕ) → P x bytes → Q (f x) bytes) → ((y : B) (bytes : List ℕ) → Q y bytes → (x : A) × P x bytes × (f x ≡ y)) → Reads Q (parse_map f p)
 Reads-seen P Q p f hp to from = record {
   sound = λ bytes x h.
       let b = bind_some (p bytes) (λ y. Some (f y.0, y.1)) x h in

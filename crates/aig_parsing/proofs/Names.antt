@@ -7,7 +7,7 @@ use Rattle.std.proofs.lemmas.List.{length-append}
 use Rattle.aig_format.specs.Text.{◌then◌, Each, Just, IsDigit, Ended}
 use Rattle.aig_format.specs.File.{NameLine}
 use Rattle.aig_format.specs.Spells.{is_letter, Name, IsComment}
-use Rattle.aig_parsing.specs.Parse.{◌>>=◌, is_digit, ended_at, both_at, tested_at, byte_at, text_at, name_from, name_at, is_comment, tail_at}
+use Rattle.aig_parsing.specs.Parse.{◌>>=◌, is_digit, parse_ended, parse_both, parse_if, parse_byte, parse_text, name_from, parse_name, is_comment, parse_tail}
 use Rattle.aig_format.proofs.Entries.{chosen}
 use Rattle.aig_parsing.proofs.Numbers.{bind_some, true_digit, digit_false, false_digit}
 use Rattle.aig_parsing.proofs.Joined.{Begins, Reads, Reads-ended, Reads-both, Reads-tested, Reads-seen}
@@ -15,35 +15,35 @@ use Rattle.aig_parsing.proofs.Joined.{Begins, Reads, Reads-ended, Reads-both, Re
 abbrev pub IsByte : ℕ → List ℕ → Type 0
 IsByte b = Just (b ∷ [])
 
-byte_sound : (bytes : List ℕ) (x : ℕ × List ℕ) → byte_at bytes ≡ Some x → Begins IsByte bytes x
+byte_sound : (bytes : List ℕ) (x : ℕ × List ℕ) → parse_byte bytes ≡ Some x → Begins IsByte bytes x
 byte_sound [] x h = absurd cc
 byte_sound (b ∷ bs) x h = subst (Begins IsByte (b ∷ bs)) (same_Some _ _ h) (b ∷ [], refl, refl)
 
-pub Reads-byte : Reads IsByte byte_at
+pub Reads-byte : Reads IsByte parse_byte
 Reads-byte = record { sound = byte_sound; complete = λ b front rest h. rw h refl }
 
 -- a text without a line feed, and the line feed
 abbrev pub IsText : List ℕ → List ℕ → Type 0
 IsText name bytes = AllByRecursion (λ b. b ≢ 10) name × Just (name ++ 10 ∷ []) bytes
 
-text_sound : (bytes : List ℕ) (x : List ℕ × List ℕ) → text_at bytes ≡ Some x → Begins IsText bytes x
-unfolding text_at
+text_sound : (bytes : List ℕ) (x : List ℕ × List ℕ) → parse_text bytes ≡ Some x → Begins IsText bytes x
+unfolding parse_text
 text_sound [] x h = absurd cc
 text_sound (b ∷ bs) x h =
-    elim (chosen (eqb b 10) (Some ([], bs)) (text_at bs >>= λ x. Some (b ∷ x.0, x.1)) (Some x) h) [
+    elim (chosen (eqb b 10) (Some ([], bs)) (parse_text bs >>= λ x. Some (b ∷ x.0, x.1)) (Some x) h) [
       | inl last ↦ subst (Begins IsText (b ∷ bs)) (same_Some _ _ last.1) (10 ∷ [], ap (λ (k : ℕ). k ∷ bs) (eqb-true _ _ last.0), (tt, refl))
       | inr more ↦
-          let c = bind_some (text_at bs) (λ x. Some (b ∷ x.0, x.1)) x more.1 in
+          let c = bind_some (parse_text bs) (λ x. Some (b ∷ x.0, x.1)) x more.1 in
           let s = text_sound bs c.0 c.1 in
           subst (Begins IsText (b ∷ bs)) (same_Some _ _ c.2) (b ∷ s.0, ap (λ (xs : List ℕ). b ∷ xs) s.1, ((eqb-false _ _ more.0, s.2.0), ap (λ (xs : List ℕ). b ∷ xs) s.2.1))
     ]
 
-text_again : (name rest : List ℕ) → AllByRecursion (λ b. b ≢ 10) name → text_at (name ++ 10 ∷ rest) ≡ Some (name, rest)
-unfolding text_at
+text_again : (name rest : List ℕ) → AllByRecursion (λ b. b ≢ 10) name → parse_text (name ++ 10 ∷ rest) ≡ Some (name, rest)
+unfolding parse_text
 text_again [] rest h = refl
 text_again (b ∷ name) rest h = rw (ne_eqb b 10 h.0, text_again name rest h.1) refl
 
-pub Reads-text : Reads IsText text_at
+pub Reads-text : Reads IsText parse_text
 Reads-text = record {
   sound = text_sound;
   complete = λ name front rest h. rw (h.1, append_assoc name (10 ∷ []) rest) (text_again name rest h.0);
@@ -52,12 +52,12 @@ Reads-text = record {
 abbrev Raw : ℕ × (ℕ × List ℕ) → List ℕ → Type 0
 Raw x = (λ b. (is_letter x.0 ≡ true) × IsByte x.0 b) then (Ended 32 x.1.0 then IsText x.1.1)
 
-pub Reads-name : Reads Name name_at
+pub Reads-name : Reads Name parse_name
 Reads-name =
-    Reads-seen Raw Name (both_at (tested_at byte_at is_letter) (λ _. both_at (ended_at 32) (λ _. text_at))) name_from
-    (Reads-both (λ l b. (is_letter l ≡ true) × IsByte l b) (λ _ y. Ended 32 y.0 then IsText y.1) (tested_at byte_at is_letter) (λ _. both_at (ended_at 32) (λ _. text_at))
-    (Reads-tested IsByte (λ l. is_letter l ≡ true) byte_at is_letter Reads-byte (λ l h. h) (λ l h. h))
-    (λ _. Reads-both (Ended 32) (λ _. IsText) (ended_at 32) (λ _. text_at) (Reads-ended 32 (λ h. omega arith)) (λ _. Reads-text)))
+    Reads-seen Raw Name (parse_both (parse_if parse_byte is_letter) (λ _. parse_both (parse_ended 32) (λ _. parse_text))) name_from
+    (Reads-both (λ l b. (is_letter l ≡ true) × IsByte l b) (λ _ y. Ended 32 y.0 then IsText y.1) (parse_if parse_byte is_letter) (λ _. parse_both (parse_ended 32) (λ _. parse_text))
+    (Reads-tested IsByte (λ l. is_letter l ≡ true) parse_byte is_letter Reads-byte (λ l h. h) (λ l h. h))
+    (λ _. Reads-both (Ended 32) (λ _. IsText) (parse_ended 32) (λ _. parse_text) (Reads-ended 32 (λ h. omega arith)) (λ _. Reads-text)))
     (λ x bytes h. (h.3.0, h.4.4.0, (h.0, h.1, h.2, h.3.1, (h.4.0, h.4.1, h.4.2, h.4.3, h.4.4.1))))
     (λ n bytes h. ((n.letter, (n.position, n.name)), (h.2.0, h.2.1, h.2.2, (h.0, h.2.3), (h.2.4.0, h.2.4.1, h.2.4.2, h.2.4.3, (h.1, h.2.4.4))), refl))
 
@@ -106,23 +106,23 @@ name_is_some n front h =
 abbrev pub IsTail : List NameLine → List ℕ → Type 0
 IsTail ns = Each Name ns then IsComment
 
-pub tail_sound : (k : ℕ) (bytes : List ℕ) (ns : List NameLine) → tail_at k bytes ≡ Some ns → IsTail ns bytes
-unfolding tail_at
+pub tail_sound : (k : ℕ) (bytes : List ℕ) (ns : List NameLine) → parse_tail k bytes ≡ Some ns → IsTail ns bytes
+unfolding parse_tail
 tail_sound zero bytes ns h = absurd cc
 tail_sound (suc k) bytes ns h =
-    elim (chosen (is_comment bytes) (Some []) (name_at bytes >>= λ n. tail_at k n.1 >>= λ ns. Some (n.0 ∷ ns)) (Some ns) h) [
+    elim (chosen (is_comment bytes) (Some []) (parse_name bytes >>= λ n. parse_tail k n.1 >>= λ ns. Some (n.0 ∷ ns)) (Some ns) h) [
       | inl done ↦ subst (λ (ms : List NameLine). IsTail ms bytes) (same_Some _ _ done.1) ([], bytes, refl, refl, comment_sound bytes done.0)
       | inr more ↦
-          let b = bind_some (name_at bytes) (λ n. tail_at k n.1 >>= λ ns. Some (n.0 ∷ ns)) ns more.1 in
-          let c = bind_some (tail_at k b.0.1) (λ ns. Some (b.0.0 ∷ ns)) ns b.2 in
+          let b = bind_some (parse_name bytes) (λ n. parse_tail k n.1 >>= λ ns. Some (n.0 ∷ ns)) ns more.1 in
+          let c = bind_some (parse_tail k b.0.1) (λ ns. Some (b.0.0 ∷ ns)) ns b.2 in
           let s = Reads-name.sound bytes b.0 b.1 in
           let t = tail_sound k b.0.1 c.0 c.1 in
           let whole : bytes ≡ (s.0 ++ t.0) ++ t.1 = s.1 ∙ ap (λ (xs : List ℕ). s.0 ++ xs) t.2 ∙ sym (append_assoc s.0 t.0 t.1) in
           subst (λ (ms : List NameLine). IsTail ms bytes) (same_Some _ _ c.2) (s.0 ++ t.0, t.1, whole, (s.0, t.0, refl, s.2, t.3), t.4)
     ]
 
-pub tail_complete : (ns : List NameLine) (k : ℕ) (bytes : List ℕ) → length bytes < k → IsTail ns bytes → tail_at k bytes ≡ Some ns
-unfolding tail_at
+pub tail_complete : (ns : List NameLine) (k : ℕ) (bytes : List ℕ) → length bytes < k → IsTail ns bytes → parse_tail k bytes ≡ Some ns
+unfolding parse_tail
 tail_complete ns zero bytes lt h = absurd (omega (arith, lt))
 tail_complete [] (suc k) bytes lt h =
     let same : bytes ≡ h.1 = h.2 ∙ ap (λ (xs : List ℕ). xs ++ h.1) h.3 in
@@ -133,6 +133,6 @@ tail_complete (n ∷ ns) (suc k) bytes lt h =
     let same : bytes ≡ e.0 ++ (e.1 ++ h.1) = h.2 ∙ ap (λ (xs : List ℕ). xs ++ h.1) e.2 ∙ append_assoc e.0 e.1 h.1 in
     let some = name_is_some n e.0 e.3 in
     let is_not : is_comment bytes ≡ false = ap is_comment same ∙ name_goes_on n e.0 (e.1 ++ h.1) e.3 in
-    let one : name_at bytes ≡ Some (n, e.1 ++ h.1) = ap name_at same ∙ Reads-name.complete n e.0 (e.1 ++ h.1) e.3 in
-    let rest : tail_at k (e.1 ++ h.1) ≡ Some ns = tail_complete ns k (e.1 ++ h.1) (omega (arith, ap length same, length-append e.0 (e.1 ++ h.1))) (e.1, h.1, refl, e.4, h.4) in
+    let one : parse_name bytes ≡ Some (n, e.1 ++ h.1) = ap parse_name same ∙ Reads-name.complete n e.0 (e.1 ++ h.1) e.3 in
+    let rest : parse_tail k (e.1 ++ h.1) ≡ Some ns = tail_complete ns k (e.1 ++ h.1) (omega (arith, ap length same, length-append e.0 (e.1 ++ h.1))) (e.1, h.1, refl, e.4, h.4) in
     rw (is_not, one, rest) refl

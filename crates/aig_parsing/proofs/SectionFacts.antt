@@ -10,7 +10,7 @@ use Rattle.aig_format.specs.Spells.{Placed}
 use Rattle.aig_format.proofs.Entries.{rec_weaker}
 use Rattle.aig_format.proofs.Compact.{compact-tested}
 use Rattle.aig_parsing.specs.Parse.{Parts, file_from, is_good}
-use Rattle.aig_parsing.specs.ParseTested.{section_lines_at}
+use Rattle.aig_parsing.specs.ParseTested.{parse_section_lines}
 use Rattle.aig_parsing.proofs.Binary.{latch_key}
 use Rattle.aig_parsing.proofs.Files.{SectionsPart, inputs_text, latches_text, gates_text, placed_all}
 use Rattle.aig_parsing.proofs.FittingFiles.{GatesFit, Reads-section_lines, VariablesFit, compact_in_binary, rules_fit, variables_fit}
@@ -62,7 +62,7 @@ compact_in Text f is placed enough g binary = absurd cc
 compact_in Binary f is placed enough g binary = compact-tested f (compact_in_binary f is (rules_fit Binary f is placed enough g tt))
 
 -- the sections behind a good header, which were read
-pub lines_tell : (kind : FileKind) (ns : HeaderNumbers) (x : Parts) (bytes rest : List ℕ) → is_good kind ns ≡ true → section_lines_at kind ns bytes ≡ Some (x, rest) → LinesTell kind ns x
+pub lines_tell : (kind : FileKind) (ns : HeaderNumbers) (x : Parts) (bytes rest : List ℕ) → is_good kind ns ≡ true → parse_section_lines kind ns bytes ≡ Some (x, rest) → LinesTell kind ns x
 lines_tell kind ns x bytes rest good read =
     let f = file_by kind ns x in
     let s = (Reads-section_lines kind ns).sound bytes (x, rest) read in

@@ -9,7 +9,7 @@ use Rattle.aig_format.specs.declared.FileKind.{FileKind}
 use Rattle.aig_format.specs.declared.FileKind.TheVariants.{Text, Binary}
 use Rattle.aig_format.specs.File.{HeaderNumbers}
 use Rattle.aig_format.specs.Spells.{magic, numbers_in, IsHeader, Latch, Gate}
-use Rattle.aig_parsing.specs.Parse.{◌>>=◌, ended_at, line_at, strip, or_else, kind_at, header_from, header_numbers_at, header_at, latch_from, gate_from, numbers_at, latch_at, gate_at, sets_at, tested_at}
+use Rattle.aig_parsing.specs.Parse.{◌>>=◌, parse_ended, parse_line, strip, or_else, parse_kind, header_from, parse_header_numbers, parse_header, latch_from, gate_from, parse_numbers, parse_latch, parse_gate, parse_sets, parse_if}
 use Rattle.aig_format.proofs.Entries.{chosen}
 use Rattle.aig_parsing.proofs.Numbers.{bind_some}
 use Rattle.aig_parsing.proofs.Joined.{Begins, Reads, Reads-ended, Reads-both, Reads-tested, Reads-seen, Reads-times}
@@ -59,29 +59,29 @@ second : (kind : FileKind) (o : Option (List ℕ)) (x : FileKind × List ℕ) �
 second kind (Some rest) x h = let s = same_Some _ _ h in (ap (λ (y : FileKind × List ℕ). Some y.1) s, ap (λ (y : FileKind × List ℕ). y.0) s)
 second kind None x h = absurd cc
 
-kind_sound : (bytes : List ℕ) (x : FileKind × List ℕ) → kind_at bytes ≡ Some x → Begins (λ kind. Just (magic kind)) bytes x
-unfolding kind_at
+kind_sound : (bytes : List ℕ) (x : FileKind × List ℕ) → parse_kind bytes ≡ Some x → Begins (λ kind. Just (magic kind)) bytes x
+unfolding parse_kind
 kind_sound bytes x h =
     elim (which Text (strip (magic Text) bytes) (option_map (λ rest. (Binary, rest)) (strip (magic Binary) bytes)) x h) [
       | inl t ↦ (magic Text, strip_sound (magic Text) bytes x.1 t.0, ap magic t.1)
       | inr b ↦ let s = second Binary (strip (magic Binary) bytes) x b in (magic Binary, strip_sound (magic Binary) bytes x.1 s.0, ap magic s.1)
     ]
 
-kind_complete : (kind : FileKind) (front rest : List ℕ) → Just (magic kind) front → kind_at (front ++ rest) ≡ Some (kind, rest)
-unfolding kind_at
+kind_complete : (kind : FileKind) (front rest : List ℕ) → Just (magic kind) front → parse_kind (front ++ rest) ≡ Some (kind, rest)
+unfolding parse_kind
 kind_complete Text front rest h = rw h refl
 kind_complete Binary front rest h = rw h refl
 
-pub Reads-kind : Reads (λ kind. Just (magic kind)) kind_at
+pub Reads-kind : Reads (λ kind. Just (magic kind)) parse_kind
 Reads-kind = record { sound = kind_sound; complete = kind_complete }
 
 abbrev AreHeaderNumbers : HeaderNumbers → List ℕ → Type 0
 AreHeaderNumbers numbers bytes = (written : List ℕ) × (header_from written ≡ numbers) × (5 ≤ length written) × IsShortLine 9 written bytes
 
-Reads-header_numbers : Reads AreHeaderNumbers header_numbers_at
+Reads-header_numbers : Reads AreHeaderNumbers parse_header_numbers
 Reads-header_numbers =
-    Reads-seen (λ ns bytes. (5 ≤ length ns) × IsShortLine 9 ns bytes) AreHeaderNumbers (tested_at (line_at 9) (λ ns. leb 5 (length ns))) header_from
-    (Reads-tested (IsShortLine 9) (λ ns. 5 ≤ length ns) (line_at 9) (λ ns. leb 5 (length ns)) (Reads-line 9) (λ ns. leb-true 5 (length ns)) (λ ns. le-leb 5 (length ns)))
+    Reads-seen (λ ns bytes. (5 ≤ length ns) × IsShortLine 9 ns bytes) AreHeaderNumbers (parse_if (parse_line 9) (λ ns. leb 5 (length ns))) header_from
+    (Reads-tested (IsShortLine 9) (λ ns. 5 ≤ length ns) (parse_line 9) (λ ns. leb 5 (length ns)) (Reads-line 9) (λ ns. leb-true 5 (length ns)) (λ ns. le-leb 5 (length ns)))
     (λ ns bytes h. (ns, refl, h.0, h.1)) (λ numbers bytes h. (h.0, (h.2, h.3), h.1))
 
 -- the numbers of a line of five to nine, with zeros behind them
@@ -118,10 +118,10 @@ header_back x bytes h =
     let len : 9 ≡ length h.0 + h.1 = ap length h.2 ∙ length-append h.0 (replicate h.1 0) ∙ ap (λ (k : ℕ). length h.0 + k) (length-replicate {A = ℕ} h.1 0) in
     (t.0, t.1, t.2, t.3, (h.0, sym (header_from-zeros h.0 h.1) ∙ ap header_from (sym h.2), h.3, (omega arith, t.4)))
 
-pub Reads-header : Reads HeaderIs header_at
+pub Reads-header : Reads HeaderIs parse_header
 Reads-header =
-    Reads-same (λ xy. Just (magic xy.0) then AreHeaderNumbers xy.1) HeaderIs header_at
-    (Reads-both (λ kind. Just (magic kind)) (λ _. AreHeaderNumbers) kind_at (λ _. header_numbers_at) Reads-kind (λ _. Reads-header_numbers))
+    Reads-same (λ xy. Just (magic xy.0) then AreHeaderNumbers xy.1) HeaderIs parse_header
+    (Reads-both (λ kind. Just (magic kind)) (λ _. AreHeaderNumbers) parse_kind (λ _. parse_header_numbers) Reads-kind (λ _. Reads-header_numbers))
     header_to header_back
 
 -- ---- latches, gates, justice sets
@@ -141,10 +141,10 @@ latch_back a b (Some c) bytes h = (a ∷ b ∷ c ∷ [], (omega arith, (omega ar
 abbrev test_2 : List ℕ → Bool
 test_2 ns = leb 2 (length ns)
 
-pub Reads-latch : Reads (Latch Text) latch_at
+pub Reads-latch : Reads (Latch Text) parse_latch
 Reads-latch =
-    Reads-seen (λ ns bytes. (2 ≤ length ns) × IsShortLine 3 ns bytes) (Latch Text) (tested_at (line_at 3) test_2) latch_from
-    (Reads-tested (IsShortLine 3) (λ ns. 2 ≤ length ns) (line_at 3) test_2 (Reads-line 3) (λ ns. leb-true 2 (length ns)) (λ ns. le-leb 2 (length ns)))
+    Reads-seen (λ ns bytes. (2 ≤ length ns) × IsShortLine 3 ns bytes) (Latch Text) (parse_if (parse_line 3) test_2) latch_from
+    (Reads-tested (IsShortLine 3) (λ ns. 2 ≤ length ns) (parse_line 3) test_2 (Reads-line 3) (λ ns. leb-true 2 (length ns)) (λ ns. le-leb 2 (length ns)))
     latch_to (λ l bytes h. latch_back l.literal l.next l.reset bytes h)
 
 gate_to : (ns : List ℕ) (bytes : List ℕ) → (length ns ≡ 3) × IsShortLine 3 ns bytes → Gate Text (gate_from ns) bytes
@@ -157,44 +157,44 @@ gate_to (a ∷ b ∷ c ∷ d ∷ ns) bytes h = absurd (omega (arith, h.1.0))
 abbrev test_3 : List ℕ → Bool
 test_3 ns = eqb (length ns) 3
 
-pub Reads-gate : Reads (Gate Text) gate_at
+pub Reads-gate : Reads (Gate Text) parse_gate
 Reads-gate =
-    Reads-seen (λ ns bytes. (length ns ≡ 3) × IsShortLine 3 ns bytes) (Gate Text) (tested_at (line_at 3) test_3) gate_from
-    (Reads-tested (IsShortLine 3) (λ ns. length ns ≡ 3) (line_at 3) test_3 (Reads-line 3) (λ ns. eqb-true (length ns) 3) (λ ns. eq-eqb (length ns) 3))
+    Reads-seen (λ ns bytes. (length ns ≡ 3) × IsShortLine 3 ns bytes) (Gate Text) (parse_if (parse_line 3) test_3) gate_from
+    (Reads-tested (IsShortLine 3) (λ ns. length ns ≡ 3) (parse_line 3) test_3 (Reads-line 3) (λ ns. eqb-true (length ns) 3) (λ ns. eq-eqb (length ns) 3))
     gate_to (λ g bytes h. (g.lhs ∷ g.rhs0 ∷ g.rhs1 ∷ [], (refl, (omega arith, h)), refl))
 
 -- as many numbers as n says, a line each
 abbrev pub SoMany : ℕ → List ℕ → List ℕ → Type 0
 SoMany n xs bytes = (length xs ≡ n) × Lines xs bytes
 
-pub Reads-numbers : (n : ℕ) → Reads (SoMany n) (numbers_at n)
-Reads-numbers n = Reads-times (Ended 10) (ended_at 10) n (Reads-ended 10 (λ h. omega arith))
+pub Reads-numbers : (n : ℕ) → Reads (SoMany n) (parse_numbers n)
+Reads-numbers n = Reads-times (Ended 10) (parse_ended 10) n (Reads-ended 10 (λ h. omega arith))
 
 -- sets of these sizes, line after line
 abbrev pub SetsOf : List ℕ → List (List ℕ) → List ℕ → Type 0
 SetsOf sizes sets bytes = (map length sets ≡ sizes) × Each Lines sets bytes
 
-sets_sound : (sizes : List ℕ) (bytes : List ℕ) (x : List (List ℕ) × List ℕ) → sets_at sizes bytes ≡ Some x → Begins (SetsOf sizes) bytes x
-unfolding sets_at
+sets_sound : (sizes : List ℕ) (bytes : List ℕ) (x : List (List ℕ) × List ℕ) → parse_sets sizes bytes ≡ Some x → Begins (SetsOf sizes) bytes x
+unfolding parse_sets
 sets_sound [] bytes x h = subst (Begins (SetsOf []) bytes) (same_Some _ _ h) ([], refl, (refl, refl))
 sets_sound (n ∷ sizes) bytes x h =
-    let b = bind_some (numbers_at n bytes) (λ set. sets_at sizes set.1 >>= λ sets. Some (set.0 ∷ sets.0, sets.1)) x h in
-    let c = bind_some (sets_at sizes b.0.1) (λ sets. Some (b.0.0 ∷ sets.0, sets.1)) x b.2 in
+    let b = bind_some (parse_numbers n bytes) (λ set. parse_sets sizes set.1 >>= λ sets. Some (set.0 ∷ sets.0, sets.1)) x h in
+    let c = bind_some (parse_sets sizes b.0.1) (λ sets. Some (b.0.0 ∷ sets.0, sets.1)) x b.2 in
     let s = (Reads-numbers n).sound bytes b.0 b.1 in
     let t = sets_sound sizes b.0.1 c.0 c.1 in
     let whole : bytes ≡ (s.0 ++ t.0) ++ c.0.1 = s.1 ∙ ap (λ (xs : List ℕ). s.0 ++ xs) t.1 ∙ sym (append_assoc s.0 t.0 c.0.1) in
     let lens : map length (b.0.0 ∷ c.0.0) ≡ n ∷ sizes = let p = s.2.0 in let q = t.2.0 in cc in
     subst (Begins (SetsOf (n ∷ sizes)) bytes) (same_Some _ _ c.2) (s.0 ++ t.0, whole, (lens, (s.0, t.0, refl, s.2.1, t.2.1)))
 
-sets_complete : (sets : List (List ℕ)) (front rest : List ℕ) → Each Lines sets front → sets_at (map length sets) (front ++ rest) ≡ Some (sets, rest)
-unfolding sets_at
+sets_complete : (sets : List (List ℕ)) (front rest : List ℕ) → Each Lines sets front → parse_sets (map length sets) (front ++ rest) ≡ Some (sets, rest)
+unfolding parse_sets
 sets_complete [] front rest h = rw h refl
 sets_complete (xs ∷ sets) front rest h =
     let same : front ++ rest ≡ h.0 ++ (h.1 ++ rest) = ap (λ (ys : List ℕ). ys ++ rest) h.2 ∙ append_assoc h.0 h.1 rest in
     rw (same, (Reads-numbers (length xs)).complete xs h.0 (h.1 ++ rest) (refl, h.3), sets_complete sets h.1 rest h.4) refl
 
-pub Reads-sets : (sizes : List ℕ) → Reads (SetsOf sizes) (sets_at sizes)
+pub Reads-sets : (sizes : List ℕ) → Reads (SetsOf sizes) (parse_sets sizes)
 Reads-sets sizes = record {
   sound = sets_sound sizes;
-  complete = λ sets front rest h. ap (λ (k : List ℕ). sets_at k (front ++ rest)) (sym h.0) ∙ sets_complete sets front rest h.1;
+  complete = λ sets front rest h. ap (λ (k : List ℕ). parse_sets k (front ++ rest)) (sym h.0) ∙ sets_complete sets front rest h.1;
 }

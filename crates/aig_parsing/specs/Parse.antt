@@ -20,55 +20,55 @@ abbrev pub is_digit : ℕ → Bool
 is_digit b = nat_le 48 b && nat_le b 57
 
 -- digits that go on, with the value so far: the value, and the byte that ends them
-unfoldable pub digits_at : ℕ → List ℕ → Option ((ℕ × ℕ) × List ℕ)
-digits_at v [] = None
-digits_at v (b ∷ bs) =
-    if is_digit b then (if nat_lt (10 * v + (b - 48)) (2 ^ 32) then digits_at (10 * v + (b - 48)) bs else None) else Some ((v, b), bs)
+unfoldable pub parse_digits : ℕ → List ℕ → Option ((ℕ × ℕ) × List ℕ)
+parse_digits v [] = None
+parse_digits v (b ∷ bs) =
+    if is_digit b then (if nat_lt (10 * v + (b - 48)) (2 ^ 32) then parse_digits (10 * v + (b - 48)) bs else None) else Some ((v, b), bs)
 
 -- a number, and the byte that ends it
-unfoldable pub number_at : List ℕ → Option ((ℕ × ℕ) × List ℕ)
-number_at [] = None
-number_at (b ∷ bs) = if is_digit b then digits_at (b - 48) bs else None
+unfoldable pub parse_number : List ℕ → Option ((ℕ × ℕ) × List ℕ)
+parse_number [] = None
+parse_number (b ∷ bs) = if is_digit b then parse_digits (b - 48) bs else None
 
 -- a number that this byte ends
-unfoldable pub ended_at : ℕ → List ℕ → Option (ℕ × List ℕ)
-ended_at end bytes = do
-  n ← number_at bytes
+unfoldable pub parse_ended : ℕ → List ℕ → Option (ℕ × List ℕ)
+parse_ended end bytes = do
+  n ← parse_number bytes
   if n.0.1 == end then Some (n.0.0, n.1) else None
 
 -- one reader, and then another that may look at what the first gave
-abbrev pub both_at : {A B : Type 0} → (List ℕ → Option (A × List ℕ)) → (A → List ℕ → Option (B × List ℕ)) → List ℕ → Option ((A × B) × List ℕ)
-both_at p q bytes = do
+abbrev pub parse_both : {A B : Type 0} → (List ℕ → Option (A × List ℕ)) → (A → List ℕ → Option (B × List ℕ)) → List ℕ → Option ((A × B) × List ℕ)
+parse_both p q bytes = do
   x ← p bytes
   y ← q x.0 x.1
   Some ((x.0, y.0), y.1)
 
 -- a reader that also wants a test passed
-abbrev pub tested_at : {A : Type 0} → (List ℕ → Option (A × List ℕ)) → (A → Bool) → List ℕ → Option (A × List ℕ)
-tested_at p test bytes = do
+abbrev pub parse_if : {A : Type 0} → (List ℕ → Option (A × List ℕ)) → (A → Bool) → List ℕ → Option (A × List ℕ)
+parse_if p test bytes = do
   x ← p bytes
   if test x.0 then Some x else None
 
 -- a reader whose value is seen otherwise
-abbrev pub mapped_at : {A B : Type 0} → (A → B) → (List ℕ → Option (A × List ℕ)) → List ℕ → Option (B × List ℕ)
-mapped_at f p bytes = do
+abbrev pub parse_map : {A B : Type 0} → (A → B) → (List ℕ → Option (A × List ℕ)) → List ℕ → Option (B × List ℕ)
+parse_map f p bytes = do
   x ← p bytes
   Some (f x.0, x.1)
 
 -- a reader n times
-abbrev pub times_at : {A : Type 0} → (List ℕ → Option (A × List ℕ)) → ℕ → List ℕ → Option (List A × List ℕ)
-times_at p zero bytes = Some ([], bytes)
-times_at p (suc n) bytes = do
+abbrev pub parse_times : {A : Type 0} → (List ℕ → Option (A × List ℕ)) → ℕ → List ℕ → Option (List A × List ℕ)
+parse_times p zero bytes = Some ([], bytes)
+parse_times p (suc n) bytes = do
   x ← p bytes
-  xs ← times_at p n x.1
+  xs ← parse_times p n x.1
   Some (x.0 ∷ xs.0, xs.1)
 
 -- a line of at most so many numbers
-unfoldable pub line_at : ℕ → List ℕ → Option (List ℕ × List ℕ)
-line_at zero bytes = None
-line_at (suc k) bytes = do
-  n ← number_at bytes
-  if n.0.1 == 10 then Some (n.0.0 ∷ [], n.1) else if n.0.1 == 32 then (line_at k n.1 >>= λ ns. Some (n.0.0 ∷ ns.0, ns.1)) else None
+unfoldable pub parse_line : ℕ → List ℕ → Option (List ℕ × List ℕ)
+parse_line zero bytes = None
+parse_line (suc k) bytes = do
+  n ← parse_number bytes
+  if n.0.1 == 10 then Some (n.0.0 ∷ [], n.1) else if n.0.1 == 32 then (parse_line k n.1 >>= λ ns. Some (n.0.0 ∷ ns.0, ns.1)) else None
 
 -- what follows a text, if the bytes begin with it
 abbrev pub strip : List ℕ → List ℕ → Option (List ℕ)
@@ -82,8 +82,8 @@ or_else (Some x) other = Some x
 or_else None other = other
 
 -- the kind's word
-unfoldable pub kind_at : List ℕ → Option (FileKind × List ℕ)
-kind_at bytes = or_else (option_map (λ rest. (Text, rest)) (strip (magic Text) bytes)) (option_map (λ rest. (Binary, rest)) (strip (magic Binary) bytes))
+unfoldable pub parse_kind : List ℕ → Option (FileKind × List ℕ)
+parse_kind bytes = or_else (option_map (λ rest. (Text, rest)) (strip (magic Text) bytes)) (option_map (λ rest. (Binary, rest)) (strip (magic Binary) bytes))
 
 -- the header of the numbers of a line; those that are not written are 0
 abbrev pub header_from : List ℕ → HeaderNumbers
@@ -100,12 +100,12 @@ header_from ns = record {
 }
 
 -- five to nine numbers in a line, as a header
-abbrev pub header_numbers_at : List ℕ → Option (HeaderNumbers × List ℕ)
-header_numbers_at = mapped_at header_from (tested_at (line_at 9) (λ ns. nat_le 5 (length ns)))
+abbrev pub parse_header_numbers : List ℕ → Option (HeaderNumbers × List ℕ)
+parse_header_numbers = parse_map header_from (parse_if (parse_line 9) (λ ns. nat_le 5 (length ns)))
 
 -- the header: its kind and its numbers
-abbrev pub header_at : List ℕ → Option ((FileKind × HeaderNumbers) × List ℕ)
-header_at = both_at kind_at (λ _. header_numbers_at)
+abbrev pub parse_header : List ℕ → Option ((FileKind × HeaderNumbers) × List ℕ)
+parse_header = parse_both parse_kind (λ _. parse_header_numbers)
 
 -- the latch of the numbers of a line
 abbrev pub latch_from : List ℕ → LatchLine
@@ -116,42 +116,42 @@ abbrev pub gate_from : List ℕ → GateLine
 gate_from ns = record { lhs = slice_index ns 0; rhs0 = slice_index ns 1; rhs1 = slice_index ns 2 }
 
 -- lines of one number
-abbrev pub numbers_at : ℕ → List ℕ → Option (List ℕ × List ℕ)
-numbers_at = times_at (ended_at 10)
+abbrev pub parse_numbers : ℕ → List ℕ → Option (List ℕ × List ℕ)
+parse_numbers = parse_times (parse_ended 10)
 
 -- a latch line of a text file: two or three numbers
-abbrev pub latch_at : List ℕ → Option (LatchLine × List ℕ)
-latch_at = mapped_at latch_from (tested_at (line_at 3) (λ ns. nat_le 2 (length ns)))
+abbrev pub parse_latch : List ℕ → Option (LatchLine × List ℕ)
+parse_latch = parse_map latch_from (parse_if (parse_line 3) (λ ns. nat_le 2 (length ns)))
 
 -- a gate line of a text file: three numbers
-abbrev pub gate_at : List ℕ → Option (GateLine × List ℕ)
-gate_at = mapped_at gate_from (tested_at (line_at 3) (λ ns. length ns == 3))
+abbrev pub parse_gate : List ℕ → Option (GateLine × List ℕ)
+parse_gate = parse_map gate_from (parse_if (parse_line 3) (λ ns. length ns == 3))
 
 -- sets of these sizes
-unfoldable pub sets_at : List ℕ → List ℕ → Option (List (List ℕ) × List ℕ)
-sets_at [] bytes = Some ([], bytes)
-sets_at (n ∷ sizes) bytes = do
-  set ← numbers_at n bytes
-  sets ← sets_at sizes set.1
+unfoldable pub parse_sets : List ℕ → List ℕ → Option (List (List ℕ) × List ℕ)
+parse_sets [] bytes = Some ([], bytes)
+parse_sets (n ∷ sizes) bytes = do
+  set ← parse_numbers n bytes
+  sets ← parse_sets sizes set.1
   Some (set.0 ∷ sets.0, sets.1)
 
 -- a byte
-abbrev pub byte_at : List ℕ → Option (ℕ × List ℕ)
-byte_at [] = None
-byte_at (b ∷ bs) = Some (b, bs)
+abbrev pub parse_byte : List ℕ → Option (ℕ × List ℕ)
+parse_byte [] = None
+parse_byte (b ∷ bs) = Some (b, bs)
 
 -- the bytes before the first line feed
-unfoldable pub text_at : List ℕ → Option (List ℕ × List ℕ)
-text_at [] = None
-text_at (b ∷ bs) = if b == 10 then Some ([], bs) else (text_at bs >>= λ x. Some (b ∷ x.0, x.1))
+unfoldable pub parse_text : List ℕ → Option (List ℕ × List ℕ)
+parse_text [] = None
+parse_text (b ∷ bs) = if b == 10 then Some ([], bs) else (parse_text bs >>= λ x. Some (b ∷ x.0, x.1))
 
 -- a name of these parts
 abbrev pub name_from : ℕ × (ℕ × List ℕ) → NameLine
 name_from x = record { letter = x.0; position = x.1.0; name = x.1.1 }
 
 -- a name line
-abbrev pub name_at : List ℕ → Option (NameLine × List ℕ)
-name_at = mapped_at name_from (both_at (tested_at byte_at is_letter) (λ _. both_at (ended_at 32) (λ _. text_at)))
+abbrev pub parse_name : List ℕ → Option (NameLine × List ℕ)
+parse_name = parse_map name_from (parse_both (parse_if parse_byte is_letter) (λ _. parse_both (parse_ended 32) (λ _. parse_text)))
 
 -- whether the bytes are a comment, or nothing
 abbrev pub is_comment : List ℕ → Bool
@@ -160,28 +160,28 @@ is_comment (c ∷ []) = c == letter_of_comment
 is_comment (c ∷ b ∷ bs) = c == letter_of_comment && not (is_digit b)
 
 -- the names, with the comment behind them, up to the end; at most k names
-unfoldable pub tail_at : ℕ → List ℕ → Option (List NameLine)
-tail_at zero bytes = None
-tail_at (suc k) bytes = if is_comment bytes then Some [] else (name_at bytes >>= λ n. tail_at k n.1 >>= λ ns. Some (n.0 ∷ ns))
+unfoldable pub parse_tail : ℕ → List ℕ → Option (List NameLine)
+parse_tail zero bytes = None
+parse_tail (suc k) bytes = if is_comment bytes then Some [] else (parse_name bytes >>= λ n. parse_tail k n.1 >>= λ ns. Some (n.0 ∷ ns))
 
 -- ---- binary files
 
 -- groups of seven bits, at most k of them
-unfoldable pub groups_at : ℕ → List ℕ → Option (ℕ × List ℕ)
-groups_at zero bytes = None
-groups_at (suc k) [] = None
-groups_at (suc k) (b ∷ bs) = if nat_lt b 128 then Some (b, bs) else (groups_at k bs >>= λ x. Some ((b - 128) + 128 * x.0, x.1))
+unfoldable pub parse_groups : ℕ → List ℕ → Option (ℕ × List ℕ)
+parse_groups zero bytes = None
+parse_groups (suc k) [] = None
+parse_groups (suc k) (b ∷ bs) = if nat_lt b 128 then Some (b, bs) else (parse_groups k bs >>= λ x. Some ((b - 128) + 128 * x.0, x.1))
 
 -- a difference
-abbrev pub delta_at : List ℕ → Option (ℕ × List ℕ)
-delta_at = tested_at (groups_at 5) (λ d. nat_lt d (2 ^ 32))
+abbrev pub parse_delta : List ℕ → Option (ℕ × List ℕ)
+parse_delta = parse_if (parse_groups 5) (λ d. nat_lt d (2 ^ 32))
 
 -- n entries, of the variables from v on
-abbrev pub placed_at : {A : Type 0} → (ℕ → List ℕ → Option (A × List ℕ)) → ℕ → ℕ → List ℕ → Option (List A × List ℕ)
-placed_at p zero v bytes = Some ([], bytes)
-placed_at p (suc n) v bytes = do
+abbrev pub parse_placed : {A : Type 0} → (ℕ → List ℕ → Option (A × List ℕ)) → ℕ → ℕ → List ℕ → Option (List A × List ℕ)
+parse_placed p zero v bytes = Some ([], bytes)
+parse_placed p (suc n) v bytes = do
   x ← p v bytes
-  xs ← placed_at p n (v + 1) x.1
+  xs ← parse_placed p n (v + 1) x.1
   Some (x.0 ∷ xs.0, xs.1)
 
 -- the latch of variable v in a binary file
@@ -197,29 +197,29 @@ abbrev pub fits_gate : ℕ → ℕ × ℕ → Bool
 fits_gate v d = nat_le d.0 (2 * v) && nat_le d.1 (2 * v - d.0)
 
 -- a latch line of a binary file, for variable v
-abbrev pub placed_latch_at : ℕ → List ℕ → Option (LatchLine × List ℕ)
-placed_latch_at v = mapped_at (placed_latch v) (line_at 2)
+abbrev pub parse_placed_latch : ℕ → List ℕ → Option (LatchLine × List ℕ)
+parse_placed_latch v = parse_map (placed_latch v) (parse_line 2)
 
 -- a gate of a binary file, for variable v
-abbrev pub placed_gate_at : ℕ → List ℕ → Option (GateLine × List ℕ)
-placed_gate_at v = mapped_at (placed_gate v) (tested_at (both_at delta_at (λ _. delta_at)) (fits_gate v))
+abbrev pub parse_placed_gate : ℕ → List ℕ → Option (GateLine × List ℕ)
+parse_placed_gate v = parse_map (placed_gate v) (parse_if (parse_both parse_delta (λ _. parse_delta)) (fits_gate v))
 
 -- ---- files of both kinds, by the header's numbers
 
 -- the inputs: in a binary file they have no bytes
-abbrev pub inputs_at : FileKind → HeaderNumbers → List ℕ → Option (List ℕ × List ℕ)
-inputs_at Text ns = numbers_at ns.inputs
-inputs_at Binary ns = λ bytes. Some (places ns.inputs 1, bytes)
+abbrev pub parse_inputs : FileKind → HeaderNumbers → List ℕ → Option (List ℕ × List ℕ)
+parse_inputs Text ns = parse_numbers ns.inputs
+parse_inputs Binary ns = λ bytes. Some (places ns.inputs 1, bytes)
 
 -- the latches
-abbrev pub latches_at : FileKind → HeaderNumbers → List ℕ → Option (List LatchLine × List ℕ)
-latches_at Text ns = times_at latch_at ns.latches
-latches_at Binary ns = placed_at placed_latch_at ns.latches (1 + ns.inputs)
+abbrev pub parse_latches : FileKind → HeaderNumbers → List ℕ → Option (List LatchLine × List ℕ)
+parse_latches Text ns = parse_times parse_latch ns.latches
+parse_latches Binary ns = parse_placed parse_placed_latch ns.latches (1 + ns.inputs)
 
 -- the gates
-abbrev pub gates_at : FileKind → HeaderNumbers → List ℕ → Option (List GateLine × List ℕ)
-gates_at Text ns = times_at gate_at ns.gates
-gates_at Binary ns = placed_at placed_gate_at ns.gates (1 + ns.inputs + ns.latches)
+abbrev pub parse_gates : FileKind → HeaderNumbers → List ℕ → Option (List GateLine × List ℕ)
+parse_gates Text ns = parse_times parse_gate ns.gates
+parse_gates Binary ns = parse_placed parse_placed_gate ns.gates (1 + ns.inputs + ns.latches)
 
 -- outputs and properties
 pub record PropertyParts : Type 0 where
@@ -241,10 +241,10 @@ pub record Parts : Type 0 where
   pub gates : List GateLine
 
 -- so many justice sets: their sizes, and then their literals
-abbrev pub justice_at : ℕ → List ℕ → Option (List (List ℕ) × List ℕ)
-justice_at count bytes = do
-  sizes ← numbers_at count bytes
-  sets_at sizes.0 sizes.1
+abbrev pub parse_justice : ℕ → List ℕ → Option (List (List ℕ) × List ℕ)
+parse_justice count bytes = do
+  sizes ← parse_numbers count bytes
+  parse_sets sizes.0 sizes.1
 
 -- outputs and properties, by readers of so many literals and of so many sets
 abbrev pub properties_by : (ℕ → List ℕ → Option (List ℕ × List ℕ)) → (ℕ → List ℕ → Option (List (List ℕ) × List ℕ)) → HeaderNumbers → List ℕ → Option (PropertyParts × List ℕ)
@@ -267,12 +267,12 @@ sections_by read_inputs read_latches read_properties read_gates bytes = do
   Some (record { inputs = inputs.0; latches = latches.0; properties = properties.0; gates = gates.0 }, gates.1)
 
 -- the sections behind the header
-abbrev pub sections_at : FileKind → HeaderNumbers → List ℕ → Option (Parts × List ℕ)
-sections_at kind ns = sections_by (inputs_at kind ns) (λ _. latches_at kind ns) (properties_by numbers_at justice_at ns) (λ _ _. gates_at kind ns)
+abbrev pub parse_sections : FileKind → HeaderNumbers → List ℕ → Option (Parts × List ℕ)
+parse_sections kind ns = sections_by (parse_inputs kind ns) (λ _. parse_latches kind ns) (properties_by parse_numbers parse_justice ns) (λ _ _. parse_gates kind ns)
 
 -- the header and the sections
-abbrev pub body_at : List ℕ → Option (((FileKind × HeaderNumbers) × Parts) × List ℕ)
-body_at = both_at header_at (λ h. sections_at h.0 h.1)
+abbrev pub parse_body : List ℕ → Option (((FileKind × HeaderNumbers) × Parts) × List ℕ)
+parse_body = parse_both parse_header (λ h. parse_sections h.0 h.1)
 
 -- the file of a header, sections and names
 abbrev pub file_from : (FileKind × HeaderNumbers) × Parts → List NameLine → File
@@ -291,10 +291,10 @@ file_from b names = let x = b.1 in record {
 }
 
 -- the file that the bytes spell, if any
-unfoldable pub file_at : List ℕ → Option File
-file_at bytes = do
-  b ← body_at bytes
-  names ← tail_at (suc (length b.1)) b.1
+unfoldable pub parse_file : List ℕ → Option File
+parse_file bytes = do
+  b ← parse_body bytes
+  names ← parse_tail (suc (length b.1)) b.1
   Some (file_from b.0 names)
 
 -- M >= I + L + A in a text file, M = I + L + A in a binary one
@@ -309,16 +309,16 @@ too_many_of limit (Some h) = is_good h.0.0 h.0.1 && nat_lt limit (h.0.1.greatest
 
 -- whether bytes begin with such a header line
 abbrev pub too_many_at : ℕ → List ℕ → Bool
-too_many_at limit bytes = too_many_of limit (header_at bytes)
+too_many_at limit bytes = too_many_of limit (parse_header bytes)
 
 -- ---- entries with a test that looks at those before
 
 -- a reader n times, each entry tested beside the entries before it
-abbrev pub checked_at : {A : Type 0} → (List ℕ → Option (A × List ℕ)) → (List A → A → Bool) → List A → ℕ → List ℕ → Option (List A × List ℕ)
-checked_at p test before zero bytes = Some ([], bytes)
-checked_at p test before (suc n) bytes = do
-  x ← tested_at p (test before) bytes
-  xs ← checked_at p test (before ++ x.0 ∷ []) n x.1
+abbrev pub parse_checked : {A : Type 0} → (List ℕ → Option (A × List ℕ)) → (List A → A → Bool) → List A → ℕ → List ℕ → Option (List A × List ℕ)
+parse_checked p test before zero bytes = Some ([], bytes)
+parse_checked p test before (suc n) bytes = do
+  x ← parse_if p (test before) bytes
+  xs ← parse_checked p test (before ++ x.0 ∷ []) n x.1
   Some (x.0 ∷ xs.0, xs.1)
 
 -- each entry meets the condition beside the entries before it

@@ -14,7 +14,7 @@ use Rattle.aig_format.specs.Numbering.{is_compact}
 use Rattle.aig_format.specs.Letters.{count_of, is_kept}
 use Rattle.aig_format.specs.Spells.{places}
 use Rattle.aig_format.specs.Fits.{same_place}
-use Rattle.aig_parsing.specs.Parse.{◌>>=◌, Parts, PropertyParts, both_at, checked_at, ended_at, file_from, header_at, is_comment, is_good, mapped_at, name_at, number_at, numbers_at, placed_at, placed_gate_at, properties_by, sections_by, tested_at, times_at}
+use Rattle.aig_parsing.specs.Parse.{◌>>=◌, Parts, PropertyParts, parse_both, parse_checked, parse_ended, file_from, parse_header, is_comment, is_good, parse_map, parse_name, parse_number, parse_numbers, parse_placed, parse_placed_gate, properties_by, sections_by, parse_if, parse_times}
 
 -- ---- the header
 
@@ -23,8 +23,8 @@ abbrev pub is_within : ℕ → HeaderNumbers → Bool
 is_within limit ns = nat_le (ns.greatest + 1) limit
 
 -- a header line that is good and within the limit
-abbrev pub fitting_header_at : ℕ → List ℕ → Option ((FileKind × HeaderNumbers) × List ℕ)
-fitting_header_at limit = tested_at header_at (λ h. is_good h.0 h.1 && is_within limit h.1)
+abbrev pub parse_fitting_header : ℕ → List ℕ → Option ((FileKind × HeaderNumbers) × List ℕ)
+parse_fitting_header limit = parse_if parse_header (λ h. is_good h.0 h.1 && is_within limit h.1)
 
 -- ---- tests of a line beside those before it
 
@@ -65,83 +65,83 @@ tests_name ns before n = nat_lt n.position (count_of ns n.letter) && not (list_a
 -- ---- lines
 
 -- a next literal, and the reset behind it if one is written
-unfoldable pub next_at : List ℕ → Option ((ℕ × Option ℕ) × List ℕ)
-next_at bytes = do
-  n ← number_at bytes
-  if n.0.1 == 10 then Some ((n.0.0, None), n.1) else if n.0.1 == 32 then (ended_at 10 n.1 >>= λ r. Some ((n.0.0, Some r.0), r.1)) else None
+unfoldable pub parse_next_and_reset : List ℕ → Option ((ℕ × Option ℕ) × List ℕ)
+parse_next_and_reset bytes = do
+  n ← parse_number bytes
+  if n.0.1 == 10 then Some ((n.0.0, None), n.1) else if n.0.1 == 32 then (parse_ended 10 n.1 >>= λ r. Some ((n.0.0, Some r.0), r.1)) else None
 
 -- a latch of this literal
 abbrev pub latch_line_from : ℕ → ℕ × Option ℕ → LatchLine
 latch_line_from own x = record { literal = own; next = x.0; reset = x.1 }
 
 -- a latch line of a text file
-abbrev pub latch_line_at : List ℕ → Option (LatchLine × List ℕ)
-latch_line_at = mapped_at (λ x. latch_line_from x.0 x.1) (both_at (ended_at 32) (λ _. next_at))
+abbrev pub parse_latch_line : List ℕ → Option (LatchLine × List ℕ)
+parse_latch_line = parse_map (λ x. latch_line_from x.0 x.1) (parse_both (parse_ended 32) (λ _. parse_next_and_reset))
 
 -- a latch line of a binary file, for the latch of variable v
-abbrev pub binary_latch_at : ℕ → List ℕ → Option (LatchLine × List ℕ)
-binary_latch_at v = mapped_at (latch_line_from (2 * v)) next_at
+abbrev pub parse_binary_latch : ℕ → List ℕ → Option (LatchLine × List ℕ)
+parse_binary_latch v = parse_map (latch_line_from (2 * v)) parse_next_and_reset
 
 -- two numbers in a line
-abbrev pub pair_at : List ℕ → Option ((ℕ × ℕ) × List ℕ)
-pair_at = both_at (ended_at 32) (λ _. ended_at 10)
+abbrev pub parse_pair : List ℕ → Option ((ℕ × ℕ) × List ℕ)
+parse_pair = parse_both (parse_ended 32) (λ _. parse_ended 10)
 
 -- three numbers in a line
-abbrev pub triple_at : List ℕ → Option ((ℕ × (ℕ × ℕ)) × List ℕ)
-triple_at = both_at (ended_at 32) (λ _. pair_at)
+abbrev pub parse_triple : List ℕ → Option ((ℕ × (ℕ × ℕ)) × List ℕ)
+parse_triple = parse_both (parse_ended 32) (λ _. parse_pair)
 
 -- the gate of three numbers
 abbrev pub gate_line_from : ℕ × (ℕ × ℕ) → GateLine
 gate_line_from x = record { lhs = x.0; rhs0 = x.1.0; rhs1 = x.1.1 }
 
 -- a gate line of a text file
-abbrev pub gate_line_at : List ℕ → Option (GateLine × List ℕ)
-gate_line_at = mapped_at gate_line_from triple_at
+abbrev pub parse_gate_line : List ℕ → Option (GateLine × List ℕ)
+parse_gate_line = parse_map gate_line_from parse_triple
 
 -- ---- the sections
 
 -- inputs
-abbrev pub fitting_inputs_at : FileKind → HeaderNumbers → List ℕ → Option (List ℕ × List ℕ)
-fitting_inputs_at Text ns = checked_at (ended_at 10) (defines ns.greatest) [] ns.inputs
-fitting_inputs_at Binary ns = λ bytes. Some (places ns.inputs 1, bytes)
+abbrev pub parse_fitting_inputs : FileKind → HeaderNumbers → List ℕ → Option (List ℕ × List ℕ)
+parse_fitting_inputs Text ns = parse_checked (parse_ended 10) (defines ns.greatest) [] ns.inputs
+parse_fitting_inputs Binary ns = λ bytes. Some (places ns.inputs 1, bytes)
 
 -- latches, behind these inputs
-abbrev pub fitting_latches_at : FileKind → HeaderNumbers → List ℕ → List ℕ → Option (List LatchLine × List ℕ)
-fitting_latches_at Text ns inputs = checked_at latch_line_at (tests_latch ns.greatest inputs) [] ns.latches
-fitting_latches_at Binary ns inputs = placed_at (λ v. tested_at (binary_latch_at v) (has_next ns.greatest)) ns.latches (1 + ns.inputs)
+abbrev pub parse_fitting_latches : FileKind → HeaderNumbers → List ℕ → List ℕ → Option (List LatchLine × List ℕ)
+parse_fitting_latches Text ns inputs = parse_checked parse_latch_line (tests_latch ns.greatest inputs) [] ns.latches
+parse_fitting_latches Binary ns inputs = parse_placed (λ v. parse_if (parse_binary_latch v) (has_next ns.greatest)) ns.latches (1 + ns.inputs)
 
 -- so many literals that may be used, a line each
-abbrev pub literals_at : ℕ → ℕ → List ℕ → Option (List ℕ × List ℕ)
-literals_at greatest count = times_at (tested_at (ended_at 10) (is_literal greatest)) count
+abbrev pub parse_literals : ℕ → ℕ → List ℕ → Option (List ℕ × List ℕ)
+parse_literals greatest count = parse_times (parse_if (parse_ended 10) (is_literal greatest)) count
 
 -- sets of such literals, of these sizes
-unfoldable pub literal_sets_at : ℕ → List ℕ → List ℕ → Option (List (List ℕ) × List ℕ)
-literal_sets_at greatest [] bytes = Some ([], bytes)
-literal_sets_at greatest (n ∷ sizes) bytes = do
-  set ← literals_at greatest n bytes
-  sets ← literal_sets_at greatest sizes set.1
+unfoldable pub parse_literal_sets : ℕ → List ℕ → List ℕ → Option (List (List ℕ) × List ℕ)
+parse_literal_sets greatest [] bytes = Some ([], bytes)
+parse_literal_sets greatest (n ∷ sizes) bytes = do
+  set ← parse_literals greatest n bytes
+  sets ← parse_literal_sets greatest sizes set.1
   Some (set.0 ∷ sets.0, sets.1)
 
 -- so many sets of such literals: their sizes, and then the literals
-abbrev pub literal_justice_at : ℕ → ℕ → List ℕ → Option (List (List ℕ) × List ℕ)
-literal_justice_at greatest count bytes = do
-  sizes ← numbers_at count bytes
-  literal_sets_at greatest sizes.0 sizes.1
+abbrev pub parse_literal_justice : ℕ → ℕ → List ℕ → Option (List (List ℕ) × List ℕ)
+parse_literal_justice greatest count bytes = do
+  sizes ← parse_numbers count bytes
+  parse_literal_sets greatest sizes.0 sizes.1
 
 -- gates, behind these leaves; in a binary file the first operand is below the gate
-abbrev pub fitting_gates_at : FileKind → HeaderNumbers → List ℕ → List ℕ → Option (List GateLine × List ℕ)
-fitting_gates_at Text ns leaves = checked_at gate_line_at (tests_gate ns.greatest leaves) [] ns.gates
-fitting_gates_at Binary ns leaves = placed_at (λ v. tested_at (placed_gate_at v) (λ g. nat_lt g.rhs0 g.lhs)) ns.gates (1 + ns.inputs + ns.latches)
+abbrev pub parse_fitting_gates : FileKind → HeaderNumbers → List ℕ → List ℕ → Option (List GateLine × List ℕ)
+parse_fitting_gates Text ns leaves = parse_checked parse_gate_line (tests_gate ns.greatest leaves) [] ns.gates
+parse_fitting_gates Binary ns leaves = parse_placed (λ v. parse_if (parse_placed_gate v) (λ g. nat_lt g.rhs0 g.lhs)) ns.gates (1 + ns.inputs + ns.latches)
 
 -- outputs and properties
-abbrev pub fitting_properties_at : HeaderNumbers → List ℕ → Option (PropertyParts × List ℕ)
-fitting_properties_at ns = properties_by (literals_at ns.greatest) (literal_justice_at ns.greatest) ns
+abbrev pub parse_fitting_properties : HeaderNumbers → List ℕ → Option (PropertyParts × List ℕ)
+parse_fitting_properties ns = properties_by (parse_literals ns.greatest) (parse_literal_justice ns.greatest) ns
 
 -- the lines of the sections behind the header
-abbrev pub section_lines_at : FileKind → HeaderNumbers → List ℕ → Option (Parts × List ℕ)
-section_lines_at kind ns =
-    sections_by (fitting_inputs_at kind ns) (fitting_latches_at kind ns) (fitting_properties_at ns)
-    (λ inputs latches. fitting_gates_at kind ns (inputs ++ map (λ l. l.literal) latches))
+abbrev pub parse_section_lines : FileKind → HeaderNumbers → List ℕ → Option (Parts × List ℕ)
+parse_section_lines kind ns =
+    sections_by (parse_fitting_inputs kind ns) (parse_fitting_latches kind ns) (parse_fitting_properties ns)
+    (λ inputs latches. parse_fitting_gates kind ns (inputs ++ map (λ l. l.literal) latches))
 
 -- ---- the test behind the last gate
 
@@ -156,22 +156,22 @@ is_accepted_order Text f = is_compact f || (uses_known f && list_all (has_level 
 is_accepted_order Binary f = true
 
 -- the sections behind the header
-abbrev pub fitting_sections_at : FileKind → HeaderNumbers → List ℕ → Option (Parts × List ℕ)
-fitting_sections_at kind ns = tested_at (section_lines_at kind ns) (λ x. is_accepted_order kind (file_from ((kind, ns), x) []))
+abbrev pub parse_fitting_sections : FileKind → HeaderNumbers → List ℕ → Option (Parts × List ℕ)
+parse_fitting_sections kind ns = parse_if (parse_section_lines kind ns) (λ x. is_accepted_order kind (file_from ((kind, ns), x) []))
 
 -- the header within the limit, and the sections
-abbrev pub fitting_body_at : ℕ → List ℕ → Option (((FileKind × HeaderNumbers) × Parts) × List ℕ)
-fitting_body_at limit = both_at (fitting_header_at limit) (λ h. fitting_sections_at h.0 h.1)
+abbrev pub parse_fitting_body : ℕ → List ℕ → Option (((FileKind × HeaderNumbers) × Parts) × List ℕ)
+parse_fitting_body limit = parse_both (parse_fitting_header limit) (λ h. parse_fitting_sections h.0 h.1)
 
 -- the names behind these, with the comment behind them, up to the end; at most k names
-unfoldable pub fitting_tail_at : HeaderNumbers → ℕ → List NameLine → List ℕ → Option (List NameLine)
-fitting_tail_at ns zero before bytes = None
-fitting_tail_at ns (suc k) before bytes =
-    if is_comment bytes then Some [] else (tested_at name_at (tests_name ns before) bytes >>= λ n. fitting_tail_at ns k (before ++ n.0 ∷ []) n.1 >>= λ names. Some (n.0 ∷ names))
+unfoldable pub parse_fitting_tail : HeaderNumbers → ℕ → List NameLine → List ℕ → Option (List NameLine)
+parse_fitting_tail ns zero before bytes = None
+parse_fitting_tail ns (suc k) before bytes =
+    if is_comment bytes then Some [] else (parse_if parse_name (tests_name ns before) bytes >>= λ n. parse_fitting_tail ns k (before ++ n.0 ∷ []) n.1 >>= λ names. Some (n.0 ∷ names))
 
 -- the file that the bytes spell, if it fits the limit
-unfoldable pub fitting_at : ℕ → List ℕ → Option File
-fitting_at limit bytes = do
-  b ← fitting_body_at limit bytes
-  names ← fitting_tail_at b.0.0.1 (suc (length b.1)) [] b.1
+unfoldable pub parse_fitting : ℕ → List ℕ → Option File
+parse_fitting limit bytes = do
+  b ← parse_fitting_body limit bytes
+  names ← parse_fitting_tail b.0.0.1 (suc (length b.1)) [] b.1
   Some (file_from b.0 names)

@@ -6,14 +6,14 @@ ghost use Rattle.aig_format.specs.File.{File};
 ghost use Rattle.aig_format.specs.Spells.{Spells};
 ghost use Rattle.aig_format.specs.Written.{file_text};
 ghost use Rattle.aig_format.specs.Fits.{TooMany, Accepts};
-ghost use Rattle.aig_parsing.specs.Parse.{file_at, too_many_at};
-ghost use Rattle.aig_parsing.specs.ParseTested.{fitting_at};
+ghost use Rattle.aig_parsing.specs.Parse.{parse_file, too_many_at};
+ghost use Rattle.aig_parsing.specs.ParseTested.{parse_fitting};
 ghost use Rattle.aig_parsing.specs.Writable.{CanWrite};
 
 /// What is read is spelled so, what is spelled so is read, and bytes spell one file at most.
 pub fn reads_exactly()
-    ensures sound { (bytes : List ℕ) (f : File) → file_at bytes ≡ Some f → Spells f bytes }
-    ensures complete { (f : File) (bytes : List ℕ) → Spells f bytes → file_at bytes ≡ Some f }
+    ensures sound { (bytes : List ℕ) (f : File) → parse_file bytes ≡ Some f → Spells f bytes }
+    ensures complete { (f : File) (bytes : List ℕ) → Spells f bytes → parse_file bytes ≡ Some f }
     ensures one { (f g : File) (bytes : List ℕ) → Spells f bytes → Spells g bytes → f ≡ g }
 {}
 
@@ -30,8 +30,8 @@ pub fn tells_too_many()
 
 /// What is read with each line tested beside those before it is accepted, and what is accepted is read.
 pub fn reads_fitting()
-    ensures sound { (limit : ℕ) (bytes : List ℕ) (f : File) → fitting_at limit bytes ≡ Some f
+    ensures sound { (limit : ℕ) (bytes : List ℕ) (f : File) → parse_fitting limit bytes ≡ Some f
         → Accepts bytes limit f }
     ensures complete { (limit : ℕ) (bytes : List ℕ) (f : File) → Accepts bytes limit f
-        → fitting_at limit bytes ≡ Some f }
+        → parse_fitting limit bytes ≡ Some f }
 {}

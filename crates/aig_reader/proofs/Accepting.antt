@@ -9,7 +9,7 @@ use Rattle.aig_format.specs.Fits.{Accepts}
 use Rattle.aig_parsing.proofs.FittingFiles.{fitting_sound, fitting_complete}
 use Rattle.aig_parsing.proofs.TooManyAt.{too_many_exact}
 use Rattle.aig_parsing.specs.Parse.{◌>>=◌, Parts, file_from, too_many_at}
-use Rattle.aig_parsing.specs.ParseTested.{fitting_at, fitting_body_at, fitting_header_at, fitting_sections_at}
+use Rattle.aig_parsing.specs.ParseTested.{parse_fitting, parse_fitting_body, parse_fitting_header, parse_fitting_sections}
 use Rattle.aig_circuit.specs.declared.view.CircuitLists.{CircuitLists}
 use Rattle.aig_reader.specs.Names.{tail_of}
 use Rattle.aig_reader.specs.declared.error.ReadError.{ReadError}
@@ -41,7 +41,7 @@ same_fault T e h = cc
 told : (T : Type 0) (e : ReadError) (P : Type 0) → IsErrOf (fault T e) errors.TooMany ↔ P → (e ≡ errors.TooMany) ↔ P
 told T e P h = (λ is. h.0 (ap (fault T) is), λ p. same_fault T e (h.1 p))
 
-refuses : (limit : ℕ) (bytes : List ℕ) (e : ReadError) → fitting_at limit bytes ≡ None → TellsTooMany limit e bytes → ReadsExactly AreListsOf limit (fault CircuitLists e) bytes
+refuses : (limit : ℕ) (bytes : List ℕ) (e : ReadError) → parse_fitting limit bytes ≡ None → TellsTooMany limit e bytes → ReadsExactly AreListsOf limit (fault CircuitLists e) bytes
 refuses limit bytes e none tells = record {
   accepted = record { each = λ f is. let same = sym none ∙ fitting_complete limit bytes f is in absurd cc; only = λ ok. absurd cc };
   too_many = (λ h. (too_many_exact bytes limit).0 (tells.0 (same_fault CircuitLists e h)), λ h. ap (fault CircuitLists) (tells.1 ((too_many_exact bytes limit).1 h)));
@@ -78,24 +78,24 @@ ReadsKnown result limit before = IfSome before (λ bytes. UnlessInterrupted resu
 abbrev with_names : Body × List ℕ → Option File
 with_names b = tail_of b.0.0.1 b.1 >>= λ names. Some (file_from b.0 names)
 
-file_is : (limit : ℕ) (bytes : List ℕ) → fitting_at limit bytes ≡ (fitting_body_at limit bytes >>= with_names)
-unfolding fitting_at
+file_is : (limit : ℕ) (bytes : List ℕ) → parse_fitting limit bytes ≡ (parse_fitting_body limit bytes >>= with_names)
+unfolding parse_fitting
 file_is limit bytes = refl
 
-no_file : (limit : ℕ) (bytes : List ℕ) → fitting_body_at limit bytes ≡ None → fitting_at limit bytes ≡ None
+no_file : (limit : ℕ) (bytes : List ℕ) → parse_fitting_body limit bytes ≡ None → parse_fitting limit bytes ≡ None
 no_file limit bytes h = file_is limit bytes ∙ ap (λ (o : Option (Body × List ℕ)). o >>= with_names) h
 
 -- the sections, by what the header line says
 abbrev pub sections_of : FileKind × HeaderNumbers → List ℕ → Option (Parts × List ℕ)
-sections_of h = fitting_sections_at h.0 h.1
+sections_of h = parse_fitting_sections h.0 h.1
 
 -- the header is refused
-pub refused_header : (T : Type 0) (limit : ℕ) (before : Option (List ℕ)) (e : ReadError) → OnRefusal e (Misses (fitting_header_at limit) before)
+pub refused_header : (T : Type 0) (limit : ℕ) (before : Option (List ℕ)) (e : ReadError) → OnRefusal e (Misses (parse_fitting_header limit) before)
     → IfSome before (λ bytes. UnlessInterrupted (fault T e) (IsErrOf (fault T e) errors.TooMany ↔ (too_many_at limit bytes ≡ true))) → ReadsKnown (fault CircuitLists e) limit before
 refused_header T limit None e h k = tt
 refused_header T limit (Some bytes) e h k =
-    refusal T CircuitLists e (fitting_header_at limit bytes ≡ None) (IsErrOf (fault T e) errors.TooMany ↔ (too_many_at limit bytes ≡ true)) (ReadsExactly AreListsOf limit (fault CircuitLists e) bytes)
-    (λ none tells. refuses limit bytes e (no_file limit bytes (misses_either (fitting_header_at limit) sections_of (Some bytes) none)) (told T e _ tells)) h k
+    refusal T CircuitLists e (parse_fitting_header limit bytes ≡ None) (IsErrOf (fault T e) errors.TooMany ↔ (too_many_at limit bytes ≡ true)) (ReadsExactly AreListsOf limit (fault CircuitLists e) bytes)
+    (λ none tells. refuses limit bytes e (no_file limit bytes (misses_either (parse_fitting_header limit) sections_of (Some bytes) none)) (told T e _ tells)) h k
 
 -- a header that was taken is not too large
 not_too_many : (T : Type 0) (x : T) (P : Type 0) → ◌≡◌ {A = Result T ReadError} (Ok x) (Err errors.TooMany) ↔ P → P → ⊥
@@ -105,38 +105,38 @@ pub section_fault : (e : ReadError) → IsSectionFault e → e ≢ errors.TooMan
 section_fault e h is = subst IsSectionFault is h
 
 -- where a header was taken and no file is read, a fault that isn't TooMany is told
-refused_behind : (T : Type 0) (header : T) (limit : ℕ) (before : Option (List ℕ)) (e : ReadError) → OnRefusal e (IfSome before (λ bytes. fitting_at limit bytes ≡ None)) → e ≢ errors.TooMany
+refused_behind : (T : Type 0) (header : T) (limit : ℕ) (before : Option (List ℕ)) (e : ReadError) → OnRefusal e (IfSome before (λ bytes. parse_fitting limit bytes ≡ None)) → e ≢ errors.TooMany
     → IfSome before (λ bytes. ◌≡◌ {A = Result T ReadError} (Ok header) (Err errors.TooMany) ↔ (too_many_at limit bytes ≡ true)) → ReadsKnown (fault CircuitLists e) limit before
 refused_behind T header limit None e h other k = tt
 refused_behind T header limit (Some bytes) e h other k =
-    refusal CircuitLists CircuitLists e (fitting_at limit bytes ≡ None) (Unit {0}) (ReadsExactly AreListsOf limit (fault CircuitLists e) bytes)
+    refusal CircuitLists CircuitLists e (parse_fitting limit bytes ≡ None) (Unit {0}) (ReadsExactly AreListsOf limit (fault CircuitLists e) bytes)
     (λ none t. refuses limit bytes e none (λ is. absurd (other is), λ p. absurd (not_too_many T header _ k p))) h (always CircuitLists e)
 
-no_files : (limit : ℕ) (before : Option (List ℕ)) → Misses (fitting_body_at limit) before → IfSome before (λ bytes. fitting_at limit bytes ≡ None)
+no_files : (limit : ℕ) (before : Option (List ℕ)) → Misses (parse_fitting_body limit) before → IfSome before (λ bytes. parse_fitting limit bytes ≡ None)
 no_files limit None h = tt
 no_files limit (Some bytes) h = no_file limit bytes h
 
 -- a section is refused
-pub refused_section : (T : Type 0) (header : T) (limit : ℕ) (before m : Option (List ℕ)) (h : FileKind × HeaderNumbers) (e : ReadError) → Takes (fitting_header_at limit) before m h → OnRefusal e (Misses (sections_of h) m) → e ≢ errors.TooMany
+pub refused_section : (T : Type 0) (header : T) (limit : ℕ) (before m : Option (List ℕ)) (h : FileKind × HeaderNumbers) (e : ReadError) → Takes (parse_fitting_header limit) before m h → OnRefusal e (Misses (sections_of h) m) → e ≢ errors.TooMany
     → IfSome before (λ bytes. ◌≡◌ {A = Result T ReadError} (Ok header) (Err errors.TooMany) ↔ (too_many_at limit bytes ≡ true)) → ReadsKnown (fault CircuitLists e) limit before
 refused_section T header limit before m h e taken missed other k =
     refused_behind T header limit before e
-    (on_refusal-weaker e _ _ (λ (none : Misses (sections_of h) m). no_files limit before (misses_both (fitting_header_at limit) sections_of before m h taken none)) missed) other k
+    (on_refusal-weaker e _ _ (λ (none : Misses (sections_of h) m). no_files limit before (misses_both (parse_fitting_header limit) sections_of before m h taken none)) missed) other k
 
 -- the names are refused
-pub refused_names : (T : Type 0) (header : T) (limit : ℕ) (before m : Option (List ℕ)) (body : Body) (e : ReadError) → Takes (fitting_body_at limit) before m body → OnRefusal e (IfSome m (λ bytes. tail_of body.0.1 bytes ≡ None)) → e ≢ errors.TooMany
+pub refused_names : (T : Type 0) (header : T) (limit : ℕ) (before m : Option (List ℕ)) (body : Body) (e : ReadError) → Takes (parse_fitting_body limit) before m body → OnRefusal e (IfSome m (λ bytes. tail_of body.0.1 bytes ≡ None)) → e ≢ errors.TooMany
     → IfSome before (λ bytes. ◌≡◌ {A = Result T ReadError} (Ok header) (Err errors.TooMany) ↔ (too_many_at limit bytes ≡ true)) → ReadsKnown (fault CircuitLists e) limit before
 refused_names T header limit before m body e taken missed other k =
     refused_behind T header limit before e
     (on_refusal-weaker e _ _
     (λ (none : IfSome m (λ bytes. tail_of body.0.1 bytes ≡ None)).
-    known_rest before m taken.taken (λ bytes. fitting_at limit bytes ≡ None) (λ bytes. tail_of body.0.1 bytes ≡ None) taken.consumed none
+    known_rest before m taken.taken (λ bytes. parse_fitting limit bytes ≡ None) (λ bytes. tail_of body.0.1 bytes ≡ None) taken.consumed none
     (λ rest no. file_is limit (taken.taken ++ rest) ∙ ap (λ (o : Option (Body × List ℕ)). o >>= with_names) (taken.reads rest) ∙ ap (λ (o : Option (List NameLine)). o >>= λ names. Some (file_from body names)) no)) missed) other k
 
 -- ---- acceptance
 
 -- the file that was read
-pub accepted : (limit : ℕ) (before m : Option (List ℕ)) (body : Body) (h : Takes (fitting_body_at limit) before m body) (names : List NameLine) (tail : List ℕ) → tail_of body.0.1 tail ≡ Some names → Accepts (h.taken ++ tail) limit (file_from body names)
+pub accepted : (limit : ℕ) (before m : Option (List ℕ)) (body : Body) (h : Takes (parse_fitting_body limit) before m body) (names : List NameLine) (tail : List ℕ) → tail_of body.0.1 tail ≡ Some names → Accepts (h.taken ++ tail) limit (file_from body names)
 accepted limit before m body h names tail is =
     fitting_sound limit (h.taken ++ tail) (file_from body names)
     (file_is limit (h.taken ++ tail) ∙ ap (λ (o : Option (Body × List ℕ)). o >>= with_names) (h.reads tail) ∙ ap (λ (o : Option (List NameLine)). o >>= λ ns. Some (file_from body ns)) is)

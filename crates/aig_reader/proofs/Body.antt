@@ -3,8 +3,8 @@ use Rattle.std.proofs.Common.{◌≡◌, ℕ, ◌++◌, List, map, Option, Resul
 use Rattle.aig_format.specs.declared.FileKind.{FileKind}
 use Rattle.aig_format.specs.declared.FileKind.TheVariants.{Text, Binary}
 use Rattle.aig_format.specs.File.{LatchLine, GateLine, HeaderNumbers}
-use Rattle.aig_parsing.specs.Parse.{◌>>=◌, Parts, PropertyParts, mapped_at, numbers_at}
-use Rattle.aig_parsing.specs.ParseTested.{fitting_gates_at, fitting_inputs_at, fitting_latches_at, fitting_properties_at, section_lines_at, literal_justice_at, literal_sets_at, literals_at}
+use Rattle.aig_parsing.specs.Parse.{◌>>=◌, Parts, PropertyParts, parse_map, parse_numbers}
+use Rattle.aig_parsing.specs.ParseTested.{parse_fitting_gates, parse_fitting_inputs, parse_fitting_latches, parse_fitting_properties, parse_section_lines, parse_literal_justice, parse_literal_sets, parse_literals}
 use Rattle.aig_reader.specs.declared.error.Section.{Section}
 use Rattle.aig_reader.specs.declared.error.LineError.{LineError}
 use Rattle.aig_reader.specs.declared.error.LineError.TheVariants.{Memory, Stream, Syntax, Literal}
@@ -65,16 +65,16 @@ module _ {X Y : Type 0} (fault : LineError → ReadError) (refuses : Refuses fau
 
 module _ (ns : HeaderNumbers) where
   abbrev literals : ℕ → List ℕ → Option (List ℕ × List ℕ)
-  literals = literals_at ns.greatest
+  literals = parse_literals ns.greatest
 
   abbrev sets_of : List ℕ → List ℕ → Option (List (List ℕ) × List ℕ)
-  sets_of = literal_sets_at ns.greatest
+  sets_of = parse_literal_sets ns.greatest
 
   abbrev behind_justice : List ℕ → List ℕ → List ℕ → List (List ℕ) → List ℕ → Option (PropertyParts × List ℕ)
-  behind_justice outputs bads constraints justice = mapped_at (λ fairness. record { outputs = outputs; bads = bads; constraints = constraints; justice = justice; fairness = fairness }) (literals ns.fairness)
+  behind_justice outputs bads constraints justice = parse_map (λ fairness. record { outputs = outputs; bads = bads; constraints = constraints; justice = justice; fairness = fairness }) (literals ns.fairness)
 
   abbrev behind_constraints : List ℕ → List ℕ → List ℕ → List ℕ → Option (PropertyParts × List ℕ)
-  behind_constraints outputs bads constraints bytes = literal_justice_at ns.greatest ns.justice bytes >>= λ j. behind_justice outputs bads constraints j.0 j.1
+  behind_constraints outputs bads constraints bytes = parse_literal_justice ns.greatest ns.justice bytes >>= λ j. behind_justice outputs bads constraints j.0 j.1
 
   abbrev behind_bads : List ℕ → List ℕ → List ℕ → Option (PropertyParts × List ℕ)
   behind_bads outputs bads bytes = literals ns.constraints bytes >>= λ c. behind_constraints outputs bads c.0 c.1
@@ -82,96 +82,96 @@ module _ (ns : HeaderNumbers) where
   abbrev behind_outputs : List ℕ → List ℕ → Option (PropertyParts × List ℕ)
   behind_outputs outputs bytes = literals ns.bads bytes >>= λ d. behind_bads outputs d.0 d.1
 
-  pub misses_outputs : (b : Option (List ℕ)) → Misses (literals ns.outputs) b → Misses (fitting_properties_at ns) b
+  pub misses_outputs : (b : Option (List ℕ)) → Misses (literals ns.outputs) b → Misses (parse_fitting_properties ns) b
   misses_outputs b h = misses_first (literals ns.outputs) (λ x. behind_outputs x.0 x.1) b h
 
   module _ (b o : Option (List ℕ)) (outputs : List ℕ) (ho : Takes (literals ns.outputs) b o outputs) where
-    after_outputs : Misses (behind_outputs outputs) o → Misses (fitting_properties_at ns) b
+    after_outputs : Misses (behind_outputs outputs) o → Misses (parse_fitting_properties ns) b
     after_outputs h = misses_next (literals ns.outputs) (λ x. behind_outputs x.0 x.1) b o outputs ho h
 
-    pub misses_bads : Misses (literals ns.bads) o → Misses (fitting_properties_at ns) b
+    pub misses_bads : Misses (literals ns.bads) o → Misses (parse_fitting_properties ns) b
     misses_bads h = after_outputs (misses_first (literals ns.bads) (λ d. behind_bads outputs d.0 d.1) o h)
 
     module _ (d : Option (List ℕ)) (bads : List ℕ) (hd : Takes (literals ns.bads) o d bads) where
-      after_bads : Misses (behind_bads outputs bads) d → Misses (fitting_properties_at ns) b
+      after_bads : Misses (behind_bads outputs bads) d → Misses (parse_fitting_properties ns) b
       after_bads h = after_outputs (misses_next (literals ns.bads) (λ d. behind_bads outputs d.0 d.1) o d bads hd h)
 
-      pub misses_constraints : Misses (literals ns.constraints) d → Misses (fitting_properties_at ns) b
+      pub misses_constraints : Misses (literals ns.constraints) d → Misses (parse_fitting_properties ns) b
       misses_constraints h = after_bads (misses_first (literals ns.constraints) (λ c. behind_constraints outputs bads c.0 c.1) d h)
 
       module _ (c : Option (List ℕ)) (constraints : List ℕ) (hc : Takes (literals ns.constraints) d c constraints) where
         abbrev next_sets : List (List ℕ) × List ℕ → Option (PropertyParts × List ℕ)
         next_sets j = behind_justice outputs bads constraints j.0 j.1
 
-        after_constraints : Misses (behind_constraints outputs bads constraints) c → Misses (fitting_properties_at ns) b
+        after_constraints : Misses (behind_constraints outputs bads constraints) c → Misses (parse_fitting_properties ns) b
         after_constraints h = after_bads (misses_next (literals ns.constraints) (λ c. behind_constraints outputs bads c.0 c.1) d c constraints hc h)
 
-        without_justice : Misses (literal_justice_at ns.greatest ns.justice) c → Misses (fitting_properties_at ns) b
-        without_justice h = after_constraints (misses_first (literal_justice_at ns.greatest ns.justice) next_sets c h)
+        without_justice : Misses (parse_literal_justice ns.greatest ns.justice) c → Misses (parse_fitting_properties ns) b
+        without_justice h = after_constraints (misses_first (parse_literal_justice ns.greatest ns.justice) next_sets c h)
 
-        pub misses_sizes : Misses (numbers_at ns.justice) c → Misses (fitting_properties_at ns) b
-        misses_sizes h = without_justice (misses_first (numbers_at ns.justice) (λ s. sets_of s.0 s.1) c h)
+        pub misses_sizes : Misses (parse_numbers ns.justice) c → Misses (parse_fitting_properties ns) b
+        misses_sizes h = without_justice (misses_first (parse_numbers ns.justice) (λ s. sets_of s.0 s.1) c h)
 
-        module _ (s : Option (List ℕ)) (sizes : List ℕ) (hs : Takes (numbers_at ns.justice) c s sizes) where
-          pub misses_sets : Misses (sets_of sizes) s → Misses (fitting_properties_at ns) b
-          misses_sets h = without_justice (misses_next (numbers_at ns.justice) (λ s. sets_of s.0 s.1) c s sizes hs h)
+        module _ (s : Option (List ℕ)) (sizes : List ℕ) (hs : Takes (parse_numbers ns.justice) c s sizes) where
+          pub misses_sets : Misses (sets_of sizes) s → Misses (parse_fitting_properties ns) b
+          misses_sets h = without_justice (misses_next (parse_numbers ns.justice) (λ s. sets_of s.0 s.1) c s sizes hs h)
 
           module _ (j : Option (List ℕ)) (sets : List (List ℕ)) (hj : Takes (sets_of sizes) s j sets) where
-            takes_justice : Takes (literal_justice_at ns.greatest ns.justice) c j sets
-            takes_justice = takes_bind (numbers_at ns.justice) (λ s. sets_of s.0 s.1) c s j sizes sets hs hj
+            takes_justice : Takes (parse_literal_justice ns.greatest ns.justice) c j sets
+            takes_justice = takes_bind (parse_numbers ns.justice) (λ s. sets_of s.0 s.1) c s j sizes sets hs hj
 
-            pub misses_fairness : Misses (literals ns.fairness) j → Misses (fitting_properties_at ns) b
-            misses_fairness h = after_constraints (misses_next (literal_justice_at ns.greatest ns.justice) next_sets c j sets takes_justice (misses_mapped _ (literals ns.fairness) j h))
+            pub misses_fairness : Misses (literals ns.fairness) j → Misses (parse_fitting_properties ns) b
+            misses_fairness h = after_constraints (misses_next (parse_literal_justice ns.greatest ns.justice) next_sets c j sets takes_justice (misses_mapped _ (literals ns.fairness) j h))
 
             pub takes_properties : (a : Option (List ℕ)) (fairness : List ℕ) → Takes (literals ns.fairness) j a fairness
-                → Takes (fitting_properties_at ns) b a (record { outputs = outputs; bads = bads; constraints = constraints; justice = sets; fairness = fairness })
+                → Takes (parse_fitting_properties ns) b a (record { outputs = outputs; bads = bads; constraints = constraints; justice = sets; fairness = fairness })
             takes_properties a fairness h =
                 takes_bind (literals ns.outputs) (λ x. behind_outputs x.0 x.1) b o a outputs _ ho
                 (takes_bind (literals ns.bads) (λ d. behind_bads outputs d.0 d.1) o d a bads _ hd
                 (takes_bind (literals ns.constraints) (λ c. behind_constraints outputs bads c.0 c.1) d c a constraints _ hc
-                (takes_bind (literal_justice_at ns.greatest ns.justice) next_sets c j a sets _ takes_justice
+                (takes_bind (parse_literal_justice ns.greatest ns.justice) next_sets c j a sets _ takes_justice
                 (takes_mapped _ (literals ns.fairness) j a fairness h))))
 
 -- ---- all sections
 
 module _ (kind : FileKind) (ns : HeaderNumbers) where
   abbrev gates : List ℕ → List LatchLine → List ℕ → Option (List GateLine × List ℕ)
-  gates inputs latches = fitting_gates_at kind ns (inputs ++ map (λ l. l.literal) latches)
+  gates inputs latches = parse_fitting_gates kind ns (inputs ++ map (λ l. l.literal) latches)
 
   abbrev behind_properties : List ℕ → List LatchLine → PropertyParts → List ℕ → Option (Parts × List ℕ)
-  behind_properties inputs latches properties = mapped_at (λ gs. record { inputs = inputs; latches = latches; properties = properties; gates = gs }) (gates inputs latches)
+  behind_properties inputs latches properties = parse_map (λ gs. record { inputs = inputs; latches = latches; properties = properties; gates = gs }) (gates inputs latches)
 
   abbrev behind_latches : List ℕ → List LatchLine → List ℕ → Option (Parts × List ℕ)
-  behind_latches inputs latches bytes = fitting_properties_at ns bytes >>= λ x. behind_properties inputs latches x.0 x.1
+  behind_latches inputs latches bytes = parse_fitting_properties ns bytes >>= λ x. behind_properties inputs latches x.0 x.1
 
   abbrev behind_inputs : List ℕ → List ℕ → Option (Parts × List ℕ)
-  behind_inputs inputs bytes = fitting_latches_at kind ns inputs bytes >>= λ l. behind_latches inputs l.0 l.1
+  behind_inputs inputs bytes = parse_fitting_latches kind ns inputs bytes >>= λ l. behind_latches inputs l.0 l.1
 
-  pub misses_inputs : (b : Option (List ℕ)) → Misses (fitting_inputs_at kind ns) b → Misses (section_lines_at kind ns) b
-  misses_inputs b h = misses_first (fitting_inputs_at kind ns) (λ i. behind_inputs i.0 i.1) b h
+  pub misses_inputs : (b : Option (List ℕ)) → Misses (parse_fitting_inputs kind ns) b → Misses (parse_section_lines kind ns) b
+  misses_inputs b h = misses_first (parse_fitting_inputs kind ns) (λ i. behind_inputs i.0 i.1) b h
 
-  module _ (b i : Option (List ℕ)) (inputs : List ℕ) (hi : Takes (fitting_inputs_at kind ns) b i inputs) where
-    after_inputs : Misses (behind_inputs inputs) i → Misses (section_lines_at kind ns) b
-    after_inputs h = misses_next (fitting_inputs_at kind ns) (λ i. behind_inputs i.0 i.1) b i inputs hi h
+  module _ (b i : Option (List ℕ)) (inputs : List ℕ) (hi : Takes (parse_fitting_inputs kind ns) b i inputs) where
+    after_inputs : Misses (behind_inputs inputs) i → Misses (parse_section_lines kind ns) b
+    after_inputs h = misses_next (parse_fitting_inputs kind ns) (λ i. behind_inputs i.0 i.1) b i inputs hi h
 
-    pub misses_latches : Misses (fitting_latches_at kind ns inputs) i → Misses (section_lines_at kind ns) b
-    misses_latches h = after_inputs (misses_first (fitting_latches_at kind ns inputs) (λ l. behind_latches inputs l.0 l.1) i h)
+    pub misses_latches : Misses (parse_fitting_latches kind ns inputs) i → Misses (parse_section_lines kind ns) b
+    misses_latches h = after_inputs (misses_first (parse_fitting_latches kind ns inputs) (λ l. behind_latches inputs l.0 l.1) i h)
 
-    module _ (l : Option (List ℕ)) (latches : List LatchLine) (hl : Takes (fitting_latches_at kind ns inputs) i l latches) where
-      after_latches : Misses (behind_latches inputs latches) l → Misses (section_lines_at kind ns) b
-      after_latches h = after_inputs (misses_next (fitting_latches_at kind ns inputs) (λ l. behind_latches inputs l.0 l.1) i l latches hl h)
+    module _ (l : Option (List ℕ)) (latches : List LatchLine) (hl : Takes (parse_fitting_latches kind ns inputs) i l latches) where
+      after_latches : Misses (behind_latches inputs latches) l → Misses (parse_section_lines kind ns) b
+      after_latches h = after_inputs (misses_next (parse_fitting_latches kind ns inputs) (λ l. behind_latches inputs l.0 l.1) i l latches hl h)
 
-      pub misses_properties : Misses (fitting_properties_at ns) l → Misses (section_lines_at kind ns) b
-      misses_properties h = after_latches (misses_first (fitting_properties_at ns) (λ x. behind_properties inputs latches x.0 x.1) l h)
+      pub misses_properties : Misses (parse_fitting_properties ns) l → Misses (parse_section_lines kind ns) b
+      misses_properties h = after_latches (misses_first (parse_fitting_properties ns) (λ x. behind_properties inputs latches x.0 x.1) l h)
 
-      module _ (p : Option (List ℕ)) (x : PropertyParts) (hp : Takes (fitting_properties_at ns) l p x) where
-        pub misses_gates : Misses (gates inputs latches) p → Misses (section_lines_at kind ns) b
-        misses_gates h = after_latches (misses_next (fitting_properties_at ns) (λ x. behind_properties inputs latches x.0 x.1) l p x hp (misses_mapped _ (gates inputs latches) p h))
+      module _ (p : Option (List ℕ)) (x : PropertyParts) (hp : Takes (parse_fitting_properties ns) l p x) where
+        pub misses_gates : Misses (gates inputs latches) p → Misses (parse_section_lines kind ns) b
+        misses_gates h = after_latches (misses_next (parse_fitting_properties ns) (λ x. behind_properties inputs latches x.0 x.1) l p x hp (misses_mapped _ (gates inputs latches) p h))
 
         pub takes_sections : (a : Option (List ℕ)) (gs : List GateLine) → Takes (gates inputs latches) p a gs
-            → Takes (section_lines_at kind ns) b a (record { inputs = inputs; latches = latches; properties = x; gates = gs })
+            → Takes (parse_section_lines kind ns) b a (record { inputs = inputs; latches = latches; properties = x; gates = gs })
         takes_sections a gs h =
-            takes_bind (fitting_inputs_at kind ns) (λ i. behind_inputs i.0 i.1) b i a inputs _ hi
-            (takes_bind (fitting_latches_at kind ns inputs) (λ l. behind_latches inputs l.0 l.1) i l a latches _ hl
-            (takes_bind (fitting_properties_at ns) (λ x. behind_properties inputs latches x.0 x.1) l p a x _ hp
+            takes_bind (parse_fitting_inputs kind ns) (λ i. behind_inputs i.0 i.1) b i a inputs _ hi
+            (takes_bind (parse_fitting_latches kind ns inputs) (λ l. behind_latches inputs l.0 l.1) i l a latches _ hl
+            (takes_bind (parse_fitting_properties ns) (λ x. behind_properties inputs latches x.0 x.1) l p a x _ hp
             (takes_mapped _ (gates inputs latches) p a gs h)))

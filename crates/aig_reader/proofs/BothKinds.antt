@@ -5,9 +5,9 @@ use Rattle.aig_format.specs.declared.FileKind.{FileKind}
 use Rattle.aig_format.specs.declared.FileKind.TheVariants.{Text, Binary}
 use Rattle.aig_format.specs.File.{LatchLine, GateLine, HeaderNumbers}
 use Rattle.aig_format.specs.Spells.{places}
-use Rattle.aig_parsing.specs.Parse.{◌>>=◌, both_at, delta_at, ended_at, fits_gate, mapped_at, placed_at, placed_gate, placed_gate_at, tested_at}
-use Rattle.aig_parsing.specs.ParseTested.{binary_latch_at, defines, fitting_gates_at, fitting_inputs_at, fitting_latches_at, gate_line_at, gate_line_from, has_next, latch_line_at, latch_line_from, next_at, tests_gate, tests_latch}
-use Rattle.aig_reader.specs.ParseEntry.{gate_at, input_at, latch_at, operands_at}
+use Rattle.aig_parsing.specs.Parse.{◌>>=◌, parse_both, parse_delta, parse_ended, fits_gate, parse_map, parse_placed, placed_gate, parse_placed_gate, parse_if}
+use Rattle.aig_parsing.specs.ParseTested.{parse_binary_latch, defines, parse_fitting_gates, parse_fitting_inputs, parse_fitting_latches, parse_gate_line, gate_line_from, has_next, parse_latch_line, latch_line_from, parse_next_and_reset, tests_gate, tests_latch}
+use Rattle.aig_reader.specs.ParseEntry.{parse_gate_entry, parse_input_entry, parse_latch_entry, parse_operands}
 use Rattle.aig_reader.specs.Gates.{literals_of}
 use Rattle.aig_reader.proofs.Entries.{checked_is_entries, entries_at, length_push, placed_is_entries, put_first}
 
@@ -23,14 +23,14 @@ beside x y = Some ((x, y.0), y.1)
 
 -- ---- inputs
 
-binary_inputs : (greatest n : ℕ) (front : List ℕ) (bs : List ℕ) → entries_at (input_at Binary greatest) front n bs ≡ Some (places n (length front + 1), bs)
+binary_inputs : (greatest n : ℕ) (front : List ℕ) (bs : List ℕ) → entries_at (parse_input_entry Binary greatest) front n bs ≡ Some (places n (length front + 1), bs)
 binary_inputs greatest zero front bs = refl
 binary_inputs greatest (suc n) front bs =
     let e = 2 * (length front + 1) in
     ap (λ (o : Option (List ℕ × List ℕ)). o >>= put_first e) (binary_inputs greatest n (front ++ e ∷ []) bs) ∙ ap (λ (v : ℕ). Some (e ∷ places n (v + 1), bs)) (length_push front e)
 
-pub inputs_is : (kind : FileKind) (ns : HeaderNumbers) (bs : List ℕ) → entries_at (input_at kind ns.greatest) [] ns.inputs bs ≡ fitting_inputs_at kind ns bs
-inputs_is Text ns bs = checked_is_entries (ended_at 10) (defines ns.greatest) [] ns.inputs bs
+pub inputs_is : (kind : FileKind) (ns : HeaderNumbers) (bs : List ℕ) → entries_at (parse_input_entry kind ns.greatest) [] ns.inputs bs ≡ parse_fitting_inputs kind ns bs
+inputs_is Text ns bs = checked_is_entries (parse_ended 10) (defines ns.greatest) [] ns.inputs bs
 inputs_is Binary ns bs = binary_inputs ns.greatest ns.inputs [] bs
 
 -- ---- latches
@@ -39,8 +39,8 @@ module _ (greatest : ℕ) (inputs : List ℕ) where
   abbrev literals : List LatchLine → List ℕ
   literals front = inputs ++ map (λ l. l.literal) front
 
-  latch_here : (front : List LatchLine) (bs : List ℕ) → latch_at Binary greatest inputs front bs ≡ tested_at (binary_latch_at (length (literals front) + 1)) (has_next greatest) bs
-  latch_here front bs = go (2 * (length (literals front) + 1)) (next_at bs)
+  latch_here : (front : List LatchLine) (bs : List ℕ) → parse_latch_entry Binary greatest inputs front bs ≡ parse_if (parse_binary_latch (length (literals front) + 1)) (has_next greatest) bs
+  latch_here front bs = go (2 * (length (literals front) + 1)) (parse_next_and_reset bs)
     where
       go : (own : ℕ) (o : Option ((ℕ × Option ℕ) × List ℕ)) → (((o >>= beside own) >>= seen (λ x. latch_line_from x.0 x.1)) >>= passing (λ l. true && has_next greatest l)) ≡ ((o >>= seen (latch_line_from own)) >>= passing (has_next greatest))
       go own None = refl
@@ -52,19 +52,19 @@ module _ (greatest : ℕ) (inputs : List ℕ) where
       let mapped = length-map front (λ (l : LatchLine). l.literal) in
       omega (arith, both, mapped, h)
 
-  latch_agrees : (base : ℕ) → length inputs + 1 ≡ base → (front : List LatchLine) (bs : List ℕ) → latch_at Binary greatest inputs front bs ≡ tested_at (binary_latch_at (base + length front)) (has_next greatest) bs
-  latch_agrees base h front bs = latch_here front bs ∙ ap (λ (v : ℕ). tested_at (binary_latch_at v) (has_next greatest) bs) (latch_place base h front)
+  latch_agrees : (base : ℕ) → length inputs + 1 ≡ base → (front : List LatchLine) (bs : List ℕ) → parse_latch_entry Binary greatest inputs front bs ≡ parse_if (parse_binary_latch (base + length front)) (has_next greatest) bs
+  latch_agrees base h front bs = latch_here front bs ∙ ap (λ (v : ℕ). parse_if (parse_binary_latch v) (has_next greatest) bs) (latch_place base h front)
 
-pub latches_is : (kind : FileKind) (ns : HeaderNumbers) (inputs bs : List ℕ) → length inputs ≡ ns.inputs → entries_at (latch_at kind ns.greatest inputs) [] ns.latches bs ≡ fitting_latches_at kind ns inputs bs
-latches_is Text ns inputs bs h = checked_is_entries latch_line_at (tests_latch ns.greatest inputs) [] ns.latches bs
+pub latches_is : (kind : FileKind) (ns : HeaderNumbers) (inputs bs : List ℕ) → length inputs ≡ ns.inputs → entries_at (parse_latch_entry kind ns.greatest inputs) [] ns.latches bs ≡ parse_fitting_latches kind ns inputs bs
+latches_is Text ns inputs bs h = checked_is_entries parse_latch_line (tests_latch ns.greatest inputs) [] ns.latches bs
 latches_is Binary ns inputs bs h =
     let greatest = ns.greatest in
-    let line = λ (v : ℕ). tested_at (binary_latch_at v) (has_next greatest) in
+    let line = λ (v : ℕ). parse_if (parse_binary_latch v) (has_next greatest) in
     let base = 1 + ns.inputs in
     let start : length inputs + 1 ≡ base = omega (arith, h) in
     let here : base + 0 ≡ base = omega arith in
-    placed_is_entries (latch_at Binary greatest inputs) line base (λ _. Unit {0}) (λ front i. latch_agrees greatest inputs base start front) (λ front i bs rest x is. tt) ns.latches [] bs tt
-    ∙ ap (λ (v : ℕ). placed_at line ns.latches v bs) here
+    placed_is_entries (parse_latch_entry Binary greatest inputs) line base (λ _. Unit {0}) (λ front i. latch_agrees greatest inputs base start front) (λ front i bs rest x is. tt) ns.latches [] bs tt
+    ∙ ap (λ (v : ℕ). parse_placed line ns.latches v bs) here
 
 -- ---- gates
 
@@ -77,13 +77,13 @@ module _ (greatest : ℕ) (leaves : List ℕ) where
 
   -- a gate of variable v
   abbrev gate_by : ℕ → List ℕ → Option (GateLine × List ℕ)
-  gate_by v = tested_at (mapped_at gate_line_from (both_at (λ bytes. Some (2 * v, bytes)) (operands_at Binary))) first_below
+  gate_by v = parse_if (parse_map gate_line_from (parse_both (λ bytes. Some (2 * v, bytes)) (parse_operands Binary))) first_below
 
   abbrev operands_of : ℕ → ℕ × ℕ → ℕ × ℕ
   operands_of lhs d = (lhs - d.0, lhs - d.0 - d.1)
 
-  gate_here : (v : ℕ) (bs : List ℕ) → gate_by v bs ≡ tested_at (placed_gate_at v) first_below bs
-  gate_here v bs = go (tested_at (both_at delta_at (λ _. delta_at)) (fits_gate v) bs)
+  gate_here : (v : ℕ) (bs : List ℕ) → gate_by v bs ≡ parse_if (parse_placed_gate v) first_below bs
+  gate_here v bs = go (parse_if (parse_both parse_delta (λ _. parse_delta)) (fits_gate v) bs)
     where
       go : (o : Option ((ℕ × ℕ) × List ℕ)) → ((((o >>= seen (operands_of (2 * v))) >>= beside (2 * v)) >>= seen gate_line_from) >>= passing first_below) ≡ ((o >>= seen (placed_gate v)) >>= passing first_below)
       go None = refl
@@ -95,16 +95,16 @@ module _ (greatest : ℕ) (leaves : List ℕ) where
       let mapped = length-map front (λ (g : GateLine). g.lhs) in
       omega (arith, both, mapped, h)
 
-  gate_agrees : (base : ℕ) → length leaves + 1 ≡ base → (front : List GateLine) (bs : List ℕ) → gate_at Binary greatest leaves front bs ≡ tested_at (placed_gate_at (base + length front)) first_below bs
+  gate_agrees : (base : ℕ) → length leaves + 1 ≡ base → (front : List GateLine) (bs : List ℕ) → parse_gate_entry Binary greatest leaves front bs ≡ parse_if (parse_placed_gate (base + length front)) first_below bs
   gate_agrees base h front bs = ap (λ (v : ℕ). gate_by v bs) (gate_place base h front) ∙ gate_here (base + length front) bs
 
-pub gates_is : (kind : FileKind) (ns : HeaderNumbers) (leaves bs : List ℕ) → length leaves ≡ ns.inputs + ns.latches → entries_at (gate_at kind ns.greatest leaves) [] ns.gates bs ≡ fitting_gates_at kind ns leaves bs
-gates_is Text ns leaves bs h = checked_is_entries gate_line_at (tests_gate ns.greatest leaves) [] ns.gates bs
+pub gates_is : (kind : FileKind) (ns : HeaderNumbers) (leaves bs : List ℕ) → length leaves ≡ ns.inputs + ns.latches → entries_at (parse_gate_entry kind ns.greatest leaves) [] ns.gates bs ≡ parse_fitting_gates kind ns leaves bs
+gates_is Text ns leaves bs h = checked_is_entries parse_gate_line (tests_gate ns.greatest leaves) [] ns.gates bs
 gates_is Binary ns leaves bs h =
     let greatest = ns.greatest in
-    let line = λ (v : ℕ). tested_at (placed_gate_at v) (λ (g : GateLine). ltb g.rhs0 g.lhs) in
+    let line = λ (v : ℕ). parse_if (parse_placed_gate v) (λ (g : GateLine). ltb g.rhs0 g.lhs) in
     let base = 1 + ns.inputs + ns.latches in
     let start : length leaves + 1 ≡ base = omega (arith, h) in
     let here : base + 0 ≡ base = omega arith in
-    placed_is_entries (gate_at Binary greatest leaves) line base (λ _. Unit {0}) (λ front i. gate_agrees greatest leaves base start front) (λ front i bs rest x is. tt) ns.gates [] bs tt
-    ∙ ap (λ (v : ℕ). placed_at line ns.gates v bs) here
+    placed_is_entries (parse_gate_entry Binary greatest leaves) line base (λ _. Unit {0}) (λ front i. gate_agrees greatest leaves base start front) (λ front i bs rest x is. tt) ns.gates [] bs tt
+    ∙ ap (λ (v : ℕ). parse_placed line ns.gates v bs) here

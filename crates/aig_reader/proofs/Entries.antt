@@ -4,8 +4,8 @@ use Rattle.std.proofs.lemmas.Option.{same_Some}
 use Rattle.std.proofs.lemmas.List.{map_push}
 use Rattle.std.proofs.Math.Seq.{get_or-append_seam}
 use Rattle.std.proofs.KnownBytes.{Consumes-nil, Consumes-trans}
-use Rattle.aig_parsing.specs.Parse.{◌>>=◌, tested_at, times_at, checked_at, placed_at}
-use Rattle.aig_parsing.specs.ParseTested.{literals_at, literal_sets_at}
+use Rattle.aig_parsing.specs.Parse.{◌>>=◌, parse_if, parse_times, parse_checked, parse_placed}
+use Rattle.aig_parsing.specs.ParseTested.{parse_literals, parse_literal_sets}
 use Rattle.aig_parsing.proofs.Numbers.{bind_some}
 use Rattle.aig_lexer.specs.Takes.{Takes, Misses}
 use Rattle.aig_lexer.proofs.Going.{known_rest}
@@ -100,22 +100,22 @@ module _ {A : Type 0} (p : List A → List ℕ → Option (A × List ℕ)) where
 -- ---- other words for such entries
 
 -- lines that are tested beside those before them
-pub checked_is_entries : {A : Type 0} (p : List ℕ → Option (A × List ℕ)) (test : List A → A → Bool) (front : List A) (n : ℕ) (bs : List ℕ) → entries_at (λ xs. tested_at p (test xs)) front n bs ≡ checked_at p test front n bs
+pub checked_is_entries : {A : Type 0} (p : List ℕ → Option (A × List ℕ)) (test : List A → A → Bool) (front : List A) (n : ℕ) (bs : List ℕ) → entries_at (λ xs. parse_if p (test xs)) front n bs ≡ parse_checked p test front n bs
 checked_is_entries {A} p test front zero bs = refl
-checked_is_entries {A} p test front (suc n) bs = go (tested_at p (test front) bs) (λ x. checked_is_entries p test (front ++ x.0 ∷ []) n x.1)
+checked_is_entries {A} p test front (suc n) bs = go (parse_if p (test front) bs) (λ x. checked_is_entries p test (front ++ x.0 ∷ []) n x.1)
   where
-    go : (o : Option (A × List ℕ)) → ((x : A × List ℕ) → entries_at (λ xs. tested_at p (test xs)) (front ++ x.0 ∷ []) n x.1 ≡ checked_at p test (front ++ x.0 ∷ []) n x.1)
-        → (o >>= lines_after (λ xs. tested_at p (test xs)) front n) ≡ (o >>= λ x. checked_at p test (front ++ x.0 ∷ []) n x.1 >>= put_first x.0)
+    go : (o : Option (A × List ℕ)) → ((x : A × List ℕ) → entries_at (λ xs. parse_if p (test xs)) (front ++ x.0 ∷ []) n x.1 ≡ parse_checked p test (front ++ x.0 ∷ []) n x.1)
+        → (o >>= lines_after (λ xs. parse_if p (test xs)) front n) ≡ (o >>= λ x. parse_checked p test (front ++ x.0 ∷ []) n x.1 >>= put_first x.0)
     go None rest = refl
     go (Some x) rest = ap (λ (r : Option (List A × List ℕ)). r >>= put_first x.0) (rest x)
 
 -- lines that don't look at those before them
-pub times_is_entries : {A : Type 0} (p : List ℕ → Option (A × List ℕ)) (front : List A) (n : ℕ) (bs : List ℕ) → entries_at (λ _. p) front n bs ≡ times_at p n bs
+pub times_is_entries : {A : Type 0} (p : List ℕ → Option (A × List ℕ)) (front : List A) (n : ℕ) (bs : List ℕ) → entries_at (λ _. p) front n bs ≡ parse_times p n bs
 times_is_entries {A} p front zero bs = refl
 times_is_entries {A} p front (suc n) bs = go (p bs) (λ x. times_is_entries p (front ++ x.0 ∷ []) n x.1)
   where
-    go : (o : Option (A × List ℕ)) → ((x : A × List ℕ) → entries_at (λ _. p) (front ++ x.0 ∷ []) n x.1 ≡ times_at p n x.1)
-        → (o >>= lines_after (λ _. p) front n) ≡ (o >>= λ x. times_at p n x.1 >>= put_first x.0)
+    go : (o : Option (A × List ℕ)) → ((x : A × List ℕ) → entries_at (λ _. p) (front ++ x.0 ∷ []) n x.1 ≡ parse_times p n x.1)
+        → (o >>= lines_after (λ _. p) front n) ≡ (o >>= λ x. parse_times p n x.1 >>= put_first x.0)
     go None rest = refl
     go (Some x) rest = ap (λ (r : Option (List A × List ℕ)). r >>= put_first x.0) (rest x)
 
@@ -126,42 +126,42 @@ length_push xs x = length-append xs (x ∷ [])
 module _ {A : Type 0} (p : List A → List ℕ → Option (A × List ℕ)) (q : ℕ → List ℕ → Option (A × List ℕ)) (base : ℕ) (I : List A → Type 0)
     (agree : (front : List A) → I front → (bs : List ℕ) → p front bs ≡ q (base + length front) bs)
     (lasts : (front : List A) → I front → (bs rest : List ℕ) (x : A) → q (base + length front) bs ≡ Some (x, rest) → I (front ++ x ∷ [])) where
-  pub placed_is_entries : (n : ℕ) (front : List A) (bs : List ℕ) → I front → entries_at p front n bs ≡ placed_at q n (base + length front) bs
+  pub placed_is_entries : (n : ℕ) (front : List A) (bs : List ℕ) → I front → entries_at p front n bs ≡ parse_placed q n (base + length front) bs
   placed_is_entries zero front bs i = refl
   placed_is_entries (suc n) front bs i =
       ap (λ (o : Option (A × List ℕ)). o >>= lines_after p front n) (agree front i bs) ∙ go (q (base + length front) bs) refl (λ x is. placed_is_entries n (front ++ x.0 ∷ []) x.1 (lasts front i bs x.1 x.0 is))
     where
       go : (o : Option (A × List ℕ)) → q (base + length front) bs ≡ o
-          → ((x : A × List ℕ) → q (base + length front) bs ≡ Some (x.0, x.1) → entries_at p (front ++ x.0 ∷ []) n x.1 ≡ placed_at q n (base + length (front ++ x.0 ∷ [])) x.1)
-          → (o >>= lines_after p front n) ≡ (o >>= λ x. placed_at q n (base + length front + 1) x.1 >>= put_first x.0)
+          → ((x : A × List ℕ) → q (base + length front) bs ≡ Some (x.0, x.1) → entries_at p (front ++ x.0 ∷ []) n x.1 ≡ parse_placed q n (base + length (front ++ x.0 ∷ [])) x.1)
+          → (o >>= lines_after p front n) ≡ (o >>= λ x. parse_placed q n (base + length front + 1) x.1 >>= put_first x.0)
       go None is rest = refl
       go (Some x) is rest =
           let place : base + length (front ++ x.0 ∷ []) ≡ base + length front + 1 = let l = length_push front x.0 in omega arith in
-          ap (λ (r : Option (List A × List ℕ)). r >>= put_first x.0) (rest x is ∙ ap (λ (v : ℕ). placed_at q n v x.1) place)
+          ap (λ (r : Option (List A × List ℕ)). r >>= put_first x.0) (rest x is ∙ ap (λ (v : ℕ). parse_placed q n v x.1) place)
 
 -- the set of the next size
 abbrev pub set_at : ℕ → List ℕ → List (List ℕ) → List ℕ → Option (List ℕ × List ℕ)
-set_at greatest sizes front = literals_at greatest (get_or sizes (length front) 0)
+set_at greatest sizes front = parse_literals greatest (get_or sizes (length front) 0)
 
 middle_is : (xs ys : List ℕ) (y n : ℕ) → length xs ≡ n → get_or (xs ++ y ∷ ys) n 0 ≡ y
 middle_is xs ys y n h = subst (λ (k : ℕ). get_or (xs ++ y ∷ ys) k 0 ≡ y) h (get_or-append_seam xs y ys 0)
 
-sets_behind : (greatest : ℕ) (done sizes : List ℕ) (front : List (List ℕ)) (bs : List ℕ) → length done ≡ length front → entries_at (set_at greatest (done ++ sizes)) front (length sizes) bs ≡ literal_sets_at greatest sizes bs
-unfolding literal_sets_at
+sets_behind : (greatest : ℕ) (done sizes : List ℕ) (front : List (List ℕ)) (bs : List ℕ) → length done ≡ length front → entries_at (set_at greatest (done ++ sizes)) front (length sizes) bs ≡ parse_literal_sets greatest sizes bs
+unfolding parse_literal_sets
 sets_behind greatest done [] front bs h = refl
 sets_behind greatest done (n ∷ sizes) front bs h =
-    ap (λ (k : ℕ). literals_at greatest k bs >>= lines_after (set_at greatest (done ++ n ∷ sizes)) front (length sizes)) (middle_is done sizes n (length front) h)
-    ∙ go (literals_at greatest n bs)
+    ap (λ (k : ℕ). parse_literals greatest k bs >>= lines_after (set_at greatest (done ++ n ∷ sizes)) front (length sizes)) (middle_is done sizes n (length front) h)
+    ∙ go (parse_literals greatest n bs)
     (λ x. ap (λ (all : List ℕ). entries_at (set_at greatest all) (front ++ x.0 ∷ []) (length sizes) x.1) (sym (append_assoc done (n ∷ []) sizes))
     ∙ sets_behind greatest (done ++ n ∷ []) sizes (front ++ x.0 ∷ []) x.1 (length_push done n ∙ ap (λ (k : ℕ). k + 1) h ∙ sym (length_push front x.0)))
   where
-    go : (o : Option (List ℕ × List ℕ)) → ((x : List ℕ × List ℕ) → entries_at (set_at greatest (done ++ n ∷ sizes)) (front ++ x.0 ∷ []) (length sizes) x.1 ≡ literal_sets_at greatest sizes x.1)
-        → (o >>= lines_after (set_at greatest (done ++ n ∷ sizes)) front (length sizes)) ≡ (o >>= λ set. literal_sets_at greatest sizes set.1 >>= λ sets. Some (set.0 ∷ sets.0, sets.1))
+    go : (o : Option (List ℕ × List ℕ)) → ((x : List ℕ × List ℕ) → entries_at (set_at greatest (done ++ n ∷ sizes)) (front ++ x.0 ∷ []) (length sizes) x.1 ≡ parse_literal_sets greatest sizes x.1)
+        → (o >>= lines_after (set_at greatest (done ++ n ∷ sizes)) front (length sizes)) ≡ (o >>= λ set. parse_literal_sets greatest sizes set.1 >>= λ sets. Some (set.0 ∷ sets.0, sets.1))
     go None rest = refl
     go (Some x) rest = ap (λ (r : Option (List (List ℕ) × List ℕ)). r >>= put_first x.0) (rest x)
 
 -- sets of these sizes
-pub sets_is_entries : (greatest : ℕ) (sizes : List ℕ) (bs : List ℕ) → entries_at (set_at greatest sizes) [] (length sizes) bs ≡ literal_sets_at greatest sizes bs
+pub sets_is_entries : (greatest : ℕ) (sizes : List ℕ) (bs : List ℕ) → entries_at (set_at greatest sizes) [] (length sizes) bs ≡ parse_literal_sets greatest sizes bs
 sets_is_entries greatest sizes bs = sets_behind greatest [] sizes [] bs refl
 
 -- one more value, made of one more entry

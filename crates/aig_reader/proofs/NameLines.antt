@@ -6,13 +6,13 @@ use Rattle.std.specs.Io.KnownBytes.{Consumes}
 use Rattle.aig_format.specs.File.{NameLine, HeaderNumbers}
 use Rattle.aig_format.specs.Fits.{same_place}
 use Rattle.aig_format.specs.Spells.{is_letter}
-use Rattle.aig_parsing.specs.Parse.{◌>>=◌, tested_at, text_at, name_at, name_from}
+use Rattle.aig_parsing.specs.Parse.{◌>>=◌, parse_if, parse_text, parse_name, name_from}
 use Rattle.aig_format.specs.Letters.{count_of, is_kept}
 use Rattle.aig_parsing.specs.ParseTested.{tests_name}
 use Rattle.aig_lexer.specs.Takes.{Takes, Misses}
 use Rattle.aig_lexer.proofs.Going.{GoesOn, goes_same, goes_call, goes_wrong, goes_nowhere, goes_done}
 use Rattle.aig_lexer.proofs.Taking.{misses_first}
-use Rattle.aig_reader.specs.NameSteps.{position_at}
+use Rattle.aig_reader.specs.NameSteps.{parse_position}
 
 -- a name of this place
 abbrev pub name_line : ℕ → ℕ → List ℕ → NameLine
@@ -24,11 +24,11 @@ is_taken names letter position = list_any (λ m. same_place m (name_line letter 
 
 -- a position within the section of this letter, whose first byte came before
 abbrev pub place_at : HeaderNumbers → ℕ → ℕ → List ℕ → Option (ℕ × List ℕ)
-place_at ns letter first = tested_at (position_at first) (λ n. ltb n (count_of ns letter))
+place_at ns letter first = parse_if (parse_position first) (λ n. ltb n (count_of ns letter))
 
 -- a name that is UTF-8 if it is kept
 abbrev pub name_text_at : Bool → List ℕ → Option (List ℕ × List ℕ)
-name_text_at kept = tested_at text_at (λ name. not kept || is_utf8 name)
+name_text_at kept = parse_if parse_text (λ name. not kept || is_utf8 name)
 
 -- the name of a place, with what follows it
 abbrev pub with_place : ℕ → ℕ → List ℕ × List ℕ → Option (NameLine × List ℕ)
@@ -41,7 +41,7 @@ behind_place names letter p = cond (is_taken names letter p.0) None (name_text_a
 -- ---- a name line without its tests
 
 abbrev untested : ℕ → ℕ × List ℕ → Option (NameLine × List ℕ)
-untested letter p = text_at p.1 >>= with_place letter p.0
+untested letter p = parse_text p.1 >>= with_place letter p.0
 
 abbrev paired : ℕ → List ℕ × List ℕ → Option ((ℕ × List ℕ) × List ℕ)
 paired n t = Some ((n, t.0), t.1)
@@ -56,19 +56,19 @@ named_text : (l n : ℕ) (t : Option (List ℕ × List ℕ)) → (t >>= paired n
 named_text l n None = refl
 named_text l n (Some t) = refl
 
-named_place : (l : ℕ) (o : Option (ℕ × List ℕ)) → ((o >>= λ p. text_at p.1 >>= paired p.0) >>= lettered l >>= named) ≡ (o >>= untested l)
+named_place : (l : ℕ) (o : Option (ℕ × List ℕ)) → ((o >>= λ p. parse_text p.1 >>= paired p.0) >>= lettered l >>= named) ≡ (o >>= untested l)
 named_place l None = refl
-named_place l (Some p) = named_text l p.0 (text_at p.1)
+named_place l (Some p) = named_text l p.0 (parse_text p.1)
 
-with_letter : (l b : ℕ) (bs : List ℕ) → is_letter l ≡ true → name_at (l ∷ b ∷ bs) ≡ (position_at b bs >>= untested l)
-with_letter l b bs is = rw is (named_place l (position_at b bs))
+with_letter : (l b : ℕ) (bs : List ℕ) → is_letter l ≡ true → parse_name (l ∷ b ∷ bs) ≡ (parse_position b bs >>= untested l)
+with_letter l b bs is = rw is (named_place l (parse_position b bs))
 
 -- ---- with them
 
 module _ (ns : HeaderNumbers) (names : List NameLine) where
   -- a name line that passes its tests
   abbrev pub line_at : List ℕ → Option (NameLine × List ℕ)
-  line_at = tested_at name_at (tests_name ns names)
+  line_at = parse_if parse_name (tests_name ns names)
 
   abbrev tested : NameLine × List ℕ → Option (NameLine × List ℕ)
   tested x = cond (tests_name ns names x.0) (Some x) None
@@ -105,11 +105,11 @@ module _ (ns : HeaderNumbers) (names : List NameLine) where
 
   tests_place : (l : ℕ) (o : Option (ℕ × List ℕ)) → (o >>= untested l >>= tested) ≡ (o >>= within l >>= behind_place names l)
   tests_place l None = refl
-  tests_place l (Some p) = tests_part l p (text_at p.1) ∙ same_place_within (ltb p.0 (count_of ns l)) l p (behind_place names l)
+  tests_place l (Some p) = tests_part l p (parse_text p.1) ∙ same_place_within (ltb p.0 (count_of ns l)) l p (behind_place names l)
 
   -- a name line is read in its parts
   line_parts : (l b : ℕ) (bs : List ℕ) → is_letter l ≡ true → line_at (l ∷ b ∷ bs) ≡ (place_at ns l b bs >>= behind_place names l)
-  line_parts l b bs is = ap (λ o. o >>= tested) (with_letter l b bs is) ∙ tests_place l (position_at b bs)
+  line_parts l b bs is = ap (λ o. o >>= tested) (with_letter l b bs is) ∙ tests_place l (parse_position b bs)
 
   -- what follows the place, where no name before has it
   new_place : (l n : ℕ) → is_taken names l n ≡ false → (bs : List ℕ) → behind_place names l (n, bs) ≡ (name_text_at (is_kept l) bs >>= with_place l n)

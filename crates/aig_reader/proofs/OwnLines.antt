@@ -1,31 +1,31 @@
 -- An entry: its own literal, what stands behind it, and a test.
 use Rattle.std.proofs.Common.{◌≡◌, ℕ, Bool, true, false, List, Option}
 use Rattle.aig_format.specs.declared.FileKind.{FileKind}
-use Rattle.aig_parsing.specs.Parse.{both_at, mapped_at, tested_at}
+use Rattle.aig_parsing.specs.Parse.{parse_both, parse_map, parse_if}
 use Rattle.aig_lexer.specs.Takes.{Takes, Misses}
 use Rattle.aig_lexer.proofs.Taking.{misses_both, misses_either, misses_mapped, misses_test, misses_tested, takes_both, takes_mapped, takes_tested}
-use Rattle.aig_reader.specs.ParseEntry.{own_at}
+use Rattle.aig_reader.specs.ParseEntry.{parse_own}
 
 module _ {X Y : Type 0} (kind : FileKind) (end : ℕ) (literals : List ℕ) (rest : ℕ → List ℕ → Option (X × List ℕ)) (make : ℕ × X → Y) (test : Y → Bool) where
   abbrev both : List ℕ → Option ((ℕ × X) × List ℕ)
-  both = both_at (own_at kind end literals) rest
+  both = parse_both (parse_own kind end literals) rest
 
   abbrev line : List ℕ → Option (Y × List ℕ)
-  line = tested_at (mapped_at make both) test
+  line = parse_if (parse_map make both) test
 
   -- its own literal isn't there
-  pub misses_own : (b : Option (List ℕ)) → Misses (own_at kind end literals) b → Misses line b
-  misses_own b h = misses_tested (mapped_at make both) test b (misses_mapped make both b (misses_either (own_at kind end literals) rest b h))
+  pub misses_own : (b : Option (List ℕ)) → Misses (parse_own kind end literals) b → Misses line b
+  misses_own b h = misses_tested (parse_map make both) test b (misses_mapped make both b (misses_either (parse_own kind end literals) rest b h))
 
-  module _ (b m : Option (List ℕ)) (e : ℕ) (own : Takes (own_at kind end literals) b m e) where
+  module _ (b m : Option (List ℕ)) (e : ℕ) (own : Takes (parse_own kind end literals) b m e) where
     -- what should stand behind it isn't there
     pub misses_behind : Misses (rest e) m → Misses line b
-    misses_behind h = misses_tested (mapped_at make both) test b (misses_mapped make both b (misses_both (own_at kind end literals) rest b m e own h))
+    misses_behind h = misses_tested (parse_map make both) test b (misses_mapped make both b (misses_both (parse_own kind end literals) rest b m e own h))
 
     module _ (a : Option (List ℕ)) (x : X) (behind : Takes (rest e) m a x) where
       -- the test fails
       pub misses_line : test (make (e, x)) ≡ false → Misses line b
-      misses_line h = misses_test (mapped_at make both) test b a (make (e, x)) (takes_mapped make both b a (e, x) (takes_both (own_at kind end literals) rest b m a e x own behind)) h
+      misses_line h = misses_test (parse_map make both) test b a (make (e, x)) (takes_mapped make both b a (e, x) (takes_both (parse_own kind end literals) rest b m a e x own behind)) h
 
       pub takes_line : test (make (e, x)) ≡ true → Takes line b a (make (e, x))
-      takes_line h = takes_tested (mapped_at make both) test b a (make (e, x)) (takes_mapped make both b a (e, x) (takes_both (own_at kind end literals) rest b m a e x own behind)) h
+      takes_line h = takes_tested (parse_map make both) test b a (make (e, x)) (takes_mapped make both b a (e, x) (takes_both (parse_own kind end literals) rest b m a e x own behind)) h

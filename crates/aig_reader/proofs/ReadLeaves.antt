@@ -3,7 +3,7 @@ use Rattle.std.proofs.Common.{◌≡◌, ◌∙◌, ◌+◌, ◌++◌, ℕ, List
 use Rattle.std.proofs.lemmas.List.{length-map}
 use Rattle.std.specs.declared.alloc.Global.{Global}
 use Rattle.aig_circuit.specs.declared.node.AigLatch.{AigLatch}
-use Rattle.aig_parsing.specs.ParseTested.{fitting_inputs_at, fitting_latches_at}
+use Rattle.aig_parsing.specs.ParseTested.{parse_fitting_inputs, parse_fitting_latches}
 use Rattle.aig_format.specs.declared.FileKind.{FileKind}
 use Rattle.aig_format.specs.File.{LatchLine}
 use Rattle.aig_lexer.specs.declared.header.Header.{Header}
@@ -29,8 +29,8 @@ pub record LeavesRead (header : Header) (kind : FileKind) (before between after 
   pub lines : List LatchLine
   pub inputs_are : inputs ≡ map variable_of literals
   pub latchs_are : latchs ≡ map latch_from lines
-  pub takes_inputs : Takes (fitting_inputs_at kind (numbers_of header)) before between literals
-  pub takes_latchs : Takes (fitting_latches_at kind (numbers_of header) literals) between after lines
+  pub takes_inputs : Takes (parse_fitting_inputs kind (numbers_of header)) before between literals
+  pub takes_latchs : Takes (parse_fitting_latches kind (numbers_of header) literals) between after lines
   pub count : length (literals_with literals lines) ≡ header.inputs + header.latches
   pub defined : AreDefined header.greatest variables (literals_with literals lines)
 
@@ -40,11 +40,11 @@ module _ (header : Header) (kind : FileKind) (b m a : Option (List ℕ)) (u v w 
   pub leaves_read :
       kind_by u ≡ kind → kind_by v ≡ kind_by u
       → inputs_result ≡ result_by (error_in Inputs) input_lines → inputs_result ≡ Ok inputs
-      → Makes OnLine (λ (xs : Vec ℕ Global) literals. (xs.items ≡ map variable_of literals) × AreDefined header.greatest v literals) b m input_lines (fitting_inputs_at (kind_by u) (numbers_of header))
+      → Makes OnLine (λ (xs : Vec ℕ Global) literals. (xs.items ≡ map variable_of literals) × AreDefined header.greatest v literals) b m input_lines (parse_fitting_inputs (kind_by u) (numbers_of header))
       → IfOk input_lines (λ xs. vec_len xs ≡ header.inputs)
       → latchs_result ≡ result_by (error_in Latches) latch_lines → latchs_result ≡ Ok latchs
       → ((literals : List ℕ) → length literals ≡ header.inputs → AreDefined header.greatest v literals
-      → Makes OnLine (λ (xs : Vec AigLatch Global) lines. (xs.items ≡ map latch_from lines) × AreDefined header.greatest w (literals_with literals lines)) m a latch_lines (fitting_latches_at (kind_by v) (numbers_of header) literals))
+      → Makes OnLine (λ (xs : Vec AigLatch Global) lines. (xs.items ≡ map latch_from lines) × AreDefined header.greatest w (literals_with literals lines)) m a latch_lines (parse_fitting_latches (kind_by v) (numbers_of header) literals))
       → IfOk latch_lines (λ xs. vec_len xs ≡ header.latches)
       → LeavesRead header kind b m a w inputs.items latchs.items
   leaves_read start same inputs_is inputs_was inputs_made inputs_count latchs_is latchs_was latchs_made latchs_count =
@@ -63,8 +63,8 @@ module _ (header : Header) (kind : FileKind) (b m a : Option (List ℕ)) (u v w 
         lines = l.0;
         inputs_are = i.1.0;
         latchs_are = l.1.0;
-        takes_inputs = subst (λ (k : FileKind). Takes (fitting_inputs_at k ns) b m i.0) start i.2;
-        takes_latchs = subst (λ (k : FileKind). Takes (fitting_latches_at k ns i.0) m a l.0) (same ∙ start) l.2;
+        takes_inputs = subst (λ (k : FileKind). Takes (parse_fitting_inputs k ns) b m i.0) start i.2;
+        takes_latchs = subst (λ (k : FileKind). Takes (parse_fitting_latches k ns i.0) m a l.0) (same ∙ start) l.2;
         count = omega (arith, i_length, both, mapped, l_all, l_count, latchs.ok.0);
         defined = l.1.1;
       }

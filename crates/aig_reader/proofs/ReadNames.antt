@@ -2,7 +2,7 @@
 use Rattle.std.proofs.Common.{◌≡◌, ◌≢◌, ℕ, List, [], Option, Some, None, Result, Ok, Err, IfSome, IfOk, OnOk, refl, subst}
 use Rattle.std.specs.Io.KnownBytes.{Consumes}
 use Rattle.aig_format.specs.File.{HeaderNumbers}
-use Rattle.aig_parsing.specs.ParseTested.{fitting_tail_at}
+use Rattle.aig_parsing.specs.ParseTested.{parse_fitting_tail}
 use Rattle.aig_reader.specs.declared.names.error.NameError.{NameError}
 use Rattle.aig_reader.specs.declared.names.error.NameError.TheVariants as name
 use Rattle.aig_reader.specs.NameFaults.{OnName}
@@ -51,5 +51,5 @@ names_fault lines result e is was same =
     subst IsNamesFault same (subst IsNamesFault k.2 (is_names_fault k.0))
 
 pub no_names_left : (ns : HeaderNumbers) → tail_of ns [] ≡ Some []
-unfolding fitting_tail_at
+unfolding parse_fitting_tail
 no_names_left ns = refl

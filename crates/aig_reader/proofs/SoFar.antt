@@ -8,7 +8,7 @@ use Rattle.std.proofs.lemmas.Bool.{ltb-true}
 use Rattle.std.proofs.lemmas.Option.{cond_some}
 use Rattle.aig_format.specs.File.{NameLine, HeaderNumbers}
 use Rattle.aig_format.specs.Spells.{is_letter}
-use Rattle.aig_parsing.specs.Parse.{tested_at, is_comment}
+use Rattle.aig_parsing.specs.Parse.{parse_if, is_comment}
 use Rattle.aig_format.specs.Letters.{count_of, is_kept}
 use Rattle.aig_parsing.proofs.Numbers.{bind_some}
 use Rattle.aig_lexer.specs.Takes.{Takes, Misses}
@@ -23,7 +23,7 @@ use Rattle.aig_reader.proofs.NamedSections.{is_letter_of}
 use Rattle.aig_reader.proofs.KeptNames.{IsWithin, within_more, same_spot, taken_more, node_is_kept, kept_more}
 
 -- a value that a test passed
-takes_test : {A : Type 0} (p : List ℕ → Option (A × List ℕ)) (test : A → Bool) (b a : Option (List ℕ)) (x : A) → Takes (tested_at p test) b a x → test x ≡ true
+takes_test : {A : Type 0} (p : List ℕ → Option (A × List ℕ)) (test : A → Bool) (b a : Option (List ℕ)) (x : A) → Takes (parse_if p test) b a x → test x ≡ true
 takes_test {A} p test b a x h =
     let d = bind_some (p (h.taken ++ [])) (λ y. cond (test y.0) (Some y) None) (x, []) (h.reads []) in
     let e = cond_some (test d.0.0) d.0 (x, []) d.2 in

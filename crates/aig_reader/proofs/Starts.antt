@@ -5,7 +5,7 @@ use Rattle.std.proofs.KnownBytes.{Consumes-trans, Consumes-whole}
 use Rattle.std.proofs.lemmas.Bool.{eq-eqb, ne_eqb}
 use Rattle.aig_format.specs.Spells.{is_letter}
 use Rattle.aig_format.specs.Text.{IsDigit}
-use Rattle.aig_parsing.specs.Parse.{is_comment, name_at, number_at, ended_at}
+use Rattle.aig_parsing.specs.Parse.{is_comment, parse_name, parse_number, parse_ended}
 use Rattle.aig_parsing.proofs.Numbers.{false_digit}
 use Rattle.aig_reader.specs.NameSteps.{IsNoTail}
 
@@ -17,11 +17,11 @@ took_byte now after o b c is = subst (λ (m : Option ℕ). Consumes now after (o
 took_none : (now after : Option (List ℕ)) (o : Option ℕ) → Consumes now after (option_to_list o) → o ≡ None → Consumes now after []
 took_none now after o c is = subst (λ (m : Option ℕ). Consumes now after (option_to_list m)) is c
 
-lone_letter : (l : ℕ) → name_at (l ∷ []) ≡ None
-unfolding ended_at number_at
+lone_letter : (l : ℕ) → parse_name (l ∷ []) ≡ None
+unfolding parse_ended parse_number
 lone_letter l = go (is_letter l) refl
   where
-    go : (t : Bool) → is_letter l ≡ t → name_at (l ∷ []) ≡ None
+    go : (t : Bool) → is_letter l ≡ t → parse_name (l ∷ []) ≡ None
     go true is = rw is refl
     go false is = rw is refl
 

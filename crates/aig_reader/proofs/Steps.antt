@@ -9,7 +9,7 @@ use Rattle.aig_format.specs.File.{File}
 use Rattle.aig_format.specs.Levels.{has_level}
 use Rattle.aig_format.specs.Numbering.{is_compact, number_of}
 use Rattle.aig_parsing.specs.Parse.{Parts, is_good}
-use Rattle.aig_parsing.specs.ParseTested.{fitting_sections_at, is_accepted_order, section_lines_at, uses_known}
+use Rattle.aig_parsing.specs.ParseTested.{parse_fitting_sections, is_accepted_order, parse_section_lines, uses_known}
 use Rattle.aig_parsing.proofs.Guards.{length-defined, on_used}
 use Rattle.aig_parsing.proofs.SectionFacts.{HasCounts, lines_tell}
 use Rattle.aig_ordering.specs.Tables.{AreNodesOf}
@@ -29,15 +29,15 @@ use Rattle.aig_reader.proofs.Body.{on_refusal-weaker}
 use Rattle.aig_reader.proofs.FileCircuit.{inputs_is, latchs_is, compact_circuit}
 use Rattle.aig_reader.proofs.PlacedNodes.{first_all}
 
-module _ (header : Header) (x : Parts) (b a : Option (List ℕ)) (taken : Takes (section_lines_at header.kind (numbers_of header)) b a x) where
+module _ (header : Header) (x : Parts) (b a : Option (List ℕ)) (taken : Takes (parse_section_lines header.kind (numbers_of header)) b a x) where
   abbrev keeps : Parts → Bool
   keeps y = is_accepted_order header.kind (file_by header y)
 
   -- numbered sections, or a refusal, behind the last gate
   pub numbered_made : (result : Result Sections ReadError) → Judged (keeps x) (IsCircuitOf (file_by header x)) result
-      → Makes OnRefusal (λ (sections : Sections) y. IsCircuitOf (file_by header y) sections) b a result (fitting_sections_at header.kind (numbers_of header))
-  numbered_made (Ok sections) h = (x, h.1, takes_tested (section_lines_at header.kind (numbers_of header)) keeps b a x taken h.0)
-  numbered_made (Err e) h = on_refusal-weaker e _ _ (λ (no : keeps x ≡ false). misses_test (section_lines_at header.kind (numbers_of header)) keeps b a x taken no) h
+      → Makes OnRefusal (λ (sections : Sections) y. IsCircuitOf (file_by header y) sections) b a result (parse_fitting_sections header.kind (numbers_of header))
+  numbered_made (Ok sections) h = (x, h.1, takes_tested (parse_section_lines header.kind (numbers_of header)) keeps b a x taken h.0)
+  numbered_made (Err e) h = on_refusal-weaker e _ _ (λ (no : keeps x ≡ false). misses_test (parse_section_lines header.kind (numbers_of header)) keeps b a x taken no) h
 
   module _ (good : is_good header.kind (numbers_of header) ≡ true) where
     abbrev counts : HasCounts header.kind (numbers_of header) x

@@ -5,8 +5,8 @@ use Rattle.std.proofs.KnownBytes.{Consumes-nil, Consumes-trans}
 use Rattle.std.proofs.lemmas.Option.{cond_some}
 use Rattle.std.proofs.lemmas.List.{length-append}
 use Rattle.aig_format.specs.File.{NameLine, HeaderNumbers}
-use Rattle.aig_parsing.specs.Parse.{◌>>=◌, is_comment, name_at}
-use Rattle.aig_parsing.specs.ParseTested.{tests_name, fitting_tail_at}
+use Rattle.aig_parsing.specs.Parse.{◌>>=◌, is_comment, parse_name}
+use Rattle.aig_parsing.specs.ParseTested.{tests_name, parse_fitting_tail}
 use Rattle.aig_parsing.proofs.Numbers.{bind_some}
 use Rattle.aig_parsing.proofs.Names.{Reads-name, name_is_some, name_goes_on}
 use Rattle.aig_lexer.specs.Takes.{Takes, Misses}
@@ -17,7 +17,7 @@ use Rattle.aig_reader.proofs.NameLines.{line_at}
 
 -- the names behind these ones, up to the end
 abbrev pub tail_from : HeaderNumbers → List NameLine → List ℕ → Option (List NameLine)
-tail_from ns names bytes = fitting_tail_at ns (suc (length bytes)) names bytes
+tail_from ns names bytes = parse_fitting_tail ns (suc (length bytes)) names bytes
 
 abbrev put : NameLine → List NameLine → Option (List NameLine)
 put n names = Some (n ∷ names)
@@ -26,21 +26,21 @@ abbrev after : List NameLine → List NameLine → Option (List NameLine)
 after before names = Some (before ++ names)
 
 abbrev one_more : HeaderNumbers → ℕ → List NameLine → NameLine × List ℕ → Option (List NameLine)
-one_more ns k before n = fitting_tail_at ns k (before ++ n.0 ∷ []) n.1 >>= put n.0
+one_more ns k before n = parse_fitting_tail ns k (before ++ n.0 ∷ []) n.1 >>= put n.0
 
 -- a name has some bytes, and is no comment
-line_is_name : (ns : HeaderNumbers) (names : List NameLine) (bytes : List ℕ) (x : NameLine × List ℕ) → line_at ns names bytes ≡ Some x → name_at bytes ≡ Some x
+line_is_name : (ns : HeaderNumbers) (names : List NameLine) (bytes : List ℕ) (x : NameLine × List ℕ) → line_at ns names bytes ≡ Some x → parse_name bytes ≡ Some x
 line_is_name ns names bytes x h =
-    let d = bind_some (name_at bytes) (λ n. cond (tests_name ns names n.0) (Some n) None) x h in
+    let d = bind_some (parse_name bytes) (λ n. cond (tests_name ns names n.0) (Some n) None) x h in
     let e = cond_some (tests_name ns names d.0.0) d.0 x d.2 in
     d.1 ∙ ap (λ (y : NameLine × List ℕ). Some y) e.1
 
-shorter : (bytes : List ℕ) (x : NameLine × List ℕ) → name_at bytes ≡ Some x → length x.1 < length bytes
+shorter : (bytes : List ℕ) (x : NameLine × List ℕ) → parse_name bytes ≡ Some x → length x.1 < length bytes
 shorter bytes x h =
     let s = Reads-name.sound bytes x h in
     omega (arith, name_is_some x.0 s.0 s.2, ap length s.1, length-append s.0 x.1)
 
-no_comment : (bytes : List ℕ) (x : NameLine × List ℕ) → name_at bytes ≡ Some x → is_comment bytes ≡ false
+no_comment : (bytes : List ℕ) (x : NameLine × List ℕ) → parse_name bytes ≡ Some x → is_comment bytes ≡ false
 no_comment bytes x h =
     let s = Reads-name.sound bytes x h in
     ap is_comment s.1 ∙ name_goes_on x.0 s.0 x.1 s.2
@@ -49,12 +49,12 @@ same_bind : {A B : Type 0} (o : Option A) (f g : A → Option B) → ((x : A) �
 same_bind None f g h = refl
 same_bind (Some x) f g h = h x refl
 
-step : (ns : HeaderNumbers) (k : ℕ) (names : List NameLine) (bytes : List ℕ) → fitting_tail_at ns (suc k) names bytes ≡ cond (is_comment bytes) (Some []) (line_at ns names bytes >>= one_more ns k names)
-unfolding fitting_tail_at
+step : (ns : HeaderNumbers) (k : ℕ) (names : List NameLine) (bytes : List ℕ) → parse_fitting_tail ns (suc k) names bytes ≡ cond (is_comment bytes) (Some []) (line_at ns names bytes >>= one_more ns k names)
+unfolding parse_fitting_tail
 step ns k names bytes = refl
 
 -- with more steps than bytes the count of steps doesn't matter
-steps_enough : (ns : HeaderNumbers) (j k : ℕ) (names : List NameLine) (bytes : List ℕ) → length bytes < j → length bytes < k → fitting_tail_at ns j names bytes ≡ fitting_tail_at ns k names bytes
+steps_enough : (ns : HeaderNumbers) (j k : ℕ) (names : List NameLine) (bytes : List ℕ) → length bytes < j → length bytes < k → parse_fitting_tail ns j names bytes ≡ parse_fitting_tail ns k names bytes
 steps_enough ns zero k names bytes few many = absurd (omega (arith, few))
 steps_enough ns (suc j) zero names bytes few many = absurd (omega (arith, many))
 steps_enough ns (suc j) (suc k) names bytes few many =

@@ -1,6 +1,6 @@
 -- A line whose numbers are tested.
 use Rattle.std.proofs.Common.{◌≡◌, ℕ, Bool, false, List, Option, Result, Ok, Err}
-use Rattle.aig_parsing.specs.Parse.{tested_at}
+use Rattle.aig_parsing.specs.Parse.{parse_if}
 use Rattle.aig_reader.specs.declared.error.LineError.{LineError}
 use Rattle.aig_reader.specs.declared.error.LineError.TheVariants.{Memory, Stream, Syntax, Literal}
 use Rattle.aig_lexer.specs.declared.error.LexError.{LexError}
@@ -25,9 +25,9 @@ on_line-weaker Literal P Q f h = f h
 
 -- a line that was taken, and what its test made of it
 pub tested_line : {X Y : Type 0} (p : List ℕ → Option (Y × List ℕ)) (test : Y → Bool) (IsOf : X → Y → Type 0) (P : X → Type 0) (b m : Option (List ℕ)) (y : Y) (r : Result X LineError)
-    → Takes p b m y → Tested (test y) P r → ((x : X) → P x → IsOf x y) → Makes OnLine IsOf b m r (tested_at p test)
+    → Takes p b m y → Tested (test y) P r → ((x : X) → P x → IsOf x y) → Makes OnLine IsOf b m r (parse_if p test)
 tested_line p test IsOf P b m y (Ok x) h t f = (y, f x t.1, takes_tested p test b m y h t.0)
-tested_line p test IsOf P b m y (Err e) h t f = on_line-weaker e (test y ≡ false) (Misses (tested_at p test) b) (misses_test p test b m y h) t
+tested_line p test IsOf P b m y (Err e) h t f = on_line-weaker e (test y ≡ false) (Misses (parse_if p test) b) (misses_test p test b m y h) t
 
 -- a misshapen word, as a fault in a line
 pub on_line-from_shape : (e : LexError) (P Q : Type 0) → (P → Q) → OnShape e P → OnLine (line_error_of e) Q

@@ -1,7 +1,7 @@
 -- A name's bytes, one by one.
 use Rattle.std.proofs.Common.{◌≡◌, ◌≢◌, ℕ, List, [], ◌∷◌, ◌++◌, Option, Some, None, refl, ap, append_assoc, append-nil, sym}
 use Rattle.std.proofs.lemmas.Bool.{ne_eqb}
-use Rattle.aig_parsing.specs.Parse.{◌>>=◌, text_at}
+use Rattle.aig_parsing.specs.Parse.{◌>>=◌, parse_text}
 
 -- a text behind some bytes
 abbrev behind : List ℕ → List ℕ × List ℕ → Option (List ℕ × List ℕ)
@@ -9,20 +9,20 @@ behind front x = Some (front ++ x.0, x.1)
 
 -- a text whose first bytes came before
 abbrev pub text_from : List ℕ → List ℕ → Option (List ℕ × List ℕ)
-text_from front bs = text_at bs >>= behind front
+text_from front bs = parse_text bs >>= behind front
 
 pub text_goes : (front : List ℕ) (b : ℕ) → b ≢ 10 → (bs : List ℕ) → text_from front (b ∷ bs) ≡ text_from (front ++ b ∷ []) bs
-unfolding text_at
-text_goes front b ne bs = rw (ne_eqb b 10 ne) (go (text_at bs))
+unfolding parse_text
+text_goes front b ne bs = rw (ne_eqb b 10 ne) (go (parse_text bs))
   where
     go : (o : Option (List ℕ × List ℕ)) → (o >>= behind (b ∷ []) >>= behind front) ≡ (o >>= behind (front ++ b ∷ []))
     go None = refl
     go (Some x) = ap (λ (xs : List ℕ). Some (xs, x.1)) (sym (append_assoc front (b ∷ []) x.0))
 
 pub text_ends : (front : List ℕ) (b : ℕ) → b ≡ 10 → (bs : List ℕ) → text_from front (b ∷ bs) ≡ Some (front, bs)
-unfolding text_at
+unfolding parse_text
 text_ends front b is bs = rw is (ap (λ (xs : List ℕ). Some (xs, bs)) (append-nil front))
 
 pub text_stops : (front : List ℕ) → text_from front [] ≡ None
-unfolding text_at
+unfolding parse_text
 text_stops front = refl

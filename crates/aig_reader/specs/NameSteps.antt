@@ -5,7 +5,7 @@ use Rattle.std.specs.Io.KnownBytes.{Consumes}
 use Rattle.std.specs.Ordering.{nat_cmp}
 use Rattle.std.specs.FinMap.{FinMap, insert}
 use Rattle.aig_format.specs.Letters.{letter_of_inputs, letter_of_latches}
-use Rattle.aig_parsing.specs.Parse.{is_comment, name_at, ended_at}
+use Rattle.aig_parsing.specs.Parse.{is_comment, parse_name, parse_ended}
 use Rattle.aig_lexer.specs.declared.error.LexError.{LexError}
 use Rattle.aig_lexer.specs.Faults.{OnShape}
 use Rattle.aig_reader.specs.declared.names.section.NamedSection.{NamedSection}
@@ -14,7 +14,7 @@ use Rattle.aig_reader.specs.NamedSections.{letter_of}
 -- neither a comment nor a name
 pub record IsNoTail (bytes : List ℕ) : Type 0 where
   pub no_comment : is_comment bytes ≡ false
-  pub no_name : name_at bytes ≡ None
+  pub no_name : parse_name bytes ≡ None
 
 -- a comment that went to the end was taken, or of what is none a section's letter and the byte behind it, or the bytes are neither comment nor name
 abbrev pub NameStarts : Option (List ℕ) → Option (List ℕ) → Result (Option (NamedSection × ℕ)) LexError → Type 0
@@ -23,8 +23,8 @@ NameStarts before after (Ok (Some x)) = let start = letter_of x.0 ∷ x.1 ∷ []
 NameStarts before after (Err e) = OnShape e (IfSome before IsNoTail)
 
 -- a number that a space ends, whose first byte came before
-abbrev pub position_at : ℕ → List ℕ → Option (ℕ × List ℕ)
-position_at first bytes = ended_at 32 (first ∷ bytes)
+abbrev pub parse_position : ℕ → List ℕ → Option (ℕ × List ℕ)
+parse_position first bytes = parse_ended 32 (first ∷ bytes)
 
 -- the node at a position of inputs or latches
 abbrev pub node_at : List ℕ → List ℕ → ℕ → ℕ → Option ℕ

@@ -6,11 +6,11 @@ use Rattle.std.specs.Ordering.{nat_cmp}
 use Rattle.std.specs.FinMap.{FinMap, from_entries}
 use Rattle.aig_format.specs.Letters.{letter_of_inputs, letter_of_latches}
 use Rattle.aig_format.specs.File.{NameLine, HeaderNumbers}
-use Rattle.aig_parsing.specs.ParseTested.{fitting_tail_at}
+use Rattle.aig_parsing.specs.ParseTested.{parse_fitting_tail}
 
 -- the names and the comment behind the gates, by the header's numbers
 abbrev pub tail_of : HeaderNumbers → List ℕ → Option (List NameLine)
-tail_of ns bytes = fitting_tail_at ns (suc (length bytes)) [] bytes
+tail_of ns bytes = parse_fitting_tail ns (suc (length bytes)) [] bytes
 
 -- a value that was made of what the bytes up to the end are read as, or a fault that refuses bytes that aren't read
 abbrev pub EndsWith : {X Y E : Type 0} → (E → Type 0 → Type 0) → (X → Y → Type 0) → Option (List ℕ) → Option (List ℕ) → Result X E → (List ℕ → Option Y) → Type 0

@@ -4,13 +4,13 @@ use Rattle.std.specs.Prelude.{ℕ, ◌+◌, ◌-◌, ◌*◌, ◌&&◌, Bool, tr
 use Rattle.aig_format.specs.declared.FileKind.{FileKind}
 use Rattle.aig_format.specs.declared.FileKind.TheVariants.{Text, Binary}
 use Rattle.aig_format.specs.File.{LatchLine, GateLine}
-use Rattle.aig_parsing.specs.Parse.{both_at, delta_at, ended_at, mapped_at, tested_at}
-use Rattle.aig_parsing.specs.ParseTested.{defines, gate_line_from, has_next, is_literal, latch_line_from, next_at, pair_at}
+use Rattle.aig_parsing.specs.Parse.{parse_both, parse_delta, parse_ended, parse_map, parse_if}
+use Rattle.aig_parsing.specs.ParseTested.{defines, gate_line_from, has_next, is_literal, latch_line_from, parse_next_and_reset, parse_pair}
 
 -- the literal that an entry defines: in a text file it is written, in a binary file it is that of the next variable
-abbrev pub own_at : FileKind → ℕ → List ℕ → List ℕ → Option (ℕ × List ℕ)
-own_at Text end before = ended_at end
-own_at Binary end before = λ bytes. Some (2 * (length before + 1), bytes)
+abbrev pub parse_own : FileKind → ℕ → List ℕ → List ℕ → Option (ℕ × List ℕ)
+parse_own Text end before = parse_ended end
+parse_own Binary end before = λ bytes. Some (2 * (length before + 1), bytes)
 
 -- whether a literal may be defined behind these; those of a binary file always may
 abbrev pub may_define : FileKind → ℕ → List ℕ → ℕ → Bool
@@ -18,19 +18,19 @@ may_define Text greatest before e = defines greatest before e
 may_define Binary greatest before e = true
 
 -- an input
-abbrev pub input_at : FileKind → ℕ → List ℕ → List ℕ → Option (ℕ × List ℕ)
-input_at kind greatest before = tested_at (own_at kind 10 before) (may_define kind greatest before)
+abbrev pub parse_input_entry : FileKind → ℕ → List ℕ → List ℕ → Option (ℕ × List ℕ)
+parse_input_entry kind greatest before = parse_if (parse_own kind 10 before) (may_define kind greatest before)
 
 -- a latch, behind these inputs and latches
-abbrev pub latch_at : FileKind → ℕ → List ℕ → List LatchLine → List ℕ → Option (LatchLine × List ℕ)
-latch_at kind greatest inputs before =
+abbrev pub parse_latch_entry : FileKind → ℕ → List ℕ → List LatchLine → List ℕ → Option (LatchLine × List ℕ)
+parse_latch_entry kind greatest inputs before =
     let literals = inputs ++ map (λ m. m.literal) before in
-    tested_at (mapped_at (λ x. latch_line_from x.0 x.1) (both_at (own_at kind 32 literals) (λ _. next_at))) (λ l. may_define kind greatest literals l.literal && has_next greatest l)
+    parse_if (parse_map (λ x. latch_line_from x.0 x.1) (parse_both (parse_own kind 32 literals) (λ _. parse_next_and_reset))) (λ l. may_define kind greatest literals l.literal && has_next greatest l)
 
 -- the operands of a gate of this literal: in a text file two numbers, in a binary file by their differences
-abbrev pub operands_at : FileKind → ℕ → List ℕ → Option ((ℕ × ℕ) × List ℕ)
-operands_at Text lhs = pair_at
-operands_at Binary lhs = mapped_at (λ d. (lhs - d.0, lhs - d.0 - d.1)) (tested_at (both_at delta_at (λ _. delta_at)) (λ d. nat_le d.0 lhs && nat_le d.1 (lhs - d.0)))
+abbrev pub parse_operands : FileKind → ℕ → List ℕ → Option ((ℕ × ℕ) × List ℕ)
+parse_operands Text lhs = parse_pair
+parse_operands Binary lhs = parse_map (λ d. (lhs - d.0, lhs - d.0 - d.1)) (parse_if (parse_both parse_delta (λ _. parse_delta)) (λ d. nat_le d.0 lhs && nat_le d.1 (lhs - d.0)))
 
 -- whether a gate's operands may be used: in a text file each literal up to the greatest variable's, in a binary file where the first is
 -- below the gate
@@ -44,7 +44,7 @@ may_stand Text greatest before g = defines greatest before g.lhs && is_literal g
 may_stand Binary greatest before g = nat_lt g.rhs0 g.lhs
 
 -- a gate, behind these leaves and gates
-abbrev pub gate_at : FileKind → ℕ → List ℕ → List GateLine → List ℕ → Option (GateLine × List ℕ)
-gate_at kind greatest leaves before =
+abbrev pub parse_gate_entry : FileKind → ℕ → List ℕ → List GateLine → List ℕ → Option (GateLine × List ℕ)
+parse_gate_entry kind greatest leaves before =
     let literals = leaves ++ map (λ h. h.lhs) before in
-    tested_at (mapped_at gate_line_from (both_at (own_at kind 32 literals) (operands_at kind))) (may_stand kind greatest literals)
+    parse_if (parse_map gate_line_from (parse_both (parse_own kind 32 literals) (parse_operands kind))) (may_stand kind greatest literals)

@@ -1,13 +1,13 @@
 //! Gates: in a text file a line each, in a binary file two differences each.
 
 ghost use Rattle.std.specs.Prelude.{◌≡◌, ℕ, ◌+◌, ◌^◌, ◌<◌, ◌≤◌, [], ◌∷◌, ◌++◌, List, length, true, IfOk, IsErrOf};
-ghost use Rattle.aig_parsing.specs.ParseTested.{fitting_gates_at};
+ghost use Rattle.aig_parsing.specs.ParseTested.{parse_fitting_gates};
 ghost use Rattle.aig_format.specs.declared.FileKind.TheVariants.{Binary};
 ghost use Rattle.aig_format.specs.File.{GateLine};
 ghost use Rattle.aig_lexer.specs.Faults.{OnShape};
 ghost use Rattle.aig_lexer.specs.Header.{numbers_of};
 ghost use Rattle.aig_lexer.specs.Takes.{Gives, Makes};
-ghost use Rattle.aig_reader.specs.ParseEntry.{gate_at, may_use, operands_at};
+ghost use Rattle.aig_reader.specs.ParseEntry.{parse_gate_entry, may_use, parse_operands};
 ghost use Rattle.aig_reader.specs.Faults.{OnLine};
 ghost use Rattle.aig_reader.specs.Gates.{AreGates, HasSpace, line_of};
 ghost use Rattle.aig_reader.specs.Variables.{AreDefined, HasRoom, kind_by};
@@ -22,7 +22,7 @@ use std::alloc::Global;
 /// Reads two differences: from a gate's literal to its first operand, and from this to its second.
 fn differences<F: ByteFeed>(f: &mut F, lhs: u32) -> Result<(u32, u32), LexError>
     ensures exact { Gives OnShape (λ x. (x.0, x.1))
-        (F.coming f.old) (F.coming f.new) result (operands_at Binary lhs) }
+        (F.coming f.old) (F.coming f.new) result (parse_operands Binary lhs) }
     ensures stream { IsErrOf result LexError.Stream → F.failed f.new ≡ true }
     ensures same { F.behind f.new ≡ F.behind f.old }
 {
@@ -37,7 +37,7 @@ fn differences<F: ByteFeed>(f: &mut F, lhs: u32) -> Result<(u32, u32), LexError>
 /// Reads the operands of the gate that defines this literal.
 fn operands<F: ByteFeed>(f: &mut F, variables: &Variables, lhs: u32) -> Result<(u32, u32), LexError>
     ensures exact { Gives OnShape (λ x. (x.0, x.1))
-        (F.coming f.old) (F.coming f.new) result (operands_at (kind_by variables.now) lhs) }
+        (F.coming f.old) (F.coming f.new) result (parse_operands (kind_by variables.now) lhs) }
     ensures stream { IsErrOf result LexError.Stream → F.failed f.new ≡ true }
     ensures same { F.behind f.new ≡ F.behind f.old }
 {
@@ -77,7 +77,7 @@ fn gate_line<F: ByteFeed>(
         → Makes OnLine
         (λ _ gate. AreGates greatest leaves (before ++ gate ∷ []) variables.new gates.new)
         (F.coming f.old) (F.coming f.new) result
-        (gate_at (kind_by variables.old) greatest leaves before) }
+        (parse_gate_entry (kind_by variables.old) greatest leaves before) }
     ensures space { IfOk result (λ _. (size : ℕ) → HasRoom size variables.old 1
         → HasSpace size gates.old → HasSpace size gates.new) }
     ensures room { IfOk result
@@ -111,7 +111,7 @@ pub fn read_gates<F: ByteFeed>(
         → AreDefined header.greatest variables.old leaves
         → Makes OnLine (λ held gates. AreGates header.greatest leaves gates variables.new held)
         (F.coming f.old) (F.coming f.new) result
-        (fitting_gates_at (kind_by variables.old) (numbers_of header) leaves) }
+        (parse_fitting_gates (kind_by variables.old) (numbers_of header) leaves) }
     ensures space { IfOk result (HasSpace (header.greatest + 1)) }
     ensures kind { kind_by variables.new ≡ kind_by variables.old }
     ensures stream { IsErrOf result LineError.Stream → F.failed f.new ≡ true }

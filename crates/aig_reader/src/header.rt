@@ -1,7 +1,7 @@
 //! The header line.
 
 ghost use Rattle.std.specs.Prelude.{◌≡◌, ◌+◌, ◌≤◌, ◌↔◌, true, IfOk, IfSome, IsErrOf};
-ghost use Rattle.aig_parsing.specs.ParseTested.{fitting_header_at};
+ghost use Rattle.aig_parsing.specs.ParseTested.{parse_fitting_header};
 ghost use Rattle.aig_parsing.specs.Parse.{is_good, too_many_at};
 ghost use Rattle.aig_lexer.specs.Header.{numbers_of};
 ghost use Rattle.aig_lexer.specs.Takes.{Gives};
@@ -28,7 +28,7 @@ fn has_enough(header: Header) -> bool
 /// Reads the header line, which is good, and within the limit of `limit` variables, the false one counted.
 pub fn read_header<F: ByteFeed>(f: &mut F, limit: usize) -> Result<Header, ReadError>
     ensures exact { Gives OnRefusal (λ h. (h.kind, numbers_of h))
-        (F.coming f.old) (F.coming f.new) result (fitting_header_at limit) }
+        (F.coming f.old) (F.coming f.new) result (parse_fitting_header limit) }
     ensures too_many { IfSome (F.coming f.old) (λ bytes. UnlessInterrupted result
         (IsErrOf result ReadError.TooMany ↔ (too_many_at limit bytes ≡ true))) }
     ensures within { IfOk result (λ h. h.greatest + 1 ≤ limit) }

@@ -1,10 +1,10 @@
 //! Inputs: in a text file a line each, in a binary file the first variables.
 
 ghost use Rattle.std.specs.Prelude.{◌≡◌, ℕ, ◌+◌, ◌^◌, ◌<◌, ◌≤◌, List, [], ◌∷◌, ◌++◌, map, true, vec_len, IfOk, IsErrOf};
-ghost use Rattle.aig_parsing.specs.ParseTested.{fitting_inputs_at};
+ghost use Rattle.aig_parsing.specs.ParseTested.{parse_fitting_inputs};
 ghost use Rattle.aig_lexer.specs.Header.{numbers_of};
 ghost use Rattle.aig_lexer.specs.Takes.{Makes};
-ghost use Rattle.aig_reader.specs.ParseEntry.{input_at};
+ghost use Rattle.aig_reader.specs.ParseEntry.{parse_input_entry};
 ghost use Rattle.aig_reader.specs.Faults.{OnLine};
 ghost use Rattle.aig_ordering.specs.Lists.{variable_of};
 ghost use Rattle.aig_reader.specs.Variables.{AreDefined, HasRoom, kind_by};
@@ -21,7 +21,7 @@ fn input_line<F: ByteFeed>(f: &mut F, variables: &mut Variables) -> Result<usize
         → Makes OnLine (λ id literal. (id ≡ variable_of literal)
         × AreDefined greatest variables.new (before ++ literal ∷ []))
         (F.coming f.old) (F.coming f.new) result
-        (input_at (kind_by variables.old) greatest before) }
+        (parse_input_entry (kind_by variables.old) greatest before) }
     ensures room { IfOk result
         (λ _. (size k : ℕ) → HasRoom size variables.old (k + 1) → HasRoom size variables.new k) }
     ensures kind { kind_by variables.new ≡ kind_by variables.old }
@@ -45,7 +45,7 @@ pub fn read_inputs<F: ByteFeed>(
         → Makes OnLine (λ inputs literals. (inputs.items ≡ map variable_of literals)
         × AreDefined header.greatest variables.new literals)
         (F.coming f.old) (F.coming f.new) result
-        (fitting_inputs_at (kind_by variables.old) (numbers_of header)) }
+        (parse_fitting_inputs (kind_by variables.old) (numbers_of header)) }
     ensures count { IfOk result (λ inputs. vec_len inputs ≡ header.inputs) }
     ensures room { IfOk result (λ _. (size k : ℕ) → HasRoom size variables.old (k + header.inputs)
         → HasRoom size variables.new k) }

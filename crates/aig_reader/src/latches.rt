@@ -1,12 +1,12 @@
 //! Latches, a line each.
 
 ghost use Rattle.std.specs.Prelude.{◌≡◌, ℕ, ◌+◌, ◌^◌, ◌<◌, ◌≤◌, List, Option, [], ◌∷◌, ◌++◌, map, length, true, vec_len, IfErr, IfOk, IsErrOf};
-ghost use Rattle.aig_parsing.specs.ParseTested.{fitting_latches_at, is_reset};
+ghost use Rattle.aig_parsing.specs.ParseTested.{parse_fitting_latches, is_reset};
 ghost use Rattle.aig_format.specs.Circuit.{initial_of};
 ghost use Rattle.aig_format.specs.File.{LatchLine};
 ghost use Rattle.aig_lexer.specs.Header.{numbers_of};
 ghost use Rattle.aig_lexer.specs.Takes.{Makes};
-ghost use Rattle.aig_reader.specs.ParseEntry.{latch_at};
+ghost use Rattle.aig_reader.specs.ParseEntry.{parse_latch_entry};
 ghost use Rattle.aig_reader.specs.Faults.{OnLine};
 ghost use Rattle.aig_ordering.specs.Lists.{latch_from};
 ghost use Rattle.aig_reader.specs.Variables.{AreDefined, HasRoom, Tested, kind_by};
@@ -48,7 +48,7 @@ fn latch_line<F: ByteFeed>(
         × AreDefined greatest variables.new
         ((inputs ++ map (λ l. l.literal) before) ++ line.literal ∷ []))
         (F.coming f.old) (F.coming f.new) result
-        (latch_at (kind_by variables.old) greatest inputs before) }
+        (parse_latch_entry (kind_by variables.old) greatest inputs before) }
     ensures room { IfOk result
         (λ _. (size k : ℕ) → HasRoom size variables.old (k + 1) → HasRoom size variables.new k) }
     ensures kind { kind_by variables.new ≡ kind_by variables.old }
@@ -77,7 +77,7 @@ pub fn read_latches<F: ByteFeed>(
         → Makes OnLine (λ latchs lines. (latchs.items ≡ map latch_from lines)
         × AreDefined header.greatest variables.new (inputs ++ map (λ l. l.literal) lines))
         (F.coming f.old) (F.coming f.new) result
-        (fitting_latches_at (kind_by variables.old) (numbers_of header) inputs) }
+        (parse_fitting_latches (kind_by variables.old) (numbers_of header) inputs) }
     ensures count { IfOk result (λ latchs. vec_len latchs ≡ header.latches) }
     ensures room { IfOk result (λ _. (size k : ℕ) → HasRoom size variables.old (k + header.latches)
         → HasRoom size variables.new k) }

@@ -1,7 +1,7 @@
 //! The lines of the sections, with each variable as its own number.
 
 ghost use Rattle.std.specs.Prelude.{◌≡◌, ◌+◌, ◌^◌, ◌<◌, ◌≤◌, ◌==◌, true, IfErr, IsErrOf};
-ghost use Rattle.aig_parsing.specs.ParseTested.{section_lines_at};
+ghost use Rattle.aig_parsing.specs.ParseTested.{parse_section_lines};
 ghost use Rattle.aig_parsing.specs.Parse.{is_good};
 ghost use Rattle.aig_lexer.specs.Header.{numbers_of};
 ghost use Rattle.aig_lexer.specs.Takes.{Makes};
@@ -49,7 +49,7 @@ pub fn read_lines<F: ByteFeed>(alloc: Global, f: &mut F, header: Header) -> Resu
     requires enough { header.inputs + header.latches + header.gates ≤ header.greatest }
     ensures exact { Makes OnRefusal (λ lines x. AreLinesOf (file_by header x) lines)
         (F.coming f.old) (F.coming f.new) result
-        (section_lines_at header.kind (numbers_of header)) }
+        (parse_section_lines header.kind (numbers_of header)) }
     ensures fault { IfErr result IsSectionFault }
     ensures stream { IsErrOf result ReadError.Stream → F.failed f.new ≡ true }
     ensures same { F.behind f.new ≡ F.behind f.old }

@@ -5,7 +5,7 @@ ghost use Rattle.std.specs.Io.KnownBytes.{IsAtEnd};
 ghost use Rattle.std.specs.Str.{is_utf8};
 ghost use Rattle.aig_circuit.specs.Circuit.{latch_leaves};
 ghost use Rattle.aig_circuit.specs.View.{names_of};
-ghost use Rattle.aig_parsing.specs.Parse.{tested_at, text_at};
+ghost use Rattle.aig_parsing.specs.Parse.{parse_if, parse_text};
 ghost use Rattle.aig_lexer.specs.Header.{numbers_of};
 ghost use Rattle.aig_lexer.specs.Takes.{Makes};
 ghost use Rattle.aig_reader.specs.NameFaults.{OnName};
@@ -67,7 +67,7 @@ fn read_name<F: ByteFeed>(
     ensures exact { Makes OnName
         (λ _ name. names_of names.new.entries ≡ with_name node name (names_of names.old.entries))
         (F.coming f.old) (F.coming f.new) result
-        (tested_at text_at (λ name. not (is_some node) || is_utf8 name)) }
+        (parse_if parse_text (λ name. not (is_some node) || is_utf8 name)) }
     ensures stream { IsErrOf result NameError.Stream → F.failed f.new ≡ true }
     ensures same { F.behind f.new ≡ F.behind f.old }
     ensures fewer { OnOk result (F.turns f.new < F.turns f.old) }

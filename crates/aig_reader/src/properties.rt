@@ -1,7 +1,7 @@
 //! The sections between the latches and the gates.
 
 ghost use Rattle.std.specs.Prelude.{◌≡◌, true, IfErr, IsErrOf};
-ghost use Rattle.aig_parsing.specs.ParseTested.{fitting_properties_at};
+ghost use Rattle.aig_parsing.specs.ParseTested.{parse_fitting_properties};
 ghost use Rattle.aig_lexer.specs.Header.{numbers_of};
 ghost use Rattle.aig_lexer.specs.Takes.{Makes};
 ghost use Rattle.aig_reader.specs.Faults.{IsSectionFault, OnRefusal};
@@ -36,7 +36,7 @@ pub fn read_properties<F: ByteFeed>(
     header: Header,
 ) -> Result<Properties, ReadError>
     ensures exact { Makes OnRefusal ArePropertiesOf
-        (F.coming f.old) (F.coming f.new) result (fitting_properties_at (numbers_of header)) }
+        (F.coming f.old) (F.coming f.new) result (parse_fitting_properties (numbers_of header)) }
     ensures fault { IfErr result IsSectionFault }
     ensures stream { IsErrOf result ReadError.Stream → F.failed f.new ≡ true }
     ensures same { F.behind f.new ≡ F.behind f.old }

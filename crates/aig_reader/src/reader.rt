@@ -2,7 +2,7 @@
 
 ghost use Rattle.std.specs.Prelude.{◌≡◌, ◌+◌, ◌^◌, ◌<◌, ◌≤◌, true, false, IfErr, IfOk, IfSome, IsErrOf, IsTrue, OnOk, vec_len};
 ghost use Rattle.std.specs.Io.KnownBytes.{IsAtEnd};
-ghost use Rattle.aig_parsing.specs.ParseTested.{fitting_sections_at};
+ghost use Rattle.aig_parsing.specs.ParseTested.{parse_fitting_sections};
 ghost use Rattle.aig_parsing.specs.Parse.{is_good};
 ghost use Rattle.aig_format.specs.Fits.{Accepts};
 ghost use Rattle.aig_lexer.specs.Header.{numbers_of};
@@ -77,7 +77,7 @@ fn read_sections<F: ByteFeed>(
     requires enough { header.inputs + header.latches + header.gates ≤ header.greatest }
     ensures exact { Makes OnRefusal (λ sections x. IsCircuitOf (file_by header x) sections)
         (F.coming f.old) (F.coming f.new) result
-        (fitting_sections_at header.kind (numbers_of header)) }
+        (parse_fitting_sections header.kind (numbers_of header)) }
     ensures inputs { IfOk result (λ sections. vec_len sections.lists.inputs ≡ header.inputs) }
     ensures latchs { IfOk result (λ sections. vec_len sections.lists.latchs ≡ header.latches) }
     ensures fault { IfErr result IsSectionFault }

@@ -7,7 +7,7 @@ ghost use Rattle.aig_lexer.specs.Takes.{Gives};
 ghost use Rattle.aig_format.specs.File.{File, defined};
 ghost use Rattle.aig_ordering.specs.Tables.{AreKnownOf};
 ghost use Rattle.aig_reader.specs.Bits.{bit_told};
-ghost use Rattle.aig_reader.specs.ParseEntry.{may_define, own_at};
+ghost use Rattle.aig_reader.specs.ParseEntry.{may_define, parse_own};
 ghost use Rattle.aig_reader.specs.Variables.{AreDefined, AreMarks, HasRoom, IsLiteralFault, IsNewAmong, IsNext, IsOwn, Tested, is_marked, kind_by};
 
 use crate::bits::{has_bit, set_bit};
@@ -111,7 +111,7 @@ impl Variables {
         requires { (size : ℕ) × (size ≤ 2 ^ 31) × HasRoom size self.now 1 }
         ensures exact { (greatest : ℕ) (before : List ℕ) → AreDefined greatest self.now before
             → Gives OnShape (λ e. e)
-            (F.coming f.old) (F.coming f.new) result (own_at (kind_by self.now) end before) }
+            (F.coming f.old) (F.coming f.new) result (parse_own (kind_by self.now) end before) }
         ensures next { IfOk result (λ e. IsNext self.now e) }
         ensures stream { IsErrOf result LexError.Stream → F.failed f.new ≡ true }
         ensures same { F.behind f.new ≡ F.behind f.old }

@@ -3,8 +3,8 @@ use Rattle.std.proofs.Common.{◌≡◌, [], ◌∷◌, None, Some, refl}
 use Rattle.std.specs.Prelude.{codes}
 use Rattle.std.specs.Fmt.{digits}
 use Rattle.aig_base.specs.declared.logic.three.Lbool.TheVariants.{FALSE, TRUE, NONE}
-use Rattle.aig_parsing.specs.Parse.{digits_at, ended_at, number_at}
-use Rattle.aig_witness.specs.Reading.{next_at, row_behind, steps_behind}
+use Rattle.aig_parsing.specs.Parse.{parse_digits, parse_ended, parse_number}
+use Rattle.aig_witness.specs.Reading.{parse_next, row_behind, steps_behind}
 use Rattle.aig_witness.specs.Witness.{Witness, witness_text}
 
 -- bad 10, two latches, one input, two steps
@@ -19,31 +19,31 @@ spelled : witness_text small ≡ codes "1\nb10\n0x\n1\nx\n.\n"
 unfolding witness_text digits
 spelled = refl
 
-again : next_at (codes "1\nb10\n0x\n1\nx\n.\n") ≡ Some (Some small, [])
-unfolding next_at row_behind steps_behind ended_at number_at digits_at
+again : parse_next (codes "1\nb10\n0x\n1\nx\n.\n") ≡ Some (Some small, [])
+unfolding parse_next row_behind steps_behind parse_ended parse_number parse_digits
 again = refl
 
 -- lines without values
-bare-read : next_at (codes "1\nb0\n\n\n.\n") ≡ Some (Some bare, [])
-unfolding next_at row_behind steps_behind ended_at number_at digits_at
+bare-read : parse_next (codes "1\nb0\n\n\n.\n") ≡ Some (Some bare, [])
+unfolding parse_next row_behind steps_behind parse_ended parse_number parse_digits
 bare-read = refl
 
 -- comments, and another witness behind the first
-second-left : next_at (codes "c first\nc\n1\nb0\n\n\n.\nc second\n1\nb10\n0x\n1\nx\n.\n") ≡ Some (Some bare, codes "c second\n1\nb10\n0x\n1\nx\n.\n")
-unfolding next_at row_behind steps_behind ended_at number_at digits_at
+second-left : parse_next (codes "c first\nc\n1\nb0\n\n\n.\nc second\n1\nb10\n0x\n1\nx\n.\n") ≡ Some (Some bare, codes "c second\n1\nb10\n0x\n1\nx\n.\n")
+unfolding parse_next row_behind steps_behind parse_ended parse_number parse_digits
 second-left = refl
 
 -- comments alone, of which the last is ended by the stream
-comments-alone : next_at (codes "c one\nc two") ≡ Some (None, [])
-unfolding next_at
+comments-alone : parse_next (codes "c one\nc two") ≡ Some (None, [])
+unfolding parse_next
 comments-alone = refl
 
 -- a cut line, a line without its end, no point, and a point without its line's end
-cut : (next_at (codes "1\nb0\n0\n1") ≡ None) × (next_at (codes "1\nb0") ≡ None) × (next_at (codes "1\nb0\n0\n1\n") ≡ None) × (next_at (codes "1\nb0\n0\n1\n.") ≡ None)
-unfolding next_at row_behind steps_behind ended_at number_at digits_at
+cut : (parse_next (codes "1\nb0\n0\n1") ≡ None) × (parse_next (codes "1\nb0") ≡ None) × (parse_next (codes "1\nb0\n0\n1\n") ≡ None) × (parse_next (codes "1\nb0\n0\n1\n.") ≡ None)
+unfolding parse_next row_behind steps_behind parse_ended parse_number parse_digits
 cut = (refl, refl, refl, refl)
 
 -- other statuses, a justice property, two properties, and another letter
-others : (next_at (codes "0\nb0\n.\n") ≡ None) × (next_at (codes "2\nb0\n.\n") ≡ None) × (next_at (codes "1\nj0\n0\n.\n") ≡ None) × (next_at (codes "1\nb0b1\n0\n.\n") ≡ None) × (next_at (codes "1\nb0\n02\n.\n") ≡ None)
-unfolding next_at row_behind steps_behind ended_at number_at digits_at
+others : (parse_next (codes "0\nb0\n.\n") ≡ None) × (parse_next (codes "2\nb0\n.\n") ≡ None) × (parse_next (codes "1\nj0\n0\n.\n") ≡ None) × (parse_next (codes "1\nb0b1\n0\n.\n") ≡ None) × (parse_next (codes "1\nb0\n02\n.\n") ≡ None)
+unfolding parse_next row_behind steps_behind parse_ended parse_number parse_digits
 others = (refl, refl, refl, refl, refl)

@@ -7,15 +7,15 @@ use Rattle.std.proofs.lemmas.List.{map-append}
 use Rattle.std.proofs.KnownBytes.{Consumes-trans}
 use Rattle.std.specs.Io.KnownBytes.{Consumes, IsAtEnd}
 use Rattle.aig_base.specs.declared.logic.three.Lbool.{Lbool}
-use Rattle.aig_parsing.specs.Parse.{◌>>=◌, ended_at, mapped_at, strip}
+use Rattle.aig_parsing.specs.Parse.{◌>>=◌, parse_ended, parse_map, strip}
 use Rattle.aig_lexer.specs.Takes.{Gives}
-use Rattle.aig_lexer.specs.Words.{expect_at}
+use Rattle.aig_lexer.specs.Words.{parse_expected}
 use Rattle.aig_lexer.proofs.Taking.{misses_mapped, takes_mapped}
 use Rattle.aig_lexer.proofs.Going.{GoesOn, goes_call, goes_done, goes_wrong}
 use Rattle.aig_witness.specs.declared.error.WitnessError.{WitnessError}
 use Rattle.aig_witness.specs.declared.error.WitnessError.TheVariants.{Memory, Stream, Status, Property, Values}
 use Rattle.aig_witness.specs.Faults.{Ends, OnWitness}
-use Rattle.aig_witness.specs.Reading.{behind_comments, first_at, next_at, parts_at, point_behind, property_at, row_behind, steps_behind, value_of_letter, witness_at, witness_from}
+use Rattle.aig_witness.specs.Reading.{behind_comments, parse_first, parse_next, parse_parts, point_behind, parse_property, row_behind, steps_behind, value_of_letter, parse_witness, witness_from}
 use Rattle.aig_witness.specs.declared.witness.Witness as lists
 use Rattle.aig_witness.specs.Witness.{Witness, parts_of, rows_of, said_by}
 
@@ -115,7 +115,7 @@ abbrev rest_of : ℕ × List ℕ → Option (List ℕ)
 rest_of x = Some x.1
 
 -- a line feed, read as a byte
-line_feed : (bs : List ℕ) → strip (10 ∷ []) bs ≡ (expect_at 10 bs >>= rest_of)
+line_feed : (bs : List ℕ) → strip (10 ∷ []) bs ≡ (parse_expected 10 bs >>= rest_of)
 line_feed [] = refl
 line_feed (b ∷ bs) = go (eqb 10 b)
   where
@@ -123,10 +123,10 @@ line_feed (b ∷ bs) = go (eqb 10 b)
     go true = refl
     go false = refl
 
-pub point_ends : (steps : List (List Lbool)) (bs rest : List ℕ) → expect_at 10 bs ≡ Some (10, rest) → point_behind steps [] bs ≡ Some (steps, rest)
+pub point_ends : (steps : List (List Lbool)) (bs rest : List ℕ) → parse_expected 10 bs ≡ Some (10, rest) → point_behind steps [] bs ≡ Some (steps, rest)
 point_ends steps bs rest is = ap (λ o. o >>= λ r. Some (steps, r)) (line_feed bs ∙ ap (λ o. o >>= rest_of) is)
 
-pub point_wrong : (steps : List (List Lbool)) (bs : List ℕ) → expect_at 10 bs ≡ None → point_behind steps [] bs ≡ None
+pub point_wrong : (steps : List (List Lbool)) (bs : List ℕ) → parse_expected 10 bs ≡ None → point_behind steps [] bs ≡ None
 point_wrong steps bs is = ap (λ o. o >>= λ r. Some (steps, r)) (line_feed bs ∙ ap (λ o. o >>= rest_of) is)
 
 -- another byte than this one
@@ -139,35 +139,35 @@ rows_more lists list = map-append (λ (l : Vec Lbool Global). l.items) lists (li
 
 -- ---- the property
 
-pub property_begins : (b : ℕ) → b ≡ 98 → (bs : List ℕ) → property_at (b ∷ bs) ≡ ended_at 10 bs
-property_begins b is bs = subst (λ k. property_at (k ∷ bs) ≡ ended_at 10 bs) (sym is) refl
+pub property_begins : (b : ℕ) → b ≡ 98 → (bs : List ℕ) → parse_property (b ∷ bs) ≡ parse_ended 10 bs
+property_begins b is bs = subst (λ k. parse_property (k ∷ bs) ≡ parse_ended 10 bs) (sym is) refl
 
-pub property_wrong : (b : ℕ) → b ≢ 98 → (bs : List ℕ) → property_at (b ∷ bs) ≡ None
+pub property_wrong : (b : ℕ) → b ≢ 98 → (bs : List ℕ) → parse_property (b ∷ bs) ≡ None
 property_wrong b ne bs = rw (other 98 b ne) refl
 
 -- ---- the status line
 
-pub status_wrong : (first : ℕ) → first ≢ 49 → (bs : List ℕ) → witness_at (first ∷ bs) ≡ None
+pub status_wrong : (first : ℕ) → first ≢ 49 → (bs : List ℕ) → parse_witness (first ∷ bs) ≡ None
 status_wrong first ne bs = rw (other 49 first ne) refl
 
 module _ (first : ℕ) (one : first ≡ 49) where
-  status_is : (bs : List ℕ) → witness_at (first ∷ bs) ≡ (strip (10 ∷ []) bs >>= mapped_at witness_from parts_at)
-  status_is bs = subst (λ k. witness_at (k ∷ bs) ≡ (strip (10 ∷ []) bs >>= mapped_at witness_from parts_at)) (sym one) refl
+  status_is : (bs : List ℕ) → parse_witness (first ∷ bs) ≡ (strip (10 ∷ []) bs >>= parse_map witness_from parse_parts)
+  status_is bs = subst (λ k. parse_witness (k ∷ bs) ≡ (strip (10 ∷ []) bs >>= parse_map witness_from parse_parts)) (sym one) refl
 
-  pub status_ends : (bs rest : List ℕ) → expect_at 10 bs ≡ Some (10, rest) → witness_at (first ∷ bs) ≡ mapped_at witness_from parts_at rest
-  status_ends bs rest is = status_is bs ∙ ap (λ o. o >>= mapped_at witness_from parts_at) (line_feed bs ∙ ap (λ o. o >>= rest_of) is)
+  pub status_ends : (bs rest : List ℕ) → parse_expected 10 bs ≡ Some (10, rest) → parse_witness (first ∷ bs) ≡ parse_map witness_from parse_parts rest
+  status_ends bs rest is = status_is bs ∙ ap (λ o. o >>= parse_map witness_from parse_parts) (line_feed bs ∙ ap (λ o. o >>= rest_of) is)
 
-  pub status_long : (bs : List ℕ) → expect_at 10 bs ≡ None → witness_at (first ∷ bs) ≡ None
-  status_long bs is = status_is bs ∙ ap (λ o. o >>= mapped_at witness_from parts_at) (line_feed bs ∙ ap (λ o. o >>= rest_of) is)
+  pub status_long : (bs : List ℕ) → parse_expected 10 bs ≡ None → parse_witness (first ∷ bs) ≡ None
+  status_long bs is = status_is bs ∙ ap (λ o. o >>= parse_map witness_from parse_parts) (line_feed bs ∙ ap (λ o. o >>= rest_of) is)
 
 -- ---- comments
 
 -- the next witness, where a comment has begun or not
 abbrev pub next_from : Bool → List ℕ → Option (Option Witness × List ℕ)
-next_from inside bs = first_at (behind_comments inside bs)
+next_from inside bs = parse_first (behind_comments inside bs)
 
-pub next_starts : (bs : List ℕ) → next_at bs ≡ next_from false bs
-unfolding next_at
+pub next_starts : (bs : List ℕ) → parse_next bs ≡ next_from false bs
+unfolding parse_next
 next_starts bs = refl
 
 pub comment_begins : (b : ℕ) → b ≡ 99 → (bs : List ℕ) → next_from false (b ∷ bs) ≡ next_from true bs
@@ -177,17 +177,17 @@ abbrev there : Witness × List ℕ → Option (Option Witness × List ℕ)
 there x = Some (Some x.0, x.1)
 
 -- a witness, where no comment begins
-pub witness_begins : (b : ℕ) → b ≢ 99 → (bs : List ℕ) → next_from false (b ∷ bs) ≡ (witness_at (b ∷ bs) >>= there)
+pub witness_begins : (b : ℕ) → b ≢ 99 → (bs : List ℕ) → next_from false (b ∷ bs) ≡ (parse_witness (b ∷ bs) >>= there)
 witness_begins b ne bs = rw (ne_eqb b 99 ne) refl
 
-pub witness_found : (b : ℕ) → b ≢ 99 → (w : Witness) (bs rest : List ℕ) → witness_at (b ∷ bs) ≡ Some (w, rest) → next_from false (b ∷ bs) ≡ Some (Some w, rest)
+pub witness_found : (b : ℕ) → b ≢ 99 → (w : Witness) (bs rest : List ℕ) → parse_witness (b ∷ bs) ≡ Some (w, rest) → next_from false (b ∷ bs) ≡ Some (Some w, rest)
 witness_found b ne w bs rest is = witness_begins b ne bs ∙ ap (λ o. o >>= there) is
 
-pub witness_missed : (b : ℕ) → b ≢ 99 → (bs : List ℕ) → witness_at (b ∷ bs) ≡ None → next_from false (b ∷ bs) ≡ None
+pub witness_missed : (b : ℕ) → b ≢ 99 → (bs : List ℕ) → parse_witness (b ∷ bs) ≡ None → next_from false (b ∷ bs) ≡ None
 witness_missed b ne bs is = witness_begins b ne bs ∙ ap (λ o. o >>= there) is
 
 -- no byte came: there is no witness
-pub nothing_left : (inside : Bool) (before now after : Option (List ℕ)) (o : Option ℕ) → GoesOn next_at before (next_from inside) now → Consumes now after (option_to_list o) → o ≡ None → IsAtEnd after → Ends before after
+pub nothing_left : (inside : Bool) (before now after : Option (List ℕ)) (o : Option ℕ) → GoesOn parse_next before (next_from inside) now → Consumes now after (option_to_list o) → o ≡ None → IsAtEnd after → Ends before after
 nothing_left inside before now after o h c is end =
     let none : Consumes now after [] = subst (λ (m : Option ℕ). Consumes now after (option_to_list m)) is c in
     record {
@@ -203,6 +203,6 @@ nothing_left inside before now after o h c is end =
 
 -- ---- the parts, as a witness
 
-pub seen_as_witness : (mid after : Option (List ℕ)) (r : Result lists.Witness WitnessError) → Gives OnWitness parts_of mid after r parts_at → Gives OnWitness said_by mid after r (mapped_at witness_from parts_at)
-seen_as_witness mid after (Ok w) h = takes_mapped witness_from parts_at mid after (parts_of w) h
-seen_as_witness mid after (Err e) h = on_witness-weaker e _ _ (misses_mapped witness_from parts_at mid) h
+pub seen_as_witness : (mid after : Option (List ℕ)) (r : Result lists.Witness WitnessError) → Gives OnWitness parts_of mid after r parse_parts → Gives OnWitness said_by mid after r (parse_map witness_from parse_parts)
+seen_as_witness mid after (Ok w) h = takes_mapped witness_from parse_parts mid after (parts_of w) h
+seen_as_witness mid after (Err e) h = on_witness-weaker e _ _ (misses_mapped witness_from parse_parts mid) h

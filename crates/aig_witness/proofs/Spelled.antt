@@ -9,12 +9,12 @@ use Rattle.aig_base.specs.declared.logic.three.Lbool.{Lbool}
 use Rattle.aig_base.specs.declared.logic.three.Lbool.TheVariants.{FALSE, TRUE, NONE}
 use Rattle.aig_format.specs.Text.{◌then◌, Each, Ended, IsDigit, Just}
 use Rattle.aig_format.proofs.Entries.{chosen}
-use Rattle.aig_parsing.specs.Parse.{◌>>=◌, both_at, ended_at, mapped_at, strip}
+use Rattle.aig_parsing.specs.Parse.{◌>>=◌, parse_both, parse_ended, parse_map, strip}
 use Rattle.aig_parsing.proofs.Numbers.{bind_some}
 use Rattle.aig_parsing.proofs.Joined.{Reads, Reads-both, Reads-ended, Reads-mapped}
 use Rattle.aig_parsing.proofs.Sections.{Reads-behind}
 use Rattle.aig_parsing.proofs.Printed.{number_written}
-use Rattle.aig_witness.specs.Reading.{behind_comments, first_at, next_at, parts_at, point_behind, property_at, row_behind, steps_behind, value_of_letter, witness_at, witness_from}
+use Rattle.aig_witness.specs.Reading.{behind_comments, parse_first, parse_next, parse_parts, point_behind, parse_property, row_behind, steps_behind, value_of_letter, parse_witness, witness_from}
 use Rattle.aig_witness.specs.Witness.{SpellsWitness, Witness, letter_of, row_text, witness_text}
 
 -- ---- letters
@@ -180,38 +180,38 @@ PartsText x = (Just (98 ∷ []) then Ended 10 x.0) then Just (row_text x.1.0) th
 no_digit : IsDigit 10 → ⊥
 no_digit h = omega arith
 
-Reads-parts : Reads PartsText parts_at
+Reads-parts : Reads PartsText parse_parts
 Reads-parts =
-    Reads-both (λ n. Just (98 ∷ []) then Ended 10 n) (λ _ y. Just (row_text y.0) then Lines y.1 then Just (46 ∷ 10 ∷ [])) property_at (λ _. both_at (row_behind []) (λ _. steps_behind [] []))
-    (Reads-behind (98 ∷ []) (Ended 10) (ended_at 10) (Reads-ended 10 no_digit))
+    Reads-both (λ n. Just (98 ∷ []) then Ended 10 n) (λ _ y. Just (row_text y.0) then Lines y.1 then Just (46 ∷ 10 ∷ [])) parse_property (λ _. parse_both (row_behind []) (λ _. steps_behind [] []))
+    (Reads-behind (98 ∷ []) (Ended 10) (parse_ended 10) (Reads-ended 10 no_digit))
     (λ _. Reads-both (λ row. Just (row_text row)) (λ _ steps. Lines steps then Just (46 ∷ 10 ∷ [])) (row_behind []) (λ _. steps_behind [] []) Reads-row (λ _. Reads-steps))
 
 abbrev parts : Witness → ℕ × (List Lbool × List (List Lbool))
 parts w = (w.bad, (w.state, w.steps))
 
-pub Reads-witness : Reads SpellsWitness witness_at
+pub Reads-witness : Reads SpellsWitness parse_witness
 Reads-witness =
-    Reads-behind (49 ∷ 10 ∷ []) (λ w. PartsText (parts w)) (mapped_at witness_from parts_at)
-    (Reads-mapped PartsText (λ w. PartsText (parts w)) parts_at witness_from parts Reads-parts (λ x bytes h. h) (λ w bytes h. h) (λ w. refl))
+    Reads-behind (49 ∷ 10 ∷ []) (λ w. PartsText (parts w)) (parse_map witness_from parse_parts)
+    (Reads-mapped PartsText (λ w. PartsText (parts w)) parse_parts witness_from parts Reads-parts (λ x bytes h. h) (λ w bytes h. h) (λ w. refl))
 
 -- where a witness is read, no comment stands
-pub next_is : (bytes rest : List ℕ) (w : Witness) → witness_at bytes ≡ Some (w, rest) → next_at bytes ≡ Some (Some w, rest)
-unfolding next_at
+pub next_is : (bytes rest : List ℕ) (w : Witness) → parse_witness bytes ≡ Some (w, rest) → parse_next bytes ≡ Some (Some w, rest)
+unfolding parse_next
 next_is [] rest w h = absurd cc
 next_is (b ∷ bs) rest w h =
-    let found = bind_some (cond (eqb 49 b) (strip (10 ∷ []) bs) None) (mapped_at witness_from parts_at) (w, rest) h in
+    let found = bind_some (cond (eqb 49 b) (strip (10 ∷ []) bs) None) (parse_map witness_from parse_parts) (w, rest) h in
     elim (chosen (eqb 49 b) (strip (10 ∷ []) bs) None (Some found.0) found.1) [
       | inl one ↦
           let same : 49 ≡ b = eqb-true 49 b one.0 in
-          subst (λ k. witness_at (k ∷ bs) ≡ Some (w, rest) → first_at (behind_comments false (k ∷ bs)) ≡ Some (Some w, rest)) same
-          (λ (is : witness_at (49 ∷ bs) ≡ Some (w, rest)). ap (λ o. o >>= λ x. Some (Some x.0, x.1)) is) h
+          subst (λ k. parse_witness (k ∷ bs) ≡ Some (w, rest) → parse_first (behind_comments false (k ∷ bs)) ≡ Some (Some w, rest)) same
+          (λ (is : parse_witness (49 ∷ bs) ≡ Some (w, rest)). ap (λ o. o >>= λ x. Some (Some x.0, x.1)) is) h
       | inr other ↦ absurd (nothing found.0 other.1)
     ]
   where
     nothing : (rest : List ℕ) → None ≡ Some rest → ⊥
     nothing rest h = cc
 
-pub spelled_next : (front rest : List ℕ) (w : Witness) → SpellsWitness w front → next_at (front ++ rest) ≡ Some (Some w, rest)
+pub spelled_next : (front rest : List ℕ) (w : Witness) → SpellsWitness w front → parse_next (front ++ rest) ≡ Some (Some w, rest)
 spelled_next front rest w h = next_is (front ++ rest) rest w (Reads-witness.complete w front rest h)
 
 pub written_spelled : (w : Witness) → w.bad < 2 ^ 32 → SpellsWitness w (witness_text w)

@@ -3,7 +3,7 @@
 use Rattle.std.specs.Prelude.{ℕ, Bool, true, false, not, ◌==◌, if◌then◌else◌, List, [], ◌∷◌, ◌++◌, codes, Option, Some, None}
 use Rattle.aig_base.specs.declared.logic.three.Lbool.{Lbool}
 use Rattle.aig_base.specs.declared.logic.three.Lbool.TheVariants.{FALSE, TRUE, NONE}
-use Rattle.aig_parsing.specs.Parse.{◌>>=◌, both_at, ended_at, mapped_at, strip}
+use Rattle.aig_parsing.specs.Parse.{◌>>=◌, parse_both, parse_ended, parse_map, strip}
 use Rattle.aig_witness.specs.Witness.{Witness}
 
 -- the value of a letter
@@ -29,20 +29,20 @@ steps_behind steps row (b ∷ bs) =
     else (value_of_letter b >>= λ v. steps_behind steps (row ++ v ∷ []) bs)
 
 -- the line of a bad state property
-abbrev pub property_at : List ℕ → Option (ℕ × List ℕ)
-property_at bytes = strip (98 ∷ []) bytes >>= ended_at 10
+abbrev pub parse_property : List ℕ → Option (ℕ × List ℕ)
+parse_property bytes = strip (98 ∷ []) bytes >>= parse_ended 10
 
 -- the property, the state and the steps
-abbrev pub parts_at : List ℕ → Option ((ℕ × (List Lbool × List (List Lbool))) × List ℕ)
-parts_at = both_at property_at (λ _. both_at (row_behind []) (λ _. steps_behind [] []))
+abbrev pub parse_parts : List ℕ → Option ((ℕ × (List Lbool × List (List Lbool))) × List ℕ)
+parse_parts = parse_both parse_property (λ _. parse_both (row_behind []) (λ _. steps_behind [] []))
 
 -- the witness of these parts
 abbrev pub witness_from : ℕ × (List Lbool × List (List Lbool)) → Witness
 witness_from x = record { bad = x.0; state = x.1.0; steps = x.1.1 }
 
 -- a witness
-abbrev pub witness_at : List ℕ → Option (Witness × List ℕ)
-witness_at bytes = strip (codes "1\n") bytes >>= mapped_at witness_from parts_at
+abbrev pub parse_witness : List ℕ → Option (Witness × List ℕ)
+parse_witness bytes = strip (codes "1\n") bytes >>= parse_map witness_from parse_parts
 
 -- the bytes behind comments, each of which begins with `c` and ends with its line; the first may have begun before
 abbrev pub behind_comments : Bool → List ℕ → List ℕ
@@ -51,10 +51,10 @@ behind_comments true (b ∷ bs) = behind_comments (not (b == 10)) bs
 behind_comments false (b ∷ bs) = if b == 99 then behind_comments true bs else b ∷ bs
 
 -- a witness, or none at the end
-abbrev pub first_at : List ℕ → Option (Option Witness × List ℕ)
-first_at [] = Some (None, [])
-first_at (b ∷ bs) = witness_at (b ∷ bs) >>= λ x. Some (Some x.0, x.1)
+abbrev pub parse_first : List ℕ → Option (Option Witness × List ℕ)
+parse_first [] = Some (None, [])
+parse_first (b ∷ bs) = parse_witness (b ∷ bs) >>= λ x. Some (Some x.0, x.1)
 
 -- the next witness behind comments, or none at the end
-unfoldable pub next_at : List ℕ → Option (Option Witness × List ℕ)
-next_at bytes = first_at (behind_comments false bytes)
+unfoldable pub parse_next : List ℕ → Option (Option Witness × List ℕ)
+parse_next bytes = parse_first (behind_comments false bytes)

@@ -1,22 +1,22 @@
 //! Laws of the text of witnesses.
 
 ghost use Rattle.std.specs.Prelude.{◌≡◌, ◌<◌, ◌^◌, ◌++◌, ℕ, List, Some};
-ghost use Rattle.aig_witness.specs.Reading.{next_at, witness_at};
+ghost use Rattle.aig_witness.specs.Reading.{parse_next, parse_witness};
 ghost use Rattle.aig_witness.specs.Witness.{SpellsWitness, Witness, witness_text};
 
 /// Law: what is read from the front is spelled so, what is spelled so is read, whatever follows it, and it is the next witness.
 pub fn witnesses_are_spelled()
-    ensures sound { (bytes rest : List ℕ) (w : Witness) → witness_at bytes ≡ Some (w, rest)
+    ensures sound { (bytes rest : List ℕ) (w : Witness) → parse_witness bytes ≡ Some (w, rest)
         → (front : List ℕ) × (bytes ≡ front ++ rest) × SpellsWitness w front }
     ensures complete { (front rest : List ℕ) (w : Witness) → SpellsWitness w front
-        → witness_at (front ++ rest) ≡ Some (w, rest) }
+        → parse_witness (front ++ rest) ≡ Some (w, rest) }
     ensures next { (front rest : List ℕ) (w : Witness) → SpellsWitness w front
-        → next_at (front ++ rest) ≡ Some (Some w, rest) }
+        → parse_next (front ++ rest) ≡ Some (Some w, rest) }
 {}
 
 /// Law: what is written of a witness spells it, and so is read again.
 pub fn witnesses_are_read()
     ensures spells { (w : Witness) → w.bad < 2 ^ 32 → SpellsWitness w (witness_text w) }
     ensures read { (w : Witness) (rest : List ℕ) → w.bad < 2 ^ 32
-        → next_at (witness_text w ++ rest) ≡ Some (Some w, rest) }
+        → parse_next (witness_text w ++ rest) ≡ Some (Some w, rest) }
 {}

@@ -2,9 +2,9 @@
 
 ghost use Rattle.std.specs.Prelude.{◌≡◌, ◌∷◌, ◌<◌, ◌≤◌, [], IfOk, IsErrOf, OnErr, OnOk, false, true};
 ghost use Rattle.aig_lexer.specs.Takes.{Gives, Misses, Takes};
-ghost use Rattle.aig_lexer.specs.Words.{expect_at};
+ghost use Rattle.aig_lexer.specs.Words.{parse_expected};
 ghost use Rattle.aig_witness.specs.Faults.{GivesNext, OnWitness};
-ghost use Rattle.aig_witness.specs.Reading.{parts_at, property_at, row_behind, steps_behind, value_of_letter, witness_at};
+ghost use Rattle.aig_witness.specs.Reading.{parse_parts, parse_property, row_behind, steps_behind, value_of_letter, parse_witness};
 ghost use Rattle.aig_witness.specs.Witness.{parts_of, rows_of, said_by};
 
 use crate::error::WitnessError;
@@ -64,8 +64,8 @@ fn read_state<F: ByteFeed>(alloc: Global, f: &mut F) -> Result<Vec<Lbool>, Witne
 /// Whether the next byte is a line feed, which is read.
 fn ends_line<F: ByteFeed>(f: &mut F) -> Result<bool, StreamFault>
     ensures takes { IfOk result (λ yes. yes ≡ true
-        → Takes (expect_at 10) (F.coming f.old) (F.coming f.new) 10) }
-    ensures misses { IfOk result (λ yes. yes ≡ false → Misses (expect_at 10) (F.coming f.old)) }
+        → Takes (parse_expected 10) (F.coming f.old) (F.coming f.new) 10) }
+    ensures misses { IfOk result (λ yes. yes ≡ false → Misses (parse_expected 10) (F.coming f.old)) }
     ensures stream { OnErr result (F.failed f.new ≡ true) }
     ensures same { F.behind f.new ≡ F.behind f.old }
 {
@@ -99,7 +99,7 @@ fn read_steps<F: ByteFeed>(alloc: Global, f: &mut F) -> Result<Vec<Vec<Lbool>>, 
 /// Reads the line of a bad state property: `b` and its number.
 fn read_property<F: ByteFeed>(f: &mut F) -> Result<u32, WitnessError>
     ensures exact { Gives OnWitness (λ bad. bad)
-        (F.coming f.old) (F.coming f.new) result property_at }
+        (F.coming f.old) (F.coming f.new) result parse_property }
     ensures stream { IsErrOf result WitnessError.Stream → F.failed f.new ≡ true }
     ensures same { F.behind f.new ≡ F.behind f.old }
 {
@@ -116,7 +116,7 @@ fn read_property<F: ByteFeed>(f: &mut F) -> Result<u32, WitnessError>
 /// Reads the lines behind the status line.
 fn read_parts<F: ByteFeed>(alloc: Global, f: &mut F) -> Result<Witness, WitnessError>
     ensures exact { Gives OnWitness parts_of
-        (F.coming f.old) (F.coming f.new) result parts_at }
+        (F.coming f.old) (F.coming f.new) result parse_parts }
     ensures stream { IsErrOf result WitnessError.Stream → F.failed f.new ≡ true }
     ensures same { F.behind f.new ≡ F.behind f.old }
 {
@@ -129,7 +129,7 @@ fn read_parts<F: ByteFeed>(alloc: Global, f: &mut F) -> Result<Witness, WitnessE
 /// Reads a witness whose first byte, which was read before, is `first`.
 fn read_behind<F: ByteFeed>(alloc: Global, f: &mut F, first: u8) -> Result<Witness, WitnessError>
     ensures exact { Gives OnWitness said_by
-        (F.coming f.old) (F.coming f.new) result (λ bs. witness_at (first ∷ bs)) }
+        (F.coming f.old) (F.coming f.new) result (λ bs. parse_witness (first ∷ bs)) }
     ensures stream { IsErrOf result WitnessError.Stream → F.failed f.new ≡ true }
     ensures same { F.behind f.new ≡ F.behind f.old }
 {

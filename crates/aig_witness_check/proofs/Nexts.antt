@@ -13,20 +13,20 @@ use Rattle.aig_reader.specs.declared.error.ReadError.{ReadError}
 use Rattle.aig_reader.specs.declared.error.ReadError.TheVariants as read
 use Rattle.aig_reader.specs.Reading.{AreListsOf, IsOfFile, ReadsExactly, UnlessInterrupted}
 use Rattle.aig_witness.specs.Faults.{Ends}
-use Rattle.aig_witness.specs.Reading.{next_at}
+use Rattle.aig_witness.specs.Reading.{parse_next}
 use Rattle.aig_witness.specs.Witness.{Witness}
 use Rattle.aig_witness_check.specs.declared.error.CheckError.{CheckError}
 use Rattle.aig_witness_check.specs.declared.file.Shown.{Shown}
 use Rattle.aig_witness_check.specs.Answers.{IsWrong}
 use Rattle.aig_witness_check.specs.Files.{FailsNext, HasNone, IsNext}
 
-pub takes_next : (before after : Option (List ℕ)) (w : Witness) → Takes next_at before after (Some w) → IsNext before w
+pub takes_next : (before after : Option (List ℕ)) (w : Witness) → Takes parse_next before after (Some w) → IsNext before w
 takes_next None after w h = tt
 takes_next (Some bytes) None w h = absurd h.consumed
-takes_next (Some bytes) (Some rest) w h = (rest, ap next_at h.consumed ∙ h.reads rest)
+takes_next (Some bytes) (Some rest) w h = (rest, ap parse_next h.consumed ∙ h.reads rest)
 
 pub ends_none : (before after : Option (List ℕ)) → Ends before after → HasNone before
-ends_none before after h = Consumes-whole before after h.taken (λ bytes. next_at bytes ≡ Some (None, [])) h.consumed h.whole h.none
+ends_none before after h = Consumes-whole before after h.taken (λ bytes. parse_next bytes ≡ Some (None, [])) h.consumed h.whole h.none
 
 -- a file that is refused
 pub refused : (limit : ℕ) (old : Option (List ℕ)) (e : ReadError) → IfSome old (λ bytes. UnlessInterrupted {T = CircuitLists} (Err e) (ReadsExactly AreListsOf limit (Err e) bytes))

@@ -8,7 +8,7 @@ use Rattle.aig_lexer.specs.Takes.{Misses}
 use Rattle.aig_reader.specs.Reading.{IsOfFile, UnlessInterrupted}
 use Rattle.aig_witness.specs.declared.witness.Witness as lists
 use Rattle.aig_witness.specs.Faults.{OnWitness}
-use Rattle.aig_witness.specs.Reading.{next_at}
+use Rattle.aig_witness.specs.Reading.{parse_next}
 use Rattle.aig_witness.specs.Witness.{Witness, said_by}
 use Rattle.aig_witness_check.specs.declared.error.CheckError.{CheckError}
 use Rattle.aig_witness_check.specs.declared.file.ShowError.{ShowError}
@@ -20,11 +20,11 @@ use Rattle.aig_witness_check.specs.Shown.{IsKnownWitness}
 
 -- where the bytes are known, the next witness in them is this one
 abbrev pub IsNext : Option (List ℕ) → Witness → Type 0
-IsNext text w = IfSome text (λ bytes. (rest : List ℕ) × (next_at bytes ≡ Some (Some w, rest)))
+IsNext text w = IfSome text (λ bytes. (rest : List ℕ) × (parse_next bytes ≡ Some (Some w, rest)))
 
 -- where the bytes are known, there is no witness in them, but comments alone
 abbrev pub HasNone : Option (List ℕ) → Type 0
-HasNone text = IfSome text (λ bytes. next_at bytes ≡ Some (None, []))
+HasNone text = IfSome text (λ bytes. parse_next bytes ≡ Some (None, []))
 
 -- the next witness of the text shows this bad state of the file's machine
 pub record ShowsNext (text : Option (List ℕ)) (f : File) (shown : Shown) : Type 0 where
@@ -45,7 +45,7 @@ pub record FailsNext (text : Option (List ℕ)) (f : File) (e : CheckError) : Ty
 abbrev pub GivesFirst : Option (List ℕ) → Result lists.Witness ShowError → Type 0
 GivesFirst text (Ok w) = IsNext text (said_by w)
 GivesFirst text (Err (errors.File e)) = ⊥
-GivesFirst text (Err (errors.Witness e)) = OnWitness e (Misses next_at text)
+GivesFirst text (Err (errors.Witness e)) = OnWitness e (Misses parse_next text)
 GivesFirst text (Err errors.NoWitness) = HasNone text
 GivesFirst text (Err (errors.Check e)) = ⊥
 
@@ -54,6 +54,6 @@ GivesFirst text (Err (errors.Check e)) = ⊥
 abbrev pub Answers : ℕ → Option (List ℕ) → Option (List ℕ) → Option (List ℕ) → Result Shown ShowError → Type 0
 Answers limit old new text (Ok shown) = IsOfFile (λ bytes. Accepts bytes limit) (ShowsNext text) old new shown
 Answers limit old new text (Err (errors.File e)) = IfSome old (λ bytes. UnlessInterrupted {T = Shown} (Err e) ((f : File) → ¬ Accepts bytes limit f))
-Answers limit old new text (Err (errors.Witness e)) = OnWitness e (Misses next_at text)
+Answers limit old new text (Err (errors.Witness e)) = OnWitness e (Misses parse_next text)
 Answers limit old new text (Err errors.NoWitness) = HasNone text
 Answers limit old new text (Err (errors.Check e)) = IsOfFile (λ bytes. Accepts bytes limit) (FailsNext text) old new e

@@ -4,7 +4,7 @@ use Rattle.std.specs.Prelude.{◌≡◌, ℕ, ◌+◌, Bool, false, IsTrue, List
 use Rattle.std.specs.Io.KnownBytes.{Appends, Consumes}
 use Rattle.aig_base.specs.declared.logic.literal.Lit.{Lit}
 use Rattle.aig_base.specs.Formula.{clauses_in}
-use Rattle.aig_dimacs.specs.Reading.{formula_at}
+use Rattle.aig_dimacs.specs.Reading.{parse_formula}
 use Rattle.aig_dimacs.specs.Text.{dimacs_of}
 use Rattle.aig_format.specs.Circuit.{circuit_of}
 use Rattle.aig_format.specs.File.{File}
@@ -60,7 +60,7 @@ pub record IsWindowText (form : Window) (f : File) (k : ℕ) (optimize : Bool) (
   pub further : List (List Lit)
   pub asks : AsksWindow form (circuit_of f) k optimize lists further
   pub exact : text ≡ dimacs_of (length lists) (clauses_in lists ++ further)
-  pub again : formula_at text ≡ Some (length lists, clauses_in lists ++ further)
+  pub again : parse_formula text ≡ Some (length lists, clauses_in lists ++ further)
 
 -- the text of a witness of k + 1 steps that shows a bad state of the file's machine
 pub record IsWitnessText (f : File) (k : ℕ) (text : List ℕ) : Type 0 where

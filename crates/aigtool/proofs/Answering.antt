@@ -3,7 +3,7 @@ use Rattle.std.proofs.Common.{◌≡◌, ℕ, Bool, Option, List, [], ◌++◌, 
 use Rattle.aig_circuit.specs.Circuit.{Circuit}
 use Rattle.aig_base.specs.Formula.{clauses_in}
 use Rattle.aig_dimacs.specs.Text.{IsFormula, dimacs_of}
-use Rattle.aig_dimacs.proofs.Reading.{formula_at-dimacs_of}
+use Rattle.aig_dimacs.proofs.Reading.{parse_formula-dimacs_of}
 use Rattle.aig_format.specs.Circuit.{binary_of, text_of}
 use Rattle.aig_format.specs.File.{File}
 use Rattle.aig_format.specs.Fits.{Accepts}
@@ -39,7 +39,7 @@ module _ (limit : ℕ) (old new : Option (List ℕ)) (Holds : List ℕ → Type 
       takes = f.holds;
       taken = f.taken;
       text = dimacs_of (length e.clauses) (clauses_in e.clauses ++ []);
-      answers = (e, f.means, record { exact = refl; again = formula_at-dimacs_of (length e.clauses) (clauses_in e.clauses ++ []) formula });
+      answers = (e, f.means, record { exact = refl; again = parse_formula-dimacs_of (length e.clauses) (clauses_in e.clauses ++ []) formula });
       holds = h;
     }
 
@@ -51,6 +51,6 @@ module _ (limit : ℕ) (old new : Option (List ℕ)) (Holds : List ℕ → Type 
       takes = f.holds;
       taken = f.taken;
       text = dimacs_of (length q.encoded.clauses) (clauses_in q.encoded.clauses ++ q.extra);
-      answers = (q, f.means, record { exact = refl; again = formula_at-dimacs_of (length q.encoded.clauses) (clauses_in q.encoded.clauses ++ q.extra) formula });
+      answers = (q, f.means, record { exact = refl; again = parse_formula-dimacs_of (length q.encoded.clauses) (clauses_in q.encoded.clauses ++ q.extra) formula });
       holds = h;
     }

@@ -3,7 +3,7 @@
 use Rattle.std.specs.Prelude.{◌≡◌, ◌≢◌, ℕ, ◌↔◌, ◌⊎◌, Bool, false, IsTrue, List, [], ◌++◌, length, Option, Some, None, Result, IsOk, IsErrOf, IfSome}
 use Rattle.std.specs.Io.KnownBytes.{Appends, Consumes, IsAtEnd}
 use Rattle.aig_base.specs.declared.logic.literal.Lit.{Lit}
-use Rattle.aig_dimacs.specs.Reading.{formula_at}
+use Rattle.aig_dimacs.specs.Reading.{parse_formula}
 use Rattle.aig_base.specs.Formula.{clauses_in}
 use Rattle.aig_dimacs.specs.Text.{dimacs_of}
 use Rattle.aig_format.specs.Circuit.{binary_of, circuit_of, text_of}
@@ -28,7 +28,7 @@ use Rattle.aigtool.specs.declared.tool.ToolError.TheVariants as errors
 -- the text of the variables' clauses and then further ones, from which a plain reader reads just these again
 pub record IsTextOf (lists : List (List (List Lit))) (further : List (List Lit)) (text : List ℕ) : Type 0 where
   pub exact : text ≡ dimacs_of (length lists) (clauses_in lists ++ further)
-  pub again : formula_at text ≡ Some (length lists, clauses_in lists ++ further)
+  pub again : parse_formula text ≡ Some (length lists, clauses_in lists ++ further)
 
 -- what the command puts into its writer for the file
 abbrev pub Answers : Command → File → List ℕ → Type 0

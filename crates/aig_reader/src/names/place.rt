@@ -2,13 +2,13 @@
 
 ghost use Rattle.std.specs.Prelude.{◌≡◌, ◌<◌, nat_lt, length, IfOk, IsErrOf, OnOk, true};
 ghost use Rattle.aig_circuit.specs.Circuit.{latch_leaves};
-ghost use Rattle.aig_parsing.specs.Parse.{tested_at};
+ghost use Rattle.aig_parsing.specs.Parse.{parse_if};
 ghost use Rattle.aig_format.specs.Letters.{count_of};
 ghost use Rattle.aig_lexer.specs.Faults.{OnShape};
 ghost use Rattle.aig_lexer.specs.Header.{numbers_of};
 ghost use Rattle.aig_lexer.specs.Takes.{Gives};
 ghost use Rattle.aig_reader.specs.NamedSections.{letter_of};
-ghost use Rattle.aig_reader.specs.NameSteps.{node_at, position_at};
+ghost use Rattle.aig_reader.specs.NameSteps.{node_at, parse_position};
 ghost use Rattle.aig_reader.specs.declared.names.section.NamedSection.TheVariants as sections;
 
 use super::section::NamedSection;
@@ -27,7 +27,7 @@ pub struct Place {
 /// Reads the rest of a number whose first byte is `first`, up to the space that ends it.
 fn position<F: ByteFeed>(f: &mut F, first: u8) -> Result<u32, LexError>
     ensures exact { Gives OnShape (λ x. x)
-        (F.coming f.old) (F.coming f.new) result (position_at first) }
+        (F.coming f.old) (F.coming f.new) result (parse_position first) }
     ensures stream { IsErrOf result LexError.Stream → F.failed f.new ≡ true }
     ensures same { F.behind f.new ≡ F.behind f.old }
     ensures fewer { OnOk result (F.turns f.new < F.turns f.old) }
@@ -49,7 +49,7 @@ pub fn read_place<F: ByteFeed>(
 ) -> Result<Place, LexError>
     ensures exact { Gives OnShape (λ place. place.position)
         (F.coming f.old) (F.coming f.new) result
-        (tested_at (position_at first)
+        (parse_if (parse_position first)
         (λ n. nat_lt n (count_of (numbers_of header.now) (letter_of section)))) }
     ensures section { IfOk result (λ place. place.section ≡ section) }
     ensures stream { IsErrOf result LexError.Stream → F.failed f.new ≡ true }

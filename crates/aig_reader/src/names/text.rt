@@ -3,7 +3,7 @@
 ghost use Rattle.std.specs.Prelude.{◌≡◌, ◌<◌, List, ℕ, IsErrOf, OnErr, OnOk, true, false, string_bytes};
 ghost use Rattle.std.specs.Io.KnownBytes.{Consumes, IsAtEnd};
 ghost use Rattle.std.specs.Str.{is_utf8};
-ghost use Rattle.aig_parsing.specs.Parse.{tested_at, text_at};
+ghost use Rattle.aig_parsing.specs.Parse.{parse_if, parse_text};
 ghost use Rattle.aig_lexer.specs.Faults.{OnShape};
 ghost use Rattle.aig_lexer.specs.Takes.{Gives, Makes};
 ghost use Rattle.aig_reader.specs.NameFaults.{OnName};
@@ -16,7 +16,7 @@ use std::alloc::Global;
 /// Reads the bytes of a name, up to the line feed, which is not one of them.
 fn name_bytes<F: ByteFeed>(alloc: Global, f: &mut F) -> Result<Vec<u8>, NameError>
     ensures exact { Gives OnName (λ text. text.items)
-        (F.coming f.old) (F.coming f.new) result text_at }
+        (F.coming f.old) (F.coming f.new) result parse_text }
     ensures stream { IsErrOf result NameError.Stream → F.failed f.new ≡ true }
     ensures same { F.behind f.new ≡ F.behind f.old }
     ensures fewer { OnOk result (F.turns f.new < F.turns f.old) }
@@ -34,7 +34,7 @@ fn name_bytes<F: ByteFeed>(alloc: Global, f: &mut F) -> Result<Vec<u8>, NameErro
 /// Reads a name that is kept, up to the line feed: it has to be UTF-8.
 pub fn kept_text<F: ByteFeed>(alloc: Global, f: &mut F) -> Result<String, NameError>
     ensures exact { Gives OnName (λ text. string_bytes text)
-        (F.coming f.old) (F.coming f.new) result (tested_at text_at is_utf8) }
+        (F.coming f.old) (F.coming f.new) result (parse_if parse_text is_utf8) }
     ensures stream { IsErrOf result NameError.Stream → F.failed f.new ≡ true }
     ensures same { F.behind f.new ≡ F.behind f.old }
     ensures fewer { OnOk result (F.turns f.new < F.turns f.old) }
@@ -46,7 +46,7 @@ pub fn kept_text<F: ByteFeed>(alloc: Global, f: &mut F) -> Result<String, NameEr
 /// Reads a name that is dropped, up to the line feed, and holds none of it.
 pub fn skip_text<F: ByteFeed>(f: &mut F) -> Result<(), LexError>
     ensures exact { Makes OnShape (λ _ _. Unit {0})
-        (F.coming f.old) (F.coming f.new) result text_at }
+        (F.coming f.old) (F.coming f.new) result parse_text }
     ensures stream { IsErrOf result LexError.Stream → F.failed f.new ≡ true }
     ensures same { F.behind f.new ≡ F.behind f.old }
     ensures fewer { OnOk result (F.turns f.new < F.turns f.old) }

@@ -1,5 +1,5 @@
 use Rattle.std.proofs.Common.{◌≡◌, ◌++◌, ◌-◌, ◌≤◌, ℕ, List, length, replicate}
-use Rattle.aig_parsing.specs.Parse.{header_numbers_at}
+use Rattle.aig_parsing.specs.Parse.{parse_header_numbers}
 use Rattle.aig_lexer.proofs.Going.{GoesOn}
 use Rattle.aig_lexer.proofs.HeaderNumbers.{numbers_behind}
 use Rattle.aig_lexer.proofs.header.header_numbers.Given as goal
@@ -9,7 +9,7 @@ invariant-loop-i g l = record {
   written : List ℕ;
   count : length written ≡ l.i;
   filled : l.numbers ≡ written ++ replicate (9 - l.i) 0;
-  goes_on : GoesOn header_numbers_at (g.F.ByteFeed.coming l.fn.f) (numbers_behind written (9 - l.i)) (g.F.ByteFeed.coming l.f);
+  goes_on : GoesOn parse_header_numbers (g.F.ByteFeed.coming l.fn.f) (numbers_behind written (9 - l.i)) (g.F.ByteFeed.coming l.f);
   fewer : g.F.ByteFeed.turns l.f ≤ g.F.ByteFeed.turns l.fn.f;
   same : g.F.ByteFeed.behind l.f ≡ g.F.ByteFeed.behind l.fn.f;
 }

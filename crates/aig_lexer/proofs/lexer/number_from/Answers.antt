@@ -1,8 +1,8 @@
 use Rattle.std.proofs.Common.{◌∙◌, ◌+◌, ◌*◌, ◌-◌, ℕ, None, refl, arith}
 use Rattle.std.specs.Char.{IsNotAsciiDigit}
-use Rattle.aig_parsing.specs.Parse.{digits_at}
+use Rattle.aig_parsing.specs.Parse.{parse_digits}
 use Rattle.aig_parsing.proofs.Numbers.{OtherThanDigit, number_goes, number_stops, digits_go, digits_overflow, digits_stop, digits_end}
-use Rattle.aig_lexer.specs.Words.{number_from_at}
+use Rattle.aig_lexer.specs.Words.{parse_number_from}
 use Rattle.aig_lexer.proofs.Going.{goes_start, goes_same, goes_byte, goes_end, goes_done, goes_nowhere}
 use Rattle.aig_lexer.proofs.lexer.number_from.Goals as goal
 
@@ -12,15 +12,15 @@ other b h = grind arith
 pub returns-then-not-is_ascii_digit-clause-exact :
     goal.returns-then-not-is_ascii_digit-clause-exact
 returns-then-not-is_ascii_digit-clause-exact g c =
-    let read = number_from_at c.args.first in
+    let read = parse_number_from c.args.first in
     goes_nowhere read _ _ (goes_same read read (λ bs. None) _ _ (goes_start read (g.F.ByteFeed.coming c.args.f.now)) (number_stops c.args.first (other _ c.if-not-is_ascii_digit.ensures.cases)))
 
 pub loop-b-init : goal.loop-b-init
 loop-b-init g c =
-    let read = number_from_at c.args.first in
+    let read = parse_number_from c.args.first in
     let digit = c.if-not-is_ascii_digit.ensures.cases in
     record {
-      goes_on = goes_same read read (digits_at (c.args.first - 48)) _ _ (goes_start read (g.F.ByteFeed.coming c.args.f.now)) (number_goes c.args.first digit.0 digit.1);
+      goes_on = goes_same read read (parse_digits (c.args.first - 48)) _ _ (goes_start read (g.F.ByteFeed.coming c.args.f.now)) (number_goes c.args.first digit.0 digit.1);
       small = omega arith;
       fewer = omega arith;
       same = refl;
@@ -29,24 +29,24 @@ loop-b-init g c =
 pub returns-then-not-is_ascii_digit-2-clause-exact :
     goal.returns-then-not-is_ascii_digit-2-clause-exact
 returns-then-not-is_ascii_digit-2-clause-exact g c =
-    let read = number_from_at c.args.first in
+    let read = parse_number_from c.args.first in
     goes_done read (c.loop-b.value, c.in-Some.b) _ (g.F.ByteFeed.coming c.next.new.self)
-    (goes_byte read (digits_at c.loop-b.value) _ _ _ _ c.in_ok-b.field-0 c.in-Some.b c.loop-b.invariant.goes_on c.in_ok-b.ensures.byte c.in-Some.is (digits_stop c.loop-b.value c.in-Some.b (other _ c.if-not-is_ascii_digit-2.ensures.cases)))
+    (goes_byte read (parse_digits c.loop-b.value) _ _ _ _ c.in_ok-b.field-0 c.in-Some.b c.loop-b.invariant.goes_on c.in_ok-b.ensures.byte c.in-Some.is (digits_stop c.loop-b.value c.in-Some.b (other _ c.if-not-is_ascii_digit-2.ensures.cases)))
 
 pub returns-then-value-clause-exact : goal.returns-then-value-clause-exact
 returns-then-value-clause-exact g c =
-    let read = number_from_at c.args.first in
+    let read = parse_number_from c.args.first in
     let digit = c.if-not-is_ascii_digit-2.ensures.cases in
     goes_nowhere read _ (g.F.ByteFeed.coming c.next.new.self)
-    (goes_byte read (digits_at c.loop-b.value) (λ bs. None) _ _ _ c.in_ok-b.field-0 c.in-Some.b c.loop-b.invariant.goes_on c.in_ok-b.ensures.byte c.in-Some.is
+    (goes_byte read (parse_digits c.loop-b.value) (λ bs. None) _ _ _ c.in_ok-b.field-0 c.in-Some.b c.loop-b.invariant.goes_on c.in_ok-b.ensures.byte c.in-Some.is
     (digits_overflow c.loop-b.value c.in-Some.b digit.0 digit.1 (omega arith)))
 
 pub loop-b-preserved : goal.loop-b-preserved
 loop-b-preserved g c =
-    let read = number_from_at c.args.first in
+    let read = parse_number_from c.args.first in
     let digit = c.if-not-is_ascii_digit-2.ensures.cases in
     record {
-      goes_on = goes_byte read (digits_at c.loop-b.value) (digits_at (10 * c.loop-b.value + (c.in-Some.b - 48))) _ _ _ c.in_ok-b.field-0 c.in-Some.b c.loop-b.invariant.goes_on c.in_ok-b.ensures.byte c.in-Some.is
+      goes_on = goes_byte read (parse_digits c.loop-b.value) (parse_digits (10 * c.loop-b.value + (c.in-Some.b - 48))) _ _ _ c.in_ok-b.field-0 c.in-Some.b c.loop-b.invariant.goes_on c.in_ok-b.ensures.byte c.in-Some.is
           (digits_go c.loop-b.value c.in-Some.b digit.0 digit.1 (omega arith));
       small = omega arith;
       fewer = omega (arith, rw c.in-Some.is at c.in_ok-b.ensures.fewer, c.loop-b.invariant.fewer);
@@ -55,4 +55,4 @@ loop-b-preserved g c =
 
 pub returns-clause-exact : goal.returns-clause-exact
 returns-clause-exact g c =
-    goes_end (number_from_at c.args.first) (digits_at c.loop-b.value) _ _ (g.F.ByteFeed.coming c.next.new.self) c.in_ok-b.field-0 c.loop-b.invariant.goes_on c.in_ok-b.ensures.byte c.in_default.is (c.in_ok-b.ensures.end c.in_default.is).0 (digits_end c.loop-b.value)
+    goes_end (parse_number_from c.args.first) (parse_digits c.loop-b.value) _ _ (g.F.ByteFeed.coming c.next.new.self) c.in_ok-b.field-0 c.loop-b.invariant.goes_on c.in_ok-b.ensures.byte c.in_default.is (c.in_ok-b.ensures.end c.in_default.is).0 (digits_end c.loop-b.value)

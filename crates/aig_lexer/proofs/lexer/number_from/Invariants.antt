@@ -1,12 +1,12 @@
 use Rattle.std.proofs.Common.{◌≡◌, ◌<◌, ◌≤◌, ◌^◌}
-use Rattle.aig_parsing.specs.Parse.{digits_at}
-use Rattle.aig_lexer.specs.Words.{number_from_at}
+use Rattle.aig_parsing.specs.Parse.{parse_digits}
+use Rattle.aig_lexer.specs.Words.{parse_number_from}
 use Rattle.aig_lexer.proofs.Going.{GoesOn}
 use Rattle.aig_lexer.proofs.lexer.number_from.Given as goal
 
 abbrev pub invariant-loop-b : goal.invariant-loop-b
 invariant-loop-b g l = record {
-  goes_on : GoesOn (number_from_at l.fn.first) (g.F.ByteFeed.coming l.fn.f) (digits_at l.value) (g.F.ByteFeed.coming l.f);
+  goes_on : GoesOn (parse_number_from l.fn.first) (g.F.ByteFeed.coming l.fn.f) (parse_digits l.value) (g.F.ByteFeed.coming l.f);
   small : l.value < 2 ^ 32;
   fewer : g.F.ByteFeed.turns l.f ≤ g.F.ByteFeed.turns l.fn.f;
   same : g.F.ByteFeed.behind l.f ≡ g.F.ByteFeed.behind l.fn.f;

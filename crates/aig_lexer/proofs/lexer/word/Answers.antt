@@ -1,7 +1,7 @@
 use Rattle.std.proofs.Common.{◌<◌, ◌+◌, ◌∷◌, ◌∙◌, List, ℕ, drop, get_or, length, ap, arith}
 use Rattle.std.proofs.lemmas.List.{drop_more}
 use Rattle.std.proofs.lemmas.Result.{err_from_is_err_and}
-use Rattle.aig_lexer.specs.Words.{expect_at, word_at}
+use Rattle.aig_lexer.specs.Words.{parse_expected, parse_word}
 use Rattle.aig_lexer.specs.Takes.{Misses}
 use Rattle.aig_lexer.proofs.Going.{goes_call, goes_wrong, goes_same}
 use Rattle.aig_lexer.proofs.Taking.{misses_where}
@@ -17,9 +17,9 @@ returns-in_err-expect-clause-exact g c =
     let b = get_or text i 0 in
     let now = g.F.ByteFeed.coming c.loop-byte.f in
     let inside : i < length text = omega arith in
-    let goes = goes_same (word_at text) (word_at (drop i text)) (word_at (b ∷ drop (i + 1) text)) _ now c.loop-byte.invariant.goes_on (λ bs. ap (λ (xs : List ℕ). word_at xs bs) (drop_more text i 0 inside)) in
+    let goes = goes_same (parse_word text) (parse_word (drop i text)) (parse_word (b ∷ drop (i + 1) text)) _ now c.loop-byte.invariant.goes_on (λ bs. ap (λ (xs : List ℕ). parse_word xs bs) (drop_more text i 0 inside)) in
     rw (p.1, p.2) (on_shape-weaker c.in_err-expect.field-0.0 _ _
-    (λ (h : Misses (expect_at b) now). goes_wrong (word_at text) (word_at (b ∷ drop (i + 1) text)) _ now goes (misses_where (expect_at b) (word_at (b ∷ drop (i + 1) text)) now h (word_stops b (drop (i + 1) text))))
+    (λ (h : Misses (parse_expected b) now). goes_wrong (parse_word text) (parse_word (b ∷ drop (i + 1) text)) _ now goes (misses_where (parse_expected b) (parse_word (b ∷ drop (i + 1) text)) now h (word_stops b (drop (i + 1) text))))
     c.in_err-expect.ensures.exact)
 
 pub loop-byte-preserved : goal.loop-byte-preserved
@@ -29,8 +29,8 @@ loop-byte-preserved g c =
     let b = get_or text i 0 in
     let inside : i < length text = omega arith in
     record {
-      goes_on = goes_call (word_at text) (expect_at b) (word_at (drop i text)) (word_at (drop (i + 1) text)) _ (g.F.ByteFeed.coming c.loop-byte.f) _ b c.loop-byte.invariant.goes_on c.in_ok-expect.ensures.exact
-          (λ bs rest e. ap (λ (xs : List ℕ). word_at xs bs) (drop_more text i 0 inside) ∙ word_goes b (drop (i + 1) text) bs rest e);
+      goes_on = goes_call (parse_word text) (parse_expected b) (parse_word (drop i text)) (parse_word (drop (i + 1) text)) _ (g.F.ByteFeed.coming c.loop-byte.f) _ b c.loop-byte.invariant.goes_on c.in_ok-expect.ensures.exact
+          (λ bs rest e. ap (λ (xs : List ℕ). parse_word xs bs) (drop_more text i 0 inside) ∙ word_goes b (drop (i + 1) text) bs rest e);
       fewer = omega (arith, c.in_ok-expect.ensures.fewer);
       same = c.expect.ensures.same ∙ c.loop-byte.invariant.same;
     }

@@ -1,6 +1,6 @@
 use Rattle.std.proofs.Common.{◌≡◌, ◌∙◌, ◌∷◌, ◌++◌, [], ℕ, subst, arith}
 use Rattle.std.proofs.lemmas.Result.{err_from_is_err_and}
-use Rattle.aig_parsing.specs.Parse.{ended_at, tested_at, times_at}
+use Rattle.aig_parsing.specs.Parse.{parse_ended, parse_if, parse_times}
 use Rattle.aig_parsing.specs.ParseTested.{is_literal}
 use Rattle.aig_ordering.specs.Lists.{edge_from}
 use Rattle.aig_lexer.specs.Takes.{Takes, Misses}
@@ -14,9 +14,9 @@ returns-in_err-edge-clause-exact g c =
     let p = err_from_is_err_and c.from_residual.result c.from_residual.ensures.1 in
     let h = c.loop.invariant.made in
     let count = c.args.count in
-    let line = tested_at (ended_at 10) (is_literal c.args.greatest) in
+    let line = parse_if (parse_ended 10) (is_literal c.args.greatest) in
     rw (p.1, p.2) (on_line-weaker c.in_err-edge.field-0.0 _ _
-    (λ (k : Misses line (g.F.ByteFeed.coming c.loop.f)). misses_same (entries_at (λ _. line) [] count) (times_at line count) _ (misses_more (λ _. line) c.loop.counter count _ _ h.0 c.loop-test.true h.2 k) (times_is_entries line [] count))
+    (λ (k : Misses line (g.F.ByteFeed.coming c.loop.f)). misses_same (entries_at (λ _. line) [] count) (parse_times line count) _ (misses_more (λ _. line) c.loop.counter count _ _ h.0 c.loop-test.true h.2 k) (times_is_entries line [] count))
     c.in_err-edge.ensures.exact)
 
 pub loop-preserved : goal.loop-preserved
@@ -24,7 +24,7 @@ loop-preserved g c = record {
   made =
       let h = c.loop.invariant.made in
       let k = c.in_ok-edge.ensures.exact in
-      (h.0 ++ k.0 ∷ [], made_push edge_from h.0 k.0 _ _ _ h.1 k.1 c.in_ok-push.ensures.items, takes_more (λ _. tested_at (ended_at 10) (is_literal c.args.greatest)) c.loop.counter _ _ _ h.0 k.0 h.2 k.2);
+      (h.0 ++ k.0 ∷ [], made_push edge_from h.0 k.0 _ _ _ h.1 k.1 c.in_ok-push.ensures.items, takes_more (λ _. parse_if (parse_ended 10) (is_literal c.args.greatest)) c.loop.counter _ _ _ h.0 k.0 h.2 k.2);
   same = c.edge_line.ensures.same ∙ c.loop.invariant.same;
 }
 
@@ -33,10 +33,10 @@ returns-clause-exact g c =
     let all : c.loop.counter ≡ c.args.count = omega arith in
     let h = c.loop.invariant.made in
     let count = c.args.count in
-    let line = tested_at (ended_at 10) (is_literal c.args.greatest) in (
+    let line = parse_if (parse_ended 10) (is_literal c.args.greatest) in (
       h.0,
       h.1,
-      takes_same (entries_at (λ _. line) [] count) (times_at line count) _ _ h.0
+      takes_same (entries_at (λ _. line) [] count) (parse_times line count) _ _ h.0
           (subst (λ (n : ℕ). Takes (entries_at (λ _. line) [] n) (g.F.ByteFeed.coming c.args.f.now) (g.F.ByteFeed.coming c.loop.f) h.0) all h.2)
           (times_is_entries line [] count),
     )

@@ -1,6 +1,6 @@
 use Rattle.std.proofs.Common.{◌≡◌, ◌-◌, ◌&&◌, ℕ, true, leb, arith}
 use Rattle.std.proofs.lemmas.Bool.Decides.{nat_tests}
-use Rattle.aig_parsing.specs.Parse.{both_at, delta_at, tested_at}
+use Rattle.aig_parsing.specs.Parse.{parse_both, parse_delta, parse_if}
 use Rattle.aig_lexer.proofs.Taking.{takes_both, takes_mapped, takes_tested}
 use Rattle.aig_reader.proofs.gates.differences.Goals as goal
 
@@ -13,6 +13,6 @@ returns-clause-exact g c =
     let lower = c.if-second-lhs.false in
     let below = λ (d : ℕ × ℕ). leb d.0 lhs && leb d.1 (lhs - d.0) in
     let fits : leb first lhs && leb second (lhs - first) ≡ true = grind (arith, nat_tests, low, lower) in
-    let both = both_at delta_at (λ (_ : ℕ). delta_at) in
+    let both = parse_both parse_delta (λ (_ : ℕ). parse_delta) in
     let pair : ℕ × ℕ = (first, second) in
-    takes_mapped (λ d. (lhs - d.0, lhs - d.0 - d.1)) (tested_at both below) _ _ pair (takes_tested both below _ _ pair (takes_both delta_at (λ _. delta_at) _ _ _ first second c.in_ok-first.ensures.exact c.in_ok-second.ensures.exact) fits)
+    takes_mapped (λ d. (lhs - d.0, lhs - d.0 - d.1)) (parse_if both below) _ _ pair (takes_tested both below _ _ pair (takes_both parse_delta (λ _. parse_delta) _ _ _ first second c.in_ok-first.ensures.exact c.in_ok-second.ensures.exact) fits)

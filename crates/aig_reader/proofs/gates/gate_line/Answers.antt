@@ -1,6 +1,6 @@
 use Rattle.std.proofs.Common.{◌∙◌, ◌++◌, refl, sym}
 use Rattle.aig_parsing.specs.ParseTested.{gate_line_from}
-use Rattle.aig_reader.specs.ParseEntry.{may_stand, operands_at}
+use Rattle.aig_reader.specs.ParseEntry.{may_stand, parse_operands}
 use Rattle.aig_reader.specs.Gates.{literals_of}
 use Rattle.aig_reader.specs.Variables.{kind_by}
 use Rattle.aig_reader.proofs.GateLines.{may_stand-both, more_gates, new_among}
@@ -18,7 +18,7 @@ returns-clause-exact g c = λ greatest leaves before h.
     let new = new_among leaves before gate.lhs (c.in_ok-define.ensures.new greatest literals h.defined) in (
       gate,
       more_gates greatest leaves before _ _ gate (c.in_ok-put.ensures.placed greatest leaves before h.placed first.1.1 new own.1) first.1.1,
-      takes_line kind 32 literals (operands_at kind) gate_line_from (may_stand kind greatest literals) _ _ c.in_ok-lhs.lhs (c.in_ok-lhs.ensures.exact greatest literals h.defined) _ (c.in_ok-first.first, c.in_ok-first.second) c.in_ok-first.ensures.exact
+      takes_line kind 32 literals (parse_operands kind) gate_line_from (may_stand kind greatest literals) _ _ c.in_ok-lhs.lhs (c.in_ok-lhs.ensures.exact greatest literals h.defined) _ (c.in_ok-first.first, c.in_ok-first.second) c.in_ok-first.ensures.exact
           (may_stand-both kind greatest literals gate ∙ rw (first.0, usable) refl),
     )
 

@@ -1,12 +1,12 @@
 use Rattle.std.proofs.Common.{◌≡◌, ◌∙◌, ◌∷◌, ◌++◌, ◌+◌, [], ℕ, subst, refl, sym, arith}
 use Rattle.std.proofs.lemmas.Result.{err_from_is_err_and}
-use Rattle.aig_parsing.specs.ParseTested.{fitting_gates_at}
+use Rattle.aig_parsing.specs.ParseTested.{parse_fitting_gates}
 use Rattle.aig_format.specs.declared.FileKind.{FileKind}
 use Rattle.aig_lexer.specs.Header.{numbers_of}
 use Rattle.aig_lexer.specs.Takes.{Takes, Misses}
 use Rattle.std.proofs.lemmas.List.{append-nil}
 use Rattle.aig_lexer.proofs.Taking.{takes_nothing, takes_same, misses_same}
-use Rattle.aig_reader.specs.ParseEntry.{gate_at}
+use Rattle.aig_reader.specs.ParseEntry.{parse_gate_entry}
 use Rattle.aig_reader.specs.Faults.{OnLine}
 use Rattle.aig_reader.specs.Variables.{AreDefined, HasRoom, kind_by}
 use Rattle.aig_reader.proofs.BothKinds.{gates_is}
@@ -49,9 +49,9 @@ returns-in_err-gate_line-clause-exact g c = λ leaves length defined.
     let now = g.F.ByteFeed.coming c.loop.f in
     let e = c.in_err-gate_line.field-0.0 in
     rw (p.1, p.2) (on_line-weaker e _ _
-    (λ (k : Misses (gate_at kind greatest leaves h.0) now).
-    misses_same (entries_at (gate_at kind greatest leaves) [] count) (fitting_gates_at kind ns leaves) _ (misses_more (gate_at kind greatest leaves) c.loop.counter count _ _ h.0 c.loop-test.true h.2 k) (λ bs. gates_is kind ns leaves bs length))
-    (subst (λ (k : FileKind). OnLine e (Misses (gate_at k greatest leaves h.0) now)) c.loop.invariant.kind (c.in_err-gate_line.ensures.exact greatest leaves h.0 h.1)))
+    (λ (k : Misses (parse_gate_entry kind greatest leaves h.0) now).
+    misses_same (entries_at (parse_gate_entry kind greatest leaves) [] count) (parse_fitting_gates kind ns leaves) _ (misses_more (parse_gate_entry kind greatest leaves) c.loop.counter count _ _ h.0 c.loop-test.true h.2 k) (λ bs. gates_is kind ns leaves bs length))
+    (subst (λ (k : FileKind). OnLine e (Misses (parse_gate_entry k greatest leaves h.0) now)) c.loop.invariant.kind (c.in_err-gate_line.ensures.exact greatest leaves h.0 h.1)))
 
 pub loop-preserved : goal.loop-preserved
 loop-preserved g c = record {
@@ -62,7 +62,7 @@ loop-preserved g c = record {
       let k = c.in_ok-gate_line.ensures.exact greatest leaves h.0 h.1 in (
         h.0 ++ k.0 ∷ [],
         k.1,
-        takes_more (gate_at kind greatest leaves) c.loop.counter _ _ _ h.0 k.0 h.2 (subst (λ (d : FileKind). Takes (gate_at d greatest leaves h.0) (g.F.ByteFeed.coming c.loop.f) (g.F.ByteFeed.coming c.gate_line.new.f) k.0) c.loop.invariant.kind k.2),
+        takes_more (parse_gate_entry kind greatest leaves) c.loop.counter _ _ _ h.0 k.0 h.2 (subst (λ (d : FileKind). Takes (parse_gate_entry d greatest leaves h.0) (g.F.ByteFeed.coming c.loop.f) (g.F.ByteFeed.coming c.gate_line.new.f) k.0) c.loop.invariant.kind k.2),
       );
   space =
       let size = c.args.header.greatest + 1 in
@@ -82,6 +82,6 @@ returns-clause-exact g c = λ leaves count_is defined.
     let ns = numbers_of c.args.header in (
       h.0,
       h.1,
-      takes_same (entries_at (gate_at kind greatest leaves) [] count) (fitting_gates_at kind ns leaves) _ _ h.0
-          (subst (λ (n : ℕ). Takes (entries_at (gate_at kind greatest leaves) [] n) (g.F.ByteFeed.coming c.args.f.now) (g.F.ByteFeed.coming c.loop.f) h.0) done h.2) (λ bs. gates_is kind ns leaves bs count_is),
+      takes_same (entries_at (parse_gate_entry kind greatest leaves) [] count) (parse_fitting_gates kind ns leaves) _ _ h.0
+          (subst (λ (n : ℕ). Takes (entries_at (parse_gate_entry kind greatest leaves) [] n) (g.F.ByteFeed.coming c.args.f.now) (g.F.ByteFeed.coming c.loop.f) h.0) done h.2) (λ bs. gates_is kind ns leaves bs count_is),
     )

@@ -1,11 +1,11 @@
 use Rattle.std.proofs.Common.{◌≡◌, ◌∙◌, ◌∷◌, ◌++◌, ◌+◌, [], ℕ, ap, subst, arith}
 use Rattle.std.proofs.lemmas.Result.{err_from_is_err_and}
-use Rattle.aig_parsing.specs.ParseTested.{fitting_inputs_at}
+use Rattle.aig_parsing.specs.ParseTested.{parse_fitting_inputs}
 use Rattle.aig_format.specs.declared.FileKind.{FileKind}
 use Rattle.aig_lexer.specs.Header.{numbers_of}
 use Rattle.aig_lexer.specs.Takes.{Takes, Misses}
 use Rattle.aig_lexer.proofs.Taking.{takes_same, misses_same}
-use Rattle.aig_reader.specs.ParseEntry.{input_at}
+use Rattle.aig_reader.specs.ParseEntry.{parse_input_entry}
 use Rattle.aig_reader.specs.Faults.{OnLine}
 use Rattle.aig_ordering.specs.Lists.{variable_of}
 use Rattle.aig_reader.specs.Variables.{kind_by}
@@ -32,8 +32,8 @@ returns-in_err-input-clause-exact g c = λ start.
     let now = g.F.ByteFeed.coming c.loop.f in
     let e = c.in_err-input.field-0.0 in
     rw (p.1, p.2) (on_line-weaker e _ _
-    (λ (k : Misses (input_at kind greatest h.0) now). misses_same (entries_at (input_at kind greatest) [] count) (fitting_inputs_at kind ns) _ (misses_more (input_at kind greatest) c.loop.counter count _ _ h.0 c.loop-test.true h.2 k) (inputs_is kind ns))
-    (subst (λ (k : FileKind). OnLine e (Misses (input_at k greatest h.0) now)) c.loop.invariant.kind (c.in_err-input.ensures.exact greatest h.0 h.1.1)))
+    (λ (k : Misses (parse_input_entry kind greatest h.0) now). misses_same (entries_at (parse_input_entry kind greatest) [] count) (parse_fitting_inputs kind ns) _ (misses_more (parse_input_entry kind greatest) c.loop.counter count _ _ h.0 c.loop-test.true h.2 k) (inputs_is kind ns))
+    (subst (λ (k : FileKind). OnLine e (Misses (parse_input_entry k greatest h.0) now)) c.loop.invariant.kind (c.in_err-input.ensures.exact greatest h.0 h.1.1)))
 
 pub loop-preserved : goal.loop-preserved
 loop-preserved g c = record {
@@ -44,7 +44,7 @@ loop-preserved g c = record {
       let k = c.in_ok-input.ensures.exact greatest h.0 h.1.1 in (
         h.0 ++ k.0 ∷ [],
         (made_push variable_of h.0 k.0 _ _ _ h.1.0 k.1.0 c.in_ok-push.ensures.items, k.1.1),
-        takes_more (input_at kind greatest) c.loop.counter _ _ _ h.0 k.0 h.2 (subst (λ (d : FileKind). Takes (input_at d greatest h.0) (g.F.ByteFeed.coming c.loop.f) (g.F.ByteFeed.coming c.input_line.new.f) k.0) c.loop.invariant.kind k.2),
+        takes_more (parse_input_entry kind greatest) c.loop.counter _ _ _ h.0 k.0 h.2 (subst (λ (d : FileKind). Takes (parse_input_entry d greatest h.0) (g.F.ByteFeed.coming c.loop.f) (g.F.ByteFeed.coming c.input_line.new.f) k.0) c.loop.invariant.kind k.2),
       );
   count = c.in_ok-push.ensures.len ∙ ap (λ (n : ℕ). n + 1) c.loop.invariant.count;
   room = room_more _ _ _ c.loop.counter c.loop.invariant.room c.in_ok-input.ensures.room;
@@ -62,6 +62,6 @@ returns-clause-exact g c = λ start.
     let ns = numbers_of c.args.header in (
       h.0,
       h.1,
-      takes_same (entries_at (input_at kind greatest) [] count) (fitting_inputs_at kind ns) _ _ h.0
-          (subst (λ (n : ℕ). Takes (entries_at (input_at kind greatest) [] n) (g.F.ByteFeed.coming c.args.f.now) (g.F.ByteFeed.coming c.loop.f) h.0) all h.2) (inputs_is kind ns),
+      takes_same (entries_at (parse_input_entry kind greatest) [] count) (parse_fitting_inputs kind ns) _ _ h.0
+          (subst (λ (n : ℕ). Takes (entries_at (parse_input_entry kind greatest) [] n) (g.F.ByteFeed.coming c.args.f.now) (g.F.ByteFeed.coming c.loop.f) h.0) all h.2) (inputs_is kind ns),
     )

@@ -4,7 +4,7 @@ use Rattle.std.proofs.lemmas.List.{map_push}
 use Rattle.std.specs.Prelude.{Vec}
 use Rattle.std.specs.declared.alloc.Global.{Global}
 use Rattle.aig_circuit.specs.declared.edge.AigEdge.{AigEdge}
-use Rattle.aig_parsing.specs.ParseTested.{literals_at, literal_sets_at}
+use Rattle.aig_parsing.specs.ParseTested.{parse_literals, parse_literal_sets}
 use Rattle.aig_lexer.specs.Takes.{Takes, Misses}
 use Rattle.aig_lexer.proofs.Taking.{takes_same, misses_same}
 use Rattle.aig_ordering.specs.Lists.{edge_from}
@@ -29,10 +29,10 @@ returns-in_err-set-clause-exact g c =
     let sizes = c.args.sizes.now in
     let greatest = c.args.greatest in
     rw (p.1, p.2) (on_line-weaker c.in_err-set.field-0.0 _ _
-    (λ (k : Misses (literals_at greatest (get_or sizes c.loop-size.size-index 0)) (g.F.ByteFeed.coming c.loop-size.f)).
-    misses_same (entries_at (set_at greatest sizes) [] (length sizes)) (literal_sets_at greatest sizes) _
+    (λ (k : Misses (parse_literals greatest (get_or sizes c.loop-size.size-index 0)) (g.F.ByteFeed.coming c.loop-size.f)).
+    misses_same (entries_at (set_at greatest sizes) [] (length sizes)) (parse_literal_sets greatest sizes) _
     (misses_more (set_at greatest sizes) c.loop-size.size-index (length sizes) _ _ h.0 (omega arith) h.2
-    (subst (λ (n : ℕ). Misses (literals_at greatest n) (g.F.ByteFeed.coming c.loop-size.f)) (next_size sizes c.loop-size.size-index h.0 (takes_count (set_at greatest sizes) _ _ _ _ h.2)) k)) (sets_is_entries greatest sizes))
+    (subst (λ (n : ℕ). Misses (parse_literals greatest n) (g.F.ByteFeed.coming c.loop-size.f)) (next_size sizes c.loop-size.size-index h.0 (takes_count (set_at greatest sizes) _ _ _ _ h.2)) k)) (sets_is_entries greatest sizes))
     c.in_err-set.ensures.exact)
 
 pub loop-size-preserved : goal.loop-size-preserved
@@ -45,7 +45,7 @@ loop-size-preserved g c = record {
         h.0 ++ k.0 ∷ [],
         push_set _ _ _ h.0 k.0 h.1 k.1 c.in_ok-push.ensures.items,
         takes_more (set_at greatest sizes) c.loop-size.size-index _ _ _ h.0 k.0 h.2
-            (subst (λ (n : ℕ). Takes (literals_at greatest n) (g.F.ByteFeed.coming c.loop-size.f) (g.F.ByteFeed.coming c.read_edges.new.f) k.0)
+            (subst (λ (n : ℕ). Takes (parse_literals greatest n) (g.F.ByteFeed.coming c.loop-size.f) (g.F.ByteFeed.coming c.read_edges.new.f) k.0)
             (next_size sizes c.loop-size.size-index h.0 (takes_count (set_at greatest sizes) _ _ _ _ h.2)) k.2),
       );
   same = c.read_edges.ensures.same ∙ c.loop-size.invariant.same;
@@ -59,7 +59,7 @@ returns-clause-exact g c =
     let h = c.loop-size.invariant.made in (
       h.0,
       h.1,
-      takes_same (entries_at (set_at greatest sizes) [] (length sizes)) (literal_sets_at greatest sizes) _ _ h.0
+      takes_same (entries_at (set_at greatest sizes) [] (length sizes)) (parse_literal_sets greatest sizes) _ _ h.0
           (subst (λ (n : ℕ). Takes (entries_at (set_at greatest sizes) [] n) (g.F.ByteFeed.coming c.args.f.now) (g.F.ByteFeed.coming c.loop-size.f) h.0) all h.2)
           (sets_is_entries greatest sizes),
     )

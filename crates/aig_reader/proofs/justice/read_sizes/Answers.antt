@@ -1,6 +1,6 @@
 use Rattle.std.proofs.Common.{◌≡◌, ◌∙◌, ◌∷◌, ◌++◌, [], ℕ, List, subst, ap, arith}
 use Rattle.std.proofs.lemmas.Result.{err_from_is_err_and}
-use Rattle.aig_parsing.specs.Parse.{ended_at, numbers_at}
+use Rattle.aig_parsing.specs.Parse.{parse_ended, parse_numbers}
 use Rattle.aig_lexer.specs.Takes.{Takes, Misses}
 use Rattle.aig_lexer.proofs.Taking.{takes_same, misses_same}
 use Rattle.aig_reader.proofs.Entries.{entries_at, takes_more, misses_more, times_is_entries}
@@ -13,7 +13,7 @@ returns-in_err-size-clause-exact g c =
     let h = c.loop.invariant.made in
     let count = c.args.count in
     rw (p.1, p.2) (on_line-from_shape c.in_err-size.field-0.0 _ _
-    (λ (k : Misses (ended_at 10) (g.F.ByteFeed.coming c.loop.f)). misses_same (entries_at (λ _. ended_at 10) [] count) (numbers_at count) _ (misses_more (λ _. ended_at 10) c.loop.counter count _ _ h.0 c.loop-test.true h.2 k) (times_is_entries (ended_at 10) [] count))
+    (λ (k : Misses (parse_ended 10) (g.F.ByteFeed.coming c.loop.f)). misses_same (entries_at (λ _. parse_ended 10) [] count) (parse_numbers count) _ (misses_more (λ _. parse_ended 10) c.loop.counter count _ _ h.0 c.loop-test.true h.2 k) (times_is_entries (parse_ended 10) [] count))
     c.in_err-size.ensures.exact)
 
 pub loop-preserved : goal.loop-preserved
@@ -21,7 +21,7 @@ loop-preserved g c = record {
   made =
       let h = c.loop.invariant.made in
       let k = c.in_ok-size.ensures.exact in
-      (h.0 ++ c.in_ok-size.size ∷ [], c.in_ok-push.ensures.items ∙ ap (λ (xs : List ℕ). xs ++ c.in_ok-size.size ∷ []) h.1, takes_more (λ _. ended_at 10) c.loop.counter _ _ _ h.0 c.in_ok-size.size h.2 k);
+      (h.0 ++ c.in_ok-size.size ∷ [], c.in_ok-push.ensures.items ∙ ap (λ (xs : List ℕ). xs ++ c.in_ok-size.size ∷ []) h.1, takes_more (λ _. parse_ended 10) c.loop.counter _ _ _ h.0 c.in_ok-size.size h.2 k);
   same = c.ended.ensures.same ∙ c.loop.invariant.same;
 }
 
@@ -32,7 +32,7 @@ returns-clause-exact g c =
     let count = c.args.count in (
       h.0,
       h.1,
-      takes_same (entries_at (λ _. ended_at 10) [] count) (numbers_at count) _ _ h.0
-          (subst (λ (n : ℕ). Takes (entries_at (λ _. ended_at 10) [] n) (g.F.ByteFeed.coming c.args.f.now) (g.F.ByteFeed.coming c.loop.f) h.0) all h.2)
-          (times_is_entries (ended_at 10) [] count),
+      takes_same (entries_at (λ _. parse_ended 10) [] count) (parse_numbers count) _ _ h.0
+          (subst (λ (n : ℕ). Takes (entries_at (λ _. parse_ended 10) [] n) (g.F.ByteFeed.coming c.args.f.now) (g.F.ByteFeed.coming c.loop.f) h.0) all h.2)
+          (times_is_entries (parse_ended 10) [] count),
     )

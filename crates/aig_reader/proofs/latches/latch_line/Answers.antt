@@ -1,7 +1,7 @@
 use Rattle.std.proofs.Common.{◌≡◌, ◌&&◌, ◌++◌, false, map, refl}
 use Rattle.std.proofs.lemmas.Result.{err_from_is_err_and}
 use Rattle.aig_format.specs.File.{LatchLine}
-use Rattle.aig_parsing.specs.ParseTested.{has_next, is_reset, latch_line_from, next_at}
+use Rattle.aig_parsing.specs.ParseTested.{has_next, is_reset, latch_line_from, parse_next_and_reset}
 use Rattle.aig_reader.specs.ParseEntry.{may_define}
 use Rattle.aig_reader.specs.Variables.{kind_by}
 use Rattle.aig_reader.proofs.OwnLines.{misses_line, takes_line}
@@ -19,7 +19,7 @@ returns-in_err-init-clause-exact g c = λ inputs before defined.
     let e = c.in_err-init.field-0.0 in
     rw (p.1, p.2) (on_line-weaker e _ _
     (λ (third : is_reset c.in_ok-literal.literal c.in_ok-next.reset ≡ false).
-    misses_line kind 32 literals (λ _. next_at) (λ x. latch_line_from x.0 x.1) (λ (l : LatchLine). may_define kind greatest literals l.literal && has_next greatest l) _ _ c.in_ok-literal.literal (c.in_ok-literal.ensures.exact greatest literals defined) _
+    misses_line kind 32 literals (λ _. parse_next_and_reset) (λ x. latch_line_from x.0 x.1) (λ (l : LatchLine). may_define kind greatest literals l.literal && has_next greatest l) _ _ c.in_ok-literal.literal (c.in_ok-literal.ensures.exact greatest literals defined) _
     (c.in_ok-next.next, c.in_ok-next.reset) c.in_ok-next.ensures.exact (rw (first.0, second.0, third) refl))
     (c.in_err-init.ensures.exact c.in_ok-next.next))
 
@@ -33,6 +33,6 @@ returns-clause-exact g c = λ inputs before defined.
     let third = c.in_ok-init.ensures.exact c.in_ok-next.next in (
       latch_line_from c.in_ok-literal.literal (c.in_ok-next.next, c.in_ok-next.reset),
       (rw (c.new.ensures, first.1.0, second.1, third.1) refl, first.1.1),
-      takes_line kind 32 literals (λ _. next_at) (λ x. latch_line_from x.0 x.1) (λ (l : LatchLine). may_define kind greatest literals l.literal && has_next greatest l) _ _ c.in_ok-literal.literal (c.in_ok-literal.ensures.exact greatest literals defined) _
+      takes_line kind 32 literals (λ _. parse_next_and_reset) (λ x. latch_line_from x.0 x.1) (λ (l : LatchLine). may_define kind greatest literals l.literal && has_next greatest l) _ _ c.in_ok-literal.literal (c.in_ok-literal.ensures.exact greatest literals defined) _
           (c.in_ok-next.next, c.in_ok-next.reset) c.in_ok-next.ensures.exact (rw (first.0, second.0, third.0) refl),
     )

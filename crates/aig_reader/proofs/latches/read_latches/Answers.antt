@@ -1,14 +1,14 @@
 use Rattle.std.proofs.Common.{◌≡◌, ◌∙◌, ◌∷◌, ◌++◌, ◌+◌, [], ℕ, List, map, ap, sym, subst, append_assoc, arith}
 use Rattle.std.proofs.lemmas.Result.{err_from_is_err_and}
 use Rattle.std.proofs.lemmas.List.{map_push}
-use Rattle.aig_parsing.specs.ParseTested.{fitting_latches_at}
+use Rattle.aig_parsing.specs.ParseTested.{parse_fitting_latches}
 use Rattle.aig_format.specs.declared.FileKind.{FileKind}
 use Rattle.aig_format.specs.File.{LatchLine}
 use Rattle.aig_lexer.specs.Header.{numbers_of}
 use Rattle.aig_lexer.specs.Takes.{Takes, Misses}
 use Rattle.aig_lexer.proofs.Taking.{takes_same, misses_same}
 use Rattle.aig_reader.specs.declared.variables.Variables.{Variables}
-use Rattle.aig_reader.specs.ParseEntry.{latch_at}
+use Rattle.aig_reader.specs.ParseEntry.{parse_latch_entry}
 use Rattle.aig_reader.specs.Faults.{OnLine}
 use Rattle.aig_ordering.specs.Lists.{latch_from}
 use Rattle.aig_reader.specs.Variables.{AreDefined, kind_by}
@@ -43,9 +43,9 @@ returns-in_err-latch-clause-exact g c = λ inputs length defined.
     let now = g.F.ByteFeed.coming c.loop.f in
     let e = c.in_err-latch.field-0.0 in
     rw (p.1, p.2) (on_line-weaker e _ _
-    (λ (k : Misses (latch_at kind greatest inputs h.0) now).
-    misses_same (entries_at (latch_at kind greatest inputs) [] count) (fitting_latches_at kind ns inputs) _ (misses_more (latch_at kind greatest inputs) c.loop.counter count _ _ h.0 c.loop-test.true h.2 k) (λ bs. latches_is kind ns inputs bs length))
-    (subst (λ (k : FileKind). OnLine e (Misses (latch_at k greatest inputs h.0) now)) c.loop.invariant.kind (c.in_err-latch.ensures.exact inputs h.0 h.1.1)))
+    (λ (k : Misses (parse_latch_entry kind greatest inputs h.0) now).
+    misses_same (entries_at (parse_latch_entry kind greatest inputs) [] count) (parse_fitting_latches kind ns inputs) _ (misses_more (parse_latch_entry kind greatest inputs) c.loop.counter count _ _ h.0 c.loop-test.true h.2 k) (λ bs. latches_is kind ns inputs bs length))
+    (subst (λ (k : FileKind). OnLine e (Misses (parse_latch_entry k greatest inputs h.0) now)) c.loop.invariant.kind (c.in_err-latch.ensures.exact inputs h.0 h.1.1)))
 
 pub loop-preserved : goal.loop-preserved
 loop-preserved g c = record {
@@ -56,7 +56,7 @@ loop-preserved g c = record {
       let k = c.in_ok-latch.ensures.exact inputs h.0 h.1.1 in (
         h.0 ++ k.0 ∷ [],
         (made_push latch_from h.0 k.0 _ _ _ h.1.0 k.1.0 c.in_ok-push.ensures.items, defined_push greatest _ inputs h.0 k.0 k.1.1),
-        takes_more (latch_at kind greatest inputs) c.loop.counter _ _ _ h.0 k.0 h.2 (subst (λ (d : FileKind). Takes (latch_at d greatest inputs h.0) (g.F.ByteFeed.coming c.loop.f) (g.F.ByteFeed.coming c.latch_line.new.f) k.0) c.loop.invariant.kind k.2),
+        takes_more (parse_latch_entry kind greatest inputs) c.loop.counter _ _ _ h.0 k.0 h.2 (subst (λ (d : FileKind). Takes (parse_latch_entry d greatest inputs h.0) (g.F.ByteFeed.coming c.loop.f) (g.F.ByteFeed.coming c.latch_line.new.f) k.0) c.loop.invariant.kind k.2),
       );
   count = c.in_ok-push.ensures.len ∙ ap (λ (n : ℕ). n + 1) c.loop.invariant.count;
   room = room_more _ _ _ c.loop.counter c.loop.invariant.room c.in_ok-latch.ensures.room;
@@ -74,6 +74,6 @@ returns-clause-exact g c = λ inputs length defined.
     let ns = numbers_of c.args.header in (
       h.0,
       h.1,
-      takes_same (entries_at (latch_at kind greatest inputs) [] count) (fitting_latches_at kind ns inputs) _ _ h.0
-          (subst (λ (n : ℕ). Takes (entries_at (latch_at kind greatest inputs) [] n) (g.F.ByteFeed.coming c.args.f.now) (g.F.ByteFeed.coming c.loop.f) h.0) all h.2) (λ bs. latches_is kind ns inputs bs length),
+      takes_same (entries_at (parse_latch_entry kind greatest inputs) [] count) (parse_fitting_latches kind ns inputs) _ _ h.0
+          (subst (λ (n : ℕ). Takes (entries_at (parse_latch_entry kind greatest inputs) [] n) (g.F.ByteFeed.coming c.args.f.now) (g.F.ByteFeed.coming c.loop.f) h.0) all h.2) (λ bs. latches_is kind ns inputs bs length),
     )

@@ -1,7 +1,7 @@
 use Rattle.std.proofs.Common.{◌∙◌, ◌++◌, ◌+◌, [], ℕ, refl, ap, sym, subst, arith}
 use Rattle.std.specs.Prelude.{◌==◌}
 use Rattle.std.proofs.lemmas.Result.{err_from_is_err_and}
-use Rattle.aig_parsing.specs.ParseTested.{fitting_gates_at}
+use Rattle.aig_parsing.specs.ParseTested.{parse_fitting_gates}
 use Rattle.aig_parsing.specs.Parse.{Parts}
 use Rattle.aig_parsing.proofs.SectionFacts.{lines_tell}
 use Rattle.aig_format.specs.declared.FileKind.{FileKind}
@@ -86,7 +86,7 @@ returns-in_err-gates-clause-exact g c =
     let missed = missed_in (gate_error_in kind) (in_gates kind) _ _ _ _ c.read_gates-gates.result c.gates_result.result e c.gates_result.ensures c.in_err-gates.was gates in
     let p = err_from_is_err_and c.from_residual-in_err-gates.result c.from_residual-in_err-gates.ensures.1 in
     rw (p.1, p.2) (on_refusal-weaker e _ _ (misses_gates kind (numbers_of header) _ _ leaves.literals leaves.takes_inputs _ leaves.lines leaves.takes_latchs _ properties.0 properties.2)
-    (subst (λ (k : FileKind). OnRefusal e (Misses (fitting_gates_at k (numbers_of header) (literals_with leaves.literals leaves.lines)) (g.F.ByteFeed.coming c.read_properties.new.f))) (latchs.kind ∙ inputs.kind ∙ start) missed))
+    (subst (λ (k : FileKind). OnRefusal e (Misses (parse_fitting_gates k (numbers_of header) (literals_with leaves.literals leaves.lines)) (g.F.ByteFeed.coming c.read_properties.new.f))) (latchs.kind ∙ inputs.kind ∙ start) missed))
 
 pub returns-clause-exact : goal.returns-clause-exact
 returns-clause-exact g c =
@@ -101,8 +101,8 @@ returns-clause-exact g c =
     let defined = literals_with leaves.literals leaves.lines in
     let gates = made_in (gate_error_in kind) (in_gates kind) _ _ _ _ c.read_gates-gates.result c.gates_result.result c.in_ok-gates.gates c.gates_result.ensures c.in_ok-gates.was (c.read_gates-gates.ensures.exact defined leaves.count leaves.defined) in
     let same = latchs.kind ∙ inputs.kind ∙ start in
-    let hg : Takes (fitting_gates_at kind ns defined) (g.F.ByteFeed.coming c.read_properties.new.f) (g.F.ByteFeed.coming c.read_gates-gates.new.f) gates.0 =
-    subst (λ (k : FileKind). Takes (fitting_gates_at k ns defined) (g.F.ByteFeed.coming c.read_properties.new.f) (g.F.ByteFeed.coming c.read_gates-gates.new.f) gates.0) same gates.2 in
+    let hg : Takes (parse_fitting_gates kind ns defined) (g.F.ByteFeed.coming c.read_properties.new.f) (g.F.ByteFeed.coming c.read_gates-gates.new.f) gates.0 =
+    subst (λ (k : FileKind). Takes (parse_fitting_gates k ns defined) (g.F.ByteFeed.coming c.read_properties.new.f) (g.F.ByteFeed.coming c.read_gates-gates.new.f) gates.0) same gates.2 in
     let x = properties.0 in
     let y : Parts = record { inputs = leaves.literals; latches = leaves.lines; properties = x; gates = gates.0 } in
     let f = file_by header y in

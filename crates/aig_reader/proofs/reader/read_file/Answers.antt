@@ -5,7 +5,7 @@ use Rattle.aig_circuit.specs.Circuit.{latch_leaves}
 use Rattle.aig_circuit.specs.View.{names_of}
 use Rattle.aig_circuit.specs.declared.node.AigLatch.{AigLatch}
 use Rattle.aig_parsing.specs.Parse.{file_from}
-use Rattle.aig_parsing.specs.ParseTested.{fitting_header_at}
+use Rattle.aig_parsing.specs.ParseTested.{parse_fitting_header}
 use Rattle.aig_lexer.specs.Header.{numbers_of}
 use Rattle.aig_lexer.proofs.Taking.{takes_both}
 use Rattle.aig_reader.specs.Names.{kept_names, tail_of}
@@ -33,7 +33,7 @@ read_names-names-requires-clause-distinct g c =
     let header = c.in_ok-header.header in
     let made = c.in_ok-sections.ensures.exact in
     let body : Body = ((header.kind, numbers_of header), made.0) in
-    let taken = takes_both (fitting_header_at c.args.limit) sections_of _ _ _ (header.kind, numbers_of header) made.0 c.in_ok-header.ensures.exact made.2 in
+    let taken = takes_both (parse_fitting_header c.args.limit) sections_of _ _ _ (header.kind, numbers_of header) made.0 c.in_ok-header.ensures.exact made.2 in
     let fits = accepted c.args.limit _ _ body taken [] [] (no_names_left (numbers_of header)) in
     rw (c.deref.ensures.value, c.deref-2.ensures.value) (nodes_distinct (file_from body []) c.in_ok-sections.sections made.1 c.args.limit fits.1)
 
@@ -44,7 +44,7 @@ returns-in_err-names-clause-exact g c =
     let header = c.in_ok-header.header in
     let made = c.in_ok-sections.ensures.exact in
     let body : Body = ((header.kind, numbers_of header), made.0) in
-    let taken = takes_both (fitting_header_at c.args.limit) sections_of _ _ _ (header.kind, numbers_of header) made.0 c.in_ok-header.ensures.exact made.2 in
+    let taken = takes_both (parse_fitting_header c.args.limit) sections_of _ _ _ (header.kind, numbers_of header) made.0 c.in_ok-header.ensures.exact made.2 in
     rw (p.1, p.2)
     (refused_names _ header c.args.limit _ _ body e taken
     (no_names_in _ _ _ (tail_of (numbers_of header)) c.read_names-names.result c.names_result.result c.names_result.ensures c.read_names-names.ensures.exact e c.in_err-names.was)
@@ -55,7 +55,7 @@ returns-clause-circuit g c =
     let header = c.in_ok-header.header in
     let made = c.in_ok-sections.ensures.exact in
     let body : Body = ((header.kind, numbers_of header), made.0) in
-    let taken = takes_both (fitting_header_at c.args.limit) sections_of _ _ _ (header.kind, numbers_of header) made.0 c.in_ok-header.ensures.exact made.2 in
+    let taken = takes_both (parse_fitting_header c.args.limit) sections_of _ _ _ (header.kind, numbers_of header) made.0 c.in_ok-header.ensures.exact made.2 in
     let names = names_in _ _ _ (tail_of (numbers_of header)) c.read_names-names.result c.names_result.result c.names_result.ensures c.read_names-names.ensures.exact c.in_ok-names.names c.in_ok-names.was in
     let fits = accepted c.args.limit _ _ body taken names.0 names.2 names.3 in
     let s = c.in_ok-sections.sections in

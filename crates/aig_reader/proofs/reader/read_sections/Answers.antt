@@ -1,5 +1,5 @@
 use Rattle.std.proofs.lemmas.Result.{err_from_is_err_and}
-use Rattle.aig_parsing.specs.ParseTested.{is_accepted_order, section_lines_at}
+use Rattle.aig_parsing.specs.ParseTested.{is_accepted_order, parse_section_lines}
 use Rattle.aig_lexer.specs.Header.{numbers_of}
 use Rattle.aig_lexer.proofs.Taking.{misses_tested}
 use Rattle.aig_reader.specs.Sections.{file_by}
@@ -11,7 +11,7 @@ pub returns-in_err-lines-clause-exact : goal.returns-in_err-lines-clause-exact
 returns-in_err-lines-clause-exact g c =
     let header = c.args.header in
     let p = err_from_is_err_and c.from_residual.result c.from_residual.ensures.1 in
-    rw (p.1, p.2) (on_refusal-weaker c.in_err-lines.field-0.0 _ _ (misses_tested (section_lines_at header.kind (numbers_of header)) (λ x. is_accepted_order header.kind (file_by header x)) _) c.in_err-lines.ensures.exact)
+    rw (p.1, p.2) (on_refusal-weaker c.in_err-lines.field-0.0 _ _ (misses_tested (parse_section_lines header.kind (numbers_of header)) (λ x. is_accepted_order header.kind (file_by header x)) _) c.in_err-lines.ensures.exact)
 
 pub numbered-requires : goal.numbered-requires
 numbered-requires g c = let made = c.in_ok-lines.ensures.exact in (file_by c.args.header made.0, made.1)

@@ -1,15 +1,15 @@
 use Rattle.std.proofs.Common.{◌∷◌, ℕ, Option, None, List}
-use Rattle.aig_parsing.specs.Parse.{mapped_at}
-use Rattle.aig_lexer.specs.Words.{expect_at}
+use Rattle.aig_parsing.specs.Parse.{parse_map}
+use Rattle.aig_lexer.specs.Words.{parse_expected}
 use Rattle.aig_lexer.proofs.Going.{goes_call, goes_nowhere, goes_same, goes_start}
 use Rattle.aig_lexer.proofs.Taking.{misses_where}
-use Rattle.aig_witness.specs.Reading.{parts_at, witness_at, witness_from}
+use Rattle.aig_witness.specs.Reading.{parse_parts, parse_witness, witness_from}
 use Rattle.aig_witness.specs.Witness.{Witness}
 use Rattle.aig_witness.proofs.Going.{gives_rest, seen_as_witness, status_ends, status_long, status_wrong}
 use Rattle.aig_witness.proofs.reading.read_behind.Goals as goal
 
 abbrev from : ℕ → List ℕ → Option (Witness × List ℕ)
-from first bs = witness_at (first ∷ bs)
+from first bs = parse_witness (first ∷ bs)
 
 pub returns-then-first-ne49-clause-exact : goal.returns-then-first-ne49-clause-exact
 returns-then-first-ne49-clause-exact g c =
@@ -19,13 +19,13 @@ returns-then-first-ne49-clause-exact g c =
 
 pub returns-then-not-branch-clause-exact : goal.returns-then-not-branch-clause-exact
 returns-then-not-branch-clause-exact g c =
-    misses_where (expect_at 10) (from c.args.first) (g.F.ByteFeed.coming c.args.f.now) (c.in_ok-ends_line.ensures.misses c.if-not-branch.true) (status_long c.args.first c.if-first-ne49.false)
+    misses_where (parse_expected 10) (from c.args.first) (g.F.ByteFeed.coming c.args.f.now) (c.in_ok-ends_line.ensures.misses c.if-not-branch.true) (status_long c.args.first c.if-first-ne49.false)
 
 pub returns-clause-exact : goal.returns-clause-exact
 returns-clause-exact g c =
     let read = from c.args.first in
     let now = g.F.ByteFeed.coming c.args.f.now in
     let mid = g.F.ByteFeed.coming c.ends_line.new.f in
-    gives_rest _ read (mapped_at witness_from parts_at) now mid _ c.read_parts.result
-    (goes_call read (expect_at 10) read (mapped_at witness_from parts_at) now now mid 10 (goes_start read now) (c.in_ok-ends_line.ensures.takes c.if-not-branch.false) (status_ends c.args.first c.if-first-ne49.false))
+    gives_rest _ read (parse_map witness_from parse_parts) now mid _ c.read_parts.result
+    (goes_call read (parse_expected 10) read (parse_map witness_from parse_parts) now now mid 10 (goes_start read now) (c.in_ok-ends_line.ensures.takes c.if-not-branch.false) (status_ends c.args.first c.if-first-ne49.false))
     (seen_as_witness mid (g.F.ByteFeed.coming c.read_parts.new.f) c.read_parts.result c.read_parts.ensures.exact)

@@ -2,7 +2,7 @@ use Rattle.std.proofs.Common.{◌∙◌, [], ◌∷◌, ◌++◌, ℕ, List, Opt
 use Rattle.std.proofs.lemmas.Result.{err_from_is_err_and}
 use Rattle.aig_base.specs.declared.logic.three.Lbool.{Lbool}
 use Rattle.aig_lexer.specs.Takes.{Misses}
-use Rattle.aig_lexer.specs.Words.{expect_at}
+use Rattle.aig_lexer.specs.Words.{parse_expected}
 use Rattle.aig_lexer.proofs.Going.{goes_byte, goes_call, goes_done, goes_end, goes_wrong}
 use Rattle.aig_lexer.proofs.Taking.{misses_where}
 use Rattle.aig_witness.specs.Reading.{point_behind, row_behind, steps_behind}
@@ -19,7 +19,7 @@ returns-then-not-branch-clause-exact g c =
     let now = g.F.ByteFeed.coming c.next.new.self in
     goes_wrong read (point_behind rows []) _ now
     (goes_byte read (steps_behind rows []) (point_behind rows []) _ _ now c.in_ok-first.field-0 c.in-Some.first c.loop-steps.invariant.goes_on c.in_ok-first.ensures.byte c.in-Some.is (point_comes rows c.in-Some.first c.if-first-eq46.true))
-    (misses_where (expect_at 10) (point_behind rows []) now (c.in_ok-ends_line.ensures.misses c.if-not-branch.true) (point_wrong rows))
+    (misses_where (parse_expected 10) (point_behind rows []) now (c.in_ok-ends_line.ensures.misses c.if-not-branch.true) (point_wrong rows))
 
 pub returns-then-first-eq46-clause-exact : goal.returns-then-first-eq46-clause-exact
 returns-then-first-eq46-clause-exact g c =
@@ -27,7 +27,7 @@ returns-then-first-eq46-clause-exact g c =
     let now = g.F.ByteFeed.coming c.next.new.self in
     let after = g.F.ByteFeed.coming c.ends_line.new.f in
     goes_done read rows _ after
-    (goes_call read (expect_at 10) (point_behind rows []) (λ bs. Some (rows, bs)) _ now after 10
+    (goes_call read (parse_expected 10) (point_behind rows []) (λ bs. Some (rows, bs)) _ now after 10
     (goes_byte read (steps_behind rows []) (point_behind rows []) _ _ now c.in_ok-first.field-0 c.in-Some.first c.loop-steps.invariant.goes_on c.in_ok-first.ensures.byte c.in-Some.is (point_comes rows c.in-Some.first c.if-first-eq46.true))
     (c.in_ok-ends_line.ensures.takes c.if-not-branch.false) (point_ends rows))
 

@@ -3,7 +3,7 @@ use Rattle.std.proofs.lemmas.Result.{err_from_is_err_and}
 use Rattle.aig_lexer.specs.Takes.{Misses}
 use Rattle.aig_lexer.proofs.Going.{GoesOn, goes_byte, goes_call, goes_done, goes_same, goes_start, goes_wrong}
 use Rattle.aig_lexer.proofs.Taking.{misses_where}
-use Rattle.aig_witness.specs.Reading.{next_at, witness_at}
+use Rattle.aig_witness.specs.Reading.{parse_next, parse_witness}
 use Rattle.aig_witness.specs.Witness.{said_by}
 use Rattle.aig_witness.proofs.Going.{comment_begins, next_from, next_starts, nothing_left, on_witness-weaker, witness_found, witness_missed}
 use Rattle.aig_witness.proofs.reading.read_witness.Goals as goal
@@ -11,44 +11,44 @@ use Rattle.aig_witness.proofs.reading.read_witness.Goals as goal
 pub loop-b-init : goal.loop-b-init
 loop-b-init g c =
     let now = g.F.ByteFeed.coming c.args.f.now in
-    record { goes_on = goes_same next_at next_at (next_from false) now now (goes_start next_at now) next_starts; same = refl }
+    record { goes_on = goes_same parse_next parse_next (next_from false) now now (goes_start parse_next now) next_starts; same = refl }
 
 pub loop-b-preserved-then-inside : goal.loop-b-preserved-then-inside
 loop-b-preserved-then-inside g c =
-    let inside = subst (λ i. GoesOn next_at (g.F.ByteFeed.coming c.args.f.now) (next_from i) (g.F.ByteFeed.coming c.loop-b.f)) c.if-inside.true c.loop-b.invariant.goes_on in
+    let inside = subst (λ i. GoesOn parse_next (g.F.ByteFeed.coming c.args.f.now) (next_from i) (g.F.ByteFeed.coming c.loop-b.f)) c.if-inside.true c.loop-b.invariant.goes_on in
     record {
-      goes_on = goes_byte next_at (next_from true) (next_from (not (nat_eq c.in-Some.b 10))) _ _ (g.F.ByteFeed.coming c.next.new.self) c.in_ok-b.field-0 c.in-Some.b inside c.in_ok-b.ensures.byte c.in-Some.is (λ bs. refl);
+      goes_on = goes_byte parse_next (next_from true) (next_from (not (nat_eq c.in-Some.b 10))) _ _ (g.F.ByteFeed.coming c.next.new.self) c.in_ok-b.field-0 c.in-Some.b inside c.in_ok-b.ensures.byte c.in-Some.is (λ bs. refl);
       same = c.next.ensures.same ∙ c.loop-b.invariant.same;
     }
 
 pub loop-b-preserved : goal.loop-b-preserved
 loop-b-preserved g c =
-    let outside = subst (λ i. GoesOn next_at (g.F.ByteFeed.coming c.args.f.now) (next_from i) (g.F.ByteFeed.coming c.loop-b.f)) c.if-inside.false c.loop-b.invariant.goes_on in
+    let outside = subst (λ i. GoesOn parse_next (g.F.ByteFeed.coming c.args.f.now) (next_from i) (g.F.ByteFeed.coming c.loop-b.f)) c.if-inside.false c.loop-b.invariant.goes_on in
     record {
-      goes_on = goes_byte next_at (next_from false) (next_from true) _ _ (g.F.ByteFeed.coming c.next.new.self) c.in_ok-b.field-0 c.in-Some.b outside c.in_ok-b.ensures.byte c.in-Some.is (comment_begins c.in-Some.b c.if-b-eq99.true);
+      goes_on = goes_byte parse_next (next_from false) (next_from true) _ _ (g.F.ByteFeed.coming c.next.new.self) c.in_ok-b.field-0 c.in-Some.b outside c.in_ok-b.ensures.byte c.in-Some.is (comment_begins c.in-Some.b c.if-b-eq99.true);
       same = c.next.ensures.same ∙ c.loop-b.invariant.same;
     }
 
 pub returns-else-b-eq99-clause-exact : goal.returns-else-b-eq99-clause-exact
 returns-else-b-eq99-clause-exact g c =
-    let outside = subst (λ i. GoesOn next_at (g.F.ByteFeed.coming c.args.f.now) (next_from i) (g.F.ByteFeed.coming c.loop-b.f)) c.if-inside.false c.loop-b.invariant.goes_on in
+    let outside = subst (λ i. GoesOn parse_next (g.F.ByteFeed.coming c.args.f.now) (next_from i) (g.F.ByteFeed.coming c.loop-b.f)) c.if-inside.false c.loop-b.invariant.goes_on in
     let mid = g.F.ByteFeed.coming c.next.new.self in
     let after = g.F.ByteFeed.coming c.read_behind.new.f in
     let b = c.in-Some.b in
     let w = said_by c.in_ok-witness.witness in
-    let begun = goes_byte next_at (next_from false) (λ bs. next_from false (b ∷ bs)) _ _ mid c.in_ok-b.field-0 b outside c.in_ok-b.ensures.byte c.in-Some.is (λ bs. refl) in
-    goes_done next_at (Some w) _ after
-    (goes_call next_at (λ bs. witness_at (b ∷ bs)) (λ bs. next_from false (b ∷ bs)) (λ bs. Some (Some w, bs)) _ mid after w begun c.in_ok-witness.ensures.exact (witness_found b c.if-b-eq99.false w))
+    let begun = goes_byte parse_next (next_from false) (λ bs. next_from false (b ∷ bs)) _ _ mid c.in_ok-b.field-0 b outside c.in_ok-b.ensures.byte c.in-Some.is (λ bs. refl) in
+    goes_done parse_next (Some w) _ after
+    (goes_call parse_next (λ bs. parse_witness (b ∷ bs)) (λ bs. next_from false (b ∷ bs)) (λ bs. Some (Some w, bs)) _ mid after w begun c.in_ok-witness.ensures.exact (witness_found b c.if-b-eq99.false w))
 
 pub returns-in_err-witness-clause-exact : goal.returns-in_err-witness-clause-exact
 returns-in_err-witness-clause-exact g c =
     let p = err_from_is_err_and c.from_residual-in_err-witness.result c.from_residual-in_err-witness.ensures.1 in
-    let outside = subst (λ i. GoesOn next_at (g.F.ByteFeed.coming c.args.f.now) (next_from i) (g.F.ByteFeed.coming c.loop-b.f)) c.if-inside.false c.loop-b.invariant.goes_on in
+    let outside = subst (λ i. GoesOn parse_next (g.F.ByteFeed.coming c.args.f.now) (next_from i) (g.F.ByteFeed.coming c.loop-b.f)) c.if-inside.false c.loop-b.invariant.goes_on in
     let mid = g.F.ByteFeed.coming c.next.new.self in
     let b = c.in-Some.b in
-    let begun = goes_byte next_at (next_from false) (λ bs. next_from false (b ∷ bs)) _ _ mid c.in_ok-b.field-0 b outside c.in_ok-b.ensures.byte c.in-Some.is (λ bs. refl) in
+    let begun = goes_byte parse_next (next_from false) (λ bs. next_from false (b ∷ bs)) _ _ mid c.in_ok-b.field-0 b outside c.in_ok-b.ensures.byte c.in-Some.is (λ bs. refl) in
     rw (p.1, p.2) (on_witness-weaker c.in_err-witness.field-0.0 _ _
-    (λ (m : Misses (λ bs. witness_at (b ∷ bs)) mid). goes_wrong next_at (λ bs. next_from false (b ∷ bs)) _ mid begun (misses_where (λ bs. witness_at (b ∷ bs)) (λ bs. next_from false (b ∷ bs)) mid m (witness_missed b c.if-b-eq99.false)))
+    (λ (m : Misses (λ bs. parse_witness (b ∷ bs)) mid). goes_wrong parse_next (λ bs. next_from false (b ∷ bs)) _ mid begun (misses_where (λ bs. parse_witness (b ∷ bs)) (λ bs. next_from false (b ∷ bs)) mid m (witness_missed b c.if-b-eq99.false)))
     c.in_err-witness.ensures.exact)
 
 pub returns-clause-exact : goal.returns-clause-exact

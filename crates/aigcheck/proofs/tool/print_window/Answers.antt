@@ -2,7 +2,7 @@ use Rattle.std.proofs.Common.{◌++◌, length, refl}
 use Rattle.std.proofs.lemmas.Result.{err_from_is_err_and}
 use Rattle.aig_base.specs.Formula.{clauses_in}
 use Rattle.aig_dimacs.specs.Text.{dimacs_of}
-use Rattle.aig_dimacs.proofs.Reading.{formula_at-dimacs_of}
+use Rattle.aig_dimacs.proofs.Reading.{parse_formula-dimacs_of}
 use Rattle.aig_answers.specs.declared.windows.WindowClauses.{WindowClauses}
 use Rattle.aig_answers.proofs.Files.{told_again}
 use Rattle.aigcheck.proofs.tool.print_window.Goals as goal
@@ -26,7 +26,7 @@ returns-in_err-write_dimacs g c =
         asked = o.holds;
         taken = o.taken;
         text = dimacs_of (length made.clauses) all;
-        answers = record { lists = made.clauses; further = made.further; asks = o.means; exact = refl; again = formula_at-dimacs_of (length made.clauses) all told.formula };
+        answers = record { lists = made.clauses; further = made.further; asks = o.means; exact = refl; again = parse_formula-dimacs_of (length made.clauses) all told.formula };
         holds = told.writes.err.beginning;
       },
       told.writes.err.has_failed,
@@ -44,7 +44,7 @@ returns g c =
         asked = o.holds;
         taken = o.taken;
         text = dimacs_of (length made.clauses) all;
-        answers = record { lists = made.clauses; further = made.further; asks = o.means; exact = refl; again = formula_at-dimacs_of (length made.clauses) all told.formula };
+        answers = record { lists = made.clauses; further = made.further; asks = o.means; exact = refl; again = parse_formula-dimacs_of (length made.clauses) all told.formula };
         holds = told.writes.ok;
       },
       told.writes.sound,
