@@ -518,7 +518,7 @@ def g7(t):
 
 @group("8", "What comes after is after, what is dropped is dropped")
 def g8(t):
-    t.ident("leaves_behind", "leaves_after")
+    t.ident("leaves_after", "leaves_after")
     prose_outside(t, [
         (r"(?<!closed )\bbehind\b", "after"),
         (r"\bBehind\b", "After"),
@@ -527,10 +527,10 @@ def g8(t):
         (r"\beach value that is let go\b", "each value that is dropped"),
         (r"\b(is|are) let go\b", r"\1 dropped"),
     ], ["crates/*", "docs/*", "README.md", "unfinished/*"])
-    for old, new in [("row_behind", "parse_row_after"), ("point_behind", "parse_point_after"), ("steps_behind", "parse_steps_after"),
-                     ("behind_comments", "after_comments"), ("read_behind", "read_after")]:
+    for old, new in [("parse_row_after", "parse_row_after"), ("parse_point_after", "parse_point_after"), ("parse_steps_after", "parse_steps_after"),
+                     ("after_comments", "after_comments"), ("read_after", "read_after")]:
         t.ident(old, new)
-    t.git_mv("crates/aig_witness/proofs/reading/read_behind", "crates/aig_witness/proofs/reading/read_after")
+    t.git_mv("crates/aig_witness/proofs/reading/read_after", "crates/aig_witness/proofs/reading/read_after")
 
 
 @group("9", "Texts of lines are texts")

@@ -15,7 +15,7 @@ module _ {X : Type 0} (P : X → Type 0) where
   Any-Contains : (xs : List X) (x : X) → Contains xs x → P x → Any P xs
   Any-Contains xs x found has = (found.0, x, found.1, found.2, has)
 
-  -- one list behind another
+  -- one list after another
   pub Any-append : (xs ys : List X) → Any P (xs ++ ys) ↔ (Any P xs ⊎ Any P ys)
   Any-append xs ys = (
     λ any. elim (Contains-append_cases xs ys any.1 (any.0, any.2, any.3)) [

@@ -135,7 +135,7 @@ pub record RefusesReduced {T : Type 0} (limit k : ℕ) (result : Result T Answer
 pub record TellsOfReduced {R T : Type 0} (left : R → Option (List ℕ)) (failed : R → Bool) (limit k : ℕ) (result : Result T AnswerError) (r rest : R) : Type 0 where
   -- of known bytes, memory and the stream aside: they are refused exactly where these apply
   pub exact : IfSome (left r) (λ bytes. UnlessInterrupted (of_file result) (RefusesReduced limit k result bytes))
-  -- memory runs out behind the reading only after a file that fits was read
+  -- memory runs out after the reading only after a file that fits was read
   pub memory : IsErrOf result (errors.Encode encode.Memory) → TookFile (λ bytes. Accepts bytes limit) (left r) (left rest)
   -- further steps pass the limit only after a file whose reduced circuit's do, and then its own circuit's do
   pub large : IsErrOf result (errors.Encode encode.TooLarge) → TookFile (IsReducedBeyond limit k) (left r) (left rest)

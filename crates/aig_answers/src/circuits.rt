@@ -76,7 +76,7 @@ pub fn query_of(
 /// no run of the circuit from an initial state reaches a bad edge at that step.
 ///
 /// The clauses have the order and the variables of the DIMACS form: those of each node's variable, and the further ones
-/// behind them. A circuit without bad edges is refused before anything else, as nothing is asked of it. Requires
+/// after them. A circuit without bad edges is refused before anything else, as nothing is asked of it. Requires
 /// `limit <= 2^31`.
 pub fn check_query_of<P: Source>(
     alloc: Global,

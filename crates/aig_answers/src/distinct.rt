@@ -66,7 +66,7 @@ fn push_pair(
     further.push(some)
 }
 
-/// Appends the clauses that the state at step `t` differs from each before it. A state has `latchs` edges, and stands behind
+/// Appends the clauses that the state at step `t` differs from each before it. A state has `latchs` edges, and stands after
 /// those before it.
 fn push_apart(
     clauses: &mut DagCnf,
@@ -91,8 +91,8 @@ fn push_apart(
     Ok(())
 }
 
-/// Appends the clauses that the states at the first `steps` steps differ, over free variables behind those of the clauses.
-/// A state has `latchs` edges, and stands behind those before it.
+/// Appends the clauses that the states at the first `steps` steps differ, over free variables after those of the clauses.
+/// A state has `latchs` edges, and stands after those before it.
 pub(crate) fn push_distinct(
     clauses: &mut DagCnf,
     further: &mut LitVvec,

@@ -16,7 +16,7 @@ use std::alloc::Global;
 /// step `k` can't be satisfied: then no run from an initial state reaches a bad state at that step. Requires `1 <= limit <= 2^31`.
 ///
 /// The clauses have the order and the variables of the DIMACS form: those of each node's variable, and the further ones
-/// behind them. A file without bad state properties is refused, as nothing is asked of it, before the proof is read.
+/// after them. A file without bad state properties is refused, as nothing is asked of it, before the proof is read.
 pub fn check_step<R: Source, P: Source>(
     alloc: Global,
     r: &mut R,

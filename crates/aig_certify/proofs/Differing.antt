@@ -51,7 +51,7 @@ pub record Extends (v : ℕ → Bool) (n : ℕ) (clauses : List (List Lit)) : Ty
   pub agree : Agree n v values
   pub hold : AllByRecursion (Holds values) clauses
 
--- clauses of variables below m, and others behind them
+-- clauses of variables below m, and others after them
 extends_both : (v : ℕ → Bool) (n m : ℕ) (clauses others : List (List Lit)) → n ≤ m → AreBelow m clauses → (first : Extends v n clauses) → Extends first.values m others → Extends v n (clauses ++ others)
 extends_both v n m clauses others low below first second = record {
   values = second.values;

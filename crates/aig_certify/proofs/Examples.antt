@@ -90,7 +90,7 @@ free-plain = refl
 leaves : watched Distinct (record (showing (edge_to 5 false ∷ [])) { latchs = keeping 1 ∷ keeping 2 ∷ [] }) ≡ record (showing (edge_to 1 false ∷ edge_to 2 false ∷ [])) { latchs = keeping 1 ∷ keeping 2 ∷ [] }
 leaves = refl
 
--- the clauses of states stand behind those of induction
+-- the clauses of states stand after those of induction
 behind : codes_of (window_clauses Distinct 4 (record only_false { latchs = keeping 1 ∷ [] }) 0 (showing (edge_to 1 false ∷ edge_to 2 false ∷ []))) ≡ [] ∷ (9 ∷ 2 ∷ 4 ∷ []) ∷ (9 ∷ 3 ∷ 5 ∷ []) ∷ (8 ∷ []) ∷ []
 behind = refl
 

@@ -143,7 +143,7 @@ satisfies_alike n v w agree lists below holds i d lt =
     let low = recursion_from_All (IsBelow n) some (All-weaker (All (λ lit. variable_of lit < n)) (IsBelow n) (λ clause is. recursion_from_All (λ lit. variable_of lit < n) clause is) some (below i d lt)) in
     (all_is (is_true_clause w) some).1 (hold_alike n v w agree some low ((all_is (is_true_clause v) some).0 (holds i d lt)))
 
--- and where variables without clauses stand behind them
+-- and where variables without clauses stand after them
 satisfies_more : (v : ℕ → Bool) (lists : List (List (List Lit))) (count : ℕ) → Satisfies v lists → Satisfies v (lists ++ replicate count [])
 satisfies_more v lists count holds =
     let IsSatisfied : List (List Lit) → Type 0 = λ some. IsTrue (are_true v some) in

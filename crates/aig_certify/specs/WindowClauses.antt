@@ -68,7 +68,7 @@ distinct_clauses n l edges (suc t) = distinct_clauses n l edges t ++ apart_claus
 
 -- ---- windows
 
--- how many variables a form has behind those of the nodes
+-- how many variables a form has after those of the nodes
 abbrev pub count_free : Window → Circuit → ℕ → ℕ
 count_free Plain c k = 0
 count_free Distinct c k = count_pairs (k + 2) * length c.latchs

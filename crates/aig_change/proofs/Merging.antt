@@ -1,4 +1,4 @@
--- The nodes of one circuit but 0 behind those of another.
+-- The nodes of one circuit but 0 after those of another.
 use Rattle.std.proofs.Common.{◌≡◌, ℕ, zero, suc, ◌+◌, ◌-◌, ◌<◌, ◌≤◌, ◌⊎◌, false, cond, eqb, Some, List, [], ◌∷◌, ◌++◌, length, get_or, refl, sym, ap, subst, ◌∙◌, arith, inl, inr, length-append, take, append_assoc}
 use Rattle.std.specs.Prelude.{option_map, slice_get}
 use Rattle.std.proofs.lemmas.Bool.{cases_lt, ne_eqb}
@@ -63,7 +63,7 @@ module _ (xs ys : List AigNode) (p : AreNodes xs) (q : AreNodes ys) where
   pub length-joint : length joint + 1 ≡ length xs + length ys
   length-joint = omega (arith, length-append xs moved, length-nodes_in_order ys number (length xs) (numbers_but_0 ys), length-but_0 ys some_second)
 
-  -- the node behind the first ones
+  -- the node after the first ones
   node-second : (m : ℕ) → suc m < length ys → slice_get joint (length xs + m) ≡ Some (node_in_order ys number (length xs + m) (suc m))
   node-second m h =
       let low : m < length (numbers_but_0 ys) = omega (arith, length-but_0 ys some_second) in
@@ -165,7 +165,7 @@ module _ (xs ys : List AigNode) (p : AreNodes xs) (q : AreNodes ys) where
         (omega arith, omega arith);
   }
 
-  -- leaves of the second list come behind the first list
+  -- leaves of the second list come after the first list
   pub leaf-past : (n : ℕ) → IsLeaf ys n → length xs ≤ number n
   leaf-past zero leaf = absurd (not_leaf (same_Some _ _ (sym q.false_first ∙ leaf)))
     where
@@ -195,7 +195,7 @@ module _ (xs ys : List AigNode) (p : AreNodes xs) (q : AreNodes ys) where
   shifted-back zero = omega (arith, some_first)
   shifted-back (suc m) = omega (arith, shifted-suc (length xs) m)
 
--- ---- one more node behind the first ones
+-- ---- one more node after the first ones
 
 next_node : (ys : List AigNode) → AreNodes ys → (number : ℕ → ℕ) (v k : ℕ) → suc k < length ys → nodes_in_order ys number v (take (k + 1) (numbers_but_0 ys)) ≡ nodes_in_order ys number v (take k (numbers_but_0 ys)) ++ node_in_order ys number (v + k) (suc k) ∷ []
 next_node ys are number v k h =

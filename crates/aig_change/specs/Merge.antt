@@ -1,5 +1,5 @@
 -- Part of what is promised.
--- One circuit behind another. (The crate aig: `merge`.)
+-- One circuit after another. (The crate aig: `merge`.)
 use Rattle.std.specs.Prelude.{◌≡◌, ℕ, ◌+◌, ◌-◌, ◌==◌, ◌↔◌, if◌then◌else◌, Bool, List, ◌++◌, length, map, drop, All}
 use Rattle.aig_circuit.specs.declared.edge.AigEdge.{AigEdge}
 use Rattle.aig_circuit.specs.declared.node.AigNode.{AigNode}
@@ -7,7 +7,7 @@ use Rattle.aig_circuit.specs.Circuit.{Circuit, IsInRange, IsLeaf}
 use Rattle.aig_circuit.specs.Runs.{HaveSameValues, IsRun, IsInitial}
 use Rattle.aig_circuit.specs.Renumber.{nodes_in_order, renumbered_edge, renumbered_latch}
 
--- the number that node n gets behind so many nodes: 0 stays 0, and the others follow on
+-- the number that node n gets after so many nodes: 0 stays 0, and the others follow on
 abbrev pub shifted : ℕ → ℕ → ℕ
 shifted count n = if n == 0 then 0 else n + count - 1
 
@@ -15,7 +15,7 @@ shifted count n = if n == 0 then 0 else n + count - 1
 abbrev pub numbers_but_0 : List AigNode → List ℕ
 numbers_but_0 nodes = map (λ node. node.node_id) (drop 1 nodes)
 
--- the nodes of the second circuit but 0 stand behind those of the first, and all its lists behind the first one's lists
+-- the nodes of the second circuit but 0 stand after those of the first, and all its lists after the first one's lists
 abbrev pub merged : Circuit → Circuit → Circuit
 merged first second =
     let number = shifted (length first.nodes) in

@@ -1,4 +1,4 @@
-//! The entries of one circuit behind those of another.
+//! The entries of one circuit after those of another.
 
 ghost use Rattle.std.specs.Prelude.{◌≡◌, ◌+◌, ◌<◌, ◌≤◌, ◌^◌, ◌++◌, Some, IfOk, All, length, map, vec_len, vec_capacity};
 ghost use Rattle.aig_circuit.specs.declared.node.AigNodeType.TheVariants.{False};
@@ -16,7 +16,7 @@ use aig_circuit::{
 };
 use std::alloc::Global;
 
-/// The number of node `n` behind `count` nodes.
+/// The number of node `n` after `count` nodes.
 fn number(count: usize, n: usize) -> usize
     requires { count + n < 2 ^ 64 }
     ensures { result ≡ shifted count n }
@@ -24,7 +24,7 @@ fn number(count: usize, n: usize) -> usize
     if n == 0 { 0 } else { n + count - 1 }
 }
 
-/// The edge to the node's number behind `count` nodes.
+/// The edge to the node's number after `count` nodes.
 fn edge(count: usize, size: usize, e: AigEdge) -> AigEdge
     requires bound { count + size < 2 ^ 64 }
     requires below { IsEdgeBelow size e }
@@ -72,7 +72,7 @@ pub(crate) fn edges(all: &mut Vec<AigEdge>, count: usize, size: usize, added: &[
     }
 }
 
-/// The sets with the edges to the nodes' numbers behind `count` nodes.
+/// The sets with the edges to the nodes' numbers after `count` nodes.
 pub(crate) fn sets(
     alloc: Global,
     count: usize,
@@ -93,7 +93,7 @@ pub(crate) fn sets(
     Ok(new)
 }
 
-/// The latch with the numbers of its leaf and its edges behind `count` nodes.
+/// The latch with the numbers of its leaf and its edges after `count` nodes.
 fn latch(count: usize, size: usize, old: AigLatch) -> AigLatch
     requires bound { count + size < 2 ^ 64 }
     requires below { IsLatchBelow size old }

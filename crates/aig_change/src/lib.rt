@@ -1,4 +1,4 @@
-//! Changes of circuits: one behind another, and changes of properties and initial edges.
+//! Changes of circuits: one after another, and changes of properties and initial edges.
 #![tactic(auto)]
 
 mod append;

@@ -18,7 +18,7 @@ lists_lines (clauses ∷ lists) = flat_map-append clause_line clauses (clauses_i
 line_pieces : (lists : List (List (List Lit))) (further : List (List Lit)) → flat_map clause_line (clauses_in lists ++ further) ≡ flat_map (flat_map clause_line) lists ++ flat_map clause_line further
 line_pieces lists further = flat_map-append clause_line (clauses_in lists) further ∙ ap (λ l. l ++ flat_map clause_line further) (lists_lines lists)
 
--- behind the header line
+-- after the header line
 pub text_pieces : (header : List ℕ) (lists : List (List (List Lit))) (further : List (List Lit))
     → header ++ flat_map clause_line (clauses_in lists ++ further) ≡ then_texts header (flat_map (flat_map clause_line) lists ∷ flat_map clause_line further ∷ [])
 text_pieces header lists further = ap (λ l. header ++ l) (line_pieces lists further) ∙ sym (append_assoc header (flat_map (flat_map clause_line) lists) (flat_map clause_line further))

@@ -68,7 +68,7 @@ unfolding signed_in
 signed_in-digits [] all some = absurd (omega arith)
 signed_in-digits (d ∷ ds) all some = let h = tells_all_ascii_digits.parts d ds all in rw (no_minus d h.0.0) refl
 
--- a number behind the sign of a literal
+-- a number after the sign of a literal
 signed_in-signed : (positive : Bool) (n : ℕ) → n < 2 ^ 64 → signed_in ((if positive then [] else codes "-") ++ decimal n) ≡ Some (positive, n)
 unfolding signed_in
 signed_in-signed true n lt = signed_in-digits (decimal n) (digits_decimal own n lt) (decimal_nonempty n lt) ∙ ap (option_map (λ n. (true, n))) (number_in-decimal n lt)

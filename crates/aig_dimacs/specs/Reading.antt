@@ -36,7 +36,7 @@ abbrev pub none_behind : List Lit → Option (List (List Lit))
 none_behind [] = Some []
 none_behind (lit ∷ lits) = None
 
--- the clauses of words over so many variables, behind the first literals of a clause; each is ended by a 0
+-- the clauses of words over so many variables, after the first literals of a clause; each is ended by a 0
 unfoldable pub clauses_from : ℕ → List Lit → List (List ℕ) → Option (List (List Lit))
 clauses_from variables clause [] = none_behind clause
 clauses_from variables clause (word ∷ words) = do

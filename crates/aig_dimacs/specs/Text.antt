@@ -9,7 +9,7 @@ use Rattle.aig_base.specs.Clauses.{AreBelow, is_positive, variable_of}
 abbrev pub sign_of : Lit → List ℕ
 sign_of lit = if is_positive lit then [] else codes "-"
 
--- a literal: its variable's number and one more, behind its sign, and a space
+-- a literal: its variable's number and one more, after its sign, and a space
 abbrev pub literal_text : Lit → List ℕ
 literal_text lit = sign_of lit ++ (decimal (variable_of lit + 1) ++ 32 ∷ [])
 

@@ -118,7 +118,7 @@ fn write_lines<W: Sink>(
 }
 
 /// Writes clauses in DIMACS form: the counts of variables and of clauses, and then each clause's line, in rising order of
-/// the variable that it was given to, with further clauses behind them. A variable stands as its number and one more.
+/// the variable that it was given to, with further clauses after them. A variable stands as its number and one more.
 ///
 /// It takes no memory, and doesn't flush the sink. Requires that the further clauses are of variables that are there.
 pub fn write_dimacs<W: Sink>(

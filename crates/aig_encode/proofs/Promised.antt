@@ -86,7 +86,7 @@ module _ (of : Circuit) (limit k : ℕ) (optimize : Bool) where
     }
     answers (Err e) p = tt
 
-    -- memory ran out behind a file within the limit
+    -- memory ran out after a file within the limit
     pub took_within : (r : Result Encoded EncodeError) → Promised of limit k optimize r → IsErrOf r errors.Memory → TookFile (IsWithin limit k) old new
     took_within (Ok e) p is = cc
     took_within (Err errors.Memory) p is = (read.file, read.bytes, (read.holds, low read.file p read.means), read.taken)

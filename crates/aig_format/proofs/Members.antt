@@ -193,7 +193,7 @@ distinct-filter p (x ∷ xs) d = by_test (p x) (rec_filter (λ y. nat_eq x y ≡
     by_test true first rest = (first, rest)
     by_test false first rest = rest
 
--- distinct entries, and others behind them that differ from all of them
+-- distinct entries, and others after them that differ from all of them
 pub distinct_append : {A : Type 0} (eq : A → A → Bool) (xs ys : List A) → IsDistinct eq xs → IsDistinct eq ys → AllByRecursion (λ x. AllByRecursion (λ y. eq x y ≡ false) ys) xs → IsDistinct eq (xs ++ ys)
 unfolding IsDistinct
 distinct_append eq [] ys d e apart = e

@@ -11,7 +11,7 @@ use Rattle.aig_format.specs.declared.FileKind.{FileKind}
 use Rattle.aig_format.specs.declared.FileKind.TheVariants.{Text, Binary}
 use Rattle.aig_format.specs.File.{LatchLine, GateLine, NameLine, File, HeaderNumbers, header_of, defined}
 
--- the word that tells a file's kind, and the space behind it
+-- the word that tells a file's kind, and the space after it
 abbrev pub magic : FileKind → List ℕ
 magic Text = codes "aag "
 magic Binary = codes "aig "
@@ -25,7 +25,7 @@ abbrev pub IsHeader : FileKind → HeaderNumbers → List ℕ → Type 0
 IsHeader kind numbers bytes = (written : List ℕ) × (absent : ℕ) × (numbers_in numbers ≡ written ++ replicate absent 0) × (5 ≤ length written)
     × (Just (magic kind) then IsLine written) bytes
 
--- the numbers of a latch line behind its literal: next, and the reset if one is written
+-- the numbers of a latch line after its literal: next, and the reset if one is written
 abbrev pub next_and_reset : LatchLine → List ℕ
 next_and_reset l = l.next ∷ option_to_list l.reset
 

@@ -18,7 +18,7 @@ line_text (n ∷ m ∷ ns) = decimal n ++ 32 ∷ line_text (m ∷ ns)
 abbrev pub lines_text : List ℕ → List ℕ
 lines_text = flat_map (λ n. line_text (n ∷ []))
 
--- a number in front, unless it is a 0 with nothing behind it
+-- a number in front, unless it is a 0 with nothing after it
 abbrev pub in_front : ℕ → List ℕ → List ℕ
 in_front n [] = if n == 0 then [] else n ∷ []
 in_front n (m ∷ ms) = n ∷ m ∷ ms

@@ -124,7 +124,7 @@ justice_sets-text : lists_text Text justice_sets ≡ codes "aag 2 2 0 0 0 0 0 2 
 unfolding file_text line_text digits
 justice_sets-text = refl
 
--- the output true, and no list behind it that is written
+-- the output true, and no list after it that is written
 justice_sets-constant : lists_text Text (unnamed (node 0 False ∷ []) [] [] (edge_to 0 true ∷ []) [] []) ≡ codes "aag 0 0 0 1 0\n1\n"
 unfolding file_text line_text digits
 justice_sets-constant = refl

@@ -78,7 +78,7 @@ module _ (c : Circuit) (is : IsCircuit c) (w : IsWritable c) (placed : IsReencod
       let both : Leaf ≡ And a b = same_Some _ _ (sym leaf ∙ gate) in
       absurd cc
 
-  -- the gates come behind the leaves
+  -- the gates come after the leaves
   gate_above : (i : ℕ) (a b : AigEdge) → kind_at c.nodes i ≡ Some (And a b) → length leaves + 1 ≤ i
   gate_above zero a b gate = let both : False ≡ And a b = same_Some _ _ (sym is.nodes.false_first ∙ gate) in absurd cc
   gate_above (suc k) a b gate = elim (cases_lt k (length leaves)) [
@@ -86,7 +86,7 @@ module _ (c : Circuit) (is : IsCircuit c) (w : IsWritable c) (placed : IsReencod
     | inr high ↦ omega arith
   ]
 
-  -- and every node behind the leaves is one
+  -- and every node after the leaves is one
   gate_there : (i : ℕ) → i < length c.nodes → length leaves + 1 ≤ i → (a : AigEdge) × (b : AigEdge) × (kind_at c.nodes i ≡ Some (And a b))
   gate_there i h above = let k = kind_at-there c.nodes i h in by_kind k.0 k.1
     where

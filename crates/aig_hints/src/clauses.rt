@@ -16,7 +16,7 @@ const NUMBER: usize = 1;
 /// The word of the next clause with the same hash, by its place; 0 is the place of none.
 const NEXT: usize = 2;
 
-/// The word that says where the look for a literal to watch goes on, behind the two that are
+/// The word that says where the look for a literal to watch goes on, after the two that are
 /// watched.
 const TURN: usize = 3;
 
@@ -104,7 +104,7 @@ impl Clauses {
         self.place_at(1)
     }
 
-    /// The place of the clause behind a clause, whether removed or not, if there is one.
+    /// The place of the clause after a clause, whether removed or not, if there is one.
     pub(crate) fn behind(&self, place: u32) -> Option<u32> {
         self.place_at(place as usize + HEADER + self.len(place) as usize)
     }

@@ -211,7 +211,7 @@ impl Search {
     }
 
     /// Collects the clauses from which it follows that all literals of a clause are false, and that
-    /// clause behind them. The first `fixed` literals of the trail have clauses of their own.
+    /// clause after them. The first `fixed` literals of the trail have clauses of their own.
     fn explain(
         &mut self,
         place: u32,

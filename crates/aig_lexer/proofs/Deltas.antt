@@ -4,14 +4,14 @@ use Rattle.std.proofs.lemmas.Bool.{lt-ltb, le-ltb}
 use Rattle.std.proofs.Math.Nat.{mul-le-mul_left, pow-le-pow_right}
 use Rattle.aig_parsing.specs.Parse.{◌>>=◌, parse_groups, parse_delta, parse_map, parse_if}
 
--- a value, and the bytes behind it
+-- a value, and the bytes after it
 abbrev read : ℕ → List ℕ → Option (ℕ × List ℕ)
 read d bytes = Some (d, bytes)
 
 abbrev small : ℕ × List ℕ → Option (ℕ × List ℕ)
 small x = cond (ltb x.0 (2 ^ 32)) (Some x) None
 
--- at most k groups behind those that make this value; the next one counts `place` times
+-- at most k groups after those that make this value; the next one counts `place` times
 abbrev pub groups_behind : ℕ → ℕ → ℕ → List ℕ → Option (ℕ × List ℕ)
 groups_behind value place k = parse_if (parse_map (λ d. value + place * d) (parse_groups k)) (λ d. ltb d (2 ^ 32))
 
@@ -22,7 +22,7 @@ delta_starts bs = go (parse_groups 5 bs)
     go None = refl
     go (Some x) = let e : x.0 ≡ 0 + 1 * x.0 = omega arith in ap (λ (d : ℕ). small (d, x.1)) e
 
--- ---- behind i groups
+-- ---- after i groups
 
 -- there is a byte to come
 one_left : (i : ℕ) → i < 5 → 5 - i ≡ suc (5 - (i + 1))
@@ -45,7 +45,7 @@ module _ (value place i b : ℕ) (bs : List ℕ) (lt : i < 5) where
   pub delta_overflows : b < 128 → 2 ^ 32 ≤ value + place * (b % 128) → groups_behind value place (5 - i) (b ∷ bs) ≡ None
   delta_overflows low over = delta_stops low ∙ rw (le-ltb _ _ over) refl
 
-  -- a group with others behind it
+  -- a group with others after it
   pub delta_goes : 128 ≤ b → b < 256 → groups_behind value place (5 - i) (b ∷ bs) ≡ groups_behind (value + place * (b % 128)) (place * 128) (5 - (i + 1)) bs
   unfolding parse_groups
   delta_goes high byte = let r : b % 128 ≡ b - 128 = omega arith in rw (one_left i lt, le-ltb b 128 high, r) (go (parse_groups (5 - (i + 1)) bs))

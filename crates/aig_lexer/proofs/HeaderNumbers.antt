@@ -6,7 +6,7 @@ use Rattle.aig_parsing.specs.Parse.{◌>>=◌, parse_number, parse_line, parse_m
 use Rattle.aig_format.specs.File.{HeaderNumbers}
 use Rattle.aig_parsing.proofs.Sections.{header_from-zeros}
 
--- at most k numbers behind these, in a line
+-- at most k numbers after these, in a line
 abbrev pub numbers_behind : List ℕ → ℕ → List ℕ → Option (HeaderNumbers × List ℕ)
 numbers_behind written k = parse_map header_from (parse_if (parse_map (λ ns. written ++ ns) (parse_line k)) (λ ns. leb 5 (length ns)))
 
@@ -33,7 +33,7 @@ pub numbers_too_many : (written : List ℕ) (i : ℕ) → 9 ≤ i → (bs : List
 unfolding parse_line
 numbers_too_many written i le bs = let k : 9 - i ≡ 0 = omega arith in rw k refl
 
--- ---- behind i numbers
+-- ---- after i numbers
 
 -- there is a number to come
 one_left : (i : ℕ) → i < 9 → 9 - i ≡ suc (9 - (i + 1))
@@ -45,7 +45,7 @@ module _ (written : List ℕ) (i : ℕ) (lt : i < 9) where
   unfolding parse_line
   numbers_stop bs e = rw (one_left i lt, e) refl
 
-  -- a number, with others behind it
+  -- a number, with others after it
   pub numbers_go : (n : ℕ) (bs rest : List ℕ) → parse_number bs ≡ Some ((n, 32), rest) → numbers_behind written (9 - i) bs ≡ numbers_behind (written ++ n ∷ []) (9 - (i + 1)) rest
   unfolding parse_line
   numbers_go n bs rest e = rw (one_left i lt, e) (go (parse_line (9 - (i + 1)) rest))
@@ -54,7 +54,7 @@ module _ (written : List ℕ) (i : ℕ) (lt : i < 9) where
       go None = refl
       go (Some x) = ap (λ (ns : List ℕ). enough (ns, x.1) >>= filled) (sym (append_assoc written (n ∷ []) x.0))
 
-  -- the last number, behind four at least
+  -- the last number, after four at least
   pub numbers_give : (n : ℕ) (bs rest : List ℕ) → parse_number bs ≡ Some ((n, 10), rest) → 5 ≤ length (written ++ n ∷ []) → numbers_behind written (9 - i) bs ≡ Some (header_from (written ++ n ∷ []), rest)
   unfolding parse_line
   numbers_give n bs rest e le = rw (one_left i lt, e, le-leb _ _ le) refl
@@ -75,7 +75,7 @@ numbers_set numbers written i n lt is e =
     ap (λ (ns : List ℕ). set ns i n) (e ∙ ap (λ (j : ℕ). written ++ replicate j 0) (one_left i lt)) ∙ ap (λ (j : ℕ). set (written ++ replicate (suc k) 0) j n) (sym is)
     ∙ set-append_seam written 0 (replicate k 0) n ∙ sym (append_assoc written (n ∷ []) (replicate k 0))
 
--- the header behind a last one
+-- the header after a last one
 pub header_from-set : (numbers written : List ℕ) (i n : ℕ) → i < 9 → length written ≡ i → numbers ≡ written ++ replicate (9 - i) 0 → header_from (written ++ n ∷ []) ≡ header_from (set numbers i n)
 header_from-set numbers written i n lt is e =
     sym (header_from-zeros (written ++ n ∷ []) (9 - (i + 1))) ∙ ap header_from (sym (numbers_set numbers written i n lt is e))

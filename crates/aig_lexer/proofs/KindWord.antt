@@ -18,15 +18,15 @@ matched bytes = Some (tt, bytes)
 abbrev end_text : List ℕ
 end_text = 103 ∷ 32 ∷ []
 
--- the word behind the byte that tells the kind
+-- the word after the byte that tells the kind
 abbrev behind_kind : FileKind × List ℕ → Option (FileKind × List ℕ)
 behind_kind k = parse_word end_text k.1 >>= λ w. Some (named k.0 w.1)
 
--- the word behind its first byte
+-- the word after its first byte
 abbrev behind_first : ℕ × List ℕ → Option (FileKind × List ℕ)
 behind_first x = parse_kind_byte x.1 >>= behind_kind
 
--- either kind's word behind its first byte
+-- either kind's word after its first byte
 abbrev either_kind : List ℕ → Option (FileKind × List ℕ)
 either_kind bytes = or_else (option_map (named Text) (strip (97 ∷ end_text) bytes)) (option_map (named Binary) (strip (105 ∷ end_text) bytes))
 

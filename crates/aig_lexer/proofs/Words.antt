@@ -15,7 +15,7 @@ pub on_shape-weaker : (e : LexError) (P Q : Type 0) → (P → Q) → OnShape e 
 on_shape-weaker Stream P Q f h = tt
 on_shape-weaker Shape P Q f h = f h
 
--- a call behind a byte that came
+-- a call after a byte that came
 pub gives_behind : {X Y : Type 0} (view : X → Y) (p : List ℕ → Option (Y × List ℕ)) (before mid after : Option (List ℕ)) (o : Option ℕ) (b : ℕ) (r : Result X LexError)
     → Consumes before mid (option_to_list o) → o ≡ Some b → Gives OnShape view mid after r (λ bs. p (b ∷ bs)) → Gives OnShape view before after r p
 gives_behind {X} view p before mid after o b r c is h = go r h

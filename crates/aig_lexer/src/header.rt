@@ -38,7 +38,7 @@ pub struct Header {
     pub fairness: u32,
 }
 
-/// Reads the header line: the kind's word, and five to nine numbers (AIGER format 20071012, "Header"; the numbers behind the
+/// Reads the header line: the kind's word, and five to nine numbers (AIGER format 20071012, "Header"; the numbers after the
 /// first five are those of AIGER 1.9, and 0 where they are not written).
 ///
 /// Returns `Shape` where the bytes are no such line, or end in it, and `Stream` where a read failed.
@@ -75,7 +75,7 @@ pub fn header_line<F: ByteFeed>(f: &mut F) -> Result<Header, LexError>
     })
 }
 
-/// Reads `aag` or `aig`, and the space behind it.
+/// Reads `aag` or `aig`, and the space after it.
 fn kind_word<F: ByteFeed>(f: &mut F) -> Result<FileKind, LexError>
     ensures exact { Gives OnShape (λ kind. kind) (F.coming f.old) (F.coming f.new) result parse_kind }
     ensures stream { IsErrOf result LexError.Stream → F.failed f.new ≡ true }

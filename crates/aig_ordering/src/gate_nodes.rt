@@ -10,7 +10,7 @@ use crate::lists::edge;
 use aig_circuit::{AigNode, false_node, gate_node, leaf_node};
 use std::alloc::Global;
 
-/// Puts the node of the next place, which has this gate or none, behind the others. A gate's operands get their numbers.
+/// Puts the node of the next place, which has this gate or none, after the others. A gate's operands get their numbers.
 fn push_node(
     new: &mut Vec<AigNode>,
     numbers: &[u32],

@@ -31,7 +31,7 @@ pub after_each : {A : Type 0} (P : A → Type 0) (xs before : List A) → AllAft
 after_each P [] before = (λ all. tt, λ all. tt)
 after_each P (x ∷ xs) before = let r = after_each P xs (before ++ x ∷ []) in (λ all. (all.0, r.0 all.1), λ all. (all.0, r.1 all.1))
 
--- one list, and then another behind it
+-- one list, and then another after it
 pub after_append : {A : Type 0} (F : List A → A → Type 0) (xs ys before : List A) → AllAfter F before (xs ++ ys) ↔ (AllAfter F before xs × AllAfter F (before ++ xs) ys)
 after_append F [] ys before =
     let same = append-nil before in
@@ -43,7 +43,7 @@ after_append F (x ∷ xs) ys before =
       λ all. (all.0.0, r.1 (all.0.1, subst (λ b. AllAfter F b ys) (sym same) all.1)),
     )
 
--- entries by a key, behind a list of keys
+-- entries by a key, after a list of keys
 pub after_keys : {A B : Type 0} (F : List B → B → Type 0) (key : A → B) (front : List B) (xs before : List A)
     → AllAfter (λ b x. F (front ++ map key b) (key x)) before xs ↔ AllAfter F (front ++ map key before) (map key xs)
 after_keys F key front [] before = (λ all. tt, λ all. tt)
@@ -55,7 +55,7 @@ after_keys F key front (x ∷ xs) before =
       λ all. (all.0, r.1 (subst (λ b. AllAfter F b (map key xs)) (sym same) all.1)),
     )
 
--- the same of a whole section behind the keys of the sections before it
+-- the same of a whole section after the keys of the sections before it
 pub section_keys : {A B : Type 0} (F : List B → B → Type 0) (key : A → B) (front : List B) (xs : List A)
     → AllAfter (λ b x. F (front ++ map key b) (key x)) [] xs ↔ AllAfter F front (map key xs)
 section_keys F key front xs =

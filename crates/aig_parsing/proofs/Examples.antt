@@ -78,7 +78,7 @@ pub no_differences : AreRefused (in_binary (2 ∷ []) ∷ in_binary (0 ∷ 2 ∷
 unfolding steps
 no_differences = (refl, (refl, (refl, (refl, (refl, (refl, tt))))))
 
--- with a name and a comment behind the gates
+-- with a name and a comment after the gates
 pub named-read : IsRead (in_binary (2 ∷ 2 ∷ codes "i0 x\ncmade here")) (record and_in_binary { names = name 105 0 (codes "x") ∷ [] })
 unfolding steps
 named-read = refl

@@ -215,7 +215,7 @@ body_from f bytes h p =
       ),
     )
 
--- a body, and names behind it, spell a file
+-- a body, and names after it, spell a file
 pub spelled : (b : (FileKind × HeaderNumbers) × Parts) (names : List NameLine) (bytes front rest : List ℕ) → bytes ≡ front ++ rest → IsBody b front → IsTail names rest → Spells (file_from b names) bytes
 spelled b names bytes front rest whole body tail = let w = body_to b names front body in record { sections = (front, rest, whole, w.0, tail); placed = w.1 }
 

@@ -125,7 +125,7 @@ Reads-section_lines kind ns =
     (λ x bytes h. let fit = h.0 in let i = h.1 in let l = i.4 in let p = l.4 in
     (i.0, i.1, i.2, (fit.inputs, i.3), (l.0, l.1, l.2, (fit.latches, l.3), (p.0, p.1, p.2, (fit.properties, p.3), (fit.gates, p.4)))))
 
--- the lines of the sections pass their tests, and the gates that behind them
+-- the lines of the sections pass their tests, and the gates that after them
 abbrev pub SectionsFit : FileKind → HeaderNumbers → Parts → Type 0
 SectionsFit kind ns x = KeepsRules kind (file_from ((kind, ns), x) []) × PartsFit kind ns.greatest x
 
@@ -217,7 +217,7 @@ variables_fit Binary f placed enough i l g =
       operands = gates_in_range f.greatest f.gates ((rec_append (IsDefinable f.greatest) (f.inputs ++ map latch_key f.latches) (map gate_key f.gates)).0 definable).1 g;
     }
 
--- the rules of a file by the test behind its gates; in a binary file the gates rise by their places
+-- the rules of a file by the test after its gates; in a binary file the gates rise by their places
 pub rules_fit : (kind : FileKind) (f : File) → f.kind ≡ kind → Placed kind (defined f) → HasEnough kind (header_of f) → GatesFit kind f.greatest (f.inputs ++ map latch_key f.latches) f.gates
     → KeepsRules kind f → IsCompact f ⊎ IsWellFounded f
 rules_fit Text f is placed enough g (inl compact) = inl compact

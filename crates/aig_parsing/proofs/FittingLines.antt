@@ -54,7 +54,7 @@ Reads-placed_with key F P p n v hp =
     (λ xs bytes h. let e = (each_with F P xs bytes).0 h.1 in (e.0, (h.0, e.1)))
     (λ xs bytes h. (h.1.0, (each_with F P xs bytes).1 (h.0, h.1.1)))
 
--- ---- a next literal, and a reset behind it
+-- ---- a next literal, and a reset after it
 
 abbrev pub IsNext : ℕ × Option ℕ → List ℕ → Type 0
 IsNext x = IsLine (x.0 ∷ option_to_list x.1)

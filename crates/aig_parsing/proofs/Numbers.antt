@@ -29,7 +29,7 @@ pow_some : (k : ℕ) → 0 < 10 ^ k
 pow_some zero = omega arith
 pow_some (suc k) = rw pow-succ' (omega (arith, pow_some k))
 
--- one more digit behind the value so far
+-- one more digit after the value so far
 one_more : (v d k w : ℕ) → (10 * v + d) * 10 ^ k + w ≡ v * 10 ^ suc k + (d * 10 ^ k + w)
 one_more v d k w = rw pow-succ' (omega arith)
 

@@ -1,4 +1,4 @@
--- What the lines of sections tell of their file, before the rules behind the last gate are tested.
+-- What the lines of sections tell of their file, before the rules after the last gate are tested.
 use Rattle.std.proofs.Common.{◌≡◌, ℕ, ◌≤◌, true, ◌++◌, List, [], length, map, Some, refl, sym, ◌∙◌, arith}
 use Rattle.std.specs.List.{AllByRecursion}
 use Rattle.aig_format.specs.declared.FileKind.{FileKind}
@@ -61,7 +61,7 @@ compact_in : (kind : FileKind) (f : File) → f.kind ≡ kind → Placed kind (d
 compact_in Text f is placed enough g binary = absurd cc
 compact_in Binary f is placed enough g binary = compact-tested f (compact_in_binary f is (rules_fit Binary f is placed enough g tt))
 
--- the sections behind a good header, which were read
+-- the sections after a good header, which were read
 pub lines_tell : (kind : FileKind) (ns : HeaderNumbers) (x : Parts) (bytes rest : List ℕ) → is_good kind ns ≡ true → parse_section_lines kind ns bytes ≡ Some (x, rest) → LinesTell kind ns x
 lines_tell kind ns x bytes rest good read =
     let f = file_by kind ns x in

@@ -36,7 +36,7 @@ strip_complete : (front rest : List ℕ) → strip front (front ++ rest) ≡ Som
 strip_complete [] rest = refl
 strip_complete (a ∷ front) rest = rw (eq-eqb a a refl) (strip_complete front rest)
 
--- behind a text that stands there word by word
+-- after a text that stands there word by word
 pub Reads-behind : {A : Type 0} (text : List ℕ) (P : A → List ℕ → Type 0) (p : List ℕ → Option (A × List ℕ)) → Reads P p → Reads (λ x. Just text then P x) (λ bytes. strip text bytes >>= p)
 Reads-behind text P p hp = record {
   sound = λ bytes x h.
@@ -84,7 +84,7 @@ Reads-header_numbers =
     (Reads-tested (IsShortLine 9) (λ ns. 5 ≤ length ns) (parse_line 9) (λ ns. leb 5 (length ns)) (Reads-line 9) (λ ns. leb-true 5 (length ns)) (λ ns. le-leb 5 (length ns)))
     (λ ns bytes h. (ns, refl, h.0, h.1)) (λ numbers bytes h. (h.0, (h.2, h.3), h.1))
 
--- the numbers of a line of five to nine, with zeros behind them
+-- the numbers of a line of five to nine, with zeros after them
 numbers_in-header_from : (ns : List ℕ) → 5 ≤ length ns → length ns ≤ 9 → numbers_in (header_from ns) ≡ ns ++ replicate (9 - length ns) 0
 numbers_in-header_from (m ∷ i ∷ l ∷ o ∷ a ∷ []) low high = refl
 numbers_in-header_from (m ∷ i ∷ l ∷ o ∷ a ∷ b ∷ []) low high = refl
@@ -93,7 +93,7 @@ numbers_in-header_from (m ∷ i ∷ l ∷ o ∷ a ∷ b ∷ c ∷ j ∷ []) low 
 numbers_in-header_from (m ∷ i ∷ l ∷ o ∷ a ∷ b ∷ c ∷ j ∷ f ∷ []) low high = refl
 numbers_in-header_from _ low high = absurd (omega arith)
 
--- zeros behind the numbers of a line tell nothing
+-- zeros after the numbers of a line tell nothing
 get_or-zeros : (ns : List ℕ) (k i : ℕ) → get_or (ns ++ replicate k 0) i 0 ≡ get_or ns i 0
 get_or-zeros [] zero i = refl
 get_or-zeros [] (suc k) zero = refl

@@ -159,7 +159,7 @@ is_comment [] = true
 is_comment (c ∷ []) = c == letter_of_comment
 is_comment (c ∷ b ∷ bs) = c == letter_of_comment && not (is_digit b)
 
--- the names, with the comment behind them, up to the end; at most k names
+-- the names, with the comment after them, up to the end; at most k names
 unfoldable pub parse_tail : ℕ → List ℕ → Option (List NameLine)
 parse_tail zero bytes = None
 parse_tail (suc k) bytes = if is_comment bytes then Some [] else (parse_name bytes >>= λ n. parse_tail k n.1 >>= λ ns. Some (n.0 ∷ ns))
@@ -233,7 +233,7 @@ pub record PropertyParts : Type 0 where
 abbrev pub property_parts : File → PropertyParts
 property_parts f = record { outputs = f.outputs; bads = f.bads; constraints = f.constraints; justice = f.justice; fairness = f.fairness }
 
--- the sections behind the header
+-- the sections after the header
 pub record Parts : Type 0 where
   pub inputs : List ℕ
   pub latches : List LatchLine
@@ -266,7 +266,7 @@ sections_by read_inputs read_latches read_properties read_gates bytes = do
   gates ← read_gates inputs.0 latches.0 properties.1
   Some (record { inputs = inputs.0; latches = latches.0; properties = properties.0; gates = gates.0 }, gates.1)
 
--- the sections behind the header
+-- the sections after the header
 abbrev pub parse_sections : FileKind → HeaderNumbers → List ℕ → Option (Parts × List ℕ)
 parse_sections kind ns = sections_by (parse_inputs kind ns) (λ _. parse_latches kind ns) (properties_by parse_numbers parse_justice ns) (λ _ _. parse_gates kind ns)
 

@@ -64,7 +64,7 @@ tests_name ns before n = nat_lt n.position (count_of ns n.letter) && not (list_a
 
 -- ---- lines
 
--- a next literal, and the reset behind it if one is written
+-- a next literal, and the reset after it if one is written
 unfoldable pub parse_next_and_reset : List ℕ → Option ((ℕ × Option ℕ) × List ℕ)
 parse_next_and_reset bytes = do
   n ← parse_number bytes
@@ -105,7 +105,7 @@ abbrev pub parse_fitting_inputs : FileKind → HeaderNumbers → List ℕ → Op
 parse_fitting_inputs Text ns = parse_checked (parse_ended 10) (defines ns.greatest) [] ns.inputs
 parse_fitting_inputs Binary ns = λ bytes. Some (places ns.inputs 1, bytes)
 
--- latches, behind these inputs
+-- latches, after these inputs
 abbrev pub parse_fitting_latches : FileKind → HeaderNumbers → List ℕ → List ℕ → Option (List LatchLine × List ℕ)
 parse_fitting_latches Text ns inputs = parse_checked parse_latch_line (tests_latch ns.greatest inputs) [] ns.latches
 parse_fitting_latches Binary ns inputs = parse_placed (λ v. parse_if (parse_binary_latch v) (has_next ns.greatest)) ns.latches (1 + ns.inputs)
@@ -128,7 +128,7 @@ parse_literal_justice greatest count bytes = do
   sizes ← parse_numbers count bytes
   parse_literal_sets greatest sizes.0 sizes.1
 
--- gates, behind these leaves; in a binary file the first operand is below the gate
+-- gates, after these leaves; in a binary file the first operand is below the gate
 abbrev pub parse_fitting_gates : FileKind → HeaderNumbers → List ℕ → List ℕ → Option (List GateLine × List ℕ)
 parse_fitting_gates Text ns leaves = parse_checked parse_gate_line (tests_gate ns.greatest leaves) [] ns.gates
 parse_fitting_gates Binary ns leaves = parse_placed (λ v. parse_if (parse_placed_gate v) (λ g. nat_lt g.rhs0 g.lhs)) ns.gates (1 + ns.inputs + ns.latches)
@@ -137,13 +137,13 @@ parse_fitting_gates Binary ns leaves = parse_placed (λ v. parse_if (parse_place
 abbrev pub parse_fitting_properties : HeaderNumbers → List ℕ → Option (PropertyParts × List ℕ)
 parse_fitting_properties ns = properties_by (parse_literals ns.greatest) (parse_literal_justice ns.greatest) ns
 
--- the lines of the sections behind the header
+-- the lines of the sections after the header
 abbrev pub parse_section_lines : FileKind → HeaderNumbers → List ℕ → Option (Parts × List ℕ)
 parse_section_lines kind ns =
     sections_by (parse_fitting_inputs kind ns) (parse_fitting_latches kind ns) (parse_fitting_properties ns)
     (λ inputs latches. parse_fitting_gates kind ns (inputs ++ map (λ l. l.literal) latches))
 
--- ---- the test behind the last gate
+-- ---- the test after the last gate
 
 -- what is used is 0 or defined
 abbrev pub uses_known : File → Bool
@@ -155,7 +155,7 @@ abbrev pub is_accepted_order : FileKind → File → Bool
 is_accepted_order Text f = is_compact f || (uses_known f && list_all (has_level f) f.gates)
 is_accepted_order Binary f = true
 
--- the sections behind the header
+-- the sections after the header
 abbrev pub parse_fitting_sections : FileKind → HeaderNumbers → List ℕ → Option (Parts × List ℕ)
 parse_fitting_sections kind ns = parse_if (parse_section_lines kind ns) (λ x. is_accepted_order kind (file_from ((kind, ns), x) []))
 
@@ -163,7 +163,7 @@ parse_fitting_sections kind ns = parse_if (parse_section_lines kind ns) (λ x. i
 abbrev pub parse_fitting_body : ℕ → List ℕ → Option (((FileKind × HeaderNumbers) × Parts) × List ℕ)
 parse_fitting_body limit = parse_both (parse_fitting_header limit) (λ h. parse_fitting_sections h.0 h.1)
 
--- the names behind these, with the comment behind them, up to the end; at most k names
+-- the names after these, with the comment after them, up to the end; at most k names
 unfoldable pub parse_fitting_tail : HeaderNumbers → ℕ → List NameLine → List ℕ → Option (List NameLine)
 parse_fitting_tail ns zero before bytes = None
 parse_fitting_tail ns (suc k) before bytes =

@@ -21,7 +21,7 @@ use Rattle.aig_reader.proofs.Body.{on_refusal-weaker}
 use Rattle.aig_lexer.proofs.Going.{known_rest}
 use Rattle.aig_lexer.proofs.Taking.{misses_either, misses_both}
 
--- the kind, the header's numbers, and the sections behind them
+-- the kind, the header's numbers, and the sections after them
 abbrev pub Body : Type 0
 Body = (FileKind × HeaderNumbers) × Parts
 
@@ -74,7 +74,7 @@ always T errors.Open = tt
 abbrev pub ReadsKnown : Result CircuitLists ReadError → ℕ → Option (List ℕ) → Type 0
 ReadsKnown result limit before = IfSome before (λ bytes. UnlessInterrupted result (ReadsExactly AreListsOf limit result bytes))
 
--- what stands behind the body, read as names
+-- what stands after the body, read as names
 abbrev with_names : Body × List ℕ → Option File
 with_names b = tail_of b.0.0.1 b.1 >>= λ names. Some (file_from b.0 names)
 

@@ -1,4 +1,4 @@
--- The sections behind the header line.
+-- The sections after the header line.
 use Rattle.std.proofs.Common.{◌≡◌, ℕ, ◌++◌, List, map, Option, Result, Ok, Err, refl, sym, subst, ◌∙◌}
 use Rattle.aig_format.specs.declared.FileKind.{FileKind}
 use Rattle.aig_format.specs.declared.FileKind.TheVariants.{Text, Binary}

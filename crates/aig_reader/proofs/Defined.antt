@@ -21,7 +21,7 @@ use Rattle.aig_reader.proofs.Entries.{length_push}
 
 -- ---- in text files
 
--- a literal that may be defined behind others has another variable
+-- a literal that may be defined after others has another variable
 new_among : (greatest : ℕ) (before : List ℕ) (e : ℕ) → AllByRecursion (IsDefinable greatest) before → defines greatest before e ≡ true → IsNewAmong before e
 new_among greatest before e definable h =
     let d = (Decides-defines greatest before e).0 h in

@@ -10,7 +10,7 @@ use Rattle.aig_parsing.proofs.Numbers.{bind_some}
 use Rattle.aig_lexer.specs.Takes.{Takes, Misses}
 use Rattle.aig_lexer.proofs.Going.{known_rest}
 
--- n entries behind these
+-- n entries after these
 abbrev pub entries_at : {A : Type 0} → (List A → List ℕ → Option (A × List ℕ)) → List A → ℕ → List ℕ → Option (List A × List ℕ)
 entries_at p front zero bytes = Some ([], bytes)
 entries_at p front (suc n) bytes = p front bytes >>= λ x. entries_at p (front ++ x.0 ∷ []) n x.1 >>= λ xs. Some (x.0 ∷ xs.0, xs.1)
@@ -20,15 +20,15 @@ abbrev pub put_first : {A : Type 0} → A → List A × List ℕ → Option (Lis
 put_first x xs = Some (x ∷ xs.0, xs.1)
 
 module _ {A : Type 0} (p : List A → List ℕ → Option (A × List ℕ)) where
-  -- some entries, and the bytes behind them
+  -- some entries, and the bytes after them
   abbrev lines : List A → List ℕ → List A × List ℕ
   lines xs rest = (xs, rest)
 
-  -- the entries behind one
+  -- the entries after one
   abbrev lines_after : List A → ℕ → A × List ℕ → Option (List A × List ℕ)
   lines_after front n x = entries_at p (front ++ x.0 ∷ []) n x.1 >>= put_first x.0
 
-  -- the entry behind some
+  -- the entry after some
   abbrev next_at : List A → List A × List ℕ → Option (A × List ℕ)
   next_at front y = p (front ++ y.0) y.1
 

@@ -1,4 +1,4 @@
--- A gate behind others.
+-- A gate after others.
 use Rattle.std.proofs.Common.{◌≡◌, ◌≢◌, ℕ, ◌/◌, ◌<◌, ◌≤◌, Bool, true, false, ◌&&◌, ltb, List, [], ◌∷◌, ◌++◌, refl, sym, ap, subst, ◌∙◌, append_assoc, arith}
 use Rattle.std.proofs.Math.Bool.{and-true, and_assoc}
 use Rattle.std.specs.Prelude.{◌==◌}
@@ -96,7 +96,7 @@ module _ (greatest : ℕ) (leaves : List ℕ) (before : List GateLine) (lhs : �
 
 -- ---- tests
 
--- a gate may stand behind others where it may be defined and its operands may be used
+-- a gate may stand after others where it may be defined and its operands may be used
 pub may_stand-both : (kind : FileKind) (greatest : ℕ) (before : List ℕ) (g : GateLine) → may_stand kind greatest before g ≡ may_define kind greatest before g.lhs && may_use kind greatest g
 may_stand-both Text greatest before g = and_assoc (defines greatest before g.lhs) (is_literal greatest g.rhs0) (is_literal greatest g.rhs1)
 may_stand-both Binary greatest before g = refl
@@ -112,6 +112,6 @@ more_gates greatest leaves before variables held g placed defined =
       placed = placed;
     }
 
--- a literal that is new behind leaves and gates is new among those of the gates
+-- a literal that is new after leaves and gates is new among those of the gates
 pub new_among : (leaves : List ℕ) (before : List GateLine) (e : ℕ) → IsNewAmong (leaves ++ literals_of before) e → IsNewAmong (literals_of before) e
 new_among leaves before e new = (rec_parts (λ d. d / 2 ≢ e / 2) leaves (literals_of before) new).1

@@ -34,7 +34,7 @@ name_text_at kept = parse_if parse_text (λ name. not kept || is_utf8 name)
 abbrev pub with_place : ℕ → ℕ → List ℕ × List ℕ → Option (NameLine × List ℕ)
 with_place letter position t = Some (name_line letter position t.0, t.1)
 
--- the name behind its place, if no name before it has this place
+-- the name after its place, if no name before it has this place
 abbrev pub behind_place : List NameLine → ℕ → ℕ × List ℕ → Option (NameLine × List ℕ)
 behind_place names letter p = cond (is_taken names letter p.0) None (name_text_at (is_kept letter) p.1 >>= with_place letter p.0)
 

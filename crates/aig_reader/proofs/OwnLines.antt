@@ -1,4 +1,4 @@
--- An entry: its own literal, what stands behind it, and a test.
+-- An entry: its own literal, what stands after it, and a test.
 use Rattle.std.proofs.Common.{◌≡◌, ℕ, Bool, true, false, List, Option}
 use Rattle.aig_format.specs.declared.FileKind.{FileKind}
 use Rattle.aig_parsing.specs.Parse.{parse_both, parse_map, parse_if}
@@ -18,7 +18,7 @@ module _ {X Y : Type 0} (kind : FileKind) (end : ℕ) (literals : List ℕ) (res
   misses_own b h = misses_tested (parse_map make both) test b (misses_mapped make both b (misses_either (parse_own kind end literals) rest b h))
 
   module _ (b m : Option (List ℕ)) (e : ℕ) (own : Takes (parse_own kind end literals) b m e) where
-    -- what should stand behind it isn't there
+    -- what should stand after it isn't there
     pub misses_behind : Misses (rest e) m → Misses line b
     misses_behind h = misses_tested (parse_map make both) test b (misses_mapped make both b (misses_both (parse_own kind end literals) rest b m e own h))
 

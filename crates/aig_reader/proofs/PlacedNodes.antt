@@ -22,7 +22,7 @@ nodes_push f (suc n) v =
     let e : v + 1 + n ≡ v + suc n = omega arith in
     ap (λ (xs : List AigNode). node_from f v ∷ xs) (nodes_push f n (v + 1) ∙ ap (λ (w : ℕ). nodes_in_row f n (v + 1) ++ node_from f w ∷ []) e)
 
--- ---- a gate behind others
+-- ---- a gate after others
 
 -- the test for the gate of node n
 abbrev is_at : ℕ → GateLine → Bool
@@ -52,7 +52,7 @@ module _ (gates : List GateLine) (g : GateLine) where
       let ne : g.lhs / 2 ≢ v = omega arith in
       rw (same_kind v ne, same_before n (v + 1) (omega arith)) refl
 
-  -- nodes behind it stay
+  -- nodes after it stay
   same_behind : (n v : ℕ) → g.lhs / 2 < v → nodes_in_row (gates ++ g ∷ []) n v ≡ nodes_in_row gates n v
   same_behind zero v lt = refl
   same_behind (suc n) v lt =
@@ -76,7 +76,7 @@ module _ (gates : List GateLine) (g : GateLine) where
 pub first_all : (greatest : ℕ) (gates : List GateLine) (nodes : List AigNode) → AreFirstNodes gates nodes → length nodes ≡ greatest + 1 → nodes ≡ nodes_of greatest gates
 first_all greatest gates nodes h all = h.placed ∙ ap (λ (n : ℕ). nodes_in_row gates n 0) all
 
--- one more node is that of the number behind them
+-- one more node is that of the number after them
 placed_push : (gates : List GateLine) (nodes : List AigNode) (node : AigNode) → nodes ≡ nodes_in_row gates (length nodes) 0 → node ≡ node_from gates (length nodes) → nodes ++ node ∷ [] ≡ nodes_in_row gates (length (nodes ++ node ∷ [])) 0
 placed_push gates nodes node placed is =
     let n = length nodes in
@@ -88,7 +88,7 @@ placed_push gates nodes node placed is =
 within_more : (gates : List GateLine) (m n : ℕ) → m ≤ n → AllByRecursion (λ g. g.lhs / 2 < m) gates → AllByRecursion (λ g. g.lhs / 2 < n) gates
 within_more gates m n le h = rec_weaker (λ (g : GateLine). g.lhs / 2 < m) (λ g. g.lhs / 2 < n) (λ g lt. omega (arith, lt, le)) gates h
 
--- a leaf behind them
+-- a leaf after them
 pub first_leaf : (gates : List GateLine) (nodes : List AigNode) (node : AigNode) → AreFirstNodes gates nodes → node ≡ record { node_id = length nodes; typ = Leaf } → AreFirstNodes gates (nodes ++ node ∷ [])
 first_leaf gates nodes node h is =
     let n = length nodes in
@@ -103,7 +103,7 @@ first_leaf gates nodes node h is =
       within = within_more gates n (length (nodes ++ node ∷ [])) (omega (arith, size)) h.within;
     }
 
--- a gate whose variable is new behind them, or in the place of a leaf
+-- a gate whose variable is new after them, or in the place of a leaf
 module _ (gates : List GateLine) (nodes : List AigNode) (g : GateLine) (h : AreFirstNodes gates nodes) (own : 2 ≤ g.lhs) (new : IsNewAmong (literals_of gates) g.lhs) where
   kind_here : kind_from (gates ++ g ∷ []) (g.lhs / 2) ≡ and_of (edge_from g.rhs0) (edge_from g.rhs1)
   kind_here =

@@ -23,7 +23,7 @@ use Rattle.aig_reader.proofs.ReadNames.{if_ok_in}
 abbrev pub literals_with : List ℕ → List LatchLine → List ℕ
 literals_with inputs lines = inputs ++ map (λ (l : LatchLine). l.literal) lines
 
--- the lines of the inputs and of the latches, which were read one behind the other, and the lists that were made of them
+-- the lines of the inputs and of the latches, which were read one after the other, and the lists that were made of them
 pub record LeavesRead (header : Header) (kind : FileKind) (before between after : Option (List ℕ)) (variables : Variables) (inputs : List ℕ) (latchs : List AigLatch) : Type 0 where
   pub literals : List ℕ
   pub lines : List LatchLine

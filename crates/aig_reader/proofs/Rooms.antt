@@ -8,7 +8,7 @@ pub room_weaker : (v : Variables) (size j k : ℕ) → j ≤ k → HasRoom size 
 room_weaker (Marked marks) size j k le h = h
 room_weaker (Counted count) size j k le h = omega (arith, le, h)
 
--- behind i of so many entries there is room for one more
+-- after i of so many entries there is room for one more
 pub room_for : (v w : Variables) (size count i : ℕ) → i < count → HasRoom size v count → ((size k : ℕ) → HasRoom size v (k + i) → HasRoom size w k) → HasRoom size w 1
 room_for v w size count i lt h f =
     let all : count ≡ count - i + i = omega arith in

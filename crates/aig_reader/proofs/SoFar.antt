@@ -48,7 +48,7 @@ pub record SoFar (ns : HeaderNumbers) (inputs leaves : List ℕ) (before now : O
 abbrev pub IsRefused : HeaderNumbers → Option (List ℕ) → Type 0
 IsRefused ns before = IfSome before (λ bytes. tail_of ns bytes ≡ None)
 
--- the letter of a name and the byte behind it
+-- the letter of a name and the byte after it
 pub record LineStart (now mid : Option (List ℕ)) (letter first : ℕ) : Type 0 where
   pub is : is_letter letter ≡ true
   pub no_comment : is_comment (letter ∷ first ∷ []) ≡ false

@@ -33,7 +33,7 @@ module _ (header : Header) (x : Parts) (b a : Option (List ℕ)) (taken : Takes 
   abbrev keeps : Parts → Bool
   keeps y = is_accepted_order header.kind (file_by header y)
 
-  -- numbered sections, or a refusal, behind the last gate
+  -- numbered sections, or a refusal, after the last gate
   pub numbered_made : (result : Result Sections ReadError) → Judged (keeps x) (IsCircuitOf (file_by header x)) result
       → Makes OnRefusal (λ (sections : Sections) y. IsCircuitOf (file_by header y) sections) b a result (parse_fitting_sections header.kind (numbers_of header))
   numbered_made (Ok sections) h = (x, h.1, takes_tested (parse_section_lines header.kind (numbers_of header)) keeps b a x taken h.0)

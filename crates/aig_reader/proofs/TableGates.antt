@@ -27,7 +27,7 @@ rises-back [] y ys h = h
 rises-back (x ∷ []) y ys h = (and_parts (nat_lt x y) (rises (y ∷ ys)) h).1
 rises-back (x ∷ z ∷ xs) y ys h = rises-back (z ∷ xs) y ys (and_parts (nat_lt x z) (rises (z ∷ (xs ++ y ∷ ys))) h).1
 
--- no number behind another has a half below that one's
+-- no number after another has a half below that one's
 none_below : (v x : ℕ) (ys : List ℕ) → rises (x ∷ ys) ≡ true → v < x / 2 → list_any (λ e. e / 2 == v) ys ≡ false
 none_below v x [] h low = refl
 none_below v x (y ∷ ys) h low =
@@ -59,7 +59,7 @@ module _ (greatest : ℕ) (leaves : List ℕ) (gates : List GateLine) where
   pub well_founded_told : IsNeverCompact greatest leaves gates → let literals = leaves ++ literals_of gates in AllByRecursion (IsDefinable greatest) literals → IsDistinct nat_eq literals → greatest ≡ length literals → are_in_order gates ≡ false
   well_founded_told h = subst (λ (gs : List GateLine). let literals = leaves ++ literals_of gs in AllByRecursion (IsDefinable greatest) literals → IsDistinct nat_eq literals → greatest ≡ length literals → are_in_order gs ≡ false) (append-nil gates) (h [])
 
--- where a variable below a gate is defined by none before, it is by one behind it, or is missing
+-- where a variable below a gate is defined by none before, it is by one after it, or is missing
 module _ (greatest : ℕ) (leaves : List ℕ) (before : List GateLine) (g : GateLine) (v : ℕ) (some : 1 ≤ v) (below : v < g.lhs / 2) where
   abbrev is_here : ℕ → Bool
   is_here e = e / 2 == v
@@ -67,7 +67,7 @@ module _ (greatest : ℕ) (leaves : List ℕ) (before : List GateLine) (g : Gate
   abbrev gates : List GateLine
   gates = before ++ g ∷ []
 
-  -- the literals, with those behind the gate apart
+  -- the literals, with those after the gate apart
   behind_gate : (rest : List GateLine) → literals_of (gates ++ rest) ≡ literals_of before ++ g.lhs ∷ literals_of rest
   behind_gate rest =
       let lhs = λ (h : GateLine). h.lhs in

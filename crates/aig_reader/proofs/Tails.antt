@@ -15,7 +15,7 @@ use Rattle.aig_reader.specs.Names.{tail_of}
 use Rattle.aig_reader.specs.NameSteps.{IsNoTail}
 use Rattle.aig_reader.proofs.NameLines.{line_at}
 
--- the names behind these ones, up to the end
+-- the names after these ones, up to the end
 abbrev pub tail_from : HeaderNumbers → List NameLine → List ℕ → Option (List NameLine)
 tail_from ns names bytes = parse_fitting_tail ns (suc (length bytes)) names bytes
 
@@ -76,7 +76,7 @@ tail_name ns names bytes rest n is =
     tail_line ns names bytes (no_comment bytes (n, rest) one) ∙ ap (λ o. o >>= one_more ns (length bytes) names) is
     ∙ ap (λ o. o >>= put n) (steps_enough ns (length bytes) (suc (length rest)) (names ++ n ∷ []) rest less (omega arith))
 
--- reading the bytes that were taken, and whatever follows, is reading what follows behind these names
+-- reading the bytes that were taken, and whatever follows, is reading what follows after these names
 pub record TailGoes (ns : HeaderNumbers) (before : Option (List ℕ)) (names : List NameLine) (now : Option (List ℕ)) : Type 0 where
   pub taken : List ℕ
   pub goes : (rest : List ℕ) → tail_of ns (taken ++ rest) ≡ (tail_from ns names rest >>= after names)

@@ -3,7 +3,7 @@ use Rattle.std.proofs.Common.{◌≡◌, ◌≢◌, ℕ, List, [], ◌∷◌, �
 use Rattle.std.proofs.lemmas.Bool.{ne_eqb}
 use Rattle.aig_parsing.specs.Parse.{◌>>=◌, parse_text}
 
--- a text behind some bytes
+-- a text after some bytes
 abbrev behind : List ℕ → List ℕ × List ℕ → Option (List ℕ × List ℕ)
 behind front x = Some (front ++ x.0, x.1)
 

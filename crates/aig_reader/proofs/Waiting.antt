@@ -11,7 +11,7 @@ use Rattle.aig_reader.specs.Gates.{AreFirstNodes, AreNew, AreWaiting, gate_in, l
 use Rattle.aig_reader.specs.Variables.{IsNewAmong}
 use Rattle.aig_reader.proofs.TableEntries.{table-back}
 
--- one more gate that is new behind the others
+-- one more gate that is new after the others
 new_push : (front gates : List GateLine) (g : GateLine) → AreNew front gates → 2 ≤ g.lhs → IsNewAmong (literals_of (front ++ gates)) g.lhs → AreNew front (gates ++ g ∷ [])
 new_push front [] g new own among = ((own, subst (λ (gs : List GateLine). IsNewAmong (literals_of gs) g.lhs) (append-nil front) among), tt)
 new_push front (x ∷ gates) g new own among =
@@ -25,7 +25,7 @@ module _ (front : List GateLine) (late : List Late) where
   pub placed_more : (i : ℕ) (d : Late) → i < length late → placed i ++ line_of (get_or late i d).lhs (get_or late i d).operands ∷ [] ≡ placed (i + 1)
   placed_more i d h = append_assoc front (lines_of (take i late)) _ ∙ ap (λ (gs : List GateLine). front ++ gs) (sym (map_more (λ (l : Late). line_of l.lhs l.operands) late i d h))
 
-  -- the next one is new behind them, and so are the others behind it
+  -- the next one is new after them, and so are the others after it
   pub next_new : (i : ℕ) (d : Late) → i < length late → AreNew (placed i) (lines_of (drop i late))
       → ((2 ≤ (get_or late i d).lhs) × IsNewAmong (literals_of (placed i)) (get_or late i d).lhs) × AreNew (placed (i + 1)) (lines_of (drop (i + 1) late))
   next_new i d h new =

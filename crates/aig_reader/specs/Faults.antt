@@ -81,7 +81,7 @@ abbrev pub result_by : {T E : Type 0} → (E → ReadError) → Result T E → R
 result_by fault (Ok x) = Ok x
 result_by fault (Err e) = Err (fault e)
 
--- a fault that the sections behind the header line may have
+-- a fault that the sections after the header line may have
 abbrev pub IsSectionFault : ReadError → Type 0
 IsSectionFault errors.Memory = Unit {0}
 IsSectionFault errors.Stream = Unit {0}

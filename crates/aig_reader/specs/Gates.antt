@@ -75,7 +75,7 @@ abbrev pub AreNew : List GateLine → List GateLine → Type 0
 AreNew front [] = Unit {0}
 AreNew front (g ∷ gates) = ((2 ≤ g.lhs) × IsNewAmong (literals_of front) g.lhs) × AreNew (front ++ g ∷ []) gates
 
--- gates in their places, and behind them those that wait
+-- gates in their places, and after them those that wait
 pub record AreWaiting (gates : List GateLine) (table : Table) : Type 0 where
   pub front : List GateLine
   pub all : gates ≡ front ++ lines_of table.late.items
@@ -93,7 +93,7 @@ pub record AreRising (gates : List GateLine) (rising : Rising) : Type 0 where
   pub last : rising.last ≡ last_or 0 (literals_of gates)
   pub words : AllByRecursion HasWords gates
 
--- behind these leaves, no gates that begin with these rise so that no variable up to the greatest is missing
+-- after these leaves, no gates that begin with these rise so that no variable up to the greatest is missing
 abbrev pub IsNeverCompact : ℕ → List ℕ → List GateLine → Type 0
 IsNeverCompact greatest leaves gates =
     (rest : List GateLine) → let literals = leaves ++ literals_of (gates ++ rest) in
@@ -104,12 +104,12 @@ abbrev pub IsHeld : ℕ → List ℕ → List GateLine → Gates → Type 0
 IsHeld greatest leaves gates (held.Rising rising) = AreRising gates rising
 IsHeld greatest leaves gates (held.Table table) = IsNeverCompact greatest leaves gates
 
--- behind these leaves, these gates are held
+-- after these leaves, these gates are held
 pub record ArePlaced (greatest : ℕ) (leaves : List ℕ) (gates : List GateLine) (held : Gates) : Type 0 where
   pub nodes : AreHeld gates held
   pub form : IsHeld greatest leaves gates held
 
--- behind these leaves and gates: the variables, and where the gates are held
+-- after these leaves and gates: the variables, and where the gates are held
 pub record AreGates (greatest : ℕ) (leaves : List ℕ) (gates : List GateLine) (variables : Variables) (held : Gates) : Type 0 where
   pub defined : AreDefined greatest variables (leaves ++ literals_of gates)
   pub placed : ArePlaced greatest leaves gates held

@@ -16,7 +16,7 @@ pub record IsNoTail (bytes : List ℕ) : Type 0 where
   pub no_comment : is_comment bytes ≡ false
   pub no_name : parse_name bytes ≡ None
 
--- a comment that went to the end was taken, or of what is none a section's letter and the byte behind it, or the bytes are neither comment nor name
+-- a comment that went to the end was taken, or of what is none a section's letter and the byte after it, or the bytes are neither comment nor name
 abbrev pub NameStarts : Option (List ℕ) → Option (List ℕ) → Result (Option (NamedSection × ℕ)) LexError → Type 0
 NameStarts before after (Ok None) = (taken : List ℕ) × (is_comment taken ≡ true) × Consumes before after taken
 NameStarts before after (Ok (Some x)) = let start = letter_of x.0 ∷ x.1 ∷ [] in (is_comment start ≡ false) × Consumes before after start

@@ -8,7 +8,7 @@ use Rattle.aig_format.specs.Letters.{letter_of_inputs, letter_of_latches}
 use Rattle.aig_format.specs.File.{NameLine, HeaderNumbers}
 use Rattle.aig_parsing.specs.ParseTested.{parse_fitting_tail}
 
--- the names and the comment behind the gates, by the header's numbers
+-- the names and the comment after the gates, by the header's numbers
 abbrev pub tail_of : HeaderNumbers → List ℕ → Option (List NameLine)
 tail_of ns bytes = parse_fitting_tail ns (suc (length bytes)) [] bytes
 

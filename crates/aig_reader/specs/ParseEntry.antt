@@ -12,7 +12,7 @@ abbrev pub parse_own : FileKind → ℕ → List ℕ → List ℕ → Option (�
 parse_own Text end before = parse_ended end
 parse_own Binary end before = λ bytes. Some (2 * (length before + 1), bytes)
 
--- whether a literal may be defined behind these; those of a binary file always may
+-- whether a literal may be defined after these; those of a binary file always may
 abbrev pub may_define : FileKind → ℕ → List ℕ → ℕ → Bool
 may_define Text greatest before e = defines greatest before e
 may_define Binary greatest before e = true
@@ -21,7 +21,7 @@ may_define Binary greatest before e = true
 abbrev pub parse_input_entry : FileKind → ℕ → List ℕ → List ℕ → Option (ℕ × List ℕ)
 parse_input_entry kind greatest before = parse_if (parse_own kind 10 before) (may_define kind greatest before)
 
--- a latch, behind these inputs and latches
+-- a latch, after these inputs and latches
 abbrev pub parse_latch_entry : FileKind → ℕ → List ℕ → List LatchLine → List ℕ → Option (LatchLine × List ℕ)
 parse_latch_entry kind greatest inputs before =
     let literals = inputs ++ map (λ m. m.literal) before in
@@ -38,12 +38,12 @@ abbrev pub may_use : FileKind → ℕ → GateLine → Bool
 may_use Text greatest g = is_literal greatest g.rhs0 && is_literal greatest g.rhs1
 may_use Binary greatest g = nat_lt g.rhs0 g.lhs
 
--- whether a gate may stand behind these literals
+-- whether a gate may stand after these literals
 abbrev pub may_stand : FileKind → ℕ → List ℕ → GateLine → Bool
 may_stand Text greatest before g = defines greatest before g.lhs && is_literal greatest g.rhs0 && is_literal greatest g.rhs1
 may_stand Binary greatest before g = nat_lt g.rhs0 g.lhs
 
--- a gate, behind these leaves and gates
+-- a gate, after these leaves and gates
 abbrev pub parse_gate_entry : FileKind → ℕ → List ℕ → List GateLine → List ℕ → Option (GateLine × List ℕ)
 parse_gate_entry kind greatest leaves before =
     let literals = leaves ++ map (λ h. h.lhs) before in

@@ -42,7 +42,7 @@ fn is_complete(header: Header) -> bool
     header.greatest == header.inputs + header.latches + header.gates
 }
 
-/// Reads the lines of the sections behind the header line.
+/// Reads the lines of the sections after the header line.
 pub fn read_lines<F: ByteFeed>(alloc: Global, f: &mut F, header: Header) -> Result<Lines, ReadError>
     requires few { header.greatest < 2 ^ 31 }
     requires good { is_good header.kind (numbers_of header) ≡ true }

@@ -26,10 +26,10 @@ use std::alloc::Global;
 use std::collections::{HashMap, HashSet};
 use text::{kept_text, skip_rest, skip_text};
 
-/// Reads the letter of a name line and the byte behind it, or up to the end of the stream where no name is left: the letter's
+/// Reads the letter of a name line and the byte after it, or up to the end of the stream where no name is left: the letter's
 /// section, and the byte.
 ///
-/// A `c` that ends the stream or has no digit behind it begins the comment.
+/// A `c` that ends the stream or has no digit after it begins the comment.
 fn name_start<F: ByteFeed>(f: &mut F) -> Result<Option<(NamedSection, u8)>, LexError>
     ensures exact { NameStarts (F.coming f.old) (F.coming f.new) result }
     ensures whole { IfOk result
@@ -81,7 +81,7 @@ fn read_name<F: ByteFeed>(
     Ok(())
 }
 
-/// Reads the names behind the gates, and the comment behind these, up to the end of the stream (AIGER format 20071012,
+/// Reads the names after the gates, and the comment after these, up to the end of the stream (AIGER format 20071012,
 /// "Symbol table" and "Comment section"; AIGER 1.9: "Properties").
 ///
 /// A name's place has to be within its section by the header's counts, and no two names are for one place. Names of

@@ -43,8 +43,8 @@ pub fn add_leaves(nodes: &mut Vec<AigNode>, len: usize)
     }
 }
 
-/// Puts a gate in its place, behind leaves where there are no nodes before it yet. There is room for it. No leaf is put
-/// behind it.
+/// Puts a gate in its place, after leaves where there are no nodes before it yet. There is room for it. No leaf is put
+/// after it.
 pub fn put_gate(nodes: &mut Vec<AigNode>, gate: AigNode)
     requires { gate.node_id < vec_capacity nodes.old }
     ensures exact { (gates : List GateLine) (g : GateLine) → AreFirstNodes gates nodes.old.items

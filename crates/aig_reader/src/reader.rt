@@ -66,7 +66,7 @@ fn read_file<F: ByteFeed>(alloc: Global, f: &mut F, limit: usize) -> Result<Circ
     Ok(sections.with_names(names))
 }
 
-/// Reads the sections behind the header line, and numbers their nodes.
+/// Reads the sections after the header line, and numbers their nodes.
 fn read_sections<F: ByteFeed>(
     alloc: Global,
     f: &mut F,

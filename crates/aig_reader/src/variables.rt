@@ -37,7 +37,7 @@ pub enum Variables {
 fn cover(marked: &mut Vec<u64>, variable: usize) -> Result<(), AllocError>
     ensures same { (v : ℕ) → bit_told marked.new.items v ≡ bit_told marked.old.items v }
     ensures len { OnOk result (variable / 64 < vec_len marked.new) }
-    // No word behind it is made.
+    // No word after it is made.
     ensures within { (most : ℕ) → variable / 64 < most → vec_len marked.old ≤ most
         → vec_len marked.new ≤ most }
 {
@@ -106,7 +106,7 @@ impl Variables {
         }
     }
 
-    /// The literal that the next entry defines. In a text file it is read, with this byte behind it.
+    /// The literal that the next entry defines. In a text file it is read, with this byte after it.
     pub fn own_literal<F: ByteFeed>(&self, f: &mut F, end: u8) -> Result<u32, LexError>
         requires { (size : ℕ) × (size ≤ 2 ^ 31) × HasRoom size self.now 1 }
         ensures exact { (greatest : ℕ) (before : List ℕ) → AreDefined greatest self.now before

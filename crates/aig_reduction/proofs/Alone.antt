@@ -19,7 +19,7 @@ no_lower : (m n : ℕ) (ms ns : List ℕ) → AllPairs (λ i j. i < j) (n ∷ ns
 no_lower m n ms ns rises (zero, low, is) less = omega (arith, is, less)
 no_lower m n ms ns rises (suc k, low, is) less = omega (arith, above n ns m k rises (omega arith) is, less)
 
--- and what follows the first is behind the same first
+-- and what follows the first is after the same first
 behind : (m : ℕ) (ms ns : List ℕ) → AllPairs (λ i j. i < j) (m ∷ ms) → ((x : ℕ) → Contains (m ∷ ms) x → Contains (m ∷ ns) x) → (x : ℕ) → Contains ms x → Contains ns x
 behind m ms ns rises all x (k, low, is) = rest (all x (suc k, omega arith, is))
   where

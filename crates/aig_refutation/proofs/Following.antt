@@ -31,7 +31,7 @@ pub clauses_in-append : (lists more : List (List (List Lit))) → clauses_in (li
 clauses_in-append [] more = refl
 clauses_in-append (clauses ∷ lists) more = ap (λ rest. clauses ++ rest) (clauses_in-append lists more) ∙ sym (append_assoc clauses (clauses_in lists) (clauses_in more))
 
--- one more element of a list is put behind what was there
+-- one more element of a list is put after what was there
 pub put_more : {X : Type 0} (base now xs : List X) (i : ℕ) (x : X) → i < length xs → slice_get xs i ≡ Some x → now ≡ base ++ take i xs → now ++ x ∷ [] ≡ base ++ take (i + 1) xs
 put_more base now xs i x there is so_far =
     ap (λ front. front ++ x ∷ []) so_far

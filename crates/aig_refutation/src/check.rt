@@ -188,7 +188,7 @@ fn check_steps<F: ByteFeed>(
 
 /// Checks a proof that clauses can't be satisfied: the text of an LRAT or of a DRAT file, whose
 /// steps follow by reverse unit propagation. The clauses of `cnf`, variable by variable, and those
-/// of `further` behind them are numbered from 1 on, and variable v is written as v + 1.
+/// of `further` after them are numbered from 1 on, and variable v is written as v + 1.
 ///
 /// The lines of an LRAT file are `N L.. 0 H.. 0`, which adds the clause of the literals `L` under
 /// the number `N`, along the hints `H`, and `N d M.. 0`, which deletes the clauses of the numbers

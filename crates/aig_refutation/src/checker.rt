@@ -103,7 +103,7 @@ impl Checker {
         self.numbered.clauses()
     }
 
-    /// The number behind the greatest that was used, from 1 on.
+    /// The number after the greatest that was used, from 1 on.
     pub(crate) fn next_number(&self) -> u32 {
         self.numbered.next_number()
     }

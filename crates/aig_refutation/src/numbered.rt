@@ -118,7 +118,7 @@ impl Numbered {
         }
     }
 
-    /// The number behind the greatest that was used, from 1 on.
+    /// The number after the greatest that was used, from 1 on.
     pub(crate) fn next_number(&self) -> u32 {
         u32::try_from(self.places.len().max(1)).unwrap_or(DELETED)
     }

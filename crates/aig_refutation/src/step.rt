@@ -46,7 +46,7 @@ fn next_byte<F: ByteFeed>(f: &mut F) -> Result<u8, RefutationError>
 }
 
 /// The digits of a number that begins with this byte: their value, which is below 2^32, and the
-/// byte behind them.
+/// byte after them.
 fn read_digits<F: ByteFeed>(f: &mut F, first: u8) -> Result<(u32, u8), RefutationError>
     ensures stream { IsErrOf result RefutationError.Stream → F.failed f.new ≡ true }
     ensures same { F.behind f.new ≡ F.behind f.old }
@@ -96,7 +96,7 @@ fn next_word<F: ByteFeed>(f: &mut F) -> Result<Word, RefutationError>
     read_word(f, first)
 }
 
-/// The space behind a `d`.
+/// The space after a `d`.
 fn expect_space<F: ByteFeed>(f: &mut F) -> Result<(), RefutationError>
     ensures stream { IsErrOf result RefutationError.Stream → F.failed f.new ≡ true }
     ensures same { F.behind f.new ≡ F.behind f.old }
@@ -215,13 +215,13 @@ impl Step {
             Some(b'd') => self.read_deletion(f, variables)?,
             Some(byte) => {
                 let first = read_word(f, byte)?;
-                self.read_behind(f, first, variables)?;
+                self.read_after(f, first, variables)?;
             }
         }
         Ok(true)
     }
 
-    /// Reads a line of a DRAT file behind its `d`.
+    /// Reads a line of a DRAT file after its `d`.
     fn read_deletion<F: ByteFeed>(
         &mut self,
         f: &mut F,
@@ -242,8 +242,8 @@ impl Step {
         Ok(())
     }
 
-    /// Reads a line behind its first number.
-    fn read_behind<F: ByteFeed>(
+    /// Reads a line after its first number.
+    fn read_after<F: ByteFeed>(
         &mut self,
         f: &mut F,
         first: Word,
@@ -272,7 +272,7 @@ impl Step {
         }
     }
 
-    /// Reads a line of an LRAT file behind its number and `d`.
+    /// Reads a line of an LRAT file after its number and `d`.
     fn read_deleted<F: ByteFeed>(&mut self, f: &mut F, number: Word) -> Result<(), RefutationError>
         ensures stream { IsErrOf result RefutationError.Stream → F.failed f.new ≡ true }
         ensures same { F.behind f.new ≡ F.behind f.old }
@@ -285,7 +285,7 @@ impl Step {
         read_numbers(f, &mut self.numbers, RefutationError::Line)
     }
 
-    /// Reads a line that adds a clause behind its first two numbers. Where the clause ends the
+    /// Reads a line that adds a clause after its first two numbers. Where the clause ends the
     /// line, the first is a literal.
     fn read_added<F: ByteFeed>(
         &mut self,

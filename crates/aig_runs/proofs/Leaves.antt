@@ -11,7 +11,7 @@ use Rattle.aig_circuit.proofs.Building.{Grows-kept}
 use Rattle.aig_circuit.proofs.Trees.{kind_at-within, node_value-leaf}
 use Rattle.aig_renumber.proofs.Places.{place_of-within}
 use Rattle.aig_circuit.specs.Renumber.{place_of}
-use Rattle.aig_unroll.specs.Places.{Reads, leaves_behind, other_leaves, place_at}
+use Rattle.aig_unroll.specs.Places.{Reads, leaves_after, other_leaves, place_at}
 use Rattle.aig_unroll.specs.Unroll.{UnrollsTo}
 use Rattle.aig_unroll.proofs.Added.{behind-are}
 use Rattle.aig_unroll.proofs.Others.{others-are}
@@ -29,7 +29,7 @@ module _ (c u : Circuit) (k : ℕ) (is : IsCircuit c) (unrolls : UnrollsTo c k u
 
   inputs-are : All (IsLeaf u.nodes) u.inputs
   inputs-are =
-      let added = leaves_behind (length c.nodes) u.nodes in
+      let added = leaves_after (length c.nodes) u.nodes in
       let old = All-weaker (IsLeaf c.nodes) (IsLeaf u.nodes) stays c.inputs is.inputs in
       let new = All-weaker (λ n. IsLeaf u.nodes n × (length c.nodes ≤ n)) (IsLeaf u.nodes) (λ n h. h.0) added (behind-are u.nodes unrolls.keeps.nodes.sound (length c.nodes)) in
       All-same (IsLeaf u.nodes) u.inputs (c.inputs ++ added) unrolls.keeps.inputs (All-append (IsLeaf u.nodes) c.inputs added old new)

@@ -24,7 +24,7 @@ get_there [] i h = absurd (omega arith)
 get_there (x ∷ xs) zero h = (x, refl)
 get_there (x ∷ xs) (suc i) h = get_there xs i (omega arith)
 
--- the entries behind the first n
+-- the entries after the first n
 pub get-drop : {X : Type 0} (n : ℕ) (xs : List X) (i : ℕ) → slice_get (drop n xs) i ≡ slice_get xs (n + i)
 get-drop zero xs i = ap (slice_get xs) (omega arith)
 get-drop (suc n) [] i = refl

@@ -64,7 +64,7 @@ fn reached<R: Print>(rt: &R, script: &Script, words: &[&str]) -> Result<(), Faul
     Ok(())
 }
 
-/// The values that a word spells: `0`, `1`, and `x` where it isn't known, behind an `=`.
+/// The values that a word spells: `0`, `1`, and `x` where it isn't known, after an `=`.
 fn values(alloc: Global, word: &str) -> Result<Vec<Lbool>, Fault> {
     let mut values = Vec::new(alloc);
     for byte in word.bytes().skip(1) {

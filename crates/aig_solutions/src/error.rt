@@ -28,7 +28,7 @@ pub enum SolutionError {
     /// The first line that is no comment is none of the solver's answers.
     #[error("no answer of a solver")]
     Answer,
-    /// Behind the answer comes a line that is neither a comment nor a line of values.
+    /// After the answer comes a line that is neither a comment nor a line of values.
     #[error("bad line of a solution")]
     Line,
     /// A line of values has another word than a literal or 0.

@@ -41,7 +41,7 @@ fn next_byte<F: ByteFeed>(f: &mut F) -> Result<u8, SolutionError>
 /// The most bytes that are read of the line of an answer.
 const LONGEST: usize = 16;
 
-/// What stands in a line behind its first byte.
+/// What stands in a line after its first byte.
 fn rest_of_line<F: ByteFeed>(alloc: Global, f: &mut F) -> Result<Vec<u8>, SolutionError>
     ensures stream { IsErrOf result SolutionError.Stream → F.failed f.new ≡ true }
     ensures same { F.behind f.new ≡ F.behind f.old }
@@ -59,7 +59,7 @@ fn rest_of_line<F: ByteFeed>(alloc: Global, f: &mut F) -> Result<Vec<u8>, Soluti
     Err(SolutionError::Answer)
 }
 
-/// Reads the line of an answer, behind comments. Other answers than `SATISFIABLE` are refused.
+/// Reads the line of an answer, after comments. Other answers than `SATISFIABLE` are refused.
 fn read_answer<F: ByteFeed>(alloc: Global, f: &mut F) -> Result<(), SolutionError>
     ensures stream { IsErrOf result SolutionError.Stream → F.failed f.new ≡ true }
     ensures same { F.behind f.new ≡ F.behind f.old }
@@ -80,14 +80,14 @@ fn read_answer<F: ByteFeed>(alloc: Global, f: &mut F) -> Result<(), SolutionErro
     }
 }
 
-/// A literal of a solution, and the byte behind it.
+/// A literal of a solution, and the byte after it.
 #[derive(Clone, Copy)]
 struct Word {
     /// The number of its variable, from 1 on, or 0 for the end of the solution.
     number: u32,
     /// Whether it has no minus in front.
     positive: bool,
-    /// The byte behind it: a space or a line feed.
+    /// The byte after it: a space or a line feed.
     end: u8,
 }
 
@@ -133,7 +133,7 @@ fn set_value(values: &mut [Lbool], word: &Word) -> Result<(), SolutionError>
     Ok(())
 }
 
-/// Reads the literals of a line, behind its first byte, and says whether the 0 stands there.
+/// Reads the literals of a line, after its first byte, and says whether the 0 stands there.
 fn read_values<F: ByteFeed>(f: &mut F, values: &mut [Lbool]) -> Result<bool, SolutionError>
     ensures stream { IsErrOf result SolutionError.Stream → F.failed f.new ≡ true }
     ensures same { F.behind f.new ≡ F.behind f.old }

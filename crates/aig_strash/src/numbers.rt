@@ -99,7 +99,7 @@ impl Tables {
         }
     }
 
-    /// Returns the new numbers of all nodes. The gates are let go first.
+    /// Returns the new numbers of all nodes. The gates are dropped first.
     pub(crate) fn into_numbers(self, alloc: Global) -> Result<Vec<usize>, MemoryError>
         ensures { IfOk result (λ numbers. numbers.items ≡ numbers_of self) }
     {

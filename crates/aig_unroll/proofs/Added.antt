@@ -1,4 +1,4 @@
--- The leaves behind the first so many nodes, and the leaves that are no latch's: none stands twice.
+-- The leaves after the first so many nodes, and the leaves that are no latch's: none stands twice.
 use Rattle.std.proofs.Common.{◌≡◌, ◌≢◌, ℕ, ◌+◌, ◌-◌, ◌<◌, ◌≤◌, Bool, true, Some, List, ◌++◌, length, map, get_or, drop, refl, sym, ap, subst, ◌∙◌, arith}
 use Rattle.std.specs.Prelude.{All, AllPairs, Contains, count_by, filter, option_map}
 use Rattle.std.proofs.lemmas.Option.{same_Some, slice_get-get_or}
@@ -12,7 +12,7 @@ use Rattle.aig_circuit.specs.Build.{Grows}
 use Rattle.aig_circuit.specs.Circuit.{AreNodes, Circuit, IsLeaf}
 use Rattle.aig_circuit.specs.Runs.{is_leaf}
 use Rattle.aig_circuit.proofs.Trees.{kind_at-within}
-use Rattle.aig_unroll.specs.Places.{is_other_leaf, leaves_behind, other_leaves}
+use Rattle.aig_unroll.specs.Places.{is_other_leaf, leaves_after, other_leaves}
 use Rattle.aig_unroll.proofs.Lists.{AllPairs-drop, AllPairs-map}
 use Rattle.aig_circuit.proofs.Counting.{is_leaf-Leaf}
 use Rattle.aig_unroll.proofs.Others.{kept_all, number_in}
@@ -35,21 +35,21 @@ no_node = record { node_id = 0; typ = False }
 leaves-append : (xs ys : List AigNode) → map number_of (filter leaf_test (xs ++ ys)) ≡ map number_of (filter leaf_test xs) ++ map number_of (filter leaf_test ys)
 leaves-append xs ys = ap (map number_of) (filter-append leaf_test xs ys) ∙ map-append number_of (filter leaf_test xs) (filter leaf_test ys)
 
--- the added nodes are those behind the old ones
+-- the added nodes are those after the old ones
 added-behind : (old new : List AigNode) (grows : Grows old new) → drop (length old) new ≡ grows.added
 added-behind old new grows = ap (drop (length old)) grows.appended ∙ drop_at old grows.added (length old) refl
 
--- the leaves behind the first so many are those of the old nodes, and then those of the added ones
-pub leaves_behind-more : (count : ℕ) (old new : List AigNode) → count ≤ length old → Grows old new → leaves_behind count new ≡ leaves_behind count old ++ leaves_behind (length old) new
-leaves_behind-more count old new h grows =
-    ap (leaves_behind count) grows.appended
+-- the leaves after the first so many are those of the old nodes, and then those of the added ones
+pub leaves_after-more : (count : ℕ) (old new : List AigNode) → count ≤ length old → Grows old new → leaves_after count new ≡ leaves_after count old ++ leaves_after (length old) new
+leaves_after-more count old new h grows =
+    ap (leaves_after count) grows.appended
     ∙ ap (λ l. map number_of (filter leaf_test l)) (drop-append-le count old grows.added h)
     ∙ leaves-append (drop count old) grows.added
-    ∙ ap (λ l. leaves_behind count old ++ map number_of (filter leaf_test l)) (sym (added-behind old new grows))
+    ∙ ap (λ l. leaves_after count old ++ map number_of (filter leaf_test l)) (sym (added-behind old new grows))
 
 -- as many as leaves are counted
-pub count-leaves_behind : (count : ℕ) (nodes : List AigNode) → length (leaves_behind count nodes) ≡ count_by leaf_test (drop count nodes)
-count-leaves_behind count nodes = length-map (filter leaf_test (drop count nodes)) number_of ∙ length-filter leaf_test (drop count nodes)
+pub count-leaves_after : (count : ℕ) (nodes : List AigNode) → length (leaves_after count nodes) ≡ count_by leaf_test (drop count nodes)
+count-leaves_after count nodes = length-map (filter leaf_test (drop count nodes)) number_of ∙ length-filter leaf_test (drop count nodes)
 
 -- ---- numbers
 
@@ -71,10 +71,10 @@ module _ (nodes : List AigNode) (are : AreNodes nodes) where
       (AllPairs-filter (λ m n. number_of m ≢ number_of n) test (drop count nodes) (AllPairs-drop (λ m n. number_of m ≢ number_of n) count nodes numbers-distinct))
 
   -- no added leaf stands twice
-  pub behind-distinct : (count : ℕ) → AllPairs (λ m n. m ≢ n) (leaves_behind count nodes)
+  pub behind-distinct : (count : ℕ) → AllPairs (λ m n. m ≢ n) (leaves_after count nodes)
   behind-distinct count = kept-distinct leaf_test count
 
-  -- the node is one behind the first so many
+  -- the node is one after the first so many
   abbrev pub IsBehind : ℕ → ℕ → Type 0
   IsBehind count n = IsLeaf nodes n × (count ≤ n)
 
@@ -89,7 +89,7 @@ module _ (nodes : List AigNode) (are : AreNodes nodes) where
       (subst (IsLeaf nodes) (sym number) leaf, omega arith)
 
   -- they are leaves, and not among the first so many
-  pub behind-are : (count : ℕ) → All (IsBehind count) (leaves_behind count nodes)
+  pub behind-are : (count : ℕ) → All (IsBehind count) (leaves_after count nodes)
   behind-are count =
       let Q = λ (node : AigNode). leaf_test node ≡ true → IsBehind count node.node_id in
       let all : All Q (filter leaf_test (drop count nodes)) = All-filter leaf_test Q (drop count nodes) (λ k d h. behind_there count k d h) in
@@ -97,7 +97,7 @@ module _ (nodes : List AigNode) (are : AreNodes nodes) where
       All-map (IsBehind count) number_of (filter leaf_test (drop count nodes)) (λ k d h. all k d h (passes k d h))
 
   -- and all such leaves are among them
-  pub behind-have : (count n : ℕ) → IsLeaf nodes n → count ≤ n → Contains (leaves_behind count nodes) n
+  pub behind-have : (count n : ℕ) → IsLeaf nodes n → count ≤ n → Contains (leaves_after count nodes) n
   behind-have count n leaf past =
       let within = kind_at-within nodes n Leaf leaf in
       let node = get_or nodes n no_node in
@@ -109,7 +109,7 @@ module _ (nodes : List AigNode) (are : AreNodes nodes) where
       let has = Contains-get_or (drop count nodes) (n - count) no_node short in
       let kept : Contains (filter leaf_test (drop count nodes)) node =
       subst (Contains (filter leaf_test (drop count nodes))) at (kept_all leaf_test (drop count nodes) (get_or (drop count nodes) (n - count) no_node) has.0 has.1 has.2 (ap leaf_test at ∙ ap is_leaf kind)) in
-      subst (Contains (leaves_behind count nodes)) (number_there n no_node within) (number_in (filter leaf_test (drop count nodes)) node kept)
+      subst (Contains (leaves_after count nodes)) (number_there n no_node within) (number_in (filter leaf_test (drop count nodes)) node kept)
 
 -- no leaf that is no latch's stands twice
 pub others-distinct : (c : Circuit) → AreNodes c.nodes → AllPairs (λ m n. m ≢ n) (other_leaves c)

@@ -21,10 +21,10 @@ use Rattle.aig_circuit.proofs.Building.{Grows-itself, Grows-leaf, Grows-longer, 
 use Rattle.aig_circuit.proofs.Circuits.{latch_leaves-leaves}
 use Rattle.aig_circuit.proofs.Trees.{kind_at-within, node_value-and, node_value-false, node_value-leaf}
 use Rattle.aig_renumber.proofs.Kept.{is_in-back, is_in-there}
-use Rattle.aig_unroll.specs.Places.{is_other_leaf, leaves_behind}
+use Rattle.aig_unroll.specs.Places.{is_other_leaf, leaves_after}
 use Rattle.aig_unroll.specs.Step.{Copies, CopiesBelow, MarksLatches, image_at, image_in, others_among, takes_no_node}
 use Rattle.aig_unroll.specs.Step.Copies.{false_node, latch_leaf, other_leaf, gate}
-use Rattle.aig_unroll.proofs.Added.{behind-are, leaves_behind-more, no_node, number_there}
+use Rattle.aig_unroll.proofs.Added.{behind-are, leaves_after-more, no_node, number_there}
 
 -- ---- values of images
 
@@ -52,13 +52,13 @@ none_stands : {X : Type 0} (xs : List X) → All (λ x. ⊥) xs → xs ≡ []
 none_stands [] all = refl
 none_stands (x ∷ xs) all = absurd (all 0 x (omega arith))
 
--- ---- the leaves behind the first nodes
+-- ---- the leaves after the first nodes
 
 -- added gates are no leaves
-pub leaves_behind-gates : (count : ℕ) (old new : List AigNode) → count ≤ length old → AddsGates old new → leaves_behind count new ≡ leaves_behind count old
-leaves_behind-gates count old new h adds =
-    let none : leaves_behind (length old) new ≡ [] = none_stands (leaves_behind (length old) new) (λ k d l. no_gate (get_or (leaves_behind (length old) new) k d) (behind-are new adds.grows.sound (length old) k d l)) in
-    leaves_behind-more count old new h adds.grows ∙ ap (λ ns. leaves_behind count old ++ ns) none ∙ append-nil (leaves_behind count old)
+pub leaves_after-gates : (count : ℕ) (old new : List AigNode) → count ≤ length old → AddsGates old new → leaves_after count new ≡ leaves_after count old
+leaves_after-gates count old new h adds =
+    let none : leaves_after (length old) new ≡ [] = none_stands (leaves_after (length old) new) (λ k d l. no_gate (get_or (leaves_after (length old) new) k d) (behind-are new adds.grows.sound (length old) k d l)) in
+    leaves_after-more count old new h adds.grows ∙ ap (λ ns. leaves_after count old ++ ns) none ∙ append-nil (leaves_after count old)
   where
     no_gate : (n : ℕ) → IsLeaf new n × (length old ≤ n) → ⊥
     no_gate n is = let within = kind_within new n is.0 in let g = adds.gates n is.1 within in differ g.0 g.1 (same_Some _ _ (sym is.0 ∙ g.2))
@@ -70,10 +70,10 @@ leaves_behind-gates count old new h adds =
         kind_within nodes n leaf = kind_at-within nodes n Leaf leaf
 
 -- a new leaf is one more
-pub leaves_behind-leaf : (count : ℕ) (old : List AigNode) → count ≤ length old → AreNodes old → leaves_behind count (with_node old Leaf) ≡ leaves_behind count old ++ length old ∷ []
-leaves_behind-leaf count old h are =
-    let last : leaves_behind (length old) (with_node old Leaf) ≡ length old ∷ [] = ap (λ l. map (λ (node : AigNode). node.node_id) (filter (λ (node : AigNode). is_leaf node.typ) l)) (drop_at old (record { node_id = length old; typ = Leaf } ∷ []) (length old) refl) in
-    leaves_behind-more count old (with_node old Leaf) h (Grows-leaf old are) ∙ ap (λ ns. leaves_behind count old ++ ns) last
+pub leaves_after-leaf : (count : ℕ) (old : List AigNode) → count ≤ length old → AreNodes old → leaves_after count (with_node old Leaf) ≡ leaves_after count old ++ length old ∷ []
+leaves_after-leaf count old h are =
+    let last : leaves_after (length old) (with_node old Leaf) ≡ length old ∷ [] = ap (λ l. map (λ (node : AigNode). node.node_id) (filter (λ (node : AigNode). is_leaf node.typ) l)) (drop_at old (record { node_id = length old; typ = Leaf } ∷ []) (length old) refl) in
+    leaves_after-more count old (with_node old Leaf) h (Grows-leaf old are) ∙ ap (λ ns. leaves_after count old ++ ns) last
 
 -- ---- one node more
 
@@ -173,7 +173,7 @@ module _ (from : Circuit) (circuit : IsCircuit from) (old mid new : List AigNode
   -- what is left to show of a node: that its image has its value, which leaf it adds, and its size
   record Follows : Type 0 where
     latch : Contains (latch_leaves from.latchs) i → e ≡ image_at images i
-    others : map (image_at more) (others_among from (take (i + 1) from.nodes)) ≡ map (λ n. edge_to n false) (leaves_behind (length old) new)
+    others : map (image_at more) (others_among from (take (i + 1) from.nodes)) ≡ map (λ n. edge_to n false) (leaves_after (length old) new)
     value : (y x : ℕ → Bool) → ((n : ℕ) → n < i → edge_value mid y (image_at images n) ≡ node_value from.nodes x n) → (IsLeaf from.nodes i → x i ≡ edge_value new y e) → edge_value new y e ≡ node_value from.nodes x i
     size : length new + length (filter (takes_no_node from) (take (i + 1) from.nodes)) ≤ length old + (i + 1)
 
@@ -202,9 +202,9 @@ module _ (from : Circuit) (circuit : IsCircuit from) (old mid new : List AigNode
           ap (image_at more) same ∙ image_new ∙ follows.latch has_i ∙ ap (image_at images) (sym same) ∙ so_far.latches n has
       latch_at n has false is = image_kept n (λ q. true≢false (sym (eq-eqb n i q) ∙ is)) ∙ so_far.latches n has
 
-  -- a leaf behind which no node is made
-  no_leaf : new ≡ mid → is_other_leaf from node ≡ false → map (image_at more) (others_among from (take (i + 1) from.nodes)) ≡ map (λ n. edge_to n false) (leaves_behind (length old) new)
-  no_leaf same is = others_more false is ∙ append-nil _ ∙ so_far.others ∙ ap (λ l. map (λ n. edge_to n false) (leaves_behind (length old) l)) (sym same)
+  -- a leaf after which no node is made
+  no_leaf : new ≡ mid → is_other_leaf from node ≡ false → map (image_at more) (others_among from (take (i + 1) from.nodes)) ≡ map (λ n. edge_to n false) (leaves_after (length old) new)
+  no_leaf same is = others_more false is ∙ append-nil _ ∙ so_far.others ∙ ap (λ l. map (λ n. edge_to n false) (leaves_after (length old) l)) (sym same)
 
   pub copies_more : length before ≡ length from.nodes → MarksLatches from (length old) before → Copies from i (length old) mid new images e → CopiesBelow from old new before more (i + 1)
   copies_more count marks (false_node is image same) =
@@ -247,13 +247,13 @@ module _ (from : Circuit) (circuit : IsCircuit from) (old mid new : List AigNode
       let other : is_other_leaf from node ≡ true = ap (λ k. is_other_leaf from (record { node_id = node.node_id; typ = k })) typ ∙ ap not any in
       let none : takes_no_node from node ≡ false = ap (λ k. takes_no_node from (record { node_id = node.node_id; typ = k })) typ ∙ ap (λ b. not (not b)) any in
       let leaf_edge = λ (n : ℕ). edge_to n false in
-      let leaves : leaves_behind (length old) new ≡ leaves_behind (length old) mid ++ length mid ∷ [] =
-      ap (leaves_behind (length old)) same ∙ leaves_behind-leaf (length old) mid (Grows-longer old mid so_far.grows) so_far.grows.sound in
+      let leaves : leaves_after (length old) new ≡ leaves_after (length old) mid ++ length mid ∷ [] =
+      ap (leaves_after (length old)) same ∙ leaves_after-leaf (length old) mid (Grows-longer old mid so_far.grows) so_far.grows.sound in
       follows_more (record {
         latch = λ has. absurd (no_latch has);
         others =
-            others_more true other ∙ ap (λ l. l ++ e ∷ []) so_far.others ∙ ap (λ f. map leaf_edge (leaves_behind (length old) mid) ++ f ∷ []) image
-            ∙ sym (ap (map leaf_edge) leaves ∙ map-append leaf_edge (leaves_behind (length old) mid) (length mid ∷ []));
+            others_more true other ∙ ap (λ l. l ++ e ∷ []) so_far.others ∙ ap (λ f. map leaf_edge (leaves_after (length old) mid) ++ f ∷ []) image
+            ∙ sym (ap (map leaf_edge) leaves ∙ map-append leaf_edge (leaves_after (length old) mid) (length mid ∷ []));
         value = λ y x below leaf. sym (leaf is) ∙ sym (node_value-leaf from.nodes x i is);
         size = let long : length new ≡ length mid + 1 = ap length same ∙ length-append mid _ in omega (arith, none_more false none, so_far.size);
       })
@@ -265,7 +265,7 @@ module _ (from : Circuit) (circuit : IsCircuit from) (old mid new : List AigNode
         latch = λ has. absurd (no_gate (same_Some _ _ (sym (latch_kind has) ∙ is)));
         others =
             others_more false other ∙ append-nil _ ∙ so_far.others
-            ∙ ap (map (λ n. edge_to n false)) (sym (leaves_behind-gates (length old) mid new (Grows-longer old mid so_far.grows) adds));
+            ∙ ap (map (λ n. edge_to n false)) (sym (leaves_after-gates (length old) mid new (Grows-longer old mid so_far.grows) adds));
         value = λ y x below leaf.
             value y
             ∙ ap (λ v. v && edge_value mid y (image_in images b)) (edge_value-image_in mid y images a ∙ ap (inverted_if a.compl) (below a.node_id (circuit.nodes.ordered.first_before i a b is)))

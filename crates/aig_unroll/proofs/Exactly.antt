@@ -13,7 +13,7 @@ use Rattle.aig_circuit.specs.Node.{kind_at}
 use Rattle.aig_circuit.specs.Circuit.{Circuit, IsCircuit, IsLeaf}
 use Rattle.aig_circuit.specs.Runs.{HaveSameValues}
 use Rattle.aig_circuit.proofs.Trees.{kind_at-there, kind_at-within}
-use Rattle.aig_unroll.specs.Places.{leaves_behind}
+use Rattle.aig_unroll.specs.Places.{leaves_after}
 use Rattle.aig_unroll.specs.Unroll.{AddsExactly, ReadsNext, UnrollsOnce}
 use Rattle.aig_unroll.proofs.Added.{behind-have}
 
@@ -36,7 +36,7 @@ module _ (from old new : Circuit) (is_old : IsCircuit old) (once : UnrollsOnce f
   all_true n = true
 
   -- the values of a step under these
-  abbrev read : (x : ℕ → Bool) × ReadsNext from old (leaves_behind (length old.nodes) new.nodes) all_true x
+  abbrev read : (x : ℕ → Bool) × ReadsNext from old (leaves_after (length old.nodes) new.nodes) all_true x
   read = once.reads all_true
 
   -- as many entries
@@ -55,7 +55,7 @@ module _ (from old new : Circuit) (is_old : IsCircuit old) (once : UnrollsOnce f
       let values = once.values all_true read.0 read.1 in
       record {
         nodes = λ n h l. let k = kind_at-there new.nodes n l in node n h l k.0 k.1;
-        inputs = longer new.inputs old.inputs (leaves_behind (length old.nodes) new.nodes) _ once.keeps.inputs once.count;
+        inputs = longer new.inputs old.inputs (leaves_after (length old.nodes) new.nodes) _ once.keeps.inputs once.count;
         latchs = sym (length-map new.latchs (λ (l : AigLatch). l.input)) ∙ ap length once.keeps.leaves ∙ length-map old.latchs (λ (l : AigLatch). l.input);
         outputs = longer new.outputs old.outputs once.outputs (length from.outputs) once.with_outputs (edges_many once.outputs from.outputs values.0);
         bads = longer new.bads old.bads once.bads (length from.bads) once.with_bads (edges_many once.bads from.bads values.1);
@@ -78,5 +78,5 @@ module _ (from old new : Circuit) (is_old : IsCircuit old) (once : UnrollsOnce f
       node n h l (And a b) is = inr (a, b, is)
       node n h l Leaf is =
           let has = behind-have new.nodes once.keeps.nodes.sound (length old.nodes) n is h in
-          inl (is, subst (λ inputs. Contains inputs n) (sym once.keeps.inputs) (Contains-append_right old.inputs (leaves_behind (length old.nodes) new.nodes) n has))
+          inl (is, subst (λ inputs. Contains inputs n) (sym once.keeps.inputs) (Contains-append_right old.inputs (leaves_after (length old.nodes) new.nodes) n has))
       node n h l False is = absurd (omega (arith, once.keeps.nodes.sound.false_once n is, kind_at-within old.nodes 0 False is_old.nodes.false_first))

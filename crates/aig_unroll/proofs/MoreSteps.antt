@@ -15,9 +15,9 @@ use Rattle.aig_circuit.specs.Runs.{AgreeOnLeaves, IsRun, IsInitial}
 use Rattle.aig_circuit.proofs.Building.{Grows-kept, Grows-longer, Grows-then, edge_value-Grows}
 use Rattle.aig_circuit.proofs.Trees.{kind_at-within}
 use Rattle.aig_renumber.proofs.Places.{place_of-get_or, place_of-within}
-use Rattle.aig_unroll.specs.Places.{Reads, leaves_behind, other_leaves, place_at, unrolled_size}
+use Rattle.aig_unroll.specs.Places.{Reads, leaves_after, other_leaves, place_at, unrolled_size}
 use Rattle.aig_unroll.specs.Unroll.{KeepsCircuit, SetsStandAtSteps, ShowsSteps, StandAtSteps, UnrollsOnce, UnrollsTo, starts_of}
-use Rattle.aig_unroll.proofs.Added.{behind-are, behind-distinct, behind-have, leaves_behind-more}
+use Rattle.aig_unroll.proofs.Added.{behind-are, behind-distinct, behind-have, leaves_after-more}
 use Rattle.aig_unroll.proofs.Lists.{zip_turned, zip_unmapped}
 use Rattle.aig_unroll.proofs.MoreShown.{sets_stand_more, stand_more}
 use Rattle.aig_unroll.proofs.NextStep.{next_values, next_values-other, reads_added, reads_kept, reads_more, reads_next, reads_next_values, reads_same, run_kept, run_more, then_values, then_values-new, then_values-old, within_old}
@@ -28,9 +28,9 @@ pub KeepsCircuit-then : (c old new : Circuit) → KeepsCircuit c old → KeepsCi
 KeepsCircuit-then c old new first then = record {
   nodes = Grows-then c.nodes old.nodes new.nodes first.nodes then.nodes;
   inputs =
-      then.inputs ∙ ap (λ l. l ++ leaves_behind (length old.nodes) new.nodes) first.inputs
-      ∙ append_assoc c.inputs (leaves_behind (length c.nodes) old.nodes) (leaves_behind (length old.nodes) new.nodes)
-      ∙ ap (λ l. c.inputs ++ l) (sym (leaves_behind-more (length c.nodes) old.nodes new.nodes (Grows-longer c.nodes old.nodes first.nodes) then.nodes));
+      then.inputs ∙ ap (λ l. l ++ leaves_after (length old.nodes) new.nodes) first.inputs
+      ∙ append_assoc c.inputs (leaves_after (length c.nodes) old.nodes) (leaves_after (length old.nodes) new.nodes)
+      ∙ ap (λ l. c.inputs ++ l) (sym (leaves_after-more (length c.nodes) old.nodes new.nodes (Grows-longer c.nodes old.nodes first.nodes) then.nodes));
   names = then.names ∙ first.names;
   leaves = then.leaves ∙ first.leaves;
   starts = then.starts ∙ first.starts;
@@ -53,7 +53,7 @@ module _ (c old new : Circuit) (k : ℕ) (is : IsCircuit c) (is_old : IsCircuit 
 
   -- the inputs that the step adds
   abbrev new_inputs : List ℕ
-  new_inputs = leaves_behind (length old.nodes) new.nodes
+  new_inputs = leaves_after (length old.nodes) new.nodes
 
   -- ---- inputs
 
@@ -156,7 +156,7 @@ module _ (c old new : Circuit) (k : ℕ) (is : IsCircuit c) (is_old : IsCircuit 
   edges_kept : (y : ℕ → Bool) (e : AigEdge) → IsInRange old.nodes e → edge_value new.nodes y e ≡ edge_value old.nodes y e
   edges_kept y = edge_value-Grows old.nodes new.nodes is_old.nodes once.keeps.nodes y
 
-  -- the lists show step k + 1 behind the others, and the next edges the state after it
+  -- the lists show step k + 1 after the others, and the next edges the state after it
   pub same_more : (y : ℕ → Bool) (x : ℕ → ℕ → Bool) → IsRun c (k + 1) x → Reads c new (k + 1) y x → ShowsSteps c new (k + 1) (edge_value new.nodes y) x
   same_more y x run reads =
       let early = to.same y x (run_kept c old new k is to once x run) (reads_kept c old new k is to once y x reads) in

@@ -1,4 +1,4 @@
--- The values of a step that was added behind k steps: what is read off it, and runs that go on by it.
+-- The values of a step that was added after k steps: what is read off it, and runs that go on by it.
 use Rattle.std.proofs.Common.{◌≡◌, ℕ, zero, suc, ◌+◌, ◌*◌, ◌<◌, ◌≤◌, ◌⊎◌, Bool, true, false, cond, ltb, List, [], ◌∷◌, ◌++◌, length, get_or, refl, sym, ap, subst, ◌∙◌, arith, add-one, inl, inr}
 use Rattle.std.specs.Prelude.{All, Contains, ◌==◌}
 use Rattle.std.specs.List.{AllZip, list_any}
@@ -15,7 +15,7 @@ use Rattle.aig_circuit.specs.Runs.{IsRun, next_edges}
 use Rattle.aig_renumber.proofs.Places.{place_of-get_or, place_of-within}
 use Rattle.aig_renumber.proofs.Kept.{is_in-back, is_in-there}
 use Rattle.aig_circuit.specs.Renumber.{place_of}
-use Rattle.aig_unroll.specs.Places.{Reads, leaves_behind, other_leaves, place_at}
+use Rattle.aig_unroll.specs.Places.{Reads, leaves_after, other_leaves, place_at}
 use Rattle.aig_unroll.specs.Unroll.{ReadsNext, UnrollsOnce, UnrollsTo}
 use Rattle.aig_unroll.proofs.Added.{others-distinct}
 use Rattle.aig_unroll.proofs.Lists.{all_from_zips, zip_from, zip_mapped, zip_unmapped}
@@ -53,7 +53,7 @@ module _ (c old new : Circuit) (k : ℕ) (is : IsCircuit c) (to : UnrollsTo c k 
 
   -- the inputs that the step adds
   abbrev added : List ℕ
-  added = leaves_behind (length old.nodes) new.nodes
+  added = leaves_after (length old.nodes) new.nodes
 
   -- the latches' leaves
   abbrev leaves : List ℕ

@@ -16,7 +16,7 @@ use Rattle.aig_circuit.proofs.Building.{Grows-kept, Grows-longer, edge_value-Gro
 use Rattle.aig_circuit.proofs.Circuits.{AllPairs-append, init_grown, latch_leaves-leaves}
 use Rattle.aig_circuit.proofs.Trees.{kind_at-within, node_value-leaf}
 use Rattle.aig_renumber.proofs.Places.{All-from_map}
-use Rattle.aig_unroll.specs.Places.{leaves_behind, other_leaves}
+use Rattle.aig_unroll.specs.Places.{leaves_after, other_leaves}
 use Rattle.aig_unroll.specs.Step.{AppendsImages, CopiesAll, HaveNextImages, image_at, image_in}
 use Rattle.aig_unroll.specs.Unroll.{ReadsNext, UnrollsOnce, UnrollsTo, starts_of}
 use Rattle.aig_unroll.proofs.Added.{behind-are, behind-distinct, IsBehind}
@@ -37,7 +37,7 @@ zip_of_map f g (x ∷ xs) (y ∷ ys) e =
 module _ (from old new : Circuit) (images : List AigEdge) (is_from : IsCircuit from) (is_old : IsCircuit old) (copies : CopiesAll from old.latchs old.nodes new.nodes images) (appends : AppendsImages from old images new) where
   -- the new leaves
   abbrev added : List ℕ
-  added = leaves_behind (length old.nodes) new.nodes
+  added = leaves_after (length old.nodes) new.nodes
 
   longer : length old.nodes ≤ length new.nodes
   longer = Grows-longer old.nodes new.nodes copies.grows
@@ -201,13 +201,13 @@ module _ (from old new : Circuit) (images : List AigEdge) (is_from : IsCircuit f
 
 -- what was made of a circuit is one step more: first its nodes and justice sets, and then its other lists
 pub stepped_in_parts : (from old mid new : Circuit) (images : List AigEdge) (start : ℕ) → start ≡ length old.nodes → CopiesAll from old.latchs old.nodes mid.nodes images → mid.justice ≡ old.justice ++ map (map (image_in images)) from.justice
-    → record mid { justice = old.justice } ≡ record old { nodes = mid.nodes } → new.nodes ≡ mid.nodes → new.inputs ≡ mid.inputs ++ leaves_behind start mid.nodes → HaveNextImages images from.latchs mid.latchs new.latchs
+    → record mid { justice = old.justice } ≡ record old { nodes = mid.nodes } → new.nodes ≡ mid.nodes → new.inputs ≡ mid.inputs ++ leaves_after start mid.nodes → HaveNextImages images from.latchs mid.latchs new.latchs
     → new.outputs ≡ mid.outputs ++ map (image_in images) from.outputs → new.bads ≡ mid.bads ++ map (image_in images) from.bads → new.constraints ≡ mid.constraints ++ map (image_in images) from.constraints
     → new.justice ≡ mid.justice → new.fairness ≡ mid.fairness ++ map (image_in images) from.fairness → new.names ≡ mid.names → CopiesAll from old.latchs old.nodes new.nodes images × AppendsImages from old images new
 stepped_in_parts from old mid new images start begins copies sets same nodes inputs latchs outputs bads constraints justice fairness names = (
   subst (λ ns. CopiesAll from old.latchs old.nodes ns images) (sym nodes) copies,
   record {
-    inputs = inputs ∙ ap (λ (c : Circuit). c.inputs ++ leaves_behind start mid.nodes) same ∙ ap (λ n. old.inputs ++ leaves_behind n mid.nodes) begins ∙ ap (λ ns. old.inputs ++ leaves_behind (length old.nodes) ns) (sym nodes);
+    inputs = inputs ∙ ap (λ (c : Circuit). c.inputs ++ leaves_after start mid.nodes) same ∙ ap (λ n. old.inputs ++ leaves_after n mid.nodes) begins ∙ ap (λ ns. old.inputs ++ leaves_after (length old.nodes) ns) (sym nodes);
     latchs = subst (λ (ls : List AigLatch). HaveNextImages images from.latchs ls new.latchs) (ap (λ (c : Circuit). c.latchs) same) latchs;
     outputs = outputs ∙ ap (λ (c : Circuit). c.outputs ++ map (image_in images) from.outputs) same;
     bads = bads ∙ ap (λ (c : Circuit). c.bads ++ map (image_in images) from.bads) same;

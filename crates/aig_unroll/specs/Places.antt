@@ -15,9 +15,9 @@ is_other_leaf c node = is_leaf node.typ && not (list_any (λ n. n == node.node_i
 abbrev pub other_leaves : Circuit → List ℕ
 other_leaves c = map (λ node. node.node_id) (filter (is_other_leaf c) c.nodes)
 
--- the leaves among the nodes behind the first so many, in rising number
-abbrev pub leaves_behind : ℕ → List AigNode → List ℕ
-leaves_behind count nodes = map (λ node. node.node_id) (filter (λ node. is_leaf node.typ) (drop count nodes))
+-- the leaves among the nodes after the first so many, in rising number
+abbrev pub leaves_after : ℕ → List AigNode → List ℕ
+leaves_after count nodes = map (λ node. node.node_id) (filter (λ node. is_leaf node.typ) (drop count nodes))
 
 -- the place of leaf n, which is no latch's, at a step: at step 0 itself, and then its turn among the inputs that the step added
 abbrev pub place_at : Circuit → Circuit → ℕ → ℕ → ℕ

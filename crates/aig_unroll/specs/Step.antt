@@ -14,7 +14,7 @@ use Rattle.aig_circuit.specs.Circuit.{Circuit, IsInRange, IsLeaf, latch_leaves}
 use Rattle.aig_circuit.specs.Build.{AddsGates, Grows, with_node}
 use Rattle.aig_circuit.specs.Runs.{next_edges}
 use Rattle.aig_circuit.specs.View.{lists_circuit}
-use Rattle.aig_unroll.specs.Places.{is_other_leaf, leaves_behind, other_leaves}
+use Rattle.aig_unroll.specs.Places.{is_other_leaf, leaves_after, other_leaves}
 use Rattle.aig_unroll.specs.Unroll.{starts_of}
 
 -- ---- images
@@ -67,7 +67,7 @@ pub record CopiesBelow (from : Circuit) (old new : List AigNode) (before images 
   pub there : (n : ℕ) → n < i → IsInRange new (image_at images n)
   pub latches : (n : ℕ) → Contains (latch_leaves from.latchs) n → image_at images n ≡ image_at before n
   pub rest : (n : ℕ) → i ≤ n → image_at images n ≡ image_at before n
-  pub others : map (image_at images) (others_among from (take i from.nodes)) ≡ map (λ n. edge_to n false) (leaves_behind (length old) new)
+  pub others : map (image_at images) (others_among from (take i from.nodes)) ≡ map (λ n. edge_to n false) (leaves_after (length old) new)
   pub value : (y x : ℕ → Bool) → ((n : ℕ) → n < i → IsLeaf from.nodes n → x n ≡ edge_value new y (image_at images n)) → (n : ℕ) → n < i → edge_value new y (image_at images n) ≡ node_value from.nodes x n
   pub size : length new + length (filter (takes_no_node from) (take i from.nodes)) ≤ length old + i
 
@@ -79,7 +79,7 @@ pub record CopiesAll (from : Circuit) (latchs : List AigLatch) (old new : List A
   pub count : length images ≡ length from.nodes
   pub there : (n : ℕ) → n < length from.nodes → IsInRange new (image_at images n)
   pub latches : map (image_at images) (latch_leaves from.latchs) ≡ next_edges latchs
-  pub others : map (image_at images) (other_leaves from) ≡ map (λ n. edge_to n false) (leaves_behind (length old) new)
+  pub others : map (image_at images) (other_leaves from) ≡ map (λ n. edge_to n false) (leaves_after (length old) new)
   pub value : (y x : ℕ → Bool) → ((n : ℕ) → n < length from.nodes → IsLeaf from.nodes n → x n ≡ edge_value new y (image_at images n))
       → (n : ℕ) → n < length from.nodes → edge_value new y (image_at images n) ≡ node_value from.nodes x n
   pub size : length new ≤ length old + (length from.nodes - 1 - length from.latchs)
@@ -94,17 +94,17 @@ entries_of sets = map (λ set. set.items) sets
 abbrev pub AreBelow : ℕ → List AigEdge → Type 0
 AreBelow count es = All (λ e. e.node_id < count) es
 
--- the images of the edges stand behind the old ones
+-- the images of the edges stand after the old ones
 abbrev pub Appends : List AigEdge → List AigEdge → List AigEdge → List AigEdge → Type 0
 Appends images es old new = new ≡ old ++ map (image_in images) es
 
--- the sets of the images of edges stand behind the old sets, a set for each set
+-- the sets of the images of edges stand after the old sets, a set for each set
 abbrev pub AppendsSets : List AigEdge → List (List AigEdge) → List (List AigEdge) → List (List AigEdge) → Type 0
 AppendsSets images sets old new = new ≡ old ++ map (map (image_in images)) sets
 
 -- there is room for the entries of a step, but for justice
 pub record HasRoom (lists : CircuitLists) (from : Circuit) (before : ℕ) : Type 0 where
-  pub inputs : vec_len lists.inputs + length (leaves_behind before lists.nodes.items) ≤ vec_capacity lists.inputs
+  pub inputs : vec_len lists.inputs + length (leaves_after before lists.nodes.items) ≤ vec_capacity lists.inputs
   pub outputs : vec_len lists.outputs + length from.outputs ≤ vec_capacity lists.outputs
   pub bads : vec_len lists.bads + length from.bads ≤ vec_capacity lists.bads
   pub constraints : vec_len lists.constraints + length from.constraints ≤ vec_capacity lists.constraints
@@ -118,7 +118,7 @@ pub record HaveNextImages (images : List AigEdge) (others old new : List AigLatc
 
 -- The new leaves are inputs, the image of each entry is appended to its list, and the next edges are the images of next edges.
 pub record AppendsImages (from old : Circuit) (images : List AigEdge) (new : Circuit) : Type 0 where
-  pub inputs : new.inputs ≡ old.inputs ++ leaves_behind (length old.nodes) new.nodes
+  pub inputs : new.inputs ≡ old.inputs ++ leaves_after (length old.nodes) new.nodes
   pub latchs : HaveNextImages images from.latchs old.latchs new.latchs
   pub outputs : Appends images from.outputs old.outputs new.outputs
   pub bads : Appends images from.bads old.bads new.bads

@@ -10,7 +10,7 @@ use Rattle.aig_circuit.specs.Tree.{edge_value}
 use Rattle.aig_circuit.specs.Circuit.{Circuit, IsLeaf, latch_leaves}
 use Rattle.aig_circuit.specs.Build.{Grows}
 use Rattle.aig_circuit.specs.Runs.{AgreeOnLeaves, HaveSameValues, IsRun, IsInitial, next_edges}
-use Rattle.aig_unroll.specs.Places.{Reads, leaves_behind, other_leaves, unrolled_size}
+use Rattle.aig_unroll.specs.Places.{Reads, leaves_after, other_leaves, unrolled_size}
 
 -- the initial edges of the latches, in order
 abbrev pub starts_of : List AigLatch → List (Option AigEdge)
@@ -19,7 +19,7 @@ starts_of latchs = map (λ latch. latch.init) latchs
 -- old nodes, names, latch leaves and initial edges stay, and the added leaves are inputs, in rising number
 pub record KeepsCircuit (old new : Circuit) : Type 0 where
   pub nodes : Grows old.nodes new.nodes
-  pub inputs : new.inputs ≡ old.inputs ++ leaves_behind (length old.nodes) new.nodes
+  pub inputs : new.inputs ≡ old.inputs ++ leaves_after (length old.nodes) new.nodes
   pub names : new.names ≡ old.names
   pub leaves : latch_leaves new.latchs ≡ latch_leaves old.latchs
   pub starts : starts_of new.latchs ≡ starts_of old.latchs
@@ -31,12 +31,12 @@ pub record ReadsNext (from old : Circuit) (added : List ℕ) (y x : ℕ → Bool
   pub state : AllZip (λ n e. x n ≡ edge_value old.nodes y e) (latch_leaves from.latchs) (next_edges old.latchs)
   pub others : AllZip (λ n input. x n ≡ y input) (other_leaves from) added
 
--- The circuit old with one step of the circuit from behind it: an edge for each edge of a property list, with the value that it has in
+-- The circuit old with one step of the circuit from after it: an edge for each edge of a property list, with the value that it has in
 -- the new step, and so for next edges.
 pub record UnrollsOnce (from old new : Circuit) : Type 0 where
   pub keeps : KeepsCircuit old new
   -- one input for each leaf of from that is no latch's
-  pub count : length (leaves_behind (length old.nodes) new.nodes) ≡ length (other_leaves from)
+  pub count : length (leaves_after (length old.nodes) new.nodes) ≡ length (other_leaves from)
   pub outputs : List AigEdge
   pub bads : List AigEdge
   pub constraints : List AigEdge
@@ -48,8 +48,8 @@ pub record UnrollsOnce (from old new : Circuit) : Type 0 where
   pub with_justice : new.justice ≡ old.justice ++ justice
   pub with_fairness : new.fairness ≡ old.fairness ++ fairness
   -- every y gives leaf values of the new step
-  pub reads : (y : ℕ → Bool) → (x : ℕ → Bool) × ReadsNext from old (leaves_behind (length old.nodes) new.nodes) y x
-  pub values : (y x : ℕ → Bool) → ReadsNext from old (leaves_behind (length old.nodes) new.nodes) y x →
+  pub reads : (y : ℕ → Bool) → (x : ℕ → Bool) × ReadsNext from old (leaves_after (length old.nodes) new.nodes) y x
+  pub values : (y x : ℕ → Bool) → ReadsNext from old (leaves_after (length old.nodes) new.nodes) y x →
       HaveSameValues new.nodes y outputs from.nodes x from.outputs × HaveSameValues new.nodes y bads from.nodes x from.bads
       × HaveSameValues new.nodes y constraints from.nodes x from.constraints
       × AllZip (λ es fs. HaveSameValues new.nodes y es from.nodes x fs) justice from.justice

@@ -4,7 +4,7 @@ ghost use Rattle.std.specs.Prelude.{◌≡◌, ◌+◌, ◌<◌, ◌≤◌, ◌+
 ghost use Rattle.aig_circuit.specs.Circuit.{IsCircuit};
 ghost use Rattle.aig_circuit.specs.Runs.{is_leaf};
 ghost use Rattle.aig_circuit.specs.View.{lists_circuit};
-ghost use Rattle.aig_unroll.specs.Places.{leaves_behind};
+ghost use Rattle.aig_unroll.specs.Places.{leaves_after};
 ghost use Rattle.aig_unroll.specs.Step.{Appends, AppendsSets, AreBelow, HasRoom, HaveNextImages, entries_of};
 
 use crate::nodes::image_of;
@@ -33,9 +33,9 @@ fn count_leaves(nodes: &[AigNode], start: usize) -> usize
 /// Appends the numbers of the leaves from number `start` on. Requires room, so that no push fails.
 fn append_leaves(inputs: &mut Vec<usize>, nodes: &[AigNode], start: usize)
     requires start { start ≤ length nodes.now }
-    requires room { vec_len inputs.old + length (leaves_behind start nodes.now)
+    requires room { vec_len inputs.old + length (leaves_after start nodes.now)
         ≤ vec_capacity inputs.old }
-    ensures { inputs.new.items ≡ inputs.old.items ++ leaves_behind start nodes.now }
+    ensures { inputs.new.items ≡ inputs.old.items ++ leaves_after start nodes.now }
 {
     for node in &nodes[start..] {
         if node.is_leaf() {
@@ -129,7 +129,7 @@ pub(crate) fn append_step(
     ensures circuit { IsCircuit from.now }
     ensures nodes { lists.new.nodes.items ≡ lists.old.nodes.items }
     ensures inputs { lists.new.inputs.items
-        ≡ lists.old.inputs.items ++ leaves_behind start lists.old.nodes.items }
+        ≡ lists.old.inputs.items ++ leaves_after start lists.old.nodes.items }
     ensures latchs { HaveNextImages images.now from.now.latchs
         lists.old.latchs.items lists.new.latchs.items }
     ensures outputs { Appends images.now from.now.outputs

@@ -4,7 +4,7 @@ use Rattle.std.specs.Prelude.{codes}
 use Rattle.std.specs.Fmt.{digits}
 use Rattle.aig_base.specs.declared.logic.three.Lbool.TheVariants.{FALSE, TRUE, NONE}
 use Rattle.aig_parsing.specs.Parse.{parse_digits, parse_ended, parse_number}
-use Rattle.aig_witness.specs.Reading.{parse_next, row_behind, steps_behind}
+use Rattle.aig_witness.specs.Reading.{parse_next, parse_row_after, parse_steps_after}
 use Rattle.aig_witness.specs.Witness.{Witness, witness_text}
 
 -- bad 10, two latches, one input, two steps
@@ -20,17 +20,17 @@ unfolding witness_text digits
 spelled = refl
 
 again : parse_next (codes "1\nb10\n0x\n1\nx\n.\n") ≡ Some (Some small, [])
-unfolding parse_next row_behind steps_behind parse_ended parse_number parse_digits
+unfolding parse_next parse_row_after parse_steps_after parse_ended parse_number parse_digits
 again = refl
 
 -- lines without values
 bare-read : parse_next (codes "1\nb0\n\n\n.\n") ≡ Some (Some bare, [])
-unfolding parse_next row_behind steps_behind parse_ended parse_number parse_digits
+unfolding parse_next parse_row_after parse_steps_after parse_ended parse_number parse_digits
 bare-read = refl
 
--- comments, and another witness behind the first
+-- comments, and another witness after the first
 second-left : parse_next (codes "c first\nc\n1\nb0\n\n\n.\nc second\n1\nb10\n0x\n1\nx\n.\n") ≡ Some (Some bare, codes "c second\n1\nb10\n0x\n1\nx\n.\n")
-unfolding parse_next row_behind steps_behind parse_ended parse_number parse_digits
+unfolding parse_next parse_row_after parse_steps_after parse_ended parse_number parse_digits
 second-left = refl
 
 -- comments alone, of which the last is ended by the stream
@@ -40,10 +40,10 @@ comments-alone = refl
 
 -- a cut line, a line without its end, no point, and a point without its line's end
 cut : (parse_next (codes "1\nb0\n0\n1") ≡ None) × (parse_next (codes "1\nb0") ≡ None) × (parse_next (codes "1\nb0\n0\n1\n") ≡ None) × (parse_next (codes "1\nb0\n0\n1\n.") ≡ None)
-unfolding parse_next row_behind steps_behind parse_ended parse_number parse_digits
+unfolding parse_next parse_row_after parse_steps_after parse_ended parse_number parse_digits
 cut = (refl, refl, refl, refl)
 
 -- other statuses, a justice property, two properties, and another letter
 others : (parse_next (codes "0\nb0\n.\n") ≡ None) × (parse_next (codes "2\nb0\n.\n") ≡ None) × (parse_next (codes "1\nj0\n0\n.\n") ≡ None) × (parse_next (codes "1\nb0b1\n0\n.\n") ≡ None) × (parse_next (codes "1\nb0\n02\n.\n") ≡ None)
-unfolding parse_next row_behind steps_behind parse_ended parse_number parse_digits
+unfolding parse_next parse_row_after parse_steps_after parse_ended parse_number parse_digits
 others = (refl, refl, refl, refl, refl)

@@ -15,7 +15,7 @@ use Rattle.aig_lexer.proofs.Going.{GoesOn, goes_call, goes_done, goes_wrong}
 use Rattle.aig_witness.specs.declared.error.WitnessError.{WitnessError}
 use Rattle.aig_witness.specs.declared.error.WitnessError.TheVariants.{Memory, Stream, Status, Property, Values}
 use Rattle.aig_witness.specs.Faults.{Ends, OnWitness}
-use Rattle.aig_witness.specs.Reading.{behind_comments, parse_first, parse_next, parse_parts, point_behind, parse_property, row_behind, steps_behind, value_of_letter, parse_witness, witness_from}
+use Rattle.aig_witness.specs.Reading.{after_comments, parse_first, parse_next, parse_parts, parse_point_after, parse_property, parse_row_after, parse_steps_after, value_of_letter, parse_witness, witness_from}
 use Rattle.aig_witness.specs.declared.witness.Witness as lists
 use Rattle.aig_witness.specs.Witness.{Witness, parts_of, rows_of, said_by}
 
@@ -38,78 +38,78 @@ gives_rest {X} view p q before mid after r h k = go r k
 -- ---- a line of values
 
 module _ (row : List Lbool) (b : ℕ) where
-  pub row_ends : b ≡ 10 → (bs : List ℕ) → row_behind row (b ∷ bs) ≡ Some (row, bs)
-  unfolding row_behind
+  pub row_ends : b ≡ 10 → (bs : List ℕ) → parse_row_after row (b ∷ bs) ≡ Some (row, bs)
+  unfolding parse_row_after
   row_ends is bs = rw (eq-eqb b 10 is) refl
 
-  pub row_goes : (v : Lbool) → b ≢ 10 → value_of_letter b ≡ Some v → (bs : List ℕ) → row_behind row (b ∷ bs) ≡ row_behind (row ++ v ∷ []) bs
-  unfolding row_behind
-  row_goes v ne is bs = rw (ne_eqb b 10 ne) (ap (λ o. o >>= λ w. row_behind (row ++ w ∷ []) bs) is)
+  pub row_goes : (v : Lbool) → b ≢ 10 → value_of_letter b ≡ Some v → (bs : List ℕ) → parse_row_after row (b ∷ bs) ≡ parse_row_after (row ++ v ∷ []) bs
+  unfolding parse_row_after
+  row_goes v ne is bs = rw (ne_eqb b 10 ne) (ap (λ o. o >>= λ w. parse_row_after (row ++ w ∷ []) bs) is)
 
-  pub row_stops : b ≢ 10 → value_of_letter b ≡ None → (bs : List ℕ) → row_behind row (b ∷ bs) ≡ None
-  unfolding row_behind
-  row_stops ne is bs = rw (ne_eqb b 10 ne) (ap (λ o. o >>= λ w. row_behind (row ++ w ∷ []) bs) is)
+  pub row_stops : b ≢ 10 → value_of_letter b ≡ None → (bs : List ℕ) → parse_row_after row (b ∷ bs) ≡ None
+  unfolding parse_row_after
+  row_stops ne is bs = rw (ne_eqb b 10 ne) (ap (λ o. o >>= λ w. parse_row_after (row ++ w ∷ []) bs) is)
 
-pub row_cut : (row : List Lbool) → row_behind row [] ≡ None
-unfolding row_behind
+pub row_cut : (row : List Lbool) → parse_row_after row [] ≡ None
+unfolding parse_row_after
 row_cut row = refl
 
 -- ---- lines of values
 
 abbrev then_lines : List (List Lbool) → List Lbool × List ℕ → Option (List (List Lbool) × List ℕ)
-then_lines steps x = steps_behind (steps ++ x.0 ∷ []) [] x.1
+then_lines steps x = parse_steps_after (steps ++ x.0 ∷ []) [] x.1
 
 -- a line that has begun goes on, where its next value is this one
 abbrev Joins : List (List Lbool) → Lbool → List Lbool → List ℕ → Lbool → Type 0
-Joins steps v row bs w = steps_behind steps (v ∷ row ++ w ∷ []) bs ≡ (row_behind (v ∷ row ++ w ∷ []) bs >>= then_lines steps)
+Joins steps v row bs w = parse_steps_after steps (v ∷ row ++ w ∷ []) bs ≡ (parse_row_after (v ∷ row ++ w ∷ []) bs >>= then_lines steps)
 
--- a line that has begun, and then the lines behind it
-line_joins : (steps : List (List Lbool)) (v : Lbool) (row : List Lbool) (bs : List ℕ) → steps_behind steps (v ∷ row) bs ≡ (row_behind (v ∷ row) bs >>= then_lines steps)
-unfolding row_behind steps_behind
+-- a line that has begun, and then the lines after it
+line_joins : (steps : List (List Lbool)) (v : Lbool) (row : List Lbool) (bs : List ℕ) → parse_steps_after steps (v ∷ row) bs ≡ (parse_row_after (v ∷ row) bs >>= then_lines steps)
+unfolding parse_row_after parse_steps_after
 line_joins steps v row [] = refl
 line_joins steps v row (b ∷ bs) = by_end (λ w. line_joins steps v (row ++ w ∷ []) bs) (eqb b 10)
   where
-    by_value : ((w : Lbool) → Joins steps v row bs w) → (o : Option Lbool) → (o >>= λ w. steps_behind steps (v ∷ row ++ w ∷ []) bs) ≡ ((o >>= λ w. row_behind (v ∷ row ++ w ∷ []) bs) >>= then_lines steps)
+    by_value : ((w : Lbool) → Joins steps v row bs w) → (o : Option Lbool) → (o >>= λ w. parse_steps_after steps (v ∷ row ++ w ∷ []) bs) ≡ ((o >>= λ w. parse_row_after (v ∷ row ++ w ∷ []) bs) >>= then_lines steps)
     by_value joins None = refl
     by_value joins (Some w) = joins w
 
-    by_point : ((w : Lbool) → Joins steps v row bs w) → (t : Bool) → eqb b 46 ≡ t → cond t None (value_of_letter b >>= λ w. steps_behind steps (v ∷ row ++ w ∷ []) bs) ≡ ((value_of_letter b >>= λ w. row_behind (v ∷ row ++ w ∷ []) bs) >>= then_lines steps)
-    by_point joins true is = subst (λ k. None ≡ ((value_of_letter k >>= λ w. row_behind (v ∷ row ++ w ∷ []) bs) >>= then_lines steps)) (sym (eqb-true b 46 is)) refl
+    by_point : ((w : Lbool) → Joins steps v row bs w) → (t : Bool) → eqb b 46 ≡ t → cond t None (value_of_letter b >>= λ w. parse_steps_after steps (v ∷ row ++ w ∷ []) bs) ≡ ((value_of_letter b >>= λ w. parse_row_after (v ∷ row ++ w ∷ []) bs) >>= then_lines steps)
+    by_point joins true is = subst (λ k. None ≡ ((value_of_letter k >>= λ w. parse_row_after (v ∷ row ++ w ∷ []) bs) >>= then_lines steps)) (sym (eqb-true b 46 is)) refl
     by_point joins false is = by_value joins (value_of_letter b)
 
-    by_end : ((w : Lbool) → Joins steps v row bs w) → (t : Bool) → cond t (steps_behind (steps ++ (v ∷ row) ∷ []) [] bs) (cond (eqb b 46) None (value_of_letter b >>= λ w. steps_behind steps (v ∷ row ++ w ∷ []) bs))
-        ≡ (cond t (Some (v ∷ row, bs)) (value_of_letter b >>= λ w. row_behind (v ∷ row ++ w ∷ []) bs) >>= then_lines steps)
+    by_end : ((w : Lbool) → Joins steps v row bs w) → (t : Bool) → cond t (parse_steps_after (steps ++ (v ∷ row) ∷ []) [] bs) (cond (eqb b 46) None (value_of_letter b >>= λ w. parse_steps_after steps (v ∷ row ++ w ∷ []) bs))
+        ≡ (cond t (Some (v ∷ row, bs)) (value_of_letter b >>= λ w. parse_row_after (v ∷ row ++ w ∷ []) bs) >>= then_lines steps)
     by_end joins true = refl
     by_end joins false = by_point joins (eqb b 46) refl
 
--- a line that isn't that of the point, and then the lines behind it
-pub line_starts : (steps : List (List Lbool)) (b : ℕ) → b ≢ 46 → (bs : List ℕ) → steps_behind steps [] (b ∷ bs) ≡ (row_behind [] (b ∷ bs) >>= then_lines steps)
-unfolding row_behind steps_behind
+-- a line that isn't that of the point, and then the lines after it
+pub line_starts : (steps : List (List Lbool)) (b : ℕ) → b ≢ 46 → (bs : List ℕ) → parse_steps_after steps [] (b ∷ bs) ≡ (parse_row_after [] (b ∷ bs) >>= then_lines steps)
+unfolding parse_row_after parse_steps_after
 line_starts steps b ne bs = rw (ne_eqb b 46 ne) (by_end (eqb b 10))
   where
-    by_value : (o : Option Lbool) → (o >>= λ w. steps_behind steps (w ∷ []) bs) ≡ ((o >>= λ w. row_behind (w ∷ []) bs) >>= then_lines steps)
+    by_value : (o : Option Lbool) → (o >>= λ w. parse_steps_after steps (w ∷ []) bs) ≡ ((o >>= λ w. parse_row_after (w ∷ []) bs) >>= then_lines steps)
     by_value None = refl
     by_value (Some w) = line_joins steps w [] bs
 
-    by_end : (t : Bool) → cond t (steps_behind (steps ++ [] ∷ []) [] bs) (value_of_letter b >>= λ w. steps_behind steps (w ∷ []) bs)
-        ≡ (cond t (Some ([], bs)) (value_of_letter b >>= λ w. row_behind (w ∷ []) bs) >>= then_lines steps)
+    by_end : (t : Bool) → cond t (parse_steps_after (steps ++ [] ∷ []) [] bs) (value_of_letter b >>= λ w. parse_steps_after steps (w ∷ []) bs)
+        ≡ (cond t (Some ([], bs)) (value_of_letter b >>= λ w. parse_row_after (w ∷ []) bs) >>= then_lines steps)
     by_end true = refl
     by_end false = by_value (value_of_letter b)
 
 -- the line is read, or isn't
-pub line_read : (steps : List (List Lbool)) (b : ℕ) → b ≢ 46 → (row : List Lbool) (bs rest : List ℕ) → row_behind [] (b ∷ bs) ≡ Some (row, rest) → steps_behind steps [] (b ∷ bs) ≡ steps_behind (steps ++ row ∷ []) [] rest
+pub line_read : (steps : List (List Lbool)) (b : ℕ) → b ≢ 46 → (row : List Lbool) (bs rest : List ℕ) → parse_row_after [] (b ∷ bs) ≡ Some (row, rest) → parse_steps_after steps [] (b ∷ bs) ≡ parse_steps_after (steps ++ row ∷ []) [] rest
 line_read steps b ne row bs rest is = line_starts steps b ne bs ∙ ap (λ o. o >>= then_lines steps) is
 
-pub line_wrong : (steps : List (List Lbool)) (b : ℕ) → b ≢ 46 → (bs : List ℕ) → row_behind [] (b ∷ bs) ≡ None → steps_behind steps [] (b ∷ bs) ≡ None
+pub line_wrong : (steps : List (List Lbool)) (b : ℕ) → b ≢ 46 → (bs : List ℕ) → parse_row_after [] (b ∷ bs) ≡ None → parse_steps_after steps [] (b ∷ bs) ≡ None
 line_wrong steps b ne bs is = line_starts steps b ne bs ∙ ap (λ o. o >>= then_lines steps) is
 
-pub steps_cut : (steps : List (List Lbool)) → steps_behind steps [] [] ≡ None
-unfolding steps_behind
+pub steps_cut : (steps : List (List Lbool)) → parse_steps_after steps [] [] ≡ None
+unfolding parse_steps_after
 steps_cut steps = refl
 
-pub point_comes : (steps : List (List Lbool)) (b : ℕ) → b ≡ 46 → (bs : List ℕ) → steps_behind steps [] (b ∷ bs) ≡ point_behind steps [] bs
-unfolding steps_behind
-point_comes steps b is bs = subst (λ k. steps_behind steps [] (k ∷ bs) ≡ point_behind steps [] bs) (sym is) refl
+pub point_comes : (steps : List (List Lbool)) (b : ℕ) → b ≡ 46 → (bs : List ℕ) → parse_steps_after steps [] (b ∷ bs) ≡ parse_point_after steps [] bs
+unfolding parse_steps_after
+point_comes steps b is bs = subst (λ k. parse_steps_after steps [] (k ∷ bs) ≡ parse_point_after steps [] bs) (sym is) refl
 
 abbrev rest_of : ℕ × List ℕ → Option (List ℕ)
 rest_of x = Some x.1
@@ -123,10 +123,10 @@ line_feed (b ∷ bs) = go (eqb 10 b)
     go true = refl
     go false = refl
 
-pub point_ends : (steps : List (List Lbool)) (bs rest : List ℕ) → parse_expected 10 bs ≡ Some (10, rest) → point_behind steps [] bs ≡ Some (steps, rest)
+pub point_ends : (steps : List (List Lbool)) (bs rest : List ℕ) → parse_expected 10 bs ≡ Some (10, rest) → parse_point_after steps [] bs ≡ Some (steps, rest)
 point_ends steps bs rest is = ap (λ o. o >>= λ r. Some (steps, r)) (line_feed bs ∙ ap (λ o. o >>= rest_of) is)
 
-pub point_wrong : (steps : List (List Lbool)) (bs : List ℕ) → parse_expected 10 bs ≡ None → point_behind steps [] bs ≡ None
+pub point_wrong : (steps : List (List Lbool)) (bs : List ℕ) → parse_expected 10 bs ≡ None → parse_point_after steps [] bs ≡ None
 point_wrong steps bs is = ap (λ o. o >>= λ r. Some (steps, r)) (line_feed bs ∙ ap (λ o. o >>= rest_of) is)
 
 -- another byte than this one
@@ -164,7 +164,7 @@ module _ (first : ℕ) (one : first ≡ 49) where
 
 -- the next witness, where a comment has begun or not
 abbrev pub next_from : Bool → List ℕ → Option (Option Witness × List ℕ)
-next_from inside bs = parse_first (behind_comments inside bs)
+next_from inside bs = parse_first (after_comments inside bs)
 
 pub next_starts : (bs : List ℕ) → parse_next bs ≡ next_from false bs
 unfolding parse_next

@@ -21,7 +21,7 @@ list_text list = row_text list.items
 pub steps_pieces : (lists : List (Vec Lbool Global)) → flat_map row_text (rows_of lists) ≡ flat_map list_text lists
 steps_pieces lists = flat_map-map row_text (λ (list : Vec Lbool Global). list.items) lists
 
--- behind the status line
+-- after the status line
 abbrev pub text_pieces : Witness → List (List ℕ)
 text_pieces w = (decimal w.bad ++ 10 ∷ []) ∷ row_text w.state ∷ flat_map row_text w.steps ∷ codes ".\n" ∷ []
 

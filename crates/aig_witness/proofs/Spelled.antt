@@ -14,7 +14,7 @@ use Rattle.aig_parsing.proofs.Numbers.{bind_some}
 use Rattle.aig_parsing.proofs.Joined.{Reads, Reads-both, Reads-ended, Reads-mapped}
 use Rattle.aig_parsing.proofs.Sections.{Reads-behind}
 use Rattle.aig_parsing.proofs.Printed.{number_written}
-use Rattle.aig_witness.specs.Reading.{behind_comments, parse_first, parse_next, parse_parts, point_behind, parse_property, row_behind, steps_behind, value_of_letter, parse_witness, witness_from}
+use Rattle.aig_witness.specs.Reading.{after_comments, parse_first, parse_next, parse_parts, parse_point_after, parse_property, parse_row_after, parse_steps_after, value_of_letter, parse_witness, witness_from}
 use Rattle.aig_witness.specs.Witness.{SpellsWitness, Witness, letter_of, row_text, witness_text}
 
 -- ---- letters
@@ -36,39 +36,39 @@ letter_sound b v h = elim (chosen (eqb b 48) (Some FALSE) (cond (eqb b 49) (Some
 
 -- ---- a line of values
 
-row_sound : (row : List Lbool) (bytes : List ℕ) (x : List Lbool × List ℕ) → row_behind row bytes ≡ Some x → map letter_of row ++ bytes ≡ row_text x.0 ++ x.1
-unfolding row_behind
+row_sound : (row : List Lbool) (bytes : List ℕ) (x : List Lbool × List ℕ) → parse_row_after row bytes ≡ Some x → map letter_of row ++ bytes ≡ row_text x.0 ++ x.1
+unfolding parse_row_after
 row_sound row [] x h = absurd cc
-row_sound row (b ∷ bs) x h = elim (chosen (eqb b 10) (Some (row, bs)) (value_of_letter b >>= λ v. row_behind (row ++ v ∷ []) bs) (Some x) h) [
+row_sound row (b ∷ bs) x h = elim (chosen (eqb b 10) (Some (row, bs)) (value_of_letter b >>= λ v. parse_row_after (row ++ v ∷ []) bs) (Some x) h) [
   | inl end ↦
       let same : (row, bs) ≡ x = same_Some (row, bs) x end.1 in
       ap (λ k. map letter_of row ++ k ∷ bs) (eqb-true b 10 end.0) ∙ sym (append_assoc (map letter_of row) (10 ∷ []) bs) ∙ ap (λ (y : List Lbool × List ℕ). row_text y.0 ++ y.1) same
   | inr more ↦
-      let found = bind_some (value_of_letter b) (λ v. row_behind (row ++ v ∷ []) bs) x more.1 in
+      let found = bind_some (value_of_letter b) (λ v. parse_row_after (row ++ v ∷ []) bs) x more.1 in
       ap (λ k. map letter_of row ++ k ∷ bs) (letter_sound b found.0 found.1)
       ∙ sym (append_assoc (map letter_of row) (letter_of found.0 ∷ []) bs)
       ∙ ap (λ front. front ++ bs) (sym (map-append letter_of row (found.0 ∷ [])))
       ∙ row_sound (row ++ found.0 ∷ []) bs x found.2
 ]
 
-row_complete : (row values : List Lbool) (rest : List ℕ) → row_behind row (map letter_of values ++ 10 ∷ rest) ≡ Some (row ++ values, rest)
-unfolding row_behind
+row_complete : (row values : List Lbool) (rest : List ℕ) → parse_row_after row (map letter_of values ++ 10 ∷ rest) ≡ Some (row ++ values, rest)
+unfolding parse_row_after
 row_complete row [] rest = ap (λ vs. Some (vs, rest)) (sym (append-nil row))
 row_complete row (FALSE ∷ values) rest = row_complete (row ++ FALSE ∷ []) values rest ∙ ap (λ vs. Some (vs, rest)) (append_assoc row (FALSE ∷ []) values)
 row_complete row (TRUE ∷ values) rest = row_complete (row ++ TRUE ∷ []) values rest ∙ ap (λ vs. Some (vs, rest)) (append_assoc row (TRUE ∷ []) values)
 row_complete row (NONE ∷ values) rest = row_complete (row ++ NONE ∷ []) values rest ∙ ap (λ vs. Some (vs, rest)) (append_assoc row (NONE ∷ []) values)
 
-Reads-row : Reads (λ values. Just (row_text values)) (row_behind [])
+Reads-row : Reads (λ values. Just (row_text values)) (parse_row_after [])
 Reads-row = record {
   sound = λ bytes x h. (row_text x.0, row_sound [] bytes x h, refl);
   complete = λ values front rest h.
       let whole : front ++ rest ≡ map letter_of values ++ 10 ∷ rest = ap (λ bs. bs ++ rest) h ∙ append_assoc (map letter_of values) (10 ∷ []) rest in
-      ap (row_behind []) whole ∙ row_complete [] values rest;
+      ap (parse_row_after []) whole ∙ row_complete [] values rest;
 }
 
 -- ---- lines of values, and the point
 
--- lines and the point behind them
+-- lines and the point after them
 abbrev steps_text : List (List Lbool) → List ℕ → List ℕ
 steps_text steps rest = flat_map row_text steps ++ 46 ∷ 10 ∷ rest
 
@@ -78,7 +78,7 @@ record Added (steps : List (List Lbool)) (row : List Lbool) (bytes : List ℕ) (
   is : x.0 ≡ steps ++ more
   whole : map letter_of row ++ bytes ≡ steps_text more x.1
 
-point_sound : (steps : List (List Lbool)) (row : List Lbool) (bytes : List ℕ) (x : List (List Lbool) × List ℕ) → point_behind steps row bytes ≡ Some x → Added steps row (46 ∷ bytes) x
+point_sound : (steps : List (List Lbool)) (row : List Lbool) (bytes : List ℕ) (x : List (List Lbool) × List ℕ) → parse_point_after steps row bytes ≡ Some x → Added steps row (46 ∷ bytes) x
 point_sound steps [] [] x h = absurd cc
 point_sound steps [] (b ∷ bs) x h =
     let found = bind_some (cond (eqb 10 b) (Some bs) None) (λ rest. Some (steps, rest)) x h in
@@ -96,12 +96,12 @@ point_sound steps [] (b ∷ bs) x h =
     nothing rest h = cc
 point_sound steps (v ∷ row) bytes x h = absurd cc
 
-steps_sound : (steps : List (List Lbool)) (row : List Lbool) (bytes : List ℕ) (x : List (List Lbool) × List ℕ) → steps_behind steps row bytes ≡ Some x → Added steps row bytes x
-unfolding steps_behind
+steps_sound : (steps : List (List Lbool)) (row : List Lbool) (bytes : List ℕ) (x : List (List Lbool) × List ℕ) → parse_steps_after steps row bytes ≡ Some x → Added steps row bytes x
+unfolding parse_steps_after
 steps_sound steps row [] x h = absurd cc
 steps_sound steps row (b ∷ bs) x h =
-    let value = value_of_letter b >>= λ v. steps_behind steps (row ++ v ∷ []) bs in
-    elim (chosen (eqb b 10) (steps_behind (steps ++ row ∷ []) [] bs) (cond (eqb b 46) (point_behind steps row bs) value) (Some x) h) [
+    let value = value_of_letter b >>= λ v. parse_steps_after steps (row ++ v ∷ []) bs in
+    elim (chosen (eqb b 10) (parse_steps_after (steps ++ row ∷ []) [] bs) (cond (eqb b 46) (parse_point_after steps row bs) value) (Some x) h) [
       | inl end ↦
           let a = steps_sound (steps ++ row ∷ []) [] bs x end.1 in
           record {
@@ -113,10 +113,10 @@ steps_sound steps row (b ∷ bs) x h =
                 ∙ sym (append_assoc (map letter_of row) (10 ∷ []) (steps_text a.more x.1))
                 ∙ sym (append_assoc (row_text row) (flat_map row_text a.more) (46 ∷ 10 ∷ x.1));
           }
-      | inr on ↦ elim (chosen (eqb b 46) (point_behind steps row bs) value (Some x) on.1) [
+      | inr on ↦ elim (chosen (eqb b 46) (parse_point_after steps row bs) value (Some x) on.1) [
         | inl point ↦ subst (λ k. Added steps row (k ∷ bs) x) (sym (eqb-true b 46 point.0)) (point_sound steps row bs x point.1)
         | inr more ↦
-            let found = bind_some (value_of_letter b) (λ v. steps_behind steps (row ++ v ∷ []) bs) x more.1 in
+            let found = bind_some (value_of_letter b) (λ v. parse_steps_after steps (row ++ v ∷ []) bs) x more.1 in
             let a = steps_sound steps (row ++ found.0 ∷ []) bs x found.2 in
             record {
               more = a.more;
@@ -130,19 +130,19 @@ steps_sound steps row (b ∷ bs) x h =
       ]
     ]
 
-line_complete : (steps : List (List Lbool)) (row values : List Lbool) (rest : List ℕ) → steps_behind steps row (map letter_of values ++ 10 ∷ rest) ≡ steps_behind (steps ++ (row ++ values) ∷ []) [] rest
-unfolding steps_behind
-line_complete steps row [] rest = ap (λ vs. steps_behind (steps ++ vs ∷ []) [] rest) (sym (append-nil row))
-line_complete steps row (FALSE ∷ values) rest = line_complete steps (row ++ FALSE ∷ []) values rest ∙ ap (λ vs. steps_behind (steps ++ vs ∷ []) [] rest) (append_assoc row (FALSE ∷ []) values)
-line_complete steps row (TRUE ∷ values) rest = line_complete steps (row ++ TRUE ∷ []) values rest ∙ ap (λ vs. steps_behind (steps ++ vs ∷ []) [] rest) (append_assoc row (TRUE ∷ []) values)
-line_complete steps row (NONE ∷ values) rest = line_complete steps (row ++ NONE ∷ []) values rest ∙ ap (λ vs. steps_behind (steps ++ vs ∷ []) [] rest) (append_assoc row (NONE ∷ []) values)
+line_complete : (steps : List (List Lbool)) (row values : List Lbool) (rest : List ℕ) → parse_steps_after steps row (map letter_of values ++ 10 ∷ rest) ≡ parse_steps_after (steps ++ (row ++ values) ∷ []) [] rest
+unfolding parse_steps_after
+line_complete steps row [] rest = ap (λ vs. parse_steps_after (steps ++ vs ∷ []) [] rest) (sym (append-nil row))
+line_complete steps row (FALSE ∷ values) rest = line_complete steps (row ++ FALSE ∷ []) values rest ∙ ap (λ vs. parse_steps_after (steps ++ vs ∷ []) [] rest) (append_assoc row (FALSE ∷ []) values)
+line_complete steps row (TRUE ∷ values) rest = line_complete steps (row ++ TRUE ∷ []) values rest ∙ ap (λ vs. parse_steps_after (steps ++ vs ∷ []) [] rest) (append_assoc row (TRUE ∷ []) values)
+line_complete steps row (NONE ∷ values) rest = line_complete steps (row ++ NONE ∷ []) values rest ∙ ap (λ vs. parse_steps_after (steps ++ vs ∷ []) [] rest) (append_assoc row (NONE ∷ []) values)
 
-steps_complete : (steps more : List (List Lbool)) (rest : List ℕ) → steps_behind steps [] (steps_text more rest) ≡ Some (steps ++ more, rest)
-unfolding steps_behind
+steps_complete : (steps more : List (List Lbool)) (rest : List ℕ) → parse_steps_after steps [] (steps_text more rest) ≡ Some (steps ++ more, rest)
+unfolding parse_steps_after
 steps_complete steps [] rest = ap (λ rows. Some (rows, rest)) (sym (append-nil steps))
 steps_complete steps (row ∷ more) rest =
     let regroup : steps_text (row ∷ more) rest ≡ map letter_of row ++ 10 ∷ steps_text more rest = append_assoc (row_text row) (flat_map row_text more) (46 ∷ 10 ∷ rest) ∙ append_assoc (map letter_of row) (10 ∷ []) (steps_text more rest) in
-    ap (steps_behind steps []) regroup
+    ap (parse_steps_after steps []) regroup
     ∙ line_complete steps [] row (steps_text more rest)
     ∙ steps_complete (steps ++ row ∷ []) more rest
     ∙ ap (λ rows. Some (rows, rest)) (append_assoc steps (row ∷ []) more)
@@ -159,7 +159,7 @@ lines_are : (rows : List (List Lbool)) (bytes : List ℕ) → Lines rows bytes �
 lines_are [] bytes h = h
 lines_are (row ∷ rows) bytes h = h.2 ∙ ap (λ front. front ++ h.1) h.3 ∙ ap (λ rest. row_text row ++ rest) (lines_are rows h.1 h.4)
 
-Reads-steps : Reads (λ steps. Lines steps then Just (46 ∷ 10 ∷ [])) (steps_behind [] [])
+Reads-steps : Reads (λ steps. Lines steps then Just (46 ∷ 10 ∷ [])) (parse_steps_after [] [])
 Reads-steps = record {
   sound = λ bytes x h.
       let a = steps_sound [] [] bytes x h in
@@ -169,7 +169,7 @@ Reads-steps = record {
   complete = λ steps front rest h.
       let whole : front ++ rest ≡ steps_text steps rest =
       ap (λ bs. bs ++ rest) (h.2 ∙ ap (λ bs. bs ++ h.1) (lines_are steps h.0 h.3) ∙ ap (λ bs. flat_map row_text steps ++ bs) h.4) ∙ append_assoc (flat_map row_text steps) (46 ∷ 10 ∷ []) rest in
-      ap (steps_behind [] []) whole ∙ steps_complete [] steps rest;
+      ap (parse_steps_after [] []) whole ∙ steps_complete [] steps rest;
 }
 
 -- ---- witnesses
@@ -182,9 +182,9 @@ no_digit h = omega arith
 
 Reads-parts : Reads PartsText parse_parts
 Reads-parts =
-    Reads-both (λ n. Just (98 ∷ []) then Ended 10 n) (λ _ y. Just (row_text y.0) then Lines y.1 then Just (46 ∷ 10 ∷ [])) parse_property (λ _. parse_both (row_behind []) (λ _. steps_behind [] []))
+    Reads-both (λ n. Just (98 ∷ []) then Ended 10 n) (λ _ y. Just (row_text y.0) then Lines y.1 then Just (46 ∷ 10 ∷ [])) parse_property (λ _. parse_both (parse_row_after []) (λ _. parse_steps_after [] []))
     (Reads-behind (98 ∷ []) (Ended 10) (parse_ended 10) (Reads-ended 10 no_digit))
-    (λ _. Reads-both (λ row. Just (row_text row)) (λ _ steps. Lines steps then Just (46 ∷ 10 ∷ [])) (row_behind []) (λ _. steps_behind [] []) Reads-row (λ _. Reads-steps))
+    (λ _. Reads-both (λ row. Just (row_text row)) (λ _ steps. Lines steps then Just (46 ∷ 10 ∷ [])) (parse_row_after []) (λ _. parse_steps_after [] []) Reads-row (λ _. Reads-steps))
 
 abbrev parts : Witness → ℕ × (List Lbool × List (List Lbool))
 parts w = (w.bad, (w.state, w.steps))
@@ -203,7 +203,7 @@ next_is (b ∷ bs) rest w h =
     elim (chosen (eqb 49 b) (strip (10 ∷ []) bs) None (Some found.0) found.1) [
       | inl one ↦
           let same : 49 ≡ b = eqb-true 49 b one.0 in
-          subst (λ k. parse_witness (k ∷ bs) ≡ Some (w, rest) → parse_first (behind_comments false (k ∷ bs)) ≡ Some (Some w, rest)) same
+          subst (λ k. parse_witness (k ∷ bs) ≡ Some (w, rest) → parse_first (after_comments false (k ∷ bs)) ≡ Some (Some w, rest)) same
           (λ (is : parse_witness (49 ∷ bs) ≡ Some (w, rest)). ap (λ o. o >>= λ x. Some (Some x.0, x.1)) is) h
       | inr other ↦ absurd (nothing found.0 other.1)
     ]

@@ -4,7 +4,7 @@ ghost use Rattle.std.specs.Prelude.{◌≡◌, ◌∷◌, ◌<◌, ◌≤◌, []
 ghost use Rattle.aig_lexer.specs.Takes.{Gives, Misses, Takes};
 ghost use Rattle.aig_lexer.specs.Words.{parse_expected};
 ghost use Rattle.aig_witness.specs.Faults.{GivesNext, OnWitness};
-ghost use Rattle.aig_witness.specs.Reading.{parse_parts, parse_property, row_behind, steps_behind, value_of_letter, parse_witness};
+ghost use Rattle.aig_witness.specs.Reading.{parse_parts, parse_property, parse_row_after, parse_steps_after, value_of_letter, parse_witness};
 ghost use Rattle.aig_witness.specs.Witness.{parts_of, rows_of, said_by};
 
 use crate::error::WitnessError;
@@ -28,7 +28,7 @@ fn value_of(letter: u8) -> Option<Lbool>
 /// Reads a line of values whose first byte, which was read before, is `first`.
 fn read_row<F: ByteFeed>(alloc: Global, f: &mut F, first: u8) -> Result<Vec<Lbool>, WitnessError>
     ensures exact { Gives OnWitness (λ row. row.items)
-        (F.coming f.old) (F.coming f.new) result (λ bs. row_behind [] (first ∷ bs)) }
+        (F.coming f.old) (F.coming f.new) result (λ bs. parse_row_after [] (first ∷ bs)) }
     ensures stream { IsErrOf result WitnessError.Stream → F.failed f.new ≡ true }
     ensures same { F.behind f.new ≡ F.behind f.old }
     ensures fewer { OnOk result (F.turns f.new ≤ F.turns f.old) }
@@ -51,7 +51,7 @@ fn read_row<F: ByteFeed>(alloc: Global, f: &mut F, first: u8) -> Result<Vec<Lboo
 /// Reads a line of values.
 fn read_state<F: ByteFeed>(alloc: Global, f: &mut F) -> Result<Vec<Lbool>, WitnessError>
     ensures exact { Gives OnWitness (λ row. row.items)
-        (F.coming f.old) (F.coming f.new) result (row_behind []) }
+        (F.coming f.old) (F.coming f.new) result (parse_row_after []) }
     ensures stream { IsErrOf result WitnessError.Stream → F.failed f.new ≡ true }
     ensures same { F.behind f.new ≡ F.behind f.old }
 {
@@ -78,7 +78,7 @@ fn ends_line<F: ByteFeed>(f: &mut F) -> Result<bool, StreamFault>
 /// Reads lines of values, up to the line of a point.
 fn read_steps<F: ByteFeed>(alloc: Global, f: &mut F) -> Result<Vec<Vec<Lbool>>, WitnessError>
     ensures exact { Gives OnWitness (λ steps. rows_of steps.items)
-        (F.coming f.old) (F.coming f.new) result (steps_behind [] []) }
+        (F.coming f.old) (F.coming f.new) result (parse_steps_after [] []) }
     ensures stream { IsErrOf result WitnessError.Stream → F.failed f.new ≡ true }
     ensures same { F.behind f.new ≡ F.behind f.old }
 {
@@ -113,7 +113,7 @@ fn read_property<F: ByteFeed>(f: &mut F) -> Result<u32, WitnessError>
     }
 }
 
-/// Reads the lines behind the status line.
+/// Reads the lines after the status line.
 fn read_parts<F: ByteFeed>(alloc: Global, f: &mut F) -> Result<Witness, WitnessError>
     ensures exact { Gives OnWitness parts_of
         (F.coming f.old) (F.coming f.new) result parse_parts }
@@ -127,7 +127,7 @@ fn read_parts<F: ByteFeed>(alloc: Global, f: &mut F) -> Result<Witness, WitnessE
 }
 
 /// Reads a witness whose first byte, which was read before, is `first`.
-fn read_behind<F: ByteFeed>(alloc: Global, f: &mut F, first: u8) -> Result<Witness, WitnessError>
+fn read_after<F: ByteFeed>(alloc: Global, f: &mut F, first: u8) -> Result<Witness, WitnessError>
     ensures exact { Gives OnWitness said_by
         (F.coming f.old) (F.coming f.new) result (λ bs. parse_witness (first ∷ bs)) }
     ensures stream { IsErrOf result WitnessError.Stream → F.failed f.new ≡ true }
@@ -142,7 +142,7 @@ fn read_behind<F: ByteFeed>(alloc: Global, f: &mut F, first: u8) -> Result<Witne
     read_parts(alloc, f)
 }
 
-/// Reads the next witness of a stream, behind comments, or returns none where only comments are left (AIGER 1.9, "Witness
+/// Reads the next witness of a stream, after comments, or returns none where only comments are left (AIGER 1.9, "Witness
 /// format").
 ///
 /// A witness is the line `1`, a line `b` and the number of one bad state property, a line of a value for each latch, a line of
@@ -154,7 +154,7 @@ fn read_behind<F: ByteFeed>(alloc: Global, f: &mut F, first: u8) -> Result<Witne
 ///
 /// `Status`, `Property` and `Values` name the first line that is misshapen or cut; `Stream` where a read failed; `Memory`.
 pub fn read_witness<F: ByteFeed>(alloc: Global, f: &mut F) -> Result<Option<Witness>, WitnessError>
-    // A witness stands behind comments in the bytes that were taken, whatever follows them; or these are comments alone, and
+    // A witness stands after comments in the bytes that were taken, whatever follows them; or these are comments alone, and
     // nothing follows; or known bytes are neither.
     ensures exact { GivesNext (F.coming f.old) (F.coming f.new) result }
     ensures stream { IsErrOf result WitnessError.Stream → F.failed f.new ≡ true }
@@ -167,7 +167,7 @@ pub fn read_witness<F: ByteFeed>(alloc: Global, f: &mut F) -> Result<Option<Witn
         } else if b == b'c' {
             inside = true;
         } else {
-            let witness = read_behind(alloc, f, b)?;
+            let witness = read_after(alloc, f, b)?;
             return Ok(Some(witness));
         }
     }

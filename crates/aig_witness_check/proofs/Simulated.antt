@@ -24,7 +24,7 @@ pub stepped_all-circuit : (s : Simulation) (rows : List (List Lbool)) → (stepp
 stepped_all-circuit s [] = refl
 stepped_all-circuit s (row ∷ rows) = stepped_all-circuit (stepped s row) rows
 
--- behind a step each edge has a value
+-- after a step each edge has a value
 pub stepped-values : (s : Simulation) (row : List Lbool) (edges : List AigEdge) → All (IsInRange s.circuit.nodes) edges → All (HasValue (stepped s row)) edges
 stepped-values s row edges all i d h =
     let values : List Lbool = map (λ (node : AigNode). three_node_value s.circuit.nodes (given_values s.circuit row s.state) node.node_id) s.circuit.nodes in
@@ -38,7 +38,7 @@ values-there c state rows row now after edges all is moved =
     let same : now.circuit ≡ c = ap (λ (s : Simulation). s.circuit) is ∙ stepped_all-circuit (simulation_of c state) rows in
     subst (λ (s : Simulation). All (HasValue s) edges) (sym moved) (stepped-values now row edges (subst (λ (d : Circuit). All (IsInRange d.nodes) edges) (sym same) all))
 
--- the value of an edge at a step of several is that behind it
+-- the value of an edge at a step of several is that after it
 pub values_at : (e : AigEdge) (s : Simulation) (rows : List (List Lbool)) (t : ℕ) → t < length rows → slice_get (values_in e s rows) t ≡ Some (value_in (stepped_all s (take (suc t) rows)) e)
 values_at e s [] t h = absurd (omega arith)
 values_at e s (row ∷ rows) zero h = refl
@@ -64,7 +64,7 @@ simulated-more s now after rows t row h is so_far moved = moved ∙ ap₂ steppe
 pub true_turned : (a b : Simulation) (xs ys : List AigEdge) → a ≡ b → xs ≡ ys → AreTrueIn a xs → AreTrueIn b ys
 true_turned a b xs ys same are h = subst (λ (s : Simulation). AreTrueIn s ys) same (subst (λ (es : List AigEdge). AreTrueIn a es) are h)
 
--- behind some steps each edge has a value
+-- after some steps each edge has a value
 pub values-all : (s : Simulation) (rows : List (List Lbool)) → 0 < length rows → length (stepped_all s rows).values ≡ length s.circuit.nodes
 values-all s [] h = absurd (omega arith)
 values-all s (row ∷ []) h = length-map s.circuit.nodes (λ (node : AigNode). three_node_value s.circuit.nodes (given_values s.circuit row s.state) node.node_id)

@@ -5,7 +5,7 @@ use Rattle.std.proofs.lemmas.Bool.Decides.{nat_tests}
 use Rattle.std.proofs.lemmas.List.{take_more_set}
 use Rattle.aig_format.specs.Written.{delta_of, groups_of}
 
--- what is left of a difference behind so many groups is below this
+-- what is left of a difference after so many groups is below this
 abbrev pub bound : ℕ → ℕ
 bound zero = 2 ^ 32
 bound (suc zero) = 2 ^ 25

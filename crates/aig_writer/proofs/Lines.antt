@@ -4,7 +4,7 @@ use Rattle.std.specs.Prelude.{decimal}
 use Rattle.std.proofs.lemmas.List.{drop_more, get_or-replicate, get_or-take, take-replicate, take-take}
 use Rattle.aig_format.specs.Written.{line_text}
 
--- what stands behind a number of a line
+-- what stands after a number of a line
 abbrev pub behind : List ℕ → List ℕ
 behind [] = 10 ∷ []
 behind (n ∷ ns) = 32 ∷ line_text (n ∷ ns)
@@ -14,7 +14,7 @@ unfolding line_text
 line_text-cons n [] = refl
 line_text-cons n (m ∷ ns) = refl
 
--- from the place before `start` on, the text is what stands behind a number, and blanks are before that
+-- from the place before `start` on, the text is what stands after a number, and blanks are before that
 pub record Built (text : List ℕ) (start : ℕ) (ns : List ℕ) : Type 0 where
   pub written : drop (start - 1) text ≡ behind ns
   pub blank : take (start - 1) text ≡ replicate (start - 1) 32

@@ -141,7 +141,7 @@ distinct_front : (xs ys : List ℕ) → AllPairs (λ m n. m ≢ n) (xs ++ ys) �
 distinct_front xs ys distinct i j d h l e =
     distinct i j d h (omega (arith, length-append xs ys)) (get_or-append xs ys d i (omega arith) ∙ e ∙ sym (get_or-append xs ys d j l))
 
--- a row of numbers, and then another behind it
+-- a row of numbers, and then another after it
 pub row-append : (xs ys : List ℕ) → (IsRowFrom 1 xs × IsRowFrom (length xs + 1) ys) ↔ IsRowFrom 1 (xs ++ ys)
 row-append xs ys = (
   λ both i h. elim (cases_lt i (length xs)) [
@@ -201,7 +201,7 @@ module _ (c : Circuit) (is : IsCircuit c) (closed : IsClosed c) where
   pub gates_there : All (λ n. n < length c.nodes) gates
   gates_there = All-weaker (IsGate c.nodes) (λ n. n < length c.nodes) (λ n g. kind_at-within c.nodes n (And g.0 g.1) g.2) gates (are_gates c is)
 
--- a circuit is in order where its inputs are a row, and its latches the row behind it
+-- a circuit is in order where its inputs are a row, and its latches the row after it
 pub reencoded-row : (c : Circuit) → (IsRowFrom 1 c.inputs × IsRowFrom (length c.inputs + 1) (latch_leaves c.latchs)) ↔ IsReencoded c
 reencoded-row c =
     let row = row-append c.inputs (latch_leaves c.latchs) in

@@ -10,7 +10,7 @@ use Rattle.aig_writer.proofs.Putting.{then_texts}
 abbrev pub property_texts : File → List (List ℕ)
 property_texts f = lines_text f.outputs ∷ lines_text f.bads ∷ lines_text f.constraints ∷ lines_text (map length f.justice) ∷ flat_map lines_text f.justice ∷ lines_text f.fairness ∷ []
 
--- the sections behind the header
+-- the sections after the header
 abbrev pub section_texts : File → List (List ℕ)
 section_texts f = inputs_text f.kind f.inputs ∷ flat_map (latch_text f.kind) f.latches ∷ properties_of f ∷ flat_map (gate_text f.kind) f.gates ∷ flat_map name_text f.names ∷ []
 

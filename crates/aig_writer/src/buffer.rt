@@ -15,14 +15,14 @@ const SIZE: usize = 4096;
 /// How many digits a number has at most.
 const DIGITS: usize = 20;
 
-/// Room for the longest line, of nine numbers with a byte behind each.
+/// Room for the longest line, of nine numbers with a byte after each.
 const LINE: usize = 192;
 
 /// How many groups of seven bits a difference has at most.
 const GROUPS: usize = 5;
 
 /// Bytes that wait for a sink, in order, until 4,096 are there. A text that is written waits here, or goes to the sink
-/// behind what waited.
+/// after what waited.
 #[derive(Drop)]
 pub struct OutputBuffer {
     bytes: [u8; SIZE],
@@ -92,7 +92,7 @@ impl OutputBuffer {
         Ok(())
     }
 
-    /// Writes a number in decimal, and the byte `end` behind it.
+    /// Writes a number in decimal, and the byte `end` after it.
     pub fn write_number<W: Sink>(&mut self, w: &mut W, n: usize, end: u8) -> Result<(), StreamFault>
         ensures { let text = decimal n ++ end ∷ [] in
             BuffersOrStops W.held W.failed self.old w.old result text self.new w.new }

@@ -53,7 +53,7 @@ fn are_inputs_in_order(inputs: &[usize]) -> bool
     true
 }
 
-/// Whether the leaves of latches are the nodes behind node `last`, in this order.
+/// Whether the leaves of latches are the nodes after node `last`, in this order.
 fn are_latches_in_order(last: usize, latchs: &[AigLatch]) -> bool
     ensures { IsTrue result ↔ IsRowFrom (last + 1) (latch_leaves latchs.now) }
 {

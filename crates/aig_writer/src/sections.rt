@@ -1,4 +1,4 @@
-//! The sections of a file, behind its header. `numbers` is the table of the numbers under which nodes are written.
+//! The sections of a file, after its header. `numbers` is the table of the numbers under which nodes are written.
 
 ghost use Rattle.std.specs.Prelude.{◌≡◌, ◌-◌, ◌*◌, ◌^◌, ◌<◌, ◌≤◌, ◌++◌, ℕ, length, map, filter_map, option_to_list, All};
 ghost use Rattle.std.specs.List.{flat_map};

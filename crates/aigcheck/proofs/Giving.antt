@@ -18,7 +18,7 @@ word_alone [] first low high at = absurd (omega arith)
 word_alone (w ∷ []) first low high at = ap (λ x. string_bytes x ∷ []) (sym at)
 word_alone (w ∷ x ∷ ws) first low high at = absurd (omega arith)
 
--- the words behind so many
+-- the words after so many
 abbrev pub behind : ℕ → List (String Global) → List (String Global)
 behind n words = take (length words - n) (drop n words)
 
@@ -90,7 +90,7 @@ GiveLast name k words c = (name ≡ name_of c) × (k ≡ step_of c) × AreLast c
 abbrev pub TellsLast : Option Command → List ℕ → ℕ → List (List ℕ) → Type 0
 TellsLast r name k words = (c : Command) → (r ≡ Some c) ↔ GiveLast name k words c
 
--- a command is given by its settings behind one word
+-- a command is given by its settings after one word
 behind_word : {X : Type 0} (words_of : X → List (List ℕ)) (make : X → Command) (name : List ℕ) (k : ℕ) (words : List (List ℕ)) (given : List ℕ) (last : List (List ℕ)) → words ≡ given ∷ last
     → ((c : Command) → GiveLast name k words c → (x : X) × (c ≡ make x) × (word : List ℕ) × (words ≡ word ∷ words_of x)) → ((x : X) → (word : List ℕ) × (words ≡ word ∷ words_of x) → GiveLast name k words (make x))
     → (told : Option X) → ((x : X) → (told ≡ Some x) ↔ (last ≡ words_of x)) → (x : X) → told ≡ Some x → TellsLast (Some (make x)) name k words
@@ -143,7 +143,7 @@ witness_alone (commands.Inductive n form o) k words g = let is = g.0 in cc
 witness_alone (commands.Witness n o) k words g = (o, ap (λ m. commands.Witness m o) (sym g.1), g.2.0, g.2.1)
 witness_alone commands.Run k words g = absurd g.2
 
--- what the settings behind a word tell
+-- what the settings after a word tell
 module _ (name : List ℕ) (k : ℕ) (words : List (List ℕ)) (given : List ℕ) (last : List (List ℕ)) (are : words ≡ given ∷ last) where
   pub some_refuted : name ≡ codes "refuted" → (told : Option Bool) → TellsClauses told last → (o : Bool) → told ≡ Some o → TellsLast (Some (commands.Refuted k o)) name k words
   some_refuted is = behind_word clause_words (λ o. commands.Refuted k o) name k words given last are (λ c g. refuted_alone c k words (sym is ∙ g.0, g.1, g.2)) (λ o w. (is, refl, w))

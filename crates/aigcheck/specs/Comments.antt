@@ -16,7 +16,7 @@ use Rattle.aig_unroll.specs.Places.{place_at}
 abbrev pub named_text : List ℕ → ℕ → ℕ → ℕ → List ℕ
 named_text letter number step end = letter ++ (decimal number ++ 32 ∷ []) ++ codes "at step " ++ (decimal step ++ end ∷ [])
 
--- the line that a literal stands for what has this letter and number, at a step: its variable's number and one more, behind its sign
+-- the line that a literal stands for what has this letter and number, at a step: its variable's number and one more, after its sign
 unfoldable pub literal_line : List ℕ → ℕ → ℕ → Lit → List ℕ
 literal_line letter number step lit = named_text letter number step 32 ++ codes "is " ++ sign_of lit ++ (decimal (variable_of lit + 1) ++ 10 ∷ [])
 

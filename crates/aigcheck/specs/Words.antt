@@ -38,7 +38,7 @@ name_of (commands.Inductive k form optimize) = codes "inductive"
 name_of (commands.Witness k optimize) = codes "witness"
 name_of commands.Run = codes "run"
 
--- the words behind K: PROOF or SOLUTION, if the command wants one, and the settings
+-- the words after K: PROOF or SOLUTION, if the command wants one, and the settings
 abbrev pub AreLast : Command → List (List ℕ) → Type 0
 AreLast (commands.Clauses k optimize) words = words ≡ clause_words optimize
 AreLast (commands.Window k form optimize) words = words ≡ setting_words form optimize

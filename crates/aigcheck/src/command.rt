@@ -90,7 +90,7 @@ fn is_run(words: &[String]) -> bool
     }
 }
 
-/// The command of this name and step that the words behind K give: of `refuted` and `inductive` PROOF, of `witness` SOLUTION,
+/// The command of this name and step that the words after K give: of `refuted` and `inductive` PROOF, of `witness` SOLUTION,
 /// and the settings.
 fn parse_last(name: &str, k: usize, words: &[String]) -> Option<Command>
     ensures { (c : Command) → (result ≡ Some c)

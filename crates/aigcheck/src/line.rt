@@ -7,7 +7,7 @@ ghost use Rattle.aigcheck.specs.Comments.{named_text};
 use aig_base::{Sink, StreamFault};
 use aig_writer::OutputBuffer;
 
-/// Buffers a letter and a number, as `b0`, a step, and the byte `end` behind it.
+/// Buffers a letter and a number, as `b0`, a step, and the byte `end` after it.
 pub(crate) fn buffer_named<W: Sink>(
     buffer: &mut OutputBuffer,
     w: &mut W,

@@ -125,7 +125,7 @@ words_of_pair (w ∷ []) first second low high at next = absurd (omega arith)
 words_of_pair (w ∷ x ∷ []) first second low high at next = rw (sym at, sym next) refl
 words_of_pair (w ∷ x ∷ y ∷ ws) first second low high at next = absurd (omega arith)
 
--- ---- words behind a name
+-- ---- words after a name
 
 module _ (words : List (List ℕ)) (file : List ℕ) (rest : List (List ℕ)) where
   pub by_cnf : (d : Command) → words ≡ codes "cnf" ∷ file ∷ rest → Give words d → (k : ℕ) × (o : Bool) × (d ≡ commands.Cnf k o) × IsUnrolling k o rest

@@ -169,7 +169,7 @@ fn start(ends: &[usize], i: usize) -> usize
     if i == 0 { 0 } else { ends[i - 1] }
 }
 
-/// Appends the ends of other clauses, which begin behind `by` literals. There is room for them.
+/// Appends the ends of other clauses, which begin after `by` literals. There is room for them.
 fn append_shifted(ends: &mut Vec<usize>, others: &[usize], by: usize)
     requires room { vec_len ends.old + length others.now ≤ vec_capacity ends.old }
     requires fits { All (λ end. by + end < 2 ^ 64) others.now }

@@ -39,7 +39,7 @@ fn position<F: ByteFeed>(f: &mut F, first: u8) -> Result<u32, LexError>
     Ok(position)
 }
 
-/// Reads the place of a name of this section from the first byte of its position on, up to the space behind it. The position
+/// Reads the place of a name of this section from the first byte of its position on, up to the space after it. The position
 /// has to be below the header's count of the section.
 pub fn read_place<F: ByteFeed>(
     f: &mut F,

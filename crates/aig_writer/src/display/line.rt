@@ -8,7 +8,7 @@ use itoa::Buffer;
 use std::fmt;
 use std::fmt::{Formatter, Write};
 
-/// Writes a number in decimal, and `end` behind it.
+/// Writes a number in decimal, and `end` after it.
 pub fn write_number<W: Write>(n: usize, end: &str, f: &mut Formatter<W>) -> fmt::Result
     ensures { WritesStyledOnOk W.write_str_gives f.old result (decimal n ++ end.now) f.new }
 {

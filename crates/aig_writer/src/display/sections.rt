@@ -1,4 +1,4 @@
-//! The sections of a file, behind its header.
+//! The sections of a file, after its header.
 
 ghost use Rattle.std.specs.Prelude.{◌*◌, length, map, filter_map, option_to_list, All};
 ghost use Rattle.std.specs.List.{flat_map};

@@ -12,7 +12,7 @@ use Rattle.aig_reader.proofs.Entries.{entries_at, set_at, sets_is_entries, takes
 use Rattle.aig_reader.proofs.TestedLines.{on_line-weaker}
 use Rattle.aig_reader.proofs.justice.read_sets.Goals as goal
 
--- the size of the set behind these
+-- the size of the set after these
 next_size : (sizes : List ℕ) (i : ℕ) (front : List (List ℕ)) → length front ≡ i → get_or sizes i 0 ≡ get_or sizes (length front) 0
 next_size sizes i front h = ap (λ (k : ℕ). get_or sizes k 0) (sym h)
 

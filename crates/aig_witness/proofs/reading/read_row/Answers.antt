@@ -1,16 +1,16 @@
 use Rattle.std.proofs.Common.{◌∙◌, [], ◌∷◌, ◌++◌, ℕ, List, Option, None, Some, refl, sym, arith}
 use Rattle.aig_base.specs.declared.logic.three.Lbool.{Lbool}
 use Rattle.aig_lexer.proofs.Going.{goes_byte, goes_done, goes_end, goes_nowhere, goes_same}
-use Rattle.aig_witness.specs.Reading.{row_behind}
+use Rattle.aig_witness.specs.Reading.{parse_row_after}
 use Rattle.aig_witness.proofs.Going.{row_cut, row_ends, row_goes, row_stops}
 use Rattle.aig_witness.proofs.reading.read_row.Goals as goal
 
 -- the line from its first byte on
 abbrev from : ℕ → List ℕ → Option (List Lbool × List ℕ)
-from first bs = row_behind [] (first ∷ bs)
+from first bs = parse_row_after [] (first ∷ bs)
 
 abbrev on : List Lbool → ℕ → List ℕ → Option (List Lbool × List ℕ)
-on row letter bs = row_behind row (letter ∷ bs)
+on row letter bs = parse_row_after row (letter ∷ bs)
 
 pub returns-in_default-clause-exact : goal.returns-in_default-clause-exact
 returns-in_default-clause-exact g c =
@@ -23,8 +23,8 @@ pub returns-in_default-2-clause-exact : goal.returns-in_default-2-clause-exact
 returns-in_default-2-clause-exact g c =
     let row = c.loop-letter.row.items in
     let more = row ++ c.in-Some.value ∷ [] in
-    goes_end (from c.args.first) (row_behind more) _ _ (g.F.ByteFeed.coming c.next.new.self) c.in_ok-next.field-0
-    (goes_same (from c.args.first) (on row c.loop-letter.letter) (row_behind more) _ (g.F.ByteFeed.coming c.loop-letter.f) c.loop-letter.invariant.goes_on
+    goes_end (from c.args.first) (parse_row_after more) _ _ (g.F.ByteFeed.coming c.next.new.self) c.in_ok-next.field-0
+    (goes_same (from c.args.first) (on row c.loop-letter.letter) (parse_row_after more) _ (g.F.ByteFeed.coming c.loop-letter.f) c.loop-letter.invariant.goes_on
     (row_goes row c.loop-letter.letter c.in-Some.value c.loop-letter-test.true (sym c.value_of.ensures ∙ c.in-Some.is)))
     c.in_ok-next.ensures.byte c.in_default-2.is (c.in_ok-next.ensures.end c.in_default-2.is).0 (row_cut more)
 
@@ -34,8 +34,8 @@ loop-letter-preserved g c =
     let more = row ++ c.in-Some.value ∷ [] in
     record {
       goes_on = rw c.in_ok-push.ensures.items
-          (goes_byte (from c.args.first) (row_behind more) (on more c.in-Some-2.next) _ _ (g.F.ByteFeed.coming c.next.new.self) c.in_ok-next.field-0 c.in-Some-2.next
-          (goes_same (from c.args.first) (on row c.loop-letter.letter) (row_behind more) _ (g.F.ByteFeed.coming c.loop-letter.f) c.loop-letter.invariant.goes_on
+          (goes_byte (from c.args.first) (parse_row_after more) (on more c.in-Some-2.next) _ _ (g.F.ByteFeed.coming c.next.new.self) c.in_ok-next.field-0 c.in-Some-2.next
+          (goes_same (from c.args.first) (on row c.loop-letter.letter) (parse_row_after more) _ (g.F.ByteFeed.coming c.loop-letter.f) c.loop-letter.invariant.goes_on
           (row_goes row c.loop-letter.letter c.in-Some.value c.loop-letter-test.true (sym c.value_of.ensures ∙ c.in-Some.is)))
           c.in_ok-next.ensures.byte c.in-Some-2.is (λ bs. refl));
       fewer = omega (arith, rw c.in-Some-2.is at c.in_ok-next.ensures.fewer, c.loop-letter.invariant.fewer);

@@ -33,7 +33,7 @@ pub returns-else-b-eq99-clause-exact : goal.returns-else-b-eq99-clause-exact
 returns-else-b-eq99-clause-exact g c =
     let outside = subst (λ i. GoesOn parse_next (g.F.ByteFeed.coming c.args.f.now) (next_from i) (g.F.ByteFeed.coming c.loop-b.f)) c.if-inside.false c.loop-b.invariant.goes_on in
     let mid = g.F.ByteFeed.coming c.next.new.self in
-    let after = g.F.ByteFeed.coming c.read_behind.new.f in
+    let after = g.F.ByteFeed.coming c.read_after.new.f in
     let b = c.in-Some.b in
     let w = said_by c.in_ok-witness.witness in
     let begun = goes_byte parse_next (next_from false) (λ bs. next_from false (b ∷ bs)) _ _ mid c.in_ok-b.field-0 b outside c.in_ok-b.ensures.byte c.in-Some.is (λ bs. refl) in

@@ -8,7 +8,7 @@ use Rattle.aig_base.specs.declared.logic.literal.Lit.{Lit}
 use Rattle.aig_base.specs.Clauses.{AreBelow, AreRelations, IsCount, variable_of}
 use Rattle.aig_base.proofs.logic.dag.DagCnf.add_rel.Goals as goal
 
--- clauses behind those of one list are counted with them
+-- clauses after those of one list are counted with them
 counted : (lists : List (List (List Lit))) (i count : ℕ) (old new rel : List (List Lit)) → i < length lists → old ≡ get_or lists i old → new ≡ old ++ rel → IsCount lists count → count + length rel ≤ 2 ^ 63
     → IsCount (set lists i new) (count + length rel)
 counted lists i count old new rel lt at more h low =

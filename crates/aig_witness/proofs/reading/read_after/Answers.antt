@@ -6,7 +6,7 @@ use Rattle.aig_lexer.proofs.Taking.{misses_where}
 use Rattle.aig_witness.specs.Reading.{parse_parts, parse_witness, witness_from}
 use Rattle.aig_witness.specs.Witness.{Witness}
 use Rattle.aig_witness.proofs.Going.{gives_rest, seen_as_witness, status_ends, status_long, status_wrong}
-use Rattle.aig_witness.proofs.reading.read_behind.Goals as goal
+use Rattle.aig_witness.proofs.reading.read_after.Goals as goal
 
 abbrev from : ℕ → List ℕ → Option (Witness × List ℕ)
 from first bs = parse_witness (first ∷ bs)
