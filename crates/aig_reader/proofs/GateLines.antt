@@ -14,12 +14,12 @@ use Rattle.aig_format.specs.Numbering.{are_in_order, is_ordered, rises}
 use Rattle.aig_format.proofs.Entries.{rec_append, rec_parts}
 use Rattle.aig_parsing.specs.ParseTested.{defines, is_literal}
 use Rattle.aig_reader.specs.declared.variables.Variables.{Variables}
-use Rattle.aig_reader.specs.declared.places.Rising.{Rising}
-use Rattle.aig_reader.specs.declared.places.Gates.{Gates}
+use Rattle.aig_reader.specs.declared.gate_store.InOrder.{InOrder}
+use Rattle.aig_reader.specs.declared.gate_store.GateStore.{GateStore}
 use Rattle.aig_reader.specs.declared.table.Table.{Table}
-use Rattle.aig_reader.specs.declared.places.Gates.TheVariants as held
+use Rattle.aig_reader.specs.declared.gate_store.GateStore.TheVariants as held
 use Rattle.aig_reader.specs.ParseEntry.{may_define, may_stand, may_use}
-use Rattle.aig_reader.specs.Gates.{AreFirstNodes, AreGates, ArePlaced, AreRising, AreWaiting, HasWords, last_or, line_of, literals_of}
+use Rattle.aig_reader.specs.Gates.{AreFirstNodes, AreGates, ArePlaced, AreInOrder, AreWaiting, HasWords, last_or, line_of, literals_of}
 use Rattle.aig_reader.specs.Variables.{AreDefined, IsNewAmong, is_marked}
 use Rattle.aig_reader.proofs.Defined.{unmarked_none}
 use Rattle.aig_reader.proofs.TableGates.{well_founded_more, well_founded_order, well_founded_skipped}
@@ -61,12 +61,12 @@ module _ (greatest : ℕ) (leaves : List ℕ) (before : List GateLine) (lhs : �
   abbrev g : GateLine
   g = line_of lhs operands
 
-  order_with : (old : Rising) → AreRising before old → are_in_order (before ++ g ∷ []) ≡ ltb old.last lhs && is_ordered g
+  order_with : (old : InOrder) → AreInOrder before old → are_in_order (before ++ g ∷ []) ≡ ltb old.last lhs && is_ordered g
   order_with old h = order_push before g (omega arith) ∙ rw (h.in_order, sym h.last) refl
 
   -- gates that rise still do with the next one
-  pub rises_still : (old new : Rising) → ArePlaced greatest leaves before (held.Rising old) → (ltb old.last lhs && is_ordered g) ≡ true → AreFirstNodes (before ++ g ∷ []) new.nodes.items → new.last ≡ lhs → HasWords g
-      → ArePlaced greatest leaves (before ++ g ∷ []) (held.Rising new)
+  pub rises_still : (old new : InOrder) → ArePlaced greatest leaves before (held.InOrder old) → (ltb old.last lhs && is_ordered g) ≡ true → AreFirstNodes (before ++ g ∷ []) new.nodes.items → new.last ≡ lhs → HasWords g
+      → ArePlaced greatest leaves (before ++ g ∷ []) (held.InOrder new)
   rises_still old new h next nodes last words = record {
     nodes = nodes;
     form = record {
@@ -77,13 +77,13 @@ module _ (greatest : ℕ) (leaves : List ℕ) (before : List GateLine) (lhs : �
   }
 
   -- and don't with one that isn't above the others and its operands
-  pub rises_no_more : (old : Rising) (table : Table) → ArePlaced greatest leaves before (held.Rising old) → (ltb old.last lhs && is_ordered g) ≡ false → AreWaiting (before ++ g ∷ []) table
-      → ArePlaced greatest leaves (before ++ g ∷ []) (held.Table table)
+  pub rises_no_more : (old : InOrder) (table : Table) → ArePlaced greatest leaves before (held.InOrder old) → (ltb old.last lhs && is_ordered g) ≡ false → AreWaiting (before ++ g ∷ []) table
+      → ArePlaced greatest leaves (before ++ g ∷ []) (held.Shuffled table)
   rises_no_more old table h other nodes = record { nodes = nodes; form = well_founded_order greatest leaves (before ++ g ∷ []) (order_with old h.form ∙ other) }
 
   -- nor do they in a compact file where one passes over a variable that isn't defined
   pub passes_over : (variables : Variables) (v : ℕ) (table : Table) → AreDefined greatest variables ((leaves ++ literals_of before) ++ lhs ∷ []) → 1 ≤ v → v < lhs / 2 → is_marked variables v ≡ false
-      → AreWaiting (before ++ g ∷ []) table → ArePlaced greatest leaves (before ++ g ∷ []) (held.Table table)
+      → AreWaiting (before ++ g ∷ []) table → ArePlaced greatest leaves (before ++ g ∷ []) (held.Shuffled table)
   passes_over variables v table defined low below unmarked nodes =
       let row : (leaves ++ literals_of before) ++ lhs ∷ [] ≡ leaves ++ literals_of (before ++ g ∷ []) =
       append_assoc leaves (literals_of before) (lhs ∷ []) ∙ ap (λ (es : List ℕ). leaves ++ es) (sym (map_push (λ (h : GateLine). h.lhs) before g)) in
@@ -91,7 +91,7 @@ module _ (greatest : ℕ) (leaves : List ℕ) (before : List GateLine) (lhs : �
       record { nodes = nodes; form = well_founded_skipped greatest leaves before g v low below (ap (list_any (λ e. e / 2 == v)) (sym row) ∙ none) }
 
   -- a file that is well-founded alone does with one gate more
-  pub still_in_table : (old new : Table) → ArePlaced greatest leaves before (held.Table old) → AreWaiting (before ++ g ∷ []) new → ArePlaced greatest leaves (before ++ g ∷ []) (held.Table new)
+  pub still_in_table : (old new : Table) → ArePlaced greatest leaves before (held.Shuffled old) → AreWaiting (before ++ g ∷ []) new → ArePlaced greatest leaves (before ++ g ∷ []) (held.Shuffled new)
   still_in_table old new h nodes = record { nodes = nodes; form = well_founded_more greatest leaves before g h.form }
 
 -- ---- tests
@@ -103,7 +103,7 @@ may_stand-both Binary greatest before g = refl
 
 -- ---- one more gate
 
-pub more_gates : (greatest : ℕ) (leaves : List ℕ) (before : List GateLine) (variables : Variables) (held : Gates) (g : GateLine) → ArePlaced greatest leaves (before ++ g ∷ []) held
+pub more_gates : (greatest : ℕ) (leaves : List ℕ) (before : List GateLine) (variables : Variables) (held : GateStore) (g : GateLine) → ArePlaced greatest leaves (before ++ g ∷ []) held
     → AreDefined greatest variables ((leaves ++ literals_of before) ++ g.lhs ∷ []) → AreGates greatest leaves (before ++ g ∷ []) variables held
 more_gates greatest leaves before variables held g placed defined =
     let push : literals_of (before ++ g ∷ []) ≡ literals_of before ++ g.lhs ∷ [] = map_push (λ (h : GateLine). h.lhs) before g in

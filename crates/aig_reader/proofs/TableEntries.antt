@@ -19,8 +19,8 @@ use Rattle.aig_ordering.specs.declared.gates.Operands.{Operands}
 use Rattle.aig_ordering.specs.Gates.{kind_in, node_in, nodes_in, nodes_in_from}
 use Rattle.aig_ordering.proofs.NodesIn.{length-nodes_in}
 use Rattle.aig_ordering.specs.Lists.{edge_from, kind_by, kind_from, node_from, nodes_in_row}
-use Rattle.aig_reader.specs.declared.places.Rising.{Rising}
-use Rattle.aig_reader.specs.Gates.{AreFirstNodes, AreRising, HasWords, gate_in, line_of, literals_of}
+use Rattle.aig_reader.specs.declared.gate_store.InOrder.{InOrder}
+use Rattle.aig_reader.specs.Gates.{AreFirstNodes, AreInOrder, HasWords, gate_in, line_of, literals_of}
 use Rattle.aig_reader.specs.Variables.{IsNewAmong}
 use Rattle.aig_reader.proofs.PlacedNodes.{first_gate_set, first_leaf}
 
@@ -78,7 +78,7 @@ small_node gates words v = by_zero (v == 0)
     by_zero true = tt
     by_zero false = by_gate (gate_among gates v) refl
 
-pub small_nodes : (gates : List GateLine) (rising : Rising) → AreRising gates rising → AreFirstNodes gates rising.nodes.items → All HasSmall rising.nodes.items
+pub small_nodes : (gates : List GateLine) (rising : InOrder) → AreInOrder gates rising → AreFirstNodes gates rising.nodes.items → All HasSmall rising.nodes.items
 small_nodes gates rising h nodes = subst (All HasSmall) (sym nodes.placed) (All-map HasSmall (node_from gates) (numbers_from (length rising.nodes.items) 0) (λ i d low. small_node gates h.words _))
 
 -- ---- entries

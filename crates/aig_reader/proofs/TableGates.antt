@@ -11,9 +11,9 @@ use Rattle.aig_format.specs.Fits.{IsDefinable}
 use Rattle.aig_format.specs.Numbering.{are_in_order, is_compact, is_ordered, rises}
 use Rattle.aig_format.proofs.Entries.{rec_parts}
 use Rattle.aig_format.proofs.Numbers.{all_there}
-use Rattle.aig_reader.specs.declared.places.Gates.{Gates}
-use Rattle.aig_reader.specs.declared.places.Gates.TheVariants.{Rising, Table}
-use Rattle.aig_reader.specs.Gates.{IsHeld, IsNeverCompact, is_rising, literals_of}
+use Rattle.aig_reader.specs.declared.gate_store.GateStore.{GateStore}
+use Rattle.aig_reader.specs.declared.gate_store.GateStore.TheVariants.{InOrder, Shuffled}
+use Rattle.aig_reader.specs.Gates.{IsHeld, IsNeverCompact, is_in_order, literals_of}
 
 -- ---- numbers that rise
 
@@ -94,10 +94,10 @@ module _ (greatest : ℕ) (leaves : List ℕ) (before : List GateLine) (g : Gate
 -- ---- the gates of a file
 
 -- a file whose gates are held as nodes, and where no variable is missing, is compact
-pub compact_held : (f : File) (complete : Bool) (held : Gates) → complete ≡ (f.greatest == length (defined f)) → AllByRecursion (IsDefinable f.greatest) (defined f) → IsDistinct nat_eq (defined f)
-    → IsHeld f.greatest (f.inputs ++ map (λ l. l.literal) f.latches) f.gates held → (complete && is_rising held) ≡ is_compact f
-compact_held f complete (Rising rising) is definable distinct h = rw (is, h.in_order) refl
-compact_held f complete (Table table) is definable distinct h = ap (λ (b : Bool). b && false) is ∙ by_test (f.greatest == length (defined f)) refl
+pub compact_held : (f : File) (complete : Bool) (held : GateStore) → complete ≡ (f.greatest == length (defined f)) → AllByRecursion (IsDefinable f.greatest) (defined f) → IsDistinct nat_eq (defined f)
+    → IsHeld f.greatest (f.inputs ++ map (λ l. l.literal) f.latches) f.gates held → (complete && is_in_order held) ≡ is_compact f
+compact_held f complete (InOrder rising) is definable distinct h = rw (is, h.in_order) refl
+compact_held f complete (Shuffled table) is definable distinct h = ap (λ (b : Bool). b && false) is ∙ by_test (f.greatest == length (defined f)) refl
   where
     by_test : (b : Bool) → (f.greatest == length (defined f)) ≡ b → (b && false) ≡ (b && are_in_order f.gates)
     by_test true exact = sym (well_founded_told f.greatest (f.inputs ++ map (λ l. l.literal) f.latches) f.gates h definable distinct (eqb-true f.greatest (length (defined f)) exact))

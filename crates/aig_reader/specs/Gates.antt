@@ -10,11 +10,11 @@ use Rattle.aig_circuit.specs.Node.{and_of}
 use Rattle.aig_format.specs.File.{GateLine}
 use Rattle.aig_format.specs.Fits.{IsDefinable}
 use Rattle.aig_format.specs.Numbering.{are_in_order}
-use Rattle.aig_reader.specs.declared.places.Rising.{Rising}
+use Rattle.aig_reader.specs.declared.gate_store.InOrder.{InOrder}
 use Rattle.aig_reader.specs.declared.table.Late.{Late}
 use Rattle.aig_reader.specs.declared.table.Table.{Table}
-use Rattle.aig_reader.specs.declared.places.Gates.{Gates}
-use Rattle.aig_reader.specs.declared.places.Gates.TheVariants as held
+use Rattle.aig_reader.specs.declared.gate_store.GateStore.{GateStore}
+use Rattle.aig_reader.specs.declared.gate_store.GateStore.TheVariants as held
 use Rattle.aig_reader.specs.declared.variables.Variables.{Variables}
 use Rattle.aig_ordering.specs.declared.gates.Operands.{Operands}
 use Rattle.aig_ordering.specs.Gates.{nodes_in}
@@ -51,14 +51,14 @@ HasWords g = (g.rhs0 < 2 ^ 32) × (g.rhs1 < 2 ^ 32)
 -- ---- where gates are held
 
 -- whether the gates rise
-abbrev pub is_rising : Gates → Bool
-is_rising (held.Rising rising) = true
-is_rising (held.Table table) = false
+abbrev pub is_in_order : GateStore → Bool
+is_in_order (held.InOrder rising) = true
+is_in_order (held.Shuffled table) = false
 
 -- there are nodes of so many variables at most, and gates of no others
-abbrev pub HasSpace : ℕ → Gates → Type 0
-HasSpace size (held.Rising rising) = vec_len rising.nodes ≤ size
-HasSpace size (held.Table table) = (vec_len table.entries ≤ size) × All (λ l. l.lhs / 2 < size) table.late.items
+abbrev pub HasSpace : ℕ → GateStore → Type 0
+HasSpace size (held.InOrder rising) = vec_len rising.nodes ≤ size
+HasSpace size (held.Shuffled table) = (vec_len table.entries ≤ size) × All (λ l. l.lhs / 2 < size) table.late.items
 
 -- the nodes of the first variables, from 0 on, where these gates are defined, each within them
 pub record AreFirstNodes (gates : List GateLine) (nodes : List AigNode) : Type 0 where
@@ -83,12 +83,12 @@ pub record AreWaiting (gates : List GateLine) (table : Table) : Type 0 where
   pub new : AreNew front (lines_of table.late.items)
 
 -- the nodes of these gates, as they are held
-abbrev pub AreHeld : List GateLine → Gates → Type 0
-AreHeld gates (held.Rising rising) = AreFirstNodes gates rising.nodes.items
-AreHeld gates (held.Table table) = AreWaiting gates table
+abbrev pub AreHeld : List GateLine → GateStore → Type 0
+AreHeld gates (held.InOrder rising) = AreFirstNodes gates rising.nodes.items
+AreHeld gates (held.Shuffled table) = AreWaiting gates table
 
 -- the literal that the last of these gates defines, which rise, each above its operands, and all have numbers of 32 bits
-pub record AreRising (gates : List GateLine) (rising : Rising) : Type 0 where
+pub record AreInOrder (gates : List GateLine) (rising : InOrder) : Type 0 where
   pub in_order : are_in_order gates ≡ true
   pub last : rising.last ≡ last_or 0 (literals_of gates)
   pub words : AllByRecursion HasWords gates
@@ -100,16 +100,16 @@ IsNeverCompact greatest leaves gates =
     AllByRecursion (IsDefinable greatest) literals → IsDistinct nat_eq literals → greatest ≡ length literals → are_in_order (gates ++ rest) ≡ false
 
 -- as nodes they rise, in a table the file is well-founded alone
-abbrev pub IsHeld : ℕ → List ℕ → List GateLine → Gates → Type 0
-IsHeld greatest leaves gates (held.Rising rising) = AreRising gates rising
-IsHeld greatest leaves gates (held.Table table) = IsNeverCompact greatest leaves gates
+abbrev pub IsHeld : ℕ → List ℕ → List GateLine → GateStore → Type 0
+IsHeld greatest leaves gates (held.InOrder rising) = AreInOrder gates rising
+IsHeld greatest leaves gates (held.Shuffled table) = IsNeverCompact greatest leaves gates
 
 -- after these leaves, these gates are held
-pub record ArePlaced (greatest : ℕ) (leaves : List ℕ) (gates : List GateLine) (held : Gates) : Type 0 where
+pub record ArePlaced (greatest : ℕ) (leaves : List ℕ) (gates : List GateLine) (held : GateStore) : Type 0 where
   pub nodes : AreHeld gates held
   pub form : IsHeld greatest leaves gates held
 
 -- after these leaves and gates: the variables, and where the gates are held
-pub record AreGates (greatest : ℕ) (leaves : List ℕ) (gates : List GateLine) (variables : Variables) (held : Gates) : Type 0 where
+pub record AreGates (greatest : ℕ) (leaves : List ℕ) (gates : List GateLine) (variables : Variables) (held : GateStore) : Type 0 where
   pub defined : AreDefined greatest variables (leaves ++ literals_of gates)
   pub placed : ArePlaced greatest leaves gates held

@@ -16,7 +16,7 @@ use Rattle.aig_ordering.specs.Lists.{latch_from, variable_of}
 use Rattle.aig_reader.specs.declared.lines.Lines.{Lines}
 use Rattle.aig_reader.specs.declared.sections.Lists.{Lists}
 use Rattle.aig_reader.specs.declared.sections.Sections.{Sections}
-use Rattle.aig_reader.specs.Gates.{ArePlaced, HasSpace, is_rising}
+use Rattle.aig_reader.specs.Gates.{ArePlaced, HasSpace, is_in_order}
 use Rattle.aig_reader.specs.Properties.{ArePropertiesOf}
 use Rattle.aig_reader.specs.Variables.{AreDefined, kind_by}
 
@@ -49,7 +49,7 @@ pub record AreLinesOf (f : File) (lines : Lines) : Type 0 where
   pub lists : AreListsByVariable lines.lists f
   pub gates : ArePlaced f.greatest (f.inputs ++ map (λ l. l.literal) f.latches) f.gates lines.gates
   pub space : HasSpace (f.greatest + 1) lines.gates
-  pub compact : (lines.is_complete && is_rising lines.gates) ≡ is_compact f
+  pub compact : (lines.is_complete && is_in_order lines.gates) ≡ is_compact f
 
 -- the circuit of these sections, with these names
 abbrev pub circuit_with : Sections → FinMap nat_cmp (List ℕ) → Circuit

@@ -13,7 +13,7 @@ ghost use Rattle.aig_reader.specs.Gates.{AreGates, HasSpace, line_of};
 ghost use Rattle.aig_reader.specs.Variables.{AreDefined, HasRoom, kind_by};
 
 use crate::error::LineError;
-use crate::places::Gates;
+use crate::gate_store::GateStore;
 use crate::variables::Variables;
 use aig_lexer::{ByteFeed, Header, LexError, delta, pair};
 use aig_ordering::Operands;
@@ -66,7 +66,7 @@ fn gate_line<F: ByteFeed>(
     alloc: Global,
     f: &mut F,
     variables: &mut Variables,
-    gates: &mut Gates,
+    gates: &mut GateStore,
 ) -> Result<(), LineError>
     requires space { (size : ℕ) × (size ≤ 2 ^ 31) × HasRoom size variables.old 1
         × HasSpace size gates.old }
@@ -103,7 +103,7 @@ pub fn read_gates<F: ByteFeed>(
     f: &mut F,
     header: Header,
     variables: &mut Variables,
-) -> Result<Gates, LineError>
+) -> Result<GateStore, LineError>
     requires few { header.greatest < 2 ^ 31 }
     requires room { HasRoom (header.greatest + 1) variables.old header.gates }
     requires defined { (leaves : List ℕ) × AreDefined header.greatest variables.old leaves }
@@ -117,7 +117,7 @@ pub fn read_gates<F: ByteFeed>(
     ensures stream { IsErrOf result LineError.Stream → F.failed f.new ≡ true }
     ensures same { F.behind f.new ≡ F.behind f.old }
 {
-    let mut gates = Gates::new(alloc)?;
+    let mut gates = GateStore::new(alloc)?;
     for _ in 0..header.gates {
         gate_line(alloc, f, variables, &mut gates)?;
     }

@@ -13,7 +13,7 @@ mod lines;
 mod names;
 mod nodes;
 mod numbering;
-mod places;
+mod gate_store;
 mod properties;
 mod reader;
 mod sections;

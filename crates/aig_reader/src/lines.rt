@@ -12,7 +12,7 @@ use crate::error::{ReadError, Section, gates_result};
 use crate::gates::read_gates;
 use crate::inputs::read_inputs;
 use crate::latches::read_latches;
-use crate::places::Gates;
+use crate::gate_store::GateStore;
 use crate::properties::read_properties;
 use crate::sections::Lists;
 use crate::variables::Variables;
@@ -25,7 +25,7 @@ pub struct Lines {
     /// The lists.
     pub lists: Lists,
     /// The gates.
-    pub gates: Gates,
+    pub gates: GateStore,
     /// The variables that are defined.
     pub variables: Variables,
     /// The greatest variable of the file.

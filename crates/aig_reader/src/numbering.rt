@@ -134,7 +134,7 @@ impl Lines {
             is_complete,
         } = self;
         let len = greatest as usize + 1;
-        if is_complete && gates.are_rising() {
+        if is_complete && gates.is_in_order() {
             let nodes = gates.into_nodes(len)?;
             return Ok(Sections { nodes, lists });
         }

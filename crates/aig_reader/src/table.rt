@@ -6,7 +6,7 @@ ghost use Rattle.aig_circuit.specs.Node.{IfAnd};
 ghost use Rattle.aig_format.specs.File.{GateLine};
 ghost use Rattle.aig_ordering.specs.Gates.{nodes_in};
 ghost use Rattle.aig_reader.specs.Gates.{AreFirstNodes, AreWaiting, HasSpace, gate_in, line_of, literals_of};
-ghost use Rattle.aig_reader.specs.declared.places.Gates.TheVariants as held;
+ghost use Rattle.aig_reader.specs.declared.gate_store.GateStore.TheVariants as held;
 ghost use Rattle.aig_reader.specs.declared.table.TheConstants.{WAITING};
 ghost use Rattle.aig_reader.specs.Variables.{IsNewAmong};
 
@@ -117,13 +117,13 @@ impl Table {
 
     /// Puts the gates that wait in their places.
     fn settle(&mut self) -> Result<(), AllocError>
-        requires { (size : ℕ) × (size ≤ 2 ^ 31) × HasSpace size (held.Table self.old) }
+        requires { (size : ℕ) × (size ≤ 2 ^ 31) × HasSpace size (held.Shuffled self.old) }
         ensures nodes { (gates : List GateLine) → AreWaiting gates self.old
             → OnOk result
             (AreFirstNodes gates (nodes_in self.new.entries.items) × (self.new.late.items ≡ [])) }
         ensures late { OnOk result (self.new.late.items ≡ []) }
-        ensures space { OnOk result ((size : ℕ) → HasSpace size (held.Table self.old)
-            → HasSpace size (held.Table self.new)) }
+        ensures space { OnOk result ((size : ℕ) → HasSpace size (held.Shuffled self.old)
+            → HasSpace size (held.Shuffled self.new)) }
     {
         let Table { entries, late } = self;
         for gate in late.iter() {
@@ -135,11 +135,11 @@ impl Table {
 
     /// Makes room for one more gate that waits.
     fn make_room(&mut self) -> Result<(), AllocError>
-        requires { (size : ℕ) × (size ≤ 2 ^ 31) × HasSpace size (held.Table self.old) }
+        requires { (size : ℕ) × (size ≤ 2 ^ 31) × HasSpace size (held.Shuffled self.old) }
         ensures waiting { (gates : List GateLine) → AreWaiting gates self.old
             → OnOk result (AreWaiting gates self.new) }
-        ensures space { OnOk result ((size : ℕ) → HasSpace size (held.Table self.old)
-            → HasSpace size (held.Table self.new)) }
+        ensures space { OnOk result ((size : ℕ) → HasSpace size (held.Shuffled self.old)
+            → HasSpace size (held.Shuffled self.new)) }
         ensures room { OnOk result (vec_len self.new.late < WAITING) }
     {
         if self.late.len() >= WAITING {
@@ -151,12 +151,12 @@ impl Table {
 
     /// Takes a gate, which waits for its place.
     pub fn push(&mut self, lhs: u32, operands: Operands) -> Result<(), AllocError>
-        requires { (size : ℕ) × (size ≤ 2 ^ 31) × HasSpace size (held.Table self.old) }
+        requires { (size : ℕ) × (size ≤ 2 ^ 31) × HasSpace size (held.Shuffled self.old) }
         ensures waiting { (gates : List GateLine) → AreWaiting gates self.old
             → IsNewAmong (literals_of gates) lhs → 2 ≤ lhs
             → OnOk result (AreWaiting (gates ++ line_of lhs operands ∷ []) self.new) }
         ensures space { OnOk result ((size : ℕ) → lhs / 2 < size
-            → HasSpace size (held.Table self.old) → HasSpace size (held.Table self.new)) }
+            → HasSpace size (held.Shuffled self.old) → HasSpace size (held.Shuffled self.new)) }
         ensures few { OnOk result (vec_len self.new.late ≤ WAITING) }
     {
         self.make_room()?;
@@ -167,7 +167,7 @@ impl Table {
     /// The entries of so many variables, with the gates that wait in their places.
     pub fn into_entries(mut self, len: usize) -> Result<Vec<Option<Operands>>, AllocError>
         requires few { len ≤ 2 ^ 31 }
-        requires space { HasSpace len (held.Table self) }
+        requires space { HasSpace len (held.Shuffled self) }
         ensures nodes { (gates : List GateLine) → AreWaiting gates self
             → IfOk result (λ entries. AreFirstNodes gates (nodes_in entries.items)) }
         ensures len { IfOk result (λ entries. vec_len entries ≡ len) }

@@ -7,11 +7,11 @@ use Rattle.aig_ordering.proofs.NodesIn.{length-nodes_in}
 use Rattle.aig_reader.specs.Sections.{AreLinesOf}
 use Rattle.aig_reader.proofs.Steps.{well_founded_judged, nodes_placed, compact_judged}
 use Rattle.aig_reader.proofs.lines.Lines.numbered.Goals as goal
-use Rattle.aig_reader.proofs.lines.Lines.numbered.Goals.{After-deref, else-is_complete-via-else-is_complete, else-is_complete-via-then-is_complete+else-are_rising}
+use Rattle.aig_reader.proofs.lines.Lines.numbered.Goals.{After-deref, else-is_complete-via-else-is_complete, else-is_complete-via-then-is_complete+else-is_in_order}
 
-pub returns-then-are_rising-clause-exact : goal.returns-then-are_rising-clause-exact
-returns-then-are_rising-clause-exact c = λ f h.
-    let compact : is_compact f ≡ true = sym h.compact ∙ rw (c.if-is_complete.true, sym c.are_rising.ensures, c.if-are_rising.true) refl in
+pub returns-then-is_in_order-clause-exact : goal.returns-then-is_in_order-clause-exact
+returns-then-is_in_order-clause-exact c = λ f h.
+    let compact : is_compact f ≡ true = sym h.compact ∙ rw (c.if-is_complete.true, sym c.is_in_order.ensures, c.if-is_in_order.true) refl in
     compact_judged f record { nodes = c.in_ok-nodes.nodes; lists = c.args.self.lists } h.good h.lists (c.in_ok-nodes.ensures.nodes f.greatest _ f.gates h.gates) (omega (arith, c.in_ok-nodes.ensures.len, h.greatest)) compact
 
 -- where not all gates rise, or a variable is missing: what the tables tell
@@ -27,7 +27,7 @@ module _ (c : After-deref) (f : File) (h : AreLinesOf f c.args.self) where
 
   well_founded : is_compact f ≡ false
   well_founded = sym h.compact ∙ elim c.else-is_complete.branch [
-    | else-is_complete-via-then-is_complete+else-are_rising w ↦ rw (w.if-is_complete.true, sym w.are_rising.ensures) w.if-are_rising.false
+    | else-is_complete-via-then-is_complete+else-is_in_order w ↦ rw (w.if-is_complete.true, sym w.is_in_order.ensures) w.if-is_in_order.false
     | else-is_complete-via-else-is_complete w ↦ rw w.if-is_complete.false refl
   ]
 

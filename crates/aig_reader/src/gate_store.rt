@@ -4,7 +4,7 @@ ghost use Rattle.std.specs.Prelude.{◌≡◌, ℕ, ◌+◌, ◌/◌, ◌^◌, �
 ghost use Rattle.aig_format.specs.File.{GateLine};
 ghost use Rattle.aig_format.specs.Numbering.{is_ordered};
 ghost use Rattle.aig_ordering.specs.Gates.{nodes_in};
-ghost use Rattle.aig_reader.specs.Gates.{AreFirstNodes, ArePlaced, HasSpace, is_rising, line_of, literals_of};
+ghost use Rattle.aig_reader.specs.Gates.{AreFirstNodes, ArePlaced, HasSpace, is_in_order, line_of, literals_of};
 ghost use Rattle.aig_reader.specs.Variables.{AreDefined, IsNewAmong, is_marked};
 
 use crate::nodes::{add_leaves, first_node, put_gate, reserve_nodes};
@@ -16,7 +16,7 @@ use std::alloc::{AllocError, Global};
 
 /// Gates that rise, each above its operands.
 #[derive(Drop)]
-pub struct Rising {
+pub struct InOrder {
     /// The nodes of the first variables, from 0 on.
     pub nodes: Vec<AigNode>,
     /// The literal that the last gate defines, or 0.
@@ -25,14 +25,14 @@ pub struct Rising {
 
 /// The gates that were read.
 #[derive(Drop)]
-pub enum Gates {
+pub enum GateStore {
     /// They rise, each above its operands, and the variables below them are defined by them or before them.
-    Rising(Rising),
+    InOrder(InOrder),
     /// It is not so: the operands of each of the first variables, from 0 on, that is a gate.
-    Table(Table),
+    Shuffled(Table),
 }
 
-impl Rising {
+impl InOrder {
     /// Whether the literal of a gate is above that of the last one, and above those of its operands.
     fn is_above(&self, lhs: u32, operands: Operands) -> bool
         ensures { result ≡ (nat_lt self.now.last lhs && is_ordered (line_of lhs operands)) }
@@ -77,14 +77,14 @@ impl Rising {
     }
 }
 
-impl Gates {
+impl GateStore {
     /// No gates.
     pub fn new(alloc: Global) -> Result<Self, AllocError>
         ensures placed { IfOk result
             (λ gates. (greatest : ℕ) (leaves : List ℕ) → ArePlaced greatest leaves [] gates) }
         ensures space { IfOk result (λ gates. (size : ℕ) → 1 ≤ size → HasSpace size gates) }
     {
-        Ok(Gates::Rising(Rising {
+        Ok(GateStore::InOrder(InOrder {
             nodes: first_node(alloc)?,
             last: 0,
         }))
@@ -112,30 +112,30 @@ impl Gates {
             ((size : ℕ) → lhs / 2 < size → HasSpace size self.old → HasSpace size self.new) }
     {
         match self {
-            Gates::Rising(rising) => {
+            GateStore::InOrder(rising) => {
                 if rising.is_next(variables, lhs, operands) {
                     rising.put(lhs, operands)?;
                 } else {
                     let mut table = Table::new(alloc, &rising.nodes)?;
                     table.push(lhs, operands)?;
-                    *self = Gates::Table(table);
+                    *self = GateStore::Shuffled(table);
                 }
                 Ok(())
             }
-            Gates::Table(table) => table.push(lhs, operands),
+            GateStore::Shuffled(table) => table.push(lhs, operands),
         }
     }
 
     /// Whether they are held as nodes.
-    pub fn are_rising(&self) -> bool
-        ensures { result ≡ is_rising self.now }
+    pub fn is_in_order(&self) -> bool
+        ensures { result ≡ is_in_order self.now }
     {
-        matches!(self, Gates::Rising(_))
+        matches!(self, GateStore::InOrder(_))
     }
 
     /// The nodes of so many variables, where gates rise: leaves in the places of variables without a gate.
     pub fn into_nodes(self, len: usize) -> Result<Vec<AigNode>, AllocError>
-        requires rising { is_rising self ≡ true }
+        requires rising { is_in_order self ≡ true }
         requires space { HasSpace len self }
         ensures nodes { (greatest : ℕ) (leaves : List ℕ) (gates : List GateLine)
             → ArePlaced greatest leaves gates self
@@ -143,13 +143,13 @@ impl Gates {
         ensures len { IfOk result (λ nodes. vec_len nodes ≡ len) }
     {
         match self {
-            Gates::Rising(rising) => {
-                let Rising { mut nodes, last: _ } = rising;
+            GateStore::InOrder(rising) => {
+                let InOrder { mut nodes, last: _ } = rising;
                 reserve_nodes(&mut nodes, len)?;
                 add_leaves(&mut nodes, len);
                 Ok(nodes)
             }
-            Gates::Table(_) => unreachable!(),
+            GateStore::Shuffled(_) => unreachable!(),
         }
     }
 
@@ -165,8 +165,8 @@ impl Gates {
         ensures len { IfOk result (λ table. vec_len table ≡ len) }
     {
         match self {
-            Gates::Rising(rising) => Table::new(alloc, &rising.nodes)?.into_entries(len),
-            Gates::Table(table) => table.into_entries(len),
+            GateStore::InOrder(rising) => Table::new(alloc, &rising.nodes)?.into_entries(len),
+            GateStore::Shuffled(table) => table.into_entries(len),
         }
     }
 }
