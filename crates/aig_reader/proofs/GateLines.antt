@@ -19,7 +19,7 @@ use Rattle.aig_reader.specs.declared.gate_store.GateStore.{GateStore}
 use Rattle.aig_reader.specs.declared.table.Table.{Table}
 use Rattle.aig_reader.specs.declared.gate_store.GateStore.TheVariants as held
 use Rattle.aig_reader.specs.ParseEntry.{may_define, may_stand, may_use}
-use Rattle.aig_reader.specs.Gates.{AreFirstNodes, AreGates, ArePlaced, AreInOrder, AreWaiting, HasWords, last_or, line_of, literals_of}
+use Rattle.aig_reader.specs.Gates.{AreFirstNodes, AreGates, ArePlaced, AreInOrder, HoldsPending, HasWords, last_or, line_of, literals_of}
 use Rattle.aig_reader.specs.Variables.{AreDefined, IsNewAmong, is_marked}
 use Rattle.aig_reader.proofs.Defined.{unmarked_none}
 use Rattle.aig_reader.proofs.TableGates.{well_founded_more, well_founded_order, well_founded_skipped}
@@ -77,13 +77,13 @@ module _ (greatest : ℕ) (leaves : List ℕ) (before : List GateLine) (lhs : �
   }
 
   -- and don't with one that isn't above the others and its operands
-  pub rises_no_more : (old : InOrder) (table : Table) → ArePlaced greatest leaves before (held.InOrder old) → (ltb old.last lhs && is_ordered g) ≡ false → AreWaiting (before ++ g ∷ []) table
+  pub rises_no_more : (old : InOrder) (table : Table) → ArePlaced greatest leaves before (held.InOrder old) → (ltb old.last lhs && is_ordered g) ≡ false → HoldsPending (before ++ g ∷ []) table
       → ArePlaced greatest leaves (before ++ g ∷ []) (held.Shuffled table)
   rises_no_more old table h other nodes = record { nodes = nodes; form = well_founded_order greatest leaves (before ++ g ∷ []) (order_with old h.form ∙ other) }
 
   -- nor do they in a compact file where one passes over a variable that isn't defined
   pub passes_over : (variables : Variables) (v : ℕ) (table : Table) → AreDefined greatest variables ((leaves ++ literals_of before) ++ lhs ∷ []) → 1 ≤ v → v < lhs / 2 → is_marked variables v ≡ false
-      → AreWaiting (before ++ g ∷ []) table → ArePlaced greatest leaves (before ++ g ∷ []) (held.Shuffled table)
+      → HoldsPending (before ++ g ∷ []) table → ArePlaced greatest leaves (before ++ g ∷ []) (held.Shuffled table)
   passes_over variables v table defined low below unmarked nodes =
       let row : (leaves ++ literals_of before) ++ lhs ∷ [] ≡ leaves ++ literals_of (before ++ g ∷ []) =
       append_assoc leaves (literals_of before) (lhs ∷ []) ∙ ap (λ (es : List ℕ). leaves ++ es) (sym (map_push (λ (h : GateLine). h.lhs) before g)) in
@@ -91,7 +91,7 @@ module _ (greatest : ℕ) (leaves : List ℕ) (before : List GateLine) (lhs : �
       record { nodes = nodes; form = well_founded_skipped greatest leaves before g v low below (ap (list_any (λ e. e / 2 == v)) (sym row) ∙ none) }
 
   -- a file that is well-founded alone does with one gate more
-  pub still_in_table : (old new : Table) → ArePlaced greatest leaves before (held.Shuffled old) → AreWaiting (before ++ g ∷ []) new → ArePlaced greatest leaves (before ++ g ∷ []) (held.Shuffled new)
+  pub still_in_table : (old new : Table) → ArePlaced greatest leaves before (held.Shuffled old) → HoldsPending (before ++ g ∷ []) new → ArePlaced greatest leaves (before ++ g ∷ []) (held.Shuffled new)
   still_in_table old new h nodes = record { nodes = nodes; form = well_founded_more greatest leaves before g h.form }
 
 -- ---- tests

@@ -3,11 +3,11 @@ use Rattle.std.proofs.Common.{◌≡◌, ℕ, ◌+◌, ◌<◌, ◌≤◌, List,
 use Rattle.std.proofs.lemmas.List.{append-nil, drop_more, map_more, map_push}
 use Rattle.aig_circuit.specs.declared.node.AigNode.{AigNode}
 use Rattle.aig_format.specs.File.{GateLine}
-use Rattle.aig_reader.specs.declared.table.Late.{Late}
+use Rattle.aig_reader.specs.declared.table.PendingGate.{PendingGate}
 use Rattle.aig_reader.specs.declared.table.Table.{Table}
 use Rattle.aig_ordering.specs.declared.gates.Operands.{Operands}
 use Rattle.aig_ordering.specs.Gates.{nodes_in}
-use Rattle.aig_reader.specs.Gates.{AreFirstNodes, AreNew, AreWaiting, gate_in, line_of, lines_of, literals_of}
+use Rattle.aig_reader.specs.Gates.{AreFirstNodes, AreNew, HoldsPending, gate_in, line_of, lines_of, literals_of}
 use Rattle.aig_reader.specs.Variables.{IsNewAmong}
 use Rattle.aig_reader.proofs.TableEntries.{table-back}
 
@@ -17,40 +17,40 @@ new_push front [] g new own among = ((own, subst (λ (gs : List GateLine). IsNew
 new_push front (x ∷ gates) g new own among =
     (new.0, new_push (front ++ x ∷ []) gates g new.1 own (subst (λ (gs : List GateLine). IsNewAmong (literals_of gs) g.lhs) (sym (append_assoc front (x ∷ []) gates)) among))
 
-module _ (front : List GateLine) (late : List Late) where
+module _ (front : List GateLine) (pending : List PendingGate) where
   -- the gates that are in their places once so many no longer wait
   abbrev pub placed : ℕ → List GateLine
-  placed i = front ++ lines_of (take i late)
+  placed i = front ++ lines_of (take i pending)
 
-  pub placed_more : (i : ℕ) (d : Late) → i < length late → placed i ++ line_of (get_or late i d).lhs (get_or late i d).operands ∷ [] ≡ placed (i + 1)
-  placed_more i d h = append_assoc front (lines_of (take i late)) _ ∙ ap (λ (gs : List GateLine). front ++ gs) (sym (map_more (λ (l : Late). line_of l.lhs l.operands) late i d h))
+  pub placed_more : (i : ℕ) (d : PendingGate) → i < length pending → placed i ++ line_of (get_or pending i d).lhs (get_or pending i d).operands ∷ [] ≡ placed (i + 1)
+  placed_more i d h = append_assoc front (lines_of (take i pending)) _ ∙ ap (λ (gs : List GateLine). front ++ gs) (sym (map_more (λ (l : PendingGate). line_of l.lhs l.operands) pending i d h))
 
   -- the next one is new after them, and so are the others after it
-  pub next_new : (i : ℕ) (d : Late) → i < length late → AreNew (placed i) (lines_of (drop i late))
-      → ((2 ≤ (get_or late i d).lhs) × IsNewAmong (literals_of (placed i)) (get_or late i d).lhs) × AreNew (placed (i + 1)) (lines_of (drop (i + 1) late))
+  pub next_new : (i : ℕ) (d : PendingGate) → i < length pending → AreNew (placed i) (lines_of (drop i pending))
+      → ((2 ≤ (get_or pending i d).lhs) × IsNewAmong (literals_of (placed i)) (get_or pending i d).lhs) × AreNew (placed (i + 1)) (lines_of (drop (i + 1) pending))
   next_new i d h new =
-      let next = subst (λ (ls : List Late). AreNew (placed i) (lines_of ls)) (drop_more late i d h) new in
-      (next.0, subst (λ (gs : List GateLine). AreNew gs (lines_of (drop (i + 1) late))) (placed_more i d h) next.1)
+      let next = subst (λ (ls : List PendingGate). AreNew (placed i) (lines_of ls)) (drop_more pending i d h) new in
+      (next.0, subst (λ (gs : List GateLine). AreNew gs (lines_of (drop (i + 1) pending))) (placed_more i d h) next.1)
 
 -- in the table of nodes all gates are in their places
-pub none_waits : (gates : List GateLine) (nodes : List AigNode) (table : Table) → AreFirstNodes gates nodes → table.entries.items ≡ map (λ node. gate_in node.typ) nodes → table.late.items ≡ [] → AreWaiting gates table
+pub none_waits : (gates : List GateLine) (nodes : List AigNode) (table : Table) → AreFirstNodes gates nodes → table.entries.items ≡ map (λ node. gate_in node.typ) nodes → table.pending.items ≡ [] → HoldsPending gates table
 none_waits gates nodes table h entries none = record {
   front = gates;
-  all = sym (append-nil gates) ∙ ap (λ (late : List Late). gates ++ lines_of late) (sym none);
+  all = sym (append-nil gates) ∙ ap (λ (pending : List PendingGate). gates ++ lines_of pending) (sym none);
   nodes = subst (AreFirstNodes gates) (sym (ap nodes_in entries ∙ table-back gates nodes h)) h;
-  new = subst (λ (late : List Late). AreNew gates (lines_of late)) (sym none) tt;
+  new = subst (λ (pending : List PendingGate). AreNew gates (lines_of pending)) (sym none) tt;
 }
 
 -- one more gate waits
-pub one_more_waits : (gates : List GateLine) (old new : Table) (lhs : ℕ) (operands : Operands) → AreWaiting gates old → IsNewAmong (literals_of gates) lhs → 2 ≤ lhs → new.entries.items ≡ old.entries.items
-    → new.late.items ≡ old.late.items ++ record { lhs = lhs; operands = operands } ∷ [] → AreWaiting (gates ++ line_of lhs operands ∷ []) new
-one_more_waits gates old new lhs operands h among own entries late =
-    let line = λ (l : Late). line_of l.lhs l.operands in
-    let gate : Late = record { lhs = lhs; operands = operands } in
-    let lines = sym (map_push line old.late.items gate) ∙ ap (map line) (sym late) in
+pub one_more_waits : (gates : List GateLine) (old new : Table) (lhs : ℕ) (operands : Operands) → HoldsPending gates old → IsNewAmong (literals_of gates) lhs → 2 ≤ lhs → new.entries.items ≡ old.entries.items
+    → new.pending.items ≡ old.pending.items ++ record { lhs = lhs; operands = operands } ∷ [] → HoldsPending (gates ++ line_of lhs operands ∷ []) new
+one_more_waits gates old new lhs operands h among own entries pending =
+    let line = λ (l : PendingGate). line_of l.lhs l.operands in
+    let gate : PendingGate = record { lhs = lhs; operands = operands } in
+    let lines = sym (map_push line old.pending.items gate) ∙ ap (map line) (sym pending) in
     record {
       front = h.front;
-      all = ap (λ (gs : List GateLine). gs ++ line gate ∷ []) h.all ∙ append_assoc h.front (lines_of old.late.items) (line gate ∷ []) ∙ ap (λ (gs : List GateLine). h.front ++ gs) lines;
+      all = ap (λ (gs : List GateLine). gs ++ line gate ∷ []) h.all ∙ append_assoc h.front (lines_of old.pending.items) (line gate ∷ []) ∙ ap (λ (gs : List GateLine). h.front ++ gs) lines;
       nodes = subst (λ (es : List (Option Operands)). AreFirstNodes h.front (nodes_in es)) (sym entries) h.nodes;
-      new = subst (AreNew h.front) lines (new_push h.front (lines_of old.late.items) (line gate) h.new own (subst (λ (gs : List GateLine). IsNewAmong (literals_of gs) lhs) h.all among));
+      new = subst (AreNew h.front) lines (new_push h.front (lines_of old.pending.items) (line gate) h.new own (subst (λ (gs : List GateLine). IsNewAmong (literals_of gs) lhs) h.all among));
     }

@@ -11,7 +11,7 @@ use Rattle.aig_format.specs.File.{GateLine}
 use Rattle.aig_format.specs.Fits.{IsDefinable}
 use Rattle.aig_format.specs.Numbering.{are_in_order}
 use Rattle.aig_reader.specs.declared.gate_store.InOrder.{InOrder}
-use Rattle.aig_reader.specs.declared.table.Late.{Late}
+use Rattle.aig_reader.specs.declared.table.PendingGate.{PendingGate}
 use Rattle.aig_reader.specs.declared.table.Table.{Table}
 use Rattle.aig_reader.specs.declared.gate_store.GateStore.{GateStore}
 use Rattle.aig_reader.specs.declared.gate_store.GateStore.TheVariants as held
@@ -58,7 +58,7 @@ is_in_order (held.Shuffled table) = false
 -- there are nodes of so many variables at most, and gates of no others
 abbrev pub HasSpace : ℕ → GateStore → Type 0
 HasSpace size (held.InOrder rising) = vec_len rising.nodes ≤ size
-HasSpace size (held.Shuffled table) = (vec_len table.entries ≤ size) × All (λ l. l.lhs / 2 < size) table.late.items
+HasSpace size (held.Shuffled table) = (vec_len table.entries ≤ size) × All (λ l. l.lhs / 2 < size) table.pending.items
 
 -- the nodes of the first variables, from 0 on, where these gates are defined, each within them
 pub record AreFirstNodes (gates : List GateLine) (nodes : List AigNode) : Type 0 where
@@ -67,8 +67,8 @@ pub record AreFirstNodes (gates : List GateLine) (nodes : List AigNode) : Type 0
   pub within : AllByRecursion (λ g. g.lhs / 2 < length nodes) gates
 
 -- the lines of gates that wait for their places
-abbrev pub lines_of : List Late → List GateLine
-lines_of late = map (λ l. line_of l.lhs l.operands) late
+abbrev pub lines_of : List PendingGate → List GateLine
+lines_of pending = map (λ l. line_of l.lhs l.operands) pending
 
 -- each of these gates defines a variable that none before it does
 abbrev pub AreNew : List GateLine → List GateLine → Type 0
@@ -76,16 +76,16 @@ AreNew front [] = Unit {0}
 AreNew front (g ∷ gates) = ((2 ≤ g.lhs) × IsNewAmong (literals_of front) g.lhs) × AreNew (front ++ g ∷ []) gates
 
 -- gates in their places, and after them those that wait
-pub record AreWaiting (gates : List GateLine) (table : Table) : Type 0 where
+pub record HoldsPending (gates : List GateLine) (table : Table) : Type 0 where
   pub front : List GateLine
-  pub all : gates ≡ front ++ lines_of table.late.items
+  pub all : gates ≡ front ++ lines_of table.pending.items
   pub nodes : AreFirstNodes front (nodes_in table.entries.items)
-  pub new : AreNew front (lines_of table.late.items)
+  pub new : AreNew front (lines_of table.pending.items)
 
 -- the nodes of these gates, as they are held
 abbrev pub AreHeld : List GateLine → GateStore → Type 0
 AreHeld gates (held.InOrder rising) = AreFirstNodes gates rising.nodes.items
-AreHeld gates (held.Shuffled table) = AreWaiting gates table
+AreHeld gates (held.Shuffled table) = HoldsPending gates table
 
 -- the literal that the last of these gates defines, which rise, each above its operands, and all have numbers of 32 bits
 pub record AreInOrder (gates : List GateLine) (rising : InOrder) : Type 0 where

@@ -5,9 +5,9 @@ ghost use Rattle.aig_circuit.specs.Edge.{literal_of};
 ghost use Rattle.aig_circuit.specs.Node.{IfAnd};
 ghost use Rattle.aig_format.specs.File.{GateLine};
 ghost use Rattle.aig_ordering.specs.Gates.{nodes_in};
-ghost use Rattle.aig_reader.specs.Gates.{AreFirstNodes, AreWaiting, HasSpace, gate_in, line_of, literals_of};
+ghost use Rattle.aig_reader.specs.Gates.{AreFirstNodes, HoldsPending, HasSpace, gate_in, line_of, literals_of};
 ghost use Rattle.aig_reader.specs.declared.gate_store.GateStore.TheVariants as held;
-ghost use Rattle.aig_reader.specs.declared.table.TheConstants.{WAITING};
+ghost use Rattle.aig_reader.specs.declared.table.TheConstants.{MOST_PENDING};
 ghost use Rattle.aig_reader.specs.Variables.{IsNewAmong};
 
 use aig_circuit::{AigEdge, AigNode, AigNodeType};
@@ -15,11 +15,11 @@ use aig_ordering::Operands;
 use std::alloc::{AllocError, Global};
 
 /// How many gates wait for their places at most.
-const WAITING: usize = 1024;
+const MOST_PENDING: usize = 1024;
 
 /// A gate that waits for its place.
 #[derive(Clone, Copy)]
-pub struct Late {
+pub struct PendingGate {
     /// The literal that it defines.
     pub lhs: u32,
     /// Its operands.
@@ -32,7 +32,7 @@ pub struct Table {
     /// The operands of each of the first variables, from 0 on, that is a gate.
     pub entries: Vec<Option<Operands>>,
     /// The gates that were read last.
-    pub late: Vec<Late>,
+    pub pending: Vec<PendingGate>,
 }
 
 /// The literal of an edge.
@@ -107,43 +107,43 @@ impl Table {
         requires { All (λ node. IfAnd node.typ (λ id. id < 2 ^ 31)) nodes.now }
         ensures entries { IfOk result
             (λ table. table.entries.items ≡ map (λ node. gate_in node.typ) nodes.now) }
-        ensures late { IfOk result (λ table. table.late.items ≡ []) }
+        ensures pending { IfOk result (λ table. table.pending.items ≡ []) }
     {
         Ok(Table {
             entries: table_of(alloc, nodes)?,
-            late: Vec::with_capacity(alloc, WAITING)?,
+            pending: Vec::with_capacity(alloc, MOST_PENDING)?,
         })
     }
 
     /// Puts the gates that wait in their places.
-    fn settle(&mut self) -> Result<(), AllocError>
+    fn place_pending(&mut self) -> Result<(), AllocError>
         requires { (size : ℕ) × (size ≤ 2 ^ 31) × HasSpace size (held.Shuffled self.old) }
-        ensures nodes { (gates : List GateLine) → AreWaiting gates self.old
+        ensures nodes { (gates : List GateLine) → HoldsPending gates self.old
             → OnOk result
-            (AreFirstNodes gates (nodes_in self.new.entries.items) × (self.new.late.items ≡ [])) }
-        ensures late { OnOk result (self.new.late.items ≡ []) }
+            (AreFirstNodes gates (nodes_in self.new.entries.items) × (self.new.pending.items ≡ [])) }
+        ensures pending { OnOk result (self.new.pending.items ≡ []) }
         ensures space { OnOk result ((size : ℕ) → HasSpace size (held.Shuffled self.old)
             → HasSpace size (held.Shuffled self.new)) }
     {
-        let Table { entries, late } = self;
-        for gate in late.iter() {
+        let Table { entries, pending } = self;
+        for gate in pending.iter() {
             put_operands(entries, gate.lhs as usize / 2, gate.operands)?;
         }
-        late.clear();
+        pending.clear();
         Ok(())
     }
 
     /// Makes room for one more gate that waits.
     fn make_room(&mut self) -> Result<(), AllocError>
         requires { (size : ℕ) × (size ≤ 2 ^ 31) × HasSpace size (held.Shuffled self.old) }
-        ensures waiting { (gates : List GateLine) → AreWaiting gates self.old
-            → OnOk result (AreWaiting gates self.new) }
+        ensures waiting { (gates : List GateLine) → HoldsPending gates self.old
+            → OnOk result (HoldsPending gates self.new) }
         ensures space { OnOk result ((size : ℕ) → HasSpace size (held.Shuffled self.old)
             → HasSpace size (held.Shuffled self.new)) }
-        ensures room { OnOk result (vec_len self.new.late < WAITING) }
+        ensures room { OnOk result (vec_len self.new.pending < MOST_PENDING) }
     {
-        if self.late.len() >= WAITING {
-            self.settle()
+        if self.pending.len() >= MOST_PENDING {
+            self.place_pending()
         } else {
             Ok(())
         }
@@ -152,15 +152,15 @@ impl Table {
     /// Takes a gate, which waits for its place.
     pub fn push(&mut self, lhs: u32, operands: Operands) -> Result<(), AllocError>
         requires { (size : ℕ) × (size ≤ 2 ^ 31) × HasSpace size (held.Shuffled self.old) }
-        ensures waiting { (gates : List GateLine) → AreWaiting gates self.old
+        ensures waiting { (gates : List GateLine) → HoldsPending gates self.old
             → IsNewAmong (literals_of gates) lhs → 2 ≤ lhs
-            → OnOk result (AreWaiting (gates ++ line_of lhs operands ∷ []) self.new) }
+            → OnOk result (HoldsPending (gates ++ line_of lhs operands ∷ []) self.new) }
         ensures space { OnOk result ((size : ℕ) → lhs / 2 < size
             → HasSpace size (held.Shuffled self.old) → HasSpace size (held.Shuffled self.new)) }
-        ensures few { OnOk result (vec_len self.new.late ≤ WAITING) }
+        ensures few { OnOk result (vec_len self.new.pending ≤ MOST_PENDING) }
     {
         self.make_room()?;
-        self.late.push(Late { lhs, operands })?;
+        self.pending.push(PendingGate { lhs, operands })?;
         Ok(())
     }
 
@@ -168,14 +168,14 @@ impl Table {
     pub fn into_entries(mut self, len: usize) -> Result<Vec<Option<Operands>>, AllocError>
         requires few { len ≤ 2 ^ 31 }
         requires space { HasSpace len (held.Shuffled self) }
-        ensures nodes { (gates : List GateLine) → AreWaiting gates self
+        ensures nodes { (gates : List GateLine) → HoldsPending gates self
             → IfOk result (λ entries. AreFirstNodes gates (nodes_in entries.items)) }
         ensures len { IfOk result (λ entries. vec_len entries ≡ len) }
     {
-        self.settle()?;
+        self.place_pending()?;
         let Table {
             mut entries,
-            late: _,
+            pending: _,
         } = self;
         add_entries(&mut entries, len)?;
         Ok(entries)

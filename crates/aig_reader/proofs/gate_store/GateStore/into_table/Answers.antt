@@ -14,4 +14,4 @@ returns-in_ok-new-in-InOrder-clause-nodes c = λ greatest leaves gates h.
     let made = c.in_ok-new-in-InOrder.ensures in
     let placed = rw c.in-InOrder.is at h in
     c.into_entries.ensures.nodes gates
-    (none_waits gates c.in-InOrder.rising.nodes.items c.in_ok-new-in-InOrder.field-0 placed.nodes (rw c.deref.ensures.value at made.entries) made.late)
+    (none_waits gates c.in-InOrder.rising.nodes.items c.in_ok-new-in-InOrder.field-0 placed.nodes (rw c.deref.ensures.value at made.entries) made.pending)

@@ -5,7 +5,7 @@ use Rattle.std.proofs.lemmas.List.Elements.{All-nil}
 use Rattle.std.proofs.lemmas.Result.{on_ok_weaker}
 use Rattle.aig_circuit.specs.declared.node.AigNode.{AigNode}
 use Rattle.aig_reader.specs.declared.gate_store.GateStore.TheVariants as held
-use Rattle.aig_reader.specs.declared.table.Late.{Late}
+use Rattle.aig_reader.specs.declared.table.PendingGate.{PendingGate}
 use Rattle.aig_reader.specs.Gates.{HasSpace, gate_in}
 use Rattle.aig_reader.proofs.GateLines.{passes_over, rises_no_more, rises_still, still_in_table}
 use Rattle.aig_reader.proofs.TableEntries.{HasSmall, small_nodes}
@@ -30,7 +30,7 @@ returns-in_ok-push-in-InOrder-clause-placed c = λ greatest leaves before h defi
     let placed = rw c.in-InOrder.is at h in
     let made = c.in_ok-table-in-InOrder.ensures in
     let entries = rw c.deref.ensures.value at made.entries in
-    let waiting = none_waits before rising.nodes.items c.in_ok-table-in-InOrder.table placed.nodes entries made.late in
+    let waiting = none_waits before rising.nodes.items c.in_ok-table-in-InOrder.table placed.nodes entries made.pending in
     let all = c.in_ok-push-in-InOrder.ensures.waiting before waiting new own in
     let some = placed.nodes.some in
     elim (c.is_next.ensures.other c.if-is_next.false) [
@@ -45,7 +45,7 @@ returns-in_ok-push-in-InOrder-clause-space c = λ size low space.
     let made = c.in_ok-table-in-InOrder.ensures in
     let room = rw c.in-InOrder.is at space in
     let count = ap length made.entries ∙ length-map c.deref.result.now (λ (node : AigNode). gate_in node.typ) ∙ ap length c.deref.ensures.value in
-    c.in_ok-push-in-InOrder.ensures.space size low (omega (arith, count, room, nodes.ok, table.entries.ok), rw made.late (All-nil (λ (l : Late). l.lhs / 2 < size)))
+    c.in_ok-push-in-InOrder.ensures.space size low (omega (arith, count, room, nodes.ok, table.entries.ok), rw made.pending (All-nil (λ (l : PendingGate). l.lhs / 2 < size)))
 
 pub returns-in-Shuffled-clause-placed : goal.returns-in-Shuffled-clause-placed
 returns-in-Shuffled-clause-placed c = λ greatest leaves before h defined new own.

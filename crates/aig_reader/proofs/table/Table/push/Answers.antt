@@ -1,6 +1,6 @@
 use Rattle.std.proofs.Common.{◌/◌, ◌<◌, refl}
 use Rattle.std.proofs.lemmas.List.Elements.{All-push}
-use Rattle.aig_reader.specs.declared.table.Late.{Late}
+use Rattle.aig_reader.specs.declared.table.PendingGate.{PendingGate}
 use Rattle.aig_reader.proofs.Waiting.{one_more_waits}
 use Rattle.aig_reader.proofs.table.Table.push.Goals as goal
 
@@ -10,5 +10,5 @@ returns-clause-waiting c = λ gates h among own. one_more_waits gates c.make_roo
 pub returns-clause-space : goal.returns-clause-space
 returns-clause-space c = λ size low space.
     let kept = c.in_ok-make_room.ensures.space size space in
-    let gate : Late = record { lhs = c.args.lhs; operands = c.args.operands } in
-    (kept.0, rw c.in_ok-push.ensures.items (All-push (λ (l : Late). l.lhs / 2 < size) c.make_room.new.self.late.items gate kept.1 low))
+    let gate : PendingGate = record { lhs = c.args.lhs; operands = c.args.operands } in
+    (kept.0, rw c.in_ok-push.ensures.items (All-push (λ (l : PendingGate). l.lhs / 2 < size) c.make_room.new.self.pending.items gate kept.1 low))

@@ -4,7 +4,7 @@ use Rattle.aig_format.specs.File.{GateLine}
 use Rattle.aig_ordering.specs.Gates.{nodes_in}
 use Rattle.aig_reader.specs.Gates.{AreFirstNodes, AreNew, lines_of}
 use Rattle.aig_reader.proofs.Waiting.{placed}
-use Rattle.aig_reader.proofs.table.Table.settle.Given as goal
+use Rattle.aig_reader.proofs.table.Table.place_pending.Given as goal
 
 abbrev pub invariant-loop-gate : goal.invariant-loop-gate
 invariant-loop-gate l = record {
