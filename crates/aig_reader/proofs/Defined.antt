@@ -15,8 +15,8 @@ use Rattle.aig_reader.specs.Bits.{bit_told}
 use Rattle.aig_reader.specs.declared.error.LineError.{LineError}
 use Rattle.aig_reader.specs.declared.variables.Marks.{Marks}
 use Rattle.aig_reader.specs.Variables.{AreCounted, AreDefined, AreMarks, IsNewAmong, Tested, is_marked}
-use Rattle.aig_reader.specs.declared.variables.Variables.{Variables}
-use Rattle.aig_reader.specs.declared.variables.Variables.TheVariants.{Counted, Marked}
+use Rattle.aig_reader.specs.declared.variables.DefinedVariables.{DefinedVariables}
+use Rattle.aig_reader.specs.declared.variables.DefinedVariables.TheVariants as kinds
 use Rattle.aig_reader.proofs.Entries.{length_push}
 
 -- ---- in text files
@@ -65,11 +65,11 @@ known_at f marks v h low = ap (λ b. v == 0 || b) (h.marked v low ∙ marked_is 
 -- ---- in both
 
 -- a variable without a mark, below that of the last literal, is that of none of them
-pub unmarked_none : (greatest : ℕ) (variables : Variables) (v : ℕ) (before : List ℕ) (e : ℕ) → AreDefined greatest variables (before ++ e ∷ []) → v < e / 2 → is_marked variables v ≡ false → list_any (λ e. e / 2 == v) (before ++ e ∷ []) ≡ false
-unmarked_none greatest (Marked marks) v before e h low none =
+pub unmarked_none : (greatest : ℕ) (variables : DefinedVariables) (v : ℕ) (before : List ℕ) (e : ℕ) → AreDefined greatest variables (before ++ e ∷ []) → v < e / 2 → is_marked variables v ≡ false → list_any (λ e. e / 2 == v) (before ++ e ∷ []) ≡ false
+unmarked_none greatest (kinds.Text marks) v before e h low none =
     let last = (rec_parts (IsDefinable greatest) before (e ∷ []) h.definable).1.0.2 in
     sym (marked_is greatest v (before ++ e ∷ []) h.definable) ∙ sym (h.marked v (omega (arith, low, last))) ∙ none
-unmarked_none greatest (Counted count) v before e h low none = none_beyond (before ++ e ∷ []) h.below
+unmarked_none greatest (kinds.Binary count) v before e h low none = none_beyond (before ++ e ∷ []) h.below
   where
     above : count < v
     above = let le = leb-false v count none in omega arith

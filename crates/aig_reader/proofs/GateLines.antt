@@ -13,7 +13,7 @@ use Rattle.aig_format.specs.File.{GateLine}
 use Rattle.aig_format.specs.Numbering.{are_in_order, is_ordered, rises}
 use Rattle.aig_format.proofs.Entries.{rec_append, rec_parts}
 use Rattle.aig_parsing.specs.ParseTested.{defines, is_literal}
-use Rattle.aig_reader.specs.declared.variables.Variables.{Variables}
+use Rattle.aig_reader.specs.declared.variables.DefinedVariables.{DefinedVariables}
 use Rattle.aig_reader.specs.declared.gate_store.InOrder.{InOrder}
 use Rattle.aig_reader.specs.declared.gate_store.GateStore.{GateStore}
 use Rattle.aig_reader.specs.declared.table.Table.{Table}
@@ -82,7 +82,7 @@ module _ (greatest : ℕ) (leaves : List ℕ) (before : List GateLine) (lhs : �
   rises_no_more old table h other nodes = record { nodes = nodes; form = well_founded_order greatest leaves (before ++ g ∷ []) (order_with old h.form ∙ other) }
 
   -- nor do they in a compact file where one passes over a variable that isn't defined
-  pub passes_over : (variables : Variables) (v : ℕ) (table : Table) → AreDefined greatest variables ((leaves ++ literals_of before) ++ lhs ∷ []) → 1 ≤ v → v < lhs / 2 → is_marked variables v ≡ false
+  pub passes_over : (variables : DefinedVariables) (v : ℕ) (table : Table) → AreDefined greatest variables ((leaves ++ literals_of before) ++ lhs ∷ []) → 1 ≤ v → v < lhs / 2 → is_marked variables v ≡ false
       → HoldsPending (before ++ g ∷ []) table → ArePlaced greatest leaves (before ++ g ∷ []) (held.Shuffled table)
   passes_over variables v table defined low below unmarked nodes =
       let row : (leaves ++ literals_of before) ++ lhs ∷ [] ≡ leaves ++ literals_of (before ++ g ∷ []) =
@@ -103,7 +103,7 @@ may_stand-both Binary greatest before g = refl
 
 -- ---- one more gate
 
-pub more_gates : (greatest : ℕ) (leaves : List ℕ) (before : List GateLine) (variables : Variables) (held : GateStore) (g : GateLine) → ArePlaced greatest leaves (before ++ g ∷ []) held
+pub more_gates : (greatest : ℕ) (leaves : List ℕ) (before : List GateLine) (variables : DefinedVariables) (held : GateStore) (g : GateLine) → ArePlaced greatest leaves (before ++ g ∷ []) held
     → AreDefined greatest variables ((leaves ++ literals_of before) ++ g.lhs ∷ []) → AreGates greatest leaves (before ++ g ∷ []) variables held
 more_gates greatest leaves before variables held g placed defined =
     let push : literals_of (before ++ g ∷ []) ≡ literals_of before ++ g.lhs ∷ [] = map_push (λ (h : GateLine). h.lhs) before g in

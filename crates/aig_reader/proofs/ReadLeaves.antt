@@ -12,10 +12,10 @@ use Rattle.aig_lexer.specs.Takes.{Makes, Takes}
 use Rattle.aig_reader.specs.declared.error.LineError.{LineError}
 use Rattle.aig_reader.specs.declared.error.ReadError.{ReadError}
 use Rattle.aig_reader.specs.declared.error.Section.TheVariants.{Inputs, Latches}
-use Rattle.aig_reader.specs.declared.variables.Variables.{Variables}
+use Rattle.aig_reader.specs.declared.variables.DefinedVariables.{DefinedVariables}
 use Rattle.aig_reader.specs.Faults.{OnLine, error_in, result_by}
 use Rattle.aig_ordering.specs.Lists.{variable_of, latch_from}
-use Rattle.aig_reader.specs.Variables.{AreDefined, kind_by}
+use Rattle.aig_reader.specs.Variables.{AreDefined, file_kind}
 use Rattle.aig_reader.proofs.Body.{in_section, made_in}
 use Rattle.aig_reader.proofs.ReadNames.{if_ok_in}
 
@@ -24,7 +24,7 @@ abbrev pub literals_with : List ℕ → List LatchLine → List ℕ
 literals_with inputs lines = inputs ++ map (λ (l : LatchLine). l.literal) lines
 
 -- the lines of the inputs and of the latches, which were read one after the other, and the lists that were made of them
-pub record LeavesRead (header : Header) (kind : FileKind) (before between after : Option (List ℕ)) (variables : Variables) (inputs : List ℕ) (latchs : List AigLatch) : Type 0 where
+pub record LeavesRead (header : Header) (kind : FileKind) (before between after : Option (List ℕ)) (variables : DefinedVariables) (inputs : List ℕ) (latchs : List AigLatch) : Type 0 where
   pub literals : List ℕ
   pub lines : List LatchLine
   pub inputs_are : inputs ≡ map variable_of literals
@@ -34,17 +34,17 @@ pub record LeavesRead (header : Header) (kind : FileKind) (before between after 
   pub count : length (literals_with literals lines) ≡ header.inputs + header.latches
   pub defined : AreDefined header.greatest variables (literals_with literals lines)
 
-module _ (header : Header) (kind : FileKind) (b m a : Option (List ℕ)) (u v w : Variables)
+module _ (header : Header) (kind : FileKind) (b m a : Option (List ℕ)) (u v w : DefinedVariables)
     (input_lines : Result (Vec ℕ Global) LineError) (inputs_result : Result (Vec ℕ Global) ReadError) (inputs : Vec ℕ Global)
     (latch_lines : Result (Vec AigLatch Global) LineError) (latchs_result : Result (Vec AigLatch Global) ReadError) (latchs : Vec AigLatch Global) where
   pub leaves_read :
-      kind_by u ≡ kind → kind_by v ≡ kind_by u
+      file_kind u ≡ kind → file_kind v ≡ file_kind u
       → inputs_result ≡ result_by (error_in Inputs) input_lines → inputs_result ≡ Ok inputs
-      → Makes OnLine (λ (xs : Vec ℕ Global) literals. (xs.items ≡ map variable_of literals) × AreDefined header.greatest v literals) b m input_lines (parse_fitting_inputs (kind_by u) (numbers_of header))
+      → Makes OnLine (λ (xs : Vec ℕ Global) literals. (xs.items ≡ map variable_of literals) × AreDefined header.greatest v literals) b m input_lines (parse_fitting_inputs (file_kind u) (numbers_of header))
       → IfOk input_lines (λ xs. vec_len xs ≡ header.inputs)
       → latchs_result ≡ result_by (error_in Latches) latch_lines → latchs_result ≡ Ok latchs
       → ((literals : List ℕ) → length literals ≡ header.inputs → AreDefined header.greatest v literals
-      → Makes OnLine (λ (xs : Vec AigLatch Global) lines. (xs.items ≡ map latch_from lines) × AreDefined header.greatest w (literals_with literals lines)) m a latch_lines (parse_fitting_latches (kind_by v) (numbers_of header) literals))
+      → Makes OnLine (λ (xs : Vec AigLatch Global) lines. (xs.items ≡ map latch_from lines) × AreDefined header.greatest w (literals_with literals lines)) m a latch_lines (parse_fitting_latches (file_kind v) (numbers_of header) literals))
       → IfOk latch_lines (λ xs. vec_len xs ≡ header.latches)
       → LeavesRead header kind b m a w inputs.items latchs.items
   leaves_read start same inputs_is inputs_was inputs_made inputs_count latchs_is latchs_was latchs_made latchs_count =

@@ -15,7 +15,7 @@ use Rattle.aig_reader.specs.declared.table.PendingGate.{PendingGate}
 use Rattle.aig_reader.specs.declared.table.Table.{Table}
 use Rattle.aig_reader.specs.declared.gate_store.GateStore.{GateStore}
 use Rattle.aig_reader.specs.declared.gate_store.GateStore.TheVariants as held
-use Rattle.aig_reader.specs.declared.variables.Variables.{Variables}
+use Rattle.aig_reader.specs.declared.variables.DefinedVariables.{DefinedVariables}
 use Rattle.aig_ordering.specs.declared.gates.Operands.{Operands}
 use Rattle.aig_ordering.specs.Gates.{nodes_in}
 use Rattle.aig_ordering.specs.Lists.{edge_from, nodes_in_row}
@@ -110,6 +110,6 @@ pub record ArePlaced (greatest : ℕ) (leaves : List ℕ) (gates : List GateLine
   pub form : IsHeld greatest leaves gates held
 
 -- after these leaves and gates: the variables, and where the gates are held
-pub record AreGates (greatest : ℕ) (leaves : List ℕ) (gates : List GateLine) (variables : Variables) (held : GateStore) : Type 0 where
+pub record AreGates (greatest : ℕ) (leaves : List ℕ) (gates : List GateLine) (variables : DefinedVariables) (held : GateStore) : Type 0 where
   pub defined : AreDefined greatest variables (leaves ++ literals_of gates)
   pub placed : ArePlaced greatest leaves gates held

@@ -18,7 +18,7 @@ use Rattle.aig_reader.specs.declared.sections.Lists.{Lists}
 use Rattle.aig_reader.specs.declared.sections.Sections.{Sections}
 use Rattle.aig_reader.specs.Gates.{ArePlaced, HasSpace, is_in_order}
 use Rattle.aig_reader.specs.Properties.{ArePropertiesOf}
-use Rattle.aig_reader.specs.Variables.{AreDefined, kind_by}
+use Rattle.aig_reader.specs.Variables.{AreDefined, file_kind}
 
 -- the file of a header and these sections, with no names
 abbrev pub file_by : Header → Parts → File
@@ -44,7 +44,7 @@ pub record AreLinesOf (f : File) (lines : Lines) : Type 0 where
   pub good : HasGoodLines f
   pub greatest : lines.greatest ≡ f.greatest
   pub few : f.greatest < 2 ^ 31
-  pub kind : kind_by lines.variables ≡ f.kind
+  pub kind : file_kind lines.variables ≡ f.kind
   pub defined : AreDefined f.greatest lines.variables (defined f)
   pub lists : AreListsByVariable lines.lists f
   pub gates : ArePlaced f.greatest (f.inputs ++ map (λ l. l.literal) f.latches) f.gates lines.gates

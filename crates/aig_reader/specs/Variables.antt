@@ -9,14 +9,14 @@ use Rattle.aig_reader.specs.Bits.{bit_told}
 use Rattle.aig_reader.specs.declared.error.LineError.{LineError}
 use Rattle.aig_reader.specs.declared.error.LineError.TheVariants.{Literal, Memory}
 use Rattle.aig_reader.specs.declared.variables.Marks.{Marks}
-use Rattle.aig_reader.specs.declared.variables.Variables.{Variables}
-use Rattle.aig_reader.specs.declared.variables.Variables.TheVariants.{Marked, Counted}
+use Rattle.aig_reader.specs.declared.variables.DefinedVariables.{DefinedVariables}
+use Rattle.aig_reader.specs.declared.variables.DefinedVariables.TheVariants as kinds
 use Rattle.aig_reader.specs.Faults.{OnLine}
 
 -- the kind of the file
-abbrev pub kind_by : Variables → FileKind
-kind_by (Marked marks) = Text
-kind_by (Counted count) = Binary
+abbrev pub file_kind : DefinedVariables → FileKind
+file_kind (kinds.Text marks) = Text
+file_kind (kinds.Binary count) = Binary
 
 -- these literals may be defined, and the marks of the variables up to the greatest tell which of them they define
 pub record AreMarks (greatest : ℕ) (marks : Marks) (literals : List ℕ) : Type 0 where
@@ -30,24 +30,24 @@ pub record AreCounted (count : ℕ) (literals : List ℕ) : Type 0 where
   pub below : AllByRecursion (IsDefinable count) literals
 
 -- these literals are defined; in a binary file their count tells which they are
-abbrev pub AreDefined : ℕ → Variables → List ℕ → Type 0
-AreDefined greatest (Marked marks) literals = AreMarks greatest marks literals
-AreDefined greatest (Counted count) literals = AreCounted count literals
+abbrev pub AreDefined : ℕ → DefinedVariables → List ℕ → Type 0
+AreDefined greatest (kinds.Text marks) literals = AreMarks greatest marks literals
+AreDefined greatest (kinds.Binary count) literals = AreCounted count literals
 
 -- whether this variable, which is not 0, is defined
-abbrev pub is_marked : Variables → ℕ → Bool
-is_marked (Marked marks) v = bit_told marks.marked.items v
-is_marked (Counted count) v = nat_le v count
+abbrev pub is_marked : DefinedVariables → ℕ → Bool
+is_marked (kinds.Text marks) v = bit_told marks.marked.items v
+is_marked (kinds.Binary count) v = nat_le v count
 
 -- there are `size` variables, the false one counted, and in a binary file k more of them can be defined
-abbrev pub HasRoom : ℕ → Variables → ℕ → Type 0
-HasRoom size (Marked marks) k = marks.greatest + 1 ≡ size
-HasRoom size (Counted count) k = count + k < size
+abbrev pub HasRoom : ℕ → DefinedVariables → ℕ → Type 0
+HasRoom size (kinds.Text marks) k = marks.greatest + 1 ≡ size
+HasRoom size (kinds.Binary count) k = count + k < size
 
 -- in a binary file the literal is that of the next variable
-abbrev pub IsNext : Variables → ℕ → Type 0
-IsNext (Marked marks) e = Unit {0}
-IsNext (Counted count) e = e ≡ 2 * (count + 1)
+abbrev pub IsNext : DefinedVariables → ℕ → Type 0
+IsNext (kinds.Text marks) e = Unit {0}
+IsNext (kinds.Binary count) e = e ≡ 2 * (count + 1)
 
 -- an even literal of one of `size` variables, but not of the false one
 abbrev pub IsOwn : ℕ → ℕ → Type 0

@@ -9,7 +9,7 @@ ghost use Rattle.aig_reader.specs.Variables.{AreDefined, IsNewAmong, is_marked};
 
 use crate::nodes::{add_leaves, first_node, put_gate, reserve_nodes};
 use crate::table::Table;
-use crate::variables::Variables;
+use crate::variables::DefinedVariables;
 use aig_circuit::AigNode;
 use aig_ordering::{Operands, variable_node};
 use std::alloc::{AllocError, Global};
@@ -42,7 +42,7 @@ impl InOrder {
 
     /// Whether a gate may be the next one of a file in which no variable is missing and gates rise, each above its operands:
     /// the variables that it passes over are defined.
-    fn is_next(&self, variables: &Variables, lhs: u32, operands: Operands) -> bool
+    fn is_next(&self, variables: &DefinedVariables, lhs: u32, operands: Operands) -> bool
         ensures next { result ≡ true
             → (nat_lt self.now.last lhs && is_ordered (line_of lhs operands)) ≡ true }
         ensures defined { result ≡ true
@@ -95,7 +95,7 @@ impl GateStore {
     pub fn put(
         &mut self,
         alloc: Global,
-        variables: &Variables,
+        variables: &DefinedVariables,
         lhs: u32,
         operands: Operands,
     ) -> Result<(), AllocError>

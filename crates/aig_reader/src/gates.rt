@@ -10,11 +10,11 @@ ghost use Rattle.aig_lexer.specs.Takes.{Gives, Makes};
 ghost use Rattle.aig_reader.specs.ParseEntry.{parse_gate_entry, may_use, parse_operands};
 ghost use Rattle.aig_reader.specs.Faults.{OnLine};
 ghost use Rattle.aig_reader.specs.Gates.{AreGates, HasSpace, line_of};
-ghost use Rattle.aig_reader.specs.Variables.{AreDefined, HasRoom, kind_by};
+ghost use Rattle.aig_reader.specs.Variables.{AreDefined, HasRoom, file_kind};
 
 use crate::error::LineError;
 use crate::gate_store::GateStore;
-use crate::variables::Variables;
+use crate::variables::DefinedVariables;
 use aig_lexer::{ByteFeed, Header, LexError, delta, pair};
 use aig_ordering::Operands;
 use std::alloc::Global;
@@ -35,29 +35,29 @@ fn differences<F: ByteFeed>(f: &mut F, lhs: u32) -> Result<(u32, u32), LexError>
 }
 
 /// Reads the operands of the gate that defines this literal.
-fn operands<F: ByteFeed>(f: &mut F, variables: &Variables, lhs: u32) -> Result<(u32, u32), LexError>
+fn operands<F: ByteFeed>(f: &mut F, variables: &DefinedVariables, lhs: u32) -> Result<(u32, u32), LexError>
     ensures exact { Gives OnShape (λ x. (x.0, x.1))
-        (F.coming f.old) (F.coming f.new) result (parse_operands (kind_by variables.now) lhs) }
+        (F.coming f.old) (F.coming f.new) result (parse_operands (file_kind variables.now) lhs) }
     ensures stream { IsErrOf result LexError.Stream → F.failed f.new ≡ true }
     ensures same { F.behind f.new ≡ F.behind f.old }
 {
     match variables {
-        Variables::Marked(_) => pair(f),
-        Variables::Counted(_) => differences(f, lhs),
+        DefinedVariables::Text(_) => pair(f),
+        DefinedVariables::Binary(_) => differences(f, lhs),
     }
 }
 
 /// Whether a gate's operands may be used: in a text file each literal of a variable up to the greatest, in a binary file where the
 /// first is below the gate's literal.
-fn are_usable(variables: &Variables, lhs: u32, operands: Operands) -> bool
+fn are_usable(variables: &DefinedVariables, lhs: u32, operands: Operands) -> bool
     ensures { (greatest : ℕ) (before : List ℕ) → AreDefined greatest variables.now before
-        → result ≡ may_use (kind_by variables.now) greatest (line_of lhs operands) }
+        → result ≡ may_use (file_kind variables.now) greatest (line_of lhs operands) }
 {
     match variables {
-        Variables::Marked(marks) => {
+        DefinedVariables::Text(marks) => {
             operands.first / 2 <= marks.greatest && operands.second / 2 <= marks.greatest
         }
-        Variables::Counted(_) => operands.first < lhs,
+        DefinedVariables::Binary(_) => operands.first < lhs,
     }
 }
 
@@ -65,7 +65,7 @@ fn are_usable(variables: &Variables, lhs: u32, operands: Operands) -> bool
 fn gate_line<F: ByteFeed>(
     alloc: Global,
     f: &mut F,
-    variables: &mut Variables,
+    variables: &mut DefinedVariables,
     gates: &mut GateStore,
 ) -> Result<(), LineError>
     requires space { (size : ℕ) × (size ≤ 2 ^ 31) × HasRoom size variables.old 1
@@ -77,12 +77,12 @@ fn gate_line<F: ByteFeed>(
         → Makes OnLine
         (λ _ gate. AreGates greatest leaves (before ++ gate ∷ []) variables.new gates.new)
         (F.coming f.old) (F.coming f.new) result
-        (parse_gate_entry (kind_by variables.old) greatest leaves before) }
+        (parse_gate_entry (file_kind variables.old) greatest leaves before) }
     ensures space { IfOk result (λ _. (size : ℕ) → HasRoom size variables.old 1
         → HasSpace size gates.old → HasSpace size gates.new) }
     ensures room { IfOk result
         (λ _. (size k : ℕ) → HasRoom size variables.old (k + 1) → HasRoom size variables.new k) }
-    ensures kind { kind_by variables.new ≡ kind_by variables.old }
+    ensures kind { file_kind variables.new ≡ file_kind variables.old }
     ensures stream { IsErrOf result LineError.Stream → F.failed f.new ≡ true }
     ensures same { F.behind f.new ≡ F.behind f.old }
 {
@@ -102,7 +102,7 @@ pub fn read_gates<F: ByteFeed>(
     alloc: Global,
     f: &mut F,
     header: Header,
-    variables: &mut Variables,
+    variables: &mut DefinedVariables,
 ) -> Result<GateStore, LineError>
     requires few { header.greatest < 2 ^ 31 }
     requires room { HasRoom (header.greatest + 1) variables.old header.gates }
@@ -111,9 +111,9 @@ pub fn read_gates<F: ByteFeed>(
         → AreDefined header.greatest variables.old leaves
         → Makes OnLine (λ held gates. AreGates header.greatest leaves gates variables.new held)
         (F.coming f.old) (F.coming f.new) result
-        (parse_fitting_gates (kind_by variables.old) (numbers_of header) leaves) }
+        (parse_fitting_gates (file_kind variables.old) (numbers_of header) leaves) }
     ensures space { IfOk result (HasSpace (header.greatest + 1)) }
-    ensures kind { kind_by variables.new ≡ kind_by variables.old }
+    ensures kind { file_kind variables.new ≡ file_kind variables.old }
     ensures stream { IsErrOf result LineError.Stream → F.failed f.new ≡ true }
     ensures same { F.behind f.new ≡ F.behind f.old }
 {

@@ -7,24 +7,24 @@ ghost use Rattle.aig_lexer.specs.Takes.{Makes};
 ghost use Rattle.aig_reader.specs.ParseEntry.{parse_input_entry};
 ghost use Rattle.aig_reader.specs.Faults.{OnLine};
 ghost use Rattle.aig_ordering.specs.Lists.{variable_of};
-ghost use Rattle.aig_reader.specs.Variables.{AreDefined, HasRoom, kind_by};
+ghost use Rattle.aig_reader.specs.Variables.{AreDefined, HasRoom, file_kind};
 
 use crate::error::LineError;
-use crate::variables::Variables;
+use crate::variables::DefinedVariables;
 use aig_lexer::{ByteFeed, FileKind, Header};
 use std::alloc::Global;
 
 /// Reads an input, and defines its variable.
-fn input_line<F: ByteFeed>(f: &mut F, variables: &mut Variables) -> Result<usize, LineError>
+fn input_line<F: ByteFeed>(f: &mut F, variables: &mut DefinedVariables) -> Result<usize, LineError>
     requires { (size : ℕ) × (size ≤ 2 ^ 31) × HasRoom size variables.old 1 }
     ensures exact { (greatest : ℕ) (before : List ℕ) → AreDefined greatest variables.old before
         → Makes OnLine (λ id literal. (id ≡ variable_of literal)
         × AreDefined greatest variables.new (before ++ literal ∷ []))
         (F.coming f.old) (F.coming f.new) result
-        (parse_input_entry (kind_by variables.old) greatest before) }
+        (parse_input_entry (file_kind variables.old) greatest before) }
     ensures room { IfOk result
         (λ _. (size k : ℕ) → HasRoom size variables.old (k + 1) → HasRoom size variables.new k) }
-    ensures kind { kind_by variables.new ≡ kind_by variables.old }
+    ensures kind { file_kind variables.new ≡ file_kind variables.old }
     ensures stream { IsErrOf result LineError.Stream → F.failed f.new ≡ true }
     ensures same { F.behind f.new ≡ F.behind f.old }
 {
@@ -37,7 +37,7 @@ pub fn read_inputs<F: ByteFeed>(
     alloc: Global,
     f: &mut F,
     header: Header,
-    variables: &mut Variables,
+    variables: &mut DefinedVariables,
 ) -> Result<Vec<usize>, LineError>
     requires few { header.greatest < 2 ^ 31 }
     requires room { HasRoom (header.greatest + 1) variables.old header.inputs }
@@ -45,11 +45,11 @@ pub fn read_inputs<F: ByteFeed>(
         → Makes OnLine (λ inputs literals. (inputs.items ≡ map variable_of literals)
         × AreDefined header.greatest variables.new literals)
         (F.coming f.old) (F.coming f.new) result
-        (parse_fitting_inputs (kind_by variables.old) (numbers_of header)) }
+        (parse_fitting_inputs (file_kind variables.old) (numbers_of header)) }
     ensures count { IfOk result (λ inputs. vec_len inputs ≡ header.inputs) }
     ensures room { IfOk result (λ _. (size k : ℕ) → HasRoom size variables.old (k + header.inputs)
         → HasRoom size variables.new k) }
-    ensures kind { kind_by variables.new ≡ kind_by variables.old }
+    ensures kind { file_kind variables.new ≡ file_kind variables.old }
     ensures stream { IsErrOf result LineError.Stream → F.failed f.new ≡ true }
     ensures same { F.behind f.new ≡ F.behind f.old }
 {

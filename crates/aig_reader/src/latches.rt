@@ -9,11 +9,11 @@ ghost use Rattle.aig_lexer.specs.Takes.{Makes};
 ghost use Rattle.aig_reader.specs.ParseEntry.{parse_latch_entry};
 ghost use Rattle.aig_reader.specs.Faults.{OnLine};
 ghost use Rattle.aig_ordering.specs.Lists.{latch_from};
-ghost use Rattle.aig_reader.specs.Variables.{AreDefined, HasRoom, Tested, kind_by};
+ghost use Rattle.aig_reader.specs.Variables.{AreDefined, HasRoom, Tested, file_kind};
 
 use crate::edges::edge_within;
 use crate::error::LineError;
-use crate::variables::Variables;
+use crate::variables::DefinedVariables;
 use aig_circuit::{AigEdge, AigLatch};
 use aig_lexer::{ByteFeed, Header, next_line};
 use std::alloc::Global;
@@ -39,7 +39,7 @@ fn initial_edge(literal: u32, reset: Option<u32>) -> Result<Option<AigEdge>, Lin
 fn latch_line<F: ByteFeed>(
     f: &mut F,
     greatest: u32,
-    variables: &mut Variables,
+    variables: &mut DefinedVariables,
 ) -> Result<AigLatch, LineError>
     requires { (size : ℕ) × (size ≤ 2 ^ 31) × HasRoom size variables.old 1 }
     ensures exact { (inputs : List ℕ) (before : List LatchLine)
@@ -48,10 +48,10 @@ fn latch_line<F: ByteFeed>(
         × AreDefined greatest variables.new
         ((inputs ++ map (λ l. l.literal) before) ++ line.literal ∷ []))
         (F.coming f.old) (F.coming f.new) result
-        (parse_latch_entry (kind_by variables.old) greatest inputs before) }
+        (parse_latch_entry (file_kind variables.old) greatest inputs before) }
     ensures room { IfOk result
         (λ _. (size k : ℕ) → HasRoom size variables.old (k + 1) → HasRoom size variables.new k) }
-    ensures kind { kind_by variables.new ≡ kind_by variables.old }
+    ensures kind { file_kind variables.new ≡ file_kind variables.old }
     ensures stream { IsErrOf result LineError.Stream → F.failed f.new ≡ true }
     ensures same { F.behind f.new ≡ F.behind f.old }
 {
@@ -68,7 +68,7 @@ pub fn read_latches<F: ByteFeed>(
     alloc: Global,
     f: &mut F,
     header: Header,
-    variables: &mut Variables,
+    variables: &mut DefinedVariables,
 ) -> Result<Vec<AigLatch>, LineError>
     requires few { header.greatest < 2 ^ 31 }
     requires room { HasRoom (header.greatest + 1) variables.old header.latches }
@@ -77,11 +77,11 @@ pub fn read_latches<F: ByteFeed>(
         → Makes OnLine (λ latchs lines. (latchs.items ≡ map latch_from lines)
         × AreDefined header.greatest variables.new (inputs ++ map (λ l. l.literal) lines))
         (F.coming f.old) (F.coming f.new) result
-        (parse_fitting_latches (kind_by variables.old) (numbers_of header) inputs) }
+        (parse_fitting_latches (file_kind variables.old) (numbers_of header) inputs) }
     ensures count { IfOk result (λ latchs. vec_len latchs ≡ header.latches) }
     ensures room { IfOk result (λ _. (size k : ℕ) → HasRoom size variables.old (k + header.latches)
         → HasRoom size variables.new k) }
-    ensures kind { kind_by variables.new ≡ kind_by variables.old }
+    ensures kind { file_kind variables.new ≡ file_kind variables.old }
     ensures stream { IsErrOf result LineError.Stream → F.failed f.new ≡ true }
     ensures same { F.behind f.new ≡ F.behind f.old }
 {

@@ -15,7 +15,7 @@ use crate::latches::read_latches;
 use crate::gate_store::GateStore;
 use crate::properties::read_properties;
 use crate::sections::Lists;
-use crate::variables::Variables;
+use crate::variables::DefinedVariables;
 use aig_lexer::{ByteFeed, Header};
 use std::alloc::Global;
 
@@ -27,7 +27,7 @@ pub struct Lines {
     /// The gates.
     pub gates: GateStore,
     /// The variables that are defined.
-    pub variables: Variables,
+    pub variables: DefinedVariables,
     /// The greatest variable of the file.
     pub greatest: u32,
     /// Whether no variable is missing.
@@ -54,7 +54,7 @@ pub fn read_lines<F: ByteFeed>(alloc: Global, f: &mut F, header: Header) -> Resu
     ensures stream { IsErrOf result ReadError.Stream → F.failed f.new ≡ true }
     ensures same { F.behind f.new ≡ F.behind f.old }
 {
-    let mut variables = Variables::new(alloc, header.kind, header.greatest);
+    let mut variables = DefinedVariables::new(alloc, header.kind, header.greatest);
     let inputs = read_inputs(alloc, f, header, &mut variables);
     let inputs = Section::Inputs.result_of(inputs)?;
     let latchs = read_latches(alloc, f, header, &mut variables);

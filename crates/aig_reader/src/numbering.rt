@@ -20,7 +20,7 @@ use crate::error::{ReadError, Section};
 use crate::lines::Lines;
 use crate::properties::Properties;
 use crate::sections::{Lists, Sections};
-use crate::variables::Variables;
+use crate::variables::DefinedVariables;
 use aig_circuit::AigNode;
 use aig_ordering::{
     Operands, OrderError, Ordered, edges, latchs, nodes, order_by_level, sets, variables,
@@ -140,8 +140,8 @@ impl Lines {
         }
         let gates = gates.into_table(alloc, len)?;
         let known = match variables {
-            Variables::Marked(marks) => marks.known(alloc)?,
-            Variables::Counted(_) => unreachable!(),
+            DefinedVariables::Text(marks) => marks.known(alloc)?,
+            DefinedVariables::Binary(_) => unreachable!(),
         };
         lists.by_level(alloc, gates, &known)
     }

@@ -8,7 +8,7 @@ ghost use Rattle.aig_format.specs.File.{File, defined};
 ghost use Rattle.aig_ordering.specs.Tables.{AreKnownOf};
 ghost use Rattle.aig_reader.specs.Bits.{bit_told};
 ghost use Rattle.aig_reader.specs.ParseEntry.{may_define, parse_own};
-ghost use Rattle.aig_reader.specs.Variables.{AreDefined, AreMarks, HasRoom, IsLiteralFault, IsNewAmong, IsNext, IsOwn, Tested, is_marked, kind_by};
+ghost use Rattle.aig_reader.specs.Variables.{AreDefined, AreMarks, HasRoom, IsLiteralFault, IsNewAmong, IsNext, IsOwn, Tested, is_marked, file_kind};
 
 use crate::bits::{has_bit, set_bit};
 use crate::error::LineError;
@@ -26,11 +26,11 @@ pub struct Marks {
 
 /// The variables of a file that are defined so far.
 #[derive(Drop)]
-pub enum Variables {
+pub enum DefinedVariables {
     /// Those of a text file, where any up to the greatest may be next. There are marks up to the greatest that was defined.
-    Marked(Marks),
+    Text(Marks),
     /// Those of a binary file, where they are defined in order of number from 1 on: how many are.
-    Counted(u32),
+    Binary(u32),
 }
 
 /// Makes room for the bit of this variable.
@@ -90,19 +90,19 @@ impl Marks {
     }
 }
 
-impl Variables {
+impl DefinedVariables {
     /// The variables up to a greatest one in a file of this kind. None is defined.
     pub fn new(alloc: Global, kind: FileKind, greatest: u32) -> Self
         ensures defined { AreDefined greatest result [] }
-        ensures kind { kind_by result ≡ kind }
+        ensures kind { file_kind result ≡ kind }
         ensures room { HasRoom (greatest + 1) result greatest }
     {
         match kind {
-            FileKind::Text => Variables::Marked(Marks {
+            FileKind::Text => DefinedVariables::Text(Marks {
                 greatest,
                 marked: Vec::new(alloc),
             }),
-            FileKind::Binary => Variables::Counted(0),
+            FileKind::Binary => DefinedVariables::Binary(0),
         }
     }
 
@@ -111,14 +111,14 @@ impl Variables {
         requires { (size : ℕ) × (size ≤ 2 ^ 31) × HasRoom size self.now 1 }
         ensures exact { (greatest : ℕ) (before : List ℕ) → AreDefined greatest self.now before
             → Gives OnShape (λ e. e)
-            (F.coming f.old) (F.coming f.new) result (parse_own (kind_by self.now) end before) }
+            (F.coming f.old) (F.coming f.new) result (parse_own (file_kind self.now) end before) }
         ensures next { IfOk result (λ e. IsNext self.now e) }
         ensures stream { IsErrOf result LexError.Stream → F.failed f.new ≡ true }
         ensures same { F.behind f.new ≡ F.behind f.old }
     {
         match self {
-            Variables::Marked(_) => ended(f, end),
-            Variables::Counted(count) => Ok(2 * (count + 1)),
+            DefinedVariables::Text(_) => ended(f, end),
+            DefinedVariables::Binary(count) => Ok(2 * (count + 1)),
         }
     }
 
@@ -126,7 +126,7 @@ impl Variables {
     pub fn define(&mut self, literal: u32) -> Result<usize, LineError>
         requires { IsNext self.old literal }
         ensures exact { (greatest : ℕ) (before : List ℕ) → AreDefined greatest self.old before
-            → Tested (may_define (kind_by self.old) greatest before literal)
+            → Tested (may_define (file_kind self.old) greatest before literal)
             (λ id. (id ≡ literal / 2) × AreDefined greatest self.new (before ++ literal ∷ []))
             result }
         ensures fault { IfErr result IsLiteralFault }
@@ -136,11 +136,11 @@ impl Variables {
         ensures id { IfOk result (λ id. id ≡ literal / 2) }
         ensures room { IfOk result
             (λ _. (size k : ℕ) → HasRoom size self.old (k + 1) → HasRoom size self.new k) }
-        ensures kind { kind_by self.new ≡ kind_by self.old }
+        ensures kind { file_kind self.new ≡ file_kind self.old }
     {
         match self {
-            Variables::Marked(marks) => marks.mark(literal),
-            Variables::Counted(count) => {
+            DefinedVariables::Text(marks) => marks.mark(literal),
+            DefinedVariables::Binary(count) => {
                 *count += 1;
                 Ok(literal as usize / 2)
             }
@@ -152,8 +152,8 @@ impl Variables {
         ensures { result ≡ is_marked self.now variable }
     {
         match self {
-            Variables::Marked(marks) => has_bit(&marks.marked, variable),
-            Variables::Counted(count) => variable <= *count as usize,
+            DefinedVariables::Text(marks) => has_bit(&marks.marked, variable),
+            DefinedVariables::Binary(count) => variable <= *count as usize,
         }
     }
 

@@ -2,14 +2,14 @@ use Rattle.std.proofs.Common.{◌∙◌, ◌++◌, refl, sym}
 use Rattle.aig_parsing.specs.ParseTested.{gate_line_from}
 use Rattle.aig_reader.specs.ParseEntry.{may_stand, parse_operands}
 use Rattle.aig_reader.specs.Gates.{literals_of}
-use Rattle.aig_reader.specs.Variables.{kind_by}
+use Rattle.aig_reader.specs.Variables.{file_kind}
 use Rattle.aig_reader.proofs.GateLines.{may_stand-both, more_gates, new_among}
 use Rattle.aig_reader.proofs.OwnLines.{takes_line}
 use Rattle.aig_reader.proofs.gates.gate_line.Goals as goal
 
 pub returns-clause-exact : goal.returns-clause-exact
 returns-clause-exact g c = λ greatest leaves before h.
-    let kind = kind_by c.args.variables.now in
+    let kind = file_kind c.args.variables.now in
     let literals = leaves ++ literals_of before in
     let gate = gate_line_from (c.in_ok-lhs.lhs, (c.in_ok-first.first, c.in_ok-first.second)) in
     let first = c.in_ok-define.ensures.exact greatest literals h.defined in

@@ -8,7 +8,7 @@ use Rattle.std.proofs.lemmas.List.{append-nil}
 use Rattle.aig_lexer.proofs.Taking.{takes_nothing, takes_same, misses_same}
 use Rattle.aig_reader.specs.ParseEntry.{parse_gate_entry}
 use Rattle.aig_reader.specs.Faults.{OnLine}
-use Rattle.aig_reader.specs.Variables.{AreDefined, HasRoom, kind_by}
+use Rattle.aig_reader.specs.Variables.{AreDefined, HasRoom, file_kind}
 use Rattle.aig_reader.proofs.BothKinds.{gates_is}
 use Rattle.aig_reader.proofs.Entries.{entries_at, takes_more, misses_more}
 use Rattle.aig_reader.proofs.Rooms.{room_for, room_more}
@@ -42,7 +42,7 @@ pub returns-in_err-gate_line-clause-exact : goal.returns-in_err-gate_line-clause
 returns-in_err-gate_line-clause-exact g c = λ leaves length defined.
     let p = err_from_is_err_and c.from_residual-in_err-gate_line.result c.from_residual-in_err-gate_line.ensures.1 in
     let h = c.loop.invariant.made leaves defined in
-    let kind = kind_by c.args.variables.now in
+    let kind = file_kind c.args.variables.now in
     let greatest = c.args.header.greatest in
     let count = c.args.header.gates in
     let ns = numbers_of c.args.header in
@@ -57,7 +57,7 @@ pub loop-preserved : goal.loop-preserved
 loop-preserved g c = record {
   made = λ leaves defined.
       let h = c.loop.invariant.made leaves defined in
-      let kind = kind_by c.args.variables.now in
+      let kind = file_kind c.args.variables.now in
       let greatest = c.args.header.greatest in
       let k = c.in_ok-gate_line.ensures.exact greatest leaves h.0 h.1 in (
         h.0 ++ k.0 ∷ [],
@@ -76,7 +76,7 @@ pub returns-clause-exact : goal.returns-clause-exact
 returns-clause-exact g c = λ leaves count_is defined.
     let done : c.loop.counter ≡ c.args.header.gates = omega arith in
     let h = c.loop.invariant.made leaves defined in
-    let kind = kind_by c.args.variables.now in
+    let kind = file_kind c.args.variables.now in
     let greatest = c.args.header.greatest in
     let count = c.args.header.gates in
     let ns = numbers_of c.args.header in (

@@ -8,7 +8,7 @@ use Rattle.aig_lexer.proofs.Taking.{takes_same, misses_same}
 use Rattle.aig_reader.specs.ParseEntry.{parse_input_entry}
 use Rattle.aig_reader.specs.Faults.{OnLine}
 use Rattle.aig_ordering.specs.Lists.{variable_of}
-use Rattle.aig_reader.specs.Variables.{kind_by}
+use Rattle.aig_reader.specs.Variables.{file_kind}
 use Rattle.aig_reader.proofs.BothKinds.{inputs_is}
 use Rattle.aig_reader.proofs.Entries.{entries_at, takes_more, misses_more, made_push}
 use Rattle.aig_reader.proofs.Rooms.{room_for, room_more}
@@ -25,7 +25,7 @@ pub returns-in_err-input-clause-exact : goal.returns-in_err-input-clause-exact
 returns-in_err-input-clause-exact g c = λ start.
     let p = err_from_is_err_and c.from_residual-in_err-input.result c.from_residual-in_err-input.ensures.1 in
     let h = c.loop.invariant.made start in
-    let kind = kind_by c.args.variables.now in
+    let kind = file_kind c.args.variables.now in
     let greatest = c.args.header.greatest in
     let count = c.args.header.inputs in
     let ns = numbers_of c.args.header in
@@ -39,7 +39,7 @@ pub loop-preserved : goal.loop-preserved
 loop-preserved g c = record {
   made = λ start.
       let h = c.loop.invariant.made start in
-      let kind = kind_by c.args.variables.now in
+      let kind = file_kind c.args.variables.now in
       let greatest = c.args.header.greatest in
       let k = c.in_ok-input.ensures.exact greatest h.0 h.1.1 in (
         h.0 ++ k.0 ∷ [],
@@ -56,7 +56,7 @@ pub returns-clause-exact : goal.returns-clause-exact
 returns-clause-exact g c = λ start.
     let all : c.loop.counter ≡ c.args.header.inputs = omega arith in
     let h = c.loop.invariant.made start in
-    let kind = kind_by c.args.variables.now in
+    let kind = file_kind c.args.variables.now in
     let greatest = c.args.header.greatest in
     let count = c.args.header.inputs in
     let ns = numbers_of c.args.header in (

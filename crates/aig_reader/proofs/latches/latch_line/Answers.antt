@@ -3,7 +3,7 @@ use Rattle.std.proofs.lemmas.Result.{err_from_is_err_and}
 use Rattle.aig_format.specs.File.{LatchLine}
 use Rattle.aig_parsing.specs.ParseTested.{has_next, is_reset, latch_line_from, parse_next_and_reset}
 use Rattle.aig_reader.specs.ParseEntry.{may_define}
-use Rattle.aig_reader.specs.Variables.{kind_by}
+use Rattle.aig_reader.specs.Variables.{file_kind}
 use Rattle.aig_reader.proofs.OwnLines.{misses_line, takes_line}
 use Rattle.aig_reader.proofs.TestedLines.{on_line-weaker}
 use Rattle.aig_reader.proofs.latches.latch_line.Goals as goal
@@ -11,7 +11,7 @@ use Rattle.aig_reader.proofs.latches.latch_line.Goals as goal
 pub returns-in_err-init-clause-exact : goal.returns-in_err-init-clause-exact
 returns-in_err-init-clause-exact g c = λ inputs before defined.
     let p = err_from_is_err_and c.from_residual-in_err-init.result c.from_residual-in_err-init.ensures.1 in
-    let kind = kind_by c.args.variables.now in
+    let kind = file_kind c.args.variables.now in
     let greatest = c.args.greatest in
     let literals = inputs ++ map (λ (l : LatchLine). l.literal) before in
     let first = c.in_ok-input.ensures.exact greatest literals defined in
@@ -25,7 +25,7 @@ returns-in_err-init-clause-exact g c = λ inputs before defined.
 
 pub returns-clause-exact : goal.returns-clause-exact
 returns-clause-exact g c = λ inputs before defined.
-    let kind = kind_by c.args.variables.now in
+    let kind = file_kind c.args.variables.now in
     let greatest = c.args.greatest in
     let literals = inputs ++ map (λ (l : LatchLine). l.literal) before in
     let first = c.in_ok-input.ensures.exact greatest literals defined in

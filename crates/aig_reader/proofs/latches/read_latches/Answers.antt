@@ -7,11 +7,11 @@ use Rattle.aig_format.specs.File.{LatchLine}
 use Rattle.aig_lexer.specs.Header.{numbers_of}
 use Rattle.aig_lexer.specs.Takes.{Takes, Misses}
 use Rattle.aig_lexer.proofs.Taking.{takes_same, misses_same}
-use Rattle.aig_reader.specs.declared.variables.Variables.{Variables}
+use Rattle.aig_reader.specs.declared.variables.DefinedVariables.{DefinedVariables}
 use Rattle.aig_reader.specs.ParseEntry.{parse_latch_entry}
 use Rattle.aig_reader.specs.Faults.{OnLine}
 use Rattle.aig_ordering.specs.Lists.{latch_from}
-use Rattle.aig_reader.specs.Variables.{AreDefined, kind_by}
+use Rattle.aig_reader.specs.Variables.{AreDefined, file_kind}
 use Rattle.aig_reader.proofs.BothKinds.{latches_is}
 use Rattle.aig_reader.proofs.Entries.{entries_at, takes_more, misses_more, made_push}
 use Rattle.aig_reader.proofs.Rooms.{room_for, room_more}
@@ -22,7 +22,7 @@ abbrev literals : List LatchLine → List ℕ
 literals lines = map (λ l. l.literal) lines
 
 -- the literal of one more line
-defined_push : (greatest : ℕ) (variables : Variables) (inputs : List ℕ) (lines : List LatchLine) (l : LatchLine) → AreDefined greatest variables ((inputs ++ literals lines) ++ l.literal ∷ []) → AreDefined greatest variables (inputs ++ literals (lines ++ l ∷ []))
+defined_push : (greatest : ℕ) (variables : DefinedVariables) (inputs : List ℕ) (lines : List LatchLine) (l : LatchLine) → AreDefined greatest variables ((inputs ++ literals lines) ++ l.literal ∷ []) → AreDefined greatest variables (inputs ++ literals (lines ++ l ∷ []))
 defined_push greatest variables inputs lines l h =
     subst (λ (es : List ℕ). AreDefined greatest variables es) (append_assoc inputs (literals lines) (l.literal ∷ []) ∙ ap (λ (es : List ℕ). inputs ++ es) (sym (map_push (λ (m : LatchLine). m.literal) lines l))) h
 
@@ -36,7 +36,7 @@ pub returns-in_err-latch-clause-exact : goal.returns-in_err-latch-clause-exact
 returns-in_err-latch-clause-exact g c = λ inputs length defined.
     let p = err_from_is_err_and c.from_residual.result c.from_residual.ensures.1 in
     let h = c.loop.invariant.made inputs defined in
-    let kind = kind_by c.args.variables.now in
+    let kind = file_kind c.args.variables.now in
     let greatest = c.args.header.greatest in
     let count = c.args.header.latches in
     let ns = numbers_of c.args.header in
@@ -51,7 +51,7 @@ pub loop-preserved : goal.loop-preserved
 loop-preserved g c = record {
   made = λ inputs defined.
       let h = c.loop.invariant.made inputs defined in
-      let kind = kind_by c.args.variables.now in
+      let kind = file_kind c.args.variables.now in
       let greatest = c.args.header.greatest in
       let k = c.in_ok-latch.ensures.exact inputs h.0 h.1.1 in (
         h.0 ++ k.0 ∷ [],
@@ -68,7 +68,7 @@ pub returns-clause-exact : goal.returns-clause-exact
 returns-clause-exact g c = λ inputs length defined.
     let all : c.loop.counter ≡ c.args.header.latches = omega arith in
     let h = c.loop.invariant.made inputs defined in
-    let kind = kind_by c.args.variables.now in
+    let kind = file_kind c.args.variables.now in
     let greatest = c.args.header.greatest in
     let count = c.args.header.latches in
     let ns = numbers_of c.args.header in (

@@ -23,7 +23,7 @@ module _ (c : After-deref) (f : File) (h : AreLinesOf f c.args.self) where
       nodes_placed f h.good (nodes_in gates.items) (c.in_ok-gates.ensures.nodes f.greatest _ f.gates h.gates) all
 
   known_are : AreKnownOf f c.deref.result.now
-  known_are = rw c.deref.ensures.value (c.in_ok-known-in-Marked.ensures f (rw c.in-Marked.is at h.defined))
+  known_are = rw c.deref.ensures.value (c.in_ok-known-in-Text.ensures f (rw c.in-Text.is at h.defined))
 
   well_founded : is_compact f ≡ false
   well_founded = sym h.compact ∙ elim c.else-is_complete.branch [
@@ -37,5 +37,5 @@ by_level-requires-clause-tables c = (c.requires.0, gates_are c c.requires.0 c.re
 pub returns-clause-exact : goal.returns-clause-exact
 returns-clause-exact c = λ f h.
     let here = (goal.at.returns-clause-exact c).After-deref in
-    well_founded_judged f c.by_level.result (sym h.kind ∙ rw c.in-Marked.is refl) (well_founded here f h)
+    well_founded_judged f c.by_level.result (sym h.kind ∙ rw c.in-Text.is refl) (well_founded here f h)
     (c.by_level.ensures.exact f h.good (gates_are here f h) (known_are here f h) h.lists (well_founded here f h))
