@@ -7,9 +7,9 @@ use Rattle.aig_circuit.specs.Node.{kind_at}
 use Rattle.aig_circuit.proofs.Trees.{kind_at-read}
 use Rattle.aig_format.specs.File.{File}
 use Rattle.aig_ordering.specs.declared.gates.Operands.{Operands}
-use Rattle.aig_ordering.specs.Gates.{kind_in, node_in, nodes_in, nodes_in_from}
-use Rattle.aig_ordering.specs.Lists.{kind_from}
-use Rattle.aig_ordering.specs.Numbers.{kind_by, number_at}
+use Rattle.aig_ordering.specs.Gates.{kind_of_operands, node_in, nodes_in, nodes_in_from}
+use Rattle.aig_ordering.specs.Lists.{kind_among}
+use Rattle.aig_ordering.specs.Numbers.{kind_by_numbers, number_at}
 use Rattle.aig_ordering.specs.Tables.{AreNodesOf}
 use Rattle.aig_ordering.proofs.Tables.{count-nodes, node_at}
 
@@ -36,17 +36,17 @@ nodes_in-at gates v d e h = let same : 0 + v ≡ v = omega arith in at_from 0 v 
 
 -- the kind of a node under the numbers
 abbrev pub node_under : List ℕ → AigNode → Option AigNodeType
-node_under numbers node = kind_by (number_at numbers) node.typ
+node_under numbers node = kind_by_numbers (number_at numbers) node.typ
 
 -- the kind of a variable under the numbers
 abbrev pub kind_under : List ℕ → List (Option Operands) → ℕ → Option AigNodeType
-kind_under numbers gates v = option_and_then (kind_by (number_at numbers)) (kind_at (nodes_in gates) v)
+kind_under numbers gates v = option_and_then (kind_by_numbers (number_at numbers)) (kind_at (nodes_in gates) v)
 
 -- it is told by the variable's gate
-pub kind_under-gate : (numbers : List ℕ) (gates : List (Option Operands)) (v : ℕ) (e : Option Operands) → v < length gates → kind_under numbers gates v ≡ kind_by (number_at numbers) (kind_in v (get_or gates v e))
+pub kind_under-gate : (numbers : List ℕ) (gates : List (Option Operands)) (v : ℕ) (e : Option Operands) → v < length gates → kind_under numbers gates v ≡ kind_by_numbers (number_at numbers) (kind_of_operands v (get_or gates v e))
 kind_under-gate numbers gates v e h =
     let d = node_in v (get_or gates v e) in
-    ap (option_and_then (kind_by (number_at numbers))) (kind_at-read (nodes_in gates) v d (kind_in v (get_or gates v e)) (omega (arith, length-nodes_in gates)) (sym (ap (λ (node : AigNode). node.typ) (nodes_in-at gates v d e h))))
+    ap (option_and_then (kind_by_numbers (number_at numbers))) (kind_at-read (nodes_in gates) v d (kind_of_operands v (get_or gates v e)) (omega (arith, length-nodes_in gates)) (sym (ap (λ (node : AigNode). node.typ) (nodes_in-at gates v d e h))))
 
 module _ (f : File) (gates : List (Option Operands)) (are : AreNodesOf f (nodes_in gates)) where
   -- the table has each variable of the file
@@ -54,7 +54,7 @@ module _ (f : File) (gates : List (Option Operands)) (are : AreNodesOf f (nodes_
   count-gates = sym (length-nodes_in gates) ∙ count-nodes f (nodes_in gates) are
 
   -- and tells its kind
-  pub kind_told : (v : ℕ) (e : Option Operands) (node : AigNode) (kind : AigNodeType) → v < length gates → node ≡ node_in v (get_or gates v e) → kind ≡ node.typ → kind_from f.gates v ≡ kind
+  pub kind_told : (v : ℕ) (e : Option Operands) (node : AigNode) (kind : AigNodeType) → v < length gates → node ≡ node_in v (get_or gates v e) → kind ≡ node.typ → kind_among f.gates v ≡ kind
   kind_told v e node kind h is has =
       let typ = λ (n : AigNode). n.typ in
       sym (ap typ (node_at f (nodes_in gates) are v node (omega (arith, length-nodes_in gates)))) ∙ ap typ (nodes_in-at gates v node e h) ∙ sym (has ∙ ap typ is)

@@ -13,7 +13,7 @@ use Rattle.aig_format.specs.File.{File}
 use Rattle.aig_format.specs.Levels.{level_of}
 use Rattle.aig_format.proofs.Levels.{level_of-le}
 use Rattle.aig_ordering.specs.declared.levels.Search.{Search}
-use Rattle.aig_ordering.specs.Lists.{kind_from}
+use Rattle.aig_ordering.specs.Lists.{kind_among}
 use Rattle.aig_ordering.specs.declared.error.OrderError.{OrderError}
 use Rattle.aig_ordering.specs.declared.error.OrderError.TheVariants.{Memory, Variable}
 use Rattle.aig_ordering.specs.Tables.{AreNodesOf, OnOrder, all_have_levels, level_at, told}
@@ -179,11 +179,11 @@ module _ (f : File) (nodes : List AigNode) (are : AreNodesOf f nodes) where
 
   -- ---- what is to be done for a variable
 
-  module _ (v : ℕ) (kind : AigNodeType) (is_kind : kind_from f.gates v ≡ kind) where
+  module _ (v : ℕ) (kind : AigNodeType) (is_kind : kind_among f.gates v ≡ kind) where
     pub kind_within : IfAnd kind (λ n. n < f.greatest + 1)
     kind_within = by_kind kind is_kind
       where
-        by_kind : (kind : AigNodeType) → kind_from f.gates v ≡ kind → IfAnd kind (λ n. n < f.greatest + 1)
+        by_kind : (kind : AigNodeType) → kind_among f.gates v ≡ kind → IfAnd kind (λ n. n < f.greatest + 1)
         by_kind False is = tt
         by_kind Leaf is = tt
         by_kind (And a b) is = operands_within f nodes are v a b (gate_at f v a b is)
@@ -191,7 +191,7 @@ module _ (f : File) (nodes : List AigNode) (are : AreNodesOf f nodes) where
     pub operand_below : (u : ℕ) → IsOperandOf kind u → (u < f.greatest + 1) × Descends f v u
     operand_below u is = by_kind kind is_kind is
       where
-        by_kind : (kind : AigNodeType) → kind_from f.gates v ≡ kind → IsOperandOf kind u → (u < f.greatest + 1) × Descends f v u
+        by_kind : (kind : AigNodeType) → kind_among f.gates v ≡ kind → IsOperandOf kind u → (u < f.greatest + 1) × Descends f v u
         by_kind False is h = absurd h
         by_kind Leaf is h = absurd h
         by_kind (And a b) is h =
@@ -203,7 +203,7 @@ module _ (f : File) (nodes : List AigNode) (are : AreNodesOf f nodes) where
     pub level_right : (levels : List ℕ) (k : ℕ) → ((w j : ℕ) → level_at levels w ≡ Some j → level_of f w ≡ Some j) → IsLevelBy levels kind k → level_of f v ≡ Some k
     level_right levels k right is = by_kind kind is_kind is
       where
-        by_kind : (kind : AigNodeType) → kind_from f.gates v ≡ kind → IsLevelBy levels kind k → level_of f v ≡ Some k
+        by_kind : (kind : AigNodeType) → kind_among f.gates v ≡ kind → IsLevelBy levels kind k → level_of f v ≡ Some k
         by_kind False is h = leaf_level f nodes are v (inl is) ∙ ap Some (sym h)
         by_kind Leaf is h = leaf_level f nodes are v (inr is) ∙ ap Some (sym h)
         by_kind (And a b) is h =

@@ -20,7 +20,7 @@ use Rattle.aig_format.proofs.Entries.{rec_parts, rec_unmap, rec_weaker}
 use Rattle.aig_format.proofs.Searches.{find_some, find_none}
 use Rattle.aig_format.proofs.Members.{length-numbers}
 use Rattle.aig_format.proofs.Levels.{level_of-gate, level_of-leaf, level_of-operands, levelled}
-use Rattle.aig_ordering.specs.Lists.{edge_from, kind_by, kind_from, node_from, nodes_in_row, nodes_of}
+use Rattle.aig_ordering.specs.Lists.{edge_from, kind_of_line, kind_among, node_from, nodes_in_row, nodes_of}
 use Rattle.aig_ordering.specs.Tables.{AreNodesOf, HasOperands, all_have_levels, told}
 use Rattle.aig_ordering.specs.Search.{Descends}
 
@@ -61,8 +61,8 @@ get_at_row gates (suc n) w zero h = let e : w ≡ w + 0 = omega arith in ap (λ 
 get_at_row gates (suc n) w (suc i) h = let e : w + 1 + i ≡ w + suc i = omega arith in get_at_row gates n (w + 1) i (omega arith) ∙ ap (λ v. Some (node_from gates v)) e
 
 -- what a variable is
-pub kind_at-variable : (greatest v : ℕ) (gates : List GateLine) → v ≤ greatest → kind_at (nodes_of greatest gates) v ≡ Some (kind_from gates v)
-kind_at-variable greatest v gates h = let e : 0 + v ≡ v = omega arith in ap (λ (o : Option AigNode). option_map (λ (node : AigNode). node.typ) o) (get_at_row gates (greatest + 1) 0 v (omega arith)) ∙ ap (λ u. Some (kind_from gates u)) e
+pub kind_at-variable : (greatest v : ℕ) (gates : List GateLine) → v ≤ greatest → kind_at (nodes_of greatest gates) v ≡ Some (kind_among gates v)
+kind_at-variable greatest v gates h = let e : 0 + v ≡ v = omega arith in ap (λ (o : Option AigNode). option_map (λ (node : AigNode). node.typ) o) (get_at_row gates (greatest + 1) 0 v (omega arith)) ∙ ap (λ u. Some (kind_among gates u)) e
 
 -- ---- gates
 
@@ -79,10 +79,10 @@ and_parts_of p q a b is = by_test (nat_lt (literal_of q) (literal_of p)) is
     by_test true is = inr (cc, cc)
     by_test false is = inl (cc, cc)
 
-pub gate_at : (f : File) (v : ℕ) (a b : AigEdge) → kind_from f.gates v ≡ And a b → GateAt f v a b
+pub gate_at : (f : File) (v : ℕ) (a b : AigEdge) → kind_among f.gates v ≡ And a b → GateAt f v a b
 gate_at f v a b is = by_zero (v == 0) is
   where
-    by_gate : (o : Option GateLine) → gate_of_variable f v ≡ o → kind_by o ≡ And a b → GateAt f v a b
+    by_gate : (o : Option GateLine) → gate_of_variable f v ≡ o → kind_of_line o ≡ And a b → GateAt f v a b
     by_gate None none is = absurd cc
     by_gate (Some g) found is =
         let node = λ (e : AigEdge). e.node_id in
@@ -92,7 +92,7 @@ gate_at f v a b is = by_zero (v == 0) is
           operands = elim (and_parts_of (edge_from g.rhs0) (edge_from g.rhs1) a b is) [ inl p ↦ inl (ap node p.0, ap node p.1) | inr p ↦ inr (ap node p.0, ap node p.1) ];
         }
 
-    by_zero : (t : Bool) → cond t False (kind_by (gate_of_variable f v)) ≡ And a b → GateAt f v a b
+    by_zero : (t : Bool) → cond t False (kind_of_line (gate_of_variable f v)) ≡ And a b → GateAt f v a b
     by_zero true is = absurd cc
     by_zero false is = by_gate (gate_of_variable f v) refl is
 
@@ -127,12 +127,12 @@ module _ (f : File) (nodes : List AigNode) (are : AreNodesOf f nodes) where
       (rec_unmap (IsDefinable f.greatest) (λ (g : GateLine). g.lhs) f.gates (rec_parts (IsDefinable f.greatest) literals (map (λ (g : GateLine). g.lhs) f.gates) are.definable).1))
 
   -- a variable that is no gate has level 0
-  pub leaf_level : (v : ℕ) → (kind_from f.gates v ≡ False) ⊎ (kind_from f.gates v ≡ Leaf) → level_of f v ≡ Some 0
+  pub leaf_level : (v : ℕ) → (kind_among f.gates v ≡ False) ⊎ (kind_among f.gates v ≡ Leaf) → level_of f v ≡ Some 0
   leaf_level v is = by_zero (v == 0) refl
     where
       by_gate : (v == 0) ≡ false → (o : Option GateLine) → gate_of_variable f v ≡ o → level_of f v ≡ Some 0
       by_gate some None none = level_of-leaf f v none
-      by_gate some (Some g) found = absurd (no_and (edge_from g.rhs0) (edge_from g.rhs1) (kind_from f.gates v) (sym (ap (λ b. cond b False (kind_by (gate_of_variable f v))) some ∙ ap kind_by found)) is)
+      by_gate some (Some g) found = absurd (no_and (edge_from g.rhs0) (edge_from g.rhs1) (kind_among f.gates v) (sym (ap (λ b. cond b False (kind_of_line (gate_of_variable f v))) some ∙ ap kind_of_line found)) is)
 
       by_zero : (t : Bool) → (v == 0) ≡ t → level_of f v ≡ Some 0
       by_zero true nought = level_of-leaf f v (ap (gate_of_variable f) (eqb-true v 0 nought) ∙ no_gate_of_zero)

@@ -9,13 +9,13 @@ use Rattle.aig_ordering.specs.declared.gates.Operands.{Operands}
 use Rattle.aig_ordering.specs.Lists.{edge_from}
 
 -- what a variable is: with a gate the and of its operands, put in order; else 0 is false, and any other a leaf
-abbrev pub kind_in : ℕ → Option Operands → AigNodeType
-kind_in v (Some gate) = and_of (edge_from gate.first) (edge_from gate.second)
-kind_in v None = if v == 0 then False else Leaf
+abbrev pub kind_of_operands : ℕ → Option Operands → AigNodeType
+kind_of_operands v (Some gate) = and_of (edge_from gate.first) (edge_from gate.second)
+kind_of_operands v None = if v == 0 then False else Leaf
 
 -- the node of a variable, which has its number
 abbrev pub node_in : ℕ → Option Operands → AigNode
-node_in v gate = record { node_id = v; typ = kind_in v gate }
+node_in v gate = record { node_id = v; typ = kind_of_operands v gate }
 
 -- the nodes of variables in a row, from v on
 abbrev pub nodes_in_from : ℕ → List (Option Operands) → List AigNode

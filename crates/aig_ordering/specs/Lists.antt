@@ -26,17 +26,17 @@ abbrev pub latch_from : LatchLine → AigLatch
 latch_from l = record { input = l.literal / 2; next = edge_from l.next; init = initial_of l }
 
 -- a gate is the and of its operands, put in order; a variable that no gate defines is a leaf
-abbrev pub kind_by : Option GateLine → AigNodeType
-kind_by (Some g) = and_of (edge_from g.rhs0) (edge_from g.rhs1)
-kind_by None = Leaf
+abbrev pub kind_of_line : Option GateLine → AigNodeType
+kind_of_line (Some g) = and_of (edge_from g.rhs0) (edge_from g.rhs1)
+kind_of_line None = Leaf
 
 -- what a variable is, where these gates are defined
-abbrev pub kind_from : List GateLine → ℕ → AigNodeType
-kind_from gates v = if v == 0 then False else kind_by (gate_among gates v)
+abbrev pub kind_among : List GateLine → ℕ → AigNodeType
+kind_among gates v = if v == 0 then False else kind_of_line (gate_among gates v)
 
 -- the node of a variable, which has its number
 abbrev pub node_from : List GateLine → ℕ → AigNode
-node_from gates v = record { node_id = v; typ = kind_from gates v }
+node_from gates v = record { node_id = v; typ = kind_among gates v }
 
 -- the nodes of n variables in a row, from v on
 abbrev pub nodes_in_row : List GateLine → ℕ → ℕ → List AigNode

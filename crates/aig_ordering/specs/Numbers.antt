@@ -35,10 +35,10 @@ abbrev pub latch_by : (ℕ → Option ℕ) → AigLatch → Option AigLatch
 latch_by number l = option_and_then (λ n. option_map (λ e. record { input = n; next = e; init = l.init }) (edge_by number l.next)) (number l.input)
 
 -- the kind with a gate's operands under their numbers, put in order again
-abbrev pub kind_by : (ℕ → Option ℕ) → AigNodeType → Option AigNodeType
-kind_by number (And a b) = option_and_then (λ c. option_map (and_of c) (edge_by number b)) (edge_by number a)
-kind_by number Leaf = Some Leaf
-kind_by number False = Some False
+abbrev pub kind_by_numbers : (ℕ → Option ℕ) → AigNodeType → Option AigNodeType
+kind_by_numbers number (And a b) = option_and_then (λ c. option_map (and_of c) (edge_by number b)) (edge_by number a)
+kind_by_numbers number Leaf = Some Leaf
+kind_by_numbers number False = Some False
 
 -- a node of this number and kind; false has the number 0
 abbrev pub node_of : ℕ → AigNodeType → AigNode

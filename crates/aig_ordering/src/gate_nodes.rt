@@ -1,8 +1,8 @@
 //! The nodes of gates in the order of their variables.
 
 ghost use Rattle.std.specs.Prelude.{◌≡◌, [], ◌∷◌, ◌++◌, option_map, vec_len};
-ghost use Rattle.aig_ordering.specs.Gates.{kind_in, nodes_in};
-ghost use Rattle.aig_ordering.specs.Numbers.{MakesAll, all_by, kind_by, node_of, number_at, numbered};
+ghost use Rattle.aig_ordering.specs.Gates.{kind_of_operands, nodes_in};
+ghost use Rattle.aig_ordering.specs.Numbers.{MakesAll, all_by, kind_by_numbers, node_of, number_at, numbered};
 
 use crate::error::OrderError;
 use crate::gates::{Operands, edge_of};
@@ -18,7 +18,7 @@ fn push_node(
 ) -> Result<(), OrderError>
     ensures { MakesAll (λ _. new.new.items)
         (option_map (λ kind. new.old.items ++ node_of (vec_len new.old) kind ∷ [])
-        (kind_by (number_at numbers.now) (kind_in (vec_len new.old) gate))) result }
+        (kind_by_numbers (number_at numbers.now) (kind_of_operands (vec_len new.old) gate))) result }
 {
     match gate {
         Some(operands) => {
@@ -44,7 +44,7 @@ pub fn nodes(
 ) -> Result<Vec<AigNode>, OrderError>
     ensures { MakesAll (λ new. new.items)
         (option_map (numbered 0)
-        (all_by (λ node. kind_by (number_at numbers.now) node.typ) (nodes_in gates.now))) result }
+        (all_by (λ node. kind_by_numbers (number_at numbers.now) node.typ) (nodes_in gates.now))) result }
 {
     let mut new = Vec::with_capacity(alloc, gates.len())?;
     for gate in gates {

@@ -32,9 +32,9 @@ use Rattle.aig_format.proofs.Searches.{find_some}
 use Rattle.aig_parsing.proofs.Guards.{Decides-list_all}
 use Rattle.aig_ordering.specs.Lists as lists
 use Rattle.aig_format.specs.Circuit as of_file
-use Rattle.aig_ordering.specs.Lists.{edge_from, kind_from, latch_from, nodes_of, variable_of}
+use Rattle.aig_ordering.specs.Lists.{edge_from, kind_among, latch_from, nodes_of, variable_of}
 use Rattle.aig_ordering.specs.Tables.{told}
-use Rattle.aig_ordering.specs.Numbers.{all_by, edge_by, kind_by, latch_by, node_of, number_at, number_in, numbered}
+use Rattle.aig_ordering.specs.Numbers.{all_by, edge_by, kind_by_numbers, latch_by, node_of, number_at, number_in, numbered}
 use Rattle.aig_ordering.proofs.Tables.{kind_at-variable}
 use Rattle.aig_reader.specs.Numbered.{AreNumbersOf, have_operands, knows}
 use Rattle.aig_reader.specs.Sections.{HasGoodLines}
@@ -186,7 +186,7 @@ module _ (f : File) (table : List ℕ) (are : AreNumbersOf f table) where
 
   -- ---- nodes
 
-  pair_is : (x y : ℕ) → kind_by number (And (edge_from x) (edge_from y)) ≡ cond (knows_one x && knows_one y) (Some (and_of (edge_of f x) (edge_of f y))) None
+  pair_is : (x y : ℕ) → kind_by_numbers number (And (edge_from x) (edge_from y)) ≡ cond (knows_one x && knows_one y) (Some (and_of (edge_of f x) (edge_of f y))) None
   pair_is x y =
       ap (λ (o : Option AigEdge). option_and_then (λ c. option_map (and_of c) (edge_by number (edge_from y))) o) (edge_is x)
       ∙ ap (λ (o : Option AigEdge). option_and_then (λ c. option_map (and_of c) o) (cond (knows_one x) (Some (edge_of f x)) None)) (edge_is y) ∙ by_tests (knows_one x) (knows_one y)
@@ -206,11 +206,11 @@ module _ (f : File) (table : List ℕ) (are : AreNumbersOf f table) where
   and_swap false false = refl
 
   -- a gate under the numbers of its operands
-  gate_is : (g : GateLine) → kind_by number (and_of (edge_from g.rhs0) (edge_from g.rhs1)) ≡ cond (gate_known g) (Some (and_of (edge_of f g.rhs0) (edge_of f g.rhs1))) None
+  gate_is : (g : GateLine) → kind_by_numbers number (and_of (edge_from g.rhs0) (edge_from g.rhs1)) ≡ cond (gate_known g) (Some (and_of (edge_of f g.rhs0) (edge_of f g.rhs1))) None
   gate_is g = elim (and_of-cases (edge_from g.rhs0) (edge_from g.rhs1)) [
-    | inl c ↦ ap (kind_by number) c.0 ∙ pair_is g.rhs1 g.rhs0 ∙ ap (λ b. cond b (Some (and_of (edge_of f g.rhs1) (edge_of f g.rhs0))) None) (and_swap (knows_one g.rhs1) (knows_one g.rhs0))
+    | inl c ↦ ap (kind_by_numbers number) c.0 ∙ pair_is g.rhs1 g.rhs0 ∙ ap (λ b. cond b (Some (and_of (edge_of f g.rhs1) (edge_of f g.rhs0))) None) (and_swap (knows_one g.rhs1) (knows_one g.rhs0))
         ∙ ap (λ (k : AigNodeType). cond (gate_known g) (Some k) None) (and_of-turned (edge_of f g.rhs1) (edge_of f g.rhs0))
-    | inr c ↦ ap (kind_by number) c.0 ∙ pair_is g.rhs0 g.rhs1
+    | inr c ↦ ap (kind_by_numbers number) c.0 ∙ pair_is g.rhs0 g.rhs1
   ]
 
   -- whether the operands of a variable's gate have numbers
@@ -221,14 +221,14 @@ module _ (f : File) (table : List ℕ) (are : AreNumbersOf f table) where
   abbrev kind_known : ℕ → Bool
   kind_known v = cond (v == 0) true (known_by (gate_of_variable f v))
 
-  kind_is : (v : ℕ) → kind_by number (kind_from f.gates v) ≡ cond (kind_known v) (Some (kind_of f v)) None
+  kind_is : (v : ℕ) → kind_by_numbers number (kind_among f.gates v) ≡ cond (kind_known v) (Some (kind_of f v)) None
   kind_is v = by_zero (v == 0)
     where
-      by_gate : (o : Option GateLine) → kind_by number (lists.kind_by o) ≡ cond (known_by o) (Some (of_file.kind_by f o)) None
+      by_gate : (o : Option GateLine) → kind_by_numbers number (lists.kind_of_line o) ≡ cond (known_by o) (Some (of_file.kind_by f o)) None
       by_gate None = refl
       by_gate (Some g) = gate_is g
 
-      by_zero : (b : Bool) → kind_by number (cond b False (lists.kind_by (gate_of_variable f v))) ≡ cond (cond b true (known_by (gate_of_variable f v))) (Some (cond b False (of_file.kind_by f (gate_of_variable f v)))) None
+      by_zero : (b : Bool) → kind_by_numbers number (cond b False (lists.kind_of_line (gate_of_variable f v))) ≡ cond (cond b true (known_by (gate_of_variable f v))) (Some (cond b False (of_file.kind_by f (gate_of_variable f v)))) None
       by_zero true = refl
       by_zero false = by_gate (gate_of_variable f v)
 
@@ -311,7 +311,7 @@ module _ (f : File) (table : List ℕ) (are : AreNumbersOf f table) where
 
     -- the nodes of the order
     pub nodes_are : (old : List AigNode) → old ≡ nodes_of f.greatest f.gates
-        → option_map (numbered 0) (all_by (λ v. option_and_then (kind_by number) (kind_at old v)) in_order) ≡ cond (have_operands f) (Some (circuit_of f).nodes) None
+        → option_map (numbered 0) (all_by (λ v. option_and_then (kind_by_numbers number) (kind_at old v)) in_order) ≡ cond (have_operands f) (Some (circuit_of f).nodes) None
     nodes_are old placed =
         ap (λ (vs : List ℕ). option_map (numbered 0) (all_by image vs)) (sym (map_id in_order))
         ∙ ap (λ (o : Option (List AigNodeType)). option_map (numbered 0) o)
@@ -320,12 +320,12 @@ module _ (f : File) (table : List ℕ) (are : AreNumbersOf f table) where
         ∙ by_test (have_operands f)
       where
         image : ℕ → Option AigNodeType
-        image v = option_and_then (kind_by number) (kind_at old v)
+        image v = option_and_then (kind_by_numbers number) (kind_at old v)
 
         at_known : (v : ℕ) → is_known f v ≡ true → image v ≡ cond (kind_known v) (Some (kind_of f v)) None
         at_known v known =
-            ap (λ (ns : List AigNode). option_and_then (kind_by number) (kind_at ns v)) placed
-            ∙ ap (λ (o : Option AigNodeType). option_and_then (kind_by number) o) (kind_at-variable f.greatest v f.gates (within f good well_founded levels v known)) ∙ kind_is v
+            ap (λ (ns : List AigNode). option_and_then (kind_by_numbers number) (kind_at ns v)) placed
+            ∙ ap (λ (o : Option AigNodeType). option_and_then (kind_by_numbers number) o) (kind_at-variable f.greatest v f.gates (within f good well_founded levels v known)) ∙ kind_is v
 
         all_nodes : numbered 0 (map (kind_of f) in_order) ≡ (circuit_of f).nodes
         all_nodes =

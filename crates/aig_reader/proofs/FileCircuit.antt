@@ -25,7 +25,7 @@ use Rattle.aig_format.proofs.Entries.{rec_both, rec_flat_map, rec_parts, rec_unm
 use Rattle.aig_format.proofs.Numbers.{number_of-compact, number_of-zero, order-compact}
 use Rattle.aig_format.proofs.Compact.{compact-told}
 use Rattle.aig_format.proofs.Searches.{find_some}
-use Rattle.aig_ordering.specs.Lists.{edge_from, kind_by, kind_from, latch_from, nodes_in_row, nodes_of, variable_of}
+use Rattle.aig_ordering.specs.Lists.{edge_from, kind_of_line, kind_among, latch_from, nodes_in_row, nodes_of, variable_of}
 use Rattle.aig_reader.specs.Names.{kept_name, kept_names}
 use Rattle.aig_reader.specs.declared.sections.Sections.{Sections}
 use Rattle.aig_reader.specs.Numbered.{IsCircuitOf}
@@ -96,10 +96,10 @@ module _ (f : File) (good : HasGoodLines f) (compact : is_compact f ≡ true) wh
       let both = (find_some (λ (g : GateLine). AllByRecursion IsWithin (g.rhs0 ∷ g.rhs1 ∷ [])) (λ (g : GateLine). g.lhs / 2 == v) f.gates g operands found).1 in
       (both.0, both.1.0)
 
-  kind_is : (v : ℕ) → kind_from f.gates v ≡ kind_of f v
+  kind_is : (v : ℕ) → kind_among f.gates v ≡ kind_of f v
   kind_is v = ap (λ (k : AigNodeType). cond (v == 0) False k) (by_gate (gate_of_variable f v) refl)
     where
-      by_gate : (o : Option GateLine) → gate_of_variable f v ≡ o → kind_by o ≡ of_file.kind_by f o
+      by_gate : (o : Option GateLine) → gate_of_variable f v ≡ o → kind_of_line o ≡ of_file.kind_by f o
       by_gate None is = refl
       by_gate (Some g) is = let p = operands_within v g is in ap (λ e. and_of e (edge_from g.rhs1)) (edge_is g.rhs0 p.0) ∙ ap (and_of (edge_of f g.rhs0)) (edge_is g.rhs1 p.1)
 

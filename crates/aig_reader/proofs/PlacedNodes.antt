@@ -11,7 +11,7 @@ use Rattle.aig_circuit.specs.Node.{and_of}
 use Rattle.aig_format.specs.File.{GateLine}
 use Rattle.aig_format.proofs.Entries.{rec_append, rec_unmap, rec_weaker}
 use Rattle.aig_format.proofs.Searches.{find_none}
-use Rattle.aig_ordering.specs.Lists.{edge_from, kind_by, kind_from, node_from, nodes_in_row, nodes_of}
+use Rattle.aig_ordering.specs.Lists.{edge_from, kind_of_line, kind_among, node_from, nodes_in_row, nodes_of}
 use Rattle.aig_reader.specs.Gates.{AreFirstNodes, gate_node_of, literals_of}
 use Rattle.aig_reader.specs.Variables.{IsNewAmong}
 
@@ -42,8 +42,8 @@ none_at gates e h =
     (rec_weaker (λ (g : GateLine). g.lhs / 2 ≢ e / 2) (λ g. is_at (e / 2) g ≡ false) (λ g ne. ne_eqb (g.lhs / 2) (e / 2) ne) gates (rec_unmap (λ d. d / 2 ≢ e / 2) (λ (g : GateLine). g.lhs) gates h))
 
 module _ (gates : List GateLine) (g : GateLine) where
-  same_kind : (n : ℕ) → g.lhs / 2 ≢ n → kind_from (gates ++ g ∷ []) n ≡ kind_from gates n
-  same_kind n ne = ap (λ (o : Option GateLine). cond (eqb n 0) False (kind_by o)) (find_other gates g n (ne_eqb (g.lhs / 2) n ne))
+  same_kind : (n : ℕ) → g.lhs / 2 ≢ n → kind_among (gates ++ g ∷ []) n ≡ kind_among gates n
+  same_kind n ne = ap (λ (o : Option GateLine). cond (eqb n 0) False (kind_of_line o)) (find_other gates g n (ne_eqb (g.lhs / 2) n ne))
 
   -- nodes before that of the gate stay
   same_before : (n v : ℕ) → v + n ≤ g.lhs / 2 → nodes_in_row (gates ++ g ∷ []) n v ≡ nodes_in_row gates n v
@@ -60,7 +60,7 @@ module _ (gates : List GateLine) (g : GateLine) where
       rw (same_kind v ne, same_behind n (v + 1) (omega arith)) refl
 
   -- from a number on, the new gate takes its place
-  sets_gate : (n v k : ℕ) → k < n → v + k ≡ g.lhs / 2 → kind_from (gates ++ g ∷ []) (g.lhs / 2) ≡ and_of (edge_from g.rhs0) (edge_from g.rhs1)
+  sets_gate : (n v k : ℕ) → k < n → v + k ≡ g.lhs / 2 → kind_among (gates ++ g ∷ []) (g.lhs / 2) ≡ and_of (edge_from g.rhs0) (edge_from g.rhs1)
       → set (nodes_in_row gates n v) k (gate_node_of g) ≡ nodes_in_row (gates ++ g ∷ []) n v
   sets_gate zero v k lt at is = absurd (omega arith)
   sets_gate (suc n) v zero lt at is =
@@ -96,7 +96,7 @@ first_leaf gates nodes node h is =
     let some : n ≢ 0 = let s = h.some in omega arith in
     let none : find (is_at n) gates ≡ None =
     find_none (is_at n) gates (rec_weaker (λ (g : GateLine). g.lhs / 2 < n) (λ g. is_at n g ≡ false) (λ g lt. let ne : g.lhs / 2 ≢ n = omega arith in ne_eqb (g.lhs / 2) n ne) gates h.within) in
-    let kind : kind_from gates n ≡ Leaf = rw (ne_eqb n 0 some, none) refl in
+    let kind : kind_among gates n ≡ Leaf = rw (ne_eqb n 0 some, none) refl in
     record {
       some = omega (arith, size);
       placed = placed_push gates nodes node h.placed (is ∙ ap (λ (k : AigNodeType). record { node_id = n; typ = k }) (sym kind));
@@ -105,7 +105,7 @@ first_leaf gates nodes node h is =
 
 -- a gate whose variable is new after them, or in the place of a leaf
 module _ (gates : List GateLine) (nodes : List AigNode) (g : GateLine) (h : AreFirstNodes gates nodes) (own : 2 ≤ g.lhs) (new : IsNewAmong (literals_of gates) g.lhs) where
-  kind_here : kind_from (gates ++ g ∷ []) (g.lhs / 2) ≡ and_of (edge_from g.rhs0) (edge_from g.rhs1)
+  kind_here : kind_among (gates ++ g ∷ []) (g.lhs / 2) ≡ and_of (edge_from g.rhs0) (edge_from g.rhs1)
   kind_here =
       let found = find_new gates g (g.lhs / 2) (none_at gates g.lhs new) (eq-eqb (g.lhs / 2) (g.lhs / 2) refl) in
       let positive : g.lhs / 2 ≢ 0 = omega arith in

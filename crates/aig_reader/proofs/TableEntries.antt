@@ -16,9 +16,9 @@ use Rattle.aig_format.specs.Numbering.{numbers_from}
 use Rattle.aig_format.specs.Variables.{gate_among}
 use Rattle.aig_format.proofs.Searches.{find_some}
 use Rattle.aig_ordering.specs.declared.gates.Operands.{Operands}
-use Rattle.aig_ordering.specs.Gates.{kind_in, node_in, nodes_in, nodes_in_from}
+use Rattle.aig_ordering.specs.Gates.{kind_of_operands, node_in, nodes_in, nodes_in_from}
 use Rattle.aig_ordering.proofs.NodesIn.{length-nodes_in}
-use Rattle.aig_ordering.specs.Lists.{edge_from, kind_by, kind_from, node_from, nodes_in_row}
+use Rattle.aig_ordering.specs.Lists.{edge_from, kind_of_line, kind_among, node_from, nodes_in_row}
 use Rattle.aig_reader.specs.declared.gate_store.InOrder.{InOrder}
 use Rattle.aig_reader.specs.Gates.{AreFirstNodes, AreInOrder, HasWords, gate_in, line_of, literals_of}
 use Rattle.aig_reader.specs.Variables.{IsNewAmong}
@@ -35,20 +35,20 @@ literal-back e = by_test (e % 2 == 1) refl
     by_test false even = let other = eqb-false (e % 2) 1 even in omega arith
 
 -- the kind of a gate, from its operands
-gate-back : (v a b : ℕ) → kind_in v (gate_in (and_of (edge_from a) (edge_from b))) ≡ and_of (edge_from a) (edge_from b)
+gate-back : (v a b : ℕ) → kind_of_operands v (gate_in (and_of (edge_from a) (edge_from b))) ≡ and_of (edge_from a) (edge_from b)
 gate-back v a b = elim (and_of-cases (edge_from a) (edge_from b)) [
   | inl c ↦ rw (c.0, literal-back a, literal-back b) (and_of-turned (edge_from b) (edge_from a) ∙ c.0)
   | inr c ↦ rw (c.0, literal-back a, literal-back b) c.0
 ]
 
-node-back : (gates : List GateLine) (v : ℕ) → node_in v (gate_in (kind_from gates v)) ≡ node_from gates v
+node-back : (gates : List GateLine) (v : ℕ) → node_in v (gate_in (kind_among gates v)) ≡ node_from gates v
 node-back gates v = ap (λ (kind : AigNodeType). let node : AigNode = record { node_id = v; typ = kind } in node) (by_zero (v == 0) refl)
   where
-    by_gate : (v == 0) ≡ false → (o : Option GateLine) → kind_in v (gate_in (kind_by o)) ≡ kind_by o
+    by_gate : (v == 0) ≡ false → (o : Option GateLine) → kind_of_operands v (gate_in (kind_of_line o)) ≡ kind_of_line o
     by_gate some None = rw some refl
     by_gate some (Some g) = gate-back v g.rhs0 g.rhs1
 
-    by_zero : (t : Bool) → (v == 0) ≡ t → kind_in v (gate_in (cond t False (kind_by (gate_among gates v)))) ≡ cond t False (kind_by (gate_among gates v))
+    by_zero : (t : Bool) → (v == 0) ≡ t → kind_of_operands v (gate_in (cond t False (kind_of_line (gate_among gates v)))) ≡ cond t False (kind_of_line (gate_among gates v))
     by_zero true nought = rw nought refl
     by_zero false some = by_gate some (gate_among gates v)
 
@@ -70,11 +70,11 @@ small_gate a b first second = elim (and_of-cases (edge_from a) (edge_from b)) [
 small_node : (gates : List GateLine) → AllByRecursion HasWords gates → (v : ℕ) → HasSmall (node_from gates v)
 small_node gates words v = by_zero (v == 0)
   where
-    by_gate : (o : Option GateLine) → gate_among gates v ≡ o → IfAnd (kind_by o) (λ id. id < 2 ^ 31)
+    by_gate : (o : Option GateLine) → gate_among gates v ≡ o → IfAnd (kind_of_line o) (λ id. id < 2 ^ 31)
     by_gate None is = tt
     by_gate (Some g) is = let w = (find_some HasWords (λ (h : GateLine). h.lhs / 2 == v) gates g words is).1 in small_gate g.rhs0 g.rhs1 w.0 w.1
 
-    by_zero : (t : Bool) → IfAnd (cond t False (kind_by (gate_among gates v))) (λ id. id < 2 ^ 31)
+    by_zero : (t : Bool) → IfAnd (cond t False (kind_of_line (gate_among gates v))) (λ id. id < 2 ^ 31)
     by_zero true = tt
     by_zero false = by_gate (gate_among gates v) refl
 
