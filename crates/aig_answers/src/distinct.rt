@@ -1,7 +1,7 @@
 //! Clauses that tell states apart.
 
 ghost use Rattle.std.specs.Prelude.{◌≡◌, ◌+◌, ◌*◌, ◌<◌, ◌≤◌, ◌^◌, ◌++◌, ◌∷◌, [], All, OnOk, false, length, replicate};
-ghost use Rattle.aig_base.specs.Clauses.{lit_to, number_of};
+ghost use Rattle.aig_base.specs.Clauses.{lit_to, var_number};
 ghost use Rattle.aig_circuit.specs.Edge.{inverse, lit_of};
 ghost use Rattle.aig_certify.specs.WindowClauses.{apart_clauses, count_pairs, distinct_clauses, pair_clauses};
 
@@ -31,8 +31,8 @@ fn push_difference(
     requires x { x.node_id < 2 ^ 31 }
     requires y { y.node_id < 2 ^ 31 }
     ensures { OnOk result (further.new ≡ further.old
-        ++ (lit_to (number_of var) false ∷ lit_of x ∷ lit_of y ∷ [])
-        ∷ (lit_to (number_of var) false ∷ lit_of (inverse x) ∷ lit_of (inverse y) ∷ []) ∷ []) }
+        ++ (lit_to (var_number var) false ∷ lit_of x ∷ lit_of y ∷ [])
+        ∷ (lit_to (var_number var) false ∷ lit_of (inverse x) ∷ lit_of (inverse y) ∷ []) ∷ []) }
 {
     let other_x = !x;
     let other_y = !y;

@@ -10,8 +10,8 @@ abbrev pub var_of : ℕ → Var
 var_of n = n
 
 -- a variable's number
-abbrev pub number_of : Var → ℕ
-number_of var = var
+abbrev pub var_number : Var → ℕ
+var_number var = var
 
 -- the literal of variable n, inverted where the polarity is false
 abbrev pub lit_to : ℕ → Bool → Lit

@@ -22,7 +22,7 @@ use Rattle.aig_format.specs.File.{File, LatchLine}
 use Rattle.aig_format.specs.Fits.{Fits}
 use Rattle.aig_format.specs.Machine.{IsRun, literal_value}
 use Rattle.aig_format.specs.Circuit.{circuit_of, edge_of, latch_of}
-use Rattle.aig_format.specs.Numbering.{number_of}
+use Rattle.aig_format.specs.Numbering.{node_of_variable}
 use Rattle.aig_format.specs.Variables.{IsKnown}
 use Rattle.aig_format.proofs.Circuits.{IsCircuit-of_file, used_by_section}
 use Rattle.aig_format.proofs.Entries.{rec_append, rec_weaker}
@@ -124,7 +124,7 @@ module _ (f : File) (limit last : ℕ) (outputs : List AigEdge) (u : Circuit) (l
       let leaf_of = λ (latch : AigLatch). latch.input in
       let by_node = λ (t n : ℕ). at t (to_leaf n) in
       let by_latch = λ (t : ℕ) (latch : AigLatch). at t (to_leaf latch.input) in
-      let old = λ (t : ℕ) (l : LatchLine). at t (to_leaf (number_of f (l.literal / 2))) in
+      let old = λ (t : ℕ) (l : LatchLine). at t (to_leaf (node_of_variable f (l.literal / 2))) in
       let first = λ (t : ℕ) (l : LatchLine). run t (l.literal / 2) in
       let Keep = Keeps last old first (edge_in v) in
       let Known = λ (l : LatchLine). IsKnown f l.literal in

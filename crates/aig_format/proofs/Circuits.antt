@@ -15,13 +15,13 @@ use Rattle.aig_circuit.specs.Edge.{edge_to}
 use Rattle.aig_circuit.specs.Circuit.{IsInRange, IsLeaf, IsLatch, IsCircuit, latch_leaves}
 use Rattle.aig_format.specs.File.{LatchLine, GateLine, NameLine, File, defined, used}
 use Rattle.aig_format.specs.Variables.{is_defined, IsKnown, gate_of_variable}
-use Rattle.aig_format.specs.Numbering.{number_of}
+use Rattle.aig_format.specs.Numbering.{node_of_variable}
 use Rattle.aig_format.specs.Fits.{Fits, IsDefinable, IsNameOf}
 use Rattle.aig_format.specs.Circuit.{edge_of, kind_of, kind_by, initial_of, latch_of, named_node, circuit_of}
 use Rattle.aig_format.proofs.Entries.{rec_map, rec_weaker, rec_both, rec_parts, rec_unmap}
 use Rattle.aig_format.proofs.Searches.{find_none}
 use Rattle.aig_format.proofs.Members.{rec_at}
-use Rattle.aig_format.proofs.Numbers.{half_differs, number_of-one}
+use Rattle.aig_format.proofs.Numbers.{half_differs, node_of_variable-one}
 use Rattle.aig_format.proofs.Nodes.{nodes_of, length-nodes, kind_at-number, AreNodes-of_file, HasNode, known_has_node, used_have_nodes}
 
 -- ---- lists
@@ -99,7 +99,7 @@ leaf_literals f = f.inputs ++ map (λ (l : LatchLine). l.literal) f.latches
 
 -- the numbers of the literals' variables
 abbrev pub numbers : File → List ℕ → List ℕ
-numbers f = map (λ e. number_of f (e / 2))
+numbers f = map (λ e. node_of_variable f (e / 2))
 
 definable_and_known : (f : File) (limit : ℕ) → Fits f limit → AllByRecursion (λ e. IsDefinable f.greatest e × IsKnown f e) (leaf_literals f)
 definable_and_known f limit fits =
@@ -113,7 +113,7 @@ are_leaf_literals f limit fits =
     (definable_and_known f limit fits) (differ_from (leaf_literals f) lefts fits.distinct).0
 
 -- the variable of such a literal is a leaf
-leaf_there : (f : File) (limit : ℕ) → Fits f limit → (e : ℕ) → IsLeafLiteral f e → IsLeaf (nodes_of f) (number_of f (e / 2))
+leaf_there : (f : File) (limit : ℕ) → Fits f limit → (e : ℕ) → IsLeafLiteral f e → IsLeaf (nodes_of f) (node_of_variable f (e / 2))
 leaf_there f limit fits e h =
     let low = h.0.0.1 in
     kind_at-number f limit fits (e / 2) h.0.1 ∙ ap Some (kind_missed f (e / 2) (omega arith) (leaf_missed f limit fits e h.0.0.0 h.1))
@@ -124,16 +124,16 @@ distinct_front [] ys d = tt
 distinct_front (x ∷ xs) ys d = ((rec_parts (λ y. nat_eq x y ≡ false) xs ys d.0).0, distinct_front xs ys d.1)
 
 -- distinct literals have distinct numbers
-number_differs : (f : File) (limit : ℕ) → Fits f limit → (x y : ℕ) → IsKnown f x → x % 2 ≡ 0 → y % 2 ≡ 0 → nat_eq x y ≡ false → nat_eq (number_of f (x / 2)) (number_of f (y / 2)) ≡ false
+number_differs : (f : File) (limit : ℕ) → Fits f limit → (x y : ℕ) → IsKnown f x → x % 2 ≡ 0 → y % 2 ≡ 0 → nat_eq x y ≡ false → nat_eq (node_of_variable f (x / 2)) (node_of_variable f (y / 2)) ≡ false
 number_differs f limit fits x y known even0 even1 differs =
-    ne_eqb (number_of f (x / 2)) (number_of f (y / 2)) (λ same. eqb-false (x / 2) (y / 2) (half_differs x y even0 even1 differs) (number_of-one f limit fits (x / 2) (y / 2) known same))
+    ne_eqb (node_of_variable f (x / 2)) (node_of_variable f (y / 2)) (λ same. eqb-false (x / 2) (y / 2) (half_differs x y even0 even1 differs) (node_of_variable-one f limit fits (x / 2) (y / 2) known same))
 
 numbers_distinct : (f : File) (limit : ℕ) → Fits f limit → (xs : List ℕ) → AllByRecursion (λ e. IsDefinable f.greatest e × IsKnown f e) xs → IsDistinct nat_eq xs → IsDistinct nat_eq (numbers f xs)
 unfolding IsDistinct
 numbers_distinct f limit fits [] all d = tt
 numbers_distinct f limit fits (x ∷ xs) all d = (
-  (rec_map (λ y. nat_eq (number_of f (x / 2)) y ≡ false) (λ e. number_of f (e / 2)) xs).1
-      (rec_weaker (λ e. (IsDefinable f.greatest e × IsKnown f e) × (nat_eq x e ≡ false)) (λ (e : ℕ). nat_eq (number_of f (x / 2)) (number_of f (e / 2)) ≡ false)
+  (rec_map (λ y. nat_eq (node_of_variable f (x / 2)) y ≡ false) (λ e. node_of_variable f (e / 2)) xs).1
+      (rec_weaker (λ e. (IsDefinable f.greatest e × IsKnown f e) × (nat_eq x e ≡ false)) (λ (e : ℕ). nat_eq (node_of_variable f (x / 2)) (node_of_variable f (e / 2)) ≡ false)
       (λ e h. number_differs f limit fits x e all.0.1 all.0.0.0 h.0.0.0 h.1) xs
       (rec_both (λ e. IsDefinable f.greatest e × IsKnown f e) (λ e. nat_eq x e ≡ false) xs all.1 d.0)),
   numbers_distinct f limit fits xs all.1 d.1,
@@ -142,7 +142,7 @@ numbers_distinct f limit fits (x ∷ xs) all d = (
 -- the numbers of inputs and of latches are distinct, and differ from one another
 pub leaves_distinct : (f : File) (limit : ℕ) → Fits f limit → IsDistinct nat_eq (numbers f f.inputs ++ numbers f (map (λ (l : LatchLine). l.literal) f.latches))
 leaves_distinct f limit fits =
-    subst (IsDistinct nat_eq) (map-append (λ e. number_of f (e / 2)) f.inputs (map (λ (l : LatchLine). l.literal) f.latches))
+    subst (IsDistinct nat_eq) (map-append (λ e. node_of_variable f (e / 2)) f.inputs (map (λ (l : LatchLine). l.literal) f.latches))
     (numbers_distinct f limit fits (leaf_literals f) (definable_and_known f limit fits) (distinct_front (leaf_literals f) (map (λ (g : GateLine). g.lhs) f.gates) fits.distinct))
 
 pub distinct_pairs : (xs : List ℕ) → IsDistinct nat_eq xs → AllPairs (λ x y. x ≢ y) xs
@@ -228,11 +228,11 @@ named_there f limit fits n h = by_letter (n.letter == 105) (n.letter == 108) _ h
     literals = map (λ (l : LatchLine). l.literal) f.latches
 
     -- the literal at a place of the inputs or of the latches has a node
-    at_place : (es : List ℕ) → n.position < length es → AllByRecursion (IsLeafLiteral f) es → number_of f (slice_index es n.position / 2) < length (nodes_of f)
+    at_place : (es : List ℕ) → n.position < length es → AllByRecursion (IsLeafLiteral f) es → node_of_variable f (slice_index es n.position / 2) < length (nodes_of f)
     at_place es low all = known_has_node f limit fits (slice_index es n.position) (rec_at (IsLeafLiteral f) es n.position low all).0.1
 
     by_letter : (i l : Bool) (others : ℕ) → n.position < cond i (length f.inputs) (cond l (length f.latches) others)
-        → IfSome (cond i (Some (number_of f (slice_index f.inputs n.position / 2), n.name)) (cond l (Some (number_of f (slice_index literals n.position / 2), n.name)) None)) (λ (e : ℕ × List ℕ). e.0 < length (nodes_of f))
+        → IfSome (cond i (Some (node_of_variable f (slice_index f.inputs n.position / 2), n.name)) (cond l (Some (node_of_variable f (slice_index literals n.position / 2), n.name)) None)) (λ (e : ℕ × List ℕ). e.0 < length (nodes_of f))
     by_letter true l others low = at_place f.inputs low (rec_parts (IsLeafLiteral f) f.inputs literals (are_leaf_literals f limit fits)).0
     by_letter false true others low = at_place literals (rw length-map low) (rec_parts (IsLeafLiteral f) f.inputs literals (are_leaf_literals f limit fits)).1
     by_letter false false others low = tt
@@ -253,7 +253,7 @@ files_named f limit fits n has =
 
 pub leaves_of_latches : (f : File) (latches : List LatchLine) → latch_leaves (map (latch_of f) latches) ≡ numbers f (map (λ (l : LatchLine). l.literal) latches)
 leaves_of_latches f [] = refl
-leaves_of_latches f (l ∷ latches) = ap (λ (ns : List ℕ). number_of f (l.literal / 2) ∷ ns) (leaves_of_latches f latches)
+leaves_of_latches f (l ∷ latches) = ap (λ (ns : List ℕ). node_of_variable f (l.literal / 2) ∷ ns) (leaves_of_latches f latches)
 
 pub IsCircuit-of_file : (f : File) (limit : ℕ) → Fits f limit → IsCircuit (circuit_of f)
 IsCircuit-of_file f limit fits =
@@ -262,8 +262,8 @@ IsCircuit-of_file f limit fits =
     let distinct = leaves_distinct f limit fits in
     let sections = used_there f limit fits in
     let inputs : All (IsLeaf (nodes_of f)) (numbers f f.inputs) =
-    All-map (IsLeaf (nodes_of f)) (λ e. number_of f (e / 2)) f.inputs (All-from_recursion (λ e. IsLeaf (nodes_of f) (number_of f (e / 2))) f.inputs
-    (rec_weaker (IsLeafLiteral f) (λ e. IsLeaf (nodes_of f) (number_of f (e / 2))) (leaf_there f limit fits) f.inputs leaf.0)) in
+    All-map (IsLeaf (nodes_of f)) (λ e. node_of_variable f (e / 2)) f.inputs (All-from_recursion (λ e. IsLeaf (nodes_of f) (node_of_variable f (e / 2))) f.inputs
+    (rec_weaker (IsLeafLiteral f) (λ e. IsLeaf (nodes_of f) (node_of_variable f (e / 2))) (leaf_there f limit fits) f.inputs leaf.0)) in
     let latch_leaves_are = leaves_of_latches f f.latches in
     record {
       nodes = AreNodes-of_file f limit fits;

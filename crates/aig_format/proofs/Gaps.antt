@@ -8,7 +8,7 @@ use Rattle.aig_format.specs.declared.FileKind.TheVariants.{Text, Binary}
 use Rattle.aig_format.specs.File.{LatchLine, GateLine, File, HeaderNumbers}
 use Rattle.aig_format.specs.Written.{file_text, line_text}
 use Rattle.aig_format.specs.Levels.{level_of}
-use Rattle.aig_format.specs.Numbering.{is_compact, number_of, variables_in_order}
+use Rattle.aig_format.specs.Numbering.{is_compact, node_of_variable, variables_in_order}
 use Rattle.aig_format.specs.Fits.{Fits, HasEnough}
 use Rattle.aig_format.specs.Circuit.{circuit_of, file_of}
 use Rattle.aig_format.proofs.Examples.{and_file}
@@ -40,7 +40,7 @@ printed f = file_text (record (file_of Text (circuit_of f)) { names = [] })
 
 -- what the rows compute by
 steps : Unit {0}
-unfolding file_text line_text digits number_of variables_in_order
+unfolding file_text line_text digits node_of_variable variables_in_order
 steps = tt
 
 -- ---- files that are printed by level
@@ -197,11 +197,11 @@ late-order = refl
 abbrev pub in_binary : File
 in_binary = record and_file { kind = Binary }
 
-in_binary-numbers : map (number_of in_binary) (0 ∷ 1 ∷ 2 ∷ 3 ∷ []) ≡ 0 ∷ 1 ∷ 2 ∷ 3 ∷ []
+in_binary-numbers : map (node_of_variable in_binary) (0 ∷ 1 ∷ 2 ∷ 3 ∷ []) ≡ 0 ∷ 1 ∷ 2 ∷ 3 ∷ []
 unfolding steps
 in_binary-numbers = refl
 
-and_file-numbers : map (number_of and_file) (0 ∷ 1 ∷ 2 ∷ 3 ∷ []) ≡ 0 ∷ 1 ∷ 2 ∷ 3 ∷ []
+and_file-numbers : map (node_of_variable and_file) (0 ∷ 1 ∷ 2 ∷ 3 ∷ []) ≡ 0 ∷ 1 ∷ 2 ∷ 3 ∷ []
 unfolding steps
 and_file-numbers = refl
 

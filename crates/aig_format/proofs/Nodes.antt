@@ -16,12 +16,12 @@ use Rattle.aig_circuit.specs.Renumber.{place_of}
 use Rattle.aig_circuit.proofs.Trees.{kind_at-within}
 use Rattle.aig_format.specs.File.{GateLine, File, used}
 use Rattle.aig_format.specs.Variables.{is_known, IsKnown, gate_of_variable}
-use Rattle.aig_format.specs.Numbering.{variables_in_order, number_of}
+use Rattle.aig_format.specs.Numbering.{variables_in_order, node_of_variable}
 use Rattle.aig_format.specs.Fits.{Fits}
 use Rattle.aig_format.specs.Circuit.{edge_of, kind_by, kind_of, nodes_from, circuit_of}
 use Rattle.aig_format.proofs.Entries.{rec_weaker}
 use Rattle.aig_format.proofs.Members.{has}
-use Rattle.aig_format.proofs.Numbers.{few_numbered, known_numbered, number_of-place, number_of-within, number_of-zero, operands_before, used_known, variable_of}
+use Rattle.aig_format.proofs.Numbers.{few_numbered, known_numbered, node_of_variable-place, node_of_variable-within, node_of_variable-zero, operands_before, used_known, variable_of}
 
 -- the nodes of the file's circuit
 abbrev pub nodes_of : File → List AigNode
@@ -59,14 +59,14 @@ numbered_from f i (v ∷ vs) (suc n) node is = omega (arith, numbered_from f (i 
 -- ---- the nodes of a file
 
 -- the node of what is 0 or defined is what the variable is
-pub kind_at-number : (f : File) (limit : ℕ) → Fits f limit → (v : ℕ) → is_known f v ≡ true → kind_at (nodes_of f) (number_of f v) ≡ Some (kind_of f v)
-kind_at-number f limit fits v known = ap (kind_at (nodes_of f)) (number_of-place f v) ∙ kind_at-place f 0 (0 ∷ variables_in_order f) v (known_numbered f limit fits v known)
+pub kind_at-number : (f : File) (limit : ℕ) → Fits f limit → (v : ℕ) → is_known f v ≡ true → kind_at (nodes_of f) (node_of_variable f v) ≡ Some (kind_of f v)
+kind_at-number f limit fits v known = ap (kind_at (nodes_of f)) (node_of_variable-place f v) ∙ kind_at-place f 0 (0 ∷ variables_in_order f) v (known_numbered f limit fits v known)
 
 -- the variable that a node is of, with its kind
 pub record StandsFor (f : File) (n : ℕ) (k : AigNodeType) : Type 0 where
   pub variable : ℕ
   pub known : is_known f variable ≡ true
-  pub is : number_of f variable ≡ n
+  pub is : node_of_variable f variable ≡ n
   pub kind : kind_of f variable ≡ k
 
 -- every node is that of 0 or of one defined variable, and is what this is
@@ -96,12 +96,12 @@ variable_case f v = by_test f v (v == 0) refl
 ordered_by : (p q a b : AigEdge) (n : ℕ) → and_of p q ≡ And a b → p.node_id < n → q.node_id < n → (a.node_id < n) × (b.node_id < n) × (literal_of a ≤ literal_of b)
 ordered_by p q a b n is hp hq = grind (arith, nat_tests)
 
-case_ordered : (f : File) (limit : ℕ) → Fits f limit → (v : ℕ) (a b : AigEdge) → kind_of f v ≡ And a b → VariableCase f v → (a.node_id < number_of f v) × (b.node_id < number_of f v) × (literal_of a ≤ literal_of b)
+case_ordered : (f : File) (limit : ℕ) → Fits f limit → (v : ℕ) (a b : AigEdge) → kind_of f v ≡ And a b → VariableCase f v → (a.node_id < node_of_variable f v) × (b.node_id < node_of_variable f v) × (literal_of a ≤ literal_of b)
 case_ordered f limit fits v a b is (at_zero z k) = cc
 case_ordered f limit fits v a b is (at_leaf z k) = cc
 case_ordered f limit fits v a b is (at_gate g found k) =
     let s = operands_before f limit fits v g found in
-    ordered_by (edge_of f g.rhs0) (edge_of f g.rhs1) a b (number_of f v) (sym k ∙ is) s.0 s.1
+    ordered_by (edge_of f g.rhs0) (edge_of f g.rhs1) a b (node_of_variable f v) (sym k ∙ is) s.0 s.1
 
 node_ordered : (f : File) (limit : ℕ) → Fits f limit → (n : ℕ) (a b : AigEdge) → kind_at (nodes_of f) n ≡ Some (And a b) → (a.node_id < n) × (b.node_id < n) × (literal_of a ≤ literal_of b)
 node_ordered f limit fits n a b is =
@@ -130,7 +130,7 @@ false_first : (f : File) (limit : ℕ) → Fits f limit → (n : ℕ) → kind_a
 false_first f limit fits n is =
     let s = stands_for f limit fits n False is in
     let z = false_at_zero f s.variable s.kind (variable_case f s.variable) in
-    sym s.is ∙ ap (number_of f) z ∙ number_of-zero f
+    sym s.is ∙ ap (node_of_variable f) z ∙ node_of_variable-zero f
 
 -- the nodes of a file that fits are a circuit's
 pub AreNodes-of_file : (f : File) (limit : ℕ) → Fits f limit → AreNodes (nodes_of f)
@@ -145,10 +145,10 @@ AreNodes-of_file f limit fits = record {
 
 -- a literal that a file uses has a node
 abbrev pub HasNode : File → ℕ → Type 0
-HasNode f e = number_of f (e / 2) < length (nodes_of f)
+HasNode f e = node_of_variable f (e / 2) < length (nodes_of f)
 
 pub known_has_node : (f : File) (limit : ℕ) → Fits f limit → (e : ℕ) → IsKnown f e → HasNode f e
-known_has_node f limit fits e known = omega (arith, length-nodes f, number_of-within f limit fits (e / 2) known)
+known_has_node f limit fits e known = omega (arith, length-nodes f, node_of_variable-within f limit fits (e / 2) known)
 
 pub used_have_nodes : (f : File) (limit : ℕ) → Fits f limit → AllByRecursion (HasNode f) (used f)
 used_have_nodes f limit fits = rec_weaker (IsKnown f) (HasNode f) (known_has_node f limit fits) (used f) (used_known f limit fits)

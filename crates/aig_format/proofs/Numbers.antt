@@ -10,7 +10,7 @@ use Rattle.aig_circuit.specs.Renumber.{place_of}
 use Rattle.aig_format.specs.File.{LatchLine, GateLine, File, defined, used}
 use Rattle.aig_format.specs.Variables.{is_defined, is_known, IsKnown, gate_of_variable}
 use Rattle.aig_format.specs.Levels.{level_of}
-use Rattle.aig_format.specs.Numbering.{is_compact, numbers_from, variables_by_level, variables_in_order, number_of}
+use Rattle.aig_format.specs.Numbering.{is_compact, numbers_from, variables_by_level, variables_in_order, node_of_variable}
 use Rattle.aig_format.specs.declared.FileKind.TheVariants.{Text, Binary}
 use Rattle.aig_format.specs.Fits.{IsDefinable, IsOrdered, Fits, IsWellFounded, IsCompact}
 use Rattle.aig_format.proofs.Entries.{rec_both, rec_map, rec_parts, rec_weaker}
@@ -22,13 +22,13 @@ use Rattle.aig_format.proofs.Orders.{defined-by_level, distinct-by_level, has-by
 
 -- ---- the order
 
-pub number_of-place : (f : File) (v : ℕ) → number_of f v ≡ place_of (0 ∷ variables_in_order f) v
-unfolding number_of
-number_of-place f v = refl
+pub node_of_variable-place : (f : File) (v : ℕ) → node_of_variable f v ≡ place_of (0 ∷ variables_in_order f) v
+unfolding node_of_variable
+node_of_variable-place f v = refl
 
-pub number_of-zero : (f : File) → number_of f 0 ≡ 0
-unfolding number_of
-number_of-zero f = refl
+pub node_of_variable-zero : (f : File) → node_of_variable f 0 ≡ 0
+unfolding node_of_variable
+node_of_variable-zero f = refl
 
 -- in a compact file
 pub order-compact : (f : File) → is_compact f ≡ true → variables_in_order f ≡ numbers_from (length (defined f)) 1
@@ -44,15 +44,15 @@ order-well_founded f well_founded = cond-false (is_compact f) (numbers_from (len
 past_zero : (xs : List ℕ) (v : ℕ) → 1 ≤ v → place_of (0 ∷ xs) v ≡ place_of xs v + 1
 past_zero xs v h = let differs : eqb 0 v ≡ false = ne_eqb 0 v (λ e. omega (arith, e)) in ap (λ b. cond b 0 (place_of xs v + 1)) differs
 
-number_of-some : (f : File) (v : ℕ) → 1 ≤ v → number_of f v ≡ place_of (variables_in_order f) v + 1
-number_of-some f v h = number_of-place f v ∙ past_zero (variables_in_order f) v h
+node_of_variable-some : (f : File) (v : ℕ) → 1 ≤ v → node_of_variable f v ≡ place_of (variables_in_order f) v + 1
+node_of_variable-some f v h = node_of_variable-place f v ∙ past_zero (variables_in_order f) v h
 
 -- in a compact file a variable is its own number
-pub number_of-compact : (f : File) → is_compact f ≡ true → (v : ℕ) → v ≤ f.greatest → number_of f v ≡ v
-number_of-compact f compact zero h = number_of-zero f
-number_of-compact f compact (suc v) h =
+pub node_of_variable-compact : (f : File) → is_compact f ≡ true → (v : ℕ) → v ≤ f.greatest → node_of_variable f v ≡ v
+node_of_variable-compact f compact zero h = node_of_variable-zero f
+node_of_variable-compact f compact (suc v) h =
     let m = (compact-told f compact).exact in
-    number_of-some f (suc v) (omega arith) ∙ ap (λ xs. place_of xs (suc v) + 1) (order-compact f compact) ∙ place_of-numbers (length (defined f)) 1 (suc v) (omega arith) (omega arith)
+    node_of_variable-some f (suc v) (omega arith) ∙ ap (λ xs. place_of xs (suc v) + 1) (order-compact f compact) ∙ place_of-numbers (length (defined f)) 1 (suc v) (omega arith) (omega arith)
 
 -- each variable in the order is from 1 on
 order-some : (f : File) → AllByRecursion (λ v. 1 ≤ v) (variables_in_order f)
@@ -210,29 +210,29 @@ known_numbered f limit fits (suc v) known =
     ap (λ b. b || has (variables_in_order f) (suc v)) other ∙ defined_numbered f limit fits (suc v) (ap (λ b. b || is_defined f (suc v)) (sym same) ∙ known)
 
 -- the number of what is 0 or defined is within the count of nodes
-pub number_of-within : (f : File) (limit : ℕ) → Fits f limit → (v : ℕ) → is_known f v ≡ true → number_of f v < length (variables_in_order f) + 1
-number_of-within f limit fits v known = omega (arith, number_of-place f v, place_of-within (0 ∷ variables_in_order f) v (known_numbered f limit fits v known))
+pub node_of_variable-within : (f : File) (limit : ℕ) → Fits f limit → (v : ℕ) → is_known f v ≡ true → node_of_variable f v < length (variables_in_order f) + 1
+node_of_variable-within f limit fits v known = omega (arith, node_of_variable-place f v, place_of-within (0 ∷ variables_in_order f) v (known_numbered f limit fits v known))
 
 -- what is 0 or defined has a number of its own
-pub number_of-one : (f : File) (limit : ℕ) → Fits f limit → (u v : ℕ) → is_known f u ≡ true → number_of f u ≡ number_of f v → u ≡ v
-number_of-one f limit fits u v known same =
-    place_of-one (0 ∷ variables_in_order f) u v (known_numbered f limit fits u known) (sym (number_of-place f u) ∙ same ∙ number_of-place f v)
+pub node_of_variable-one : (f : File) (limit : ℕ) → Fits f limit → (u v : ℕ) → is_known f u ≡ true → node_of_variable f u ≡ node_of_variable f v → u ≡ v
+node_of_variable-one f limit fits u v known same =
+    place_of-one (0 ∷ variables_in_order f) u v (known_numbered f limit fits u known) (sym (node_of_variable-place f u) ∙ same ∙ node_of_variable-place f v)
 
 -- the variable of a number
 pub record NumberOf (f : File) (n : ℕ) : Type 0 where
   pub variable : ℕ
   pub known : is_known f variable ≡ true
-  pub is : number_of f variable ≡ n
+  pub is : node_of_variable f variable ≡ n
 
 -- every number within the count of nodes is that of 0 or of one defined variable
 pub variable_of : (f : File) (limit : ℕ) → Fits f limit → (n : ℕ) → n < length (variables_in_order f) + 1 → NumberOf f n
-variable_of f limit fits zero h = record { variable = 0; known = refl; is = number_of-zero f }
+variable_of f limit fits zero h = record { variable = 0; known = refl; is = node_of_variable-zero f }
 variable_of f limit fits (suc n) h =
     let v = slice_index (variables_in_order f) n in
     record {
       variable = v;
       known = or_right (v == 0) (is_defined f v) (rec_at (λ v. is_defined f v ≡ true) (variables_in_order f) n (omega arith) (order_defined f limit fits));
-      is = number_of-place f v ∙ place_of-index (0 ∷ variables_in_order f) (suc n) (order-distinct f) (omega arith);
+      is = node_of_variable-place f v ∙ place_of-index (0 ∷ variables_in_order f) (suc n) (order-distinct f) (omega arith);
     }
 
 -- no more variables are numbered than the greatest
@@ -249,10 +249,10 @@ few_numbered f limit fits =
 pub variable_at : File → ℕ → ℕ
 variable_at f n = slice_index (0 ∷ variables_in_order f) n
 
-pub variable_at-number : (f : File) (limit : ℕ) → Fits f limit → (v : ℕ) → is_known f v ≡ true → variable_at f (number_of f v) ≡ v
+pub variable_at-number : (f : File) (limit : ℕ) → Fits f limit → (v : ℕ) → is_known f v ≡ true → variable_at f (node_of_variable f v) ≡ v
 unfolding variable_at
 variable_at-number f limit fits v known =
-    ap (slice_index (0 ∷ variables_in_order f)) (number_of-place f v) ∙ index-place_of (0 ∷ variables_in_order f) v (known_numbered f limit fits v known)
+    ap (slice_index (0 ∷ variables_in_order f)) (node_of_variable-place f v) ∙ index-place_of (0 ∷ variables_in_order f) v (known_numbered f limit fits v known)
 
 -- ---- gates
 
@@ -295,50 +295,50 @@ operands_known f limit fits v g found =
     (find_some (λ (g : GateLine). IsKnown f g.rhs0 × IsKnown f g.rhs1) (λ h. h.lhs / 2 == v) f.gates g (used_operands (IsKnown f) f (used_known f limit fits)) found).1
 
 -- of two variables that are 0 or defined, the one of the lesser level has the smaller number
-pub number_of-by_level : (f : File) (limit : ℕ) → Fits f limit → is_compact f ≡ false → (u v j k : ℕ) → is_known f u ≡ true → 1 ≤ v → level_of f u ≡ Some j → level_of f v ≡ Some k → j < k → number_of f u < number_of f v
-number_of-by_level f limit fits is zero v j k known one ju kv less = omega (arith, number_of-zero f, number_of-some f v one)
-number_of-by_level f limit fits is (suc u) v j k known one ju kv less =
+pub node_of_variable-by_level : (f : File) (limit : ℕ) → Fits f limit → is_compact f ≡ false → (u v j k : ℕ) → is_known f u ≡ true → 1 ≤ v → level_of f u ≡ Some j → level_of f v ≡ Some k → j < k → node_of_variable f u < node_of_variable f v
+node_of_variable-by_level f limit fits is zero v j k known one ju kv less = omega (arith, node_of_variable-zero f, node_of_variable-some f v one)
+node_of_variable-by_level f limit fits is (suc u) v j k known one ju kv less =
     let same : eqb (suc u) 0 ≡ false = ne_eqb (suc u) 0 (λ e. omega (arith, e)) in
     let there : is_defined f (suc u) ≡ true = ap (λ b. b || is_defined f (suc u)) (sym same) ∙ known in
     let bounds = defined_within f limit fits (suc u) there in
     let before = place_of-by_level f (suc u) v j k there bounds.0 bounds.1 ju kv less in
     let in_order = subst (λ xs. place_of xs (suc u) < place_of xs v) (sym (order-well_founded f is)) before in
-    omega (arith, number_of-some f (suc u) (omega arith), number_of-some f v one, in_order)
+    omega (arith, node_of_variable-some f (suc u) (omega arith), node_of_variable-some f v one, in_order)
 
 -- an operand's number is smaller than its gate's
-pub operands_before : (f : File) (limit : ℕ) → Fits f limit → (v : ℕ) (g : GateLine) → gate_of_variable f v ≡ Some g → (number_of f (g.rhs0 / 2) < number_of f v) × (number_of f (g.rhs1 / 2) < number_of f v)
+pub operands_before : (f : File) (limit : ℕ) → Fits f limit → (v : ℕ) (g : GateLine) → gate_of_variable f v ≡ Some g → (node_of_variable f (g.rhs0 / 2) < node_of_variable f v) × (node_of_variable f (g.rhs1 / 2) < node_of_variable f v)
 operands_before f limit fits v g found = by_test (is_compact f) refl
   where
     bounds : (1 ≤ v) × (v ≤ f.greatest)
     bounds = defined_within f limit fits v (gate-defined f v g found)
 
-    by_test : (b : Bool) → is_compact f ≡ b → (number_of f (g.rhs0 / 2) < number_of f v) × (number_of f (g.rhs1 / 2) < number_of f v)
+    by_test : (b : Bool) → is_compact f ≡ b → (node_of_variable f (g.rhs0 / 2) < node_of_variable f v) × (node_of_variable f (g.rhs1 / 2) < node_of_variable f v)
     by_test true is =
         let s = find_some IsOrdered (λ h. h.lhs / 2 == v) f.gates g (compact-told f is).ordered found in
         let e = eqb-true (g.lhs / 2) v s.0 in
-        let own = number_of-compact f is v bounds.1 in
+        let own = node_of_variable-compact f is v bounds.1 in
         let less0 : g.rhs0 / 2 < v = subst (λ m. g.rhs0 / 2 < m) e s.1.0 in
         let less1 : g.rhs1 / 2 < v = subst (λ m. g.rhs1 / 2 < m) e s.1.1 in
-        let first = number_of-compact f is (g.rhs0 / 2) (omega (arith, bounds.1, less0)) in
-        let second = number_of-compact f is (g.rhs1 / 2) (omega (arith, bounds.1, less1)) in
+        let first = node_of_variable-compact f is (g.rhs0 / 2) (omega (arith, bounds.1, less0)) in
+        let second = node_of_variable-compact f is (g.rhs1 / 2) (omega (arith, bounds.1, less1)) in
         (omega (arith, own, first, less0), omega (arith, own, second, less1))
     by_test false is =
         let level = levelled f (well_founded_only f is fits.rules).levels v in
         let s = level_of-gate f v level.0 g found level.1 in
         let known = operands_known f limit fits v g found in
         let above = s.above in (
-          number_of-by_level f limit fits is (g.rhs0 / 2) v s.first level.0 known.0 bounds.0 s.first_is level.1 (omega arith),
-          number_of-by_level f limit fits is (g.rhs1 / 2) v s.second level.0 known.1 bounds.0 s.second_is level.1 (omega arith),
+          node_of_variable-by_level f limit fits is (g.rhs0 / 2) v s.first level.0 known.0 bounds.0 s.first_is level.1 (omega arith),
+          node_of_variable-by_level f limit fits is (g.rhs1 / 2) v s.second level.0 known.1 bounds.0 s.second_is level.1 (omega arith),
         )
 
 -- within a level the smaller variable has the smaller number
-pub number_of-in_level : (f : File) (limit : ℕ) → Fits f limit → is_compact f ≡ false → (u v k : ℕ) → is_defined f u ≡ true → is_defined f v ≡ true → level_of f u ≡ Some k → level_of f v ≡ Some k → u < v → number_of f u < number_of f v
-number_of-in_level f limit fits is u v k first second ku kv less =
+pub node_of_variable-in_level : (f : File) (limit : ℕ) → Fits f limit → is_compact f ≡ false → (u v k : ℕ) → is_defined f u ≡ true → is_defined f v ≡ true → level_of f u ≡ Some k → level_of f v ≡ Some k → u < v → node_of_variable f u < node_of_variable f v
+node_of_variable-in_level f limit fits is u v k first second ku kv less =
     let low = (defined_within f limit fits u first).0 in
     let high = (defined_within f limit fits v second).1 in
     let before = place_of-in_level f u v k first second low less high ku kv in
     let in_order = subst (λ xs. place_of xs u < place_of xs v) (sym (order-well_founded f is)) before in
-    omega (arith, number_of-some f u low, number_of-some f v (omega arith), in_order)
+    omega (arith, node_of_variable-some f u low, node_of_variable-some f v (omega arith), in_order)
 
 -- ---- the rules by kind
 

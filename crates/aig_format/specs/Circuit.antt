@@ -18,7 +18,7 @@ use Rattle.aig_format.specs.declared.FileKind.TheVariants.{Text, Binary}
 use Rattle.aig_format.specs.File.{LatchLine, GateLine, NameLine, File}
 use Rattle.aig_format.specs.Letters.{letter_of_inputs, letter_of_latches}
 use Rattle.aig_format.specs.Variables.{gate_of_variable}
-use Rattle.aig_format.specs.Numbering.{number_of, variables_in_order}
+use Rattle.aig_format.specs.Numbering.{node_of_variable, variables_in_order}
 use Rattle.aig_format.specs.Fits.{Accepts}
 use Rattle.aig_format.specs.Written.{file_text}
 
@@ -26,7 +26,7 @@ use Rattle.aig_format.specs.Written.{file_text}
 
 -- a literal's edge: to its variable's node, inverted where it is odd
 abbrev pub edge_of : File → ℕ → AigEdge
-edge_of f e = edge_to (number_of f (e / 2)) (e % 2 == 1)
+edge_of f e = edge_to (node_of_variable f (e / 2)) (e % 2 == 1)
 
 -- a gate is the and of its operands, put in order; a variable that no gate defines is a leaf
 abbrev pub kind_by : File → Option GateLine → AigNodeType
@@ -48,19 +48,19 @@ initial_of l = let r = unwrap_or l.reset 0 in if nat_lt r 2 then Some (edge_to 0
 
 -- the latch of a line
 abbrev pub latch_of : File → LatchLine → AigLatch
-latch_of f l = record { input = number_of f (l.literal / 2); next = edge_of f l.next; init = initial_of l }
+latch_of f l = record { input = node_of_variable f (l.literal / 2); next = edge_of f l.next; init = initial_of l }
 
 -- the node that a name of an input or a latch names; other names are dropped
 abbrev pub named_node : File → NameLine → Option (ℕ × List ℕ)
 named_node f n =
-    let node_at = λ (literals : List ℕ). Some (number_of f (slice_index literals n.position / 2), n.name) in
+    let node_at = λ (literals : List ℕ). Some (node_of_variable f (slice_index literals n.position / 2), n.name) in
     if n.letter == letter_of_inputs then node_at f.inputs else if n.letter == letter_of_latches then node_at (map (λ l. l.literal) f.latches) else None
 
 -- the circuit of a file: false, then a node for each variable that is defined, in their order; lists keep the file's order
 abbrev pub circuit_of : File → Circuit
 circuit_of f = record {
   nodes = nodes_from f 0 (0 ∷ variables_in_order f);
-  inputs = map (λ e. number_of f (e / 2)) f.inputs;
+  inputs = map (λ e. node_of_variable f (e / 2)) f.inputs;
   latchs = map (latch_of f) f.latches;
   outputs = map (edge_of f) f.outputs;
   bads = map (edge_of f) f.bads;

@@ -47,5 +47,5 @@ unfoldable pub variables_in_order : File → List ℕ
 variables_in_order f = if is_compact f then numbers_from (length (defined f)) 1 else variables_by_level f
 
 -- the node of a variable: 0 is 0, and the others are numbered from 1 on
-unfoldable pub number_of : File → ℕ → ℕ
-number_of f v = place_of (0 ∷ variables_in_order f) v
+unfoldable pub node_of_variable : File → ℕ → ℕ
+node_of_variable f v = place_of (0 ∷ variables_in_order f) v

@@ -6,10 +6,10 @@ use Rattle.aig_circuit.specs.declared.edge.AigEdge.{AigEdge}
 use Rattle.aig_circuit.specs.declared.node.AigLatch.{AigLatch}
 use Rattle.aig_circuit.specs.Edge.{edge_to, literal_of}
 use Rattle.aig_format.specs.File.{File}
-use Rattle.aig_format.specs.Numbering.{is_compact, number_of}
+use Rattle.aig_format.specs.Numbering.{is_compact, node_of_variable}
 use Rattle.aig_format.specs.Circuit.{edge_of, initial_of, latch_line, latch_of}
 use Rattle.aig_circuit.specs.Edges.{HasPlainInit}
-use Rattle.aig_format.proofs.Numbers.{number_of-compact}
+use Rattle.aig_format.proofs.Numbers.{node_of_variable-compact}
 
 -- the edge of an edge's literal
 edge_literal : (e : AigEdge) → edge_to (literal_of e / 2) (literal_of e % 2 == 1) ≡ e
@@ -42,11 +42,11 @@ module _ (f : File) (compact : is_compact f ≡ true) where
   abbrev pub IsWithin : AigEdge → Type 0
   IsWithin e = e.node_id ≤ f.greatest
 
-  pub number_again : (n : ℕ) → n ≤ f.greatest → number_of f (2 * n / 2) ≡ n
-  number_again n h = let half : 2 * n / 2 ≡ n = omega arith in ap (number_of f) half ∙ number_of-compact f compact n h
+  pub number_again : (n : ℕ) → n ≤ f.greatest → node_of_variable f (2 * n / 2) ≡ n
+  number_again n h = let half : 2 * n / 2 ≡ n = omega arith in ap (node_of_variable f) half ∙ node_of_variable-compact f compact n h
 
   pub edge_again : (e : AigEdge) → IsWithin e → edge_of f (literal_of e) ≡ e
-  edge_again e h = ap (λ n. edge_to n (literal_of e % 2 == 1)) (number_of-compact f compact (literal_of e / 2) (omega (arith, h, literal_half e))) ∙ edge_literal e
+  edge_again e h = ap (λ n. edge_to n (literal_of e % 2 == 1)) (node_of_variable-compact f compact (literal_of e / 2) (omega (arith, h, literal_half e))) ∙ edge_literal e
 
   pub edges_again : (es : List AigEdge) → AllByRecursion IsWithin es → map (edge_of f) (map literal_of es) ≡ es
   edges_again [] all = refl
@@ -56,7 +56,7 @@ module _ (f : File) (compact : is_compact f ≡ true) where
   sets_again [] all = refl
   sets_again (es ∷ sets) all = rw (edges_again es all.0, sets_again sets all.1) refl
 
-  pub inputs_again : (ns : List ℕ) → AllByRecursion (λ n. n ≤ f.greatest) ns → map (λ e. number_of f (e / 2)) (map (λ n. 2 * n) ns) ≡ ns
+  pub inputs_again : (ns : List ℕ) → AllByRecursion (λ n. n ≤ f.greatest) ns → map (λ e. node_of_variable f (e / 2)) (map (λ n. 2 * n) ns) ≡ ns
   inputs_again [] all = refl
   inputs_again (n ∷ ns) all = rw (number_again n all.0, inputs_again ns all.1) refl
 

@@ -14,7 +14,7 @@ use Rattle.aig_circuit.specs.Reencode.{reencoded}
 use Rattle.aig_format.specs.declared.FileKind.{FileKind}
 use Rattle.aig_format.specs.declared.FileKind.TheVariants.{Text, Binary}
 use Rattle.aig_format.specs.File.{LatchLine, File}
-use Rattle.aig_format.specs.Numbering.{number_of, variables_in_order}
+use Rattle.aig_format.specs.Numbering.{node_of_variable, variables_in_order}
 use Rattle.aig_format.specs.Written.{file_text, line_text, delta_of}
 use Rattle.aig_format.proofs.Examples.{and_file}
 use Rattle.aig_format.specs.Circuit.{circuit_of, file_of}
@@ -24,21 +24,21 @@ node n kind = record { node_id = n; typ = kind }
 
 -- and(1,2): false, two leaves, the gate with its operands in order
 and_file-nodes : (circuit_of and_file).nodes ≡ node 0 False ∷ node 1 Leaf ∷ node 2 Leaf ∷ node 3 (And (edge_to 1 false) (edge_to 2 false)) ∷ []
-unfolding number_of variables_in_order
+unfolding node_of_variable variables_in_order
 and_file-nodes = refl
 
 and_file-outputs : (circuit_of and_file).outputs ≡ edge_to 3 false ∷ []
-unfolding number_of variables_in_order
+unfolding node_of_variable variables_in_order
 and_file-outputs = refl
 
 -- its text form is the same file, names aside
 and_file-file : record (file_of Text (circuit_of and_file)) { names = [] } ≡ and_file
-unfolding number_of variables_in_order
+unfolding node_of_variable variables_in_order
 and_file-file = refl
 
 -- the operands in the other order give the same circuit
 and_file-turned : circuit_of (record and_file { gates = record { lhs = 6; rhs0 = 2; rhs1 = 4 } ∷ [] }) ≡ circuit_of and_file
-unfolding number_of variables_in_order
+unfolding node_of_variable variables_in_order
 and_file-turned = refl
 
 -- latch 1 with next !1, output 1, and this reset
@@ -46,19 +46,19 @@ abbrev pub latch_file : LatchLine → File
 latch_file l = record { kind = Text; greatest = 1; inputs = []; latches = l ∷ []; outputs = 2 ∷ []; gates = []; bads = []; constraints = []; justice = []; fairness = []; names = [] }
 
 latch_file-false : (circuit_of (latch_file (record { literal = 2; next = 3; reset = None }))).latchs ≡ record { input = 1; next = edge_to 1 true; init = Some (edge_to 0 false) } ∷ []
-unfolding number_of variables_in_order
+unfolding node_of_variable variables_in_order
 latch_file-false = refl
 
 latch_file-true : (circuit_of (latch_file (record { literal = 2; next = 3; reset = Some 1 }))).latchs ≡ record { input = 1; next = edge_to 1 true; init = Some (edge_to 0 true) } ∷ []
-unfolding number_of variables_in_order
+unfolding node_of_variable variables_in_order
 latch_file-true = refl
 
 latch_file-none : (circuit_of (latch_file (record { literal = 2; next = 3; reset = Some 2 }))).latchs ≡ record { input = 1; next = edge_to 1 true; init = None } ∷ []
-unfolding number_of variables_in_order
+unfolding node_of_variable variables_in_order
 latch_file-none = refl
 
 latch_file-files : record (file_of Text (circuit_of (latch_file (record { literal = 2; next = 3; reset = Some 2 })))) { names = [] } ≡ latch_file (record { literal = 2; next = 3; reset = Some 2 })
-unfolding number_of variables_in_order
+unfolding node_of_variable variables_in_order
 latch_file-files = refl
 
 -- latch 2 with next true, gate and(1,2), a name for the input, justice sets and a fairness literal
@@ -66,12 +66,12 @@ abbrev pub mixed_file : File
 mixed_file = record { kind = Text; greatest = 3; inputs = 2 ∷ []; latches = record { literal = 4; next = 1; reset = None } ∷ []; outputs = 6 ∷ []; gates = record { lhs = 6; rhs0 = 4; rhs1 = 2 } ∷ []; bads = []; constraints = []; justice = (2 ∷ 5 ∷ []) ∷ (4 ∷ []) ∷ []; fairness = 3 ∷ []; names = record { letter = 105; position = 0; name = 97 ∷ [] } ∷ record { letter = 108; position = 0; name = [] } ∷ [] }
 
 mixed_file-file : record (file_of Text (circuit_of mixed_file)) { names = mixed_file.names } ≡ mixed_file
-unfolding number_of variables_in_order
+unfolding node_of_variable variables_in_order
 mixed_file-file = refl
 
 -- its names are read back
 mixed_file-names : (file_of Text (circuit_of mixed_file)).names ≡ mixed_file.names
-unfolding number_of variables_in_order
+unfolding node_of_variable variables_in_order
 mixed_file-names = simp gets refl
 
 -- ---- the written forms of circuits

@@ -9,7 +9,7 @@ use Rattle.aig_circuit.specs.Tree.{edge_value}
 use Rattle.aig_circuit.specs.Runs.{IsRun}
 use Rattle.aig_format.specs.File.{GateLine, LatchLine, File}
 use Rattle.aig_format.specs.Variables.{is_known, IsKnown}
-use Rattle.aig_format.specs.Numbering.{number_of}
+use Rattle.aig_format.specs.Numbering.{node_of_variable}
 use Rattle.aig_format.specs.Fits.{Fits, IsDefinable}
 use Rattle.aig_format.specs.Machine.{IsStep, literal_value}
 use Rattle.aig_format.specs.Machine as machine
@@ -38,7 +38,7 @@ module _ (f : File) (limit : ℕ) (fits : Fits f limit) (values other : ℕ → 
   abbrev Is : (ℕ → Bool) → GateLine → Type 0
   Is v g = v (g.lhs / 2) ≡ literal_value v g.rhs0 && literal_value v g.rhs1
 
-  same_case : (v : ℕ) → is_known f v ≡ true → ((u : ℕ) → is_known f u ≡ true → number_of f u < number_of f v → values u ≡ other u) → VariableCase f v → values v ≡ other v
+  same_case : (v : ℕ) → is_known f v ≡ true → ((u : ℕ) → is_known f u ≡ true → node_of_variable f u < node_of_variable f v → values u ≡ other u) → VariableCase f v → values v ≡ other v
   same_case v known smaller (at_zero z k) = subst (λ u. values u ≡ other u) (sym z) (step.zero ∙ sym step_too.zero)
   same_case v known smaller (at_leaf z k) = leaf_is f (λ u. values u ≡ other u) inputs latches v known k
   same_case v known smaller (at_gate g found k) =
@@ -54,8 +54,8 @@ module _ (f : File) (limit : ℕ) (fits : Fits f limit) (values other : ℕ → 
   -- the step's values agree on 0 and every defined variable
   same_step : (v : ℕ) → is_known f v ≡ true → values v ≡ other v
   same_step v known =
-      by_smaller (λ n. (u : ℕ) → is_known f u ≡ true → number_of f u ≡ n → values u ≡ other u)
-      (λ n smaller u there is. same_case u there (λ w w_known less. smaller (number_of f w) (subst (λ m. number_of f w < m) is less) w w_known refl) (variable_case f u)) (number_of f v) v known refl
+      by_smaller (λ n. (u : ℕ) → is_known f u ≡ true → node_of_variable f u ≡ n → values u ≡ other u)
+      (λ n smaller u there is. same_case u there (λ w w_known less. smaller (node_of_variable f w) (subst (λ m. node_of_variable f w < m) is less) w w_known refl) (variable_case f u)) (node_of_variable f v) v known refl
 
 -- ---- all steps
 
@@ -121,9 +121,9 @@ module _ (f : File) (limit : ℕ) (fits : Fits f limit) (given : ℕ → ℕ →
       (rec_both Definable Differ f.latches (latches_definable f limit fits) (rec_unmap (λ y. nat_eq e y ≡ false) (λ (l : LatchLine). l.literal) f.latches p.1))))
       f.inputs (rec_both (IsDefinable f.greatest) Differs f.inputs (inputs_definable f limit fits) (differ_from f.inputs literals leaves).0)
 
-  moves_to : (t : ℕ) (l : LatchLine) → IsKnown f l.literal → latch_at (l.literal / 2) ≡ Some l → leaf_run (suc t) (number_of f (l.literal / 2)) ≡ edge_value (nodes_of f) (leaf_run t) (edge_of f l.next)
+  moves_to : (t : ℕ) (l : LatchLine) → IsKnown f l.literal → latch_at (l.literal / 2) ≡ Some l → leaf_run (suc t) (node_of_variable f (l.literal / 2)) ≡ edge_value (nodes_of f) (leaf_run t) (edge_of f l.next)
   moves_to t l known found =
-      let n = number_of f (l.literal / 2) in
+      let n = node_of_variable f (l.literal / 2) in
       ap (λ o. moved (leaf_run t) (given (suc t) (variable_at f n)) o) (ap latch_at (variable_at-number f limit fits (l.literal / 2) known) ∙ found)
 
   is_leaf_run : (last : ℕ) → IsRun (circuit_of f) last leaf_run
@@ -134,26 +134,26 @@ module _ (f : File) (limit : ℕ) (fits : Fits f limit) (given : ℕ → ℕ →
       let next : suc t ≡ t + 1 = omega arith in
       All-map To (latch_of f) f.latches (All-from_recursion (λ (l : LatchLine). To (latch_of f l)) f.latches
       (rec_weaker (λ l. Known l × Found l) (λ (l : LatchLine). To (latch_of f l))
-      (λ l p. subst (λ k. leaf_run k (number_of f (l.literal / 2)) ≡ edge_value (nodes_of f) (leaf_run t) (edge_of f l.next)) next (moves_to t l p.0 p.1))
+      (λ l p. subst (λ k. leaf_run k (node_of_variable f (l.literal / 2)) ≡ edge_value (nodes_of f) (leaf_run t) (edge_of f l.next)) next (moves_to t l p.0 p.1))
       f.latches (rec_both Known Found f.latches (latches_known f) latches_found)))
 
   -- inputs have the given values
-  given_at : (t e : ℕ) → IsKnown f e → latch_at (e / 2) ≡ None → leaf_run t (number_of f (e / 2)) ≡ given t (e / 2)
+  given_at : (t e : ℕ) → IsKnown f e → latch_at (e / 2) ≡ None → leaf_run t (node_of_variable f (e / 2)) ≡ given t (e / 2)
   given_at zero e known none = ap (given 0) (variable_at-number f limit fits (e / 2) known)
   given_at (suc t) e known none =
-      let n = number_of f (e / 2) in
+      let n = node_of_variable f (e / 2) in
       let same = variable_at-number f limit fits (e / 2) known in
       ap (λ o. moved (leaf_run t) (given (suc t) (variable_at f n)) o) (ap latch_at same ∙ none) ∙ ap (given (suc t)) same
 
   pub agrees : (last : ℕ) → AgreeOnInputs f last given (values_over f leaf_run)
   agrees last = record {
     inputs = λ t h.
-        let Is = λ (e : ℕ). values_over f leaf_run t (e / 2) ≡ leaf_run t (number_of f (e / 2)) in
+        let Is = λ (e : ℕ). values_over f leaf_run t (e / 2) ≡ leaf_run t (node_of_variable f (e / 2)) in
         let None_at = λ (e : ℕ). latch_at (e / 2) ≡ None in
         rec_weaker (λ e. (Is e × IsKnown f e) × None_at e) (λ e. given t (e / 2) ≡ values_over f leaf_run t (e / 2)) (λ e p. sym (p.0.0 ∙ given_at t e p.0.1 p.1)) f.inputs
         (rec_both (λ e. Is e × IsKnown f e) None_at f.inputs (rec_both Is (IsKnown f) f.inputs (input_values f limit fits (leaf_run t)) (inputs_known f)) no_latch);
     latches =
-        let Is = λ (l : LatchLine). values_over f leaf_run 0 (l.literal / 2) ≡ leaf_run 0 (number_of f (l.literal / 2)) in
+        let Is = λ (l : LatchLine). values_over f leaf_run 0 (l.literal / 2) ≡ leaf_run 0 (node_of_variable f (l.literal / 2)) in
         let Known = λ (l : LatchLine). IsKnown f l.literal in
         rec_weaker (λ l. Is l × Known l) (λ (l : LatchLine). given 0 (l.literal / 2) ≡ values_over f leaf_run 0 (l.literal / 2))
         (λ l p. sym (p.0 ∙ ap (given 0) (variable_at-number f limit fits (l.literal / 2) p.1))) f.latches (rec_both Is Known f.latches (latch_values f limit fits (leaf_run 0)) (latches_known f));

@@ -18,7 +18,7 @@ use Rattle.aig_circuit.proofs.Trees.{node_value-false, node_value-leaf}
 use Rattle.aig_format.specs.File.{File, LatchLine}
 use Rattle.aig_format.specs.Fits.{Fits}
 use Rattle.aig_format.specs.Variables.{IsKnown}
-use Rattle.aig_format.specs.Numbering.{number_of}
+use Rattle.aig_format.specs.Numbering.{node_of_variable}
 use Rattle.aig_format.specs.Machine as machine
 use Rattle.aig_format.specs.Circuit.{circuit_of, latch_of}
 use Rattle.aig_format.proofs.Entries.{rec_both, rec_map, rec_unmap, rec_weaker}
@@ -67,19 +67,19 @@ starts_agree f limit last x run fits same = (forth, back)
     Begins latch = IfSome latch.init (λ e. edge_value (circuit_of f).nodes (x 0) e ≡ x 0 latch.input)
 
     Known : LatchLine → Type 0
-    Known l = IsKnown f l.literal × IsLeaf (circuit_of f).nodes (number_of f (l.literal / 2))
+    Known l = IsKnown f l.literal × IsLeaf (circuit_of f).nodes (node_of_variable f (l.literal / 2))
 
     known : AllByRecursion Known f.latches
     known =
         let are = rec_unmap (IsLatch (circuit_of f).nodes) (latch_of f) f.latches (recursion_from_All (IsLatch (circuit_of f).nodes) (circuit_of f).latchs (IsCircuit-of_file f limit fits).latchs) in
-        rec_both (λ (l : LatchLine). IsKnown f l.literal) (λ (l : LatchLine). IsLeaf (circuit_of f).nodes (number_of f (l.literal / 2))) f.latches (latches_known f)
-        (rec_weaker (λ (l : LatchLine). IsLatch (circuit_of f).nodes (latch_of f l)) (λ (l : LatchLine). IsLeaf (circuit_of f).nodes (number_of f (l.literal / 2))) (λ l h. h.leaf) f.latches are)
+        rec_both (λ (l : LatchLine). IsKnown f l.literal) (λ (l : LatchLine). IsLeaf (circuit_of f).nodes (node_of_variable f (l.literal / 2))) f.latches (latches_known f)
+        (rec_weaker (λ (l : LatchLine). IsLatch (circuit_of f).nodes (latch_of f l)) (λ (l : LatchLine). IsLeaf (circuit_of f).nodes (node_of_variable f (l.literal / 2))) (λ l h. h.leaf) f.latches are)
 
     each : (l : LatchLine) → Known l → Starts l ↔ Begins (latch_of f l)
     each l k =
         let none : 0 ≤ last = omega arith in
-        by_reset (circuit_of f).nodes (x 0) (IsCircuit-of_file f limit fits).nodes.false_first (run 0 (l.literal / 2)) (x 0 (number_of f (l.literal / 2)))
-        (sym (same 0 (l.literal / 2) none k.0) ∙ node_value-leaf (circuit_of f).nodes (x 0) (number_of f (l.literal / 2)) k.1) (unwrap_or l.reset 0)
+        by_reset (circuit_of f).nodes (x 0) (IsCircuit-of_file f limit fits).nodes.false_first (run 0 (l.literal / 2)) (x 0 (node_of_variable f (l.literal / 2)))
+        (sym (same 0 (l.literal / 2) none k.0) ∙ node_value-leaf (circuit_of f).nodes (x 0) (node_of_variable f (l.literal / 2)) k.1) (unwrap_or l.reset 0)
 
     forth : machine.IsInitial f run → IsInitial (circuit_of f) (x 0)
     forth start = All-from_recursion Begins (circuit_of f).latchs ((rec_map Begins (latch_of f) f.latches).1

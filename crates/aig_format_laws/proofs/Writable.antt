@@ -17,7 +17,7 @@ use Rattle.aig_format.specs.Letters.{letter_of_inputs, letter_of_latches}
 use Rattle.aig_format.specs.Fits.{Accepts, Fits, IsNameOf}
 use Rattle.aig_format.specs.Spells.{Spells}
 use Rattle.aig_format.specs.Circuit.{circuit_of, edge_of, latch_of, named_node}
-use Rattle.aig_format.specs.Numbering.{number_of}
+use Rattle.aig_format.specs.Numbering.{node_of_variable}
 use Rattle.aig_format.specs.Writable.{AreTexts, HasLineFeed, IsWritable, list_lengths}
 use Rattle.aig_format.proofs.Entries.{rec_map, rec_weaker}
 use Rattle.aig_format.proofs.Nodes.{few_nodes}
@@ -56,7 +56,7 @@ named_has : (f : File) (P : List ℕ → Type 0) (n : NameLine) → (IsKept n �
 named_has f P n has = by_letter (n.letter == letter_of_inputs) (n.letter == letter_of_latches) refl refl
   where
     by_letter : (i l : Bool) → (n.letter == letter_of_inputs) ≡ i → (n.letter == letter_of_latches) ≡ l
-        → IfSome (cond i (Some (number_of f (slice_index f.inputs n.position / 2), n.name)) (cond l (Some (number_of f (slice_index (map (λ (l : LatchLine). l.literal) f.latches) n.position / 2), n.name)) None)) (λ (e : ℕ × List ℕ). P e.1)
+        → IfSome (cond i (Some (node_of_variable f (slice_index f.inputs n.position / 2), n.name)) (cond l (Some (node_of_variable f (slice_index (map (λ (l : LatchLine). l.literal) f.latches) n.position / 2), n.name)) None)) (λ (e : ℕ × List ℕ). P e.1)
     by_letter true l is too = has (inl (eqb-true n.letter letter_of_inputs is))
     by_letter false true is too = has (inr (eqb-true n.letter letter_of_latches too))
     by_letter false false is too = tt
@@ -102,7 +102,7 @@ no_line_feed f plain n feed = by_name (get (circuit_of f).names n) refl feed
 lists_small : (f : File) (bytes : List ℕ) → Spells f bytes → AllByRecursion IsSmallNumber (list_lengths (circuit_of f))
 lists_small f bytes spells =
     let h = header_small f bytes spells in
-    let inputs = length-map f.inputs (λ e. number_of f (e / 2)) in
+    let inputs = length-map f.inputs (λ e. node_of_variable f (e / 2)) in
     let latchs = length-map f.latches (latch_of f) in
     let outputs = length-map f.outputs (edge_of f) in
     let bads = length-map f.bads (edge_of f) in

@@ -26,12 +26,12 @@ use Rattle.aig_format.specs.declared.FileKind.{FileKind}
 use Rattle.aig_format.specs.File.{File, GateLine, LatchLine, defined, header_of}
 use Rattle.aig_format.specs.Fits.{Fits, IsCompact, HasReset, IsDefinable, IsNameOf, IsOrdered}
 use Rattle.aig_format.specs.Letters.{letter_of_inputs, letter_of_latches}
-use Rattle.aig_format.specs.Numbering.{is_compact, number_of}
+use Rattle.aig_format.specs.Numbering.{is_compact, node_of_variable}
 use Rattle.aig_format.specs.Spells.{numbers_in, Placed}
 use Rattle.aig_format.specs.Circuit.{IsReadAgain, circuit_of, file_of, latch_line, latch_of, named_node, name_lines, without_other_names}
 use Rattle.aig_format.specs.Writable.{AreTexts, HasLineFeed, IsWritable, list_lengths}
 use Rattle.aig_circuit.specs.Edges.{HasPlainInit}
-use Rattle.aig_format.proofs.Numbers.{number_of-compact}
+use Rattle.aig_format.proofs.Numbers.{node_of_variable-compact}
 use Rattle.aig_format.proofs.Members.{distinct_append}
 use Rattle.aig_format.proofs.Compact.{compact-tested}
 use Rattle.aig_format.proofs.Entries.{rec_append, rec_map, rec_weaker}
@@ -361,7 +361,7 @@ module _ (kind : FileKind) (c : Circuit) (is : IsCircuit c) (w : IsWritable c) (
   leaf_within : (m : ℕ) → IsLeaf c.nodes m → m ≤ length c.nodes - 1
   leaf_within m h = within_file m (kind_at-within c.nodes m Leaf h)
 
-  inputs_same : map (λ e. number_of f (e / 2)) f.inputs ≡ c.inputs
+  inputs_same : map (λ e. node_of_variable f (e / 2)) f.inputs ≡ c.inputs
   inputs_same =
       inputs_again f compact c.inputs (rec_weaker (IsLeaf c.nodes) (λ m. m ≤ length c.nodes - 1) leaf_within c.inputs (recursion_from_All (IsLeaf c.nodes) c.inputs is.inputs))
 
@@ -376,20 +376,20 @@ module _ (kind : FileKind) (c : Circuit) (is : IsCircuit c) (w : IsWritable c) (
   doubled_at ns i h = let e = get_or-map (λ m. 2 * m) ns i 0 0 h in omega arith
 
   -- the node at a place among leaves
-  number_at : (ns : List ℕ) (i : ℕ) → i < length ns → AllByRecursion (IsLeaf c.nodes) ns → number_of f (slice_index (doubled ns) i / 2) ≡ slice_index ns i
+  number_at : (ns : List ℕ) (i : ℕ) → i < length ns → AllByRecursion (IsLeaf c.nodes) ns → node_of_variable f (slice_index (doubled ns) i / 2) ≡ slice_index ns i
   number_at ns i h leaves =
-      ap (number_of f) (doubled_at ns i h) ∙ number_of-compact f compact (slice_index ns i) (leaf_within _ (All-contains (IsLeaf c.nodes) ns _ (All-from_recursion (IsLeaf c.nodes) ns leaves) (Contains-get_or ns i 0 h)))
+      ap (node_of_variable f) (doubled_at ns i h) ∙ node_of_variable-compact f compact (slice_index ns i) (leaf_within _ (All-contains (IsLeaf c.nodes) ns _ (All-from_recursion (IsLeaf c.nodes) ns leaves) (Contains-get_or ns i 0 h)))
 
   names_same : from_entries (filter_map (named_node f) f.names) ≡ (without_other_names c).names
   names_same =
       let leaves = (rec_append (IsLeaf c.nodes) c.inputs (latch_leaves c.latchs)).0 leaves_are in
       let inputs = names_again f letter_of_inputs 0 c.inputs (get c.names) (λ i bytes h.
       let e : 0 + i ≡ i = omega arith in
-      ap (λ m. Some (m, bytes)) (ap (λ j. number_of f (slice_index (doubled c.inputs) j / 2)) e ∙ number_at c.inputs i h leaves.0)) in
+      ap (λ m. Some (m, bytes)) (ap (λ j. node_of_variable f (slice_index (doubled c.inputs) j / 2)) e ∙ number_at c.inputs i h leaves.0)) in
       let latchs = names_again f letter_of_latches 0 (latch_leaves c.latchs) (get c.names) (λ i bytes h.
       let e : 0 + i ≡ i = omega arith in
-      ap (λ m. Some (m, bytes)) (ap (λ (ns : List ℕ). number_of f (slice_index ns (0 + i) / 2)) (latch_literals c.latchs)
-      ∙ ap (λ j. number_of f (slice_index (doubled (latch_leaves c.latchs)) j / 2)) e ∙ number_at (latch_leaves c.latchs) i h leaves.1)) in
+      ap (λ m. Some (m, bytes)) (ap (λ (ns : List ℕ). node_of_variable f (slice_index ns (0 + i) / 2)) (latch_literals c.latchs)
+      ∙ ap (λ j. node_of_variable f (slice_index (doubled (latch_leaves c.latchs)) j / 2)) e ∙ number_at (latch_leaves c.latchs) i h leaves.1)) in
       ap from_entries (filter_map-append (named_node f) (name_lines letter_of_inputs 0 c.inputs (get c.names)) (name_lines letter_of_latches 0 (latch_leaves c.latchs) (get c.names))
       ∙ ap (λ (es : List (ℕ × List ℕ)). es ++ filter_map (named_node f) (name_lines letter_of_latches 0 (latch_leaves c.latchs) (get c.names))) inputs
       ∙ ap (λ (es : List (ℕ × List ℕ)). with_names (get c.names) c.inputs ++ es) latchs

@@ -6,7 +6,7 @@ ghost use Rattle.aig_format.specs.File.{File, GateLine};
 ghost use Rattle.aig_format.specs.Fits.{Fits, IsWellFounded, IsCompact};
 ghost use Rattle.aig_format.specs.Circuit.{circuit_of};
 ghost use Rattle.aig_format.specs.Levels.{level_above, level_of};
-ghost use Rattle.aig_format.specs.Numbering.{number_of};
+ghost use Rattle.aig_format.specs.Numbering.{node_of_variable};
 ghost use Rattle.aig_format.specs.Variables.{gate_of_variable, is_defined, is_known};
 ghost use Rattle.aig_format_laws.specs.Numbers.{ComesFirst};
 
@@ -27,15 +27,15 @@ pub fn levels_follow_operands()
 /// Law: variable 0 is node 0; variable 0 and the defined variables have one node each, and every node is that of one of them.
 /// In a compact file a variable is its own number, and else variables are numbered by level and, within a level, by variable.
 pub fn numbers_follow_levels()
-    ensures zero { (f : File) → number_of f 0 ≡ 0 }
+    ensures zero { (f : File) → node_of_variable f 0 ≡ 0 }
     ensures within { (f : File) (limit v : ℕ) → Fits f limit → IsTrue (is_known f v)
-        → number_of f v < length (circuit_of f).nodes }
+        → node_of_variable f v < length (circuit_of f).nodes }
     ensures one { (f : File) (limit u v : ℕ) → Fits f limit → IsTrue (is_known f u)
-        → number_of f u ≡ number_of f v → u ≡ v }
+        → node_of_variable f u ≡ node_of_variable f v → u ≡ v }
     ensures each { (f : File) (limit n : ℕ) → Fits f limit → n < length (circuit_of f).nodes
-        → (v : ℕ) × IsTrue (is_known f v) × (number_of f v ≡ n) }
-    ensures compact { (f : File) (v : ℕ) → IsCompact f → v ≤ f.greatest → number_of f v ≡ v }
+        → (v : ℕ) × IsTrue (is_known f v) × (node_of_variable f v ≡ n) }
+    ensures compact { (f : File) (v : ℕ) → IsCompact f → v ≤ f.greatest → node_of_variable f v ≡ v }
     ensures well_founded { (f : File) (limit u v : ℕ) → Fits f limit → ¬ IsCompact f
         → IsTrue (is_defined f u) → IsTrue (is_defined f v) → ComesFirst f u v
-        → number_of f u < number_of f v }
+        → node_of_variable f u < node_of_variable f v }
 {}

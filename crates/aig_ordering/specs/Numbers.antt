@@ -14,8 +14,8 @@ use Rattle.aig_ordering.specs.declared.error.OrderError.{OrderError}
 use Rattle.aig_ordering.specs.Tables.{OnOrder, told}
 
 -- the place of a variable in an order, if it is there
-abbrev pub number_in : List ℕ → ℕ → Option ℕ
-number_in order v = if list_any (λ u. u == v) order then Some (place_of order v) else None
+abbrev pub place_in : List ℕ → ℕ → Option ℕ
+place_in order v = if list_any (λ u. u == v) order then Some (place_of order v) else None
 
 -- the number of a variable, if the table tells one
 abbrev pub number_at : List ℕ → ℕ → Option ℕ

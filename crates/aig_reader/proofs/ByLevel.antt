@@ -18,7 +18,7 @@ use Rattle.aig_circuit.proofs.Building.{and_of-cases, and_of-not_false, and_of-t
 use Rattle.aig_format.specs.File.{LatchLine, GateLine, File, defined}
 use Rattle.aig_format.specs.Variables.{is_defined, is_known, IsKnown, gate_of_variable}
 use Rattle.aig_format.specs.Levels.{has_level, HasLevel}
-use Rattle.aig_format.specs.Numbering.{is_compact, number_of, variables_by_level, variables_in_order}
+use Rattle.aig_format.specs.Numbering.{is_compact, node_of_variable, variables_by_level, variables_in_order}
 use Rattle.aig_format.specs.Circuit.{circuit_of, edge_of, initial_of, kind_of, latch_of, nodes_from}
 use Rattle.aig_format.specs.Fits.{IsDefinable}
 use Rattle.aig_format.proofs.Circuits.{defined_known, differ_from}
@@ -26,7 +26,7 @@ use Rattle.aig_format.proofs.Entries.{rec_both, rec_parts, rec_unmap, rec_weaker
 use Rattle.aig_format.proofs.Found.{found_all}
 use Rattle.aig_format.proofs.Levels.{levelled}
 use Rattle.aig_format.proofs.Members.{has, rec_has}
-use Rattle.aig_format.proofs.Numbers.{any_within, number_of-place, order-well_founded}
+use Rattle.aig_format.proofs.Numbers.{any_within, node_of_variable-place, order-well_founded}
 use Rattle.aig_format.proofs.Orders.{defined-by_level, has-by_level, some-by_level}
 use Rattle.aig_format.proofs.Searches.{find_some}
 use Rattle.aig_parsing.proofs.Guards.{Decides-list_all}
@@ -34,7 +34,7 @@ use Rattle.aig_ordering.specs.Lists as lists
 use Rattle.aig_format.specs.Circuit as of_file
 use Rattle.aig_ordering.specs.Lists.{edge_from, kind_among, latch_from, nodes_of, variable_of}
 use Rattle.aig_ordering.specs.Tables.{told}
-use Rattle.aig_ordering.specs.Numbers.{all_by, edge_by, kind_by_numbers, latch_by, node_of, number_at, number_in, numbered}
+use Rattle.aig_ordering.specs.Numbers.{all_by, edge_by, kind_by_numbers, latch_by, node_of, number_at, place_in, numbered}
 use Rattle.aig_ordering.proofs.Tables.{kind_at-variable}
 use Rattle.aig_reader.specs.Numbered.{AreNumbersOf, have_operands, knows}
 use Rattle.aig_reader.specs.Sections.{HasGoodLines}
@@ -104,17 +104,17 @@ module _ (f : File) (good : HasGoodLines f) (well_founded : is_compact f ≡ fal
       let same : eqb (suc v) 0 ≡ false = ne_eqb (suc v) 0 (λ e. omega (arith, e)) in
       (any_within f.greatest (suc v) (defined f) good.definable (ap (λ b. b || is_defined f (suc v)) (sym same) ∙ known)).1
 
-  pub numbers_are : (numbers : List ℕ) → length numbers ≡ f.greatest + 1 → ((v : ℕ) → v < f.greatest + 1 → number_at numbers v ≡ number_in order v) → AreNumbersOf f numbers
+  pub numbers_are : (numbers : List ℕ) → length numbers ≡ f.greatest + 1 → ((v : ℕ) → v < f.greatest + 1 → number_at numbers v ≡ place_in order v) → AreNumbersOf f numbers
   numbers_are numbers count table v = by_bound (ltb v (f.greatest + 1)) refl
     where
-      by_known : (b : Bool) → is_known f v ≡ b → f.greatest + 1 ≤ v → number_at numbers v ≡ cond (is_known f v) (Some (number_of f v)) None
+      by_known : (b : Bool) → is_known f v ≡ b → f.greatest + 1 ≤ v → number_at numbers v ≡ cond (is_known f v) (Some (node_of_variable f v)) None
       by_known true known high = absurd (omega (arith, within v known))
-      by_known false known high = ap told (get_or_past numbers v 0 (omega (arith, count))) ∙ ap (λ b. cond b (Some (number_of f v)) None) (sym known)
+      by_known false known high = ap told (get_or_past numbers v 0 (omega (arith, count))) ∙ ap (λ b. cond b (Some (node_of_variable f v)) None) (sym known)
 
-      by_bound : (b : Bool) → ltb v (f.greatest + 1) ≡ b → number_at numbers v ≡ cond (is_known f v) (Some (number_of f v)) None
+      by_bound : (b : Bool) → ltb v (f.greatest + 1) ≡ b → number_at numbers v ≡ cond (is_known f v) (Some (node_of_variable f v)) None
       by_bound true low =
           table v (ltb-true v (f.greatest + 1) low) ∙ ap (λ b. cond b (Some (place_of order v)) None) (is_there v)
-          ∙ ap (λ n. cond (is_known f v) (Some n) None) (ap (λ vs. place_of vs v) order_is ∙ sym (number_of-place f v))
+          ∙ ap (λ n. cond (is_known f v) (Some n) None) (ap (λ vs. place_of vs v) order_is ∙ sym (node_of_variable-place f v))
       by_bound false high = by_known (is_known f v) refl (let le = ltb-false v (f.greatest + 1) high in omega (arith, le))
 
 -- ---- lists under the numbers
@@ -126,7 +126,7 @@ module _ (f : File) (table : List ℕ) (are : AreNumbersOf f table) where
   edge_is : (e : ℕ) → edge_by number (edge_from e) ≡ cond (is_known f (e / 2)) (Some (edge_of f e)) None
   edge_is e = ap (λ (o : Option ℕ). option_map (λ n. edge_to n (e % 2 == 1)) o) (are (e / 2)) ∙ by_test (is_known f (e / 2))
     where
-      by_test : (b : Bool) → option_map (λ n. edge_to n (e % 2 == 1)) (cond b (Some (number_of f (e / 2))) None) ≡ cond b (Some (edge_of f e)) None
+      by_test : (b : Bool) → option_map (λ n. edge_to n (e % 2 == 1)) (cond b (Some (node_of_variable f (e / 2))) None) ≡ cond b (Some (edge_of f e)) None
       by_test true = refl
       by_test false = refl
 
@@ -151,11 +151,11 @@ module _ (f : File) (table : List ℕ) (are : AreNumbersOf f table) where
       rec_parts (IsKnown f) f.inputs literals (rec_parts (IsKnown f) (f.inputs ++ literals) (map (λ (g : GateLine). g.lhs) f.gates) (defined_known f)).0
 
   -- inputs all have numbers
-  pub inputs_are : all_by number (map variable_of f.inputs) ≡ Some (map (λ e. number_of f (e / 2)) f.inputs)
+  pub inputs_are : all_by number (map variable_of f.inputs) ≡ Some (map (λ e. node_of_variable f (e / 2)) f.inputs)
   inputs_are =
-      images number variable_of (λ _. true) (λ e. number_of f (e / 2)) f.inputs
-      (rec_weaker (IsKnown f) (λ e. number (e / 2) ≡ Some (number_of f (e / 2))) (λ e known. are (e / 2) ∙ ap (λ b. cond b (Some (number_of f (e / 2))) None) known) f.inputs leaves_known.0)
-      ∙ ap (λ b. cond b (Some (map (λ e. number_of f (e / 2)) f.inputs)) None) (always f.inputs)
+      images number variable_of (λ _. true) (λ e. node_of_variable f (e / 2)) f.inputs
+      (rec_weaker (IsKnown f) (λ e. number (e / 2) ≡ Some (node_of_variable f (e / 2))) (λ e known. are (e / 2) ∙ ap (λ b. cond b (Some (node_of_variable f (e / 2))) None) known) f.inputs leaves_known.0)
+      ∙ ap (λ b. cond b (Some (map (λ e. node_of_variable f (e / 2)) f.inputs)) None) (always f.inputs)
     where
       always : (es : List ℕ) → list_all (λ _. true) es ≡ true
       always [] = refl
@@ -167,10 +167,10 @@ module _ (f : File) (table : List ℕ) (are : AreNumbersOf f table) where
   latch_is : (l : LatchLine) → IsKnown f l.literal → latch_by number (latch_from l) ≡ cond (knows_next l) (Some (latch_of f l)) None
   latch_is l known =
       let made = λ (n : ℕ) (e : AigEdge). let latch : AigLatch = record { input = n; next = e; init = initial_of l } in latch in
-      ap (λ (o : Option ℕ). option_and_then (λ n. option_map (made n) (edge_by number (edge_from l.next))) o) (are (l.literal / 2) ∙ ap (λ b. cond b (Some (number_of f (l.literal / 2))) None) known)
-      ∙ ap (λ (o : Option AigEdge). option_map (made (number_of f (l.literal / 2))) o) (edge_is l.next) ∙ by_test (knows_next l)
+      ap (λ (o : Option ℕ). option_and_then (λ n. option_map (made n) (edge_by number (edge_from l.next))) o) (are (l.literal / 2) ∙ ap (λ b. cond b (Some (node_of_variable f (l.literal / 2))) None) known)
+      ∙ ap (λ (o : Option AigEdge). option_map (made (node_of_variable f (l.literal / 2))) o) (edge_is l.next) ∙ by_test (knows_next l)
     where
-      by_test : (b : Bool) → option_map (λ (e : AigEdge). let latch : AigLatch = record { input = number_of f (l.literal / 2); next = e; init = initial_of l } in latch) (cond b (Some (edge_of f l.next)) None) ≡ cond b (Some (latch_of f l)) None
+      by_test : (b : Bool) → option_map (λ (e : AigEdge). let latch : AigLatch = record { input = node_of_variable f (l.literal / 2); next = e; init = initial_of l } in latch) (cond b (Some (edge_of f l.next)) None) ≡ cond b (Some (latch_of f l)) None
       by_test true = refl
       by_test false = refl
 

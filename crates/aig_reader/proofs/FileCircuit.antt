@@ -18,11 +18,11 @@ use Rattle.aig_format.specs.Circuit.{circuit_of, edge_of, initial_of, kind_of, l
 use Rattle.aig_format.specs.declared.FileKind.{FileKind}
 use Rattle.aig_format.specs.File.{LatchLine, GateLine, NameLine, File, defined, used, HeaderNumbers}
 use Rattle.aig_format.specs.Fits.{Fits, IsDefinable}
-use Rattle.aig_format.specs.Numbering.{is_compact, number_of, numbers_from, variables_in_order}
+use Rattle.aig_format.specs.Numbering.{is_compact, node_of_variable, numbers_from, variables_in_order}
 use Rattle.aig_format.specs.Variables.{gate_of_variable}
 use Rattle.aig_format.proofs.Circuits.{UsedHave, distinct_pairs, leaves_distinct, leaves_of_latches, numbers, used_by_section}
 use Rattle.aig_format.proofs.Entries.{rec_both, rec_flat_map, rec_parts, rec_unmap, rec_weaker}
-use Rattle.aig_format.proofs.Numbers.{number_of-compact, number_of-zero, order-compact}
+use Rattle.aig_format.proofs.Numbers.{node_of_variable-compact, node_of_variable-zero, order-compact}
 use Rattle.aig_format.proofs.Compact.{compact-told}
 use Rattle.aig_format.proofs.Searches.{find_some}
 use Rattle.aig_ordering.specs.Lists.{edge_from, kind_of_line, kind_among, latch_from, nodes_in_row, nodes_of, variable_of}
@@ -56,8 +56,8 @@ module _ (f : File) (good : HasGoodLines f) (compact : is_compact f ≡ true) wh
       let literals = map (λ (l : LatchLine). l.literal) f.latches in
       rec_parts IsWithin f.inputs literals (rec_parts IsWithin (f.inputs ++ literals) (map (λ (g : GateLine). g.lhs) f.gates) defined_within).0
 
-  number_is : (e : ℕ) → IsWithin e → variable_of e ≡ number_of f (e / 2)
-  number_is e h = sym (number_of-compact f compact (e / 2) h)
+  number_is : (e : ℕ) → IsWithin e → variable_of e ≡ node_of_variable f (e / 2)
+  number_is e h = sym (node_of_variable-compact f compact (e / 2) h)
 
   edge_is : (e : ℕ) → IsWithin e → edge_from e ≡ edge_of f e
   edge_is e h = ap (λ n. edge_to n (e % 2 == 1)) (number_is e h)
@@ -70,16 +70,16 @@ module _ (f : File) (good : HasGoodLines f) (compact : is_compact f ≡ true) wh
   sets_are [] all = refl
   sets_are (es ∷ sets) all = let p = rec_parts IsWithin es (flat_map (λ s. s) sets) all in rw (edges_are es p.0, sets_are sets p.1) refl
 
-  numbers_are : (es : List ℕ) → AllByRecursion IsWithin es → map variable_of es ≡ map (λ e. number_of f (e / 2)) es
+  numbers_are : (es : List ℕ) → AllByRecursion IsWithin es → map variable_of es ≡ map (λ e. node_of_variable f (e / 2)) es
   numbers_are [] all = refl
-  numbers_are (e ∷ es) all = ap (λ n. n ∷ map variable_of es) (number_is e all.0) ∙ ap (λ (ns : List ℕ). number_of f (e / 2) ∷ ns) (numbers_are es all.1)
+  numbers_are (e ∷ es) all = ap (λ n. n ∷ map variable_of es) (number_is e all.0) ∙ ap (λ (ns : List ℕ). node_of_variable f (e / 2) ∷ ns) (numbers_are es all.1)
 
   latches_are : (ls : List LatchLine) → AllByRecursion (λ (l : LatchLine). IsWithin l.literal × IsWithin l.next) ls → map latch_from ls ≡ map (latch_of f) ls
   latches_are [] all = refl
   latches_are (l ∷ ls) all =
       let made = λ (n : ℕ) (e : AigEdge). let latch : AigLatch = record { input = n; next = e; init = initial_of l } in latch in
       ap (λ n. made n (edge_from l.next) ∷ map latch_from ls) (number_is l.literal all.0.0)
-      ∙ ap (λ e. made (number_of f (l.literal / 2)) e ∷ map latch_from ls) (edge_is l.next all.0.1)
+      ∙ ap (λ e. made (node_of_variable f (l.literal / 2)) e ∷ map latch_from ls) (edge_is l.next all.0.1)
       ∙ ap (λ (latches : List AigLatch). latch_of f l ∷ latches) (latches_are ls all.1)
 
   latches_within : AllByRecursion (λ (l : LatchLine). IsWithin l.literal × IsWithin l.next) f.latches
@@ -126,8 +126,8 @@ module _ (f : File) (good : HasGoodLines f) (compact : is_compact f ≡ true) wh
 -- ---- the circuit with names
 
 module _ (f : File) where
-  input_is : (es : List ℕ) (n : ℕ) → slice_index (numbers f es) n ≡ number_of f (slice_index es n / 2)
-  input_is [] n = sym (number_of-zero f)
+  input_is : (es : List ℕ) (n : ℕ) → slice_index (numbers f es) n ≡ node_of_variable f (slice_index es n / 2)
+  input_is [] n = sym (node_of_variable-zero f)
   input_is (e ∷ es) zero = refl
   input_is (e ∷ es) (suc n) = input_is es n
 
@@ -153,7 +153,7 @@ module _ (f : File) where
 
 -- a file's circuit has its names alone from the names
 circuit_named : (b : (FileKind × HeaderNumbers) × Parts) (lines : List NameLine) → circuit_of (file_from b lines) ≡ record (circuit_of (file_from b [])) { names = from_entries (filter_map (named_node (file_from b [])) lines) }
-unfolding number_of variables_in_order
+unfolding node_of_variable variables_in_order
 circuit_named b lines = refl
 
 -- the sections with the names that are kept are the file's circuit

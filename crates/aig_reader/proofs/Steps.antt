@@ -7,7 +7,7 @@ use Rattle.aig_format.specs.declared.FileKind.TheVariants.{Text, Binary}
 use Rattle.aig_format.specs.Circuit.{circuit_of, latch_of}
 use Rattle.aig_format.specs.File.{File}
 use Rattle.aig_format.specs.Levels.{has_level}
-use Rattle.aig_format.specs.Numbering.{is_compact, number_of}
+use Rattle.aig_format.specs.Numbering.{is_compact, node_of_variable}
 use Rattle.aig_parsing.specs.Parse.{Parts, is_good}
 use Rattle.aig_parsing.specs.ParseTested.{parse_fitting_sections, is_accepted_order, parse_section_lines, uses_known}
 use Rattle.aig_parsing.proofs.Guards.{length-defined, on_used}
@@ -45,7 +45,7 @@ module _ (header : Header) (x : Parts) (b a : Option (List ℕ)) (taken : Takes 
 
     pub inputs_count : (result : Result Sections ReadError) → Judged (keeps x) (IsCircuitOf (file_by header x)) result → IfOk result (λ sections. vec_len sections.lists.inputs ≡ header.inputs)
     inputs_count (Ok sections) h =
-        let all = ap length (inputs_is (file_by header x) sections h.1) ∙ length-map x.inputs (λ e. number_of (file_by header x) (e / 2)) in
+        let all = ap length (inputs_is (file_by header x) sections h.1) ∙ length-map x.inputs (λ e. node_of_variable (file_by header x) (e / 2)) in
         omega (arith, all, counts.inputs, sections.lists.inputs.ok.0)
     inputs_count (Err e) h = tt
 

@@ -6,7 +6,7 @@ use Rattle.std.specs.FinMap.{FinMap}
 use Rattle.std.specs.List.{list_all, flat_map}
 use Rattle.aig_format.specs.File.{File}
 use Rattle.aig_format.specs.Variables.{is_known}
-use Rattle.aig_format.specs.Numbering.{number_of}
+use Rattle.aig_format.specs.Numbering.{node_of_variable}
 use Rattle.aig_format.specs.Circuit.{circuit_of, edge_of, latch_of}
 use Rattle.aig_ordering.specs.declared.error.OrderError.{OrderError}
 use Rattle.aig_ordering.specs.Numbers.{number_at}
@@ -50,7 +50,7 @@ knows_lists f = knows f (map (λ l. l.next) f.latches) && knows_properties f
 
 -- the table has the number of each variable that is 0 or defined, and no others
 abbrev pub AreNumbersOf : File → List ℕ → Type 0
-AreNumbersOf f numbers = (v : ℕ) → number_at numbers v ≡ (if is_known f v then Some (number_of f v) else None)
+AreNumbersOf f numbers = (v : ℕ) → number_at numbers v ≡ (if is_known f v then Some (node_of_variable f v) else None)
 
 -- the edges of the file's outputs and properties
 pub record AreNumberedProperties (f : File) (properties : Properties) : Type 0 where
@@ -62,7 +62,7 @@ pub record AreNumberedProperties (f : File) (properties : Properties) : Type 0 w
 
 -- the lists of the file's circuit
 pub record AreListsByNumber (f : File) (lists : Lists) : Type 0 where
-  pub inputs : lists.inputs.items ≡ map (λ e. number_of f (e / 2)) f.inputs
+  pub inputs : lists.inputs.items ≡ map (λ e. node_of_variable f (e / 2)) f.inputs
   pub latchs : lists.latchs.items ≡ map (latch_of f) f.latches
   pub properties : AreNumberedProperties f lists.properties
 

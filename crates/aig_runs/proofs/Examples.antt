@@ -11,7 +11,7 @@ use Rattle.aig_format.specs.declared.FileKind.TheVariants.{Text}
 use Rattle.aig_format.specs.File.{File}
 use Rattle.aig_format.specs.Fits.{Fits}
 use Rattle.aig_format.specs.Circuit.{circuit_of}
-use Rattle.aig_format.specs.Numbering.{number_of}
+use Rattle.aig_format.specs.Numbering.{node_of_variable}
 use Rattle.aig_runs.specs.Encodes.{Encodes}
 use Rattle.aig_runs.specs.Queries.{Asks, IsRefuted, IsSafeTo, query_clauses}
 use Rattle.aig_runs.proofs.Queries.{queries_ask}
@@ -78,7 +78,7 @@ toggle = record {
 -- no assignment has the latch's node false and true
 toggle-refuted : (lists : List (List (List Lit))) → IsRefuted lists (query_clauses (circuit_of toggle) 0 (circuit_of toggle))
 toggle-refuted lists s =
-    let n = number_of toggle 1 in
+    let n = node_of_variable toggle 1 in
     let holds = rw (literal_value-lit_to s.0 n false, literal_value-lit_to s.0 n true) at s.1.further_hold in
     by (s.0 n) holds
   where

@@ -14,7 +14,7 @@ use Rattle.aig_format.specs.File.{File, LatchLine}
 use Rattle.aig_format.specs.Fits.{Fits}
 use Rattle.aig_format.specs.Machine as machine
 use Rattle.aig_format.specs.Circuit.{circuit_of, edge_of, latch_of}
-use Rattle.aig_format.specs.Numbering.{number_of}
+use Rattle.aig_format.specs.Numbering.{node_of_variable}
 use Rattle.aig_format.specs.Variables.{IsKnown}
 use Rattle.aig_format.proofs.Circuits.{IsCircuit-of_file, used_by_section}
 use Rattle.aig_format.proofs.Entries.{rec_flat_map, rec_weaker}
@@ -48,8 +48,8 @@ module _ (f : File) (limit k : ℕ) (fits : Fits f limit) (x run : ℕ → ℕ �
   inputs_same : (t : ℕ) → t ≤ k → AllZip (λ e n. run t (e / 2) ≡ x t n) f.inputs c.inputs
   inputs_same t h =
       let Is = λ (e n : ℕ). run t (e / 2) ≡ node_value c.nodes (x t) n in
-      let of_node = AllZip-map (λ (e : ℕ). number_of f (e / 2)) Is f.inputs
-      (All-weaker (IsKnown f) (λ (e : ℕ). Is e (number_of f (e / 2))) (λ e known. sym (values t (e / 2) h known)) f.inputs (All-from_recursion (IsKnown f) f.inputs (inputs_known f))) in
+      let of_node = AllZip-map (λ (e : ℕ). node_of_variable f (e / 2)) Is f.inputs
+      (All-weaker (IsKnown f) (λ (e : ℕ). Is e (node_of_variable f (e / 2))) (λ e known. sym (values t (e / 2) h known)) f.inputs (All-from_recursion (IsKnown f) f.inputs (inputs_known f))) in
       zip_weaker Is (λ e n. run t (e / 2) ≡ x t n) (IsLeaf c.nodes) f.inputs c.inputs (λ e n leaf is. is ∙ node_value-leaf c.nodes (x t) n leaf) is_circuit.inputs of_node
 
   -- and so have the latches at step 0

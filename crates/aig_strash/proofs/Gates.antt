@@ -16,7 +16,7 @@ use Rattle.aig_circuit.proofs.Trees.{kind_at-there, tree_of-false, tree_of-leaf,
 use Rattle.aig_strash.specs.Exchange.{HaveEqualTrees, IsGate, first_of, image_of, kept_before, node_numbers}
 use Rattle.aig_strash.specs.declared.numbers.Tables.{Tables}
 use Rattle.aig_strash.specs.Numbering.{HasGates, HasSmallLiteral, gate_literals, operand_literals}
-use Rattle.aig_strash.specs.Tables.{Gates, Literals, PutsIfAbsent, are_same, literal_limit, number_of, numbers_of}
+use Rattle.aig_strash.specs.Tables.{Gates, Literals, PutsIfAbsent, are_same, literal_limit, number_of_gate, numbers_of}
 use Rattle.aig_strash.proofs.Equal.{Equal}
 use Rattle.aig_strash.proofs.Firsts.{first-0, first-is, first-leaf, first-within, image-same, numbers-count, numbers-length}
 use Rattle.aig_strash.proofs.Numbered.{equal-from_literals, image-before, image-kept, kept_before-few, literals-from_equal}
@@ -104,12 +104,12 @@ module _ (nodes : List AigNode) (are : AreNodes nodes) where
   }
 
   module _ (n : ℕ) (h : n < length nodes) (gate : IsGate nodes n) (old new : Gates) (has : HasGates nodes n old) (found : ℕ) (puts : PutsIfAbsent are_same old new (gate_literals nodes n) (kept_before nodes n) found) where
-    by_found : (o : Option ℕ) → number_of old (gate_literals nodes n) ≡ o → unwrap_or o (kept_before nodes n) ≡ image_of nodes n
+    by_found : (o : Option ℕ) → number_of_gate old (gate_literals nodes n) ≡ o → unwrap_or o (kept_before nodes n) ≡ image_of nodes n
     by_found (Some v) is =
         let there = has.no_more (gate_literals nodes n) (subst IsSome (sym is) refl) in
         let low : there.0 < n = there.1 in
         let at = has.each there.0 there.1 there.2 in
-        let same : Some v ≡ Some (image_of nodes there.0) = sym is ∙ ap (number_of old) (sym there.3) ∙ at in
+        let same : Some v ≡ Some (image_of nodes there.0) = sym is ∙ ap (number_of_gate old) (sym there.3) ∙ at in
         let equal = equal-from_literals nodes are there.0 n there.2 gate there.3 in
         ap (λ o. unwrap_or o v) same ∙ image-same nodes are there.0 n (omega arith) h equal
     by_found None is = sym (image-kept nodes are n h (elim (cases_lt (first_of nodes n) n) [
@@ -117,19 +117,19 @@ module _ (nodes : List AigNode) (are : AreNodes nodes) where
           let first = first-is nodes are n h in
           let within = first-within nodes are n h in
           let at = has.each (first_of nodes n) low (IsGate-equal (first_of nodes n) n within gate first.equal) in
-          let same : Some (image_of nodes (first_of nodes n)) ≡ None = sym at ∙ ap (number_of old) (literals-from_equal nodes are (first_of nodes n) n within h first.equal) ∙ is in
+          let same : Some (image_of nodes (first_of nodes n)) ≡ None = sym at ∙ ap (number_of_gate old) (literals-from_equal nodes are (first_of nodes n) n within h first.equal) ∙ is in
           cc)
       | inr high ↦ (let low = (first-is nodes are n h).low in omega arith)
     ]))
 
     pub number-gate : found ≡ image_of nodes n
-    number-gate = puts.value ∙ by_found (number_of old (gate_literals nodes n)) refl
+    number-gate = puts.value ∙ by_found (number_of_gate old (gate_literals nodes n)) refl
 
-    each-gate : (m : ℕ) → IsGate nodes m → (b : Bool) → are_same (gate_literals nodes n) (gate_literals nodes m) ≡ b → (m < n + 1) → number_of new (gate_literals nodes m) ≡ Some (image_of nodes m)
+    each-gate : (m : ℕ) → IsGate nodes m → (b : Bool) → are_same (gate_literals nodes n) (gate_literals nodes m) ≡ b → (m < n + 1) → number_of_gate new (gate_literals nodes m) ≡ Some (image_of nodes m)
     each-gate m other true same low =
         let literals = are_same-is (gate_literals nodes n) (gate_literals nodes m) same in
         let equal = equal-from_literals nodes are n m gate other literals in
-        ap (number_of new) (sym literals) ∙ puts.here ∙ ap Some (number-gate ∙ image-same nodes are n m h (omega arith) equal)
+        ap (number_of_gate new) (sym literals) ∙ puts.here ∙ ap Some (number-gate ∙ image-same nodes are n m h (omega arith) equal)
     each-gate m other false apart low = elim (cases_lt m n) [
       | inl less ↦ puts.others (gate_literals nodes m) apart ∙ has.each m less other
       | inr more ↦ (
@@ -137,7 +137,7 @@ module _ (nodes : List AigNode) (are : AreNodes nodes) where
           absurd (false≢true (sym apart ∙ ap (λ k. are_same (gate_literals nodes n) (gate_literals nodes k)) (sym same) ∙ are_same-itself (gate_literals nodes n))))
     ]
 
-    no_more-gate : (q : Literals) → (b : Bool) → are_same (gate_literals nodes n) q ≡ b → IsSome (number_of new q) → (m : ℕ) × (m < n + 1) × IsGate nodes m × (gate_literals nodes m ≡ q)
+    no_more-gate : (q : Literals) → (b : Bool) → are_same (gate_literals nodes n) q ≡ b → IsSome (number_of_gate new q) → (m : ℕ) × (m < n + 1) × IsGate nodes m × (gate_literals nodes m ≡ q)
     no_more-gate q true same there = (n, omega arith, gate, are_same-is (gate_literals nodes n) q same)
     no_more-gate q false apart there =
         let before = has.no_more q (subst IsSome (puts.others q apart) there) in

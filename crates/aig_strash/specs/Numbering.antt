@@ -9,7 +9,7 @@ use Rattle.aig_circuit.specs.Edge.{literal_of}
 use Rattle.aig_circuit.specs.Node.{kind_at}
 use Rattle.aig_circuit.specs.Renumber.{renumbered_kind}
 use Rattle.aig_strash.specs.Exchange.{IsGate, image_of, kept_before, node_numbers}
-use Rattle.aig_strash.specs.Tables.{Gates, Literals, gates_of, literal_limit, number_of, numbers_of}
+use Rattle.aig_strash.specs.Tables.{Gates, Literals, gates_of, literal_limit, number_of_gate, numbers_of}
 use Rattle.aig_strash.specs.declared.numbers.Tables.{Tables}
 use Rattle.aig_strash.specs.declared.hashing.Numbering.{Numbering}
 
@@ -30,8 +30,8 @@ gate_literals nodes n = operand_literals (renumbered_kind (image_of nodes) (kind
 
 -- the map has the new number of each gate among the first n nodes, by its operands' literals, and nothing else
 pub record HasGates (nodes : List AigNode) (n : ℕ) (gates : Gates) : Type 0 where
-  pub each : (m : ℕ) → m < n → IsGate nodes m → number_of gates (gate_literals nodes m) ≡ Some (image_of nodes m)
-  pub no_more : (q : Literals) → IsSome (number_of gates q) → (m : ℕ) × (m < n) × IsGate nodes m × (gate_literals nodes m ≡ q)
+  pub each : (m : ℕ) → m < n → IsGate nodes m → number_of_gate gates (gate_literals nodes m) ≡ Some (image_of nodes m)
+  pub no_more : (q : Literals) → IsSome (number_of_gate gates q) → (m : ℕ) × (m < n) × IsGate nodes m × (gate_literals nodes m ≡ q)
 
 -- the first n nodes are numbered, and the tables have room for the literals of all
 pub record HasNumbered (nodes : List AigNode) (n : ℕ) (numbering : Numbering) : Type 0 where

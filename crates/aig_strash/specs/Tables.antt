@@ -26,8 +26,8 @@ abbrev pub are_same : Literals → Literals → Bool
 are_same p q = nat_eq p.0 q.0 && nat_eq p.1 q.1
 
 -- the number of the gate with these operands
-abbrev pub number_of : Gates → Literals → Option ℕ
-number_of gates literals = get are_same gates literals
+abbrev pub number_of_gate : Gates → Literals → Option ℕ
+number_of_gate gates literals = get are_same gates literals
 
 -- the new number of each node so far
 abbrev pub numbers_of : Tables → List ℕ

@@ -17,7 +17,7 @@ use Rattle.aig_format.specs.File.{File, LatchLine}
 use Rattle.aig_format.specs.Fits.{Fits}
 use Rattle.aig_format.specs.Machine.{literal_value}
 use Rattle.aig_format.specs.Circuit.{circuit_of, edge_of, initial_of, latch_of}
-use Rattle.aig_format.specs.Numbering.{number_of}
+use Rattle.aig_format.specs.Numbering.{node_of_variable}
 use Rattle.aig_format.specs.Variables.{IsKnown}
 use Rattle.aig_format.proofs.Circuits.{IsCircuit-of_file, used_by_section}
 use Rattle.aig_format.proofs.Numbers.{used_known}
@@ -104,7 +104,7 @@ module _ (f : File) (limit : ℕ) (w : Witness) (fits : Fits f limit) (given : I
         start = starts;
         steps = record {
           inputs = λ t h.
-              zip_long (λ e known. Agrees known (run t (e / 2))) f.inputs (get_or w.steps t []) (shows.there.2.inputs t (get_or w.steps t []) (slice_get-get_or w.steps t [] h)) ∙ sym (length-map f.inputs (λ e. number_of f (e / 2)));
+              zip_long (λ e known. Agrees known (run t (e / 2))) f.inputs (get_or w.steps t []) (shows.there.2.inputs t (get_or w.steps t []) (slice_get-get_or w.steps t [] h)) ∙ sym (length-map f.inputs (λ e. node_of_variable f (e / 2)));
           constraints = λ t h. All-map (λ e. value_in (simulated c w t) e ≡ TRUE) (edge_of f) f.constraints (λ i d lt.
               let low : t ≤ last = omega arith in
               seen t (get_or f.constraints i d) h (All-from_recursion (IsKnown f) f.constraints used.constraints i d lt) (All-from_map (edge_of f) (IsInRange c.nodes) f.constraints is_circuit.constraints i d lt)

@@ -18,7 +18,7 @@ use Rattle.aig_format.specs.Fits.{Fits}
 use Rattle.aig_format.specs.Machine as machine
 use Rattle.aig_format.specs.Machine.{literal_value}
 use Rattle.aig_format.specs.Circuit.{circuit_of, edge_of, latch_of}
-use Rattle.aig_format.specs.Numbering.{number_of}
+use Rattle.aig_format.specs.Numbering.{node_of_variable}
 use Rattle.aig_format.specs.Variables.{IsKnown}
 use Rattle.aig_format.proofs.Circuits.{IsCircuit-of_file, used_by_section}
 use Rattle.aig_format.proofs.Numbers.{used_known, variable_at-number}
@@ -60,14 +60,14 @@ module _ (f : File) (limit : ℕ) (w : Witness) (fits : Fits f limit) where
     abbrev x : ℕ → ℕ → Bool
     x = leaves_of f run
 
-    pub leaf_is : (t e : ℕ) → IsKnown f e → x t (number_of f (e / 2)) ≡ run t (e / 2)
+    pub leaf_is : (t e : ℕ) → IsKnown f e → x t (node_of_variable f (e / 2)) ≡ run t (e / 2)
     leaf_is t e known = ap (run t) (variable_at-number f limit fits (e / 2) known)
 
     pub first_agrees : AllZip (λ n known. Agrees known (x 0 n)) (latch_leaves (circuit_of f).latchs) w.state
     first_agrees =
         zip_made (λ (latch : AigLatch). latch.input) (λ n known. Agrees known (x 0 n)) (map (latch_of f) f.latches) w.state
         (zip_made (latch_of f) (λ (latch : AigLatch) known. Agrees known (x 0 latch.input)) f.latches w.state
-        (zip_with (λ (l : LatchLine). IsKnown f l.literal) (λ l known. Agrees known (run 0 (l.literal / 2))) (λ l known. Agrees known (x 0 (number_of f (l.literal / 2)))) f.latches w.state
+        (zip_with (λ (l : LatchLine). IsKnown f l.literal) (λ l known. Agrees known (run 0 (l.literal / 2))) (λ l known. Agrees known (x 0 (node_of_variable f (l.literal / 2)))) f.latches w.state
         (λ l known is agrees. subst (Agrees known) (sym (leaf_is 0 l.literal is)) agrees) (latches_known f) given.state))
 
     pub is_filling : IsFilling (circuit_of f) w.state w.steps x
@@ -75,8 +75,8 @@ module _ (f : File) (limit : ℕ) (w : Witness) (fits : Fits f limit) where
       run = forth_run f limit last run fits is_run;
       first = first_agrees;
       each = λ t line there.
-          zip_made (λ e. number_of f (e / 2)) (λ n known. Agrees known (x t n)) f.inputs line
-          (zip_with (IsKnown f) (λ e known. Agrees known (run t (e / 2))) (λ e known. Agrees known (x t (number_of f (e / 2)))) f.inputs line
+          zip_made (λ e. node_of_variable f (e / 2)) (λ n known. Agrees known (x t n)) f.inputs line
+          (zip_with (IsKnown f) (λ e known. Agrees known (run t (e / 2))) (λ e known. Agrees known (x t (node_of_variable f (e / 2)))) f.inputs line
           (λ e known is agrees. subst (Agrees known) (sym (leaf_is t e is)) agrees) (inputs_known f) (given.inputs t line there));
     }
 
@@ -84,7 +84,7 @@ module _ (f : File) (limit : ℕ) (w : Witness) (fits : Fits f limit) where
 
   module _ (latches : length w.state ≡ length (circuit_of f).latchs) (inputs : (t : ℕ) → t < length w.steps → length (get_or w.steps t []) ≡ length (circuit_of f).inputs) where
     abbrev chosen : ℕ → ℕ → Bool
-    chosen t v = said (given_values (circuit_of f) (get_or w.steps t []) w.state (number_of f v))
+    chosen t v = said (given_values (circuit_of f) (get_or w.steps t []) w.state (node_of_variable f v))
 
     placed : (t : ℕ) → t < length w.steps → AllZip (λ n v. given_values (circuit_of f) (get_or w.steps t []) w.state n ≡ v) (circuit_of f).inputs (get_or w.steps t [])
         × AllZip (λ n v. given_values (circuit_of f) (get_or w.steps t []) w.state n ≡ v) (latch_leaves (circuit_of f).latchs) w.state
@@ -93,14 +93,14 @@ module _ (f : File) (limit : ℕ) (w : Witness) (fits : Fits f limit) where
         let row = get_or w.steps t [] in
         let leaves = AreLeaves-of_circuit c (IsCircuit-of_file f limit fits) in
         let long : length (row ++ w.state) ≡ length (c.inputs ++ latch_leaves c.latchs) =
-        simp (length-append, length-map) (omega (arith, inputs t h, latches, length-map f.latches (latch_of f), length-map f.inputs (λ e. number_of f (e / 2)))) in
+        simp (length-append, length-map) (omega (arith, inputs t h, latches, length-map f.latches (latch_of f), length-map f.inputs (λ e. node_of_variable f (e / 2)))) in
         zip_split (λ n v. given_values c row w.state n ≡ v) c.inputs (latch_leaves c.latchs) row w.state (inputs t h) (value_for-zip (c.inputs ++ latch_leaves c.latchs) (row ++ w.state) leaves.distinct long)
 
     has_given : (run : ℕ → ℕ → Bool) → 0 < length w.steps
         → ((t : ℕ) → t ≤ last → AllByRecursion (λ e. chosen t (e / 2) ≡ run t (e / 2)) f.inputs) → AllByRecursion (λ (l : LatchLine). chosen 0 (l.literal / 2) ≡ run 0 (l.literal / 2)) f.latches → HasGiven f w run
     has_given run some same_inputs same_latches = record {
       state =
-          zip_with (λ (l : LatchLine). chosen 0 (l.literal / 2) ≡ run 0 (l.literal / 2)) (λ l v. given_values (circuit_of f) (get_or w.steps 0 []) w.state (number_of f (l.literal / 2)) ≡ v) (λ l known. Agrees known (run 0 (l.literal / 2))) f.latches w.state
+          zip_with (λ (l : LatchLine). chosen 0 (l.literal / 2) ≡ run 0 (l.literal / 2)) (λ l v. given_values (circuit_of f) (get_or w.steps 0 []) w.state (node_of_variable f (l.literal / 2)) ≡ v) (λ l known. Agrees known (run 0 (l.literal / 2))) f.latches w.state
           (λ l known same is. subst (Agrees known) (ap said (sym is) ∙ same) (agrees_said known)) same_latches
           (zip_unmade (latch_of f) (λ (latch : AigLatch) v. given_values (circuit_of f) (get_or w.steps 0 []) w.state latch.input ≡ v) f.latches w.state
           (zip_unmade (λ (latch : AigLatch). latch.input) (λ n v. given_values (circuit_of f) (get_or w.steps 0 []) w.state n ≡ v) (map (latch_of f) f.latches) w.state (placed 0 some).1));
@@ -109,9 +109,9 @@ module _ (f : File) (limit : ℕ) (w : Witness) (fits : Fits f limit) where
           let row = get_or w.steps t [] in
           let is_row : row ≡ line = get_or_from_slice_get w.steps t line [] there in
           subst (λ values. AllZip (λ e known. Agrees known (run t (e / 2))) f.inputs values) is_row
-          (zip_with (λ e. chosen t (e / 2) ≡ run t (e / 2)) (λ e v. given_values (circuit_of f) row w.state (number_of f (e / 2)) ≡ v) (λ e known. Agrees known (run t (e / 2))) f.inputs row
+          (zip_with (λ e. chosen t (e / 2) ≡ run t (e / 2)) (λ e v. given_values (circuit_of f) row w.state (node_of_variable f (e / 2)) ≡ v) (λ e known. Agrees known (run t (e / 2))) f.inputs row
           (λ e known same is. subst (Agrees known) (ap said (sym is) ∙ same) (agrees_said known)) (same_inputs t (omega arith))
-          (zip_unmade (λ e. number_of f (e / 2)) (λ n v. given_values (circuit_of f) row w.state n ≡ v) f.inputs row (placed t within).0));
+          (zip_unmade (λ e. node_of_variable f (e / 2)) (λ n v. given_values (circuit_of f) row w.state n ≡ v) f.inputs row (placed t within).0));
     }
 
     pub given_is_there : 0 < length w.steps → (run : ℕ → ℕ → Bool) × machine.IsRun f last run × HasGiven f w run

@@ -32,7 +32,7 @@ use Rattle.aig_renumber.proofs.Order.{IsGate, Numbers-order, length-order, no_ga
 use Rattle.aig_renumber.proofs.Placed.{AreAsLong-reencoded, IsCircuit-reencoded}
 use Rattle.aig_renumber.proofs.Places.{map-agrees, map-same}
 use Rattle.aig_writer.specs.Literals.{FallsBelow, IsSmall}
-use Rattle.aig_writer.specs.Numbering.{FitsBinary, IsBinaryNumbering, number_in, numbered_file, renumbered_node}
+use Rattle.aig_writer.specs.Numbering.{FitsBinary, IsBinaryNumbering, written_number, numbered_file, renumbered_node}
 use Rattle.aig_writer.proofs.Small.{FallsBelow-from_circuit}
 
 -- ---- lengths
@@ -105,40 +105,40 @@ module _ (c : Circuit) (is : IsCircuit c) where
 
   -- ---- under their own numbers
 
-  own_kind : (typ : AigNodeType) → ((a b : AigEdge) → typ ≡ And a b → literal_of a ≤ literal_of b) → renumbered_kind (number_in []) (Some typ) ≡ typ
+  own_kind : (typ : AigNodeType) → ((a b : AigEdge) → typ ≡ And a b → literal_of a ≤ literal_of b) → renumbered_kind (written_number []) (Some typ) ≡ typ
   own_kind (And a b) ordered =
       let test : nat_lt (literal_of b) (literal_of a) ≡ false = (let low = ordered a b refl in grind (arith, nat_tests)) in
       ap (λ less. cond less (And b a) (And a b)) test
   own_kind Leaf ordered = refl
   own_kind False ordered = refl
 
-  own_node : (k : ℕ) (d : AigNode) → k < length c.nodes → renumbered_node (number_in []) (get_or c.nodes k d) ≡ get_or c.nodes k d
+  own_node : (k : ℕ) (d : AigNode) → k < length c.nodes → renumbered_node (written_number []) (get_or c.nodes k d) ≡ get_or c.nodes k d
   own_node k d h =
       let node = get_or c.nodes k d in
       ap (λ typ. record { node_id = node.node_id; typ = typ }) (own_kind node.typ (λ a b typ. is.nodes.ordered.in_order k a b (kind_read k d h ∙ ap Some typ)))
 
-own_init : (o : Option AigEdge) → option_map (renumbered_edge (number_in [])) o ≡ o
+own_init : (o : Option AigEdge) → option_map (renumbered_edge (written_number [])) o ≡ o
 own_init None = refl
 own_init (Some e) = refl
 
-own_latch : (l : AigLatch) → renumbered_latch (number_in []) l ≡ l
+own_latch : (l : AigLatch) → renumbered_latch (written_number []) l ≡ l
 own_latch l = ap (λ o. record { input = l.input; next = l.next; init = o }) (own_init l.init)
 
-own_edges : (es : List AigEdge) → map (renumbered_edge (number_in [])) es ≡ es
-own_edges es = map-same (renumbered_edge (number_in [])) es (λ k d h. refl)
+own_edges : (es : List AigEdge) → map (renumbered_edge (written_number [])) es ≡ es
+own_edges es = map-same (renumbered_edge (written_number [])) es (λ k d h. refl)
 
 -- an empty table changes no number
-pub own_file : (c : Circuit) → IsCircuit c → (kind : FileKind) → numbered_file (number_in []) kind c ≡ file_of kind c
+pub own_file : (c : Circuit) → IsCircuit c → (kind : FileKind) → numbered_file (written_number []) kind c ≡ file_of kind c
 own_file c is kind =
-    let inputs = ap (map (λ n. 2 * n)) (map-same (number_in []) c.inputs (λ k d h. refl)) in
-    let latches = ap (map latch_line) (map-same (renumbered_latch (number_in [])) c.latchs (λ k d h. own_latch (get_or c.latchs k d))) in
+    let inputs = ap (map (λ n. 2 * n)) (map-same (written_number []) c.inputs (λ k d h. refl)) in
+    let latches = ap (map latch_line) (map-same (renumbered_latch (written_number [])) c.latchs (λ k d h. own_latch (get_or c.latchs k d))) in
     let edges = λ (es : List AigEdge). ap (map literal_of) (own_edges es) in
     let outputs = edges c.outputs in
     let bads = edges c.bads in
     let constraints = edges c.constraints in
     let fairness = edges c.fairness in
-    let justice = ap (map (map literal_of)) (map-same (map (renumbered_edge (number_in []))) c.justice (λ k d h. own_edges (get_or c.justice k d))) in
-    let gates = ap (filter_map gate_line) (map-same (renumbered_node (number_in [])) c.nodes (own_node c is)) in
+    let justice = ap (map (map literal_of)) (map-same (map (renumbered_edge (written_number []))) c.justice (λ k d h. own_edges (get_or c.justice k d))) in
+    let gates = ap (filter_map gate_line) (map-same (renumbered_node (written_number [])) c.nodes (own_node c is)) in
     let names = (file_of kind c).names in
     λ i. record {
       kind = kind;
@@ -252,16 +252,16 @@ module _ (c : Circuit) (is : IsCircuit c) (closed : IsClosed c) where
   -- ---- the binary file
 
   module _ (table : List ℕ) (has : IsBinaryNumbering c table) where
-    same_circuit : renumbered_circuit (number_in table) (order_of c) c ≡ reencoded c
-    same_circuit = circuits-agree (λ n. n < length c.nodes) (number_in table) (new_number c) has.numbers c (order_of c) (SpeaksOf-nodes c is) (λ n a b at. (
+    same_circuit : renumbered_circuit (written_number table) (order_of c) c ≡ reencoded c
+    same_circuit = circuits-agree (λ n. n < length c.nodes) (written_number table) (new_number c) has.numbers c (order_of c) (SpeaksOf-nodes c is) (λ n a b at. (
       let within = kind_at-within c.nodes n (And a b) at in let low = is.nodes.ordered.first_before n a b at in omega arith,
       let within = kind_at-within c.nodes n (And a b) at in let low = is.nodes.ordered.second_before n a b at in omega arith,
     ))
 
     -- the file under the table's numbers is that of the re-encoded circuit
-    pub binary_file : numbered_file (number_in table) Binary c ≡ file_of Binary (reencoded c)
+    pub binary_file : numbered_file (written_number table) Binary c ≡ file_of Binary (reencoded c)
     binary_file =
-        let d = renumbered_circuit (number_in table) (order_of c) c in
+        let d = renumbered_circuit (written_number table) (order_of c) c in
         let nodes = (AreAsLong-reencoded c is closed).nodes in
         let greatest = ap (λ n. n - 1) (sym nodes) in
         let inputs = ap (λ (e : Circuit). map (λ n. 2 * n) e.inputs) same_circuit in
@@ -271,7 +271,7 @@ module _ (c : Circuit) (is : IsCircuit c) (closed : IsClosed c) where
         let constraints = ap (λ (e : Circuit). map literal_of e.constraints) same_circuit in
         let justice = ap (λ (e : Circuit). map (map literal_of) e.justice) same_circuit in
         let fairness = ap (λ (e : Circuit). map literal_of e.fairness) same_circuit in
-        let gates = ap (filter_map gate_line) (map-agrees (renumbered_node (number_in table)) (renumbered_node (new_number c)) c.nodes (nodes_agree c is (number_in table) (new_number c) has.numbers)) ∙ sym gates-reencoded in
+        let gates = ap (filter_map gate_line) (map-agrees (renumbered_node (written_number table)) (renumbered_node (new_number c)) c.nodes (nodes_agree c is (written_number table) (new_number c) has.numbers)) ∙ sym gates-reencoded in
         let names = sym (names-reencoded Binary) in
         λ i. record {
           kind = Binary;
@@ -308,9 +308,9 @@ module _ (c : Circuit) (is : IsCircuit c) (closed : IsClosed c) where
       let place = (Numbers-order c is closed).within k h in
       subst FallsBelow (node-reencoded k d h) (FallsBelow-from_circuit (reencoded c) (IsCircuit-reencoded c is closed) (omega arith) (new_number c k) d (omega (arith, length-order c is closed)))
 
-pub numbered_falls : (c : Circuit) → IsCircuit c → (table : List ℕ) → FitsBinary c table → All (λ node. FallsBelow (renumbered_node (number_in table) node)) c.nodes
+pub numbered_falls : (c : Circuit) → IsCircuit c → (table : List ℕ) → FitsBinary c table → All (λ node. FallsBelow (renumbered_node (written_number table) node)) c.nodes
 numbered_falls c is table fits k d h =
-    subst FallsBelow (sym (nodes_agree c is (number_in table) (new_number c) fits.numbering.numbers k d h)) (falls-reencoded c is fits.closed fits.few k d h)
+    subst FallsBelow (sym (nodes_agree c is (written_number table) (new_number c) fits.numbering.numbers k d h)) (falls-reencoded c is fits.closed fits.few k d h)
 
 -- the numbers of a table are small
 pub table_small : (c : Circuit) (table : List ℕ) → length c.nodes ≤ 2 ^ 31 → IsBinaryNumbering c table → All IsSmall table

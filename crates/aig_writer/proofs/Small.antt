@@ -13,7 +13,7 @@ use Rattle.aig_circuit.specs.declared.node.AigLatch.{AigLatch}
 use Rattle.aig_circuit.specs.Edge.{literal_of}
 use Rattle.aig_circuit.specs.Node.{and_of}
 use Rattle.aig_circuit.specs.Renumber.{renumbered_edge, renumbered_latch}
-use Rattle.aig_writer.specs.Numbering.{number_in}
+use Rattle.aig_writer.specs.Numbering.{written_number}
 use Rattle.aig_circuit.proofs.Trees.{kind_at-within}
 use Rattle.aig_writer.specs.Literals.{FallsBelow, IsSmall, IsSmallEdge, IsSmallLatch, IsSmallNode, HasSmallNumbers}
 
@@ -69,20 +69,20 @@ HasSmallNumbers-from_circuit c is few =
 -- ---- under other numbers
 
 module _ (table : List ℕ) (all : All IsSmall table) where
-  pub number_small : (n : ℕ) → IsSmall n → IsSmall (number_in table n)
+  pub number_small : (n : ℕ) → IsSmall n → IsSmall (written_number table n)
   number_small n small = elim (cases_lt n (length table)) [
     | inl within ↦ all n n within
     | inr past ↦ (let same = get_or_past table n n past in rw same small)
   ]
 
-  pub edge_small : (e : AigEdge) → IsSmallEdge e → IsSmallEdge (renumbered_edge (number_in table) e)
+  pub edge_small : (e : AigEdge) → IsSmallEdge e → IsSmallEdge (renumbered_edge (written_number table) e)
   edge_small e small = number_small e.node_id small
 
-  init_small_under : (o : Option AigEdge) → IfSome o IsSmallEdge → IfSome (option_map (renumbered_edge (number_in table)) o) IsSmallEdge
+  init_small_under : (o : Option AigEdge) → IfSome o IsSmallEdge → IfSome (option_map (renumbered_edge (written_number table)) o) IsSmallEdge
   init_small_under (Some e) small = edge_small e small
   init_small_under None small = small
 
-  pub latch_small : (l : AigLatch) → IsSmallLatch l → IsSmallLatch (renumbered_latch (number_in table) l)
+  pub latch_small : (l : AigLatch) → IsSmallLatch l → IsSmallLatch (renumbered_latch (written_number table) l)
   latch_small l small = record { leaf = number_small l.input small.leaf; next = edge_small l.next small.next; init = init_small_under l.init small.init }
 
   and_small : (x y : AigEdge) → IsSmallEdge x → IsSmallEdge y → (a b : AigEdge) → and_of x y ≡ And a b → IsSmallEdge a × IsSmallEdge b
@@ -92,8 +92,8 @@ module _ (table : List ℕ) (all : All IsSmall table) where
       by_order true is = let e : y ≡ a = cc in let f : x ≡ b = cc in (subst IsSmallEdge e second, subst IsSmallEdge f first)
       by_order false is = let e : x ≡ a = cc in let f : y ≡ b = cc in (subst IsSmallEdge e first, subst IsSmallEdge f second)
 
-  pub gate_small : (n : ℕ) (x y : AigEdge) → IsSmall n → IsSmallEdge x → IsSmallEdge y → IsSmallNode (record { node_id = number_in table n; typ = and_of (renumbered_edge (number_in table) x) (renumbered_edge (number_in table) y) })
+  pub gate_small : (n : ℕ) (x y : AigEdge) → IsSmall n → IsSmallEdge x → IsSmallEdge y → IsSmallNode (record { node_id = written_number table n; typ = and_of (renumbered_edge (written_number table) x) (renumbered_edge (written_number table) y) })
   gate_small n x y own first second = record {
     own = number_small n own;
-    operands = and_small (renumbered_edge (number_in table) x) (renumbered_edge (number_in table) y) (edge_small x first) (edge_small y second);
+    operands = and_small (renumbered_edge (written_number table) x) (renumbered_edge (written_number table) y) (edge_small x first) (edge_small y second);
   }

@@ -10,8 +10,8 @@ use Rattle.aig_format.specs.File.{File}
 use Rattle.aig_format.specs.Circuit.{file_of, gate_line}
 
 -- the number of a node in a table, which has it at the node's place; a node past its end keeps its own
-abbrev pub number_in : List ℕ → ℕ → ℕ
-number_in table n = slice_index_or table n n
+abbrev pub written_number : List ℕ → ℕ → ℕ
+written_number table n = slice_index_or table n n
 
 -- the node under another number, with a gate's operands put in order again
 abbrev pub renumbered_node : (ℕ → ℕ) → AigNode → AigNode
@@ -29,7 +29,7 @@ numbered_file number kind c =
 -- the table has the numbers that the binary form gives the circuit's nodes
 pub record IsBinaryNumbering (c : Circuit) (table : List ℕ) : Type 0 where
   pub within : All (λ m. m < length c.nodes) table
-  pub numbers : (n : ℕ) → n < length c.nodes → number_in table n ≡ new_number c n
+  pub numbers : (n : ℕ) → n < length c.nodes → written_number table n ≡ new_number c n
 
 -- the circuit has a binary form, and the table its numbers
 pub record FitsBinary (c : Circuit) (table : List ℕ) : Type 0 where

@@ -6,7 +6,7 @@ ghost use Rattle.aig_format.specs.declared.FileKind.TheVariants.{Text};
 ghost use Rattle.aig_format.specs.Written.{file_text};
 ghost use Rattle.aig_format.specs.Circuit.{binary_of, text_of};
 ghost use Rattle.aig_writer.specs.Literals.{HasSmallNumbers, IsSmall};
-ghost use Rattle.aig_writer.specs.Numbering.{FitsBinary, IsBinaryNumbering, number_in, numbered_file};
+ghost use Rattle.aig_writer.specs.Numbering.{FitsBinary, IsBinaryNumbering, written_number, numbered_file};
 ghost use Rattle.aig_writer.specs.Sinks.{BuffersOrStops, WritesOrStops};
 ghost use Rattle.aig_writer.specs.Parts.{properties_of};
 
@@ -29,7 +29,7 @@ fn write_properties<W: Sink>(
 ) -> Result<(), StreamFault>
     requires table { All IsSmall numbers.now }
     requires small { HasSmallNumbers circuit.now }
-    ensures { let text = properties_of (numbered_file (number_in numbers.now) Text circuit.now) in
+    ensures { let text = properties_of (numbered_file (written_number numbers.now) Text circuit.now) in
         BuffersOrStops W.held W.failed buffer.old w.old result text buffer.new w.new }
 {
     write_edges(buffer, w, numbers, circuit.outputs())?;
@@ -52,7 +52,7 @@ fn write_sections<W: Sink>(
     requires few { length circuit.now.nodes ≤ 2 ^ 63 }
     requires binary { kind ≡ FileKind.Binary → FitsBinary circuit.now numbers.now }
     ensures writes { let text = file_text
-        (numbered_file (number_in numbers.now) kind circuit.now) in
+        (numbered_file (written_number numbers.now) kind circuit.now) in
         BuffersOrStops W.held W.failed buffer.old w.old result text buffer.new w.new }
     ensures circuit { IsCircuit circuit.now }
 {
@@ -75,7 +75,7 @@ fn write_form<W: Sink>(
     requires few { length circuit.now.nodes ≤ 2 ^ 63 }
     requires binary { kind ≡ FileKind.Binary → FitsBinary circuit.now numbers.now }
     ensures writes { let text = file_text
-        (numbered_file (number_in numbers.now) kind circuit.now) in
+        (numbered_file (written_number numbers.now) kind circuit.now) in
         WritesOrStops W.held W.failed w.old result text w.new }
     ensures circuit { IsCircuit circuit.now }
 {

@@ -5,15 +5,15 @@ ghost use Rattle.std.specs.Prelude.{◌≡◌, ◌≢◌, ◌↔◌, ℕ, ◌+�
 ghost use Rattle.aig_circuit.specs.Circuit.{IsCircuit, IsClosed, latch_leaves};
 ghost use Rattle.aig_circuit.specs.Reencode.{IsReencoded, gate_number};
 ghost use Rattle.aig_circuit.specs.Renumber.{renumbered_edge, renumbered_latch};
-ghost use Rattle.aig_writer.specs.Numbering.{IsBinaryNumbering, IsRowFrom, NumbersFrom, number_in};
+ghost use Rattle.aig_writer.specs.Numbering.{IsBinaryNumbering, IsRowFrom, NumbersFrom, written_number};
 
 use aig_base::MemoryError;
 use aig_circuit::{AigEdge, AigLatch, AigNode, CircuitView};
 
 /// The number of node `n`.
 #[inline]
-pub(crate) fn number_of(numbers: &[usize], n: usize) -> usize
-    ensures { result ≡ number_in numbers.now n }
+pub(crate) fn written_number(numbers: &[usize], n: usize) -> usize
+    ensures { result ≡ written_number numbers.now n }
 {
     numbers.get(n).copied().unwrap_or(n)
 }
@@ -21,21 +21,21 @@ pub(crate) fn number_of(numbers: &[usize], n: usize) -> usize
 /// The edge to the node's new number.
 #[inline]
 pub(crate) fn renumber_edge(numbers: &[usize], e: AigEdge) -> AigEdge
-    ensures { result ≡ renumbered_edge (number_in numbers.now) e }
+    ensures { result ≡ renumbered_edge (written_number numbers.now) e }
 {
-    AigEdge::new(number_of(numbers, e.node_id()), e.compl())
+    AigEdge::new(written_number(numbers, e.node_id()), e.compl())
 }
 
 /// The latch with its leaf and its edges under their new numbers.
 pub(crate) fn renumber_latch(numbers: &[usize], latch: &AigLatch) -> AigLatch
-    ensures { result ≡ renumbered_latch (number_in numbers.now) latch.now }
+    ensures { result ≡ renumbered_latch (written_number numbers.now) latch.now }
 {
     let init = match latch.init() {
         Some(e) => Some(renumber_edge(numbers, e)),
         None => None,
     };
     AigLatch::new(
-        number_of(numbers, latch.input()),
+        written_number(numbers, latch.input()),
         renumber_edge(numbers, latch.next()),
         init,
     )

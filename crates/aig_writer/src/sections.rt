@@ -8,12 +8,12 @@ ghost use Rattle.aig_format.specs.Written.{delta_of, gate_text, inputs_text, lat
 ghost use Rattle.aig_format.specs.Circuit.{latch_line, gate_line};
 ghost use Rattle.aig_writer.specs.Sinks.{BuffersOrStops};
 ghost use Rattle.aig_writer.specs.Parts.{edges_of};
-ghost use Rattle.aig_writer.specs.Numbering.{number_in, renumbered_node};
+ghost use Rattle.aig_writer.specs.Numbering.{written_number, renumbered_node};
 ghost use Rattle.aig_writer.specs.Literals.{IsSmall, IsSmallEdge, IsSmallLatch, IsSmallNode, FallsBelow};
 
 use crate::buffer::OutputBuffer;
 use crate::literal::{literal, reset_literal};
-use crate::numbering::{number_of, renumber_edge, renumber_latch};
+use crate::numbering::{written_number, renumber_edge, renumber_latch};
 use aig_base::{Sink, StreamFault};
 use aig_circuit::{AigEdge, AigLatch, AigNode, AigNodeType, gate_node};
 use aig_format::FileKind;
@@ -27,11 +27,11 @@ fn write_input_lines<W: Sink>(
 ) -> Result<(), StreamFault>
     requires table { All IsSmall numbers.now }
     requires inputs { All IsSmall inputs.now }
-    ensures { let text = lines_text (map (λ n. 2 * n) (map (number_in numbers.now) inputs.now)) in
+    ensures { let text = lines_text (map (λ n. 2 * n) (map (written_number numbers.now) inputs.now)) in
         BuffersOrStops W.held W.failed buffer.old w.old result text buffer.new w.new }
 {
     for n in inputs {
-        buffer.write_line(w, &[2 * number_of(numbers, *n)])?;
+        buffer.write_line(w, &[2 * written_number(numbers, *n)])?;
     }
     Ok(())
 }
@@ -46,7 +46,7 @@ pub(crate) fn write_inputs<W: Sink>(
 ) -> Result<(), StreamFault>
     requires table { All IsSmall numbers.now }
     requires inputs { All IsSmall inputs.now }
-    ensures { let literals = map (λ n. 2 * n) (map (number_in numbers.now) inputs.now) in
+    ensures { let literals = map (λ n. 2 * n) (map (written_number numbers.now) inputs.now) in
         let text = inputs_text kind literals in
         BuffersOrStops W.held W.failed buffer.old w.old result text buffer.new w.new }
 {
@@ -87,7 +87,7 @@ pub(crate) fn write_latches<W: Sink>(
 ) -> Result<(), StreamFault>
     requires table { All IsSmall numbers.now }
     requires latches { All IsSmallLatch latchs.now }
-    ensures { let latches = map (renumbered_latch (number_in numbers.now)) latchs.now in
+    ensures { let latches = map (renumbered_latch (written_number numbers.now)) latchs.now in
         let text = flat_map (latch_text kind) (map latch_line latches) in
         BuffersOrStops W.held W.failed buffer.old w.old result text buffer.new w.new }
 {
@@ -106,7 +106,7 @@ pub(crate) fn write_edges<W: Sink>(
 ) -> Result<(), StreamFault>
     requires table { All IsSmall numbers.now }
     requires edges { All IsSmallEdge edges.now }
-    ensures { let written = map (renumbered_edge (number_in numbers.now)) edges.now in
+    ensures { let written = map (renumbered_edge (written_number numbers.now)) edges.now in
         let text = lines_text (map literal_of written) in
         BuffersOrStops W.held W.failed buffer.old w.old result text buffer.new w.new }
 {
@@ -140,7 +140,7 @@ pub(crate) fn write_sets<W: Sink>(
 ) -> Result<(), StreamFault>
     requires table { All IsSmall numbers.now }
     requires sets { All (λ set. All IsSmallEdge set.items) sets.now }
-    ensures { let written = map (map (renumbered_edge (number_in numbers.now)))
+    ensures { let written = map (map (renumbered_edge (written_number numbers.now)))
         (edges_of sets.now) in
         let text = flat_map lines_text (map (map literal_of) written) in
         BuffersOrStops W.held W.failed buffer.old w.old result text buffer.new w.new }
@@ -203,14 +203,14 @@ fn write_node<W: Sink>(
     requires table { All IsSmall numbers.now }
     requires small { IsSmallNode node.now }
     requires falls { kind ≡ FileKind.Binary
-        → FallsBelow (renumbered_node (number_in numbers.now) node.now) }
-    ensures { let written = renumbered_node (number_in numbers.now) node.now in
+        → FallsBelow (renumbered_node (written_number numbers.now) node.now) }
+    ensures { let written = renumbered_node (written_number numbers.now) node.now in
         let text = flat_map (gate_text kind) (option_to_list (gate_line written)) in
         BuffersOrStops W.held W.failed buffer.old w.old result text buffer.new w.new }
 {
     match *node.typ() {
         AigNodeType::And(first, second) => {
-            let own = number_of(numbers, node.node_id());
+            let own = written_number(numbers, node.node_id());
             let first = renumber_edge(numbers, first);
             let second = renumber_edge(numbers, second);
             write_gate(buffer, w, kind, &gate_node(own, first, second))
@@ -230,8 +230,8 @@ pub(crate) fn write_gates<W: Sink>(
     requires table { All IsSmall numbers.now }
     requires nodes { All IsSmallNode nodes.now }
     requires falls { kind ≡ FileKind.Binary →
-        All (λ node. FallsBelow (renumbered_node (number_in numbers.now) node)) nodes.now }
-    ensures { let written = map (renumbered_node (number_in numbers.now)) nodes.now in
+        All (λ node. FallsBelow (renumbered_node (written_number numbers.now) node)) nodes.now }
+    ensures { let written = map (renumbered_node (written_number numbers.now)) nodes.now in
         let text = flat_map (gate_text kind) (filter_map gate_line written) in
         BuffersOrStops W.held W.failed buffer.old w.old result text buffer.new w.new }
 {

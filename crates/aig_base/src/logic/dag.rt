@@ -1,7 +1,7 @@
 //! Clauses by the variable that they are given to.
 
 ghost use Rattle.std.specs.Prelude.{◌≡◌, ◌<◌, ◌≤◌, ◌^◌, ◌++◌, ◌∷◌, [], Some, length, false, sum_by, slice_get, slice_set, slice_index_or, IfOk, OnOk, OnErr};
-ghost use Rattle.aig_base.specs.Clauses.{AreBelow, AreRelations, lit_to, number_of, var_of};
+ghost use Rattle.aig_base.specs.Clauses.{AreBelow, AreRelations, lit_to, var_number, var_of};
 
 use crate::logic::clauses::LitVvec;
 use crate::logic::literal::{Lit, Var};
@@ -84,10 +84,10 @@ impl DagCnf {
     ///
     /// - `Memory`: memory was refused. Variables and clauses stay as they were.
     pub fn add_rel(&mut self, var: Var, rel: &LitVvec) -> Result<(), MemoryError>
-        requires var { number_of var < length self.old }
+        requires var { var_number var < length self.old }
         requires rel { AreBelow (length self.old) rel.now }
-        ensures ok { OnOk result (self.new ≡ slice_set self.old (number_of var)
-            (slice_index_or self.old (number_of var) [] ++ rel.now)) }
+        ensures ok { OnOk result (self.new ≡ slice_set self.old (var_number var)
+            (slice_index_or self.old (var_number var) [] ++ rel.now)) }
         ensures err { OnErr result (self.new ≡ self.old) }
     {
         if rel.len() > MOST_CLAUSES - self.clauses {
@@ -121,8 +121,8 @@ impl DagCnf {
     ///
     /// - The variable is there: its number is below `num_vars`.
     pub fn clauses_of(&self, var: Var) -> &LitVvec
-        requires { number_of var < length self.now }
-        ensures { slice_get self.now (number_of var) ≡ Some result.now }
+        requires { var_number var < length self.now }
+        ensures { slice_get self.now (var_number var) ≡ Some result.now }
     {
         &self.relations[usize::from(var)]
     }

@@ -1,7 +1,7 @@
 //! Variables and their literals.
 
 ghost use Rattle.std.specs.Prelude.{◌≡◌, ◌<◌, ◌^◌, true};
-ghost use Rattle.aig_base.specs.Clauses.{var_of, number_of, lit_to, variable_of, is_positive, number_of_lit, inverse_lit};
+ghost use Rattle.aig_base.specs.Clauses.{var_of, var_number, lit_to, variable_of, is_positive, number_of_lit, inverse_lit};
 
 use std::marker::Model;
 use std::ops::Not;
@@ -39,21 +39,21 @@ impl Var {
 
     /// Returns the literal that is the variable itself.
     pub fn lit(self) -> Lit
-        ensures { result ≡ lit_to (number_of self) true }
+        ensures { result ≡ lit_to (var_number self) true }
     {
         Lit::new(self, true)
     }
 
     /// Its number, as it is kept.
     pub(crate) fn number(self) -> u32
-        ensures { result ≡ number_of self }
+        ensures { result ≡ var_number self }
     {
         self.number
     }
 }
 
 impl From<Var> for usize {
-    ghost from_gives = { λ var n. n ≡ number_of var };
+    ghost from_gives = { λ var n. n ≡ var_number var };
 
     fn from(var: Var) -> usize {
         var.number as usize
@@ -69,7 +69,7 @@ pub struct Lit {
 impl Lit {
     /// Returns the literal of a variable, inverted where `polarity` is false.
     pub fn new(var: Var, polarity: bool) -> Lit
-        ensures { result ≡ lit_to (number_of var) polarity }
+        ensures { result ≡ lit_to (var_number var) polarity }
     {
         let code = 2 * var.number;
         Lit {

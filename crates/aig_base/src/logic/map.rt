@@ -2,7 +2,7 @@
 
 ghost use Rattle.std.specs.Prelude.{◌≡◌, OnOk, OnErr, IfOk};
 ghost use Rattle.std.specs.FinMap as finite_map;
-ghost use Rattle.aig_base.specs.Clauses.{number_of};
+ghost use Rattle.aig_base.specs.Clauses.{var_number};
 
 use crate::logic::literal::Var;
 use crate::memory::MemoryError;
@@ -45,9 +45,9 @@ impl VarVMap {
     ///
     /// - `Memory`: memory was refused. The map stays as it was.
     pub fn insert(&mut self, k: Var, v: Var) -> Result<Option<Var>, MemoryError>
-        ensures before { IfOk result (λ before. before ≡ finite_map.get self.old (number_of k)) }
+        ensures before { IfOk result (λ before. before ≡ finite_map.get self.old (var_number k)) }
         ensures ok { OnOk result
-            (self.new ≡ finite_map.insert self.old (number_of k) (number_of v)) }
+            (self.new ≡ finite_map.insert self.old (var_number k) (var_number v)) }
         ensures err { OnErr result (self.new ≡ self.old) }
     {
         Ok(self.entries.insert(k.number(), v)?)
@@ -55,7 +55,7 @@ impl VarVMap {
 
     /// Returns the variable that a variable is mapped to, if any.
     pub fn get(&self, k: Var) -> Option<Var>
-        ensures { result ≡ finite_map.get self.now (number_of k) }
+        ensures { result ≡ finite_map.get self.now (var_number k) }
     {
         self.entries.get(&k.number()).copied()
     }

@@ -1,5 +1,5 @@
 use Rattle.std.proofs.Common.{drop, rules}
-use Rattle.aig_writer.specs.Numbering.{number_in, numbered_file}
+use Rattle.aig_writer.specs.Numbering.{written_number, numbered_file}
 use Rattle.aig_writer.proofs.Putting.{Buffers-trans, failed_among, failed_first, then_call}
 use Rattle.aig_writer.proofs.Numbered.{numbered_falls, numbered_header}
 use Rattle.aig_writer.proofs.Small.{HasSmallNumbers-from_circuit}
@@ -26,16 +26,16 @@ returns-in_err-write_header-clause-writes g c =
     let numbers = c.args.numbers.now in
     let circuit = c.args.circuit.now in
     let kind = c.args.kind in
-    let f = numbered_file (number_in numbers) kind circuit in
-    rw (spelling-sections f) (failed_first (section_texts f) (rw (← numbered_header (number_in numbers) kind circuit) at c.in_err-write_header.ensures.writes) (search rules))
+    let f = numbered_file (written_number numbers) kind circuit in
+    rw (spelling-sections f) (failed_first (section_texts f) (rw (← numbered_header (written_number numbers) kind circuit) at c.in_err-write_header.ensures.writes) (search rules))
 
 pub returns-in_err-write_inputs-clause-writes : goal.returns-in_err-write_inputs-clause-writes
 returns-in_err-write_inputs-clause-writes g c =
     let numbers = c.args.numbers.now in
     let circuit = c.args.circuit.now in
     let kind = c.args.kind in
-    let f = numbered_file (number_in numbers) kind circuit in
-    let texts_1 = (rw (← numbered_header (number_in numbers) kind circuit) at c.in_ok-write_header.ensures.writes.ok) in
+    let f = numbered_file (written_number numbers) kind circuit in
+    let texts_1 = (rw (← numbered_header (written_number numbers) kind circuit) at c.in_ok-write_header.ensures.writes.ok) in
     rw (spelling-sections f) (failed_among (drop 1 (section_texts f)) texts_1 (rw c.inputs.ensures.value at c.in_err-write_inputs.ensures) (search rules))
 
 pub returns-in_err-write_latches-clause-writes : goal.returns-in_err-write_latches-clause-writes
@@ -43,8 +43,8 @@ returns-in_err-write_latches-clause-writes g c =
     let numbers = c.args.numbers.now in
     let circuit = c.args.circuit.now in
     let kind = c.args.kind in
-    let f = numbered_file (number_in numbers) kind circuit in
-    let texts_1 = (rw (← numbered_header (number_in numbers) kind circuit) at c.in_ok-write_header.ensures.writes.ok) in
+    let f = numbered_file (written_number numbers) kind circuit in
+    let texts_1 = (rw (← numbered_header (written_number numbers) kind circuit) at c.in_ok-write_header.ensures.writes.ok) in
     let texts_2 = Buffers-trans texts_1 (rw c.inputs.ensures.value at c.in_ok-write_inputs.ensures.ok) in
     rw (spelling-sections f) (failed_among (drop 2 (section_texts f)) texts_2 (rw c.latchs.ensures.value at c.in_err-write_latches.ensures) (search rules))
 
@@ -53,8 +53,8 @@ returns-in_err-write_properties-clause-writes g c =
     let numbers = c.args.numbers.now in
     let circuit = c.args.circuit.now in
     let kind = c.args.kind in
-    let f = numbered_file (number_in numbers) kind circuit in
-    let texts_1 = (rw (← numbered_header (number_in numbers) kind circuit) at c.in_ok-write_header.ensures.writes.ok) in
+    let f = numbered_file (written_number numbers) kind circuit in
+    let texts_1 = (rw (← numbered_header (written_number numbers) kind circuit) at c.in_ok-write_header.ensures.writes.ok) in
     let texts_2 = Buffers-trans texts_1 (rw c.inputs.ensures.value at c.in_ok-write_inputs.ensures.ok) in
     let texts_3 = Buffers-trans texts_2 (rw c.latchs.ensures.value at c.in_ok-write_latches.ensures.ok) in
     rw (spelling-sections f) (failed_among (drop 3 (section_texts f)) texts_3 c.in_err-write_properties.ensures (search rules))
@@ -64,8 +64,8 @@ returns-in_err-write_gates-clause-writes g c =
     let numbers = c.args.numbers.now in
     let circuit = c.args.circuit.now in
     let kind = c.args.kind in
-    let f = numbered_file (number_in numbers) kind circuit in
-    let texts_1 = (rw (← numbered_header (number_in numbers) kind circuit) at c.in_ok-write_header.ensures.writes.ok) in
+    let f = numbered_file (written_number numbers) kind circuit in
+    let texts_1 = (rw (← numbered_header (written_number numbers) kind circuit) at c.in_ok-write_header.ensures.writes.ok) in
     let texts_2 = Buffers-trans texts_1 (rw c.inputs.ensures.value at c.in_ok-write_inputs.ensures.ok) in
     let texts_3 = Buffers-trans texts_2 (rw c.latchs.ensures.value at c.in_ok-write_latches.ensures.ok) in
     let texts_4 = Buffers-trans texts_3 c.in_ok-write_properties.ensures.ok in
@@ -76,8 +76,8 @@ returns-clause-writes g c =
     let numbers = c.args.numbers.now in
     let circuit = c.args.circuit.now in
     let kind = c.args.kind in
-    let f = numbered_file (number_in numbers) kind circuit in
-    let texts_1 = (rw (← numbered_header (number_in numbers) kind circuit) at c.in_ok-write_header.ensures.writes.ok) in
+    let f = numbered_file (written_number numbers) kind circuit in
+    let texts_1 = (rw (← numbered_header (written_number numbers) kind circuit) at c.in_ok-write_header.ensures.writes.ok) in
     let texts_2 = Buffers-trans texts_1 (rw c.inputs.ensures.value at c.in_ok-write_inputs.ensures.ok) in
     let texts_3 = Buffers-trans texts_2 (rw c.latchs.ensures.value at c.in_ok-write_latches.ensures.ok) in
     let texts_4 = Buffers-trans texts_3 c.in_ok-write_properties.ensures.ok in

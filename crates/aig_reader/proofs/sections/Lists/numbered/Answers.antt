@@ -4,7 +4,7 @@ use Rattle.std.specs.declared.alloc.Global.{Global}
 use Rattle.aig_circuit.specs.declared.node.AigLatch.{AigLatch}
 use Rattle.aig_format.specs.Circuit.{latch_of}
 use Rattle.aig_format.specs.File.{File, LatchLine}
-use Rattle.aig_format.specs.Numbering.{number_of}
+use Rattle.aig_format.specs.Numbering.{node_of_variable}
 use Rattle.aig_ordering.specs.Numbers.{all_by, latch_by, number_at}
 use Rattle.aig_reader.specs.declared.error.Section.TheVariants.{Inputs, Latches}
 use Rattle.aig_reader.specs.Numbered.{AreNumberedProperties, AreNumbersOf, Judged, knows, knows_properties}
@@ -17,7 +17,7 @@ use Rattle.aig_reader.proofs.sections.Lists.numbered.Goals.{After-numbered, Afte
 
 module _ (f : File) where
   abbrev AreInputs : Vec ℕ Global → Type 0
-  AreInputs new = new.items ≡ map (λ e. number_of f (e / 2)) f.inputs
+  AreInputs new = new.items ≡ map (λ e. node_of_variable f (e / 2)) f.inputs
 
   abbrev AreLatches : Vec AigLatch Global → Type 0
   AreLatches new = new.items ≡ map (latch_of f) f.latches
@@ -28,7 +28,7 @@ module _ (f : File) where
   inputs_judged : (c : After-numbered) → AreNumbersOf f c.args.numbers.now → AreListsByVariable c.args.self.now f → Judged true AreInputs c.numbered.result
   inputs_judged c are lists =
       let table = c.args.numbers.now in
-      judged (λ (new : Vec ℕ Global). new.items) (all_by (number_at table) c.args.self.now.inputs.items) true (map (λ e. number_of f (e / 2)) f.inputs) Inputs c.variables-inputs.result c.numbered.result
+      judged (λ (new : Vec ℕ Global). new.items) (all_by (number_at table) c.args.self.now.inputs.items) true (map (λ e. node_of_variable f (e / 2)) f.inputs) Inputs c.variables-inputs.result c.numbered.result
       (ap (λ (vs : List ℕ). all_by (number_at table) vs) lists.inputs ∙ inputs_are f table are) (rw c.deref.ensures.value at c.variables-inputs.ensures) c.numbered.ensures
 
   latchs_judged : (c : After-numbered-2) → AreNumbersOf f c.args.numbers.now → AreListsByVariable c.args.self.now f → Judged knows_nexts AreLatches c.numbered-2.result
