@@ -3,7 +3,7 @@
 ghost use Rattle.std.specs.Prelude.{◌↔◌, ◌<◌, ◌^◌, All, Any, Contains, IfErr, IsTrue, OnOk, length};
 ghost use Rattle.aig_circuit.specs.Circuit.{IsCircuit};
 ghost use Rattle.aig_circuit.specs.View.{names_of};
-ghost use Rattle.aig_format.specs.Writable.{HasLineFeed, IsSmall, named_nodes};
+ghost use Rattle.aig_format.specs.Writable.{HasLineFeed, FitsFormat, named_nodes};
 ghost use Rattle.aig.specs.Writing.{IsRefusal, TellsOf};
 
 use crate::aiger::WriteError;
@@ -74,7 +74,7 @@ impl Aig {
 
     /// Whether nodes and lists are within the format's numbers.
     fn is_small(&self) -> bool
-        ensures small { IsTrue result ↔ IsSmall self.now }
+        ensures small { IsTrue result ↔ FitsFormat self.now }
         ensures circuit { IsCircuit self.now }
     {
         let counts = [

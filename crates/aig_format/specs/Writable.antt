@@ -19,7 +19,7 @@ abbrev pub list_lengths : Circuit → List ℕ
 list_lengths c = length c.inputs ∷ length c.latchs ∷ length c.outputs ∷ length c.bads ∷ length c.constraints ∷ length c.justice ∷ length c.fairness ∷ []
 
 -- at most 2^31 nodes, and lists and justice sets of at most 2^32 - 1 entries
-pub record IsSmall (c : Circuit) : Type 0 where
+pub record FitsFormat (c : Circuit) : Type 0 where
   pub nodes : length c.nodes ≤ 2 ^ 31
   pub lists : All (λ n. n < 2 ^ 32) (list_lengths c)
   pub sets : All (λ set. length set < 2 ^ 32) c.justice
@@ -29,7 +29,7 @@ pub record IsWritable (c : Circuit) : Type 0 where
   pub closed : IsClosed c
   pub start : All HasPlainInit c.latchs
   pub names : All (λ n. ¬ HasLineFeed c.names n) (named_nodes c)
-  pub small : IsSmall c
+  pub small : FitsFormat c
 
 -- each name is text
 abbrev pub AreTexts : FinMap nat_cmp (List ℕ) → Type 0

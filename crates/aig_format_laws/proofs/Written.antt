@@ -35,7 +35,7 @@ use Rattle.aig_format.proofs.Numbers.{node_of_variable-compact}
 use Rattle.aig_format.proofs.Members.{distinct_append}
 use Rattle.aig_format.proofs.Compact.{compact-tested}
 use Rattle.aig_format.proofs.Entries.{rec_append, rec_map, rec_weaker}
-use Rattle.aig_parsing.specs.Writable.{CanWrite, GateSmall, IsSmall, LatchSmall, NameSmall}
+use Rattle.aig_parsing.specs.Writable.{CanWrite, GateSmall, IsFileNumber, LatchSmall, NameSmall}
 use Rattle.aig_parsing.proofs.Law.{spelling_spells}
 use Rattle.aig_parsing.proofs.Guards.{OnUsed, on_used}
 use Rattle.aig_parsing.proofs.FittingFiles.{rising_distinct}
@@ -269,7 +269,7 @@ module _ (kind : FileKind) (c : Circuit) (is : IsCircuit c) (w : IsWritable c) (
   lines_few : length (lines_for c.nodes) < 2 ^ 32
   lines_few = omega (arith, few, count_parts c.nodes is.nodes.false_first is.nodes.false_once)
 
-  header_small : AllByRecursion IsSmall (numbers_in (header_of f))
+  header_small : AllByRecursion IsFileNumber (numbers_in (header_of f))
   header_small =
       let i = list_small 0 (omega arith) in let l = list_small 1 (omega arith) in let o = list_small 2 (omega arith) in
       let b = list_small 3 (omega arith) in let k = list_small 4 (omega arith) in let j = list_small 5 (omega arith) in let fs = list_small 6 (omega arith) in
@@ -278,7 +278,7 @@ module _ (kind : FileKind) (c : Circuit) (is : IsCircuit c) (w : IsWritable c) (
       let justice = length-map c.justice (map literal_of) in let fairness = length-map c.fairness literal_of in
       (omega (arith, few), (omega arith, (omega arith, (omega arith, (lines_few, (omega arith, (omega arith, (omega arith, (omega arith, tt)))))))))
 
-  sizes_small : (sets : List (List AigEdge)) → AllByRecursion (λ set. length set < 2 ^ 32) sets → AllByRecursion IsSmall (map length (map (map literal_of) sets))
+  sizes_small : (sets : List (List AigEdge)) → AllByRecursion (λ set. length set < 2 ^ 32) sets → AllByRecursion IsFileNumber (map length (map (map literal_of) sets))
   sizes_small [] all = tt
   sizes_small (es ∷ sets) all = (omega (arith, length-map es literal_of, all.0), sizes_small sets all.1)
 
@@ -295,7 +295,7 @@ module _ (kind : FileKind) (c : Circuit) (is : IsCircuit c) (w : IsWritable c) (
           made init = record { input = l.input; next = l.next; init = init }
 
           Small : Option AigEdge → Type 0
-          Small o = AllByRecursion IsSmall (option_to_list (latch_line (made o)).reset)
+          Small o = AllByRecursion IsFileNumber (option_to_list (latch_line (made o)).reset)
 
           by_test : (e : AigEdge) (b : Bool) → (literal_of e == 0) ≡ b → e.node_id < length c.nodes → Small (Some e)
           by_test e true t there = rw t tt
@@ -332,14 +332,14 @@ module _ (kind : FileKind) (c : Circuit) (is : IsCircuit c) (w : IsWritable c) (
   can_write : Placed kind (defined f) → CanWrite f
   can_write placed = record {
     header = header_small;
-    inputs = (rec_map IsSmall (λ m. 2 * m) c.inputs).1 (rec_weaker (IsLeaf c.nodes) (λ m. IsSmall (2 * m)) (λ m h. omega (arith, few, kind_at-within c.nodes m Leaf h)) c.inputs (recursion_from_All (IsLeaf c.nodes) c.inputs is.inputs));
+    inputs = (rec_map IsFileNumber (λ m. 2 * m) c.inputs).1 (rec_weaker (IsLeaf c.nodes) (λ m. IsFileNumber (2 * m)) (λ m h. omega (arith, few, kind_at-within c.nodes m Leaf h)) c.inputs (recursion_from_All (IsLeaf c.nodes) c.inputs is.inputs));
     latches = latches_small;
-    outputs = literals_have IsSmall small_literal c.outputs is.outputs;
-    bads = literals_have IsSmall small_literal c.bads is.bads;
-    constraints = literals_have IsSmall small_literal c.constraints is.constraints;
+    outputs = literals_have IsFileNumber small_literal c.outputs is.outputs;
+    bads = literals_have IsFileNumber small_literal c.bads is.bads;
+    constraints = literals_have IsFileNumber small_literal c.constraints is.constraints;
     sizes = sizes_small c.justice (recursion_from_All (λ set. length set < 2 ^ 32) c.justice w.small.sets);
-    justice = sets_have IsSmall small_literal c.justice (recursion_from_All (All (IsInRange c.nodes)) c.justice is.justice);
-    fairness = literals_have IsSmall small_literal c.fairness is.fairness;
+    justice = sets_have IsFileNumber small_literal c.justice (recursion_from_All (All (IsInRange c.nodes)) c.justice is.justice);
+    fairness = literals_have IsFileNumber small_literal c.fairness is.fairness;
     gates = gates_small;
     names = names_small;
     placed = placed;

@@ -9,7 +9,7 @@ use Rattle.aig_format.specs.declared.FileKind.TheVariants.{Text, Binary}
 use Rattle.aig_format.specs.File.{LatchLine, GateLine, NameLine, File, HeaderNumbers, header_of}
 use Rattle.aig_format.specs.Spells.{magic, numbers_in, IsHeader, Inputs, Latch, Gate, Name, next_and_reset, Spells}
 use Rattle.aig_format.specs.Written.{line_text, lines_text, in_front, shortened, header_line_of, inputs_text, latch_text, gate_text, name_text, delta_of, file_text}
-use Rattle.aig_parsing.specs.Writable.{IsSmall, LatchSmall, GateSmall, NameSmall, SetSmall, CanWrite}
+use Rattle.aig_parsing.specs.Writable.{IsFileNumber, LatchSmall, GateSmall, NameSmall, SetSmall, CanWrite}
 use Rattle.aig_format.proofs.Entries.{chosen}
 use Rattle.aig_parsing.proofs.Printed.{number_written, line_written, delta_written, each_written}
 
@@ -25,20 +25,20 @@ shortened_is : (ns : List ℕ) → (k : ℕ) × (ns ≡ shortened ns ++ replicat
 shortened_is [] = (0, refl)
 shortened_is (n ∷ ns) = let r = shortened_is ns in front_is n (shortened ns) ns r.0 r.1
 
-in_front_small : (n : ℕ) (xs : List ℕ) → IsSmall n → AllByRecursion IsSmall xs → AllByRecursion IsSmall (in_front n xs)
+in_front_small : (n : ℕ) (xs : List ℕ) → IsFileNumber n → AllByRecursion IsFileNumber xs → AllByRecursion IsFileNumber (in_front n xs)
 in_front_small n [] h all =
     elim (chosen (n == 0) [] (n ∷ []) (in_front n []) refl) [
-      | inl zeros ↦ subst (AllByRecursion IsSmall) zeros.1 tt
-      | inr some ↦ subst (AllByRecursion IsSmall) some.1 (h, tt)
+      | inl zeros ↦ subst (AllByRecursion IsFileNumber) zeros.1 tt
+      | inr some ↦ subst (AllByRecursion IsFileNumber) some.1 (h, tt)
     ]
 in_front_small n (x ∷ xs) h all = (h, all)
 
-shortened_small : (ns : List ℕ) → AllByRecursion IsSmall ns → AllByRecursion IsSmall (shortened ns)
+shortened_small : (ns : List ℕ) → AllByRecursion IsFileNumber ns → AllByRecursion IsFileNumber (shortened ns)
 shortened_small [] all = tt
 shortened_small (n ∷ ns) all = in_front_small n (shortened ns) all.0 (shortened_small ns all.1)
 
 -- the written line of the header
-header_written : (kind : FileKind) (n : HeaderNumbers) → AllByRecursion IsSmall (numbers_in n)
+header_written : (kind : FileKind) (n : HeaderNumbers) → AllByRecursion IsFileNumber (numbers_in n)
     → IsHeader kind n (magic kind ++ line_text (n.greatest ∷ n.inputs ∷ n.latches ∷ n.outputs ∷ n.gates ∷ shortened (n.bads ∷ n.constraints ∷ n.justice ∷ n.fairness ∷ [])))
 header_written kind n h =
     let four = n.bads ∷ n.constraints ∷ n.justice ∷ n.fairness ∷ [] in
@@ -52,8 +52,8 @@ header_written kind n h =
       (magic kind, line_text (n.greatest ∷ behind), refl, refl, line_written n.greatest behind h.0 (h.1.0, (h.1.1.0, (h.1.1.1.0, (t.0, shortened_small four t.1))))),
     )
 
-lines_written : (ns : List ℕ) → AllByRecursion IsSmall ns → Lines ns (lines_text ns)
-lines_written ns all = each_written (λ n. IsLine (n ∷ [])) IsSmall (λ n. line_text (n ∷ [])) (λ n h. line_written n [] h tt) ns all
+lines_written : (ns : List ℕ) → AllByRecursion IsFileNumber ns → Lines ns (lines_text ns)
+lines_written ns all = each_written (λ n. IsLine (n ∷ [])) IsFileNumber (λ n. line_text (n ∷ [])) (λ n h. line_written n [] h tt) ns all
 
 latch_written : (kind : FileKind) (l : LatchLine) → LatchSmall l → Latch kind l (latch_text kind l)
 latch_written Text l h = line_written l.literal (next_and_reset l) h.0 (h.1, h.2)
@@ -65,7 +65,7 @@ gate_written Binary g h =
     let a = h.0 in let b = h.1 in let c = h.2 in
     (g.lhs - g.rhs0, g.rhs0 - g.rhs1, omega arith, omega arith, (delta_of (g.lhs - g.rhs0), delta_of (g.rhs0 - g.rhs1), refl, delta_written (g.lhs - g.rhs0) (omega arith), delta_written (g.rhs0 - g.rhs1) (omega arith)))
 
-inputs_written : (kind : FileKind) (ns : List ℕ) → AllByRecursion IsSmall ns → Inputs kind ns (inputs_text kind ns)
+inputs_written : (kind : FileKind) (ns : List ℕ) → AllByRecursion IsFileNumber ns → Inputs kind ns (inputs_text kind ns)
 inputs_written Text ns all = lines_written ns all
 inputs_written Binary ns all = refl
 

@@ -6,36 +6,36 @@ use Rattle.aig_format.specs.File.{LatchLine, GateLine, NameLine, File, header_of
 use Rattle.aig_format.specs.Spells.{is_letter, numbers_in, Placed}
 
 -- a number that a file may have
-abbrev pub IsSmall : ℕ → Type 0
-IsSmall n = n < 2 ^ 32
+abbrev pub IsFileNumber : ℕ → Type 0
+IsFileNumber n = n < 2 ^ 32
 
 -- a latch of such numbers
 abbrev pub LatchSmall : LatchLine → Type 0
-LatchSmall l = IsSmall l.literal × IsSmall l.next × AllByRecursion IsSmall (option_to_list l.reset)
+LatchSmall l = IsFileNumber l.literal × IsFileNumber l.next × AllByRecursion IsFileNumber (option_to_list l.reset)
 
 -- a gate of such numbers, with its operands in the order of the written form
 abbrev pub GateSmall : GateLine → Type 0
-GateSmall g = IsSmall g.lhs × (g.rhs0 ≤ g.lhs) × (g.rhs1 ≤ g.rhs0)
+GateSmall g = IsFileNumber g.lhs × (g.rhs0 ≤ g.lhs) × (g.rhs1 ≤ g.rhs0)
 
 -- a name with one of the seven letters, such a position, and no line feed
 abbrev pub NameSmall : NameLine → Type 0
-NameSmall n = (is_letter n.letter ≡ true) × IsSmall n.position × AllByRecursion (λ b. b ≢ 10) n.name
+NameSmall n = (is_letter n.letter ≡ true) × IsFileNumber n.position × AllByRecursion (λ b. b ≢ 10) n.name
 
 -- a justice set of such numbers
 abbrev pub SetSmall : List ℕ → Type 0
-SetSmall s = AllByRecursion IsSmall s
+SetSmall s = AllByRecursion IsFileNumber s
 
 -- what can be written
 pub record CanWrite (f : File) : Type 0 where
-  pub header : AllByRecursion IsSmall (numbers_in (header_of f))
-  pub inputs : AllByRecursion IsSmall f.inputs
+  pub header : AllByRecursion IsFileNumber (numbers_in (header_of f))
+  pub inputs : AllByRecursion IsFileNumber f.inputs
   pub latches : AllByRecursion LatchSmall f.latches
-  pub outputs : AllByRecursion IsSmall f.outputs
-  pub bads : AllByRecursion IsSmall f.bads
-  pub constraints : AllByRecursion IsSmall f.constraints
-  pub sizes : AllByRecursion IsSmall (map length f.justice)
+  pub outputs : AllByRecursion IsFileNumber f.outputs
+  pub bads : AllByRecursion IsFileNumber f.bads
+  pub constraints : AllByRecursion IsFileNumber f.constraints
+  pub sizes : AllByRecursion IsFileNumber (map length f.justice)
   pub justice : AllByRecursion SetSmall f.justice
-  pub fairness : AllByRecursion IsSmall f.fairness
+  pub fairness : AllByRecursion IsFileNumber f.fairness
   pub gates : AllByRecursion GateSmall f.gates
   pub names : AllByRecursion NameSmall f.names
   pub placed : Placed f.kind (defined f)

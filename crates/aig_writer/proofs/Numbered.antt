@@ -31,7 +31,7 @@ use Rattle.aig_renumber.proofs.Numbering.{number-apart, get-nodes_in_order}
 use Rattle.aig_renumber.proofs.Order.{IsGate, Numbers-order, length-order, no_gates}
 use Rattle.aig_renumber.proofs.Placed.{AreAsLong-reencoded, IsCircuit-reencoded}
 use Rattle.aig_renumber.proofs.Places.{map-agrees, map-same}
-use Rattle.aig_writer.specs.Literals.{FallsBelow, IsSmall}
+use Rattle.aig_writer.specs.Literals.{FallsBelow, HasLiteral}
 use Rattle.aig_writer.specs.Numbering.{FitsBinary, IsBinaryNumbering, written_number, numbered_file, renumbered_node}
 use Rattle.aig_writer.proofs.Small.{FallsBelow-from_circuit}
 
@@ -313,5 +313,5 @@ numbered_falls c is table fits k d h =
     subst FallsBelow (sym (nodes_agree c is (written_number table) (new_number c) fits.numbering.numbers k d h)) (falls-reencoded c is fits.closed fits.few k d h)
 
 -- the numbers of a table are small
-pub table_small : (c : Circuit) (table : List ℕ) → length c.nodes ≤ 2 ^ 31 → IsBinaryNumbering c table → All IsSmall table
-table_small c table few has = All-weaker (λ m. m < length c.nodes) IsSmall (λ m h. omega arith) table has.within
+pub table_small : (c : Circuit) (table : List ℕ) → length c.nodes ≤ 2 ^ 31 → IsBinaryNumbering c table → All HasLiteral table
+table_small c table few has = All-weaker (λ m. m < length c.nodes) HasLiteral (λ m h. omega arith) table has.within

@@ -15,7 +15,7 @@ use Rattle.aig_circuit.specs.Node.{and_of}
 use Rattle.aig_circuit.specs.Renumber.{renumbered_edge, renumbered_latch}
 use Rattle.aig_writer.specs.Numbering.{written_number}
 use Rattle.aig_circuit.proofs.Trees.{kind_at-within}
-use Rattle.aig_writer.specs.Literals.{FallsBelow, IsSmall, IsSmallEdge, IsSmallLatch, IsSmallNode, HasSmallNumbers}
+use Rattle.aig_writer.specs.Literals.{FallsBelow, HasLiteral, IsSmallEdge, IsSmallLatch, IsSmallNode, HasSmallNumbers}
 
 IsSmallNode-at : (nodes : List AigNode) → AreNodes nodes → length nodes ≤ 2 ^ 63 → All IsSmallNode nodes
 IsSmallNode-at nodes are few = λ k d h.
@@ -52,12 +52,12 @@ FallsBelow-from_circuit c is few = λ k d h.
 -- each literal of a circuit fits
 pub HasSmallNumbers-from_circuit : (c : Circuit) → IsCircuit c → length c.nodes ≤ 2 ^ 63 → HasSmallNumbers c
 HasSmallNumbers-from_circuit c is few =
-    let leaf : (n : ℕ) → IsLeaf c.nodes n → IsSmall n = λ n h. omega (arith, kind_at-within c.nodes n Leaf h) in
+    let leaf : (n : ℕ) → IsLeaf c.nodes n → HasLiteral n = λ n h. omega (arith, kind_at-within c.nodes n Leaf h) in
     let edge : (e : AigEdge) → IsInRange c.nodes e → IsSmallEdge e = λ e h. omega arith in
     let edges : (es : List AigEdge) → All (IsInRange c.nodes) es → All IsSmallEdge es = All-weaker (IsInRange c.nodes) IsSmallEdge edge in
     record {
       nodes = IsSmallNode-at c.nodes is.nodes few;
-      inputs = All-weaker (IsLeaf c.nodes) IsSmall leaf c.inputs is.inputs;
+      inputs = All-weaker (IsLeaf c.nodes) HasLiteral leaf c.inputs is.inputs;
       latchs = All-weaker (IsLatch c.nodes) IsSmallLatch (λ l h. record { leaf = leaf l.input h.leaf; next = edge l.next h.next; init = init_small c.nodes l.init few h.init }) c.latchs is.latchs;
       outputs = edges c.outputs is.outputs;
       bads = edges c.bads is.bads;
@@ -68,8 +68,8 @@ HasSmallNumbers-from_circuit c is few =
 
 -- ---- under other numbers
 
-module _ (table : List ℕ) (all : All IsSmall table) where
-  pub number_small : (n : ℕ) → IsSmall n → IsSmall (written_number table n)
+module _ (table : List ℕ) (all : All HasLiteral table) where
+  pub number_small : (n : ℕ) → HasLiteral n → HasLiteral (written_number table n)
   number_small n small = elim (cases_lt n (length table)) [
     | inl within ↦ all n n within
     | inr past ↦ (let same = get_or_past table n n past in rw same small)
@@ -92,7 +92,7 @@ module _ (table : List ℕ) (all : All IsSmall table) where
       by_order true is = let e : y ≡ a = cc in let f : x ≡ b = cc in (subst IsSmallEdge e second, subst IsSmallEdge f first)
       by_order false is = let e : x ≡ a = cc in let f : y ≡ b = cc in (subst IsSmallEdge e first, subst IsSmallEdge f second)
 
-  pub gate_small : (n : ℕ) (x y : AigEdge) → IsSmall n → IsSmallEdge x → IsSmallEdge y → IsSmallNode (record { node_id = written_number table n; typ = and_of (renumbered_edge (written_number table) x) (renumbered_edge (written_number table) y) })
+  pub gate_small : (n : ℕ) (x y : AigEdge) → HasLiteral n → IsSmallEdge x → IsSmallEdge y → IsSmallNode (record { node_id = written_number table n; typ = and_of (renumbered_edge (written_number table) x) (renumbered_edge (written_number table) y) })
   gate_small n x y own first second = record {
     own = number_small n own;
     operands = and_small (renumbered_edge (written_number table) x) (renumbered_edge (written_number table) y) (edge_small x first) (edge_small y second);

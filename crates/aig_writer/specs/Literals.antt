@@ -9,22 +9,22 @@ use Rattle.aig_circuit.specs.Edge.{literal_of}
 use Rattle.aig_circuit.specs.Circuit.{Circuit}
 
 -- twice the number, and one more, fits 64 bits
-abbrev pub IsSmall : ℕ → Type 0
-IsSmall n = n < 2 ^ 63
+abbrev pub HasLiteral : ℕ → Type 0
+HasLiteral n = n < 2 ^ 63
 
 -- the edge's literal fits
 abbrev pub IsSmallEdge : AigEdge → Type 0
-IsSmallEdge e = IsSmall e.node_id
+IsSmallEdge e = HasLiteral e.node_id
 
 -- the latch's own number and those of its edges are small
 pub record IsSmallLatch (latch : AigLatch) : Type 0 where
-  pub leaf : IsSmall latch.input
+  pub leaf : HasLiteral latch.input
   pub next : IsSmallEdge latch.next
   pub init : IfSome latch.init IsSmallEdge
 
 -- the node's own number and those of its operands are small
 pub record IsSmallNode (node : AigNode) : Type 0 where
-  pub own : IsSmall node.node_id
+  pub own : HasLiteral node.node_id
   pub operands : (a b : AigEdge) → node.typ ≡ And a b → IsSmallEdge a × IsSmallEdge b
 
 -- a gate's literal is at least its second operand's, and that one at least its first's, so that differences can be written
@@ -36,7 +36,7 @@ pub record FallsBelow (node : AigNode) : Type 0 where
 -- each number that is written as a literal is small
 pub record HasSmallNumbers (c : Circuit) : Type 0 where
   pub nodes : All IsSmallNode c.nodes
-  pub inputs : All IsSmall c.inputs
+  pub inputs : All HasLiteral c.inputs
   pub latchs : All IsSmallLatch c.latchs
   pub outputs : All IsSmallEdge c.outputs
   pub bads : All IsSmallEdge c.bads

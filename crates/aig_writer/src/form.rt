@@ -5,7 +5,7 @@ ghost use Rattle.aig_circuit.specs.Circuit.{IsCircuit, IsClosed};
 ghost use Rattle.aig_format.specs.declared.FileKind.TheVariants.{Text};
 ghost use Rattle.aig_format.specs.Written.{file_text};
 ghost use Rattle.aig_format.specs.Circuit.{binary_of, text_of};
-ghost use Rattle.aig_writer.specs.Literals.{HasSmallNumbers, IsSmall};
+ghost use Rattle.aig_writer.specs.Literals.{HasSmallNumbers, HasLiteral};
 ghost use Rattle.aig_writer.specs.Numbering.{FitsBinary, IsBinaryNumbering, written_number, numbered_file};
 ghost use Rattle.aig_writer.specs.Sinks.{BuffersOrStops, WritesOrStops};
 ghost use Rattle.aig_writer.specs.Parts.{properties_of};
@@ -27,7 +27,7 @@ fn write_properties<W: Sink>(
     numbers: &[usize],
     circuit: &CircuitView<'_>,
 ) -> Result<(), StreamFault>
-    requires table { All IsSmall numbers.now }
+    requires table { All HasLiteral numbers.now }
     requires small { HasSmallNumbers circuit.now }
     ensures { let text = properties_of (numbered_file (written_number numbers.now) Text circuit.now) in
         BuffersOrStops W.held W.failed buffer.old w.old result text buffer.new w.new }
@@ -48,7 +48,7 @@ fn write_sections<W: Sink>(
     numbers: &[usize],
     circuit: &CircuitView<'_>,
 ) -> Result<(), StreamFault>
-    requires table { All IsSmall numbers.now }
+    requires table { All HasLiteral numbers.now }
     requires few { length circuit.now.nodes ≤ 2 ^ 63 }
     requires binary { kind ≡ FileKind.Binary → FitsBinary circuit.now numbers.now }
     ensures writes { let text = file_text
@@ -71,7 +71,7 @@ fn write_form<W: Sink>(
     numbers: &[usize],
     circuit: &CircuitView<'_>,
 ) -> Result<(), StreamFault>
-    requires table { All IsSmall numbers.now }
+    requires table { All HasLiteral numbers.now }
     requires few { length circuit.now.nodes ≤ 2 ^ 63 }
     requires binary { kind ≡ FileKind.Binary → FitsBinary circuit.now numbers.now }
     ensures writes { let text = file_text

@@ -9,7 +9,7 @@ ghost use Rattle.aig_format.specs.Circuit.{latch_line, gate_line};
 ghost use Rattle.aig_writer.specs.Sinks.{BuffersOrStops};
 ghost use Rattle.aig_writer.specs.Parts.{edges_of};
 ghost use Rattle.aig_writer.specs.Numbering.{written_number, renumbered_node};
-ghost use Rattle.aig_writer.specs.Literals.{IsSmall, IsSmallEdge, IsSmallLatch, IsSmallNode, FallsBelow};
+ghost use Rattle.aig_writer.specs.Literals.{HasLiteral, IsSmallEdge, IsSmallLatch, IsSmallNode, FallsBelow};
 
 use crate::buffer::OutputBuffer;
 use crate::literal::{literal, reset_literal};
@@ -25,8 +25,8 @@ fn write_input_lines<W: Sink>(
     numbers: &[usize],
     inputs: &[usize],
 ) -> Result<(), StreamFault>
-    requires table { All IsSmall numbers.now }
-    requires inputs { All IsSmall inputs.now }
+    requires table { All HasLiteral numbers.now }
+    requires inputs { All HasLiteral inputs.now }
     ensures { let text = lines_text (map (λ n. 2 * n) (map (written_number numbers.now) inputs.now)) in
         BuffersOrStops W.held W.failed buffer.old w.old result text buffer.new w.new }
 {
@@ -44,8 +44,8 @@ pub(crate) fn write_inputs<W: Sink>(
     numbers: &[usize],
     inputs: &[usize],
 ) -> Result<(), StreamFault>
-    requires table { All IsSmall numbers.now }
-    requires inputs { All IsSmall inputs.now }
+    requires table { All HasLiteral numbers.now }
+    requires inputs { All HasLiteral inputs.now }
     ensures { let literals = map (λ n. 2 * n) (map (written_number numbers.now) inputs.now) in
         let text = inputs_text kind literals in
         BuffersOrStops W.held W.failed buffer.old w.old result text buffer.new w.new }
@@ -85,7 +85,7 @@ pub(crate) fn write_latches<W: Sink>(
     numbers: &[usize],
     latchs: &[AigLatch],
 ) -> Result<(), StreamFault>
-    requires table { All IsSmall numbers.now }
+    requires table { All HasLiteral numbers.now }
     requires latches { All IsSmallLatch latchs.now }
     ensures { let latches = map (renumbered_latch (written_number numbers.now)) latchs.now in
         let text = flat_map (latch_text kind) (map latch_line latches) in
@@ -104,7 +104,7 @@ pub(crate) fn write_edges<W: Sink>(
     numbers: &[usize],
     edges: &[AigEdge],
 ) -> Result<(), StreamFault>
-    requires table { All IsSmall numbers.now }
+    requires table { All HasLiteral numbers.now }
     requires edges { All IsSmallEdge edges.now }
     ensures { let written = map (renumbered_edge (written_number numbers.now)) edges.now in
         let text = lines_text (map literal_of written) in
@@ -138,7 +138,7 @@ pub(crate) fn write_sets<W: Sink>(
     numbers: &[usize],
     sets: &[Vec<AigEdge>],
 ) -> Result<(), StreamFault>
-    requires table { All IsSmall numbers.now }
+    requires table { All HasLiteral numbers.now }
     requires sets { All (λ set. All IsSmallEdge set.items) sets.now }
     ensures { let written = map (map (renumbered_edge (written_number numbers.now)))
         (edges_of sets.now) in
@@ -200,7 +200,7 @@ fn write_node<W: Sink>(
     numbers: &[usize],
     node: &AigNode,
 ) -> Result<(), StreamFault>
-    requires table { All IsSmall numbers.now }
+    requires table { All HasLiteral numbers.now }
     requires small { IsSmallNode node.now }
     requires falls { kind ≡ FileKind.Binary
         → FallsBelow (renumbered_node (written_number numbers.now) node.now) }
@@ -227,7 +227,7 @@ pub(crate) fn write_gates<W: Sink>(
     numbers: &[usize],
     nodes: &[AigNode],
 ) -> Result<(), StreamFault>
-    requires table { All IsSmall numbers.now }
+    requires table { All HasLiteral numbers.now }
     requires nodes { All IsSmallNode nodes.now }
     requires falls { kind ≡ FileKind.Binary →
         All (λ node. FallsBelow (renumbered_node (written_number numbers.now) node)) nodes.now }

@@ -8,7 +8,7 @@ ghost use Rattle.aig_format.specs.declared.FileKind.TheVariants.{Text};
 ghost use Rattle.aig_format.specs.Written.{lines_text, latch_text, gate_text};
 ghost use Rattle.aig_format.specs.Circuit.{latch_line, gate_line};
 ghost use Rattle.aig_writer.specs.Parts.{literal_sets};
-ghost use Rattle.aig_writer.specs.Literals.{IsSmall, IsSmallEdge, IsSmallLatch, IsSmallNode};
+ghost use Rattle.aig_writer.specs.Literals.{HasLiteral, IsSmallEdge, IsSmallLatch, IsSmallNode};
 
 use crate::display::line::write_line;
 use crate::literal::{literal, reset_literal};
@@ -18,7 +18,7 @@ use std::fmt::{Formatter, Write};
 
 /// Writes a line for each input, its literal.
 pub fn write_inputs<W: Write>(inputs: &[usize], f: &mut Formatter<W>) -> fmt::Result
-    requires { All IsSmall inputs.now }
+    requires { All HasLiteral inputs.now }
     ensures { let text = lines_text (map (λ n. 2 * n) inputs.now) in
         WritesStyledOnOk W.write_str_gives f.old result text f.new }
 {
