@@ -4,8 +4,8 @@ use Rattle.std.specs.Prelude.{◌==◌, nat_lt}
 use Rattle.std.specs.List.{AllByRecursion, list_all}
 use Rattle.std.proofs.lemmas.Bool.{and_from, and_parts, eqb-true, eq-eqb, ltb-true, lt-ltb, false≢true}
 use Rattle.aig_format.specs.File.{GateLine, File, defined}
-use Rattle.aig_format.specs.Numbering.{rises, is_ordered, are_in_order, is_compact}
-use Rattle.aig_format.specs.Fits.{IsOrdered, Rises, IsCompact, IsWellFounded}
+use Rattle.aig_format.specs.Numbering.{rises, is_above_operands, are_in_order, is_compact}
+use Rattle.aig_format.specs.Fits.{IsAboveOperands, Rises, IsCompact, IsWellFounded}
 
 rises-tested : (xs : List ℕ) → Rises xs → rises xs ≡ true
 rises-tested [] h = refl
@@ -17,38 +17,38 @@ rises-told [] h = tt
 rises-told (a ∷ []) h = tt
 rises-told (a ∷ b ∷ xs) h = let p = and_parts (nat_lt a b) (rises (b ∷ xs)) h in (ltb-true a b p.0, rises-told (b ∷ xs) p.1)
 
-one_tested : (g : GateLine) → IsOrdered g → is_ordered g ≡ true
+one_tested : (g : GateLine) → IsAboveOperands g → is_above_operands g ≡ true
 one_tested g h =
     let lhs = g.lhs / 2 in
     and_from (nat_lt (g.rhs0 / 2) lhs) (nat_lt (g.rhs1 / 2) lhs) (lt-ltb (g.rhs0 / 2) lhs h.0) (lt-ltb (g.rhs1 / 2) lhs h.1)
 
-one_told : (g : GateLine) → is_ordered g ≡ true → IsOrdered g
+one_told : (g : GateLine) → is_above_operands g ≡ true → IsAboveOperands g
 one_told g h =
     let lhs = g.lhs / 2 in
     let p = and_parts (nat_lt (g.rhs0 / 2) lhs) (nat_lt (g.rhs1 / 2) lhs) h in
     (ltb-true (g.rhs0 / 2) lhs p.0, ltb-true (g.rhs1 / 2) lhs p.1)
 
-ordered-tested : (gs : List GateLine) → AllByRecursion IsOrdered gs → list_all is_ordered gs ≡ true
+ordered-tested : (gs : List GateLine) → AllByRecursion IsAboveOperands gs → list_all is_above_operands gs ≡ true
 ordered-tested [] all = refl
-ordered-tested (g ∷ gs) all = and_from (is_ordered g) (list_all is_ordered gs) (one_tested g all.0) (ordered-tested gs all.1)
+ordered-tested (g ∷ gs) all = and_from (is_above_operands g) (list_all is_above_operands gs) (one_tested g all.0) (ordered-tested gs all.1)
 
-ordered-told : (gs : List GateLine) → list_all is_ordered gs ≡ true → AllByRecursion IsOrdered gs
+ordered-told : (gs : List GateLine) → list_all is_above_operands gs ≡ true → AllByRecursion IsAboveOperands gs
 ordered-told [] h = tt
-ordered-told (g ∷ gs) h = let p = and_parts (is_ordered g) (list_all is_ordered gs) h in (one_told g p.0, ordered-told gs p.1)
+ordered-told (g ∷ gs) h = let p = and_parts (is_above_operands g) (list_all is_above_operands gs) h in (one_told g p.0, ordered-told gs p.1)
 
 -- the test is true of compact files
 pub compact-tested : (f : File) → IsCompact f → is_compact f ≡ true
 compact-tested f compact =
     let lefts = map (λ (g : GateLine). g.lhs) f.gates in
     and_from (f.greatest == length (defined f)) (are_in_order f.gates) (eq-eqb f.greatest (length (defined f)) compact.exact)
-    (and_from (rises lefts) (list_all is_ordered f.gates) (rises-tested lefts compact.rising) (ordered-tested f.gates compact.ordered))
+    (and_from (rises lefts) (list_all is_above_operands f.gates) (rises-tested lefts compact.rising) (ordered-tested f.gates compact.ordered))
 
 -- and there alone
 pub compact-told : (f : File) → is_compact f ≡ true → IsCompact f
 compact-told f h =
     let lefts = map (λ (g : GateLine). g.lhs) f.gates in
     let p = and_parts (f.greatest == length (defined f)) (are_in_order f.gates) h in
-    let q = and_parts (rises lefts) (list_all is_ordered f.gates) p.1 in
+    let q = and_parts (rises lefts) (list_all is_above_operands f.gates) p.1 in
     record { exact = eqb-true f.greatest (length (defined f)) p.0; rising = rises-told lefts q.0; ordered = ordered-told f.gates q.1 }
 
 -- what isn't compact is well-founded

@@ -12,7 +12,7 @@ use Rattle.aig_format.specs.Variables.{is_defined, is_known, IsKnown, gate_of_va
 use Rattle.aig_format.specs.Levels.{level_of}
 use Rattle.aig_format.specs.Numbering.{is_compact, numbers_from, variables_by_level, variables_in_order, node_of_variable}
 use Rattle.aig_format.specs.declared.FileKind.TheVariants.{Text, Binary}
-use Rattle.aig_format.specs.Fits.{IsDefinable, IsOrdered, Fits, IsWellFounded, IsCompact}
+use Rattle.aig_format.specs.Fits.{IsDefinable, IsAboveOperands, Fits, IsWellFounded, IsCompact}
 use Rattle.aig_format.proofs.Entries.{rec_both, rec_map, rec_parts, rec_weaker}
 use Rattle.aig_format.proofs.Searches.{find_some}
 use Rattle.aig_format.proofs.Members.{has, has-numbers, index-place_of, place_of-index, place_of-numbers, place_of-one, place_of-within, distinct-numbers, rec_at, rec_numbers}
@@ -314,7 +314,7 @@ operands_before f limit fits v g found = by_test (is_compact f) refl
 
     by_test : (b : Bool) → is_compact f ≡ b → (node_of_variable f (g.rhs0 / 2) < node_of_variable f v) × (node_of_variable f (g.rhs1 / 2) < node_of_variable f v)
     by_test true is =
-        let s = find_some IsOrdered (λ h. h.lhs / 2 == v) f.gates g (compact-told f is).ordered found in
+        let s = find_some IsAboveOperands (λ h. h.lhs / 2 == v) f.gates g (compact-told f is).ordered found in
         let e = eqb-true (g.lhs / 2) v s.0 in
         let own = node_of_variable-compact f is v bounds.1 in
         let less0 : g.rhs0 / 2 < v = subst (λ m. g.rhs0 / 2 < m) e s.1.0 in

@@ -21,8 +21,8 @@ abbrev pub HasReset : LatchLine → Type 0
 HasReset l = IfSome l.reset (λ r. (r ≤ 1) ⊎ (r ≡ l.literal))
 
 -- an operand's variable is smaller than the gate's
-abbrev pub IsOrdered : GateLine → Type 0
-IsOrdered g = (g.rhs0 / 2 < g.lhs / 2) × (g.rhs1 / 2 < g.lhs / 2)
+abbrev pub IsAboveOperands : GateLine → Type 0
+IsAboveOperands g = (g.rhs0 / 2 < g.lhs / 2) × (g.rhs1 / 2 < g.lhs / 2)
 
 -- each number is smaller than the next
 abbrev pub Rises : List ℕ → Type 0
@@ -42,7 +42,7 @@ same_place a b = (a.letter == b.letter) && (a.position == b.position)
 pub record IsCompact (f : File) : Type 0 where
   pub exact : f.greatest ≡ length (defined f)
   pub rising : Rises (map (λ g. g.lhs) f.gates)
-  pub ordered : AllByRecursion IsOrdered f.gates
+  pub ordered : AllByRecursion IsAboveOperands f.gates
 
 -- a well-founded text file: variables may be missing and gates stand in any order, but what is used is 0 or defined, and no gate
 -- depends on itself

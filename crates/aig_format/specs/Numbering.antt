@@ -16,12 +16,12 @@ rises (a ∷ []) = true
 rises (a ∷ b ∷ rest) = nat_lt a b && rises (b ∷ rest)
 
 -- whether an operand's variable is smaller than the gate's
-abbrev pub is_ordered : GateLine → Bool
-is_ordered g = nat_lt (g.rhs0 / 2) (g.lhs / 2) && nat_lt (g.rhs1 / 2) (g.lhs / 2)
+abbrev pub is_above_operands : GateLine → Bool
+is_above_operands g = nat_lt (g.rhs0 / 2) (g.lhs / 2) && nat_lt (g.rhs1 / 2) (g.lhs / 2)
 
 -- whether gates rise, each above its operands
 abbrev pub are_in_order : List GateLine → Bool
-are_in_order gates = rises (map (λ g. g.lhs) gates) && list_all is_ordered gates
+are_in_order gates = rises (map (λ g. g.lhs) gates) && list_all is_above_operands gates
 
 -- whether no variable is missing, and the gates are in order
 abbrev pub is_compact : File → Bool

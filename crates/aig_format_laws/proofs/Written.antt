@@ -24,7 +24,7 @@ use Rattle.aig_circuit.proofs.Circuits.{AreLeaves-of_circuit}
 use Rattle.aig_circuit.proofs.Counting.{closed-count}
 use Rattle.aig_format.specs.declared.FileKind.{FileKind}
 use Rattle.aig_format.specs.File.{File, GateLine, LatchLine, defined, header_of}
-use Rattle.aig_format.specs.Fits.{Fits, IsCompact, HasReset, IsDefinable, IsNameOf, IsOrdered}
+use Rattle.aig_format.specs.Fits.{Fits, IsCompact, HasReset, IsDefinable, IsNameOf, IsAboveOperands}
 use Rattle.aig_format.specs.Letters.{letter_of_inputs, letter_of_latches}
 use Rattle.aig_format.specs.Numbering.{is_compact, node_of_variable}
 use Rattle.aig_format.specs.Spells.{numbers_in, Placed}
@@ -212,8 +212,8 @@ module _ (kind : FileKind) (c : Circuit) (is : IsCircuit c) (w : IsWritable c) (
           by_init (Some e) h z = subst (λ o. HasReset (latch_line (made o))) (sym h) (by_compl e e.compl refl (subst (λ o. IfSome o (λ e. e.node_id ≡ 0)) h z))
           by_init None h z = subst (λ o. HasReset (latch_line (made o))) (sym h) (inr refl)
 
-  ordered : AllByRecursion IsOrdered (lines_for c.nodes)
-  ordered = lines_all IsOrdered 0 c.nodes are_numbered (λ i a b h.
+  ordered : AllByRecursion IsAboveOperands (lines_for c.nodes)
+  ordered = lines_all IsAboveOperands 0 c.nodes are_numbered (λ i a b h.
       let second = is.nodes.ordered.second_before i a b h in
       let first = is.nodes.ordered.first_before i a b h in
       let half_b = literal_half b in

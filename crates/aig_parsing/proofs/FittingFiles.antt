@@ -10,7 +10,7 @@ use Rattle.aig_format.specs.declared.FileKind.{FileKind}
 use Rattle.aig_format.specs.declared.FileKind.TheVariants.{Text, Binary}
 use Rattle.aig_format.specs.File.{LatchLine, GateLine, NameLine, File, HeaderNumbers, header_of, defined}
 use Rattle.aig_format.specs.Spells.{Latch, Gate, Placed, places, Spells}
-use Rattle.aig_format.specs.Fits.{IsDefinable, HasReset, IsOrdered, Rises, IsCompact, IsWellFounded, Fits, HasEnough, Accepts}
+use Rattle.aig_format.specs.Fits.{IsDefinable, HasReset, IsAboveOperands, Rises, IsCompact, IsWellFounded, Fits, HasEnough, Accepts}
 use Rattle.aig_parsing.specs.Parse.{◌>>=◌, parse_header, is_good, parse_ended, parse_if, parse_numbers, parse_placed_gate, Parts, PropertyParts, property_parts, parse_body, file_from, AllAfter}
 use Rattle.aig_parsing.specs.ParseTested.{is_within, is_accepted_order, parse_section_lines, parse_fitting_header, defines, has_next, tests_latch, tests_gate, parse_latch_line, parse_binary_latch, parse_gate_line, parse_fitting_inputs, parse_fitting_latches, parse_fitting_gates, parse_literal_justice, parse_literal_sets, parse_literals, parse_fitting_properties, parse_fitting_sections, parse_fitting_body, parse_fitting_tail, parse_fitting}
 use Rattle.aig_format.proofs.Entries.{rec_weaker, rec_both, rec_append}
@@ -40,7 +40,7 @@ LatchesFit Binary greatest inputs latches = AllByRecursion (HasNext greatest) la
 
 abbrev pub GatesFit : FileKind → ℕ → List ℕ → List GateLine → Type 0
 GatesFit Text greatest leaves gates = AllAfter (GateAfter greatest leaves) [] gates
-GatesFit Binary greatest leaves gates = AllByRecursion IsOrdered gates
+GatesFit Binary greatest leaves gates = AllByRecursion IsAboveOperands gates
 
 Reads-fitting_inputs : (kind : FileKind) (ns : HeaderNumbers) → Reads (With (InputsFit kind ns.greatest) (InputsPart kind ns.inputs)) (parse_fitting_inputs kind ns)
 Reads-fitting_inputs Text ns =
@@ -66,7 +66,7 @@ Reads-fitting_gates Text ns leaves =
     let test = Decides-gate greatest leaves in
     Reads-checked (Gate Text) (GateAfter greatest leaves) parse_gate_line (tests_gate greatest leaves) Reads-gate_line (λ before g. (test before g).0) (λ before g. (test before g).1) ns.gates []
 Reads-fitting_gates Binary ns leaves =
-    Reads-placed_with gate_key IsOrdered (Gate Binary) (λ v. parse_if (parse_placed_gate v) is_below) ns.gates (1 + ns.inputs + ns.latches) Reads-binary_gate
+    Reads-placed_with gate_key IsAboveOperands (Gate Binary) (λ v. parse_if (parse_placed_gate v) is_below) ns.gates (1 + ns.inputs + ns.latches) Reads-binary_gate
 
 -- what the tests on the lines of outputs and properties say
 pub record PropertiesFit (greatest : ℕ) (x : PropertyParts) : Type 0 where

@@ -8,7 +8,7 @@ use Rattle.aig_format.specs.Text.{◌then◌, Each, Ended, IsLine, Lines}
 use Rattle.aig_format.specs.declared.FileKind.TheVariants.{Text, Binary}
 use Rattle.aig_format.specs.File.{GateLine}
 use Rattle.aig_format.specs.Spells.{Latch, Gate}
-use Rattle.aig_format.specs.Fits.{IsOrdered}
+use Rattle.aig_format.specs.Fits.{IsAboveOperands}
 use Rattle.aig_parsing.specs.Parse.{◌>>=◌, parse_number, parse_ended, parse_both, parse_if, parse_times, parse_placed, parse_placed_gate}
 use Rattle.aig_parsing.specs.ParseTested.{is_literal, parse_next_and_reset, latch_line_from, parse_latch_line, parse_binary_latch, parse_pair, parse_triple, gate_line_from, parse_gate_line, parse_literals, parse_literal_sets}
 use Rattle.aig_format.proofs.Entries.{chosen}
@@ -129,19 +129,19 @@ abbrev pub is_below : GateLine → Bool
 is_below g = nat_lt g.rhs0 g.lhs
 
 -- a gate of a binary file whose first operand is below it is in order
-gate_ordered : (v : ℕ) (g : GateLine) (bytes : List ℕ) → g.rhs0 < g.lhs → At gate_key (Gate Binary) v g bytes → IsOrdered g
+gate_ordered : (v : ℕ) (g : GateLine) (bytes : List ℕ) → g.rhs0 < g.lhs → At gate_key (Gate Binary) v g bytes → IsAboveOperands g
 gate_ordered v g bytes lt h =
     let w = h.1 in
     let own : g.lhs ≡ 2 * v = h.0 in
     let second : g.rhs0 ≡ g.rhs1 + w.1 = w.3 in
     (omega arith, omega arith)
 
-gate_below : (g : GateLine) → IsOrdered g → g.rhs0 < g.lhs
+gate_below : (g : GateLine) → IsAboveOperands g → g.rhs0 < g.lhs
 gate_below g h = let first = h.0 in omega arith
 
-pub Reads-binary_gate : (v : ℕ) → Reads (With IsOrdered (At gate_key (Gate Binary) v)) (parse_if (parse_placed_gate v) is_below)
+pub Reads-binary_gate : (v : ℕ) → Reads (With IsAboveOperands (At gate_key (Gate Binary) v)) (parse_if (parse_placed_gate v) is_below)
 Reads-binary_gate v =
-    Reads-same (With (λ g. g.rhs0 < g.lhs) (At gate_key (Gate Binary) v)) (With IsOrdered (At gate_key (Gate Binary) v)) (parse_if (parse_placed_gate v) is_below)
+    Reads-same (With (λ g. g.rhs0 < g.lhs) (At gate_key (Gate Binary) v)) (With IsAboveOperands (At gate_key (Gate Binary) v)) (parse_if (parse_placed_gate v) is_below)
     (Reads-tested (At gate_key (Gate Binary) v) (λ g. g.rhs0 < g.lhs) (parse_placed_gate v) is_below (Reads-placed_gate v) (λ g. ltb-true g.rhs0 g.lhs) (λ g. lt-ltb g.rhs0 g.lhs))
     (λ g bytes h. (gate_ordered v g bytes h.0 h.1, h.1)) (λ g bytes h. (gate_below g h.0, h.1))
 

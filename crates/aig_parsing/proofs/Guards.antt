@@ -15,7 +15,7 @@ use Rattle.aig_format.specs.Levels.{has_level, HasLevel}
 use Rattle.aig_format.specs.Numbering.{is_compact}
 use Rattle.aig_format.specs.declared.FileKind.{FileKind}
 use Rattle.aig_format.specs.declared.FileKind.TheVariants.{Text, Binary}
-use Rattle.aig_format.specs.Fits.{IsDefinable, HasReset, IsOrdered, IsNameOf, same_place, IsCompact, HasEnough, count_defined}
+use Rattle.aig_format.specs.Fits.{IsDefinable, HasReset, IsAboveOperands, IsNameOf, same_place, IsCompact, HasEnough, count_defined}
 use Rattle.aig_parsing.specs.Parse.{AllAfter, is_good}
 use Rattle.aig_parsing.proofs.Checked.{IsNew, distinct_after}
 use Rattle.aig_format.specs.Letters.{count_of, is_kept}
@@ -238,7 +238,7 @@ on_used P f =
     )
 
 -- a gate's operands may be used, since their variables are smaller than its own
-pub operands_in_range : (greatest : ℕ) (g : GateLine) → IsDefinable greatest g.lhs → IsOrdered g → HasOperands greatest g
+pub operands_in_range : (greatest : ℕ) (g : GateLine) → IsDefinable greatest g.lhs → IsAboveOperands g → HasOperands greatest g
 operands_in_range greatest g d o = let high = d.2 in let first = o.0 in let second = o.1 in (omega arith, omega arith)
 
 -- the facts on latches by lines, and on them all
@@ -270,11 +270,11 @@ gates_by_line greatest leaves gates =
     )
 
 -- the operands of gates in order are in range
-pub gates_in_range : (greatest : ℕ) (gates : List GateLine) → AllByRecursion (IsDefinable greatest) (map gate_key gates) → AllByRecursion IsOrdered gates → AllByRecursion (HasOperands greatest) gates
+pub gates_in_range : (greatest : ℕ) (gates : List GateLine) → AllByRecursion (IsDefinable greatest) (map gate_key gates) → AllByRecursion IsAboveOperands gates → AllByRecursion (HasOperands greatest) gates
 gates_in_range greatest gates d o =
     let Definable : GateLine → Type 0 = λ g. IsDefinable greatest g.lhs in
-    rec_weaker (λ g. Definable g × IsOrdered g) (HasOperands greatest) (λ g h. operands_in_range greatest g h.0 h.1) gates
-    (rec_both Definable IsOrdered gates ((rec_map (IsDefinable greatest) gate_key gates).0 d) o)
+    rec_weaker (λ g. Definable g × IsAboveOperands g) (HasOperands greatest) (λ g h. operands_in_range greatest g h.0 h.1) gates
+    (rec_both Definable IsAboveOperands gates ((rec_map (IsDefinable greatest) gate_key gates).0 d) o)
 
 pub length-defined : (f : File) → length (defined f) ≡ length f.inputs + length f.latches + length f.gates
 length-defined f =

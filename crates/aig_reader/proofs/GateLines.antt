@@ -10,7 +10,7 @@ use Rattle.aig_ordering.specs.declared.gates.Operands.{Operands}
 use Rattle.aig_format.specs.declared.FileKind.{FileKind}
 use Rattle.aig_format.specs.declared.FileKind.TheVariants.{Text, Binary}
 use Rattle.aig_format.specs.File.{GateLine}
-use Rattle.aig_format.specs.Numbering.{are_in_order, is_ordered, rises}
+use Rattle.aig_format.specs.Numbering.{are_in_order, is_above_operands, rises}
 use Rattle.aig_format.proofs.Entries.{rec_append, rec_parts}
 use Rattle.aig_parsing.specs.ParseTested.{defines, is_literal}
 use Rattle.aig_reader.specs.declared.variables.DefinedVariables.{DefinedVariables}
@@ -46,14 +46,14 @@ four true false false d = refl
 four false b c d = refl
 
 -- gates are in order with one more where it is next
-pub order_push : (gates : List GateLine) (g : GateLine) → 0 < g.lhs → are_in_order (gates ++ g ∷ []) ≡ are_in_order gates && (ltb (last_or 0 (literals_of gates)) g.lhs && is_ordered g)
+pub order_push : (gates : List GateLine) (g : GateLine) → 0 < g.lhs → are_in_order (gates ++ g ∷ []) ≡ are_in_order gates && (ltb (last_or 0 (literals_of gates)) g.lhs && is_above_operands g)
 order_push gates g some =
     let lefts = literals_of gates in
-    let all = list_all is_ordered gates in
-    ap (λ (ls : List ℕ). rises ls && list_all is_ordered (gates ++ g ∷ [])) (map_push (λ (h : GateLine). h.lhs) gates g)
-    ∙ ap (λ (b : Bool). b && list_all is_ordered (gates ++ g ∷ [])) (rises_push g.lhs lefts some)
-    ∙ ap (λ (b : Bool). (rises lefts && ltb (last_or 0 lefts) g.lhs) && b) (list_all-append is_ordered gates (g ∷ []) ∙ ap (λ (b : Bool). all && b) (and-true (is_ordered g)))
-    ∙ four (rises lefts) all (ltb (last_or 0 lefts) g.lhs) (is_ordered g)
+    let all = list_all is_above_operands gates in
+    ap (λ (ls : List ℕ). rises ls && list_all is_above_operands (gates ++ g ∷ [])) (map_push (λ (h : GateLine). h.lhs) gates g)
+    ∙ ap (λ (b : Bool). b && list_all is_above_operands (gates ++ g ∷ [])) (rises_push g.lhs lefts some)
+    ∙ ap (λ (b : Bool). (rises lefts && ltb (last_or 0 lefts) g.lhs) && b) (list_all-append is_above_operands gates (g ∷ []) ∙ ap (λ (b : Bool). all && b) (and-true (is_above_operands g)))
+    ∙ four (rises lefts) all (ltb (last_or 0 lefts) g.lhs) (is_above_operands g)
 
 -- ---- a gate in its place
 
@@ -61,11 +61,11 @@ module _ (greatest : ℕ) (leaves : List ℕ) (before : List GateLine) (lhs : �
   abbrev g : GateLine
   g = line_of lhs operands
 
-  order_with : (old : InOrder) → AreInOrder before old → are_in_order (before ++ g ∷ []) ≡ ltb old.last lhs && is_ordered g
+  order_with : (old : InOrder) → AreInOrder before old → are_in_order (before ++ g ∷ []) ≡ ltb old.last lhs && is_above_operands g
   order_with old h = order_push before g (omega arith) ∙ rw (h.in_order, sym h.last) refl
 
   -- gates that rise still do with the next one
-  pub rises_still : (old new : InOrder) → ArePlaced greatest leaves before (held.InOrder old) → (ltb old.last lhs && is_ordered g) ≡ true → AreFirstNodes (before ++ g ∷ []) new.nodes.items → new.last ≡ lhs → HasWords g
+  pub rises_still : (old new : InOrder) → ArePlaced greatest leaves before (held.InOrder old) → (ltb old.last lhs && is_above_operands g) ≡ true → AreFirstNodes (before ++ g ∷ []) new.nodes.items → new.last ≡ lhs → HasWords g
       → ArePlaced greatest leaves (before ++ g ∷ []) (held.InOrder new)
   rises_still old new h next nodes last words = record {
     nodes = nodes;
@@ -77,7 +77,7 @@ module _ (greatest : ℕ) (leaves : List ℕ) (before : List GateLine) (lhs : �
   }
 
   -- and don't with one that isn't above the others and its operands
-  pub rises_no_more : (old : InOrder) (table : Table) → ArePlaced greatest leaves before (held.InOrder old) → (ltb old.last lhs && is_ordered g) ≡ false → HoldsPending (before ++ g ∷ []) table
+  pub rises_no_more : (old : InOrder) (table : Table) → ArePlaced greatest leaves before (held.InOrder old) → (ltb old.last lhs && is_above_operands g) ≡ false → HoldsPending (before ++ g ∷ []) table
       → ArePlaced greatest leaves (before ++ g ∷ []) (held.Shuffled table)
   rises_no_more old table h other nodes = record { nodes = nodes; form = well_founded_order greatest leaves (before ++ g ∷ []) (order_with old h.form ∙ other) }
 

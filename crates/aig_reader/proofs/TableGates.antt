@@ -8,7 +8,7 @@ use Rattle.std.proofs.lemmas.List.{append-nil, map-append}
 use Rattle.std.proofs.lemmas.List.Folds.{list_all-append, list_any-append}
 use Rattle.aig_format.specs.File.{GateLine, File, defined}
 use Rattle.aig_format.specs.Fits.{IsDefinable}
-use Rattle.aig_format.specs.Numbering.{are_in_order, is_compact, is_ordered, rises}
+use Rattle.aig_format.specs.Numbering.{are_in_order, is_compact, is_above_operands, rises}
 use Rattle.aig_format.proofs.Entries.{rec_parts}
 use Rattle.aig_format.proofs.Numbers.{all_there}
 use Rattle.aig_reader.specs.declared.gate_store.GateStore.{GateStore}
@@ -46,10 +46,10 @@ module _ (greatest : ℕ) (leaves : List ℕ) (gates : List GateLine) where
       by_test : (rest : List GateLine) (b : Bool) → are_in_order (gates ++ rest) ≡ b → are_in_order (gates ++ rest) ≡ false
       by_test rest false is = is
       by_test rest true is =
-          let p = and_parts (rises (literals_of (gates ++ rest))) (list_all is_ordered (gates ++ rest)) is in
+          let p = and_parts (rises (literals_of (gates ++ rest))) (list_all is_above_operands (gates ++ rest)) is in
           let front = rises-front (literals_of gates) (literals_of rest) (sym (ap rises (map-append (λ (g : GateLine). g.lhs) gates rest)) ∙ p.0) in
-          let ordered = and_parts (list_all is_ordered gates) (list_all is_ordered rest) (sym (list_all-append is_ordered gates rest) ∙ p.1) in
-          absurd (false≢true (sym h ∙ and_from (rises (literals_of gates)) (list_all is_ordered gates) front ordered.0))
+          let ordered = and_parts (list_all is_above_operands gates) (list_all is_above_operands rest) (sym (list_all-append is_above_operands gates rest) ∙ p.1) in
+          absurd (false≢true (sym h ∙ and_from (rises (literals_of gates)) (list_all is_above_operands gates) front ordered.0))
 
   -- nor do they with one more
   pub well_founded_more : (g : GateLine) → IsNeverCompact greatest leaves gates → IsNeverCompact greatest leaves (gates ++ g ∷ [])
@@ -75,7 +75,7 @@ module _ (greatest : ℕ) (leaves : List ℕ) (before : List GateLine) (g : Gate
 
   none_behind : (rest : List GateLine) → are_in_order (gates ++ rest) ≡ true → list_any is_here (literals_of rest) ≡ false
   none_behind rest is =
-      let p = and_parts (rises (literals_of (gates ++ rest))) (list_all is_ordered (gates ++ rest)) is in
+      let p = and_parts (rises (literals_of (gates ++ rest))) (list_all is_above_operands (gates ++ rest)) is in
       none_below v g.lhs (literals_of rest) (rises-back (literals_of before) g.lhs (literals_of rest) (sym (ap rises (behind_gate rest)) ∙ p.0)) below
 
   pub well_founded_skipped : list_any is_here (leaves ++ literals_of gates) ≡ false → IsNeverCompact greatest leaves gates

@@ -2,7 +2,7 @@
 
 ghost use Rattle.std.specs.Prelude.{◌≡◌, ℕ, ◌+◌, ◌/◌, ◌^◌, ◌<◌, ◌≤◌, ◌&&◌, ◌⊎◌, nat_lt, [], ◌∷◌, ◌++◌, List, max, IfOk, OnOk, false, length, true, vec_len};
 ghost use Rattle.aig_format.specs.File.{GateLine};
-ghost use Rattle.aig_format.specs.Numbering.{is_ordered};
+ghost use Rattle.aig_format.specs.Numbering.{is_above_operands};
 ghost use Rattle.aig_ordering.specs.Gates.{nodes_in};
 ghost use Rattle.aig_reader.specs.Gates.{AreFirstNodes, ArePlaced, HasSpace, is_in_order, line_of, literals_of};
 ghost use Rattle.aig_reader.specs.Variables.{AreDefined, IsNewAmong, is_marked};
@@ -35,7 +35,7 @@ pub enum GateStore {
 impl InOrder {
     /// Whether the literal of a gate is above that of the last one, and above those of its operands.
     fn is_above(&self, lhs: u32, operands: Operands) -> bool
-        ensures { result ≡ (nat_lt self.now.last lhs && is_ordered (line_of lhs operands)) }
+        ensures { result ≡ (nat_lt self.now.last lhs && is_above_operands (line_of lhs operands)) }
     {
         self.last < lhs && operands.first / 2 < lhs / 2 && operands.second / 2 < lhs / 2
     }
@@ -44,12 +44,12 @@ impl InOrder {
     /// the variables that it passes over are defined.
     fn is_next(&self, variables: &DefinedVariables, lhs: u32, operands: Operands) -> bool
         ensures next { result ≡ true
-            → (nat_lt self.now.last lhs && is_ordered (line_of lhs operands)) ≡ true }
+            → (nat_lt self.now.last lhs && is_above_operands (line_of lhs operands)) ≡ true }
         ensures defined { result ≡ true
             → (v : ℕ) → vec_len self.now.nodes ≤ v → v < lhs / 2
             → is_marked variables.now v ≡ true }
         ensures other { result ≡ false
-            → ((nat_lt self.now.last lhs && is_ordered (line_of lhs operands)) ≡ false)
+            → ((nat_lt self.now.last lhs && is_above_operands (line_of lhs operands)) ≡ false)
             ⊎ ((v : ℕ) × (vec_len self.now.nodes ≤ v) × (v < lhs / 2)
             × (is_marked variables.now v ≡ false)) }
     {
