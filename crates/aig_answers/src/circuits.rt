@@ -14,7 +14,7 @@ use aig::Aig;
 use aig_base::{DagCnf, LitVvec, Source};
 use aig_certify::refuted_circuit_queries_have_no_witness;
 use aig_encode::EncodeError;
-use aig_query::further_clauses;
+use aig_query::query_clauses;
 use aig_refutation::{RefutationError, check_refutation};
 use aig_runs::circuit_queries_ask;
 use std::alloc::Global;
@@ -26,15 +26,15 @@ pub struct CircuitQuery {
     pub unrolled: Aig,
     /// The clauses of the unrolled circuit.
     pub clauses: DagCnf,
-    /// The further clauses.
+    /// The query clauses.
     pub further: LitVvec,
 }
 
-/// Unrolls a circuit by `k` steps, makes the clauses of that, and asks by further clauses for a run from an initial state on which
+/// Unrolls a circuit by `k` steps, makes the clauses of that, and asks by query clauses for a run from an initial state on which
 /// every constraint holds at each of the steps 0 to `k` and some bad edge at step `k`. The circuit may have been built or
 /// changed, and its initial edges may be any.
 ///
-/// The further clauses are, in order: for each latch with an initial edge that its leaf has that edge's value, in one clause
+/// The query clauses are, in order: for each latch with an initial edge that its leaf has that edge's value, in one clause
 /// where the edge is constant and else in two, for each constraint of each step that it holds, and one clause of all bad
 /// edges of step `k`, which is empty where there are none.
 ///
@@ -53,7 +53,7 @@ pub fn query_of(
     // Both lists can be satisfied exactly where the circuit has such a run, which is read off the values.
     ensures asks { IfOk result
         (λ asked. AsksOfCircuit circuit.now k asked.unrolled asked.clauses asked.further) }
-    // The further clauses are of variables that are there.
+    // The query clauses are of variables that are there.
     ensures below { IfOk result (λ asked. AreBelow (length asked.clauses) asked.further) }
     ensures large { IsErrOf result EncodeError.TooLarge ↔ (limit < unrolled_size circuit.now k) }
     ensures err { IfErr result (λ e. (e ≡ EncodeError.Memory) ⊎ (e ≡ EncodeError.TooLarge)) }
@@ -64,7 +64,7 @@ pub fn query_of(
     }
     let unrolled = circuit.unroll_to(k)?;
     let clauses = unrolled.cnf(optimize)?;
-    let further = further_clauses(alloc, circuit, k, &unrolled)?;
+    let further = query_clauses(alloc, circuit, k, &unrolled)?;
     Ok(CircuitQuery {
         unrolled,
         clauses,

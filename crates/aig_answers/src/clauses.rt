@@ -1,4 +1,4 @@
-//! The further clauses of an induction step.
+//! The window clauses of an induction step.
 
 ghost use Rattle.std.specs.Prelude.{◌≡◌, ◌+◌, ◌*◌, ◌<◌, ◌≤◌, ◌^◌, ◌++◌, ◌∷◌, [], All, IfOk, OnOk, length, map};
 ghost use Rattle.aig_circuit.specs.Circuit.{IsCircuit};
@@ -45,7 +45,7 @@ fn push_any(alloc: Global, further: &mut LitVvec, edges: &[AigEdge]) -> Result<(
     further.push(&clause)
 }
 
-/// The further clauses of an induction step, over the nodes of the circuit unrolled by `k + 1` steps.
+/// The window clauses of an induction step, over the nodes of the circuit unrolled by `k + 1` steps.
 pub(crate) fn window_clauses(
     alloc: Global,
     circuit: &Aig,

@@ -25,7 +25,7 @@ use std::alloc::Global;
 pub struct WindowClauses {
     /// The clauses of the unrolled circuit, and then free variables.
     pub clauses: DagCnf,
-    /// The further clauses.
+    /// The window clauses.
     pub further: LitVvec,
 }
 
@@ -135,7 +135,7 @@ fn ask_window(
 /// state, on which every constraint holds at each step, no bad state is reached at the steps 0 to `k`, and one is reached at
 /// step `k + 1`; in the distinct form no two of its steps have the same state.
 ///
-/// The further clauses are, in order: for each constraint of each step that it holds, for each bad literal of the steps 0 to
+/// The window clauses are, in order: for each constraint of each step that it holds, for each bad literal of the steps 0 to
 /// `k` that it doesn't, one clause of those of step `k + 1`, and in the distinct form, for each pair of steps, that some
 /// latch differs.
 ///
@@ -157,7 +157,7 @@ pub fn window<R: Source>(
     ensures answer { IfOk result (IsOfFile (IsAsked limit (k + 1))
         (λ f made. AsksWindow form (circuit_of f) k optimize made.clauses made.further)
         (R.left r.old) (R.left r.new)) }
-    // The further clauses are of variables that are there.
+    // The window clauses are of variables that are there.
     ensures below { IfOk result (λ made. AreBelow (length made.clauses) made.further) }
     ensures file { TellsOfFile R.left R.failed limit (k + 1) result r.old r.new }
     ensures room { TellsOfRoom R.left form limit k result r.old r.new }

@@ -1,4 +1,4 @@
--- The further clauses of small windows, computed, with the numbers of literals worked by hand: twice the variable, and one more where it is inverted.
+-- The window clauses of small windows, computed, with the numbers of literals worked by hand: twice the variable, and one more where it is inverted.
 -- And a file that a certificate shows safe.
 use Rattle.std.proofs.Common.{◌≡◌, ℕ, zero, suc, ◌+◌, ◌<◌, ◌≤◌, Bool, true, false, eqb, not, ◌&&◌, None, List, [], ◌∷◌, map, refl, sym, ap, subst, ◌∙◌, inl, arith}
 use Rattle.std.specs.Prelude.{Contains}

@@ -8,7 +8,7 @@ use Rattle.aig_base.specs.Clauses.{Satisfies, are_true, is_true_clause}
 use Rattle.aig_circuit.specs.Circuit.{Circuit}
 use Rattle.aig_format.specs.File.{File}
 use Rattle.aig_base.specs.Formula.{clauses_in, IsSatisfiable}
-use Rattle.aig_runs.specs.Queries.{Asks, IsRefuted}
+use Rattle.aig_runs.specs.Queries.{IsQueryOf, IsRefuted}
 use Rattle.aig_certify.specs.Safety.{IsSafeAt}
 
 pub clauses_in_true : (v : ℕ → Bool) (lists : List (List (List Lit))) → Satisfies v lists → IsTrue (are_true v (clauses_in lists))
@@ -26,5 +26,5 @@ both_true v lists further holds also = list_all-append (is_true_clause v) (claus
 pub refuted_both : (lists : List (List (List Lit))) (further : List (List Lit)) → ¬ IsSatisfiable (clauses_in lists ++ further) → IsRefuted lists further
 refuted_both lists further none s = none (s.0, both_true s.0 lists further s.1.clauses_hold s.1.further_hold)
 
-pub no_witness : (f : File) (k : ℕ) (circuit unrolled : Circuit) (clauses : List (List (List Lit))) (further : List (List Lit)) → Asks f k circuit unrolled clauses further → ¬ IsSatisfiable (clauses_in clauses ++ further) → IsSafeAt f k
+pub no_witness : (f : File) (k : ℕ) (circuit unrolled : Circuit) (clauses : List (List (List Lit))) (further : List (List Lit)) → IsQueryOf f k circuit unrolled clauses further → ¬ IsSatisfiable (clauses_in clauses ++ further) → IsSafeAt f k
 no_witness f k circuit unrolled clauses further asks none w = refuted_both clauses further none (asks.satisfiable.1 w)

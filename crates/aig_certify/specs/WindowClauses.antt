@@ -78,7 +78,7 @@ abbrev pub states_clauses : Window → ℕ → Circuit → ℕ → Circuit → L
 states_clauses Plain n c k unrolled = []
 states_clauses Distinct n c k unrolled = distinct_clauses n (length c.latchs) unrolled.outputs (k + 2)
 
--- the further clauses of a window, in order
+-- the window clauses of a window, in order
 abbrev pub window_clauses : Window → ℕ → Circuit → ℕ → Circuit → List (List Lit)
 window_clauses form n c k unrolled = induction_clauses c k unrolled ++ states_clauses form n c k unrolled
 

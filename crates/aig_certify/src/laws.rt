@@ -10,7 +10,7 @@ ghost use Rattle.aig_format.specs.Fits.{Fits};
 ghost use Rattle.aig_format.specs.Machine.{IsRun, IsInitial};
 ghost use Rattle.aig_format_laws.specs.MachineRuns.{AgreeOnKnown};
 ghost use Rattle.aig_base.specs.Formula.{clauses_in, IsSatisfiable};
-ghost use Rattle.aig_runs.specs.Queries.{Asks, IsSafeTo};
+ghost use Rattle.aig_runs.specs.Queries.{IsQueryOf, IsSafeTo};
 ghost use Rattle.aig_certify.specs.Certificate.{Extends, IsCertificateOf};
 ghost use Rattle.aig_certify.specs.Induction.{IsKInductive};
 ghost use Rattle.aig_certify.specs.Inductive.{IsInductive};
@@ -25,7 +25,7 @@ use aig_runs::refuted_queries_are_safe;
 /// start on which every constraint holds and, at the last step, some bad literal.
 pub fn refuted_queries_have_no_witness()
     ensures { (f : File) (k : ℕ) (circuit unrolled : Circuit) (clauses : List (List (List Lit))) (further : List (List Lit))
-        → Asks f k circuit unrolled clauses further
+        → IsQueryOf f k circuit unrolled clauses further
         → ¬ IsSatisfiable (clauses_in clauses ++ further) → IsSafeAt f k }
 {}
 
@@ -34,7 +34,7 @@ pub fn refuted_queries_have_no_witness()
 pub fn refutations_are_safe()
     ensures { (f : File) (n : ℕ) (circuit unrolled : ℕ → Circuit)
         (clauses : ℕ → List (List (List Lit))) (further : ℕ → List (List Lit))
-        → ((k : ℕ) → k ≤ n → Asks f k (circuit k) (unrolled k) (clauses k) (further k))
+        → ((k : ℕ) → k ≤ n → IsQueryOf f k (circuit k) (unrolled k) (clauses k) (further k))
         → ((k : ℕ) → k ≤ n → ¬ IsSatisfiable (clauses_in (clauses k) ++ further k))
         → IsSafeTo f n }
 {

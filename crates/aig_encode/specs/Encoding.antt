@@ -9,11 +9,11 @@ use Rattle.aig_reader.specs.declared.error.ReadError.TheVariants as read
 use Rattle.aig_reader.specs.Reading.{AnswersFile}
 use Rattle.aig_unroll.specs.Places.{unrolled_size}
 use Rattle.aig_runs.specs.Encodes.{Encodes}
-use Rattle.aig_runs.specs.Queries.{Asks}
+use Rattle.aig_runs.specs.Queries.{IsQueryOf}
 use Rattle.aig_encode.specs.declared.encoding.Encoded.{Encoded}
 use Rattle.aig_encode.specs.declared.error.EncodeError.{EncodeError}
 use Rattle.aig_encode.specs.declared.error.EncodeError.TheVariants as errors
-use Rattle.aig_encode.specs.declared.further.Query.{Query}
+use Rattle.aig_encode.specs.declared.query_clauses.Query.{Query}
 
 -- ---- answers
 
@@ -21,9 +21,9 @@ use Rattle.aig_encode.specs.declared.further.Query.{Query}
 abbrev pub IsEncoding : ℕ → Bool → File → Encoded → Type 0
 IsEncoding k optimize f e = Encodes f k optimize e.circuit e.unrolled e.clauses
 
--- the file is encoded, and the further clauses ask for a run from an initial state to a bad literal at step k
+-- the file is encoded, and the query clauses ask for a run from an initial state to a bad literal at step k
 abbrev pub IsQuery : ℕ → Bool → File → Query → Type 0
-IsQuery k optimize f q = IsEncoding k optimize f q.encoded × Asks f k q.encoded.circuit q.encoded.unrolled q.encoded.clauses q.extra
+IsQuery k optimize f q = IsEncoding k optimize f q.encoded × IsQueryOf f k q.encoded.circuit q.encoded.unrolled q.encoded.clauses q.extra
 
 -- ---- bytes
 

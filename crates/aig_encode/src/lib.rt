@@ -1,12 +1,12 @@
 //! From the bytes of an AIGER file to clauses, for bounded model checkers.
 #![tactic(auto)]
 
-mod asking;
+mod queries;
 mod encoding;
 mod error;
-mod further;
+mod query_clauses;
 
-pub use asking::query;
+pub use queries::query;
 pub use encoding::{Encoded, encode};
 pub use error::EncodeError;
-pub use further::Query;
+pub use query_clauses::Query;

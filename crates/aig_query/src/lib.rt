@@ -1,6 +1,6 @@
-//! The further clauses by which a circuit's clauses ask for a bad state at a step.
+//! The query clauses by which a circuit's clauses ask for a bad state at a step.
 #![tactic(auto)]
 
-mod further;
+mod clauses;
 
-pub use further::further_clauses;
+pub use clauses::query_clauses;

@@ -1,4 +1,4 @@
--- The further clauses ask for the witnesses of a circuit.
+-- The query clauses ask for the witnesses of a circuit.
 use Rattle.std.proofs.Common.{◌≡◌, ◌↔◌, ℕ, ◌≤◌, Bool, List, [], ◌∷◌, ◌++◌, map, IsTrue, refl, sym, subst, ◌∙◌}
 use Rattle.std.specs.Prelude.{All}
 use Rattle.std.specs.List.{AllByRecursion, flat_map, list_any}
@@ -65,7 +65,7 @@ module _ (c u : Circuit) (k : ℕ) (lists : List (List (List Lit))) (unrolls : U
     last_is : is_true_clause v last ≡ list_any (edge_value c.nodes (x k)) c.bads
     last_is = clause_says v (last_bads c k u) ∙ stand_any k (λ t. edge_value c.nodes (x t)) c.bads (edge_in v) u.bads shows.bads
 
-    -- so the further clauses hold exactly where the run is a witness
+    -- so the query clauses hold exactly where the run is a witness
     further_are : IsTrue (are_true v further) ↔ IsCircuitWitness c k x
     further_are =
         let all = all_is (is_true_clause v) further in

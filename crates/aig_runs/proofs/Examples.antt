@@ -1,4 +1,4 @@
--- The further clauses of small queries, computed; and one query that is refuted, whose machine is safe.
+-- The query clauses of small queries, computed; and one query that is refuted, whose machine is safe.
 use Rattle.std.proofs.Common.{◌≡◌, ℕ, Bool, true, false, not, ◌&&◌, ◌||◌, Option, Some, None, List, [], ◌∷◌, map, IsTrue, refl, sym, subst, arith}
 use Rattle.std.proofs.lemmas.Bool.{false≢true}
 use Rattle.aig_base.specs.declared.logic.literal.Lit.{Lit}
@@ -13,7 +13,7 @@ use Rattle.aig_format.specs.Fits.{Fits}
 use Rattle.aig_format.specs.Circuit.{circuit_of}
 use Rattle.aig_format.specs.Numbering.{node_of_variable}
 use Rattle.aig_runs.specs.Encodes.{Encodes}
-use Rattle.aig_runs.specs.Queries.{Asks, IsRefuted, IsSafeTo, query_clauses}
+use Rattle.aig_runs.specs.Queries.{IsQueryOf, IsRefuted, IsSafeTo, query_clauses}
 use Rattle.aig_runs.proofs.Queries.{queries_ask}
 use Rattle.aig_runs.proofs.Safety.{refuted_queries_are_safe}
 
@@ -92,7 +92,7 @@ toggle-safe limit optimize lists fits encodes =
     let c = circuit_of toggle in
     (refuted_queries_are_safe toggle 0 (λ k. c) (λ k. c) (λ k. lists) (λ k. query_clauses c 0 c) (λ k h. asks k (omega arith))).0 (λ k h. toggle-refuted lists)
   where
-    asks : (k : ℕ) → k ≡ 0 → Asks toggle k (circuit_of toggle) (circuit_of toggle) lists (query_clauses (circuit_of toggle) 0 (circuit_of toggle))
+    asks : (k : ℕ) → k ≡ 0 → IsQueryOf toggle k (circuit_of toggle) (circuit_of toggle) lists (query_clauses (circuit_of toggle) 0 (circuit_of toggle))
     asks k none =
         let c = circuit_of toggle in
-        subst (λ m. Asks toggle m c c lists (query_clauses c 0 c)) (sym none) (queries_ask toggle limit 0 optimize c c lists fits encodes)
+        subst (λ m. IsQueryOf toggle m c c lists (query_clauses c 0 c)) (sym none) (queries_ask toggle limit 0 optimize c c lists fits encodes)

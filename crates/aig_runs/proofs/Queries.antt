@@ -1,4 +1,4 @@
--- The further clauses of an encoded file ask for the witnesses of its machine: they ask for those of its circuit.
+-- The query clauses of an encoded file ask for the witnesses of its machine: they ask for those of its circuit.
 use Rattle.std.proofs.Common.{ℕ, Bool, List, sym, subst}
 use Rattle.aig_base.specs.declared.logic.literal.Lit.{Lit}
 use Rattle.aig_circuit.specs.Circuit.{Circuit}
@@ -10,13 +10,13 @@ use Rattle.aig_format_laws.specs.Nodes.{values_over}
 use Rattle.aig_format_laws.proofs.Joining.{forth_run, forth_values, leaves_of}
 use Rattle.aig_runs.specs.CircuitQueries.{AsksOfCircuit}
 use Rattle.aig_runs.specs.Encodes.{Encodes}
-use Rattle.aig_runs.specs.Queries.{Asks, query_clauses}
+use Rattle.aig_runs.specs.Queries.{IsQueryOf, query_clauses}
 use Rattle.aig_runs.proofs.CircuitQueries.{circuit_queries_ask}
 use Rattle.aig_runs.proofs.FileRuns.{leaves_reads}
 use Rattle.aig_runs.proofs.Witnesses.{to_machine, witness_back, witness_forth}
 
 -- what asks for the witnesses of a file's circuit asks for those of its machine
-pub asks_of_file : (f : File) (limit k : ℕ) (u : Circuit) (lists : List (List (List Lit))) (further : List (List Lit)) → Fits f limit → AsksOfCircuit (circuit_of f) k u lists further → Asks f k (circuit_of f) u lists further
+pub asks_of_file : (f : File) (limit k : ℕ) (u : Circuit) (lists : List (List (List Lit))) (further : List (List Lit)) → Fits f limit → AsksOfCircuit (circuit_of f) k u lists further → IsQueryOf f k (circuit_of f) u lists further
 asks_of_file f limit k u lists further fits asks = record {
   exact = asks.exact;
   satisfiable = (
@@ -29,8 +29,8 @@ asks_of_file f limit k u lists further fits asks = record {
       to_machine f limit k fits x run values is (asks.read_off v both x (forth_run f limit k run fits is) (leaves_reads f limit k fits x run values u v leaves));
 }
 
-pub queries_ask : (f : File) (limit k : ℕ) (optimize : Bool) (circuit u : Circuit) (lists : List (List (List Lit))) → Fits f limit → Encodes f k optimize circuit u lists → Asks f k circuit u lists (query_clauses circuit k u)
+pub queries_ask : (f : File) (limit k : ℕ) (optimize : Bool) (circuit u : Circuit) (lists : List (List (List Lit))) → Fits f limit → Encodes f k optimize circuit u lists → IsQueryOf f k circuit u lists (query_clauses circuit k u)
 queries_ask f limit k optimize circuit u lists fits encodes =
     let e = subst (λ c. Encodes f k optimize c u lists) encodes.of_file encodes in
     let asks = circuit_queries_ask (circuit_of f) u k lists e.steps e.fixes (IsCircuit-of_file f limit fits) e.satisfied in
-    subst (λ c. Asks f k c u lists (query_clauses c k u)) (sym encodes.of_file) (asks_of_file f limit k u lists (query_clauses (circuit_of f) k u) fits asks)
+    subst (λ c. IsQueryOf f k c u lists (query_clauses c k u)) (sym encodes.of_file) (asks_of_file f limit k u lists (query_clauses (circuit_of f) k u) fits asks)

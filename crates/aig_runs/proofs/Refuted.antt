@@ -1,4 +1,4 @@
--- Small machines: runs that are and aren't witnesses, and further clauses that a query doesn't ask for.
+-- Small machines: runs that are and aren't witnesses, and query clauses that a query doesn't ask for.
 use Rattle.std.proofs.Common.{◌≡◌, ◌≢◌, ℕ, Bool, true, false, not, ◌&&◌, ◌||◌, ◌+◌, Option, Some, None, List, [], ◌∷◌, map, refl, sym, subst, ◌∙◌, arith}
 use Rattle.std.specs.Prelude.{◌==◌}
 use Rattle.std.proofs.lemmas.Bool.{false≢true}
@@ -108,7 +108,7 @@ swap-back run r =
     let second = (r.moves 0 (omega arith)).1.0 in
     first ∙ second
 
--- ---- further clauses
+-- ---- query clauses
 
 -- the numbers of the literals of a query of one step, where these are the bad edges of both steps
 abbrev of_bads : AigEdge → AigEdge → List (List ℕ)

@@ -6,7 +6,7 @@ use Rattle.aig_base.specs.declared.logic.literal.Lit.{Lit}
 use Rattle.aig_circuit.specs.Circuit.{Circuit}
 use Rattle.aig_format.specs.File.{File}
 use Rattle.aig_format.specs.Machine.{IsRun, literal_value}
-use Rattle.aig_runs.specs.Queries.{Asks, IsRefuted, IsSafeTo, IsWitness}
+use Rattle.aig_runs.specs.Queries.{IsQueryOf, IsRefuted, IsSafeTo, IsWitness}
 use Rattle.aig_runs.proofs.Rows.{any_none}
 
 -- a run's first steps are a run
@@ -26,7 +26,7 @@ module _ (f : File) (n : ℕ) where
   )
 
   -- and so exactly where each query is refuted
-  pub refuted_queries_are_safe : (circuit unrolled : ℕ → Circuit) (clauses : ℕ → List (List (List Lit))) (further : ℕ → List (List Lit)) → ((k : ℕ) → k ≤ n → Asks f k (circuit k) (unrolled k) (clauses k) (further k))
+  pub refuted_queries_are_safe : (circuit unrolled : ℕ → Circuit) (clauses : ℕ → List (List (List Lit))) (further : ℕ → List (List Lit)) → ((k : ℕ) → k ≤ n → IsQueryOf f k (circuit k) (unrolled k) (clauses k) (further k))
       → ((k : ℕ) → k ≤ n → IsRefuted (clauses k) (further k)) ↔ IsSafeTo f n
   refuted_queries_are_safe circuit unrolled clauses further asks = (
     λ refuted. safe_is.0 (λ k h w. refuted k h ((asks k h).satisfiable.1 w)),

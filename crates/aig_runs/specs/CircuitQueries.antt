@@ -23,7 +23,7 @@ HasCircuitWitness c k = (run : ℕ → ℕ → Bool) × IsCircuitWitness c k run
 
 -- The clauses of the circuit unrolled and the further ones ask for the circuit's witnesses.
 pub record AsksOfCircuit (c : Circuit) (k : ℕ) (unrolled : Circuit) (clauses : List (List (List Lit))) (further : List (List Lit)) : Type 0 where
-  -- which further clauses there are, and in which order
+  -- which query clauses there are, and in which order
   pub exact : further ≡ query_clauses c k unrolled
   -- some assignment satisfies both exactly where there is a witness
   pub satisfiable : ((v : ℕ → Bool) × SatisfiesBoth v clauses further) ↔ HasCircuitWitness c k

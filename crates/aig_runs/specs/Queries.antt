@@ -44,7 +44,7 @@ unit_clauses es = map (λ e. lit_of e ∷ []) es
 abbrev pub last_bads : Circuit → ℕ → Circuit → List AigEdge
 last_bads c k unrolled = drop (k * length c.bads) unrolled.bads
 
--- the further clauses of a query, in order: initial values, each constraint at each step, and one clause of the bad edges of step k
+-- the query clauses, in order: initial values, each constraint at each step, and one clause of the bad edges of step k
 abbrev pub query_clauses : Circuit → ℕ → Circuit → List (List Lit)
 query_clauses c k unrolled =
     flat_map start_clauses c.latchs ++ unit_clauses unrolled.constraints ++ map lit_of (last_bads c k unrolled) ∷ []
@@ -57,8 +57,8 @@ pub record SatisfiesBoth (v : ℕ → Bool) (clauses : List (List (List Lit))) (
   pub further_hold : IsTrue (are_true v further)
 
 -- The clauses and the further ones ask for the witnesses of the file's machine.
-pub record Asks (f : File) (k : ℕ) (circuit unrolled : Circuit) (clauses : List (List (List Lit))) (further : List (List Lit)) : Type 0 where
-  -- which further clauses there are, and in which order
+pub record IsQueryOf (f : File) (k : ℕ) (circuit unrolled : Circuit) (clauses : List (List (List Lit))) (further : List (List Lit)) : Type 0 where
+  -- which query clauses there are, and in which order
   pub exact : further ≡ query_clauses circuit k unrolled
   -- some assignment satisfies both exactly where there is a witness
   pub satisfiable : ((v : ℕ → Bool) × SatisfiesBoth v clauses further) ↔ ((run : ℕ → ℕ → Bool) × IsWitness f k run)

@@ -13,7 +13,7 @@ ghost use Rattle.aig_unroll.specs.Unroll.{UnrollsTo};
 ghost use Rattle.aig_runs.specs.Circuits.{AssignmentsAreRuns, RunsAreAssignments};
 ghost use Rattle.aig_runs.specs.CircuitQueries.{AsksOfCircuit, IsCircuitWitness};
 ghost use Rattle.aig_runs.specs.Encodes.{Encodes};
-ghost use Rattle.aig_runs.specs.Queries.{Asks, IsRefuted, IsSafeTo, IsWitness, query_clauses};
+ghost use Rattle.aig_runs.specs.Queries.{IsQueryOf, IsRefuted, IsSafeTo, IsWitness, query_clauses};
 
 /// Law: of every circuit, assignments that satisfy the clauses of its unrolled circuit are runs, and runs are assignments.
 pub fn clauses_are_circuit_runs()
@@ -34,7 +34,7 @@ pub fn clauses_are_file_runs()
         → Encodes f k optimize (circuit_of f) unrolled clauses }
 {}
 
-/// Law: of every circuit, whatever its initial edges, the further clauses of its unrolled circuit ask for its witnesses.
+/// Law: of every circuit, whatever its initial edges, the query clauses of its unrolled circuit ask for its witnesses.
 pub fn circuit_queries_ask()
     ensures { (c unrolled : Circuit) (k : ℕ) (clauses : List (List (List Lit)))
         → IsCircuit c → UnrollsTo c k unrolled → FixesRoots unrolled clauses
@@ -55,21 +55,21 @@ pub fn circuit_witnesses_are_file_witnesses()
     ensures asks { (f : File) (limit k : ℕ) (unrolled : Circuit) (clauses : List (List (List Lit)))
         (further : List (List Lit)) → Fits f limit
         → AsksOfCircuit (circuit_of f) k unrolled clauses further
-        → Asks f k (circuit_of f) unrolled clauses further }
+        → IsQueryOf f k (circuit_of f) unrolled clauses further }
 {}
 
-/// Law: the further clauses of an encoded file ask for the witnesses of its machine.
+/// Law: the query clauses of an encoded file ask for the witnesses of its machine.
 pub fn queries_ask()
     ensures { (f : File) (limit k : ℕ) (optimize : Bool) (circuit unrolled : Circuit)
         (clauses : List (List (List Lit)))
         → Fits f limit → Encodes f k optimize circuit unrolled clauses
-        → Asks f k circuit unrolled clauses (query_clauses circuit k unrolled) }
+        → IsQueryOf f k circuit unrolled clauses (query_clauses circuit k unrolled) }
 {}
 
 /// Law: the queries of all steps up to n are refuted exactly where no bad literal is reached up to step n.
 pub fn refuted_queries_are_safe()
     ensures { (f : File) (n : ℕ) (circuit unrolled : ℕ → Circuit)
         (clauses : ℕ → List (List (List Lit))) (further : ℕ → List (List Lit))
-        → ((k : ℕ) → k ≤ n → Asks f k (circuit k) (unrolled k) (clauses k) (further k))
+        → ((k : ℕ) → k ≤ n → IsQueryOf f k (circuit k) (unrolled k) (clauses k) (further k))
         → ((k : ℕ) → k ≤ n → IsRefuted (clauses k) (further k)) ↔ IsSafeTo f n }
 {}

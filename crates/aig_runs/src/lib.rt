@@ -1,4 +1,4 @@
-//! What the clauses of an unrolled circuit say of runs, and what further clauses ask for.
+//! What the clauses of an unrolled circuit say of runs, and what query clauses ask for.
 #![tactic(auto)]
 
 mod laws;

@@ -26,7 +26,7 @@ use Rattle.aig_unroll.specs.Places.{place_at}
 use Rattle.aig_unroll.proofs.Lists.{at_place, zip_weaker}
 use Rattle.aig_runs.specs.Encodes.{Encodes}
 use Rattle.aig_runs.specs.Files.{HasLeafValues, IsOneRun}
-use Rattle.aig_runs.specs.Queries.{Asks, IsWitness, SatisfiesBoth, last_bads}
+use Rattle.aig_runs.specs.Queries.{IsQueryOf, IsWitness, SatisfiesBoth, last_bads}
 use Rattle.aig_witness.specs.Witness.{Witness}
 use Rattle.aig_witness_check.specs.Machine.{HasGiven, ShowsBad}
 use Rattle.aig_witness_check.specs.Shown.{known_of}
@@ -78,7 +78,7 @@ same_literal : (one other : ℕ → Bool) (e : ℕ) → one (e / 2) ≡ other (e
 same_literal one other e is = ap (λ b. cond (e % 2 == 0) b (not b)) is
 
 module _ (f : File) (limit k : ℕ) (optimize : Bool) (c u : Circuit) (clauses : List (List (List Lit))) (further : List (List Lit)) (v : ℕ → Bool) (values : List Lbool) (w : Witness)
-    (fits : Fits f limit) (is : IsCircuit u) (encodes : Encodes f k optimize c u clauses) (asks : Asks f k c u clauses further) (holds : SatisfiesBoth v clauses further)
+    (fits : Fits f limit) (is : IsCircuit u) (encodes : Encodes f k optimize c u clauses) (asks : IsQueryOf f k c u clauses further) (holds : SatisfiesBoth v clauses further)
     (of : AreValuesOf v (length u.nodes) values) (says : IsWitnessIn c u k values w) where
   one : IsOneRun f c u k v
   one = encodes.assignments v holds.clauses_hold

@@ -7,7 +7,7 @@ ghost use Rattle.aig_circuit.specs.Circuit.{Circuit, IsCircuit};
 ghost use Rattle.aig_format.specs.File.{File};
 ghost use Rattle.aig_format.specs.Fits.{Fits};
 ghost use Rattle.aig_runs.specs.Encodes.{Encodes};
-ghost use Rattle.aig_runs.specs.Queries.{Asks, SatisfiesBoth};
+ghost use Rattle.aig_runs.specs.Queries.{IsQueryOf, SatisfiesBoth};
 ghost use Rattle.aig_solutions.specs.Solutions.{AreValuesOf, IsWitnessIn};
 ghost use Rattle.aig_witness.specs.Witness.{Witness};
 ghost use Rattle.aig_witness_check.specs.Machine.{ShowsBad};
@@ -20,7 +20,7 @@ pub fn solutions_show()
         (v : ℕ → Bool) (values : List Lbool) (w : Witness)
         → Fits f limit → IsCircuit unrolled
         → Encodes f k optimize circuit unrolled clauses
-        → Asks f k circuit unrolled clauses further
+        → IsQueryOf f k circuit unrolled clauses further
         → SatisfiesBoth v clauses further → AreValuesOf v (length unrolled.nodes) values
         → IsWitnessIn circuit unrolled k values w
         → ShowsBad f w }

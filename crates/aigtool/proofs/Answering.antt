@@ -11,7 +11,7 @@ use Rattle.aig_reader.specs.Reading.{IsOfFile}
 use Rattle.aig_strash.specs.Strash.{strashed}
 use Rattle.aig.specs.Reading.{IsFileCircuit}
 use Rattle.aig_encode.specs.declared.encoding.Encoded.{Encoded}
-use Rattle.aig_encode.specs.declared.further.Query.{Query}
+use Rattle.aig_encode.specs.declared.query_clauses.Query.{Query}
 use Rattle.aig_encode.specs.Encoding.{IsEncoding, IsQuery, IsWithin, TookFile}
 use Rattle.aigtool.specs.declared.command.Command.TheVariants as commands
 use Rattle.aigtool.specs.Running.{AnswersFile}

@@ -15,7 +15,7 @@ use Rattle.aig_strash.specs.Strash.{strashed}
 use Rattle.aig_writer.specs.Sinks.{AppendsBeginning}
 use Rattle.aig.specs.declared.aiger.WriteError.TheVariants as write
 use Rattle.aig_encode.specs.declared.encoding.Encoded.{Encoded}
-use Rattle.aig_encode.specs.declared.further.Query.{Query}
+use Rattle.aig_encode.specs.declared.query_clauses.Query.{Query}
 use Rattle.aig_encode.specs.declared.error.EncodeError.TheVariants as encode
 use Rattle.aig_encode.specs.Encoding.{IsBeyond, IsEncoding, IsQuery, IsWithin, TookFile}
 use Rattle.aigtool.specs.declared.command.Command.{Command}

@@ -4,8 +4,8 @@ use Rattle.aig_runs.specs.CircuitQueries.{AsksOfCircuit}
 use Rattle.aig_answers.proofs.Asking.{bads_count}
 use Rattle.aig_answers.proofs.circuits.query_of.Goals as goal
 
-pub further_clauses-requires-clause-bads : goal.further_clauses-requires-clause-bads
-further_clauses-requires-clause-bads c = bads_count c.args.circuit.now c.in_ok-unrolled.unrolled c.args.k c.in_ok-unrolled.ensures.unrolls
+pub query_clauses-requires-clause-bads : goal.query_clauses-requires-clause-bads
+query_clauses-requires-clause-bads c = bads_count c.args.circuit.now c.in_ok-unrolled.unrolled c.args.k c.in_ok-unrolled.ensures.unrolls
 
 pub returns-clause-asks : goal.returns-clause-asks
 returns-clause-asks c =

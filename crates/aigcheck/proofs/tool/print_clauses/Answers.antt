@@ -4,7 +4,7 @@ use Rattle.std.proofs.KnownBytes.{Appends-trans}
 use Rattle.aig_base.specs.Formula.{clauses_in}
 use Rattle.aig_circuit.specs.Circuit.{Circuit}
 use Rattle.aig_dimacs.specs.Text.{dimacs_of}
-use Rattle.aig_encode.specs.declared.further.Query.{Query}
+use Rattle.aig_encode.specs.declared.query_clauses.Query.{Query}
 use Rattle.aig_unroll.specs.Places.{unrolled_size}
 use Rattle.aig_answers.proofs.Files.{told_again}
 use Rattle.aig_writer.proofs.Putting.{Stops-before, Stops-put}

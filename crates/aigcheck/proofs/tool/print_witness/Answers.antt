@@ -1,6 +1,6 @@
 use Rattle.std.proofs.Common.{refl, subst}
 use Rattle.std.proofs.lemmas.Result.{err_from_is_err_and}
-use Rattle.aig_encode.specs.declared.further.Query.{Query}
+use Rattle.aig_encode.specs.declared.query_clauses.Query.{Query}
 use Rattle.aig_circuit.specs.Circuit.{Circuit}
 use Rattle.aig_answers.proofs.Files.{told_again}
 use Rattle.aig_witness.specs.Witness.{said_by, witness_text}

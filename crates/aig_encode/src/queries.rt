@@ -8,19 +8,19 @@ ghost use Rattle.aig_encode.specs.Encoding.{AnswersExactly, IsBeyond, IsQuery, I
 
 use crate::encoding::encode;
 use crate::error::EncodeError;
-use crate::further::Query;
+use crate::query_clauses::Query;
 use aig::ReadError;
 use aig_base::Source;
-use aig_query::further_clauses;
+use aig_query::query_clauses;
 use std::alloc::Global;
 
-/// Returns what `encode` returns, and further clauses that ask for a run to a bad state at step `k`.
+/// Returns what `encode` returns, and query clauses that ask for a run to a bad state at step `k`.
 ///
 /// Both lists of clauses together can be satisfied exactly where the file's machine has a run from an initial state on
 /// which every constraint holds at each of the steps 0 to `k` and some bad literal holds at step `k`. A satisfying
 /// assignment's leaf values are those of such a run.
 ///
-/// The further clauses are, in order: for each latch with a constant initial edge that its leaf has that value, for
+/// The query clauses are, in order: for each latch with a constant initial edge that its leaf has that value, for
 /// each constraint of each step that it holds, and one clause of all bad literals of step `k`. Of a file without bad
 /// state properties the last one is empty: nothing satisfies it, and that says nothing of the file.
 ///
@@ -62,7 +62,7 @@ pub fn query<R: Source>(
     // The bytes that were read are a file within the limit, and that file is encoded and asked for.
     ensures answer { IfOk result
         (IsOfFile (IsWithin limit k) (IsQuery k optimize) (R.left r.old) (R.left r.new)) }
-    // The further clauses are of variables that are there.
+    // The query clauses are of variables that are there.
     ensures below { IfOk result (λ q. AreBelow (length q.encoded.clauses) q.extra) }
     // Memory and stream aside, there is an answer exactly where the bytes are such a file, and TooMany and TooLarge
     // come exactly where they apply.
@@ -80,6 +80,6 @@ pub fn query<R: Source>(
     ensures never_open { IsErrOf result (EncodeError.Read ReadError.Open) → ⊥ }
 {
     let encoded = encode(alloc, r, limit, k, optimize)?;
-    let extra = further_clauses(alloc, &encoded.circuit, k, &encoded.unrolled)?;
+    let extra = query_clauses(alloc, &encoded.circuit, k, &encoded.unrolled)?;
     Ok(Query { encoded, extra })
 }

@@ -1,4 +1,4 @@
-//! The further clauses of a query.
+//! The query clauses of a query.
 
 ghost use Rattle.std.specs.Prelude.{◌≡◌, ◌+◌, ◌*◌, ◌<◌, ◌≤◌, ◌^◌, ◌++◌, ◌∷◌, [], All, IfOk, IfSome, OnOk, length, map};
 ghost use Rattle.std.specs.List.{flat_map};
@@ -68,7 +68,7 @@ fn push_any(alloc: Global, extra: &mut LitVvec, edges: &[AigEdge]) -> Result<(),
 /// They are, in order: for each latch with an initial edge that its leaf has that edge's value, in one clause where the edge
 /// is constant and else in two, for each constraint of each step that it holds, and one clause of all bad edges of step `k`,
 /// which is empty where there are none. The one error is refused memory. Requires `fits_lits` of both circuits.
-pub fn further_clauses(
+pub fn query_clauses(
     alloc: Global,
     circuit: &Aig,
     k: usize,

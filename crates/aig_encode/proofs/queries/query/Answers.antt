@@ -2,32 +2,32 @@ use Rattle.std.proofs.Common.{◌≡◌, ℕ, Bool, false, List, sym, subst}
 use Rattle.std.proofs.lemmas.Result.{err_from_is_err_and}
 use Rattle.aig_base.specs.Clauses.{AreBelow}
 use Rattle.aig_format.specs.File.{File}
-use Rattle.aig_runs.specs.Queries.{Asks, query_clauses}
+use Rattle.aig_runs.specs.Queries.{IsQueryOf, query_clauses}
 use Rattle.aig_runs.proofs.Queries.{queries_ask}
 use Rattle.aig_encode.specs.declared.encoding.Encoded.{Encoded}
-use Rattle.aig_encode.specs.declared.further.Query.{Query}
+use Rattle.aig_encode.specs.declared.query_clauses.Query.{Query}
 use Rattle.aig_encode.specs.Encoding.{IsEncoding, IsQuery, IsWithin}
 use Rattle.aig_encode.proofs.Exactly.{answered_again, refused_again}
-use Rattle.aig_encode.proofs.asking.query.Goals as goal
+use Rattle.aig_encode.proofs.queries.query.Goals as goal
 
--- an encoded file with the further clauses is a query
+-- an encoded file with the query clauses is a query
 asked : (f : File) (limit k : ℕ) (optimize : Bool) (bytes : List ℕ) (q : Query) → q.extra ≡ query_clauses q.encoded.circuit k q.encoded.unrolled → IsWithin limit k bytes f → IsEncoding k optimize f q.encoded → IsQuery k optimize f q
 asked f limit k optimize bytes q exact within encodes =
     let e = q.encoded in
     let asks = queries_ask f limit k optimize e.circuit e.unrolled e.clauses within.0.1 encodes in
-    (encodes, subst (Asks f k e.circuit e.unrolled e.clauses) (sym exact) asks)
+    (encodes, subst (IsQueryOf f k e.circuit e.unrolled e.clauses) (sym exact) asks)
 
 -- the unrolled circuit has the bad edges of k + 1 steps
-pub further_clauses-requires-clause-bads : goal.further_clauses-requires-clause-bads
-further_clauses-requires-clause-bads g c =
+pub query_clauses-requires-clause-bads : goal.query_clauses-requires-clause-bads
+query_clauses-requires-clause-bads g c =
     let steps = c.in_ok-encoded.ensures.answer.means.steps in
     let y : ℕ → Bool = λ n. false in
     let r = steps.run_of y in
     (steps.same y r.0 r.1 r.2).bads.count
 
 -- its nodes stay
-pub further_clauses-requires-clause-longer : goal.further_clauses-requires-clause-longer
-further_clauses-requires-clause-longer g c = c.in_ok-encoded.ensures.answer.means.steps.keeps.nodes.longer
+pub query_clauses-requires-clause-longer : goal.query_clauses-requires-clause-longer
+query_clauses-requires-clause-longer g c = c.in_ok-encoded.ensures.answer.means.steps.keeps.nodes.longer
 
 -- a variable is a node
 pub returns-clause-below : goal.returns-clause-below

@@ -6,7 +6,7 @@ use Rattle.aig_circuit.specs.declared.edge.AigEdge.{AigEdge}
 use Rattle.aig_circuit.specs.Circuit.{IsInRange}
 use Rattle.aig_runs.specs.Queries.{query_clauses}
 use Rattle.aig_query.proofs.Below.{query_below}
-use Rattle.aig_query.proofs.further.further_clauses.Goals as goal
+use Rattle.aig_query.proofs.clauses.query_clauses.Goals as goal
 
 pub overflow_mul-first : goal.overflow_mul-first
 overflow_mul-first c =
