@@ -727,9 +727,9 @@ def g23(t):
 
 @group("24", "Values at steps")
 def g24(t):
-    t.ident("StandAtSteps", "HasValuesAtSteps")
-    t.ident("ShowsSteps", "HasStepValues")
-    t.ident("ShowsRun", "HasRunValues")
+    t.ident("HasValuesAtSteps", "HasValuesAtSteps")
+    t.ident("HasStepValues", "HasStepValues")
+    t.ident("HasRunValues", "HasRunValues")
 
 
 @group("25", "A node has a representative")

@@ -29,7 +29,7 @@ use Rattle.aig_format.proofs.Entries.{rec_append, rec_weaker}
 use Rattle.aig_format.proofs.Numbers.{used_known}
 use Rattle.aig_format_laws.specs.Nodes.{HasNodeValues}
 use Rattle.aig_format_laws.proofs.Joining.{forth_run, forth_values, latches_known, leaves_of, literal_is}
-use Rattle.aig_unroll.specs.Unroll.{ShowsSteps, StandAtSteps, UnrollsTo}
+use Rattle.aig_unroll.specs.Unroll.{HasStepValues, HasValuesAtSteps, UnrollsTo}
 use Rattle.aig_runs.specs.Circuits.{IsOneAssignment}
 use Rattle.aig_runs.specs.Queries.{last_bads, unit_clauses}
 use Rattle.aig_runs.proofs.CircuitRuns.{runs_are_assignments}
@@ -61,7 +61,7 @@ get_in-take (suc n) [] i h = refl
 get_in-take (suc n) (y ∷ ys) zero h = refl
 get_in-take (suc n) (y ∷ ys) (suc i) h = get_in-take n ys i (omega arith)
 
-module _ {E : Type 0} (k : ℕ) (old : ℕ → E → Bool) (entries : List E) (new : AigEdge → Bool) (longer : List AigEdge) (stand : StandAtSteps k old entries new longer) where
+module _ {E : Type 0} (k : ℕ) (old : ℕ → E → Bool) (entries : List E) (new : AigEdge → Bool) (longer : List AigEdge) (stand : HasValuesAtSteps k old entries new longer) where
   -- the first rows have the value that the entries have at their steps
   first_rows : (b : Bool) (n : ℕ) → n ≤ k → ((t : ℕ) → t ≤ n → AllByRecursion (λ entry. old t entry ≡ b) entries) → AllByRecursion (λ e. new e ≡ b) (take ((n + 1) * length entries) longer)
   first_rows b n low all = rec_from_get (λ e. new e ≡ b) (take ((n + 1) * length entries) longer) (λ i e is.
@@ -108,8 +108,8 @@ module _ (f : File) (limit last : ℕ) (outputs : List AigEdge) (u : Circuit) (l
   fixed_in : (longer : List AigEdge) → All (IsFixed u lists) longer → Satisfies v lists → All (λ e. edge_in v e ≡ edge_value u.nodes v e) longer
   fixed_in longer fixed holds = All-weaker (IsFixed u lists) (λ e. edge_in v e ≡ edge_value u.nodes v e) (λ e is. is v holds) longer fixed
 
-  literals_stand : (entries : List ℕ) (longer : List AigEdge) → AllByRecursion (IsKnown f) entries → All (λ e. edge_in v e ≡ edge_value u.nodes v e) longer → StandAtSteps last at (map (edge_of f) entries) (edge_value u.nodes v) longer
-      → StandAtSteps last (λ t. literal_value (run t)) entries (edge_in v) longer
+  literals_stand : (entries : List ℕ) (longer : List AigEdge) → AllByRecursion (IsKnown f) entries → All (λ e. edge_in v e ≡ edge_value u.nodes v e) longer → HasValuesAtSteps last at (map (edge_of f) entries) (edge_value u.nodes v) longer
+      → HasValuesAtSteps last (λ t. literal_value (run t)) entries (edge_in v) longer
   literals_stand entries longer known same s =
       let old = λ (t e : ℕ). at t (edge_of f e) in
       let first = λ (t : ℕ). literal_value (run t) in
@@ -117,8 +117,8 @@ module _ (f : File) (limit last : ℕ) (outputs : List AigEdge) (u : Circuit) (l
       stand_same last old first (edge_in v) entries longer (All-from_recursion Keep entries (rec_weaker (IsKnown f) Keep (λ e is t h. literal_is f last x run values t e h is) entries known))
       (stand_unmade (edge_of f) last at (edge_in v) entries longer (stand_other last at (edge_value u.nodes v) (edge_in v) (map (edge_of f) entries) longer same s))
 
-  latches_stand : (longer : List AigEdge) → All (λ e. edge_in v e ≡ edge_value u.nodes v e) longer → StandAtSteps last at (state_edges (circuit_of f)) (edge_value u.nodes v) longer
-      → StandAtSteps last (λ t (l : LatchLine). run t (l.literal / 2)) f.latches (edge_in v) longer
+  latches_stand : (longer : List AigEdge) → All (λ e. edge_in v e ≡ edge_value u.nodes v e) longer → HasValuesAtSteps last at (state_edges (circuit_of f)) (edge_value u.nodes v) longer
+      → HasValuesAtSteps last (λ t (l : LatchLine). run t (l.literal / 2)) f.latches (edge_in v) longer
   latches_stand longer same s =
       let to_leaf = λ (n : ℕ). edge_to n false in
       let leaf_of = λ (latch : AigLatch). latch.input in
@@ -188,26 +188,26 @@ module _ (f : File) (limit k : ℕ) (outputs : List AigEdge) (u : Circuit) (list
   abbrev v : ℕ → Bool
   v = one.values
 
-  shows : ShowsSteps (record (circuit_of f) { outputs = outputs }) u (k + 1) (edge_value u.nodes v) x
+  shows : HasStepValues (record (circuit_of f) { outputs = outputs }) u (k + 1) (edge_value u.nodes v) x
   shows = unrolls.same v x (forth_run f limit (k + 1) run fits is) one.reads
 
   values : HasNodeValues f (k + 1) x run
   values = forth_values f limit (k + 1) run fits is
 
-  constraints_stand : StandAtSteps (k + 1) (λ t. literal_value (run t)) f.constraints (edge_in v) u.constraints
+  constraints_stand : HasValuesAtSteps (k + 1) (λ t. literal_value (run t)) f.constraints (edge_in v) u.constraints
   constraints_stand =
       literals_stand f limit (k + 1) outputs u lists fits unrolls v x run values f.constraints u.constraints (used_by_section (IsKnown f) f (used_known f limit fits)).constraints
       (fixed_in f limit (k + 1) outputs u lists fits unrolls v x run values u.constraints fixes.constraints one.satisfies) shows.constraints
 
-  bads_stand : StandAtSteps (k + 1) (λ t. literal_value (run t)) f.bads (edge_in v) u.bads
+  bads_stand : HasValuesAtSteps (k + 1) (λ t. literal_value (run t)) f.bads (edge_in v) u.bads
   bads_stand =
       literals_stand f limit (k + 1) outputs u lists fits unrolls v x run values f.bads u.bads (used_by_section (IsKnown f) f (used_known f limit fits)).bads
       (fixed_in f limit (k + 1) outputs u lists fits unrolls v x run values u.bads fixes.bads one.satisfies) shows.bads
 
-  states_stand : outputs ≡ state_edges (circuit_of f) → StandAtSteps (k + 1) (λ t (l : LatchLine). run t (l.literal / 2)) f.latches (edge_in v) u.outputs
+  states_stand : outputs ≡ state_edges (circuit_of f) → HasValuesAtSteps (k + 1) (λ t (l : LatchLine). run t (l.literal / 2)) f.latches (edge_in v) u.outputs
   states_stand are =
       latches_stand f limit (k + 1) outputs u lists fits unrolls v x run values u.outputs (fixed_in f limit (k + 1) outputs u lists fits unrolls v x run values u.outputs fixes.outputs one.satisfies)
-      (subst (λ es. StandAtSteps (k + 1) (λ t. edge_value (circuit_of f).nodes (x t)) es (edge_value u.nodes v) u.outputs) are shows.outputs)
+      (subst (λ es. HasValuesAtSteps (k + 1) (λ t. edge_value (circuit_of f).nodes (x t)) es (edge_value u.nodes v) u.outputs) are shows.outputs)
 
   -- the constraints hold, no bad literal does before the last step, and some does at it
   module _ (constraints : (t : ℕ) → t ≤ k + 1 → IsConstrained f (run t)) (good : (t : ℕ) → t ≤ k → IsGood f (run t)) (bad : IsTrue (list_any (literal_value (run (k + 1))) f.bads)) where

@@ -15,7 +15,7 @@ use Rattle.aig_circuit.proofs.Trees.{node_value-false}
 use Rattle.aig_cnf.specs.Cnf.{FixesRoots, IsFixed, NodeValuesSatisfy, edge_in}
 use Rattle.aig_format.proofs.Entries.{rec_append}
 use Rattle.aig_unroll.specs.Places.{Reads}
-use Rattle.aig_unroll.specs.Unroll.{ShowsSteps, UnrollsTo}
+use Rattle.aig_unroll.specs.Unroll.{HasStepValues, UnrollsTo}
 use Rattle.aig_runs.specs.CircuitQueries.{AsksOfCircuit, IsCircuitWitness}
 use Rattle.aig_runs.specs.Queries.{SatisfiesBoth, last_bads, query_clauses, start_clauses, unit_clauses}
 use Rattle.aig_runs.proofs.CircuitRuns.{assignments_are_runs, runs_are_assignments, shown}
@@ -39,7 +39,7 @@ module _ (c u : Circuit) (k : ℕ) (lists : List (List (List Lit))) (unrolls : U
     last = map lit_of (last_bads c k u)
 
     -- the assignment shows the properties of the run
-    shows : ShowsSteps c u k (edge_in v) x
+    shows : HasStepValues c u k (edge_in v) x
     shows = shown c u k lists v x fixes holds (unrolls.same v x is_run reads)
 
     starts_are : AllByRecursion (Holds v) starts ↔ IsInitial c (x 0)

@@ -11,7 +11,7 @@ use Rattle.aig_circuit.specs.Tree.{edge_value, node_value}
 use Rattle.aig_circuit.specs.Runs.{next_edges}
 use Rattle.aig_renumber.proofs.Places.{All-from_map}
 use Rattle.aig_cnf.specs.Cnf.{FixesRoots, IsFixed, NodeValuesSatisfy, edge_in}
-use Rattle.aig_unroll.specs.Unroll.{ShowsSteps, UnrollsTo}
+use Rattle.aig_unroll.specs.Unroll.{HasStepValues, UnrollsTo}
 use Rattle.aig_unroll.proofs.Lists.{zip_weaker}
 use Rattle.aig_runs.specs.Circuits.{AssignmentsAreRuns, RunsAreAssignments}
 use Rattle.aig_runs.proofs.Leaves.{are_node_values, values_read}
@@ -25,7 +25,7 @@ module _ (c u : Circuit) (k : ℕ) (lists : List (List (List Lit))) (v : ℕ →
   same : (es : List AigEdge) → All (IsFixed u lists) es → All IsSame es
   same es fixed = All-weaker (IsFixed u lists) IsSame (λ e is. is v holds) es fixed
 
-  pub shown : ShowsSteps c u k (edge_value u.nodes v) x → ShowsSteps c u k (edge_in v) x
+  pub shown : HasStepValues c u k (edge_value u.nodes v) x → HasStepValues c u k (edge_in v) x
   shown s =
       let new = edge_value u.nodes v in
       let other = edge_in v in

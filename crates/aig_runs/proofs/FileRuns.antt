@@ -26,10 +26,10 @@ use Rattle.aig_format_laws.proofs.Joining.{back_run, forth_run, forth_values, in
 use Rattle.aig_format_laws.proofs.MachineRuns.{agree_on_known}
 use Rattle.aig_renumber.proofs.Places.{All-from_map, AllZip-map}
 use Rattle.aig_unroll.specs.Places.{Reads, other_leaves, place_at}
-use Rattle.aig_unroll.specs.Unroll.{ShowsSteps, StandAtSteps, UnrollsTo}
+use Rattle.aig_unroll.specs.Unroll.{HasStepValues, HasValuesAtSteps, UnrollsTo}
 use Rattle.aig_unroll.proofs.Lists.{all_from_zips, zip_turned, zip_weaker}
 use Rattle.aig_unroll.proofs.Others.{inputs_are_others, others-are}
-use Rattle.aig_runs.specs.Files.{AssignmentsAreRuns, HasLeafValues, RunsAreAssignments, ShowsRun}
+use Rattle.aig_runs.specs.Files.{AssignmentsAreRuns, HasLeafValues, RunsAreAssignments, HasRunValues}
 use Rattle.aig_runs.specs.Encodes.{Encodes}
 use Rattle.aig_runs.proofs.CircuitRuns as over_circuits
 use Rattle.aig_runs.proofs.Standing.{sets_same, sets_unmade, stand_same, stand_unmade, zip_front, zip_unmade}
@@ -112,14 +112,14 @@ module _ (f : File) (limit k : ℕ) (fits : Fits f limit) (x run : ℕ → ℕ �
   kept : (es : List ℕ) → AllByRecursion (IsKnown f) es → All Keeps es
   kept es known = All-from_recursion Keeps es (rec_weaker (IsKnown f) Keeps (λ e is t h. literal_is f k x run values t e h is) es known)
 
-  pub shows_run : (u : Circuit) (value : AigEdge → Bool) → ShowsSteps (circuit_of f) u k value x → ShowsRun f u k value run
+  pub shows_run : (u : Circuit) (value : AigEdge → Bool) → HasStepValues (circuit_of f) u k value x → HasRunValues f u k value run
   shows_run u value s =
       let edge_at = λ (t : ℕ). edge_value (circuit_of f).nodes (x t) in
       let old = λ (t e : ℕ). edge_at t (edge_of f e) in
       let first = λ (t : ℕ). machine.literal_value (run t) in
       let is = used_by_section (IsKnown f) f (used_known f limit fits) in
       let sets = (rec_flat_map (IsKnown f) (λ (set : List ℕ). set) f.justice).0 is.justice in
-      let list = λ (es : List ℕ) (known : AllByRecursion (IsKnown f) es) (longer : List AigEdge) (stand : StandAtSteps k edge_at (map (edge_of f) es) value longer).
+      let list = λ (es : List ℕ) (known : AllByRecursion (IsKnown f) es) (longer : List AigEdge) (stand : HasValuesAtSteps k edge_at (map (edge_of f) es) value longer).
       stand_same k old first value es longer (kept es known) (stand_unmade (edge_of f) k edge_at value es longer stand) in
       record {
         outputs = list f.outputs is.outputs u.outputs s.outputs;

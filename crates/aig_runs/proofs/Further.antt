@@ -9,13 +9,13 @@ use Rattle.aig_circuit.specs.declared.edge.AigEdge.{AigEdge}
 use Rattle.aig_circuit.specs.Edge.{lit_of}
 use Rattle.aig_cnf.specs.Cnf.{edge_in}
 use Rattle.aig_cnf.proofs.Forms.{literal_value-lit_of}
-use Rattle.aig_unroll.specs.Unroll.{StandAtSteps}
+use Rattle.aig_unroll.specs.Unroll.{HasValuesAtSteps}
 use Rattle.aig_runs.specs.Queries.{unit_clauses}
 use Rattle.aig_runs.proofs.Rows.{any_zip, get-drop, get_there, next_row, rec_at, rec_from_get, row_of, zip_from_get}
 
 -- ---- entries at steps
 
-module _ {E : Type 0} (k : ℕ) (old : ℕ → E → Bool) (entries : List E) (new : AigEdge → Bool) (longer : List AigEdge) (stand : StandAtSteps k old entries new longer) where
+module _ {E : Type 0} (k : ℕ) (old : ℕ → E → Bool) (entries : List E) (new : AigEdge → Bool) (longer : List AigEdge) (stand : HasValuesAtSteps k old entries new longer) where
   -- all edges are true exactly where each entry is at each step
   pub stand_all : AllByRecursion (λ e. IsTrue (new e)) longer ↔ ((t : ℕ) → t ≤ k → AllByRecursion (λ entry. IsTrue (old t entry)) entries)
   stand_all = (forth, back)

@@ -6,7 +6,7 @@ use Rattle.std.proofs.lemmas.List.{length-map}
 use Rattle.std.proofs.lemmas.List.Elements.{All-head, All-tail}
 use Rattle.std.proofs.lemmas.Option.{same_Some}
 use Rattle.aig_circuit.specs.declared.edge.AigEdge.{AigEdge}
-use Rattle.aig_unroll.specs.Unroll.{SetsStandAtSteps, StandAtSteps}
+use Rattle.aig_unroll.specs.Unroll.{SetsStandAtSteps, HasValuesAtSteps}
 use Rattle.aig_unroll.proofs.Lists.{at_place, zip_weaker}
 
 -- ---- lists
@@ -36,7 +36,7 @@ module _ {E : Type 0} (k : ℕ) (old : ℕ → E → Bool) (new other : AigEdge 
   abbrev pub IsSame : AigEdge → Type 0
   IsSame e = other e ≡ new e
 
-  pub stand_other : (entries : List E) (longer : List AigEdge) → All IsSame longer → StandAtSteps k old entries new longer → StandAtSteps k old entries other longer
+  pub stand_other : (entries : List E) (longer : List AigEdge) → All IsSame longer → HasValuesAtSteps k old entries new longer → HasValuesAtSteps k old entries other longer
   stand_other entries longer same s = record {
     count = s.count;
     each = λ t j entry h is. let r = s.each t j entry h is in (r.0, r.1, at_place IsSame longer (t * length entries + j) r.0 same r.1 ∙ r.2);
@@ -57,7 +57,7 @@ module _ {E : Type 0} (k : ℕ) (old first : ℕ → E → Bool) (new : AigEdge 
   abbrev pub Keeps : E → Type 0
   Keeps entry = (t : ℕ) → t ≤ k → old t entry ≡ first t entry
 
-  pub stand_same : (entries : List E) (longer : List AigEdge) → All Keeps entries → StandAtSteps k old entries new longer → StandAtSteps k first entries new longer
+  pub stand_same : (entries : List E) (longer : List AigEdge) → All Keeps entries → HasValuesAtSteps k old entries new longer → HasValuesAtSteps k first entries new longer
   stand_same entries longer keeps s = record {
     count = s.count;
     each = λ t j entry h is. let r = s.each t j entry h is in (r.0, r.1, r.2 ∙ at_place Keeps entries j entry keeps is t h);
@@ -74,7 +74,7 @@ module _ {E : Type 0} (k : ℕ) (old first : ℕ → E → Bool) (new : AigEdge 
 -- ---- the entries were made of others
 
 module _ {D E : Type 0} (g : D → E) (k : ℕ) (old : ℕ → E → Bool) (new : AigEdge → Bool) where
-  pub stand_unmade : (entries : List D) (longer : List AigEdge) → StandAtSteps k old (map g entries) new longer → StandAtSteps k (λ t d. old t (g d)) entries new longer
+  pub stand_unmade : (entries : List D) (longer : List AigEdge) → HasValuesAtSteps k old (map g entries) new longer → HasValuesAtSteps k (λ t d. old t (g d)) entries new longer
   stand_unmade entries longer s = record {
     count = subst (λ n. length longer ≡ (k + 1) * n) (length-map entries g) s.count;
     each = λ t j d h is.

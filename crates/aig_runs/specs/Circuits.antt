@@ -9,7 +9,7 @@ use Rattle.aig_circuit.specs.Tree.{node_value}
 use Rattle.aig_circuit.specs.Runs.{AgreeOnLeaves, IsRun}
 use Rattle.aig_cnf.specs.Cnf.{edge_in}
 use Rattle.aig_unroll.specs.Places.{Reads}
-use Rattle.aig_unroll.specs.Unroll.{ShowsSteps}
+use Rattle.aig_unroll.specs.Unroll.{HasStepValues}
 
 -- The assignment v is one run of k + 1 steps: there is one with its leaf values, and on that run each property at each step, and the state
 -- after step k, has the value that v gives it.
@@ -18,7 +18,7 @@ pub record IsOneRun (c unrolled : Circuit) (k : ℕ) (v : ℕ → Bool) : Type 0
   pub is_run : IsRun c k run
   pub reads : Reads c unrolled k v run
   pub only : (other : ℕ → ℕ → Bool) → IsRun c k other → Reads c unrolled k v other → AgreeOnLeaves c k run other
-  pub shows : ShowsSteps c unrolled k (edge_in v) run
+  pub shows : HasStepValues c unrolled k (edge_in v) run
 
 -- each assignment that satisfies the clauses is one run
 abbrev pub AssignmentsAreRuns : Circuit → Circuit → ℕ → List (List (List Lit)) → Type 0

@@ -12,7 +12,7 @@ use Rattle.aig_format.specs.File.{File}
 use Rattle.aig_format.specs.Machine.{literal_value, IsRun}
 use Rattle.aig_format_laws.specs.MachineRuns.{AgreeOnKnown}
 use Rattle.aig_unroll.specs.Places.{place_at}
-use Rattle.aig_unroll.specs.Unroll.{StandAtSteps, SetsStandAtSteps}
+use Rattle.aig_unroll.specs.Unroll.{HasValuesAtSteps, SetsStandAtSteps}
 use Rattle.aig_runs.specs.Circuits.{AreNodeValues}
 
 -- The run has the leaf values v: the file's j-th input, which is the circuit's, has at each step the value of its place, and each latch at
@@ -22,12 +22,12 @@ pub record HasLeafValues (f : File) (circuit unrolled : Circuit) (k : ℕ) (v : 
   pub latches : AllZip (λ l latch. run 0 (l.literal / 2) ≡ v latch.input) f.latches circuit.latchs
 
 -- The edges of the unrolled circuit give each property literal at each step, and each next literal at step k, its value on the run.
-pub record ShowsRun (f : File) (unrolled : Circuit) (k : ℕ) (value : AigEdge → Bool) (run : ℕ → ℕ → Bool) : Type 0 where
-  pub outputs : StandAtSteps k (λ t. literal_value (run t)) f.outputs value unrolled.outputs
-  pub bads : StandAtSteps k (λ t. literal_value (run t)) f.bads value unrolled.bads
-  pub constraints : StandAtSteps k (λ t. literal_value (run t)) f.constraints value unrolled.constraints
+pub record HasRunValues (f : File) (unrolled : Circuit) (k : ℕ) (value : AigEdge → Bool) (run : ℕ → ℕ → Bool) : Type 0 where
+  pub outputs : HasValuesAtSteps k (λ t. literal_value (run t)) f.outputs value unrolled.outputs
+  pub bads : HasValuesAtSteps k (λ t. literal_value (run t)) f.bads value unrolled.bads
+  pub constraints : HasValuesAtSteps k (λ t. literal_value (run t)) f.constraints value unrolled.constraints
   pub justice : SetsStandAtSteps k (λ t. literal_value (run t)) f.justice value unrolled.justice
-  pub fairness : StandAtSteps k (λ t. literal_value (run t)) f.fairness value unrolled.fairness
+  pub fairness : HasValuesAtSteps k (λ t. literal_value (run t)) f.fairness value unrolled.fairness
   pub state : AllZip (λ l latch. value latch.next ≡ literal_value (run k) l.next) f.latches unrolled.latchs
 
 -- The assignment v is one run of k + 1 steps of the file's machine: there is one with its leaf values, and on that run each property literal
@@ -37,7 +37,7 @@ pub record IsOneRun (f : File) (circuit unrolled : Circuit) (k : ℕ) (v : ℕ �
   pub is_run : IsRun f k run
   pub leaves : HasLeafValues f circuit unrolled k v run
   pub only : (other : ℕ → ℕ → Bool) → IsRun f k other → HasLeafValues f circuit unrolled k v other → AgreeOnKnown f k run other
-  pub shows : ShowsRun f unrolled k (edge_in v) run
+  pub shows : HasRunValues f unrolled k (edge_in v) run
 
 -- each assignment that satisfies the clauses is one run of the machine
 abbrev pub AssignmentsAreRuns : File → Circuit → Circuit → ℕ → List (List (List Lit)) → Type 0

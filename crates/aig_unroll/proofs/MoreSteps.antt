@@ -16,7 +16,7 @@ use Rattle.aig_circuit.proofs.Building.{Grows-kept, Grows-longer, Grows-then, ed
 use Rattle.aig_circuit.proofs.Trees.{kind_at-within}
 use Rattle.aig_renumber.proofs.Places.{place_of-get_or, place_of-within}
 use Rattle.aig_unroll.specs.Places.{Reads, leaves_after, other_leaves, place_at, unrolled_size}
-use Rattle.aig_unroll.specs.Unroll.{KeepsCircuit, SetsStandAtSteps, ShowsSteps, StandAtSteps, UnrollsOnce, UnrollsTo, starts_of}
+use Rattle.aig_unroll.specs.Unroll.{KeepsCircuit, SetsStandAtSteps, HasStepValues, HasValuesAtSteps, UnrollsOnce, UnrollsTo, starts_of}
 use Rattle.aig_unroll.proofs.Added.{behind-are, behind-distinct, behind-have, leaves_after-more}
 use Rattle.aig_unroll.proofs.Lists.{zip_turned, zip_unmapped}
 use Rattle.aig_unroll.proofs.MoreShown.{sets_stand_more, stand_more}
@@ -157,7 +157,7 @@ module _ (c old new : Circuit) (k : ℕ) (is : IsCircuit c) (is_old : IsCircuit 
   edges_kept y = edge_value-Grows old.nodes new.nodes is_old.nodes once.keeps.nodes y
 
   -- the lists show step k + 1 after the others, and the next edges the state after it
-  pub same_more : (y : ℕ → Bool) (x : ℕ → ℕ → Bool) → IsRun c (k + 1) x → Reads c new (k + 1) y x → ShowsSteps c new (k + 1) (edge_value new.nodes y) x
+  pub same_more : (y : ℕ → Bool) (x : ℕ → ℕ → Bool) → IsRun c (k + 1) x → Reads c new (k + 1) y x → HasStepValues c new (k + 1) (edge_value new.nodes y) x
   same_more y x run reads =
       let early = to.same y x (run_kept c old new k is to once x run) (reads_kept c old new k is to once y x reads) in
       let last = once.values y (x (k + 1)) (reads_next c old new k is to once y x run reads) in
@@ -165,11 +165,11 @@ module _ (c old new : Circuit) (k : ℕ) (is : IsCircuit c) (is_old : IsCircuit 
       let first = edge_value old.nodes y in
       let then = edge_value new.nodes y in
       record {
-        outputs = subst (StandAtSteps (k + 1) value c.outputs then) (sym once.with_outputs) (stand_more k value first then P (edges_kept y) c.outputs old.outputs once.outputs is_old.outputs early.outputs last.0);
-        bads = subst (StandAtSteps (k + 1) value c.bads then) (sym once.with_bads) (stand_more k value first then P (edges_kept y) c.bads old.bads once.bads is_old.bads early.bads last.1);
-        constraints = subst (StandAtSteps (k + 1) value c.constraints then) (sym once.with_constraints) (stand_more k value first then P (edges_kept y) c.constraints old.constraints once.constraints is_old.constraints early.constraints last.2);
+        outputs = subst (HasValuesAtSteps (k + 1) value c.outputs then) (sym once.with_outputs) (stand_more k value first then P (edges_kept y) c.outputs old.outputs once.outputs is_old.outputs early.outputs last.0);
+        bads = subst (HasValuesAtSteps (k + 1) value c.bads then) (sym once.with_bads) (stand_more k value first then P (edges_kept y) c.bads old.bads once.bads is_old.bads early.bads last.1);
+        constraints = subst (HasValuesAtSteps (k + 1) value c.constraints then) (sym once.with_constraints) (stand_more k value first then P (edges_kept y) c.constraints old.constraints once.constraints is_old.constraints early.constraints last.2);
         justice = subst (SetsStandAtSteps (k + 1) value c.justice then) (sym once.with_justice) (sets_stand_more k value first then P (edges_kept y) c.justice old.justice once.justice is_old.justice early.justice last.3);
-        fairness = subst (StandAtSteps (k + 1) value c.fairness then) (sym once.with_fairness) (stand_more k value first then P (edges_kept y) c.fairness old.fairness once.fairness is_old.fairness early.fairness last.4);
+        fairness = subst (HasValuesAtSteps (k + 1) value c.fairness then) (sym once.with_fairness) (stand_more k value first then P (edges_kept y) c.fairness old.fairness once.fairness is_old.fairness early.fairness last.4);
         state =
             zip_turned (λ (m l : AigLatch). edge_value new.nodes y m.next ≡ edge_value c.nodes (x (k + 1)) l.next) new.latchs c.latchs
             (zip_unmapped (λ (l : AigLatch). l.next) (λ (l : AigLatch). l.next) (λ e f. edge_value new.nodes y e ≡ edge_value c.nodes (x (k + 1)) f) new.latchs c.latchs last.5);

@@ -60,7 +60,7 @@ pub record UnrollsOnce (from old new : Circuit) : Type 0 where
 -- ---- all steps
 
 -- The longer list has k + 1 times the entries: entry j of the p entries has at step t the value of entry t * p + j.
-pub record StandAtSteps {E : Type 0} (k : ℕ) (old : ℕ → E → Bool) (entries : List E) (new : AigEdge → Bool) (longer : List AigEdge) : Type 0 where
+pub record HasValuesAtSteps {E : Type 0} (k : ℕ) (old : ℕ → E → Bool) (entries : List E) (new : AigEdge → Bool) (longer : List AigEdge) : Type 0 where
   pub count : length longer ≡ (k + 1) * length entries
   pub each : (t j : ℕ) (entry : E) → t ≤ k → slice_get entries j ≡ Some entry → (e : AigEdge) × (slice_get longer (t * length entries + j) ≡ Some e) × (new e ≡ old t entry)
 
@@ -71,12 +71,12 @@ pub record SetsStandAtSteps {E : Type 0} (k : ℕ) (old : ℕ → E → Bool) (s
       (es : List AigEdge) × (slice_get longer (t * length sets + j) ≡ Some es) × AllZip (λ entry e. new e ≡ old t entry) set es
 
 -- The edges of the unrolled circuit give each property at each step, and the state after step k, its value on the run x.
-pub record ShowsSteps (c unrolled : Circuit) (k : ℕ) (value : AigEdge → Bool) (x : ℕ → ℕ → Bool) : Type 0 where
-  pub outputs : StandAtSteps k (λ t. edge_value c.nodes (x t)) c.outputs value unrolled.outputs
-  pub bads : StandAtSteps k (λ t. edge_value c.nodes (x t)) c.bads value unrolled.bads
-  pub constraints : StandAtSteps k (λ t. edge_value c.nodes (x t)) c.constraints value unrolled.constraints
+pub record HasStepValues (c unrolled : Circuit) (k : ℕ) (value : AigEdge → Bool) (x : ℕ → ℕ → Bool) : Type 0 where
+  pub outputs : HasValuesAtSteps k (λ t. edge_value c.nodes (x t)) c.outputs value unrolled.outputs
+  pub bads : HasValuesAtSteps k (λ t. edge_value c.nodes (x t)) c.bads value unrolled.bads
+  pub constraints : HasValuesAtSteps k (λ t. edge_value c.nodes (x t)) c.constraints value unrolled.constraints
   pub justice : SetsStandAtSteps k (λ t. edge_value c.nodes (x t)) c.justice value unrolled.justice
-  pub fairness : StandAtSteps k (λ t. edge_value c.nodes (x t)) c.fairness value unrolled.fairness
+  pub fairness : HasValuesAtSteps k (λ t. edge_value c.nodes (x t)) c.fairness value unrolled.fairness
   pub state : AllZip (λ old new. value new.next ≡ edge_value c.nodes (x k) old.next) c.latchs unrolled.latchs
 
 -- The circuit unrolled by k steps: its leaf values are, by their places, exactly the runs of k + 1 steps, one for one.
@@ -87,7 +87,7 @@ pub record UnrollsTo (c : Circuit) (k : ℕ) (unrolled : Circuit) : Type 0 where
   pub values_of : (x : ℕ → ℕ → Bool) → IsRun c k x → (y : ℕ → Bool) × Reads c unrolled k y x
   pub one_run : (y : ℕ → Bool) (x z : ℕ → ℕ → Bool) → IsRun c k x → IsRun c k z → Reads c unrolled k y x → Reads c unrolled k y z → AgreeOnLeaves c k x z
   pub one_value : (x : ℕ → ℕ → Bool) (y z : ℕ → Bool) → Reads c unrolled k y x → Reads c unrolled k z x → (n : ℕ) → IsLeaf unrolled.nodes n → y n ≡ z n
-  pub same : (y : ℕ → Bool) (x : ℕ → ℕ → Bool) → IsRun c k x → Reads c unrolled k y x → ShowsSteps c unrolled k (edge_value unrolled.nodes y) x
+  pub same : (y : ℕ → Bool) (x : ℕ → ℕ → Bool) → IsRun c k x → Reads c unrolled k y x → HasStepValues c unrolled k (edge_value unrolled.nodes y) x
   pub starts : (y : ℕ → Bool) (x : ℕ → ℕ → Bool) → IsRun c k x → Reads c unrolled k y x → IsInitial unrolled y ↔ IsInitial c (x 0)
   pub size : length unrolled.nodes ≤ unrolled_size c k
 
