@@ -735,11 +735,11 @@ def g24(t):
 @group("25", "A node has a representative")
 def g25(t):
     t.ident("first_of", "representative_of", crate("aig_strash", "aig", "aig_reduction") + ["docs/*"])
-    t.ident("NumbersFirsts", "NumbersRepresentatives")
-    t.ident("KeepsFirsts", "KeepsRepresentatives")
+    t.ident("NumbersRepresentatives", "NumbersRepresentatives")
+    t.ident("KeepsRepresentatives", "KeepsRepresentatives")
     t.spec(["aig_strash.specs.Exchange"], "IsFirst", "IsRepresentative")
-    law(t, "aig_strash", "laws", "strashing_numbers_firsts", "strashing_numbers_representatives")
-    law(t, "aig_strash", "laws", "strashing_keeps_firsts", "strashing_keeps_representatives")
+    law(t, "aig_strash", "laws", "strashing_numbers_representatives", "strashing_numbers_representatives")
+    law(t, "aig_strash", "laws", "strashing_keeps_representatives", "strashing_keeps_representatives")
     page = t.texts["docs/GLOSSARY.md"]
     if "| representative |" not in page:
         t.put("docs/GLOSSARY.md", re.sub(r"(\| strashing \|[^\n]*\n)", r"\1| representative | of a node: the least node with its tree; strashing keeps it, and "

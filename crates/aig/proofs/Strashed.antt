@@ -20,9 +20,9 @@ use Rattle.aig_circuit.proofs.Trees.{kind_at-within}
 use Rattle.aig_format.specs.Writable.{HasLineFeed, IsWritable, list_lengths, named_nodes}
 use Rattle.aig_renumber.proofs.Circuits.{leaves-map}
 use Rattle.aig_renumber.proofs.Places.{Contains-map, Contains-map_back}
-use Rattle.aig_strash.specs.Exchange.{IsGate, first_of, image_of, is_kept, kept_before, node_numbers}
-use Rattle.aig_strash.specs.Strash.{KeepsFirsts, strashed}
-use Rattle.aig_strash.proofs.Keeping.{KeepsFirsts-strashed, NumbersFirsts-images}
+use Rattle.aig_strash.specs.Exchange.{IsGate, representative_of, image_of, is_kept, kept_before, node_numbers}
+use Rattle.aig_strash.specs.Strash.{KeepsRepresentatives, strashed}
+use Rattle.aig_strash.proofs.Keeping.{KeepsRepresentatives-strashed, NumbersRepresentatives-images}
 use Rattle.aig_strash.proofs.Merged.{MergesTrees-strashed}
 use Rattle.aig_strash.proofs.Strashing.{inputs-strashed}
 
@@ -41,17 +41,17 @@ leaf_before number (Some (And a b)) e =
     no_leaf x y is = cc
 
 module _ (c : Circuit) (is : IsCircuit c) (w : IsWritable c) where
-  keeps : KeepsFirsts c (strashed c) (image_of c.nodes)
-  keeps = KeepsFirsts-strashed c is
+  keeps : KeepsRepresentatives c (strashed c) (image_of c.nodes)
+  keeps = KeepsRepresentatives-strashed c is
 
-  -- a leaf is its own first
-  own_first : (n : ℕ) → IsLeaf c.nodes n → first_of c.nodes n ≡ n
-  own_first n leaf = (NumbersFirsts-images c is).others n (kind_at-within c.nodes n Leaf leaf) (λ (g : IsGate c.nodes n). let (a, b, gate) = g in cc)
+  -- a leaf is its own representative
+  own_first : (n : ℕ) → IsLeaf c.nodes n → representative_of c.nodes n ≡ n
+  own_first n leaf = (NumbersRepresentatives-images c is).others n (kind_at-within c.nodes n Leaf leaf) (λ (g : IsGate c.nodes n). let (a, b, gate) = g in cc)
 
   -- false keeps its number
   zeroth : image_of c.nodes 0 ≡ 0
   zeroth =
-      let numbers = NumbersFirsts-images c is in
+      let numbers = NumbersRepresentatives-images c is in
       let first = is.nodes.false_first in
       let h = kind_at-within c.nodes 0 False first in
       let own = numbers.others 0 h (λ (g : IsGate c.nodes 0). let (a, b, gate) = g in cc) in

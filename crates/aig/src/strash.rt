@@ -5,7 +5,7 @@ ghost use Rattle.aig_circuit.specs.Circuit.{IsCircuit};
 ghost use Rattle.aig_circuit.specs.Runs.{KeepsRuns};
 ghost use Rattle.aig_format.specs.Writable.{IsWritable};
 ghost use Rattle.aig_strash.specs.Exchange.{image_of};
-ghost use Rattle.aig_strash.specs.Strash.{KeepsFirsts, MergesTrees, NumbersFirsts, strashed};
+ghost use Rattle.aig_strash.specs.Strash.{KeepsRepresentatives, MergesTrees, NumbersRepresentatives, strashed};
 
 use crate::graph::Aig;
 use aig_base::MemoryError;
@@ -38,11 +38,11 @@ impl Aig {
         // The receiver is a circuit, so that what a law says of circuits holds of it.
         ensures circuit { IsCircuit self.now }
         ensures exact { IfOk result (λ made. made ≡ strashed self.now) }
-        // The new number of a node is the count of kept nodes before its first, the least node with its tree.
+        // The new number of a node is the count of kept nodes before its representative, the least node with its tree.
         ensures numbers { IfOk result
-            (λ made. NumbersFirsts self.now.nodes (image_of self.now.nodes)) }
+            (λ made. NumbersRepresentatives self.now.nodes (image_of self.now.nodes)) }
         // Kept nodes have their kinds and their names.
-        ensures kept { IfOk result (λ made. KeepsFirsts self.now made (image_of self.now.nodes)) }
+        ensures kept { IfOk result (λ made. KeepsRepresentatives self.now made (image_of self.now.nodes)) }
         // Gates share a node exactly where their trees are equal up to exchange, and each has its image's tree.
         ensures merges { IfOk result (λ made. MergesTrees self.now made (image_of self.now.nodes)) }
         // Runs, initial states and all values stay, both ways.

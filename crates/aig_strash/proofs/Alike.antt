@@ -13,7 +13,7 @@ use Rattle.aig_circuit.specs.Renumber.{renumbered_edge, renumbered_kind}
 use Rattle.aig_circuit.proofs.Building.{and_of-turned}
 use Rattle.aig_circuit.proofs.Trees.{kind_at-there, kind_at-within, tree_of-is}
 use Rattle.aig_renumber.proofs.Numbering.{Merges}
-use Rattle.aig_strash.specs.Exchange.{HaveEqualTrees, first_of, image_of, kept_nodes}
+use Rattle.aig_strash.specs.Exchange.{HaveEqualTrees, representative_of, image_of, kept_nodes}
 use Rattle.aig_strash.proofs.Equal.{Equal, equal-operands}
 use Rattle.aig_strash.proofs.Firsts.{first-is, first-leaf, first-within, image-0, image-back, image-below, image-place, image-same, image-within, kept-within, kept_at-kept}
 
@@ -65,7 +65,7 @@ module _ (nodes : List AigNode) (are : AreNodes nodes) where
     within = image-within nodes are;
     alike = λ n h.
         ap (λ m. renumbered_kind (image_of nodes) (kind_at nodes m)) (image-back nodes are n h)
-        ∙ nodes-alike (first_of nodes n) n (first-within nodes are n h) h (first-is nodes are n h).equal;
+        ∙ nodes-alike (representative_of nodes n) n (first-within nodes are n h) h (first-is nodes are n h).equal;
     leaf_back = λ n h leaf. image-back nodes are n h ∙ first-leaf nodes are n leaf;
     in_S = λ i h. kept-within nodes are (get_or (kept_nodes nodes) i 0) (kept_at-kept nodes are i h);
     place = image-place nodes are;

@@ -1,4 +1,4 @@
--- The first of each node, the nodes that are kept, and their images.
+-- The representative of each node, the nodes that are kept, and their images.
 use Rattle.std.proofs.Common.{◌≡◌, ℕ, zero, suc, ◌<◌, Some, List, length, get_or, refl, sym, ap, subst, ◌∙◌, arith}
 use Rattle.std.specs.Prelude.{AllPairs, Contains, unwrap_or}
 use Rattle.std.proofs.lemmas.Bool.{eqb-true, eq-eqb, false≢true}
@@ -15,7 +15,7 @@ use Rattle.aig_circuit.specs.Circuit.{AreNodes, IsLeaf}
 use Rattle.aig_circuit.specs.Renumber.{place_of}
 use Rattle.aig_circuit.proofs.Trees.{kind_at-there, kind_at-within, tree_of-false, tree_of-leaf, tree_of-and}
 use Rattle.aig_renumber.proofs.Places.{filter-back, get_or-place_of, place_of-within, places-rise, rising-place}
-use Rattle.aig_strash.specs.Exchange.{HaveEqualTrees, IsFirst, equal_up_to_exchange, first_of, image_of, is_kept, kept_nodes, node_numbers}
+use Rattle.aig_strash.specs.Exchange.{HaveEqualTrees, IsRepresentative, equal_up_to_exchange, representative_of, image_of, is_kept, kept_nodes, node_numbers}
 use Rattle.aig_strash.proofs.Equal.{Equal, equal-itself, equal-turned, equal-then}
 use Rattle.aig_strash.proofs.Listing.{Counts, counting-has, counting-rises, counting-within, filter-has, find-counting}
 
@@ -45,36 +45,36 @@ module _ (nodes : List AigNode) (are : AreNodes nodes) where
   pub trees-then : (m n o : ℕ) → HaveEqualTrees nodes m n → HaveEqualTrees nodes n o → HaveEqualTrees nodes m o
   trees-then m n o h g = equal-then (tree_of nodes m) (tree_of nodes n) (tree_of nodes o) h g
 
-  -- ---- firsts
+  -- ---- representatives
 
-  pub first-is : (n : ℕ) → n < length nodes → IsFirst nodes n (first_of nodes n)
+  pub first-is : (n : ℕ) → n < length nodes → IsRepresentative nodes n (representative_of nodes n)
   first-is n h =
       let found = find-counting (λ m. equal_up_to_exchange (tree_of nodes m) (tree_of nodes n)) 0 (node_numbers nodes) numbers-count n (omega arith) (omega (arith, numbers-length)) (equal-itself (tree_of nodes n)) in
-      let is : first_of nodes n ≡ found.0 = ap (λ o. unwrap_or o n) found.1 in
-      subst (IsFirst nodes n) (sym is) (record { low = found.2; equal = found.3; least = λ j at. found.4 j (omega arith) at })
+      let is : representative_of nodes n ≡ found.0 = ap (λ o. unwrap_or o n) found.1 in
+      subst (IsRepresentative nodes n) (sym is) (record { low = found.2; equal = found.3; least = λ j at. found.4 j (omega arith) at })
 
-  pub first-within : (n : ℕ) → n < length nodes → first_of nodes n < length nodes
+  pub first-within : (n : ℕ) → n < length nodes → representative_of nodes n < length nodes
   first-within n h = omega (arith, (first-is n h).low)
 
-  -- equal trees have one first
-  pub first-same : (m n : ℕ) → m < length nodes → n < length nodes → HaveEqualTrees nodes m n → first_of nodes m ≡ first_of nodes n
+  -- equal trees have one representative
+  pub first-same : (m n : ℕ) → m < length nodes → n < length nodes → HaveEqualTrees nodes m n → representative_of nodes m ≡ representative_of nodes n
   first-same m n h l same =
       let one = first-is m h in
       let other = first-is n l in
-      let up = one.least (first_of nodes n) (trees-then (first_of nodes n) n m other.equal (trees-turned m n same)) in
-      let down = other.least (first_of nodes m) (trees-then (first_of nodes m) m n one.equal same) in
+      let up = one.least (representative_of nodes n) (trees-then (representative_of nodes n) n m other.equal (trees-turned m n same)) in
+      let down = other.least (representative_of nodes m) (trees-then (representative_of nodes m) m n one.equal same) in
       omega (arith, up, down)
 
-  -- nodes with one first have equal trees
-  pub first-apart : (m n : ℕ) → m < length nodes → n < length nodes → first_of nodes m ≡ first_of nodes n → HaveEqualTrees nodes m n
+  -- nodes with one representative have equal trees
+  pub first-apart : (m n : ℕ) → m < length nodes → n < length nodes → representative_of nodes m ≡ representative_of nodes n → HaveEqualTrees nodes m n
   first-apart m n h l same =
       let there = subst (λ k. HaveEqualTrees nodes k n) (sym same) (first-is n l).equal in
-      trees-then m (first_of nodes m) n (trees-turned (first_of nodes m) m (first-is m h).equal) there
+      trees-then m (representative_of nodes m) n (trees-turned (representative_of nodes m) m (first-is m h).equal) there
 
-  pub first-twice : (n : ℕ) → n < length nodes → first_of nodes (first_of nodes n) ≡ first_of nodes n
-  first-twice n h = first-same (first_of nodes n) n (first-within n h) h (first-is n h).equal
+  pub first-twice : (n : ℕ) → n < length nodes → representative_of nodes (representative_of nodes n) ≡ representative_of nodes n
+  first-twice n h = first-same (representative_of nodes n) n (first-within n h) h (first-is n h).equal
 
-  pub first-0 : first_of nodes 0 ≡ 0
+  pub first-0 : representative_of nodes 0 ≡ 0
   first-0 = let first = first-is 0 (kind_at-within nodes 0 False are.false_first) in omega (arith, first.low)
 
   -- a node with a leaf's tree is that leaf
@@ -89,26 +89,26 @@ module _ (nodes : List AigNode) (are : AreNodes nodes) where
       by_kind Leaf is = leaf_alone m n (tree_of nodes m) here (tree_of-leaf nodes m is)
       by_kind (And a b) is = absurd (false≢true (subst (λ t. Equal t (LeafTree n)) (tree_of-and nodes are.ordered m a b is) here))
 
-  -- a leaf is its own first
-  pub first-leaf : (n : ℕ) → IsLeaf nodes n → first_of nodes n ≡ n
-  first-leaf n leaf = let h = kind_at-within nodes n Leaf leaf in leaf-alone (first_of nodes n) n (first-within n h) leaf (first-is n h).equal
+  -- a leaf is its own representative
+  pub first-leaf : (n : ℕ) → IsLeaf nodes n → representative_of nodes n ≡ n
+  first-leaf n leaf = let h = kind_at-within nodes n Leaf leaf in leaf-alone (representative_of nodes n) n (first-within n h) leaf (first-is n h).equal
 
   -- ---- kept nodes
 
   abbrev pub Kept : ℕ → Type 0
   Kept n = Contains (kept_nodes nodes) n
 
-  pub kept-from : (n : ℕ) → n < length nodes → first_of nodes n ≡ n → Kept n
-  kept-from n h is = filter-has (is_kept nodes) (node_numbers nodes) n (counting-has (node_numbers nodes) numbers-count n (omega (arith, numbers-length))) (eq-eqb (first_of nodes n) n is)
+  pub kept-from : (n : ℕ) → n < length nodes → representative_of nodes n ≡ n → Kept n
+  kept-from n h is = filter-has (is_kept nodes) (node_numbers nodes) n (counting-has (node_numbers nodes) numbers-count n (omega (arith, numbers-length))) (eq-eqb (representative_of nodes n) n is)
 
-  pub kept-first : (n : ℕ) → n < length nodes → Kept (first_of nodes n)
-  kept-first n h = kept-from (first_of nodes n) (first-within n h) (first-twice n h)
+  pub kept-first : (n : ℕ) → n < length nodes → Kept (representative_of nodes n)
+  kept-first n h = kept-from (representative_of nodes n) (first-within n h) (first-twice n h)
 
   pub kept-within : (n : ℕ) → Kept n → n < length nodes
   kept-within n kept = omega (arith, numbers-length, counting-within (node_numbers nodes) numbers-count n (filter-back (is_kept nodes) (node_numbers nodes) n kept).0)
 
-  pub kept-is : (n : ℕ) → Kept n → first_of nodes n ≡ n
-  kept-is n kept = eqb-true (first_of nodes n) n (filter-back (is_kept nodes) (node_numbers nodes) n kept).1
+  pub kept-is : (n : ℕ) → Kept n → representative_of nodes n ≡ n
+  kept-is n kept = eqb-true (representative_of nodes n) n (filter-back (is_kept nodes) (node_numbers nodes) n kept).1
 
   pub kept-rises : AllPairs (λ m n. m < n) (kept_nodes nodes)
   kept-rises = AllPairs-filter (λ m n. m < n) (is_kept nodes) (node_numbers nodes) (counting-rises (node_numbers nodes) numbers-count)
@@ -123,10 +123,10 @@ module _ (nodes : List AigNode) (are : AreNodes nodes) where
   -- ---- images
 
   pub image-within : (n : ℕ) → n < length nodes → image_of nodes n < length (kept_nodes nodes)
-  image-within n h = place_of-within (kept_nodes nodes) (first_of nodes n) (kept-first n h)
+  image-within n h = place_of-within (kept_nodes nodes) (representative_of nodes n) (kept-first n h)
 
-  pub image-back : (n : ℕ) → n < length nodes → kept_at (image_of nodes n) ≡ first_of nodes n
-  image-back n h = get_or-place_of (kept_nodes nodes) (first_of nodes n) (kept-first n h)
+  pub image-back : (n : ℕ) → n < length nodes → kept_at (image_of nodes n) ≡ representative_of nodes n
+  image-back n h = get_or-place_of (kept_nodes nodes) (representative_of nodes n) (kept-first n h)
 
   pub image-place : (i : ℕ) → i < length (kept_nodes nodes) → image_of nodes (kept_at i) ≡ i
   image-place i h = ap (place_of (kept_nodes nodes)) (kept-is (kept_at i) (kept_at-kept i h)) ∙ rising-place (kept_nodes nodes) kept-rises i h
@@ -138,8 +138,8 @@ module _ (nodes : List AigNode) (are : AreNodes nodes) where
   pub image-apart : (m n : ℕ) → m < length nodes → n < length nodes → image_of nodes m ≡ image_of nodes n → HaveEqualTrees nodes m n
   image-apart m n h l same = first-apart m n h l (sym (image-back m h) ∙ ap kept_at same ∙ image-back n l)
 
-  pub images-rise : (m n : ℕ) → m < length nodes → n < length nodes → first_of nodes m < first_of nodes n → image_of nodes m < image_of nodes n
-  images-rise m n h l low = places-rise (kept_nodes nodes) kept-rises (first_of nodes m) (first_of nodes n) (kept-first m h) (kept-first n l) low
+  pub images-rise : (m n : ℕ) → m < length nodes → n < length nodes → representative_of nodes m < representative_of nodes n → image_of nodes m < image_of nodes n
+  images-rise m n h l low = places-rise (kept_nodes nodes) kept-rises (representative_of nodes m) (representative_of nodes n) (kept-first m h) (kept-first n l) low
 
   -- what is below a kept node has its image below that place
   pub image-below : (i m : ℕ) → i < length (kept_nodes nodes) → m < kept_at i → image_of nodes m < i
@@ -147,7 +147,7 @@ module _ (nodes : List AigNode) (are : AreNodes nodes) where
       let kept = kept_at-kept i h in
       let there = kept-within (kept_at i) kept in
       let first = first-is m (omega arith) in
-      let less : first_of nodes m < first_of nodes (kept_at i) = omega (arith, kept-is (kept_at i) kept, first.low) in
+      let less : representative_of nodes m < representative_of nodes (kept_at i) = omega (arith, kept-is (kept_at i) kept, first.low) in
       subst (λ k. image_of nodes m < k) (image-place i h) (images-rise m (kept_at i) (omega arith) there less)
 
   pub image-0 : image_of nodes 0 ≡ 0

@@ -13,7 +13,7 @@ use Rattle.aig_circuit.specs.Circuit.{AreNodes}
 use Rattle.aig_circuit.specs.Renumber.{renumbered_edge, renumbered_kind}
 use Rattle.aig_circuit.specs.Tree.{Tree, AndTree, tree_of}
 use Rattle.aig_circuit.proofs.Trees.{kind_at-there, tree_of-false, tree_of-leaf, tree_of-and}
-use Rattle.aig_strash.specs.Exchange.{HaveEqualTrees, IsGate, first_of, image_of, kept_before, node_numbers}
+use Rattle.aig_strash.specs.Exchange.{HaveEqualTrees, IsGate, representative_of, image_of, kept_before, node_numbers}
 use Rattle.aig_strash.specs.declared.numbers.Tables.{Tables}
 use Rattle.aig_strash.specs.Numbering.{HasGates, HasSmallLiteral, gate_literals, operand_literals}
 use Rattle.aig_strash.specs.Tables.{Gates, Literals, PutsIfAbsent, are_same, literal_limit, number_of_gate, numbers_of}
@@ -86,8 +86,8 @@ module _ (nodes : List AigNode) (are : AreNodes nodes) where
   -- ---- the next node
 
   -- a node that is no gate is kept
-  pub first-other : (n : ℕ) (k : AigNodeType) → kind_at nodes n ≡ Some k → (IsGate nodes n → ⊥) → first_of nodes n ≡ n
-  first-other n False is other = ap (first_of nodes) (are.false_once n is) ∙ first-0 nodes are ∙ sym (are.false_once n is)
+  pub first-other : (n : ℕ) (k : AigNodeType) → kind_at nodes n ≡ Some k → (IsGate nodes n → ⊥) → representative_of nodes n ≡ n
+  first-other n False is other = ap (representative_of nodes) (are.false_once n is) ∙ first-0 nodes are ∙ sym (are.false_once n is)
   first-other n Leaf is other = first-leaf nodes are n is
   first-other n (And a b) is other = absurd (other (a, b, is))
 
@@ -112,12 +112,12 @@ module _ (nodes : List AigNode) (are : AreNodes nodes) where
         let same : Some v ≡ Some (image_of nodes there.0) = sym is ∙ ap (number_of_gate old) (sym there.3) ∙ at in
         let equal = equal-from_literals nodes are there.0 n there.2 gate there.3 in
         ap (λ o. unwrap_or o v) same ∙ image-same nodes are there.0 n (omega arith) h equal
-    by_found None is = sym (image-kept nodes are n h (elim (cases_lt (first_of nodes n) n) [
+    by_found None is = sym (image-kept nodes are n h (elim (cases_lt (representative_of nodes n) n) [
       | inl low ↦ (
           let first = first-is nodes are n h in
           let within = first-within nodes are n h in
-          let at = has.each (first_of nodes n) low (IsGate-equal (first_of nodes n) n within gate first.equal) in
-          let same : Some (image_of nodes (first_of nodes n)) ≡ None = sym at ∙ ap (number_of_gate old) (literals-from_equal nodes are (first_of nodes n) n within h first.equal) ∙ is in
+          let at = has.each (representative_of nodes n) low (IsGate-equal (representative_of nodes n) n within gate first.equal) in
+          let same : Some (image_of nodes (representative_of nodes n)) ≡ None = sym at ∙ ap (number_of_gate old) (literals-from_equal nodes are (representative_of nodes n) n within h first.equal) ∙ is in
           cc)
       | inr high ↦ (let low = (first-is nodes are n h).low in omega arith)
     ]))

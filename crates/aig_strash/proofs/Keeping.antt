@@ -1,4 +1,4 @@
--- Firsts and their numbers, and what the strashed circuit has of the kept nodes.
+-- Representatives and their numbers, and what the strashed circuit has of the kept nodes.
 use Rattle.std.proofs.Common.{◌≡◌, ℕ, ◌<◌, Bool, true, false, cond, Some, None, List, length, get_or, refl, sym, ap, ◌∙◌, nat_cmp}
 use Rattle.std.specs.FinMap.{FinMap, contains_key, entries, get, get-entries, get-from_entries, get-retain_keys, retain_keys}
 use Rattle.std.specs.Prelude.{IsTrue, is_some}
@@ -11,8 +11,8 @@ use Rattle.aig_circuit.proofs.Trees.{kind_at-there}
 use Rattle.aig_renumber.proofs.Kept.{is_in-back, is_in-there}
 use Rattle.aig_renumber.proofs.Names.{find-number, names_in_circuit}
 use Rattle.aig_renumber.proofs.Numbering.{kind_at-number, length-nodes_in_order}
-use Rattle.aig_strash.specs.Exchange.{first_of, image_of, kept_nodes}
-use Rattle.aig_strash.specs.Strash.{KeepsFirsts, NumbersFirsts, strashed}
+use Rattle.aig_strash.specs.Exchange.{representative_of, image_of, kept_nodes}
+use Rattle.aig_strash.specs.Strash.{KeepsRepresentatives, NumbersRepresentatives, strashed}
 use Rattle.aig_strash.proofs.Alike.{Merges-kept}
 use Rattle.aig_strash.proofs.Firsts.{first-is, image-back, kept-from, kept-is, kept-within}
 use Rattle.aig_strash.proofs.Gates.{first-other}
@@ -20,8 +20,8 @@ use Rattle.aig_strash.proofs.Numbered.{image-count}
 use Rattle.aig_strash.proofs.Strashing.{inputs-strashed, kept}
 
 module _ (c : Circuit) (is : IsCircuit c) where
-  pub NumbersFirsts-images : NumbersFirsts c.nodes (image_of c.nodes)
-  NumbersFirsts-images = record {
+  pub NumbersRepresentatives-images : NumbersRepresentatives c.nodes (image_of c.nodes)
+  NumbersRepresentatives-images = record {
     first = first-is c.nodes is.nodes;
     others = λ n h other. let kind = kind_at-there c.nodes n h in first-other c.nodes is.nodes n kind.0 kind.1 other;
     places = image-count c.nodes is.nodes;
@@ -50,15 +50,15 @@ module _ (c : Circuit) (is : IsCircuit c) where
       by_test false h = absurd (false≢true h)
 
   -- a kept node's name stands under its new number
-  names-kept : (n : ℕ) → n < length c.nodes → first_of c.nodes n ≡ n → get (strashed c).names (image_of c.nodes n) ≡ get c.names n
+  names-kept : (n : ℕ) → n < length c.nodes → representative_of c.nodes n ≡ n → get (strashed c).names (image_of c.nodes n) ≡ get c.names n
   names-kept n h first =
       let here : kept c is n ≡ true = is_in-there (kept_nodes c.nodes) n (kept-from c.nodes is.nodes n h first) in
       get-from_entries nat_cmp_total _ (image_of c.nodes n)
       ∙ find-number (λ m. kept c is m ≡ true) (image_of c.nodes) apart (entries names) n here (names_in_circuit (λ m. kept c is m ≡ true) names named)
       ∙ sym (get-entries names n) ∙ get-names n ∙ ap (λ b. cond b (get c.names n) None) here
 
-  pub KeepsFirsts-strashed : KeepsFirsts c (strashed c) (image_of c.nodes)
-  KeepsFirsts-strashed = record {
+  pub KeepsRepresentatives-strashed : KeepsRepresentatives c (strashed c) (image_of c.nodes)
+  KeepsRepresentatives-strashed = record {
     count = length-nodes_in_order c.nodes (image_of c.nodes) 0 (kept_nodes c.nodes);
     kinds = λ n h.
         let kind = kind_at-there c.nodes n h in

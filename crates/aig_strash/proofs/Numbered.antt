@@ -14,7 +14,7 @@ use Rattle.aig_circuit.specs.Renumber.{place_of, renumbered_edge, renumbered_kin
 use Rattle.aig_circuit.specs.Tree.{AndTree, tree_of}
 use Rattle.aig_circuit.proofs.Building.{and_of-cases}
 use Rattle.aig_circuit.proofs.Trees.{tree_of-and}
-use Rattle.aig_strash.specs.Exchange.{HaveEqualTrees, IsGate, first_of, image_of, is_kept, kept_before, node_numbers}
+use Rattle.aig_strash.specs.Exchange.{HaveEqualTrees, IsGate, representative_of, image_of, is_kept, kept_before, node_numbers}
 use Rattle.aig_strash.specs.Numbering.{gate_literals, operand_literals}
 use Rattle.aig_strash.specs.Tables.{Literals}
 use Rattle.aig_circuit.proofs.Edges.{literals-same}
@@ -106,15 +106,15 @@ module _ (nodes : List AigNode) (are : AreNodes nodes) where
 
   -- ---- counts of kept nodes
 
-  -- a node's number is the count of the kept nodes before its first
-  pub image-count : (n : ℕ) → n < length nodes → image_of nodes n ≡ kept_before nodes (first_of nodes n)
+  -- a node's number is the count of the kept nodes before its representative
+  pub image-count : (n : ℕ) → n < length nodes → image_of nodes n ≡ kept_before nodes (representative_of nodes n)
   image-count n h =
       let within = first-within nodes are n h in
-      place_of-filter (is_kept nodes) (node_numbers nodes) (first_of nodes n) (eq-eqb (first_of nodes (first_of nodes n)) (first_of nodes n) (first-twice nodes are n h))
-      ∙ ap (kept_before nodes) (counting-place (node_numbers nodes) (numbers-count nodes are) (first_of nodes n) (omega (arith, numbers-length nodes are)))
+      place_of-filter (is_kept nodes) (node_numbers nodes) (representative_of nodes n) (eq-eqb (representative_of nodes (representative_of nodes n)) (representative_of nodes n) (first-twice nodes are n h))
+      ∙ ap (kept_before nodes) (counting-place (node_numbers nodes) (numbers-count nodes are) (representative_of nodes n) (omega (arith, numbers-length nodes are)))
 
   -- a kept node's number is the count of the kept nodes before it
-  pub image-kept : (n : ℕ) → n < length nodes → first_of nodes n ≡ n → image_of nodes n ≡ kept_before nodes n
+  pub image-kept : (n : ℕ) → n < length nodes → representative_of nodes n ≡ n → image_of nodes n ≡ kept_before nodes n
   image-kept n h first = image-count n h ∙ ap (kept_before nodes) first
 
   -- at most so many are kept
@@ -128,20 +128,20 @@ module _ (nodes : List AigNode) (are : AreNodes nodes) where
   image-before m n h l =
       let here : m < length nodes = omega arith in
       let first = first-is nodes are m here in
-      let low : first_of nodes m < n = omega (arith, first.low) in
-      let there : first_of nodes m < length nodes = omega arith in
-      let at : get_or (node_numbers nodes) (first_of nodes m) 0 ≡ first_of nodes m = omega (arith, numbers-count nodes are (first_of nodes m) 0 (omega (arith, numbers-length nodes are))) in
-      let kept : is_kept nodes (get_or (node_numbers nodes) (first_of nodes m) 0) ≡ true = ap (is_kept nodes) at ∙ eq-eqb (first_of nodes (first_of nodes m)) (first_of nodes m) (first-twice nodes are m here) in
+      let low : representative_of nodes m < n = omega (arith, first.low) in
+      let there : representative_of nodes m < length nodes = omega arith in
+      let at : get_or (node_numbers nodes) (representative_of nodes m) 0 ≡ representative_of nodes m = omega (arith, numbers-count nodes are (representative_of nodes m) 0 (omega (arith, numbers-length nodes are))) in
+      let kept : is_kept nodes (get_or (node_numbers nodes) (representative_of nodes m) 0) ≡ true = ap (is_kept nodes) at ∙ eq-eqb (representative_of nodes (representative_of nodes m)) (representative_of nodes m) (first-twice nodes are m here) in
       subst (λ k. k < kept_before nodes n) (sym (image-count m here))
-      (passing-rises (is_kept nodes) (node_numbers nodes) (first_of nodes m) n low (omega (arith, numbers-length nodes are)) kept)
+      (passing-rises (is_kept nodes) (node_numbers nodes) (representative_of nodes m) n low (omega (arith, numbers-length nodes are)) kept)
 
   -- a node is kept exactly where its number is the count of the kept nodes before it
   pub kept-from_number : (n : ℕ) → n < length nodes → image_of nodes n ≡ kept_before nodes n → is_kept nodes n ≡ true
-  kept-from_number n h is = eq-eqb (first_of nodes n) n (elim (cases_lt (first_of nodes n) n) [
+  kept-from_number n h is = eq-eqb (representative_of nodes n) n (elim (cases_lt (representative_of nodes n) n) [
     | inl low ↦ (
         let first = first-is nodes are n h in
-        let same = image-same nodes are (first_of nodes n) n (first-within nodes are n h) h first.equal in
-        absurd (omega (arith, image-before (first_of nodes n) n low (omega arith))))
+        let same = image-same nodes are (representative_of nodes n) n (first-within nodes are n h) h first.equal in
+        absurd (omega (arith, image-before (representative_of nodes n) n low (omega arith))))
     | inr high ↦ (let low = (first-is nodes are n h).low in omega arith)
   ])
 
@@ -149,7 +149,7 @@ module _ (nodes : List AigNode) (are : AreNodes nodes) where
   dropped-from_number n h differs = by_test (is_kept nodes n) refl
     where
       by_test : (b : Bool) → is_kept nodes n ≡ b → b ≡ false
-      by_test true kept = absurd (differs (image-kept n h (eqb-true (first_of nodes n) n kept)))
+      by_test true kept = absurd (differs (image-kept n h (eqb-true (representative_of nodes n) n kept)))
       by_test false dropped = refl
 
   -- ---- one more node

@@ -10,7 +10,7 @@ use Rattle.aig_circuit.proofs.Trees.{kind_at-within}
 use Rattle.aig_renumber.proofs.Kept.{is_in-there}
 use Rattle.aig_renumber.proofs.Places.{filter_all}
 use Rattle.aig_renumber.proofs.Same.{renumbered-same, retained-all}
-use Rattle.aig_strash.specs.Exchange.{HaveEqualTrees, first_of, image_of, is_kept, kept_nodes, node_numbers}
+use Rattle.aig_strash.specs.Exchange.{HaveEqualTrees, representative_of, image_of, is_kept, kept_nodes, node_numbers}
 use Rattle.aig_strash.specs.Strash.{strashed}
 use Rattle.aig_strash.proofs.Firsts.{first-is, first-within, kept-from, numbers-count, numbers-length}
 use Rattle.aig_strash.proofs.Listing.{counting-place}
@@ -22,14 +22,14 @@ abbrev AreDistinct : List AigNode → Type 0
 AreDistinct nodes = (m n : ℕ) → m < length nodes → n < length nodes → HaveEqualTrees nodes m n → m ≡ n
 
 module _ (nodes : List AigNode) (are : AreNodes nodes) (distinct : AreDistinct nodes) where
-  -- each node is its own first
-  pub first-own : (n : ℕ) → n < length nodes → first_of nodes n ≡ n
-  first-own n h = distinct (first_of nodes n) n (first-within nodes are n h) h (first-is nodes are n h).equal
+  -- each node is its own representative
+  pub first-own : (n : ℕ) → n < length nodes → representative_of nodes n ≡ n
+  first-own n h = distinct (representative_of nodes n) n (first-within nodes are n h) h (first-is nodes are n h).equal
 
   pub kept-all : kept_nodes nodes ≡ node_numbers nodes
   kept-all = filter_all (is_kept nodes) (node_numbers nodes) (λ k d h.
       let n = get_or (node_numbers nodes) k d in
-      eq-eqb (first_of nodes n) n (first-own n (omega (arith, numbers-length nodes are, numbers-count nodes are k d h))))
+      eq-eqb (representative_of nodes n) n (first-own n (omega (arith, numbers-length nodes are, numbers-count nodes are k d h))))
 
   -- each node is kept
   pub kept-own : (n : ℕ) → n < length nodes → is_in (kept_nodes nodes) n ≡ true

@@ -31,7 +31,7 @@ abbrev pub IsGate : List AigNode → ℕ → Type 0
 IsGate nodes n = (a : AigEdge) × (b : AigEdge) × (kind_at nodes n ≡ Some (And a b))
 
 -- m is the least node with the tree of node n
-pub record IsFirst (nodes : List AigNode) (n m : ℕ) : Type 0 where
+pub record IsRepresentative (nodes : List AigNode) (n m : ℕ) : Type 0 where
   pub low : m ≤ n
   pub equal : HaveEqualTrees nodes m n
   pub least : (j : ℕ) → HaveEqualTrees nodes j n → m ≤ j
@@ -54,21 +54,21 @@ placed_tree nodes n = with_leaves (leaves_before nodes) (tree_of nodes n)
 abbrev pub node_numbers : List AigNode → List ℕ
 node_numbers nodes = map (λ node. node.node_id) nodes
 
--- the first of node n: the least node with its tree, which is the node itself where it is no gate
-abbrev pub first_of : List AigNode → ℕ → ℕ
-first_of nodes n = unwrap_or (find (λ m. equal_up_to_exchange (tree_of nodes m) (tree_of nodes n)) (node_numbers nodes)) n
+-- the representative of node n: the least node with its tree, which is the node itself where it is no gate
+abbrev pub representative_of : List AigNode → ℕ → ℕ
+representative_of nodes n = unwrap_or (find (λ m. equal_up_to_exchange (tree_of nodes m) (tree_of nodes n)) (node_numbers nodes)) n
 
--- the node is its own first
+-- the node is its own representative
 abbrev pub is_kept : List AigNode → ℕ → Bool
-is_kept nodes n = first_of nodes n == n
+is_kept nodes n = representative_of nodes n == n
 
 -- the nodes that are kept, in their order
 abbrev pub kept_nodes : List AigNode → List ℕ
 kept_nodes nodes = filter (is_kept nodes) (node_numbers nodes)
 
--- the new number of node n: the place of its first among the kept nodes
+-- the new number of node n: the place of its representative among the kept nodes
 abbrev pub image_of : List AigNode → ℕ → ℕ
-image_of nodes n = place_of (kept_nodes nodes) (first_of nodes n)
+image_of nodes n = place_of (kept_nodes nodes) (representative_of nodes n)
 
 -- how many of the first n nodes are kept
 abbrev pub kept_before : List AigNode → ℕ → ℕ

@@ -3,8 +3,8 @@ use Rattle.std.proofs.Common.{◌≡◌, sym, ap, subst, ◌∙◌}
 use Rattle.aig_circuit.specs.Circuit.{Circuit, IsCircuit}
 use Rattle.aig_circuit.specs.Runs.{KeepsRuns}
 use Rattle.aig_strash.specs.Exchange.{image_of}
-use Rattle.aig_strash.specs.Strash.{KeepsFirsts, MergesTrees, strashed}
-use Rattle.aig_strash.proofs.Keeping.{KeepsFirsts-strashed, NumbersFirsts-images}
+use Rattle.aig_strash.specs.Strash.{KeepsRepresentatives, MergesTrees, strashed}
+use Rattle.aig_strash.proofs.Keeping.{KeepsRepresentatives-strashed, NumbersRepresentatives-images}
 use Rattle.aig_strash.proofs.Merged.{MergesTrees-strashed}
 use Rattle.aig_strash.proofs.Strashing.{IsCircuit-strashed, KeepsRuns-strashed}
 use Rattle.aig_strash.proofs.Twice.{strashed-twice}
@@ -20,12 +20,12 @@ pub returns-clause-exact : goal.returns-clause-exact
 returns-clause-exact c = c.from_lists.ensures ∙ c.in_ok-lists.ensures ∙ ap strashed c.view.ensures.value
 
 pub returns-clause-numbers : goal.returns-clause-numbers
-returns-clause-numbers c = NumbersFirsts-images c.args.self.now c.view.ensures.circuit
+returns-clause-numbers c = NumbersRepresentatives-images c.args.self.now c.view.ensures.circuit
 
 pub returns-clause-kept : goal.returns-clause-kept
 returns-clause-kept c =
     let made = c.from_lists.ensures ∙ c.in_ok-lists.ensures ∙ ap strashed c.view.ensures.value in
-    subst (λ (d : Circuit). KeepsFirsts c.args.self.now d (image_of c.args.self.now.nodes)) (sym made) (KeepsFirsts-strashed c.args.self.now c.view.ensures.circuit)
+    subst (λ (d : Circuit). KeepsRepresentatives c.args.self.now d (image_of c.args.self.now.nodes)) (sym made) (KeepsRepresentatives-strashed c.args.self.now c.view.ensures.circuit)
 
 pub returns-clause-merges : goal.returns-clause-merges
 returns-clause-merges c =
