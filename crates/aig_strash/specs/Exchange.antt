@@ -1,5 +1,5 @@
 -- Part of what is promised.
--- Trees that are equal up to the exchange of operands. (Structural hashing of And-Inverter Graphs.)
+-- Trees that are equal up to the exchange of operands (commutativity). (Structural hashing of And-Inverter Graphs.)
 use Rattle.std.specs.Prelude.{◌≡◌, ℕ, ◌≤◌, ◌==◌, Bool, true, false, not, ◌&&◌, ◌||◌, if◌then◌else◌, IsTrue, Some, List, length, map, find, filter, unwrap_or, count_by, take}
 use Rattle.aig_circuit.specs.declared.edge.AigEdge.{AigEdge}
 use Rattle.aig_circuit.specs.declared.node.AigNodeType.TheVariants.{And}
