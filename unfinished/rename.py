@@ -772,9 +772,9 @@ def g26(t):
 
 @group("27", "A gate has fanins, a latch's leaf a next node")
 def g27(t):
-    t.ident("IsBefore", "DependsOn")
-    t.ident("IsNextState", "IsLatchNext")
-    t.ident("IsOperand", "IsFanin")
+    t.ident("DependsOn", "DependsOn")
+    t.ident("IsLatchNext", "IsLatchNext")
+    t.ident("IsFanin", "IsFanin")
 
 
 @group("28", "Edges refer to nodes")

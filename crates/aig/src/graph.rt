@@ -5,7 +5,7 @@ ghost use Rattle.aig_circuit.specs.declared.node.AigNodeType.TheVariants.{Leaf};
 ghost use Rattle.aig_circuit.specs.Node.{Admits, gates_of};
 ghost use Rattle.aig_circuit.specs.Build.{with_node};
 ghost use Rattle.aig_circuit.specs.Circuit.{BeginsWith, HasFreeLeaf, IsCircuit, IsClosed, IsInRange, IsLeaf, IsFree, only_false};
-ghost use Rattle.aig_circuit.specs.Reach.{IsOperand, IsReached, MarksExactly};
+ghost use Rattle.aig_circuit.specs.Reach.{IsFanin, IsReached, MarksExactly};
 ghost use Rattle.aig_circuit.specs.View.{lists_circuit, names_of};
 ghost use Rattle.aig_format.specs.Writable.{AreTexts};
 ghost use Rattle.aig.specs.Gates.{IsGateOf};
@@ -405,7 +405,7 @@ impl Aig {
     pub fn fanin_logic_cone(&self, logic: &[AigEdge]) -> Result<Vec<bool>, MemoryError>
         requires { All (IsInRange self.now.nodes) logic.now }
         ensures { IfOk result (λ marks. MarksExactly self.now.nodes
-            (IsReached (IsOperand self.now.nodes) (map (λ e. e.node_id) logic.now)) marks.items) }
+            (IsReached (IsFanin self.now.nodes) (map (λ e. e.node_id) logic.now)) marks.items) }
     {
         aig_cone::fanin_logic_cone(self.allocator(), self.nodes(), logic)
     }

@@ -10,16 +10,16 @@ use Rattle.aig_circuit.specs.Circuit.{Circuit}
 use Rattle.aig_circuit.specs.Marks.{IsMarked}
 
 -- n is a gate, and m the node of one of its operands
-abbrev pub IsOperand : List AigNode → ℕ → ℕ → Type 0
-IsOperand nodes n m = (a b : AigEdge) × (kind_at nodes n ≡ Some (And a b)) × ((m ≡ a.node_id) ⊎ (m ≡ b.node_id))
+abbrev pub IsFanin : List AigNode → ℕ → ℕ → Type 0
+IsFanin nodes n m = (a b : AigEdge) × (kind_at nodes n ≡ Some (And a b)) × ((m ≡ a.node_id) ⊎ (m ≡ b.node_id))
 
 -- n is a latch's leaf, and m the node of its next edge
-abbrev pub IsNextState : List AigLatch → ℕ → ℕ → Type 0
-IsNextState latchs n m = (latch : AigLatch) × Contains latchs latch × (n ≡ latch.input) × (m ≡ latch.next.node_id)
+abbrev pub IsLatchNext : List AigLatch → ℕ → ℕ → Type 0
+IsLatchNext latchs n m = (latch : AigLatch) × Contains latchs latch × (n ≡ latch.input) × (m ≡ latch.next.node_id)
 
 -- m is an operand's node, or the node of a latch's next edge
-abbrev pub IsBefore : Circuit → ℕ → ℕ → Type 0
-IsBefore c n m = IsOperand c.nodes n m ⊎ IsNextState c.latchs n m
+abbrev pub DependsOn : Circuit → ℕ → ℕ → Type 0
+DependsOn c n m = IsFanin c.nodes n m ⊎ IsLatchNext c.latchs n m
 
 -- a path of such steps, perhaps of none, leads from one of the roots to the node
 pub data IsReached (Step : ℕ → ℕ → Type 0) (roots : List ℕ) : ℕ → Type 0 where
@@ -28,7 +28,7 @@ pub data IsReached (Step : ℕ → ℕ → Type 0) (roots : List ℕ) : ℕ → 
 
 -- the node is in the cone of the roots: it is 0, or it is reached along operands and next edges
 abbrev pub IsInCone : Circuit → List ℕ → ℕ → Type 0
-IsInCone c roots n = (n ≡ 0) ⊎ IsReached (IsBefore c) roots n
+IsInCone c roots n = (n ≡ 0) ⊎ IsReached (DependsOn c) roots n
 
 -- one mark a node, which is set exactly where P holds
 pub record MarksExactly (nodes : List AigNode) (P : ℕ → Type 0) (marks : List Bool) : Type 0 where

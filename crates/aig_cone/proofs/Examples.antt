@@ -12,7 +12,7 @@ use Rattle.aig_circuit.specs.declared.node.AigLatch.{AigLatch}
 use Rattle.aig_circuit.specs.Edge.{edge_to}
 use Rattle.aig_circuit.specs.Node.{kind_at}
 use Rattle.aig_circuit.specs.Circuit.{AreNodes, Circuit, IsCircuit, IsInRange, IsLeaf}
-use Rattle.aig_circuit.specs.Reach.{IsBefore, IsInCone, IsOperand, IsReached, root, step}
+use Rattle.aig_circuit.specs.Reach.{DependsOn, IsInCone, IsFanin, IsReached, root, step}
 use Rattle.aig_cone.specs.Refine.{AreKept, refined, refining_roots}
 use Rattle.aig_cone.proofs.Keeping.{reached_within}
 
@@ -86,31 +86,31 @@ abbrev latched : Circuit
 latched = circuit_with (node 0 False ∷ node 1 Leaf ∷ node 2 Leaf ∷ node 3 (And (edge_to 1 false) (edge_to 2 false)) ∷ []) (1 ∷ []) (next_of ∷ []) []
 
 -- over time latch 2 reaches its next edge, and the operands of that
-latched-root : IsReached (IsBefore latched) (2 ∷ []) 2
+latched-root : IsReached (DependsOn latched) (2 ∷ []) 2
 latched-root = root (0, omega arith, refl)
 
-latched-next : IsReached (IsBefore latched) (2 ∷ []) 3
+latched-next : IsReached (DependsOn latched) (2 ∷ []) 3
 latched-next = step latched-root (inr (next_of, (0, omega arith, refl), refl, refl))
 
-latched-operand : IsReached (IsBefore latched) (2 ∷ []) 1
+latched-operand : IsReached (DependsOn latched) (2 ∷ []) 1
 latched-operand = step latched-next (inl (edge_to 1 false, edge_to 2 false, refl, inl refl))
 
 -- along operands alone the leaf 2 reaches itself and nothing else
-latched-cone : (n : ℕ) → IsReached (IsOperand latched.nodes) (2 ∷ []) n → n ≡ 2
-latched-cone = reached_within (λ n. n ≡ 2) (only_one 2) (λ n m is below. absurd (leaf_ends m (subst (λ k. IsOperand latched.nodes k m) is below)))
+latched-cone : (n : ℕ) → IsReached (IsFanin latched.nodes) (2 ∷ []) n → n ≡ 2
+latched-cone = reached_within (λ n. n ≡ 2) (only_one 2) (λ n m is below. absurd (leaf_ends m (subst (λ k. IsFanin latched.nodes k m) is below)))
   where
-    leaf_ends : (m : ℕ) → IsOperand latched.nodes 2 m → ⊥
+    leaf_ends : (m : ℕ) → IsFanin latched.nodes 2 m → ⊥
     leaf_ends m (a, b, kind, which) = cc
 
 -- initial edges aren't followed
-started_by_input-cone : (n : ℕ) → IsReached (IsBefore started_by_input) (2 ∷ []) n → n ≡ 2
-started_by_input-cone = reached_within (λ n. n ≡ 2) (only_one 2) (λ n m is before. goes m (subst (λ k. IsBefore started_by_input k m) is before))
+started_by_input-cone : (n : ℕ) → IsReached (DependsOn started_by_input) (2 ∷ []) n → n ≡ 2
+started_by_input-cone = reached_within (λ n. n ≡ 2) (only_one 2) (λ n m is before. goes m (subst (λ k. DependsOn started_by_input k m) is before))
   where
     only_latch_of : (m : ℕ) (latch : AigLatch) → Contains started_by_input.latchs latch → m ≡ latch.next.node_id → m ≡ 2
     only_latch_of m latch (zero, h, is) to = to ∙ ap (λ (l : AigLatch). l.next.node_id) (sym is)
     only_latch_of m latch (suc k, h, is) to = absurd (omega arith)
 
-    goes : (m : ℕ) → IsBefore started_by_input 2 m → m ≡ 2
+    goes : (m : ℕ) → DependsOn started_by_input 2 m → m ≡ 2
     goes m (inl (a, b, kind, which)) = cc
     goes m (inr (latch, has, from, to)) = only_latch_of m latch has to
 
@@ -129,13 +129,13 @@ one_of_two-kept = record { rising = rises; exactly = λ n. (forth n, back n) }
     forth n (suc zero, h, is) = inr (root (0, omega arith, is))
     forth n (suc (suc k), h, is) = absurd (omega arith)
 
-    ends : (m : ℕ) → IsBefore one_of_two 2 m → m ≡ 2
+    ends : (m : ℕ) → DependsOn one_of_two 2 m → m ≡ 2
     ends m (inl (a, b, kind, which)) = cc
     ends m (inr (latch, (k, h, is), from, to)) = absurd (omega arith)
 
     back : (n : ℕ) → IsInCone one_of_two (2 ∷ []) n → Contains (0 ∷ 2 ∷ []) n
     back n (inl is) = (0, omega arith, sym is)
-    back n (inr reached) = (1, omega arith, sym (reached_within (λ n. n ≡ 2) (only_one 2) (λ k m is before. ends m (subst (λ j. IsBefore one_of_two j m) is before)) n reached))
+    back n (inr reached) = (1, omega arith, sym (reached_within (λ n. n ≡ 2) (only_one 2) (λ k m is before. ends m (subst (λ j. DependsOn one_of_two j m) is before)) n reached))
 
 -- two inputs are a circuit
 two_leaves-nodes : AreNodes two_leaves

@@ -16,7 +16,7 @@ use Rattle.aig_circuit.proofs.Trees.{kind_at-within}
 use Rattle.aig_renumber.specs.Numbers.{IsEdgeIn, IsLatchIn}
 use Rattle.aig_renumber.proofs.Numbering.{Numbers}
 use Rattle.aig_renumber.proofs.Places.{Contains-map, get_or-place_of, place_of-within, places-rise, rising-place, rising_from}
-use Rattle.aig_circuit.specs.Reach.{IsBefore, IsInCone, IsReached, root, step}
+use Rattle.aig_circuit.specs.Reach.{DependsOn, IsInCone, IsReached, root, step}
 use Rattle.aig_circuit.specs.Marks.{IsMarked}
 use Rattle.aig_cone.specs.Marks.{AreMarked}
 use Rattle.aig_cone.specs.Refine.{AreKept, refining_roots, variable_nodes}
@@ -53,7 +53,7 @@ module _ (c : Circuit) (is : IsCircuit c) where
   latch_at : (latch : AigLatch) → Contains c.latchs latch → IsLatch c.nodes latch
   latch_at latch has = subst (IsLatch c.nodes) has.2 (is.latchs has.0 latch has.1)
 
-  pub along : (n m : ℕ) → Within n → IsBefore c n m → Within m
+  pub along : (n m : ℕ) → Within n → DependsOn c n m → Within m
   along n m h (inl (a, b, kind, inl to)) = let low = is.nodes.ordered.first_before n a b kind in omega arith
   along n m h (inl (a, b, kind, inr to)) = let low = is.nodes.ordered.second_before n a b kind in omega arith
   along n m h (inr (latch, has, from, to)) = let there = (latch_at latch has).next in omega arith
@@ -95,7 +95,7 @@ module _ (c : Circuit) (kept : List ℕ) (is : IsCircuit c) (are : AreKept c kep
   abbrev pub S : ℕ → Type 0
   S n = Contains kept n
 
-  S-reached : (n : ℕ) → IsReached (IsBefore c) (refining_roots c) n → S n
+  S-reached : (n : ℕ) → IsReached (DependsOn c) (refining_roots c) n → S n
   S-reached n h = (are.exactly n).1 (inr h)
 
   S-root : (n : ℕ) → Contains (refining_roots c) n → S n

@@ -7,7 +7,7 @@ use Rattle.std.proofs.lemmas.List.Elements.{Contains-append_left, Contains-push,
 use Rattle.aig_circuit.specs.declared.node.AigNodeType.TheVariants.{And}
 use Rattle.aig_circuit.specs.declared.node.AigNode.{AigNode}
 use Rattle.aig_circuit.specs.Node.{IsOrdered}
-use Rattle.aig_circuit.specs.Reach.{IsOperand, IsReached, root, step}
+use Rattle.aig_circuit.specs.Reach.{IsFanin, IsReached, root, step}
 use Rattle.aig_circuit.proofs.Trees.{kind_at-within}
 use Rattle.aig_circuit.specs.Marks.{IsMarked}
 use Rattle.aig_cone.specs.Marks.{MarksAlso}
@@ -57,15 +57,15 @@ Contains-more xs i d x h is n =
 
 -- the roots are marked, and from node i on the operands of what is marked; nothing else is
 pub record MarkedDownTo (nodes : List AigNode) (roots : List ℕ) (marks : List Bool) (i : ℕ) : Type 0 where
-  pub only : (n : ℕ) → IsMarked marks n → IsReached (IsOperand nodes) roots n
+  pub only : (n : ℕ) → IsMarked marks n → IsReached (IsFanin nodes) roots n
   pub roots_marked : (n : ℕ) → Contains roots n → IsMarked marks n
-  pub closed : (n m : ℕ) → i ≤ n → IsMarked marks n → IsOperand nodes n m → IsMarked marks m
+  pub closed : (n m : ℕ) → i ≤ n → IsMarked marks n → IsFanin nodes n m → IsMarked marks m
 
-operand_below : (nodes : List AigNode) → IsOrdered nodes → (n m : ℕ) → IsOperand nodes n m → m < n
+operand_below : (nodes : List AigNode) → IsOrdered nodes → (n m : ℕ) → IsFanin nodes n m → m < n
 operand_below nodes o n m (a, b, kind, inl is) = let low = o.first_before n a b kind in omega arith
 operand_below nodes o n m (a, b, kind, inr is) = let low = o.second_before n a b kind in omega arith
 
-gate_within : (nodes : List AigNode) (n m : ℕ) → IsOperand nodes n m → n < length nodes
+gate_within : (nodes : List AigNode) (n m : ℕ) → IsFanin nodes n m → n < length nodes
 gate_within nodes n m (a, b, kind, which) = kind_at-within nodes n (And a b) kind
 
 pub MarkedDownTo-start : (nodes : List AigNode) (roots : List ℕ) (old new : List Bool) → ((n : ℕ) → ¬ IsMarked old n) → MarksAlso old new (Contains roots) → MarkedDownTo nodes roots new (length nodes)
@@ -75,7 +75,7 @@ MarkedDownTo-start nodes roots old new none marked = record {
   closed = λ n m h is operand. let low = gate_within nodes n m operand in absurd (omega arith);
 }
 
-pub MarkedDownTo-step : (nodes : List AigNode) (roots : List ℕ) (old new : List Bool) (i : ℕ) → IsOrdered nodes → MarkedDownTo nodes roots old (i + 1) → MarksAlso old new (λ n. IsMarked old i × IsOperand nodes i n) → MarkedDownTo nodes roots new i
+pub MarkedDownTo-step : (nodes : List AigNode) (roots : List ℕ) (old new : List Bool) (i : ℕ) → IsOrdered nodes → MarkedDownTo nodes roots old (i + 1) → MarksAlso old new (λ n. IsMarked old i × IsFanin nodes i n) → MarkedDownTo nodes roots new i
 MarkedDownTo-step nodes roots old new i o d marked = record {
   only = λ n m. elim ((marked n).0 m) [ inl was ↦ d.only n was | inr p ↦ step (d.only i p.0) p.1 ];
   roots_marked = λ n h. (marked n).1 (inl (d.roots_marked n h));
@@ -87,7 +87,7 @@ MarkedDownTo-step nodes roots old new i o d marked = record {
     | inr not_above ↦
         (let same : n ≡ i = omega arith in
         let here = subst (λ k. IsMarked new k) same is in
-        let operand_i = subst (λ k. IsOperand nodes k m) same operand in
+        let operand_i = subst (λ k. IsFanin nodes k m) same operand in
         elim ((marked i).0 here) [
           | inl was ↦ (marked m).1 (inr (was, operand_i))
           | inr p ↦ absurd (omega (arith, operand_below nodes o i i p.1))
@@ -96,6 +96,6 @@ MarkedDownTo-step nodes roots old new i o d marked = record {
 }
 
 -- all that is reached is marked in the end
-pub reached_is_marked : (nodes : List AigNode) (roots : List ℕ) (marks : List Bool) → MarkedDownTo nodes roots marks 0 → (n : ℕ) → IsReached (IsOperand nodes) roots n → IsMarked marks n
+pub reached_is_marked : (nodes : List AigNode) (roots : List ℕ) (marks : List Bool) → MarkedDownTo nodes roots marks 0 → (n : ℕ) → IsReached (IsFanin nodes) roots n → IsMarked marks n
 reached_is_marked nodes roots marks d n (root h) = d.roots_marked n h
 reached_is_marked nodes roots marks d n (step {n = k} reached operand) = d.closed k n (omega arith) (reached_is_marked nodes roots marks d k reached) operand

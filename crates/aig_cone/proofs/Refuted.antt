@@ -9,7 +9,7 @@ use Rattle.aig_circuit.specs.declared.node.AigNode.{AigNode}
 use Rattle.aig_circuit.specs.declared.node.AigLatch.{AigLatch}
 use Rattle.aig_circuit.specs.Edge.{edge_to}
 use Rattle.aig_circuit.specs.Circuit.{Circuit}
-use Rattle.aig_circuit.specs.Reach.{IsBefore, IsInCone, IsReached, root}
+use Rattle.aig_circuit.specs.Reach.{DependsOn, IsInCone, IsReached, root}
 use Rattle.aig_cone.specs.Refine.{AreKept}
 use Rattle.aig_cone.proofs.Keeping.{reached_within}
 
@@ -30,10 +30,10 @@ only_one m n (suc k, h, is) = absurd (omega arith)
 abbrev one_of_two : Circuit
 one_of_two = over_two (1 ∷ 2 ∷ []) [] (edge_to 2 false ∷ [])
 
-reaches_two : (n : ℕ) → IsReached (IsBefore one_of_two) (2 ∷ []) n → n ≡ 2
-reaches_two = reached_within (λ n. n ≡ 2) (only_one 2) (λ n m is before. ends m (subst (λ k. IsBefore one_of_two k m) is before))
+reaches_two : (n : ℕ) → IsReached (DependsOn one_of_two) (2 ∷ []) n → n ≡ 2
+reaches_two = reached_within (λ n. n ≡ 2) (only_one 2) (λ n m is before. ends m (subst (λ k. DependsOn one_of_two k m) is before))
   where
-    ends : (m : ℕ) → IsBefore one_of_two 2 m → m ≡ 2
+    ends : (m : ℕ) → DependsOn one_of_two 2 m → m ≡ 2
     ends m (inl (a, b, kind, which)) = cc
     ends m (inr (latch, (k, h, is), from, to)) = absurd (omega arith)
 

@@ -13,7 +13,7 @@ use Rattle.aig_circuit.specs.declared.node.AigNode.{AigNode}
 use Rattle.aig_circuit.specs.declared.node.AigLatch.{AigLatch}
 use Rattle.aig_circuit.specs.Node.{kind_at}
 use Rattle.aig_circuit.specs.Circuit.{Circuit, IsCircuit, IsLatch, latch_leaves}
-use Rattle.aig_circuit.specs.Reach.{IsBefore, IsInCone, IsNextState, IsOperand, IsReached, root, step}
+use Rattle.aig_circuit.specs.Reach.{DependsOn, IsInCone, IsLatchNext, IsFanin, IsReached, root, step}
 use Rattle.aig_circuit.proofs.Trees.{kind_at-within}
 use Rattle.aig_circuit.specs.Marks.{IsMarked}
 use Rattle.aig_cone.specs.Marks.{AreNextStates, Visits}
@@ -80,18 +80,18 @@ Visits-same P Q a b s t same p = record {
 }
 
 -- the operands of a gate
-pub Visits-operands : (nodes : List AigNode) (n : ℕ) (a b : AigEdge) (m0 m1 m2 : List Bool) (s0 s1 s2 : List ℕ) → kind_at nodes n ≡ Some (And a b) → Visits m0 m1 s0 s1 (λ k. k ≡ a.node_id) → Visits m1 m2 s1 s2 (λ k. k ≡ b.node_id) → Visits m0 m2 s0 s2 (IsOperand nodes n)
+pub Visits-operands : (nodes : List AigNode) (n : ℕ) (a b : AigEdge) (m0 m1 m2 : List Bool) (s0 s1 s2 : List ℕ) → kind_at nodes n ≡ Some (And a b) → Visits m0 m1 s0 s1 (λ k. k ≡ a.node_id) → Visits m1 m2 s1 s2 (λ k. k ≡ b.node_id) → Visits m0 m2 s0 s2 (IsFanin nodes n)
 Visits-operands nodes n a b m0 m1 m2 s0 s1 s2 gate first second =
-    Visits-same (λ k. (k ≡ a.node_id) ⊎ (k ≡ b.node_id)) (IsOperand nodes n) m0 m2 s0 s2 (λ k. ((λ e. (a, b, gate, e)), back k))
+    Visits-same (λ k. (k ≡ a.node_id) ⊎ (k ≡ b.node_id)) (IsFanin nodes n) m0 m2 s0 s2 (λ k. ((λ e. (a, b, gate, e)), back k))
     (Visits-then (λ k. k ≡ a.node_id) (λ k. k ≡ b.node_id) m0 m1 m2 s0 s1 s2 first second)
   where
-    back : (k : ℕ) → IsOperand nodes n k → (k ≡ a.node_id) ⊎ (k ≡ b.node_id)
+    back : (k : ℕ) → IsFanin nodes n k → (k ≡ a.node_id) ⊎ (k ≡ b.node_id)
     back k (x, y, kind, inl e) = let same = same_Some _ _ (sym kind ∙ gate) in inl (cc)
     back k (x, y, kind, inr e) = let same = same_Some _ _ (sym kind ∙ gate) in inr (cc)
 
 -- what isn't a gate has no operands
-pub Visits-no_operands : (nodes : List AigNode) (n : ℕ) (marks : List Bool) (stack : List ℕ) → ((a b : AigEdge) → kind_at nodes n ≢ Some (And a b)) → Visits marks marks stack stack (IsOperand nodes n)
-Visits-no_operands nodes n marks stack none = Visits-none (IsOperand nodes n) marks stack (λ m (a, b, kind, which). none a b kind)
+pub Visits-no_operands : (nodes : List AigNode) (n : ℕ) (marks : List Bool) (stack : List ℕ) → ((a b : AigEdge) → kind_at nodes n ≢ Some (And a b)) → Visits marks marks stack stack (IsFanin nodes n)
+Visits-no_operands nodes n marks stack none = Visits-none (IsFanin nodes n) marks stack (λ m (a, b, kind, which). none a b kind)
 
 -- the node that the table gives
 pub Visits-given : (table : List (Option ℕ)) (n next : ℕ) (old new : List Bool) (stack stacked : List ℕ) → get_or table n None ≡ Some next → Visits old new stack stacked (λ k. k ≡ next) → Visits old new stack stacked (λ m. get_or table n None ≡ Some m)
@@ -102,10 +102,10 @@ Visits-given table n next old new stack stacked given v =
 
 -- all that is marked is reached, and what comes before a marked node is marked unless that node is still on the stack
 pub record Following (c : Circuit) (roots : List ℕ) (marks : List Bool) (stack : List ℕ) : Type 0 where
-  pub only : (n : ℕ) → IsMarked marks n → IsReached (IsBefore c) roots n
+  pub only : (n : ℕ) → IsMarked marks n → IsReached (DependsOn c) roots n
   pub roots_marked : (n : ℕ) → Contains roots n → IsMarked marks n
   pub stacked : (n : ℕ) → Contains stack n → IsMarked marks n
-  pub closed : (n m : ℕ) → IsMarked marks n → IsBefore c n m → Contains stack n ⊎ IsMarked marks m
+  pub closed : (n m : ℕ) → IsMarked marks n → DependsOn c n m → Contains stack n ⊎ IsMarked marks m
 
 pub Following-start : (c : Circuit) (roots : List ℕ) (marks : List Bool) → ((n : ℕ) → IsMarked marks n ↔ Contains roots n) → Following c roots marks roots
 Following-start c roots marks same = record {
@@ -116,7 +116,7 @@ Following-start c roots marks same = record {
 }
 
 -- the node on top is followed
-pub Following-step : (c : Circuit) (roots : List ℕ) (old new : List Bool) (stack popped stacked : List ℕ) (id : ℕ) → Following c roots old stack → stack ≡ popped ++ id ∷ [] → Visits old new popped stacked (IsBefore c id) → Following c roots new stacked
+pub Following-step : (c : Circuit) (roots : List ℕ) (old new : List Bool) (stack popped stacked : List ℕ) (id : ℕ) → Following c roots old stack → stack ≡ popped ++ id ∷ [] → Visits old new popped stacked (DependsOn c id) → Following c roots new stacked
 Following-step c roots old new stack popped stacked id f top v = record {
   only = λ n m. elim ((v.marks n).0 m) [ inl was ↦ f.only n was | inr before ↦ step (f.only id top_marked) before ];
   roots_marked = λ n h. (v.marks n).1 (inl (f.roots_marked n h));
@@ -127,7 +127,7 @@ Following-step c roots old new stack popped stacked id f top v = record {
       | inr marked ↦ inr ((v.marks m).1 (inl marked))
       | inl had ↦ elim (Contains-push_cases popped id n (subst (λ s. Contains s n) top had)) [
         | inl left ↦ inl (v.kept n left)
-        | inr e ↦ inr ((v.marks m).1 (inr (subst (λ k. IsBefore c k m) (sym e) before)))
+        | inr e ↦ inr ((v.marks m).1 (inr (subst (λ k. DependsOn c k m) (sym e) before)))
       ]
     ]
   ];
@@ -143,10 +143,10 @@ pub kind-of : (nodes : List AigNode) (n : ℕ) (d : AigNode) (kind : AigNodeType
 kind-of nodes n d kind h is = ap (option_map (λ (x : AigNode). x.typ)) (slice_get-get_or nodes n d h) ∙ ap Some is
 
 -- with nothing on the stack all that is reached is marked
-pub Following-end : (c : Circuit) (roots : List ℕ) (marks : List Bool) (stack : List ℕ) → Following c roots marks stack → stack ≡ [] → (n : ℕ) → IsMarked marks n ↔ IsReached (IsBefore c) roots n
+pub Following-end : (c : Circuit) (roots : List ℕ) (marks : List Bool) (stack : List ℕ) → Following c roots marks stack → stack ≡ [] → (n : ℕ) → IsMarked marks n ↔ IsReached (DependsOn c) roots n
 Following-end c roots marks stack f none n = (f.only n, all n)
   where
-    all : (n : ℕ) → IsReached (IsBefore c) roots n → IsMarked marks n
+    all : (n : ℕ) → IsReached (DependsOn c) roots n → IsMarked marks n
     all n (root h) = f.roots_marked n h
     all n (step {n = k} reached before) = elim (f.closed k n (all k reached) before) [
       | inl has ↦ absurd (let empty = subst (λ s. Contains s k) none has in omega (arith, empty.1))
@@ -156,7 +156,7 @@ Following-end c roots marks stack f none n = (f.only n, all n)
 -- ---- the cone of 0 and the roots
 
 -- nothing comes before 0
-none_before_0 : (c : Circuit) → IsCircuit c → (m : ℕ) → ¬ IsBefore c 0 m
+none_before_0 : (c : Circuit) → IsCircuit c → (m : ℕ) → ¬ DependsOn c 0 m
 none_before_0 c is m (inl (a, b, kind, which)) = let same = same_Some _ _ (sym is.nodes.false_first ∙ kind) in cc
 none_before_0 c is m (inr (latch, has, from, to)) =
     let leaf = subst (λ (l : AigLatch). IsLatch c.nodes l) has.2 (is.latchs has.0 latch has.1) in
@@ -164,21 +164,21 @@ none_before_0 c is m (inr (latch, has, from, to)) =
     cc
 
 -- what is reached from 0 and the roots is the cone of the roots
-pub IsInCone-reached : (c : Circuit) (roots all : List ℕ) → IsCircuit c → ((n : ℕ) → Contains all n ↔ ((n ≡ 0) ⊎ Contains roots n)) → (n : ℕ) → IsReached (IsBefore c) all n ↔ IsInCone c roots n
+pub IsInCone-reached : (c : Circuit) (roots all : List ℕ) → IsCircuit c → ((n : ℕ) → Contains all n ↔ ((n ≡ 0) ⊎ Contains roots n)) → (n : ℕ) → IsReached (DependsOn c) all n ↔ IsInCone c roots n
 IsInCone-reached c roots all is same n = (forth n, back n)
   where
-    forth : (n : ℕ) → IsReached (IsBefore c) all n → IsInCone c roots n
+    forth : (n : ℕ) → IsReached (DependsOn c) all n → IsInCone c roots n
     forth n (root h) = elim ((same n).0 h) [ inl e ↦ inl e | inr has ↦ inr (root has) ]
     forth n (step {n = k} reached before) = elim (forth k reached) [
-      | inl e ↦ absurd (none_before_0 c is n (subst (λ j. IsBefore c j n) e before))
+      | inl e ↦ absurd (none_before_0 c is n (subst (λ j. DependsOn c j n) e before))
       | inr there ↦ inr (step there before)
     ]
 
-    from_roots : (n : ℕ) → IsReached (IsBefore c) roots n → IsReached (IsBefore c) all n
+    from_roots : (n : ℕ) → IsReached (DependsOn c) roots n → IsReached (DependsOn c) all n
     from_roots n (root h) = root ((same n).1 (inr h))
     from_roots n (step {n = k} reached before) = step (from_roots k reached) before
 
-    back : (n : ℕ) → IsInCone c roots n → IsReached (IsBefore c) all n
+    back : (n : ℕ) → IsInCone c roots n → IsReached (DependsOn c) all n
     back n (inl e) = root ((same n).1 (inl e))
     back n (inr reached) = from_roots n reached
 
@@ -187,7 +187,7 @@ IsInCone-reached c roots all is same n = (forth n, back n)
 -- at the place of each leaf of these latches stands the node of its next edge, and elsewhere nothing
 pub record HoldNext (nodes : List AigNode) (latchs : List AigLatch) (table : List (Option ℕ)) : Type 0 where
   pub count : length table ≡ length nodes
-  pub exactly : (n m : ℕ) → (get_or table n None ≡ Some m) ↔ IsNextState latchs n m
+  pub exactly : (n m : ℕ) → (get_or table n None ≡ Some m) ↔ IsLatchNext latchs n m
 
 abbrev the_none : Option ℕ
 the_none = None
@@ -237,13 +237,13 @@ module _ (nodes : List AigNode) (latchs : List AigLatch) (i : ℕ) (d : AigLatch
       let last : get_or (latch_leaves latchs) i 0 ≡ latch.input = get_or-map input latchs i d 0 h in
       distinct k i 0 low_i second (first ∙ same ∙ sym last)
 
-  forth_here : (n m : ℕ) → n ≡ latch.input → get_or now n None ≡ Some m → IsNextState (take (i + 1) latchs) n m
+  forth_here : (n m : ℕ) → n ≡ latch.input → get_or now n None ≡ Some m → IsLatchNext (take (i + 1) latchs) n m
   forth_here n m e is =
       let set_to : get_or now n None ≡ Some latch.next.node_id = rw (e, get_or-set_same) refl in
       let same : latch.next.node_id ≡ m = same_Some _ _ (sym set_to ∙ is) in
       (latch, rw more (Contains-push (take i latchs) latch), e, sym same)
 
-  back_here : (n m : ℕ) → n ≡ latch.input → IsNextState (take (i + 1) latchs) n m → get_or now n None ≡ Some m
+  back_here : (n m : ℕ) → n ≡ latch.input → IsLatchNext (take (i + 1) latchs) n m → get_or now n None ≡ Some m
   back_here n m e (other, has, from, to) =
       let set_to : get_or now n None ≡ Some latch.next.node_id = rw (e, get_or-set_same) refl in
       elim (Contains-push_cases (take i latchs) latch other (subst (λ ls. Contains ls other) more has)) [
@@ -251,13 +251,13 @@ module _ (nodes : List AigNode) (latchs : List AigLatch) (i : ℕ) (d : AigLatch
         | inr is ↦ set_to ∙ ap (λ (l : AigLatch). Some l.next.node_id) is ∙ ap Some (sym to)
       ]
 
-  forth_other : (n m : ℕ) → n ≢ latch.input → get_or now n None ≡ Some m → IsNextState (take (i + 1) latchs) n m
+  forth_other : (n m : ℕ) → n ≢ latch.input → get_or now n None ≡ Some m → IsLatchNext (take (i + 1) latchs) n m
   forth_other n m ne is =
       let old : get_or table n None ≡ Some m = rw get_or-set_other at is in
       let r = (so_far.exactly n m).0 old in
       (r.0, rw more (Contains-append_left (take i latchs) (latch ∷ []) r.0 r.1), r.2, r.3)
 
-  back_other : (n m : ℕ) → n ≢ latch.input → IsNextState (take (i + 1) latchs) n m → get_or now n None ≡ Some m
+  back_other : (n m : ℕ) → n ≢ latch.input → IsLatchNext (take (i + 1) latchs) n m → get_or now n None ≡ Some m
   back_other n m ne (other, has, from, to) =
       elim (Contains-push_cases (take i latchs) latch other (subst (λ ls. Contains ls other) more has)) [
         | inl earlier ↦ rw get_or-set_other ((so_far.exactly n m).1 (other, earlier, from, to))
@@ -279,13 +279,13 @@ next_within c table is are n m h =
     omega (arith, r.3)
 
 -- what comes before a node
-pub Visits-before : (c : Circuit) (table : List (Option ℕ)) → AreNextStates c table → (n : ℕ) (m0 m1 m2 : List Bool) (s0 s1 s2 : List ℕ) → Visits m0 m1 s0 s1 (IsOperand c.nodes n) → Visits m1 m2 s1 s2 (λ m. get_or table n None ≡ Some m) → Visits m0 m2 s0 s2 (IsBefore c n)
+pub Visits-before : (c : Circuit) (table : List (Option ℕ)) → AreNextStates c table → (n : ℕ) (m0 m1 m2 : List Bool) (s0 s1 s2 : List ℕ) → Visits m0 m1 s0 s1 (IsFanin c.nodes n) → Visits m1 m2 s1 s2 (λ m. get_or table n None ≡ Some m) → Visits m0 m2 s0 s2 (DependsOn c n)
 Visits-before c table are n m0 m1 m2 s0 s1 s2 operands next =
-    Visits-same (λ m. IsOperand c.nodes n m ⊎ (get_or table n None ≡ Some m)) (IsBefore c n) m0 m2 s0 s2 (λ m. (
+    Visits-same (λ m. IsFanin c.nodes n m ⊎ (get_or table n None ≡ Some m)) (DependsOn c n) m0 m2 s0 s2 (λ m. (
       λ h. elim h [ inl operand ↦ inl operand | inr given ↦ inr ((are.exactly n m).0 given) ],
       λ h. elim h [ inl operand ↦ inl operand | inr given ↦ inr ((are.exactly n m).1 given) ],
     ))
-    (Visits-then (IsOperand c.nodes n) (λ m. get_or table n None ≡ Some m) m0 m1 m2 s0 s1 s2 operands next)
+    (Visits-then (IsFanin c.nodes n) (λ m. get_or table n None ≡ Some m) m0 m1 m2 s0 s1 s2 operands next)
 
 -- what is on the stack after 0 and the roots are visited
 pub stacked-start : (old first marks : List Bool) (stack second : List ℕ) (roots : List ℕ) → ((n : ℕ) → ¬ IsMarked old n) → Visits old first [] stack (λ n. n ≡ 0) → Visits first marks stack second (Contains roots)

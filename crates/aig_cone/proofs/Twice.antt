@@ -14,7 +14,7 @@ use Rattle.aig_circuit.specs.Edge.{literal_of}
 use Rattle.aig_circuit.specs.Node.{and_of, kind_at}
 use Rattle.aig_circuit.specs.Circuit.{Circuit, IsCircuit, latch_leaves}
 use Rattle.aig_circuit.specs.Edges.{initial_edges, property_edges}
-use Rattle.aig_circuit.specs.Reach.{IsBefore, IsInCone, IsOperand, IsReached, root, step}
+use Rattle.aig_circuit.specs.Reach.{DependsOn, IsInCone, IsFanin, IsReached, root, step}
 use Rattle.aig_circuit.specs.Renumber.{is_in, only_kept, place_of, renumbered_circuit, renumbered_edge, renumbered_kind, renumbered_latch}
 use Rattle.aig_circuit.proofs.Building.{and_of-cases}
 use Rattle.aig_circuit.proofs.Trees.{kind_at-within}
@@ -146,7 +146,7 @@ module _ (c : Circuit) (kept : List ℕ) (is : IsCircuit c) (are : AreKept c kep
           subst (λ m. Contains (latch_leaves (map f c.latchs)) m) (ap number r.2)
           (Contains-map (λ (l : AigLatch). l.input) (map f c.latchs) (f r.0) (Contains-map f c.latchs r.0 r.1))
 
-  step_follows : (n m : ℕ) → Contains kept n → IsBefore c n m → IsBefore new (number n) (number m)
+  step_follows : (n m : ℕ) → Contains kept n → DependsOn c n m → DependsOn new (number n) (number m)
   step_follows n m s (inl (a, b, kind, which)) = inl (operand (and_of-cases first second))
     where
       there : number n < length kept
@@ -161,12 +161,12 @@ module _ (c : Circuit) (kept : List ℕ) (is : IsCircuit c) (are : AreKept c kep
       second : AigEdge
       second = renumbered_edge number b
 
-      operand : ((and_of first second ≡ And second first) × (literal_of second < literal_of first)) ⊎ ((and_of first second ≡ And first second) × (literal_of first ≤ literal_of second)) → IsOperand new.nodes (number n) (number m)
+      operand : ((and_of first second ≡ And second first) × (literal_of second < literal_of first)) ⊎ ((and_of first second ≡ And first second) × (literal_of first ≤ literal_of second)) → IsFanin new.nodes (number n) (number m)
       operand (inl turned) = (second, first, made ∙ ap Some turned.0, elim which [ inl e ↦ inr (ap number e) | inr e ↦ inl (ap number e) ])
       operand (inr same) = (first, second, made ∙ ap Some same.0, elim which [ inl e ↦ inl (ap number e) | inr e ↦ inr (ap number e) ])
   step_follows n m s (inr (latch, has, from, to)) = inr (renumbered_latch number latch, Contains-map (renumbered_latch number) c.latchs latch has, ap number from, ap number to)
 
-  reached_follows : (n : ℕ) → IsReached (IsBefore c) (refining_roots c) n → IsReached (IsBefore new) (refining_roots new) (number n)
+  reached_follows : (n : ℕ) → IsReached (DependsOn c) (refining_roots c) n → IsReached (DependsOn new) (refining_roots new) (number n)
   reached_follows n (root has) = root (root_follows n has)
   reached_follows n (step {n = k} reached before) = step (reached_follows k reached) (step_follows k n ((are.exactly k).1 (inr reached)) before)
 
@@ -177,7 +177,7 @@ module _ (c : Circuit) (kept : List ℕ) (is : IsCircuit c) (are : AreKept c kep
       let place : number n ≡ i = (Numbers-kept c kept is are).place i h in
       elim ((are.exactly n).0 (Contains-get_or kept i 0 h)) [
         | inl zero_is ↦ inl (sym place ∙ ap number zero_is ∙ zero_first)
-        | inr reached ↦ inr (subst (λ k. IsReached (IsBefore new) (refining_roots new) k) place (reached_follows n reached))
+        | inr reached ↦ inr (subst (λ k. IsReached (DependsOn new) (refining_roots new) k) place (reached_follows n reached))
       ]
 
   -- all its numbers are kept

@@ -3,7 +3,7 @@
 use Rattle.std.specs.Prelude.{◌≡◌, ℕ, ◌+◌, ◌<◌, ◌⊎◌, ◌↔◌, Bool, if◌then◌else◌, Option, Some, None, List, length, sum_by, AllPairs, Contains, slice_index_or}
 use Rattle.aig_circuit.specs.Circuit.{Circuit}
 use Rattle.aig_circuit.specs.Marks.{IsMarked}
-use Rattle.aig_circuit.specs.Reach.{IsNextState}
+use Rattle.aig_circuit.specs.Reach.{IsLatchNext}
 
 -- the nodes of which P holds are marked too, and nothing else
 abbrev pub MarksAlso : List Bool → List Bool → (ℕ → Type 0) → Type 0
@@ -24,7 +24,7 @@ pub record Visits (old new : List Bool) (stack stacked : List ℕ) (P : ℕ → 
 -- at the place of each latch's leaf stands the node of the latch's next edge, and elsewhere nothing
 pub record AreNextStates (c : Circuit) (table : List (Option ℕ)) : Type 0 where
   pub count : length table ≡ length c.nodes
-  pub exactly : (n m : ℕ) → (slice_index_or table n None ≡ Some m) ↔ IsNextState c.latchs n m
+  pub exactly : (n m : ℕ) → (slice_index_or table n None ≡ Some m) ↔ IsLatchNext c.latchs n m
 
 -- the marked numbers in rising order
 pub record AreMarked (marks : List Bool) (numbers : List ℕ) : Type 0 where

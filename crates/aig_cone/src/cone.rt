@@ -2,7 +2,7 @@
 
 ghost use Rattle.std.specs.Prelude.{◌≡◌, ◌<◌, ◌↔◌, ℕ, IfOk, All, Contains, length, map};
 ghost use Rattle.aig_circuit.specs.Circuit.{AreNodes, IsInRange};
-ghost use Rattle.aig_circuit.specs.Reach.{IsInCone, IsOperand, IsReached, MarksExactly};
+ghost use Rattle.aig_circuit.specs.Reach.{IsInCone, IsFanin, IsReached, MarksExactly};
 ghost use Rattle.aig_circuit.specs.Marks.{IsMarked};
 ghost use Rattle.aig_cone.specs.Marks.{MarksAlso};
 
@@ -24,7 +24,7 @@ pub fn fanin_logic_cone(
     requires sound { AreNodes nodes.now }
     requires there { All (IsInRange nodes.now) logic.now }
     ensures { IfOk result (λ marks. MarksExactly nodes.now
-        (IsReached (IsOperand nodes.now) (map (λ e. e.node_id) logic.now)) marks.items) }
+        (IsReached (IsFanin nodes.now) (map (λ e. e.node_id) logic.now)) marks.items) }
 {
     let mut marks = vec![in alloc; false; nodes.len()]?;
     mark_cone(&mut marks, nodes, logic);
@@ -38,7 +38,7 @@ fn mark_cone(marks: &mut [bool], nodes: &[AigNode], logic: &[AigEdge])
     requires lengths { length marks.old ≡ length nodes.now }
     requires unmarked { (n : ℕ) → ¬ IsMarked marks.old n }
     ensures { (n : ℕ) → IsMarked marks.new n
-        ↔ IsReached (IsOperand nodes.now) (map (λ e. e.node_id) logic.now) n }
+        ↔ IsReached (IsFanin nodes.now) (map (λ e. e.node_id) logic.now) n }
 {
     mark_edges(marks, logic);
     for id in (0..nodes.len()).rev() {
@@ -52,7 +52,7 @@ fn mark_operands(marks: &mut [bool], nodes: &[AigNode], id: usize)
     requires lengths { length marks.old ≡ length nodes.now }
     requires there { id < length nodes.now }
     ensures { MarksAlso marks.old marks.new
-        (λ n. IsMarked marks.old id × IsOperand nodes.now id n) }
+        (λ n. IsMarked marks.old id × IsFanin nodes.now id n) }
 {
     if marks[id]
         && let AigNodeType::And(fanin0, fanin1) = *nodes[id].typ()

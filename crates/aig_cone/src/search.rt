@@ -2,7 +2,7 @@
 
 ghost use Rattle.std.specs.Prelude.{◌≡◌, ◌<◌, ◌↔◌, ℕ, None, Some, All, Contains, IfOk, OnOk, length, slice_index_or};
 ghost use Rattle.aig_circuit.specs.Circuit.{AreNodes, IsCircuit};
-ghost use Rattle.aig_circuit.specs.Reach.{IsBefore, IsInCone, IsOperand, IsReached};
+ghost use Rattle.aig_circuit.specs.Reach.{DependsOn, IsInCone, IsFanin, IsReached};
 ghost use Rattle.aig_circuit.specs.Marks.{IsMarked};
 ghost use Rattle.aig_cone.specs.Marks.{AreNextStates, Visits};
 
@@ -94,7 +94,7 @@ fn visit_operands(
     requires lengths { length marks.old ≡ length nodes.now }
     requires there { id < length nodes.now }
     ensures { OnOk result (Visits marks.old marks.new stack.old.items stack.new.items
-        (IsOperand nodes.now id)) }
+        (IsFanin nodes.now id)) }
 {
     if let AigNodeType::And(fanin0, fanin1) = *nodes[id].typ() {
         visit(marks, stack, fanin0.node_id())?;
@@ -135,7 +135,7 @@ fn visit_before(
     requires lengths { length marks.old ≡ length circuit.now.nodes }
     requires there { id < length circuit.now.nodes }
     ensures { OnOk result (Visits marks.old marks.new stack.old.items stack.new.items
-        (IsBefore circuit.now id)) }
+        (DependsOn circuit.now id)) }
 {
     visit_operands(marks, stack, circuit.nodes(), id)?;
     visit_next(marks, stack, next_states, id)
@@ -153,7 +153,7 @@ fn follow(
     requires lengths { length marks.old ≡ length circuit.now.nodes }
     requires stacked { (n : ℕ) → IsMarked marks.old n ↔ Contains stack.old.items n }
     ensures { OnOk result ((n : ℕ) →
-        IsMarked marks.new n ↔ IsReached (IsBefore circuit.now) stack.old.items n) }
+        IsMarked marks.new n ↔ IsReached (DependsOn circuit.now) stack.old.items n) }
 {
     while let Some(id) = stack.pop() {
         visit_before(marks, stack, circuit, next_states, id)?;
