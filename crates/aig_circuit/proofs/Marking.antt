@@ -7,22 +7,22 @@ use Rattle.std.proofs.lemmas.Bool.{cases_eq}
 use Rattle.std.proofs.lemmas.List.{take_more, flat_map_more, map-append, get_or-map, length-map}
 use Rattle.std.proofs.lemmas.List.Elements.{Contains-append_left, Contains-append_right, Contains-append_cases, Contains-push, Contains-push_cases, All-contains, All-map}
 use Rattle.aig_circuit.specs.declared.edge.AigEdge.{AigEdge}
-use Rattle.aig_circuit.specs.Edges.{Names}
+use Rattle.aig_circuit.specs.Edges.{ReferTo}
 use Rattle.aig_circuit.specs.Marks.{IsMarked, MarksToo}
 
 -- what holds of the node of each edge holds of each node that they name
-pub named_has : (P : ℕ → Type 0) (es : List AigEdge) (n : ℕ) → All (λ e. P e.node_id) es → Names es n → P n
+pub named_has : (P : ℕ → Type 0) (es : List AigEdge) (n : ℕ) → All (λ e. P e.node_id) es → ReferTo es n → P n
 named_has P es n all named = All-contains P (map (λ (e : AigEdge). e.node_id) es) n (All-map P (λ (e : AigEdge). e.node_id) es all) named
 
-pub each_named : (P : ℕ → Type 0) (es : List AigEdge) → ((n : ℕ) → Names es n → P n) → All (λ e. P e.node_id) es
+pub each_named : (P : ℕ → Type 0) (es : List AigEdge) → ((n : ℕ) → ReferTo es n → P n) → All (λ e. P e.node_id) es
 each_named P es each k d h =
     let within : k < length (map (λ (e : AigEdge). e.node_id) es) = rw length-map h in
     each (get_or es k d).node_id (k, within, get_or-map (λ (e : AigEdge). e.node_id) es k d (get_or es k d).node_id h)
 
-none_named : (n : ℕ) → ¬ Names [] n
+none_named : (n : ℕ) → ¬ ReferTo [] n
 none_named n (k, h, e) = absurd (omega arith)
 
-named_append : (es fs : List AigEdge) (n : ℕ) → Names (es ++ fs) n ↔ (Names es n ⊎ Names fs n)
+named_append : (es fs : List AigEdge) (n : ℕ) → ReferTo (es ++ fs) n ↔ (ReferTo es n ⊎ ReferTo fs n)
 named_append es fs n =
     let numbers = map (λ (e : AigEdge). e.node_id) in
     let both : numbers (es ++ fs) ≡ numbers es ++ numbers fs = map-append (λ (e : AigEdge). e.node_id) es fs in (
@@ -30,7 +30,7 @@ named_append es fs n =
       λ h. subst (λ ns. Contains ns n) (sym both) (elim h [ inl l ↦ Contains-append_left (numbers es) (numbers fs) n l | inr r ↦ Contains-append_right (numbers es) (numbers fs) n r ]),
     )
 
-named_one : (e : AigEdge) (n : ℕ) → Names (e ∷ []) n ↔ (e.node_id ≡ n)
+named_one : (e : AigEdge) (n : ℕ) → ReferTo (e ∷ []) n ↔ (e.node_id ≡ n)
 named_one e n = (
   λ h. elim (Contains-push_cases [] e.node_id n h) [ inl l ↦ absurd (none_named n l) | inr r ↦ r ],
   λ h. subst (Contains (e.node_id ∷ [])) h (Contains-push [] e.node_id),

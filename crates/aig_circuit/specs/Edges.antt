@@ -12,8 +12,8 @@ abbrev pub nodes_of : List AigEdge → List ℕ
 nodes_of es = map (λ e. e.node_id) es
 
 -- one of the edges names node n
-abbrev pub Names : List AigEdge → ℕ → Type 0
-Names es n = Contains (nodes_of es) n
+abbrev pub ReferTo : List AigEdge → ℕ → Type 0
+ReferTo es n = Contains (nodes_of es) n
 
 -- the edges of all properties
 abbrev pub property_edges : Circuit → List AigEdge

@@ -2,7 +2,7 @@
 -- Marks of nodes: one truth value a node.
 use Rattle.std.specs.Prelude.{◌<◌, ◌⊎◌, ◌↔◌, ℕ, Bool, false, IsTrue, List, length, All, slice_index_or}
 use Rattle.aig_circuit.specs.declared.edge.AigEdge.{AigEdge}
-use Rattle.aig_circuit.specs.Edges.{Names}
+use Rattle.aig_circuit.specs.Edges.{ReferTo}
 
 -- node n is marked
 abbrev pub IsMarked : List Bool → ℕ → Type 0
@@ -14,4 +14,4 @@ HasMarks marks es = All (λ e. e.node_id < length marks) es
 
 -- what the edges name is marked too, and nothing else
 abbrev pub MarksToo : List Bool → List Bool → List AigEdge → Type 0
-MarksToo old new es = (n : ℕ) → IsMarked new n ↔ (IsMarked old n ⊎ Names es n)
+MarksToo old new es = (n : ℕ) → IsMarked new n ↔ (IsMarked old n ⊎ ReferTo es n)

@@ -22,7 +22,7 @@ use Rattle.aig_circuit.proofs.Trees.{by_smaller, kind_at-there, node_value-false
 use Rattle.aig_cnf.specs.declared.form.Form.{Form}
 use Rattle.aig_cnf.specs.declared.form.Form.TheVariants.{AndOf, XorOf, IteOf}
 use Rattle.aig_cnf.specs.Cnf.{edge_in, form_value, clauses_of, HasForm, plain, xor, ite, other, IsXor, IsIte, NeedsClauses, edges_of_form, HasClauses, IsFixed, FixesRoots, NodeValuesSatisfy}
-use Rattle.aig_circuit.specs.Edges.{Names, latch_edges, roots_of}
+use Rattle.aig_circuit.specs.Edges.{ReferTo, latch_edges, roots_of}
 use Rattle.aig_circuit.specs.Reach.{root, step}
 use Rattle.aig_circuit.proofs.Marking.{each_named}
 use Rattle.aig_cnf.proofs.Forms.{clauses-say, node_value-HasForm}
@@ -70,7 +70,7 @@ true_at v lists n clauses sat is =
     subst (λ (cs : List (List Lit)). IsTrue (are_true v cs)) (get_or_from_slice_get lists n clauses [] is) (sat n [] (slice_get_within lists n clauses is))
 
 -- edges whose nodes have the circuit's values have them too
-edges_agree : (nodes : List AigNode) (v : ℕ → Bool) (es : List AigEdge) → ((n : ℕ) → Names es n → v n ≡ node_value nodes v n) → All (λ e. edge_in v e ≡ edge_value nodes v e) es
+edges_agree : (nodes : List AigNode) (v : ℕ → Bool) (es : List AigEdge) → ((n : ℕ) → ReferTo es n → v n ≡ node_value nodes v n) → All (λ e. edge_in v e ≡ edge_value nodes v e) es
 edges_agree nodes v es same k d h = ap (inverted_if (get_or es k d).compl) (each_named (λ n. v n ≡ node_value nodes v n) es same k d h)
 
 -- unit clauses say that a variable is false
@@ -93,7 +93,7 @@ needed_has_value c optimize lists is has v sat n below needed =
     gate : (form : Form) → HasForm c.nodes optimize n form → v n ≡ node_value c.nodes v n
     gate form f =
         let says = (clauses-say v n form).0 (true_at v lists n (clauses_of n form) sat (has.needed n form needed f)) in
-        let same : (m : ℕ) → Names (edges_of_form form) m → v m ≡ node_value c.nodes v m = λ m named.
+        let same : (m : ℕ) → ReferTo (edges_of_form form) m → v m ≡ node_value c.nodes v m = λ m named.
         below m (named_below c.nodes is.nodes.ordered optimize n m (form, f, named)) (step needed (form, f, named)) in
         says ∙ form_value-agrees v (node_value c.nodes v) form (edges_agree c.nodes v (edges_of_form form) same) ∙ sym (node_value-HasForm c.nodes is.nodes.ordered optimize v n form f)
 

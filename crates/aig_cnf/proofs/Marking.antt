@@ -8,7 +8,7 @@ use Rattle.aig_circuit.specs.Node.{IsOrdered}
 use Rattle.aig_circuit.specs.Circuit.{IsInRange}
 use Rattle.aig_cnf.specs.declared.form.Form.{Form}
 use Rattle.aig_cnf.specs.Cnf.{HasForm, FormNames, NeedsClauses, edges_of_form}
-use Rattle.aig_circuit.specs.Edges.{Names}
+use Rattle.aig_circuit.specs.Edges.{ReferTo}
 use Rattle.aig_circuit.specs.Marks.{IsMarked, MarksToo}
 use Rattle.aig_circuit.specs.Reach.{root, step}
 use Rattle.aig_cnf.specs.Marks.{MarksNeeded}
@@ -19,7 +19,7 @@ use Rattle.aig_cnf.proofs.Needing.{named_below, needed_within}
 pub record MarkedDownTo (nodes : List AigNode) (optimize : Bool) (roots : List AigEdge) (marks : List Bool) (i : ℕ) : Type 0 where
   pub count : length marks ≡ length nodes
   pub only : (n : ℕ) → IsMarked marks n → NeedsClauses nodes optimize roots n
-  pub roots_marked : (n : ℕ) → Names roots n → IsMarked marks n
+  pub roots_marked : (n : ℕ) → ReferTo roots n → IsMarked marks n
   pub closed : (n m : ℕ) → i ≤ n → n < length nodes → IsMarked marks n → FormNames nodes optimize n m → IsMarked marks m
 
 pub MarkedDownTo-start : (nodes : List AigNode) (optimize : Bool) (roots : List AigEdge) (old new : List Bool) → length new ≡ length nodes → ((n : ℕ) → ¬ IsMarked old n) → MarksToo old new roots → MarkedDownTo nodes optimize roots new (length nodes)
@@ -63,6 +63,6 @@ MarksNeeded-form nodes optimize old new n form mark has marked m = (
   λ h. elim ((marked m).0 h) [ inl was ↦ inl was | inr named ↦ inr (mark, (form, has, named)) ],
   λ h. elim h [
     | inl was ↦ (marked m).1 (inl was)
-    | inr p ↦ (marked m).1 (inr (subst (λ f. Names (edges_of_form f) m) (form_unique nodes optimize n p.1.0 form p.1.1 has) p.1.2))
+    | inr p ↦ (marked m).1 (inr (subst (λ f. ReferTo (edges_of_form f) m) (form_unique nodes optimize n p.1.0 form p.1.1 has) p.1.2))
   ],
 )

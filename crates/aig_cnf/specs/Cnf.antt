@@ -11,7 +11,7 @@ use Rattle.aig_circuit.specs.Edge.{inverse, inverted_if, lit_of}
 use Rattle.aig_circuit.specs.Node.{kind_at}
 use Rattle.aig_circuit.specs.Tree.{node_value, edge_value}
 use Rattle.aig_circuit.specs.Circuit.{Circuit}
-use Rattle.aig_circuit.specs.Edges.{Names, initial_edges, nodes_of, roots_of}
+use Rattle.aig_circuit.specs.Edges.{ReferTo, initial_edges, nodes_of, roots_of}
 use Rattle.aig_circuit.specs.Reach.{IsReached}
 use Rattle.aig_circuit.specs.Runs.{next_edges}
 use Rattle.aig_cnf.specs.declared.form.Form.{Form}
@@ -73,7 +73,7 @@ edges_of_form (IteOf c t e) = c ∷ t ∷ e ∷ []
 
 -- the form of gate n names node m
 abbrev pub FormNames : List AigNode → Bool → ℕ → ℕ → Type 0
-FormNames nodes optimize n m = (form : Form) × HasForm nodes optimize n form × Names (edges_of_form form) m
+FormNames nodes optimize n m = (form : Form) × HasForm nodes optimize n form × ReferTo (edges_of_form form) m
 
 -- the node needs clauses if it is a gate: it is reached from a root along the forms of gates
 abbrev pub NeedsClauses : List AigNode → Bool → List AigEdge → ℕ → Type 0
