@@ -12,7 +12,7 @@ use Rattle.aig_circuit.specs.declared.node.AigLatch.{AigLatch}
 use Rattle.aig_circuit.specs.declared.node.AigNode.{AigNode}
 use Rattle.aig_circuit.specs.Node.{kind_at}
 use Rattle.aig_circuit.specs.Circuit.{Circuit, IsCircuit, IsLeaf, latch_leaves}
-use Rattle.aig_circuit.specs.Edges.{HasPlainInit}
+use Rattle.aig_circuit.specs.Edges.{HasConstantInit}
 use Rattle.aig_circuit.specs.Renumber.{renumbered_edge, renumbered_kind, renumbered_latch}
 use Rattle.aig_circuit.proofs.Building.{and_of-cases}
 use Rattle.aig_circuit.proofs.Circuits.{AreLeaves-of_circuit}
@@ -77,7 +77,7 @@ module _ (c : Circuit) (is : IsCircuit c) (w : IsWritable c) where
       All-contains (λ n. ¬ HasLineFeed c.names n) (named_nodes c) old.0 w.names old.1
       (subst (λ o. IsSomeAnd o (λ text. Contains text 10)) same (subst (λ n. HasLineFeed (strashed c).names n) (sym old.2) feed))
 
-  start : (l : AigLatch) → HasPlainInit l → HasPlainInit (renumbered_latch (image_of c.nodes) l)
+  start : (l : AigLatch) → HasConstantInit l → HasConstantInit (renumbered_latch (image_of c.nodes) l)
   start l plain = by_init l.init plain
     where
       by_init : (o : Option AigEdge) → IfSome o (λ e. e.node_id ≡ 0) → IfSome (option_map (renumbered_edge (image_of c.nodes)) o) (λ e. e.node_id ≡ 0)
@@ -92,7 +92,7 @@ module _ (c : Circuit) (is : IsCircuit c) (w : IsWritable c) where
   pub IsWritable-strashed : IsWritable (strashed c)
   IsWritable-strashed = record {
     closed = closed;
-    start = All-map HasPlainInit (renumbered_latch (image_of c.nodes)) c.latchs (All-weaker HasPlainInit (λ l. HasPlainInit (renumbered_latch (image_of c.nodes) l)) start c.latchs w.start);
+    start = All-map HasConstantInit (renumbered_latch (image_of c.nodes)) c.latchs (All-weaker HasConstantInit (λ l. HasConstantInit (renumbered_latch (image_of c.nodes) l)) start c.latchs w.start);
     names = λ k d h. named _ (Contains-get_or (named_nodes (strashed c)) k d h);
     small = record {
       nodes =

@@ -3,7 +3,7 @@
 use Rattle.std.specs.Prelude.{All, Any, Result, Ok, Err}
 use Rattle.aig_circuit.specs.Circuit.{Circuit, HasFreeLeaf, IsClosed}
 use Rattle.aig_format.specs.Writable.{HasLineFeed, FitsFormat, IsWritable, named_nodes}
-use Rattle.aig_circuit.specs.Edges.{HasVariableInit, HasPlainInit}
+use Rattle.aig_circuit.specs.Edges.{HasNonConstantInit, HasConstantInit}
 use Rattle.aig.specs.declared.aiger.WriteError.{WriteError}
 use Rattle.aig.specs.declared.aiger.WriteError.TheVariants as errors
 
@@ -22,6 +22,6 @@ TellsOf c (Err errors.Memory) = IsWritable c
 TellsOf c (Err errors.Stream) = IsWritable c
 TellsOf c (Err errors.Open) = IsWritable c
 TellsOf c (Err errors.FreeLeaf) = HasFreeLeaf c.nodes c.inputs c.latchs
-TellsOf c (Err errors.InitialEdge) = IsClosed c × Any HasVariableInit c.latchs
-TellsOf c (Err errors.Name) = IsClosed c × All HasPlainInit c.latchs × Any (HasLineFeed c.names) (named_nodes c)
-TellsOf c (Err errors.TooLarge) = IsClosed c × All HasPlainInit c.latchs × All (λ n. ¬ HasLineFeed c.names n) (named_nodes c) × ¬ FitsFormat c
+TellsOf c (Err errors.InitialEdge) = IsClosed c × Any HasNonConstantInit c.latchs
+TellsOf c (Err errors.Name) = IsClosed c × All HasConstantInit c.latchs × Any (HasLineFeed c.names) (named_nodes c)
+TellsOf c (Err errors.TooLarge) = IsClosed c × All HasConstantInit c.latchs × All (λ n. ¬ HasLineFeed c.names n) (named_nodes c) × ¬ FitsFormat c

@@ -2,7 +2,7 @@
 
 ghost use Rattle.std.specs.Prelude.{◌≡◌, ◌<◌, ◌≤◌, ◌^◌, ◌↔◌, ℕ, All, Contains, IfOk, IsOk, OnErr, OnOk, length};
 ghost use Rattle.aig_circuit.specs.Circuit.{BeginsWith, IsCircuit, IsClosed};
-ghost use Rattle.aig_circuit.specs.Edges.{HasPlainInit};
+ghost use Rattle.aig_circuit.specs.Edges.{HasConstantInit};
 ghost use Rattle.aig_circuit.specs.Reach.{IsInCone};
 ghost use Rattle.aig_circuit.specs.Runs.{AreAsLong, KeepsRuns};
 ghost use Rattle.aig_circuit.specs.Reencode.{IsReencoded, new_number, reencoded};
@@ -152,7 +152,7 @@ impl Aig {
     pub fn gate_init_to_constraint(&mut self) -> Result<(), MemoryError>
         // The runs from an initial state that meet the constraints are the old ones, one for one.
         ensures starts { OnOk result (GatesStarts self.old self.new) }
-        ensures plain { All HasPlainInit self.old.latchs → IsOk result }
+        ensures plain { All HasConstantInit self.old.latchs → IsOk result }
         ensures err { OnErr result (self.new ≡ self.old) }
     {
         aig_change::gate_init_to_constraint(&mut self.lists)

@@ -8,7 +8,7 @@ ghost use Rattle.aig.specs.Writing.{IsRefusal, TellsOf};
 
 use crate::aiger::WriteError;
 use crate::graph::{Aig, MOST_NODES};
-use aig_circuit::starts::are_plain;
+use aig_circuit::inits::are_inits_constant;
 use aig_circuit::{AigEdge, AigLatch};
 use std::collections::HashMap;
 
@@ -103,7 +103,7 @@ impl Aig {
     {
         if !self.is_closed() {
             Err(WriteError::FreeLeaf)
-        } else if !are_plain(self.latchs()) {
+        } else if !are_inits_constant(self.latchs()) {
             Err(WriteError::InitialEdge)
         } else if self.names_hold_line_feed() {
             Err(WriteError::Name)

@@ -19,10 +19,10 @@ use Rattle.aig_circuit.proofs.Circuits.{IsCircuit-grown, IsFree-fresh}
 use Rattle.aig_circuit.proofs.Joining.{edge_value-inverse, inverse_twice}
 use Rattle.aig_circuit.proofs.Trees.{kind_at-last, kind_at-within, node_value-leaf}
 use Rattle.aig_circuit.proofs.Writing.{IsCircuit-add_latch, IsCircuit-latchs}
-use Rattle.aig_circuit.specs.Edges.{HasPlainInit}
+use Rattle.aig_circuit.specs.Edges.{HasConstantInit}
 use Rattle.aig_renumber.proofs.Places.{map-same}
 use Rattle.aig_change.specs.Changes.{GatesStarts, constant_start, first_step_latch, with_constant_start}
-use Rattle.aig_change.specs.Inits.{Constrains, OpenBegins, SayInSteps, SaysStart, is_variable, variable_latchs}
+use Rattle.aig_change.specs.Inits.{Constrains, MeetsInit, SayInSteps, SaysStart, is_variable, variable_latchs}
 use Rattle.aig_change.proofs.FirstStep.{AddsFirst, AreOldRuns-gated, AreOldRuns-itself}
 use Rattle.aig_change.proofs.Grown.{AddsLeaf-gates}
 use Rattle.aig_circuit.proofs.Lists.{All-first, All-second}
@@ -82,7 +82,7 @@ constrained_one old one two first equal implied not_first leaf_edge start latch 
   );
   each = subst (λ b. AllZip (SaysStart old two first) (implied ∷ []) (cond b (latch ∷ []) [])) (sym variable)
       (λ x. (λ h. (says_one x).0 (All-one (λ e. IsTrue (edge_value two x e)) implied h), λ f. (says_one x).1 f 0 implied (omega arith)), tt);
-  says = λ x. (λ all holds. All-one (OpenBegins old x) latch ((says_one x).0 all holds), λ all. (says_one x).1 (λ holds. all holds 0 latch (omega arith)));
+  says = λ x. (λ all holds. All-one (MeetsInit old x) latch ((says_one x).0 all holds), λ all. (says_one x).1 (λ holds. all holds 0 latch (omega arith)));
 }
   where
     variable : is_variable latch.init ≡ true
@@ -97,7 +97,7 @@ constrained_one old one two first equal implied not_first leaf_edge start latch 
     equal_says : (x : ℕ → Bool) → IsTrue (edge_value one x equal) ↔ (edge_value old x start ≡ x latch.input)
     equal_says x = (λ h. sym ((says x).0 h) ∙ leaf_is x, λ e. (says x).1 (leaf_is x ∙ sym e))
 
-    says_one : (x : ℕ → Bool) → All (λ e. IsTrue (edge_value two x e)) (implied ∷ []) ↔ (edge_value old x first ≡ true → OpenBegins old x latch)
+    says_one : (x : ℕ → Bool) → All (λ e. IsTrue (edge_value two x e)) (implied ∷ []) ↔ (edge_value old x first ≡ true → MeetsInit old x latch)
     says_one x =
         let both = implies_says (edge_value old x first) (edge_value one x equal) (edge_value old x start ≡ x latch.input) (equal_says x) in (
           λ all holds. subst (λ (o : Option AigEdge). IfSome o (λ e. e.node_id ≢ 0 → edge_value old x e ≡ x latch.input)) (sym init_is) (λ other. both.0 (sym (implied_is x) ∙ all 0 implied (omega arith)) holds),
@@ -129,10 +129,10 @@ Constrains-push old mid new first latchs latch before between after are there is
         let firsts = All-first (λ e. IsTrue (edge_value new x e)) p.constrained q.constrained all in
         let old_ones = (p.says x).0 (λ k d h. sym (edge_value-Grows mid new adds.grows.sound more.grows x (get_or p.constrained k d) (p.there k d h)) ∙ firsts k d h) holds in
         let last = (q.says x).0 (All-second (λ e. IsTrue (edge_value new x e)) p.constrained q.constrained all) (first_is x ∙ holds) 0 latch (omega arith) in
-        All-push (OpenBegins old x) latchs latch old_ones (open_forth old mid are adds.grows x (x latch.input) latch.init is.init last),
+        All-push (MeetsInit old x) latchs latch old_ones (open_forth old mid are adds.grows x (x latch.input) latch.init is.init last),
     λ opens. All-append (λ e. IsTrue (edge_value new x e)) p.constrained q.constrained
-        (λ k d h. edge_value-Grows mid new adds.grows.sound more.grows x (get_or p.constrained k d) (p.there k d h) ∙ (p.says x).1 (λ holds. All-first (OpenBegins old x) latchs (latch ∷ []) (opens holds)) k d h)
-        ((q.says x).1 (λ holds. All-one (OpenBegins mid x) latch (open_back old mid are adds.grows x (x latch.input) latch.init is.init (All-second (OpenBegins old x) latchs (latch ∷ []) (opens (sym (first_is x) ∙ holds)) 0 latch (omega arith))))),
+        (λ k d h. edge_value-Grows mid new adds.grows.sound more.grows x (get_or p.constrained k d) (p.there k d h) ∙ (p.says x).1 (λ holds. All-first (MeetsInit old x) latchs (latch ∷ []) (opens holds)) k d h)
+        ((q.says x).1 (λ holds. All-one (MeetsInit mid x) latch (open_back old mid are adds.grows x (x latch.input) latch.init is.init (All-second (MeetsInit old x) latchs (latch ∷ []) (opens (sym (first_is x) ∙ holds)) 0 latch (omega arith))))),
   );
 }
   where
@@ -188,7 +188,7 @@ module _ (old : Circuit) (is : IsCircuit old) (new : List AigNode) (constraints 
     );
   }
 
-  pub GatesStarts-built : (All HasPlainInit old.latchs → ⊥) → GatesStarts old gated
+  pub GatesStarts-built : (All HasConstantInit old.latchs → ⊥) → GatesStarts old gated
   GatesStarts-built some_open = record {
     leaf = Some leaf;
     latchs = refl;
@@ -222,7 +222,7 @@ plain_start None h = refl
 plain_start (Some e) h = ap (λ b. cond b (Some e) None) (eq-eqb e.node_id 0 h)
 
 -- where all initial edges are constant, nothing changes
-pub GatesStarts-plain : (c : Circuit) → IsCircuit c → All HasPlainInit c.latchs → GatesStarts c c
+pub GatesStarts-plain : (c : Circuit) → IsCircuit c → All HasConstantInit c.latchs → GatesStarts c c
 GatesStarts-plain c is plain = record {
   leaf = None;
   latchs = sym (append-nil (map with_constant_start c.latchs) ∙ map-same with_constant_start c.latchs (λ k d h. ap (λ (o : Option AigEdge). record { input = (get_or c.latchs k d).input; next = (get_or c.latchs k d).next; init = o }) (plain_start (get_or c.latchs k d).init (plain k d h))));
@@ -238,7 +238,7 @@ GatesStarts-plain c is plain = record {
 }
 
 -- what is built
-pub gated_starts : (old : Circuit) → IsCircuit old → (All HasPlainInit old.latchs → ⊥) → (one : List AigNode) (id : ℕ) (latch : AigLatch) (plains latchs : List AigLatch) (constraints : List AigEdge)
+pub gated_starts : (old : Circuit) → IsCircuit old → (All HasConstantInit old.latchs → ⊥) → (one : List AigNode) (id : ℕ) (latch : AigLatch) (plains latchs : List AigLatch) (constraints : List AigEdge)
     → id ≡ length old.nodes → AddsGates (with_node old.nodes Leaf) one → Constrains (with_node old.nodes Leaf) one (edge_to id false) old.latchs old.constraints constraints
     → plains ≡ map with_constant_start old.latchs → latch ≡ first_step_latch id → latchs ≡ plains ++ latch ∷ []
     → IsCircuit (record old { nodes = one; latchs = latchs; constraints = constraints }) × GatesStarts old (record old { nodes = one; latchs = latchs; constraints = constraints })

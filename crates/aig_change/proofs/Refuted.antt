@@ -12,7 +12,7 @@ use Rattle.aig_circuit.specs.declared.node.AigLatch.{AigLatch}
 use Rattle.aig_circuit.specs.Build.{Folds, FoldsOrAdds, false_second, true_first, with_node}
 use Rattle.aig_circuit.specs.Circuit.{Circuit}
 use Rattle.aig_circuit.specs.Edge.{edge_to}
-use Rattle.aig_circuit.specs.Edges.{HasPlainInit}
+use Rattle.aig_circuit.specs.Edges.{HasConstantInit}
 use Rattle.aig_circuit.specs.Runs.{IsRun, IsInitial}
 use Rattle.aig_circuit.specs.Tree.{node_value, tree_of}
 use Rattle.aig_change.specs.Merge.{merged}
@@ -145,5 +145,5 @@ not_always_equal m =
     let says : false ≡ true = (each.0 one_alone).1 (λ (not_first : false ≡ true). absurd (false≢true not_first)) in
     false≢true says
   where
-    variable : ¬ All HasPlainInit started_by_input.latchs
+    variable : ¬ All HasConstantInit started_by_input.latchs
     variable all = let e : ◌≡◌ {A = ℕ} 1 0 = all 0 (record { input = 0; next = edge_to 0 false; init = None }) (omega arith) in absurd (omega arith)

@@ -8,7 +8,7 @@ use Rattle.aig_circuit.specs.Edge.{edge_to, inverse}
 use Rattle.aig_circuit.specs.Tree.{edge_value}
 use Rattle.aig_circuit.specs.Circuit.{Circuit}
 use Rattle.aig_circuit.specs.Build.{AddsGates, FoldsOrAddsAll, Grows, JoinsByOr, with_node}
-use Rattle.aig_circuit.specs.Edges.{HasPlainInit}
+use Rattle.aig_circuit.specs.Edges.{HasConstantInit}
 use Rattle.std.specs.List.{AllZip}
 use Rattle.aig_circuit.specs.declared.node.AigNode.{AigNode}
 use Rattle.aig_change.specs.Joining.{JoinsInSteps}
@@ -72,11 +72,11 @@ pub record GatesStarts (old new : Circuit) : Type 0 where
   -- inputs, names and all other properties stay
   pub rest : new ≡ record old { nodes = new.nodes; latchs = new.latchs; constraints = new.constraints }
   -- the added latch is one on a new leaf, and else gates alone are added
-  pub some : ¬ All HasPlainInit old.latchs → (leaf ≡ Some (length old.nodes)) × AddsGates (with_node old.nodes Leaf) new.nodes
+  pub some : ¬ All HasConstantInit old.latchs → (leaf ≡ Some (length old.nodes)) × AddsGates (with_node old.nodes Leaf) new.nodes
   -- a constraint for each latch that loses its initial edge: where the added latch is true, the two are equal
-  pub each : ¬ All HasPlainInit old.latchs → AllZip (SaysStart (with_node old.nodes Leaf) new.nodes (edge_to (length old.nodes) false)) constrained (variable_latchs old.latchs)
+  pub each : ¬ All HasConstantInit old.latchs → AllZip (SaysStart (with_node old.nodes Leaf) new.nodes (edge_to (length old.nodes) false)) constrained (variable_latchs old.latchs)
   -- and it is made by the builders' rules
-  pub steps : ¬ All HasPlainInit old.latchs → SayInSteps (with_node old.nodes Leaf) (edge_to (length old.nodes) false) constrained (variable_latchs old.latchs) new.nodes
+  pub steps : ¬ All HasConstantInit old.latchs → SayInSteps (with_node old.nodes Leaf) (edge_to (length old.nodes) false) constrained (variable_latchs old.latchs) new.nodes
   pub runs : AreOldRuns old new (IsAllowedRun new) (IsAllowedRun old)
   -- where all initial edges are constant or none, nothing changes
-  pub none : All HasPlainInit old.latchs → new ≡ old
+  pub none : All HasConstantInit old.latchs → new ≡ old

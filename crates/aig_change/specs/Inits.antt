@@ -11,8 +11,8 @@ use Rattle.aig_circuit.specs.Edge.{edge_to, inverse}
 use Rattle.aig_circuit.specs.Build.{FoldsOrAdds, FoldsOrAddsEq}
 
 -- an initial edge that isn't constant has the latch's value
-abbrev pub OpenBegins : List AigNode → (ℕ → Bool) → AigLatch → Type 0
-OpenBegins nodes x latch = IfSome latch.init (λ e. e.node_id ≢ 0 → edge_value nodes x e ≡ x latch.input)
+abbrev pub MeetsInit : List AigNode → (ℕ → Bool) → AigLatch → Type 0
+MeetsInit nodes x latch = IfSome latch.init (λ e. e.node_id ≢ 0 → edge_value nodes x e ≡ x latch.input)
 
 -- the initial edge is there and isn't constant
 abbrev pub is_variable : Option AigEdge → Bool
@@ -25,7 +25,7 @@ variable_latchs latchs = filter (λ latch. is_variable latch.init) latchs
 
 -- the constraint holds exactly where the edge `first` implies that the latch has the value of its initial edge
 abbrev pub SaysStart : List AigNode → List AigNode → AigEdge → AigEdge → AigLatch → Type 0
-SaysStart old new first constraint latch = (x : ℕ → Bool) → IsTrue (edge_value new x constraint) ↔ (edge_value old x first ≡ true → OpenBegins old x latch)
+SaysStart old new first constraint latch = (x : ℕ → Bool) → IsTrue (edge_value new x constraint) ↔ (edge_value old x first ≡ true → MeetsInit old x latch)
 
 -- One latch's constraint by the builders' rules: its leaf equals its initial edge, and the edge `first` implies that.
 pub record SaysInSteps (old new : List AigNode) (first constraint : AigEdge) (latch : AigLatch) : Type 0 where
@@ -50,6 +50,6 @@ pub record Constrains (old new : List AigNode) (first : AigEdge) (latchs : List 
   pub constrained : List AigEdge
   pub appended : after ≡ before ++ constrained
   pub there : All (IsInRange new) constrained
-  pub says : (x : ℕ → Bool) → All (λ e. IsTrue (edge_value new x e)) constrained ↔ (edge_value old x first ≡ true → All (OpenBegins old x) latchs)
+  pub says : (x : ℕ → Bool) → All (λ e. IsTrue (edge_value new x e)) constrained ↔ (edge_value old x first ≡ true → All (MeetsInit old x) latchs)
   pub each : AllZip (SaysStart old new first) constrained (variable_latchs latchs)
   pub steps : SayInSteps old first constrained (variable_latchs latchs) new

@@ -2,7 +2,7 @@
 
 ghost use Rattle.std.specs.Prelude.{◌≡◌, IfOk, IsOk, OnErr, All};
 ghost use Rattle.aig_circuit.specs.Circuit.{IsCircuit};
-ghost use Rattle.aig_circuit.specs.Edges.{HasPlainInit};
+ghost use Rattle.aig_circuit.specs.Edges.{HasConstantInit};
 ghost use Rattle.aig_circuit.specs.View.{lists_circuit};
 ghost use Rattle.aig_change.specs.Merge.{merged};
 ghost use Rattle.aig_change.specs.Changes.{CompressesBads, GatesStarts, MovesConstraints};
@@ -12,7 +12,7 @@ use crate::joining::{inverses, join_first};
 use crate::inits::{constrain_starts, make_plain};
 use aig_base::MemoryError;
 use aig_circuit::build::{new_and_node, new_ands_node, new_leaf_node};
-use aig_circuit::starts::are_plain;
+use aig_circuit::inits::are_inits_constant;
 use aig_circuit::{AigEdge, AigLatch, CircuitLists, CircuitView};
 use std::mem;
 
@@ -87,10 +87,10 @@ pub fn gate_init_to_constraint(lists: &mut CircuitLists) -> Result<(), MemoryErr
     ensures starts { IfOk result
         (λ _. GatesStarts (lists_circuit lists.old) (lists_circuit lists.new)) }
     // Where there is nothing to change no memory is taken.
-    ensures plain { All HasPlainInit (lists_circuit lists.old).latchs → IsOk result }
+    ensures plain { All HasConstantInit (lists_circuit lists.old).latchs → IsOk result }
     ensures err { OnErr result (lists_circuit lists.new ≡ lists_circuit lists.old) }
 {
-    if are_plain(&lists.latchs) {
+    if are_inits_constant(&lists.latchs) {
         return Ok(());
     }
     lists.latchs.reserve(1)?;

@@ -6,7 +6,7 @@ pub mod Writing
 pub mod Counting
 pub mod Names
 pub mod Copies
-mod Inits
+mod InitialEdges
 pub mod Lists
 pub mod Marking
 pub mod Values

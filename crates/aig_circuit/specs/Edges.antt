@@ -32,9 +32,9 @@ abbrev pub roots_of : Circuit → List AigEdge
 roots_of c = c.outputs ++ c.bads ++ c.constraints ++ flat_map (λ set. set) c.justice ++ c.fairness ++ flat_map latch_edges c.latchs
 
 -- the latch has an initial edge that isn't constant
-abbrev pub HasVariableInit : AigLatch → Type 0
-HasVariableInit latch = IsSomeAnd latch.init (λ e. e.node_id ≢ 0)
+abbrev pub HasNonConstantInit : AigLatch → Type 0
+HasNonConstantInit latch = IsSomeAnd latch.init (λ e. e.node_id ≢ 0)
 
 -- its initial edge is constant, or it has none
-abbrev pub HasPlainInit : AigLatch → Type 0
-HasPlainInit latch = IfSome latch.init (λ e. e.node_id ≡ 0)
+abbrev pub HasConstantInit : AigLatch → Type 0
+HasConstantInit latch = IfSome latch.init (λ e. e.node_id ≡ 0)

@@ -10,7 +10,7 @@ pub mod leaves;
 pub mod marks;
 mod node;
 mod prop_list;
-pub mod starts;
+pub mod inits;
 mod view;
 
 pub use ands::{AndsIter, gates_among};

@@ -4,7 +4,7 @@ use Rattle.std.specs.Prelude.{ℕ, ◌^◌, ◌<◌, ◌≤◌, ◌++◌, List, 
 use Rattle.std.specs.Ordering.{nat_cmp}
 use Rattle.std.specs.FinMap.{FinMap, get}
 use Rattle.aig_circuit.specs.Circuit.{Circuit, IsClosed, latch_leaves}
-use Rattle.aig_circuit.specs.Edges.{HasPlainInit}
+use Rattle.aig_circuit.specs.Edges.{HasConstantInit}
 
 -- the node has a name that holds a line feed
 abbrev pub HasLineFeed : FinMap nat_cmp (List ℕ) → ℕ → Type 0
@@ -27,7 +27,7 @@ pub record FitsFormat (c : Circuit) : Type 0 where
 -- no refusal applies
 pub record IsWritable (c : Circuit) : Type 0 where
   pub closed : IsClosed c
-  pub start : All HasPlainInit c.latchs
+  pub start : All HasConstantInit c.latchs
   pub names : All (λ n. ¬ HasLineFeed c.names n) (named_nodes c)
   pub small : FitsFormat c
 

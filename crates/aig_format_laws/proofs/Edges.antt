@@ -8,7 +8,7 @@ use Rattle.aig_circuit.specs.Edge.{edge_to, literal_of}
 use Rattle.aig_format.specs.File.{File}
 use Rattle.aig_format.specs.Numbering.{is_compact, node_of_variable}
 use Rattle.aig_format.specs.Circuit.{edge_of, initial_of, latch_line, latch_of}
-use Rattle.aig_circuit.specs.Edges.{HasPlainInit}
+use Rattle.aig_circuit.specs.Edges.{HasConstantInit}
 use Rattle.aig_format.proofs.Numbers.{node_of_variable-compact}
 
 -- the edge of an edge's literal
@@ -62,7 +62,7 @@ module _ (f : File) (compact : is_compact f ≡ true) where
 
   -- what a latch of the file has
   pub record IsOfFile (l : AigLatch) : Type 0 where
-    pub plain : HasPlainInit l
+    pub plain : HasConstantInit l
     pub some : 0 < l.input
     pub within : l.input ≤ f.greatest
     pub next : IsWithin l.next

@@ -16,7 +16,7 @@ use Rattle.aig_circuit.proofs.Trees.{kind_at-within}
 use Rattle.aig_format.specs.declared.FileKind.TheVariants.{Binary}
 use Rattle.aig_format.specs.Circuit.{IsReadAgain, file_of}
 use Rattle.aig_format.specs.Writable.{AreTexts, HasLineFeed, IsWritable, list_lengths, named_nodes}
-use Rattle.aig_circuit.specs.Edges.{HasPlainInit}
+use Rattle.aig_circuit.specs.Edges.{HasConstantInit}
 use Rattle.aig_renumber.proofs.Circuits.{leaves-map}
 use Rattle.aig_renumber.proofs.Names.{found_back, names_in_circuit}
 use Rattle.aig_renumber.proofs.Numbering.{number-apart}
@@ -27,7 +27,7 @@ use Rattle.aig_format_laws.proofs.Placed.{Placed-circuit}
 use Rattle.aig_format_laws.proofs.Written.{is_read_again}
 
 -- an initial edge that is constant stays so
-start-renumbered : (c : Circuit) (l : AigLatch) → HasPlainInit l → HasPlainInit (renumbered_latch (new_number c) l)
+start-renumbered : (c : Circuit) (l : AigLatch) → HasConstantInit l → HasConstantInit (renumbered_latch (new_number c) l)
 start-renumbered c l plain = by_init l.init plain
   where
     by_init : (o : Option AigEdge) → IfSome o (λ e. e.node_id ≡ 0) → IfSome (option_map (renumbered_edge (new_number c)) o) (λ e. e.node_id ≡ 0)
@@ -57,7 +57,7 @@ module _ (c : Circuit) (is : IsCircuit c) (w : IsWritable c) where
   pub IsWritable-reencoded : IsWritable (reencoded c)
   IsWritable-reencoded = record {
     closed = IsClosed-reencoded c is w.closed;
-    start = All-map HasPlainInit (renumbered_latch (new_number c)) c.latchs (All-weaker HasPlainInit (λ l. HasPlainInit (renumbered_latch (new_number c) l)) (start-renumbered c) c.latchs w.start);
+    start = All-map HasConstantInit (renumbered_latch (new_number c)) c.latchs (All-weaker HasConstantInit (λ l. HasConstantInit (renumbered_latch (new_number c) l)) (start-renumbered c) c.latchs w.start);
     names = λ k d h. named _ (Contains-get_or (named_nodes (reencoded c)) k d h);
     small = record {
       nodes = let same = (AreAsLong-reencoded c is w.closed).nodes in omega (arith, w.small.nodes);

@@ -11,7 +11,7 @@ use Rattle.std.proofs.lemmas.List.Elements.{All-contains, All-from_recursion}
 use Rattle.std.proofs.lemmas.Option.{same_Some}
 use Rattle.aig_circuit.specs.declared.edge.AigEdge.{AigEdge}
 use Rattle.aig_circuit.specs.Edge.{edge_to}
-use Rattle.aig_circuit.specs.Edges.{HasPlainInit}
+use Rattle.aig_circuit.specs.Edges.{HasConstantInit}
 use Rattle.aig_format.specs.File.{File, LatchLine, NameLine}
 use Rattle.aig_format.specs.Letters.{letter_of_inputs, letter_of_latches}
 use Rattle.aig_format.specs.Fits.{Accepts, Fits, IsNameOf}
@@ -25,14 +25,14 @@ use Rattle.aig_format_laws.proofs.Closed.{IsClosed-of_file}
 use Rattle.aig_format_laws.proofs.Spelled.{IsSmallNumber, header_small, names_plain, sizes_small}
 
 -- each latch of a file's circuit has a constant start or none
-pub plain_starts : (f : File) → All HasPlainInit (circuit_of f).latchs
-plain_starts f = All-from_recursion HasPlainInit (circuit_of f).latchs ((rec_map HasPlainInit (latch_of f) f.latches).1 (each f.latches))
+pub plain_starts : (f : File) → All HasConstantInit (circuit_of f).latchs
+plain_starts f = All-from_recursion HasConstantInit (circuit_of f).latchs ((rec_map HasConstantInit (latch_of f) f.latches).1 (each f.latches))
   where
     one : (b i : Bool) → IfSome (cond b (Some (edge_to 0 i)) None) (λ e. e.node_id ≡ 0)
     one true i = refl
     one false i = tt
 
-    each : (ls : List LatchLine) → AllByRecursion (λ l. HasPlainInit (latch_of f l)) ls
+    each : (ls : List LatchLine) → AllByRecursion (λ l. HasConstantInit (latch_of f l)) ls
     each [] = tt
     each (l ∷ ls) = (one (nat_lt (unwrap_or l.reset 0) 2) (unwrap_or l.reset 0 == 1), each ls)
 

@@ -30,7 +30,7 @@ use Rattle.aig_format.specs.Numbering.{is_compact, node_of_variable}
 use Rattle.aig_format.specs.Spells.{numbers_in, Placed}
 use Rattle.aig_format.specs.Circuit.{IsReadAgain, circuit_of, file_of, latch_line, latch_of, named_node, name_lines, without_other_names}
 use Rattle.aig_format.specs.Writable.{AreTexts, HasLineFeed, IsWritable, list_lengths}
-use Rattle.aig_circuit.specs.Edges.{HasPlainInit}
+use Rattle.aig_circuit.specs.Edges.{HasConstantInit}
 use Rattle.aig_format.proofs.Numbers.{node_of_variable-compact}
 use Rattle.aig_format.proofs.Members.{distinct_append}
 use Rattle.aig_format.proofs.Compact.{compact-tested}
@@ -196,9 +196,9 @@ module _ (kind : FileKind) (c : Circuit) (is : IsCircuit c) (w : IsWritable c) (
       }
 
   resets : AllByRecursion HasReset (map latch_line c.latchs)
-  resets = (rec_map HasReset latch_line c.latchs).1 (rec_weaker HasPlainInit (λ l. HasReset (latch_line l)) has_reset c.latchs (recursion_from_All HasPlainInit c.latchs w.start))
+  resets = (rec_map HasReset latch_line c.latchs).1 (rec_weaker HasConstantInit (λ l. HasReset (latch_line l)) has_reset c.latchs (recursion_from_All HasConstantInit c.latchs w.start))
     where
-      has_reset : (l : AigLatch) → HasPlainInit l → HasReset (latch_line l)
+      has_reset : (l : AigLatch) → HasConstantInit l → HasReset (latch_line l)
       has_reset l plain = by_init l.init refl plain
         where
           made : Option AigEdge → AigLatch

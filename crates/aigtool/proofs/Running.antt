@@ -4,7 +4,7 @@ use Rattle.std.specs.Prelude.{All, Any, IfSome, IsErrOf, IsSomeAnd}
 use Rattle.std.proofs.lemmas.List.Elements.{Contains-append_cases}
 use Rattle.aig_circuit.specs.declared.edge.AigEdge.{AigEdge}
 use Rattle.aig_circuit.specs.Circuit.{Circuit, HasFreeLeaf, latch_leaves}
-use Rattle.aig_circuit.specs.Edges.{HasPlainInit, HasVariableInit}
+use Rattle.aig_circuit.specs.Edges.{HasConstantInit, HasNonConstantInit}
 use Rattle.aig_format.specs.File.{File}
 use Rattle.aig_format.specs.Writable.{HasLineFeed, IsWritable, named_nodes}
 use Rattle.aig_reader.specs.declared.error.ReadError.{ReadError}
@@ -129,7 +129,7 @@ pub only_interrupted : (c : Circuit) (e : WriteError) → IsWritable c → Tells
 only_interrupted c write.Memory w tells opened = inl refl
 only_interrupted c write.Stream w tells opened = inr refl
 only_interrupted c write.FreeLeaf w tells opened = absurd (no_free_leaf c tells w)
-only_interrupted c write.InitialEdge w tells opened = absurd (no_any HasPlainInit HasVariableInit (λ l. not_both l.init) c.latchs w.start tells.1)
+only_interrupted c write.InitialEdge w tells opened = absurd (no_any HasConstantInit HasNonConstantInit (λ l. not_both l.init) c.latchs w.start tells.1)
 only_interrupted c write.Name w tells opened = absurd (no_any (λ n. ¬ HasLineFeed c.names n) (HasLineFeed c.names) (λ n not has. not has) (named_nodes c) w.names tells.2)
 only_interrupted c write.TooLarge w tells opened = absurd (tells.3 w.small)
 only_interrupted c write.Open w tells opened = absurd (opened refl)
@@ -140,7 +140,7 @@ only_stopped c e w tells (inr is) = is
 only_stopped c write.Memory w tells (inl own) = absurd own
 only_stopped c write.Stream w tells (inl own) = refl
 only_stopped c write.FreeLeaf w tells (inl own) = absurd (no_free_leaf c tells w)
-only_stopped c write.InitialEdge w tells (inl own) = absurd (no_any HasPlainInit HasVariableInit (λ l. not_both l.init) c.latchs w.start tells.1)
+only_stopped c write.InitialEdge w tells (inl own) = absurd (no_any HasConstantInit HasNonConstantInit (λ l. not_both l.init) c.latchs w.start tells.1)
 only_stopped c write.Name w tells (inl own) = absurd (no_any (λ n. ¬ HasLineFeed c.names n) (HasLineFeed c.names) (λ n not has. not has) (named_nodes c) w.names tells.2)
 only_stopped c write.TooLarge w tells (inl own) = absurd (tells.3 w.small)
 only_stopped c write.Open w tells (inl own) = absurd own

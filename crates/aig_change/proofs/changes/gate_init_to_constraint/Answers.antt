@@ -7,16 +7,16 @@ use Rattle.aig_circuit.specs.declared.node.AigNodeType.TheVariants.{Leaf}
 use Rattle.aig_circuit.specs.Build.{with_node}
 use Rattle.aig_circuit.specs.Circuit.{Circuit, IsCircuit}
 use Rattle.aig_circuit.specs.Edge.{edge_to}
-use Rattle.aig_circuit.specs.Edges.{HasPlainInit}
+use Rattle.aig_circuit.specs.Edges.{HasConstantInit}
 use Rattle.aig_circuit.specs.View.{lists_circuit}
 use Rattle.aig_change.specs.Changes.{GatesStarts, first_step_latch, with_constant_start}
 use Rattle.aig_change.specs.Inits.{Constrains}
 use Rattle.aig_change.proofs.Constraining.{GatesStarts-plain, gated_starts}
 use Rattle.aig_change.proofs.changes.gate_init_to_constraint.Goals as goal
 
-pub returns-then-are_plain-clause-starts : goal.returns-then-are_plain-clause-starts
-returns-then-are_plain-clause-starts c =
-    GatesStarts-plain (lists_circuit c.args.lists.now) c.requires (subst (All HasPlainInit) c.deref.ensures.value (c.are_plain.ensures.plain.0 c.if-are_plain.true))
+pub returns-then-are_inits_constant-clause-starts : goal.returns-then-are_inits_constant-clause-starts
+returns-then-are_inits_constant-clause-starts c =
+    GatesStarts-plain (lists_circuit c.args.lists.now) c.requires (subst (All HasConstantInit) c.deref.ensures.value (c.are_inits_constant.ensures.plain.0 c.if-are_inits_constant.true))
 
 -- the circuit that is left
 abbrev made : goal.After-push_reserved → Circuit
@@ -34,7 +34,7 @@ both c =
     let constrains = subst (λ ls. Constrains (with_node c.args.lists.now.nodes.items Leaf) c.constrain_starts.new.nodes.items (edge_to c.in_ok-leaf.leaf false) ls c.args.lists.now.constraints.items c.constrain_starts.new.constraints.items)
     (c.deref-2.ensures.value ∙ c.reserve.ensures.items) c.in_ok-leaf.ensures.constrains in
     gated_starts (lists_circuit c.args.lists.now) c.requires
-    (λ all. false≢true (sym c.if-are_plain.false ∙ c.are_plain.ensures.plain.1 (subst (All HasPlainInit) (sym c.deref.ensures.value) all)))
+    (λ all. false≢true (sym c.if-are_inits_constant.false ∙ c.are_inits_constant.ensures.plain.1 (subst (All HasConstantInit) (sym c.deref.ensures.value) all)))
     c.constrain_starts.new.nodes.items c.in_ok-leaf.leaf c.new.result plains c.push_reserved.new.self.items c.constrain_starts.new.constraints.items
     c.in_ok-leaf.ensures.leaf c.in_ok-leaf.ensures.gates constrains (c.make_plain.ensures ∙ ap (map with_constant_start) were) latch pushed
 

@@ -5,11 +5,11 @@ use Rattle.std.proofs.lemmas.Bool.{eqb-false, eqb-true, false≢true}
 use Rattle.std.proofs.lemmas.List.Elements.{All-weaker}
 use Rattle.aig_circuit.specs.declared.edge.AigEdge.{AigEdge}
 use Rattle.aig_circuit.specs.declared.node.AigLatch.{AigLatch}
-use Rattle.aig_circuit.specs.Edges.{HasPlainInit, HasVariableInit}
+use Rattle.aig_circuit.specs.Edges.{HasConstantInit, HasNonConstantInit}
 use Rattle.aig_circuit.proofs.Lists.{All-from_no_Any}
 
 -- an initial edge that isn't open is constant
-plain_init : (latch : AigLatch) → ¬ HasVariableInit latch → HasPlainInit latch
+plain_init : (latch : AigLatch) → ¬ HasNonConstantInit latch → HasConstantInit latch
 plain_init latch closed = by_init latch.init closed
   where
     by_init : (o : Option AigEdge) → ¬ IsSomeAnd o (λ e. e.node_id ≢ 0) → IfSome o (λ e. e.node_id ≡ 0)
@@ -25,15 +25,15 @@ not_both (Some e) plain variable = variable plain
 not_both None plain variable = variable
 
 -- the test for one that isn't constant fails exactly where all are
-pub all_plain : (latchs : List AigLatch) (r : Bool) → (IsTrue r ↔ Any HasVariableInit latchs) → IsTrue (not r) ↔ All HasPlainInit latchs
+pub all_plain : (latchs : List AigLatch) (r : Bool) → (IsTrue r ↔ Any HasNonConstantInit latchs) → IsTrue (not r) ↔ All HasConstantInit latchs
 all_plain latchs false told = (
-  λ is. All-weaker (λ latch. ¬ HasVariableInit latch) HasPlainInit plain_init latchs (All-from_no_Any HasVariableInit latchs (λ any. false≢true (told.1 any))),
+  λ is. All-weaker (λ latch. ¬ HasNonConstantInit latch) HasConstantInit plain_init latchs (All-from_no_Any HasNonConstantInit latchs (λ any. false≢true (told.1 any))),
   λ all. refl,
 )
 all_plain latchs true told = (
   λ is. absurd (false≢true is),
   λ all.
       let any = told.0 refl in
-      let plain = subst HasPlainInit any.3 (all any.0 any.1 any.2) in
+      let plain = subst HasConstantInit any.3 (all any.0 any.1 any.2) in
       absurd (not_both any.1.init plain any.4),
 )
