@@ -799,9 +799,9 @@ def g29(t):
 
 @group("30", "Initial values become constraints, constraints fold")
 def g30(t):
-    t.ident("SaysStart", "ImpliesInit")
-    t.ident("GatesStarts", "ConstrainsInits")
-    t.ident("MovesConstraints", "FoldsConstraints")
+    t.ident("ImpliesInit", "ImpliesInit")
+    t.ident("ConstrainsInits", "ConstrainsInits")
+    t.ident("FoldsConstraints", "FoldsConstraints")
 
 
 @group("31", "The latch of held constraints, the circuit of lists")

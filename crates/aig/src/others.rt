@@ -6,7 +6,7 @@ ghost use Rattle.aig_circuit.specs.Edges.{HasConstantInit};
 ghost use Rattle.aig_circuit.specs.Reach.{IsInCone};
 ghost use Rattle.aig_circuit.specs.Runs.{AreAsLong, KeepsRuns};
 ghost use Rattle.aig_circuit.specs.Reencode.{IsReencoded, new_number, reencoded};
-ghost use Rattle.aig_change.specs.Changes.{CompressesBads, GatesStarts, MovesConstraints};
+ghost use Rattle.aig_change.specs.Changes.{CompressesBads, ConstrainsInits, FoldsConstraints};
 ghost use Rattle.aig_change.specs.Merge.{PairsRuns, merged, shifted};
 ghost use Rattle.aig_unroll.specs.Unroll.{AddsExactly, UnrollsBySteps, UnrollsOnce, UnrollsTo};
 ghost use Rattle.aig.specs.Others.{IsRefined};
@@ -119,7 +119,7 @@ impl Aig {
     ///
     /// - `Memory`: memory was refused.
     pub fn aig_move(&self) -> Result<Aig, MemoryError>
-        ensures { IfOk result (λ made. MovesConstraints self.now made) }
+        ensures { IfOk result (λ made. FoldsConstraints self.now made) }
     {
         let lists = aig_change::aig_move(&self.view())?;
         Ok(Aig::from_lists(lists))
@@ -151,7 +151,7 @@ impl Aig {
     /// - `Memory`: memory was refused. The circuit stays as it was. Never where every initial edge is constant or none.
     pub fn gate_init_to_constraint(&mut self) -> Result<(), MemoryError>
         // The runs from an initial state that meet the constraints are the old ones, one for one.
-        ensures starts { OnOk result (GatesStarts self.old self.new) }
+        ensures starts { OnOk result (ConstrainsInits self.old self.new) }
         ensures plain { All HasConstantInit self.old.latchs → IsOk result }
         ensures err { OnErr result (self.new ≡ self.old) }
     {

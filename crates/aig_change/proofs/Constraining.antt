@@ -21,8 +21,8 @@ use Rattle.aig_circuit.proofs.Trees.{kind_at-last, kind_at-within, node_value-le
 use Rattle.aig_circuit.proofs.Writing.{IsCircuit-add_latch, IsCircuit-latchs}
 use Rattle.aig_circuit.specs.Edges.{HasConstantInit}
 use Rattle.aig_renumber.proofs.Places.{map-same}
-use Rattle.aig_change.specs.Changes.{GatesStarts, constant_start, first_step_latch, with_constant_start}
-use Rattle.aig_change.specs.Inits.{Constrains, MeetsInit, SayInSteps, SaysStart, is_variable, variable_latchs}
+use Rattle.aig_change.specs.Changes.{ConstrainsInits, constant_start, first_step_latch, with_constant_start}
+use Rattle.aig_change.specs.Inits.{Constrains, MeetsInit, SayInSteps, ImpliesInit, is_variable, variable_latchs}
 use Rattle.aig_change.proofs.FirstStep.{AddsFirst, AreOldRuns-gated, AreOldRuns-itself}
 use Rattle.aig_change.proofs.Grown.{AddsLeaf-gates}
 use Rattle.aig_circuit.proofs.Lists.{All-first, All-second}
@@ -80,7 +80,7 @@ constrained_one old one two first equal implied not_first leaf_edge start latch 
     },
     refl,
   );
-  each = subst (λ b. AllZip (SaysStart old two first) (implied ∷ []) (cond b (latch ∷ []) [])) (sym variable)
+  each = subst (λ b. AllZip (ImpliesInit old two first) (implied ∷ []) (cond b (latch ∷ []) [])) (sym variable)
       (λ x. (λ h. (says_one x).0 (All-one (λ e. IsTrue (edge_value two x e)) implied h), λ f. (says_one x).1 f 0 implied (omega arith)), tt);
   says = λ x. (λ all holds. All-one (MeetsInit old x) latch ((says_one x).0 all holds), λ all. (says_one x).1 (λ holds. all holds 0 latch (omega arith)));
 }
@@ -114,13 +114,13 @@ Constrains-push old mid new first latchs latch before between after are there is
   there = All-append (IsInRange new) p.constrained q.constrained (All-grown mid new p.constrained more.grows p.there) q.there;
   steps = subst (λ ls. SayInSteps old first (p.constrained ++ q.constrained) ls new) (sym (filter-append (λ (l : AigLatch). is_variable l.init) latchs (latch ∷ [])))
       (SayInSteps-append old mid new first p.constrained (variable_latchs latchs) q.constrained (variable_latchs (latch ∷ [])) p.steps q.steps);
-  each = subst (AllZip (SaysStart old new first) (p.constrained ++ q.constrained)) (sym (filter-append (λ (l : AigLatch). is_variable l.init) latchs (latch ∷ [])))
-      (AllZip-append (SaysStart old new first) p.constrained (variable_latchs latchs) q.constrained (variable_latchs (latch ∷ []))
-      (AllZip-weaker (SaysStart old mid first) (SaysStart old new first) (IsInRange mid) (λ l. Unit {0}) (λ e l low any says x. (
+  each = subst (AllZip (ImpliesInit old new first) (p.constrained ++ q.constrained)) (sym (filter-append (λ (l : AigLatch). is_variable l.init) latchs (latch ∷ [])))
+      (AllZip-append (ImpliesInit old new first) p.constrained (variable_latchs latchs) q.constrained (variable_latchs (latch ∷ []))
+      (AllZip-weaker (ImpliesInit old mid first) (ImpliesInit old new first) (IsInRange mid) (λ l. Unit {0}) (λ e l low any says x. (
         λ h. (says x).0 (sym (edge_value-Grows mid new adds.grows.sound more.grows x e low) ∙ h),
         λ opens. edge_value-Grows mid new adds.grows.sound more.grows x e low ∙ (says x).1 opens,
       )) p.constrained (variable_latchs latchs) p.there (λ k d h. tt) p.each)
-      (AllZip-weaker (SaysStart mid new first) (SaysStart old new first) (IsInRange new) (IsLatch old) (λ e l low was says x. (
+      (AllZip-weaker (ImpliesInit mid new first) (ImpliesInit old new first) (IsInRange new) (IsLatch old) (λ e l low was says x. (
         λ h holds. open_forth old mid are adds.grows x (x l.input) l.init was.init ((says x).0 h (first_is x ∙ holds)),
         λ opens. (says x).1 (λ holds. open_back old mid are adds.grows x (x l.input) l.init was.init (opens (sym (first_is x) ∙ holds))),
       )) q.constrained (variable_latchs (latch ∷ [])) q.there (All-filter (λ (l : AigLatch). is_variable l.init) (IsLatch old) (latch ∷ []) (All-one (IsLatch old) latch is)) q.each));
@@ -188,8 +188,8 @@ module _ (old : Circuit) (is : IsCircuit old) (new : List AigNode) (constraints 
     );
   }
 
-  pub GatesStarts-built : (All HasConstantInit old.latchs → ⊥) → GatesStarts old gated
-  GatesStarts-built some_open = record {
+  pub ConstrainsInits-built : (All HasConstantInit old.latchs → ⊥) → ConstrainsInits old gated
+  ConstrainsInits-built some_open = record {
     leaf = Some leaf;
     latchs = refl;
     constrained = c.constrained;
@@ -222,8 +222,8 @@ plain_start None h = refl
 plain_start (Some e) h = ap (λ b. cond b (Some e) None) (eq-eqb e.node_id 0 h)
 
 -- where all initial edges are constant, nothing changes
-pub GatesStarts-plain : (c : Circuit) → IsCircuit c → All HasConstantInit c.latchs → GatesStarts c c
-GatesStarts-plain c is plain = record {
+pub ConstrainsInits-plain : (c : Circuit) → IsCircuit c → All HasConstantInit c.latchs → ConstrainsInits c c
+ConstrainsInits-plain c is plain = record {
   leaf = None;
   latchs = sym (append-nil (map with_constant_start c.latchs) ∙ map-same with_constant_start c.latchs (λ k d h. ap (λ (o : Option AigEdge). record { input = (get_or c.latchs k d).input; next = (get_or c.latchs k d).next; init = o }) (plain_start (get_or c.latchs k d).init (plain k d h))));
   constrained = [];
@@ -241,7 +241,7 @@ GatesStarts-plain c is plain = record {
 pub gated_starts : (old : Circuit) → IsCircuit old → (All HasConstantInit old.latchs → ⊥) → (one : List AigNode) (id : ℕ) (latch : AigLatch) (plains latchs : List AigLatch) (constraints : List AigEdge)
     → id ≡ length old.nodes → AddsGates (with_node old.nodes Leaf) one → Constrains (with_node old.nodes Leaf) one (edge_to id false) old.latchs old.constraints constraints
     → plains ≡ map with_constant_start old.latchs → latch ≡ first_step_latch id → latchs ≡ plains ++ latch ∷ []
-    → IsCircuit (record old { nodes = one; latchs = latchs; constraints = constraints }) × GatesStarts old (record old { nodes = one; latchs = latchs; constraints = constraints })
+    → IsCircuit (record old { nodes = one; latchs = latchs; constraints = constraints }) × ConstrainsInits old (record old { nodes = one; latchs = latchs; constraints = constraints })
 gated_starts old is some_open one id latch plains latchs constraints id_is adds constrains plains_are latch_is latchs_are =
     let says = subst (λ n. Constrains (with_node old.nodes Leaf) one (edge_to n false) old.latchs old.constraints constraints) id_is constrains in
     let added : map with_constant_start old.latchs ++ first_step_latch (length old.nodes) ∷ [] ≡ latchs =
@@ -249,4 +249,4 @@ gated_starts old is some_open one id latch plains latchs constraints id_is adds 
     ∙ ap (λ ls. ls ++ first_step_latch id ∷ []) (sym plains_are)
     ∙ ap (λ l. plains ++ l ∷ []) (sym latch_is) ∙ sym latchs_are in
     let result : gated old is one constraints adds says ≡ record old { nodes = one; latchs = latchs; constraints = constraints } = ap (λ ls. record old { nodes = one; latchs = ls; constraints = constraints }) added in
-    (subst IsCircuit result (IsCircuit-gated old is one constraints adds says), subst (GatesStarts old) result (GatesStarts-built old is one constraints adds says some_open))
+    (subst IsCircuit result (IsCircuit-gated old is one constraints adds says), subst (ConstrainsInits old) result (ConstrainsInits-built old is one constraints adds says some_open))

@@ -17,7 +17,7 @@ use Rattle.aig_circuit.proofs.Building.{AddsGates-then, Grows-itself, Grows-leaf
 use Rattle.aig_circuit.proofs.Circuits.{IsCircuit-grown, IsFree-fresh}
 use Rattle.aig_circuit.proofs.Trees.{kind_at-within, node_value-leaf}
 use Rattle.aig_circuit.proofs.Writing.{IsCircuit-add_latch}
-use Rattle.aig_change.specs.Changes.{MovesConstraints, held_latch}
+use Rattle.aig_change.specs.Changes.{FoldsConstraints, held_latch}
 use Rattle.aig_change.specs.Joining.{JoinsFirst, JoinsInSteps}
 use Rattle.aig_change.proofs.Grown.{AddsLeaf, AddsLeaf-gates}
 use Rattle.aig_change.proofs.Held.{AddsHeld, AreOldRuns-held, JoinsConstraints-held}
@@ -75,8 +75,8 @@ module _ (old : Circuit) (is : IsCircuit old) (one two three four : List AigNode
       ∙ ap (λ v. edge_value four x next && v) (edge_value-Grows old.nodes before is.nodes (grown before to_before).grows x e e_there)
 
   -- the constraints are moved
-  pub MovesConstraints-built : MovesConstraints old moved
-  MovesConstraints-built = record {
+  pub FoldsConstraints-built : FoldsConstraints old moved
+  FoldsConstraints-built = record {
     next = next;
     latchs = refl;
     nodes = to_four;
@@ -112,7 +112,7 @@ pub moved_copy : (old lists : Circuit) → lists ≡ old → IsCircuit old → (
     → AddsGates two three → JoinsFirst two three next lists.bads bads → AddsGates three four → JoinsFirst three four next lists.outputs outputs
     → latch ≡ held_latch id next → latchs ≡ lists.latchs ++ latch ∷ [] → constraints ≡ []
     → IsCircuit (record lists { nodes = four; latchs = latchs; outputs = outputs; bads = bads; constraints = constraints })
-    × MovesConstraints old (record lists { nodes = four; latchs = latchs; outputs = outputs; bads = bads; constraints = constraints })
+    × FoldsConstraints old (record lists { nodes = four; latchs = latchs; outputs = outputs; bads = bads; constraints = constraints })
 moved_copy old lists same is zero one two three four id leaf_edge constraint next latch latchs bads outputs constraints leaf_is zero_is first joins_rule joins edge_is second rule there value third joins_bads fourth joins_outputs latch_is latchs_are none =
     let was : IsCircuit lists = subst IsCircuit (sym same) is in
     let builds : JoinsInSteps lists one two three four constraint next bads outputs = record {
@@ -132,7 +132,7 @@ moved_copy old lists same is zero one two three four id leaf_edge constraint nex
     let result : moved lists was one two three four constraint next bads outputs builds ≡ record lists { nodes = four; latchs = latchs; outputs = outputs; bads = bads; constraints = constraints } =
     ap (λ ls. record lists { nodes = four; latchs = ls; outputs = outputs; bads = bads; constraints = [] }) (sym added)
     ∙ ap (λ es. record lists { nodes = four; latchs = latchs; outputs = outputs; bads = bads; constraints = es }) (sym none) in
-    let moves = MovesConstraints-built lists was one two three four constraint next bads outputs builds in (
+    let moves = FoldsConstraints-built lists was one two three four constraint next bads outputs builds in (
       subst IsCircuit result (IsCircuit-built lists was one two three four constraint next bads outputs builds),
-      subst (λ c. MovesConstraints c (record lists { nodes = four; latchs = latchs; outputs = outputs; bads = bads; constraints = constraints })) same (subst (MovesConstraints lists) result moves),
+      subst (λ c. FoldsConstraints c (record lists { nodes = four; latchs = latchs; outputs = outputs; bads = bads; constraints = constraints })) same (subst (FoldsConstraints lists) result moves),
     )

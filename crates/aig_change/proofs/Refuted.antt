@@ -16,9 +16,9 @@ use Rattle.aig_circuit.specs.Edges.{HasConstantInit}
 use Rattle.aig_circuit.specs.Runs.{IsRun, IsInitial}
 use Rattle.aig_circuit.specs.Tree.{node_value, tree_of}
 use Rattle.aig_change.specs.Merge.{merged}
-use Rattle.aig_change.specs.Changes.{CompressesBads, GatesStarts, MovesConstraints, held_latch}
+use Rattle.aig_change.specs.Changes.{CompressesBads, ConstrainsInits, FoldsConstraints, held_latch}
 use Rattle.aig_change.specs.Runs.{IsRunFromInitial}
-use Rattle.aig_change.specs.Inits.{SaysStart}
+use Rattle.aig_change.specs.Inits.{ImpliesInit}
 
 abbrev node : ℕ → AigNodeType → AigNode
 node n kind = record { node_id = n; typ = kind }
@@ -62,13 +62,13 @@ one_leaf = node 0 False ∷ node 1 Leaf ∷ []
 abbrev with_properties : Circuit
 with_properties = record (circuit_with one_leaf (1 ∷ []) [] [] []) { outputs = edge_to 1 false ∷ []; justice = (edge_to 1 false ∷ []) ∷ [] }
 
-not_without_justice : (new : Circuit) → new.justice ≡ [] → ¬ MovesConstraints with_properties new
+not_without_justice : (new : Circuit) → new.justice ≡ [] → ¬ FoldsConstraints with_properties new
 not_without_justice new none m = let was = ap (λ (c : Circuit). c.justice) m.rest in let no : ◌≡◌ {A = List (List AigEdge)} [] ((edge_to 1 false ∷ []) ∷ []) = sym none ∙ was in cc
 
 not_without_outputs : (new : Circuit) → new.outputs ≡ [] → ¬ CompressesBads with_properties new
 not_without_outputs new none m = let was = ap (λ (c : Circuit). c.outputs) m.rest in let no : ◌≡◌ {A = List AigEdge} [] (edge_to 1 false ∷ []) = sym none ∙ was in cc
 
-not_without_properties : (new : Circuit) → new.outputs ≡ [] → ¬ GatesStarts with_properties new
+not_without_properties : (new : Circuit) → new.outputs ≡ [] → ¬ ConstrainsInits with_properties new
 not_without_properties new none m = let was = ap (λ (c : Circuit). c.outputs) m.rest in let no : ◌≡◌ {A = List AigEdge} [] (edge_to 1 false ∷ []) = sym none ∙ was in cc
 
 -- ---- bads that fold
@@ -106,7 +106,7 @@ present_alone = circuit_with (node 0 False ∷ node 1 Leaf ∷ node 2 Leaf ∷ n
 abbrev fails_once : ℕ → ℕ → Bool
 fails_once t n = if t == 0 then n == 2 else n == 1
 
-not_present_alone : ¬ MovesConstraints always_bad present_alone
+not_present_alone : ¬ FoldsConstraints always_bad present_alone
 unfolding node_value tree_of
 not_present_alone m =
     let says = m.bads.first 1 fails_once from_start 1 (edge_to 0 true) (edge_to 1 false) (omega arith) refl refl in
@@ -138,10 +138,10 @@ always_equal = circuit_with
 abbrev one_alone : ℕ → Bool
 one_alone n = n == 1
 
-not_always_equal : ¬ GatesStarts started_by_input always_equal
+not_always_equal : ¬ ConstrainsInits started_by_input always_equal
 unfolding node_value tree_of
 not_always_equal m =
-    let each = subst (λ constrained. AllZip (SaysStart (with_node started_by_input.nodes Leaf) always_equal.nodes (edge_to 3 false)) constrained started_by_input.latchs) (sym m.constraints) (m.each variable) in
+    let each = subst (λ constrained. AllZip (ImpliesInit (with_node started_by_input.nodes Leaf) always_equal.nodes (edge_to 3 false)) constrained started_by_input.latchs) (sym m.constraints) (m.each variable) in
     let says : false ≡ true = (each.0 one_alone).1 (λ (not_first : false ≡ true). absurd (false≢true not_first)) in
     false≢true says
   where

@@ -12,7 +12,7 @@ use Rattle.aig_circuit.specs.Edges.{HasConstantInit}
 use Rattle.std.specs.List.{AllZip}
 use Rattle.aig_circuit.specs.declared.node.AigNode.{AigNode}
 use Rattle.aig_change.specs.Joining.{JoinsInSteps}
-use Rattle.aig_change.specs.Inits.{SayInSteps, SaysStart, variable_latchs}
+use Rattle.aig_change.specs.Inits.{SayInSteps, ImpliesInit, variable_latchs}
 use Rattle.aig_change.specs.Runs.{AreOldRuns, ConstraintsHoldUpTo, IsAllowedRun, IsRunFromInitial}
 
 -- On every run from an initial state the first edge holds at a step exactly where the old one holds there and every old constraint holds at each
@@ -28,7 +28,7 @@ abbrev pub held_latch : ℕ → AigEdge → AigLatch
 held_latch leaf next = record { input = leaf; next = next; init = Some (edge_to 0 true) }
 
 -- The constraints are joined to the first bad and the first output edge, by a latch that is added on a new leaf; no constraint is left.
-pub record MovesConstraints (old new : Circuit) : Type 0 where
+pub record FoldsConstraints (old new : Circuit) : Type 0 where
   pub next : AigEdge
   pub latchs : new.latchs ≡ old.latchs ++ held_latch (length old.nodes) next ∷ []
   pub nodes : AddsGates (with_node old.nodes Leaf) new.nodes
@@ -63,7 +63,7 @@ abbrev pub first_step_latch : ℕ → AigLatch
 first_step_latch leaf = record { input = leaf; next = edge_to 0 false; init = Some (edge_to 0 true) }
 
 -- Initial edges that aren't constant are replaced by constraints, with one latch more that is true in the first step alone.
-pub record GatesStarts (old new : Circuit) : Type 0 where
+pub record ConstrainsInits (old new : Circuit) : Type 0 where
   pub leaf : Option ℕ
   pub latchs : new.latchs ≡ map with_constant_start old.latchs ++ map first_step_latch (option_to_list leaf)
   pub constrained : List AigEdge
@@ -74,7 +74,7 @@ pub record GatesStarts (old new : Circuit) : Type 0 where
   -- the added latch is one on a new leaf, and else gates alone are added
   pub some : ¬ All HasConstantInit old.latchs → (leaf ≡ Some (length old.nodes)) × AddsGates (with_node old.nodes Leaf) new.nodes
   -- a constraint for each latch that loses its initial edge: where the added latch is true, the two are equal
-  pub each : ¬ All HasConstantInit old.latchs → AllZip (SaysStart (with_node old.nodes Leaf) new.nodes (edge_to (length old.nodes) false)) constrained (variable_latchs old.latchs)
+  pub each : ¬ All HasConstantInit old.latchs → AllZip (ImpliesInit (with_node old.nodes Leaf) new.nodes (edge_to (length old.nodes) false)) constrained (variable_latchs old.latchs)
   -- and it is made by the builders' rules
   pub steps : ¬ All HasConstantInit old.latchs → SayInSteps (with_node old.nodes Leaf) (edge_to (length old.nodes) false) constrained (variable_latchs old.latchs) new.nodes
   pub runs : AreOldRuns old new (IsAllowedRun new) (IsAllowedRun old)

@@ -24,8 +24,8 @@ abbrev pub variable_latchs : List AigLatch → List AigLatch
 variable_latchs latchs = filter (λ latch. is_variable latch.init) latchs
 
 -- the constraint holds exactly where the edge `first` implies that the latch has the value of its initial edge
-abbrev pub SaysStart : List AigNode → List AigNode → AigEdge → AigEdge → AigLatch → Type 0
-SaysStart old new first constraint latch = (x : ℕ → Bool) → IsTrue (edge_value new x constraint) ↔ (edge_value old x first ≡ true → MeetsInit old x latch)
+abbrev pub ImpliesInit : List AigNode → List AigNode → AigEdge → AigEdge → AigLatch → Type 0
+ImpliesInit old new first constraint latch = (x : ℕ → Bool) → IsTrue (edge_value new x constraint) ↔ (edge_value old x first ≡ true → MeetsInit old x latch)
 
 -- One latch's constraint by the builders' rules: its leaf equals its initial edge, and the edge `first` implies that.
 pub record SaysInSteps (old new : List AigNode) (first constraint : AigEdge) (latch : AigLatch) : Type 0 where
@@ -51,5 +51,5 @@ pub record Constrains (old new : List AigNode) (first : AigEdge) (latchs : List 
   pub appended : after ≡ before ++ constrained
   pub there : All (IsInRange new) constrained
   pub says : (x : ℕ → Bool) → All (λ e. IsTrue (edge_value new x e)) constrained ↔ (edge_value old x first ≡ true → All (MeetsInit old x) latchs)
-  pub each : AllZip (SaysStart old new first) constrained (variable_latchs latchs)
+  pub each : AllZip (ImpliesInit old new first) constrained (variable_latchs latchs)
   pub steps : SayInSteps old first constrained (variable_latchs latchs) new

@@ -5,7 +5,7 @@ ghost use Rattle.aig_circuit.specs.Circuit.{IsCircuit};
 ghost use Rattle.aig_circuit.specs.Edges.{HasConstantInit};
 ghost use Rattle.aig_circuit.specs.View.{lists_circuit};
 ghost use Rattle.aig_change.specs.Merge.{merged};
-ghost use Rattle.aig_change.specs.Changes.{CompressesBads, GatesStarts, MovesConstraints};
+ghost use Rattle.aig_change.specs.Changes.{CompressesBads, ConstrainsInits, FoldsConstraints};
 
 use crate::append;
 use crate::joining::{inverses, join_first};
@@ -45,7 +45,7 @@ pub fn merge(first: &mut CircuitLists, other: &CircuitView<'_>) -> Result<(), Me
 /// refused memory.
 pub fn aig_move(circuit: &CircuitView<'_>) -> Result<CircuitLists, MemoryError>
     ensures circuit { IfOk result (λ lists. IsCircuit (lists_circuit lists)) }
-    ensures moves { IfOk result (λ lists. MovesConstraints circuit.now (lists_circuit lists)) }
+    ensures moves { IfOk result (λ lists. FoldsConstraints circuit.now (lists_circuit lists)) }
 {
     let constraints = circuit.constraints();
     let mut lists = circuit.to_lists()?;
@@ -85,7 +85,7 @@ pub fn gate_init_to_constraint(lists: &mut CircuitLists) -> Result<(), MemoryErr
     requires { IsCircuit (lists_circuit lists.old) }
     ensures circuit { IsCircuit (lists_circuit lists.new) }
     ensures starts { IfOk result
-        (λ _. GatesStarts (lists_circuit lists.old) (lists_circuit lists.new)) }
+        (λ _. ConstrainsInits (lists_circuit lists.old) (lists_circuit lists.new)) }
     // Where there is nothing to change no memory is taken.
     ensures plain { All HasConstantInit (lists_circuit lists.old).latchs → IsOk result }
     ensures err { OnErr result (lists_circuit lists.new ≡ lists_circuit lists.old) }

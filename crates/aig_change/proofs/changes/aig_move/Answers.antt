@@ -5,7 +5,7 @@ use Rattle.aig_circuit.specs.Build.{FoldsOrAddsAll, JoinsByAnd}
 use Rattle.aig_circuit.specs.Circuit.{Circuit, IsCircuit, IsInRange}
 use Rattle.aig_circuit.specs.View.{lists_circuit}
 use Rattle.aig_circuit.proofs.Building.{Grows-then}
-use Rattle.aig_change.specs.Changes.{MovesConstraints, held_latch}
+use Rattle.aig_change.specs.Changes.{FoldsConstraints, held_latch}
 use Rattle.aig_change.proofs.Moving.{All-grown, moved_copy}
 use Rattle.aig_change.proofs.changes.aig_move.Goals as goal
 
@@ -40,7 +40,7 @@ made c = record (lists_circuit c.in_ok-lists.lists) {
   constraints = c.clear.new.self.items;
 }
 
-both : (c : goal.After-clear) → IsCircuit (made c) × MovesConstraints c.args.circuit.now (made c)
+both : (c : goal.After-clear) → IsCircuit (made c) × FoldsConstraints c.args.circuit.now (made c)
 both c =
     let same = c.constraints-constraints.ensures.value ∙ sym (ap (λ (d : Circuit). d.constraints) c.in_ok-lists.ensures.copy) in
     let rule = subst (λ (es : List AigEdge). FoldsOrAddsAll c.new_leaf_node.new.nodes.items es c.new_ands_node.new.nodes.items c.in_ok-constraint.constraint) same c.in_ok-constraint.ensures.rule in

@@ -9,20 +9,20 @@ use Rattle.aig_circuit.specs.Circuit.{Circuit, IsCircuit}
 use Rattle.aig_circuit.specs.Edge.{edge_to}
 use Rattle.aig_circuit.specs.Edges.{HasConstantInit}
 use Rattle.aig_circuit.specs.View.{lists_circuit}
-use Rattle.aig_change.specs.Changes.{GatesStarts, first_step_latch, with_constant_start}
+use Rattle.aig_change.specs.Changes.{ConstrainsInits, first_step_latch, with_constant_start}
 use Rattle.aig_change.specs.Inits.{Constrains}
-use Rattle.aig_change.proofs.Constraining.{GatesStarts-plain, gated_starts}
+use Rattle.aig_change.proofs.Constraining.{ConstrainsInits-plain, gated_starts}
 use Rattle.aig_change.proofs.changes.gate_init_to_constraint.Goals as goal
 
 pub returns-then-are_inits_constant-clause-starts : goal.returns-then-are_inits_constant-clause-starts
 returns-then-are_inits_constant-clause-starts c =
-    GatesStarts-plain (lists_circuit c.args.lists.now) c.requires (subst (All HasConstantInit) c.deref.ensures.value (c.are_inits_constant.ensures.plain.0 c.if-are_inits_constant.true))
+    ConstrainsInits-plain (lists_circuit c.args.lists.now) c.requires (subst (All HasConstantInit) c.deref.ensures.value (c.are_inits_constant.ensures.plain.0 c.if-are_inits_constant.true))
 
 -- the circuit that is left
 abbrev made : goal.After-push_reserved → Circuit
 made c = record (lists_circuit c.args.lists.now) { nodes = c.constrain_starts.new.nodes.items; latchs = c.push_reserved.new.self.items; constraints = c.constrain_starts.new.constraints.items }
 
-both : (c : goal.After-push_reserved) → IsCircuit (made c) × GatesStarts (lists_circuit c.args.lists.now) (made c)
+both : (c : goal.After-push_reserved) → IsCircuit (made c) × ConstrainsInits (lists_circuit c.args.lists.now) (made c)
 both c =
     let plains = c.make_plain.new.latchs in
     let were = c.deref_mut.ensures.value ∙ c.reserve.ensures.items in
