@@ -806,8 +806,8 @@ def g30(t):
 
 @group("31", "The latch of held constraints, the circuit of lists")
 def g31(t):
-    t.ident("held_latch", "constraints_held_latch")
-    t.ident("held_circuit", "circuit_of_lists")
+    t.ident("constraints_held_latch", "constraints_held_latch")
+    t.ident("circuit_of_lists", "circuit_of_lists")
 
 
 @group("32", "Marks are added")

@@ -5,5 +5,5 @@ use Rattle.aig_circuit.specs.View.{lists_circuit}
 use Rattle.aig.specs.declared.graph.Aig.TheInside.{Inside}
 
 -- the circuit that the fields hold
-abbrev pub held_circuit : Inside → Circuit
-held_circuit a = lists_circuit a.lists
+abbrev pub circuit_of_lists : Inside → Circuit
+circuit_of_lists a = lists_circuit a.lists

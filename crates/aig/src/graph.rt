@@ -54,11 +54,11 @@ impl Model for Aig {
     ghost coded = { Prim.hlevel
         (codes, finite_map.code {R = nat_cmp} coded_ℕ (coded_list coded_ℕ)) };
 
-    ghost use Rattle.aig.specs.View.{held_circuit};
+    ghost use Rattle.aig.specs.View.{circuit_of_lists};
 
-    ghost view = { held_circuit };
+    ghost view = { circuit_of_lists };
 
-    ghost invariant = { λ a. IsCircuit (held_circuit a) };
+    ghost invariant = { λ a. IsCircuit (circuit_of_lists a) };
 }
 
 impl Aig {

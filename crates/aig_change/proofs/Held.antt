@@ -10,7 +10,7 @@ use Rattle.aig_circuit.specs.Tree.{edge_value}
 use Rattle.aig_circuit.specs.Circuit.{Circuit, IsCircuit, IsLeaf}
 use Rattle.aig_circuit.specs.Runs.{AgreeOnLeaves}
 use Rattle.aig_circuit.proofs.Trees.{kind_at-within, node_value-false}
-use Rattle.aig_change.specs.Changes.{JoinsConstraints, held_latch}
+use Rattle.aig_change.specs.Changes.{JoinsConstraints, constraints_held_latch}
 use Rattle.aig_change.specs.Runs.{AreOldRuns, ConstraintsHoldUpTo, IsRunFromInitial}
 use Rattle.aig_change.proofs.Grown.{AddsLeaf, Begins, Follows, all_hold, all_hold-same, begins_back, begins_forth, follows_back, follows_forth}
 use Rattle.aig_circuit.proofs.Lists.{All-first, All-second}
@@ -18,7 +18,7 @@ use Rattle.aig_circuit.proofs.Lists.{All-first, All-second}
 -- A latch is added whose next value is the and of its own and of all constraints.
 pub record AddsHeld (old new : Circuit) (leaf : ℕ) (next : AigEdge) : Type 0 where
   pub nodes : AddsLeaf old.nodes new.nodes leaf
-  pub latchs : new.latchs ≡ old.latchs ++ held_latch leaf next ∷ []
+  pub latchs : new.latchs ≡ old.latchs ++ constraints_held_latch leaf next ∷ []
   pub value : (x : ℕ → Bool) → edge_value new.nodes x next ≡ (x leaf && all_hold old x)
 
 -- whether all constraints held at all steps before
@@ -58,21 +58,21 @@ module _ (old new : Circuit) (leaf : ℕ) (next : AigEdge) (is : IsCircuit old) 
   -- ---- runs of the new circuit
 
   module _ (last : ℕ) (z : ℕ → ℕ → Bool) (run : IsRunFromInitial new last z) where
-    follows : (t : ℕ) → t < last → All (Follows new.nodes (z t) (z (t + 1))) (old.latchs ++ held_latch leaf next ∷ [])
+    follows : (t : ℕ) → t < last → All (Follows new.nodes (z t) (z (t + 1))) (old.latchs ++ constraints_held_latch leaf next ∷ [])
     follows t h = subst (All (Follows new.nodes (z t) (z (t + 1)))) adds.latchs (run.run t h)
 
-    begins : All (Begins new.nodes (z 0)) (old.latchs ++ held_latch leaf next ∷ [])
+    begins : All (Begins new.nodes (z 0)) (old.latchs ++ constraints_held_latch leaf next ∷ [])
     begins = subst (All (Begins new.nodes (z 0))) adds.latchs run.start
 
     starts_true : z 0 leaf ≡ true
     starts_true =
-        sym (All-second (Begins new.nodes (z 0)) old.latchs (held_latch leaf next ∷ []) begins 0 (held_latch leaf next) (omega arith))
+        sym (All-second (Begins new.nodes (z 0)) old.latchs (constraints_held_latch leaf next ∷ []) begins 0 (constraints_held_latch leaf next) (omega arith))
         ∙ ap not (node_value-false new.nodes (z 0) 0 adds.nodes.grows.sound.false_first)
 
     moves_on : (t : ℕ) → t < last → z (suc t) leaf ≡ (z t leaf && all_hold old (z t))
     moves_on t h =
         subst (λ k. z k leaf ≡ (z t leaf && all_hold old (z t))) (add-one t)
-        (All-second (Follows new.nodes (z t) (z (t + 1))) old.latchs (held_latch leaf next ∷ []) (follows t h) 0 (held_latch leaf next) (omega arith) ∙ adds.value (z t))
+        (All-second (Follows new.nodes (z t) (z (t + 1))) old.latchs (constraints_held_latch leaf next ∷ []) (follows t h) 0 (constraints_held_latch leaf next) (omega arith) ∙ adds.value (z t))
 
     -- the added latch holds where all constraints held at all steps before
     pub leaf_held : (t : ℕ) → t ≤ last → z t leaf ≡ held_before old z t
@@ -82,9 +82,9 @@ module _ (old new : Circuit) (leaf : ℕ) (next : AigEdge) (is : IsCircuit old) 
 
     pub cut_run : IsRunFromInitial old last z
     cut_run = record {
-      run = λ t h. follows_forth old new.nodes is adds.nodes.grows (z t) (z (t + 1)) (All-first (Follows new.nodes (z t) (z (t + 1))) old.latchs (held_latch leaf next ∷ []) (follows t h));
+      run = λ t h. follows_forth old new.nodes is adds.nodes.grows (z t) (z (t + 1)) (All-first (Follows new.nodes (z t) (z (t + 1))) old.latchs (constraints_held_latch leaf next ∷ []) (follows t h));
       start = λ k d h. begins_forth old new.nodes is adds.nodes.grows (z 0) (get_or old.latchs k d).input (get_or old.latchs k d).init (is.latchs k d h).init
-          (All-first (Begins new.nodes (z 0)) old.latchs (held_latch leaf next ∷ []) begins k d h);
+          (All-first (Begins new.nodes (z 0)) old.latchs (constraints_held_latch leaf next ∷ []) begins k d h);
     }
 
     -- an edge that joins an old one with the latch's next one holds where the old one does and all constraints held up to this step
@@ -116,18 +116,18 @@ module _ (old new : Circuit) (leaf : ℕ) (next : AigEdge) (is : IsCircuit old) 
       ap (λ b. cond b (held_before old x t) (x t n)) (ne_eqb n leaf differ)
 
   module _ (last : ℕ) (x : ℕ → ℕ → Bool) (run : IsRunFromInitial old last x) where
-    extended_follows : (t : ℕ) → t < last → All (Follows new.nodes (extended_by x t) (extended_by x (t + 1))) (old.latchs ++ held_latch leaf next ∷ [])
+    extended_follows : (t : ℕ) → t < last → All (Follows new.nodes (extended_by x t) (extended_by x (t + 1))) (old.latchs ++ constraints_held_latch leaf next ∷ [])
     unfolding held_before
-    extended_follows t h = All-push (Follows new.nodes (extended_by x t) (extended_by x (t + 1))) old.latchs (held_latch leaf next)
+    extended_follows t h = All-push (Follows new.nodes (extended_by x t) (extended_by x (t + 1))) old.latchs (constraints_held_latch leaf next)
         (follows_back old new.nodes is adds.nodes.grows (extended_by x t) (x t) (extended_old x t) (extended_by x (t + 1)) (x (t + 1)) (extended_old x (t + 1)) (run.run t h))
         (extended_leaf x (t + 1) ∙ ap (held_before old x) (add-one t)
         ∙ ap (λ b. b && all_hold old (x t)) (sym (extended_leaf x t))
         ∙ ap (λ b. extended_by x t leaf && b) (sym (all_hold-same old is (extended_by x t) (x t) (extended_old x t)))
         ∙ sym (adds.value (extended_by x t)))
 
-    extended_begins : All (Begins new.nodes (extended_by x 0)) (old.latchs ++ held_latch leaf next ∷ [])
+    extended_begins : All (Begins new.nodes (extended_by x 0)) (old.latchs ++ constraints_held_latch leaf next ∷ [])
     unfolding held_before
-    extended_begins = All-push (Begins new.nodes (extended_by x 0)) old.latchs (held_latch leaf next)
+    extended_begins = All-push (Begins new.nodes (extended_by x 0)) old.latchs (constraints_held_latch leaf next)
         (λ k d h. begins_back old new.nodes is adds.nodes.grows (extended_by x 0) (x 0) (extended_old x 0) (get_or old.latchs k d).input (is.latchs k d h).leaf (get_or old.latchs k d).init (is.latchs k d h).init (run.start k d h))
         (ap not (node_value-false new.nodes (extended_by x 0) 0 adds.nodes.grows.sound.false_first) ∙ sym (extended_leaf x 0))
 

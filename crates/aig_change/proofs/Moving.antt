@@ -17,7 +17,7 @@ use Rattle.aig_circuit.proofs.Building.{AddsGates-then, Grows-itself, Grows-leaf
 use Rattle.aig_circuit.proofs.Circuits.{IsCircuit-grown, IsFree-fresh}
 use Rattle.aig_circuit.proofs.Trees.{kind_at-within, node_value-leaf}
 use Rattle.aig_circuit.proofs.Writing.{IsCircuit-add_latch}
-use Rattle.aig_change.specs.Changes.{FoldsConstraints, held_latch}
+use Rattle.aig_change.specs.Changes.{FoldsConstraints, constraints_held_latch}
 use Rattle.aig_change.specs.Joining.{JoinsFirst, JoinsInSteps}
 use Rattle.aig_change.proofs.Grown.{AddsLeaf, AddsLeaf-gates}
 use Rattle.aig_change.proofs.Held.{AddsHeld, AreOldRuns-held, JoinsConstraints-held}
@@ -28,7 +28,7 @@ module _ (old : Circuit) (is : IsCircuit old) (one two three four : List AigNode
   leaf = length old.nodes
 
   abbrev pub moved : Circuit
-  moved = record old { nodes = four; latchs = old.latchs ++ held_latch leaf next ∷ []; outputs = outputs; bads = bads; constraints = [] }
+  moved = record old { nodes = four; latchs = old.latchs ++ constraints_held_latch leaf next ∷ []; outputs = outputs; bads = bads; constraints = [] }
 
   to_two : AddsGates (with_node old.nodes Leaf) two
   to_two = AddsGates-then (with_node old.nodes Leaf) one two b.first b.second
@@ -96,7 +96,7 @@ module _ (old : Circuit) (is : IsCircuit old) (one two three four : List AigNode
       let over = IsCircuit-grown old four is (grown four to_four).grows in
       let here : 0 < length four = kind_at-within four 0 False to_four.grows.sound.false_first in
       let next_there : IsInRange four next = let low = b.there in omega (arith, Grows-longer two four two_to_four) in
-      let latched = IsCircuit-add_latch (record old { nodes = four }) (held_latch leaf next) over (record { leaf = (grown four to_four).there; next = next_there; init = here }) (IsFree-fresh old is) in
+      let latched = IsCircuit-add_latch (record old { nodes = four }) (constraints_held_latch leaf next) over (record { leaf = (grown four to_four).there; next = next_there; init = here }) (IsFree-fresh old is) in
       let bads_there : All (IsInRange four) bads = λ k d h. let low = b.joins_bads.there k d h in omega (arith, Grows-longer three four b.fourth.grows) in
       let none = All-nil (IsInRange four) in
       assumption (latched, bads_there, b.joins_outputs.there, none)
@@ -110,7 +110,7 @@ pub moved_copy : (old lists : Circuit) → lists ≡ old → IsCircuit old → (
     → id ≡ length lists.nodes → zero ≡ with_node lists.nodes Leaf → AddsGates zero one → FoldsOrAddsAll zero lists.constraints one constraint → JoinsByAnd zero one lists.constraints constraint → leaf_edge ≡ edge_to id false
     → AddsGates one two → FoldsOrAdds one two leaf_edge constraint next → IsInRange two next → ((x : ℕ → Bool) → edge_value two x next ≡ (edge_value one x leaf_edge && edge_value one x constraint))
     → AddsGates two three → JoinsFirst two three next lists.bads bads → AddsGates three four → JoinsFirst three four next lists.outputs outputs
-    → latch ≡ held_latch id next → latchs ≡ lists.latchs ++ latch ∷ [] → constraints ≡ []
+    → latch ≡ constraints_held_latch id next → latchs ≡ lists.latchs ++ latch ∷ [] → constraints ≡ []
     → IsCircuit (record lists { nodes = four; latchs = latchs; outputs = outputs; bads = bads; constraints = constraints })
     × FoldsConstraints old (record lists { nodes = four; latchs = latchs; outputs = outputs; bads = bads; constraints = constraints })
 moved_copy old lists same is zero one two three four id leaf_edge constraint next latch latchs bads outputs constraints leaf_is zero_is first joins_rule joins edge_is second rule there value third joins_bads fourth joins_outputs latch_is latchs_are none =
@@ -128,7 +128,7 @@ moved_copy old lists same is zero one two three four id leaf_edge constraint nex
       fourth = fourth;
       joins_outputs = joins_outputs;
     } in
-    let added : latchs ≡ lists.latchs ++ held_latch (length lists.nodes) next ∷ [] = latchs_are ∙ ap (λ l. lists.latchs ++ l ∷ []) (latch_is ∙ ap (λ n. held_latch n next) leaf_is) in
+    let added : latchs ≡ lists.latchs ++ constraints_held_latch (length lists.nodes) next ∷ [] = latchs_are ∙ ap (λ l. lists.latchs ++ l ∷ []) (latch_is ∙ ap (λ n. constraints_held_latch n next) leaf_is) in
     let result : moved lists was one two three four constraint next bads outputs builds ≡ record lists { nodes = four; latchs = latchs; outputs = outputs; bads = bads; constraints = constraints } =
     ap (λ ls. record lists { nodes = four; latchs = ls; outputs = outputs; bads = bads; constraints = [] }) (sym added)
     ∙ ap (λ es. record lists { nodes = four; latchs = latchs; outputs = outputs; bads = bads; constraints = es }) (sym none) in

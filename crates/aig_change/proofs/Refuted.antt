@@ -16,7 +16,7 @@ use Rattle.aig_circuit.specs.Edges.{HasConstantInit}
 use Rattle.aig_circuit.specs.Runs.{IsRun, IsInitial}
 use Rattle.aig_circuit.specs.Tree.{node_value, tree_of}
 use Rattle.aig_change.specs.Merge.{merged}
-use Rattle.aig_change.specs.Changes.{CompressesBads, ConstrainsInits, FoldsConstraints, held_latch}
+use Rattle.aig_change.specs.Changes.{CompressesBads, ConstrainsInits, FoldsConstraints, constraints_held_latch}
 use Rattle.aig_change.specs.Runs.{IsRunFromInitial}
 use Rattle.aig_change.specs.Inits.{ImpliesInit}
 
@@ -100,7 +100,7 @@ always_bad = circuit_with one_leaf (1 ∷ []) [] (edge_to 0 true ∷ []) (edge_t
 
 -- the bad edge is the constraint: it holds at a step though the constraint failed before
 abbrev present_alone : Circuit
-present_alone = circuit_with (node 0 False ∷ node 1 Leaf ∷ node 2 Leaf ∷ node 3 (and_of 1 false 2 false) ∷ []) (1 ∷ []) (held_latch 2 (edge_to 3 false) ∷ []) (edge_to 1 false ∷ []) []
+present_alone = circuit_with (node 0 False ∷ node 1 Leaf ∷ node 2 Leaf ∷ node 3 (and_of 1 false 2 false) ∷ []) (1 ∷ []) (constraints_held_latch 2 (edge_to 3 false) ∷ []) (edge_to 1 false ∷ []) []
 
 -- input 1 from step 1 on, and the latch at step 0
 abbrev fails_once : ℕ → ℕ → Bool

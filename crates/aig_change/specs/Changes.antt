@@ -24,13 +24,13 @@ pub record JoinsConstraints (old new : Circuit) (edges joined : List AigEdge) : 
       IsTrue (edge_value new.nodes (z t) f) ↔ (IsTrue (edge_value old.nodes (z t) e) × ConstraintsHoldUpTo old t z)
 
 -- the latch that is true in an initial state, with this next edge
-abbrev pub held_latch : ℕ → AigEdge → AigLatch
-held_latch leaf next = record { input = leaf; next = next; init = Some (edge_to 0 true) }
+abbrev pub constraints_held_latch : ℕ → AigEdge → AigLatch
+constraints_held_latch leaf next = record { input = leaf; next = next; init = Some (edge_to 0 true) }
 
 -- The constraints are joined to the first bad and the first output edge, by a latch that is added on a new leaf; no constraint is left.
 pub record FoldsConstraints (old new : Circuit) : Type 0 where
   pub next : AigEdge
-  pub latchs : new.latchs ≡ old.latchs ++ held_latch (length old.nodes) next ∷ []
+  pub latchs : new.latchs ≡ old.latchs ++ constraints_held_latch (length old.nodes) next ∷ []
   pub nodes : AddsGates (with_node old.nodes Leaf) new.nodes
   pub steps : (one two three : List AigNode) × (constraint : AigEdge) × JoinsInSteps old one two three new.nodes constraint next new.bads new.outputs
   pub constraints : new.constraints ≡ []

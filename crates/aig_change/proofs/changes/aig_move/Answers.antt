@@ -5,7 +5,7 @@ use Rattle.aig_circuit.specs.Build.{FoldsOrAddsAll, JoinsByAnd}
 use Rattle.aig_circuit.specs.Circuit.{Circuit, IsCircuit, IsInRange}
 use Rattle.aig_circuit.specs.View.{lists_circuit}
 use Rattle.aig_circuit.proofs.Building.{Grows-then}
-use Rattle.aig_change.specs.Changes.{FoldsConstraints, held_latch}
+use Rattle.aig_change.specs.Changes.{FoldsConstraints, constraints_held_latch}
 use Rattle.aig_change.proofs.Moving.{All-grown, moved_copy}
 use Rattle.aig_change.proofs.changes.aig_move.Goals as goal
 
@@ -45,7 +45,7 @@ both c =
     let same = c.constraints-constraints.ensures.value ∙ sym (ap (λ (d : Circuit). d.constraints) c.in_ok-lists.ensures.copy) in
     let rule = subst (λ (es : List AigEdge). FoldsOrAddsAll c.new_leaf_node.new.nodes.items es c.new_ands_node.new.nodes.items c.in_ok-constraint.constraint) same c.in_ok-constraint.ensures.rule in
     let joins = subst (λ (es : List AigEdge). JoinsByAnd c.new_leaf_node.new.nodes.items c.new_ands_node.new.nodes.items es c.in_ok-constraint.constraint) same c.in_ok-constraint.ensures.joins in
-    let latch : c.new.result ≡ held_latch c.in_ok-leaf.leaf c.in_ok-next.next = c.new.ensures ∙ ap (λ (e : AigEdge). record { input = c.in_ok-leaf.leaf; next = c.in_ok-next.next; init = Some e }) c.constant.ensures in
+    let latch : c.new.result ≡ constraints_held_latch c.in_ok-leaf.leaf c.in_ok-next.next = c.new.ensures ∙ ap (λ (e : AigEdge). record { input = c.in_ok-leaf.leaf; next = c.in_ok-next.next; init = Some e }) c.constant.ensures in
     moved_copy c.args.circuit.now (lists_circuit c.in_ok-lists.lists) c.in_ok-lists.ensures.copy c.constraints-constraints.ensures.circuit
     c.new_leaf_node.new.nodes.items c.new_ands_node.new.nodes.items c.new_and_node.new.nodes.items c.join_first.new.nodes.items c.join_first-2.new.nodes.items
     c.in_ok-leaf.leaf c.from.result c.in_ok-constraint.constraint c.in_ok-next.next c.new.result c.push.new.self.items c.join_first.new.edges.items c.join_first-2.new.edges.items c.clear.new.self.items

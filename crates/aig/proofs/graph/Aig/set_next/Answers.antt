@@ -4,7 +4,7 @@ use Rattle.std.proofs.lemmas.Option.{get_or_from_slice_get}
 use Rattle.aig_circuit.specs.declared.node.AigLatch.{AigLatch}
 use Rattle.aig_circuit.specs.Circuit.{Circuit, IsInRange}
 use Rattle.aig_circuit.proofs.Writing.{IsCircuit-set_next}
-use Rattle.aig.specs.View.{held_circuit}
+use Rattle.aig.specs.View.{circuit_of_lists}
 use Rattle.aig.proofs.graph.Aig.set_next.Goals as goal
 
 pub invariant_of-self : goal.invariant_of-self
@@ -21,5 +21,5 @@ returns c = λ latch is.
     let there = subst (λ (v : Circuit). slice_get v.latchs c.args.i ≡ Some latch) (sym c.self.view_is) is in
     let old : c.index.result.now ≡ latch = c.index.ensures ∙ get_or_from_slice_get _ c.args.i latch _ there in
     let new : c.new.result ≡ record latch { next = c.args.e } = rw (c.new.ensures, c.input.ensures, c.init.ensures, old) in
-    ap (λ (l : AigLatch). record (held_circuit c.self.inside) { latchs = set c.self.inside.lists.latchs.items c.args.i l }) new
+    ap (λ (l : AigLatch). record (circuit_of_lists c.self.inside) { latchs = set c.self.inside.lists.latchs.items c.args.i l }) new
     ∙ ap (λ (v : Circuit). record v { latchs = set v.latchs c.args.i (record latch { next = c.args.e }) }) c.self.view_is
