@@ -812,9 +812,9 @@ def g31(t):
 
 @group("32", "Marks are added")
 def g32(t):
-    t.ident("MarksToo", "AddsEdgeMarks")
-    t.ident("MarksAlso", "AddsMarks")
-    t.ident("MarksNeeded", "AddsNeededMarks")
+    t.ident("AddsEdgeMarks", "AddsEdgeMarks")
+    t.ident("AddsMarks", "AddsMarks")
+    t.ident("AddsNeededMarks", "AddsNeededMarks")
 
 
 @group("33", "An entry records a value")

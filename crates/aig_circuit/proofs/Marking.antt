@@ -8,7 +8,7 @@ use Rattle.std.proofs.lemmas.List.{take_more, flat_map_more, map-append, get_or-
 use Rattle.std.proofs.lemmas.List.Elements.{Contains-append_left, Contains-append_right, Contains-append_cases, Contains-push, Contains-push_cases, All-contains, All-map}
 use Rattle.aig_circuit.specs.declared.edge.AigEdge.{AigEdge}
 use Rattle.aig_circuit.specs.Edges.{ReferTo}
-use Rattle.aig_circuit.specs.Marks.{IsMarked, MarksToo}
+use Rattle.aig_circuit.specs.Marks.{IsMarked, AddsEdgeMarks}
 
 -- what holds of the node of each edge holds of each node that they name
 pub named_has : (P : ℕ → Type 0) (es : List AigEdge) (n : ℕ) → All (λ e. P e.node_id) es → ReferTo es n → P n
@@ -43,8 +43,8 @@ marked_set marks i n h = elim (cases_eq n i) [
   | inr ne ↦ (λ m. inl (rw get_or-set_other at m), λ m. elim m [ inl old ↦ rw get_or-set_other old | inr e ↦ absurd (ne (sym e)) ])
 ]
 
-pub MarksToo-then : (a b c : List Bool) (es fs : List AigEdge) → MarksToo a b es → MarksToo b c fs → MarksToo a c (es ++ fs)
-MarksToo-then a b c es fs p q n = (
+pub AddsEdgeMarks-then : (a b c : List Bool) (es fs : List AigEdge) → AddsEdgeMarks a b es → AddsEdgeMarks b c fs → AddsEdgeMarks a c (es ++ fs)
+AddsEdgeMarks-then a b c es fs p q n = (
   λ m. elim ((q n).0 m) [
     | inl in_b ↦ elim ((p n).0 in_b) [ inl in_a ↦ inl in_a | inr h ↦ inr ((named_append es fs n).1 (inl h)) ]
     | inr h ↦ inr ((named_append es fs n).1 (inr h))
@@ -55,23 +55,23 @@ MarksToo-then a b c es fs p q n = (
   ],
 )
 
-pub MarksToo-set : (marks : List Bool) (e : AigEdge) → e.node_id < length marks → MarksToo marks (set marks e.node_id true) (e ∷ [])
-MarksToo-set marks e h n =
+pub AddsEdgeMarks-set : (marks : List Bool) (e : AigEdge) → e.node_id < length marks → AddsEdgeMarks marks (set marks e.node_id true) (e ∷ [])
+AddsEdgeMarks-set marks e h n =
     let written = marked_set marks e.node_id n h in (
       λ m. elim (written.0 m) [ inl was ↦ inl was | inr here ↦ inr ((named_one e n).1 here) ],
       λ m. elim m [ inl was ↦ written.1 (inl was) | inr named ↦ written.1 (inr ((named_one e n).0 named)) ],
     )
 
 -- one more edge
-pub MarksToo-more : (es : List AigEdge) (i : ℕ) (d : AigEdge) (a b c : List Bool) → i < length es → MarksToo a b (take i es) → MarksToo b c (get_or es i d ∷ []) → MarksToo a c (take (i + 1) es)
-MarksToo-more es i d a b c h p q = subst (MarksToo a c) (sym (take_more es i d h)) (MarksToo-then a b c (take i es) (get_or es i d ∷ []) p q)
+pub AddsEdgeMarks-more : (es : List AigEdge) (i : ℕ) (d : AigEdge) (a b c : List Bool) → i < length es → AddsEdgeMarks a b (take i es) → AddsEdgeMarks b c (get_or es i d ∷ []) → AddsEdgeMarks a c (take (i + 1) es)
+AddsEdgeMarks-more es i d a b c h p q = subst (AddsEdgeMarks a c) (sym (take_more es i d h)) (AddsEdgeMarks-then a b c (take i es) (get_or es i d ∷ []) p q)
 
 -- the edges of one element more
-pub MarksToo-more_of : {X : Type 0} (edges : X → List AigEdge) (xs : List X) (i : ℕ) (d : X) (a b c : List Bool) → i < length xs → MarksToo a b (flat_map edges (take i xs)) → MarksToo b c (edges (get_or xs i d)) → MarksToo a c (flat_map edges (take (i + 1) xs))
-MarksToo-more_of edges xs i d a b c h p q =
+pub AddsEdgeMarks-more_of : {X : Type 0} (edges : X → List AigEdge) (xs : List X) (i : ℕ) (d : X) (a b c : List Bool) → i < length xs → AddsEdgeMarks a b (flat_map edges (take i xs)) → AddsEdgeMarks b c (edges (get_or xs i d)) → AddsEdgeMarks a c (flat_map edges (take (i + 1) xs))
+AddsEdgeMarks-more_of edges xs i d a b c h p q =
     let more : flat_map edges (take (i + 1) xs) ≡ flat_map edges (take i xs) ++ edges (get_or xs i d) =
     ap (flat_map edges) (take_more xs i d h) ∙ sym (flat_map_more edges [] (take i xs) (get_or xs i d)) in
-    subst (MarksToo a c) (sym more) (MarksToo-then a b c (flat_map edges (take i xs)) (edges (get_or xs i d)) p q)
+    subst (AddsEdgeMarks a c) (sym more) (AddsEdgeMarks-then a b c (flat_map edges (take i xs)) (edges (get_or xs i d)) p q)
 
 -- the marks that are held are those that were lent
 pub whole : (marks lent : List Bool) → length lent ≡ length marks → take (length marks) (lent ++ drop (length lent) marks) ≡ lent

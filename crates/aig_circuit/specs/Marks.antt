@@ -13,5 +13,5 @@ abbrev pub HasMarks : List Bool → List AigEdge → Type 0
 HasMarks marks es = All (λ e. e.node_id < length marks) es
 
 -- what the edges name is marked too, and nothing else
-abbrev pub MarksToo : List Bool → List Bool → List AigEdge → Type 0
-MarksToo old new es = (n : ℕ) → IsMarked new n ↔ (IsMarked old n ⊎ ReferTo es n)
+abbrev pub AddsEdgeMarks : List Bool → List Bool → List AigEdge → Type 0
+AddsEdgeMarks old new es = (n : ℕ) → IsMarked new n ↔ (IsMarked old n ⊎ ReferTo es n)

@@ -9,9 +9,9 @@ use Rattle.aig_circuit.specs.Circuit.{IsInRange}
 use Rattle.aig_cnf.specs.declared.form.Form.{Form}
 use Rattle.aig_cnf.specs.Cnf.{HasForm, FormNames, NeedsClauses, edges_of_form}
 use Rattle.aig_circuit.specs.Edges.{ReferTo}
-use Rattle.aig_circuit.specs.Marks.{IsMarked, MarksToo}
+use Rattle.aig_circuit.specs.Marks.{IsMarked, AddsEdgeMarks}
 use Rattle.aig_circuit.specs.Reach.{root, step}
-use Rattle.aig_cnf.specs.Marks.{MarksNeeded}
+use Rattle.aig_cnf.specs.Marks.{AddsNeededMarks}
 use Rattle.aig_cnf.proofs.Unique.{form_unique}
 use Rattle.aig_cnf.proofs.Needing.{named_below, needed_within}
 
@@ -22,7 +22,7 @@ pub record MarkedDownTo (nodes : List AigNode) (optimize : Bool) (roots : List A
   pub roots_marked : (n : ℕ) → ReferTo roots n → IsMarked marks n
   pub closed : (n m : ℕ) → i ≤ n → n < length nodes → IsMarked marks n → FormNames nodes optimize n m → IsMarked marks m
 
-pub MarkedDownTo-start : (nodes : List AigNode) (optimize : Bool) (roots : List AigEdge) (old new : List Bool) → length new ≡ length nodes → ((n : ℕ) → ¬ IsMarked old n) → MarksToo old new roots → MarkedDownTo nodes optimize roots new (length nodes)
+pub MarkedDownTo-start : (nodes : List AigNode) (optimize : Bool) (roots : List AigEdge) (old new : List Bool) → length new ≡ length nodes → ((n : ℕ) → ¬ IsMarked old n) → AddsEdgeMarks old new roots → MarkedDownTo nodes optimize roots new (length nodes)
 MarkedDownTo-start nodes optimize roots old new count none marked = record {
   count = count;
   only = λ n m. elim ((marked n).0 m) [ inl was ↦ absurd (none n was) | inr h ↦ root h ];
@@ -30,7 +30,7 @@ MarkedDownTo-start nodes optimize roots old new count none marked = record {
   closed = λ n m h within is calls. absurd (omega arith);
 }
 
-pub MarkedDownTo-step : (nodes : List AigNode) (optimize : Bool) (roots : List AigEdge) (old new : List Bool) (i : ℕ) → IsOrdered nodes → MarkedDownTo nodes optimize roots old (i + 1) → length new ≡ length old → MarksNeeded nodes optimize old new i → MarkedDownTo nodes optimize roots new i
+pub MarkedDownTo-step : (nodes : List AigNode) (optimize : Bool) (roots : List AigEdge) (old new : List Bool) (i : ℕ) → IsOrdered nodes → MarkedDownTo nodes optimize roots old (i + 1) → length new ≡ length old → AddsNeededMarks nodes optimize old new i → MarkedDownTo nodes optimize roots new i
 MarkedDownTo-step nodes optimize roots old new i o d len more = record {
   count = len ∙ d.count;
   only = λ n m. elim ((more n).0 m) [ inl was ↦ d.only n was | inr p ↦ step (d.only i p.0) p.1 ];
@@ -58,8 +58,8 @@ needed_is_marked nodes optimize roots marks o all d n (step {n = g} needed calls
     d.closed g n (omega arith) (needed_within nodes o optimize roots all g needed) (needed_is_marked nodes optimize roots marks o all d g needed) calls
 
 -- a marked gate has one form, whose nodes are marked
-pub MarksNeeded-form : (nodes : List AigNode) (optimize : Bool) (old new : List Bool) (n : ℕ) (form : Form) → IsMarked old n → HasForm nodes optimize n form → MarksToo old new (edges_of_form form) → MarksNeeded nodes optimize old new n
-MarksNeeded-form nodes optimize old new n form mark has marked m = (
+pub AddsNeededMarks-form : (nodes : List AigNode) (optimize : Bool) (old new : List Bool) (n : ℕ) (form : Form) → IsMarked old n → HasForm nodes optimize n form → AddsEdgeMarks old new (edges_of_form form) → AddsNeededMarks nodes optimize old new n
+AddsNeededMarks-form nodes optimize old new n form mark has marked m = (
   λ h. elim ((marked m).0 h) [ inl was ↦ inl was | inr named ↦ inr (mark, (form, has, named)) ],
   λ h. elim h [
     | inl was ↦ (marked m).1 (inl was)

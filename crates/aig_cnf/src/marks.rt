@@ -5,8 +5,8 @@ ghost use Rattle.std.specs.List.{flat_map};
 ghost use Rattle.aig_circuit.specs.Circuit.{AreNodes, IsCircuit};
 ghost use Rattle.aig_cnf.specs.Cnf.{edges_of_form, NeedsClauses};
 ghost use Rattle.aig_circuit.specs.Edges.{latch_edges, roots_of};
-ghost use Rattle.aig_circuit.specs.Marks.{HasMarks, IsMarked, MarksToo};
-ghost use Rattle.aig_cnf.specs.Marks.{MarksNeeded};
+ghost use Rattle.aig_circuit.specs.Marks.{HasMarks, IsMarked, AddsEdgeMarks};
+ghost use Rattle.aig_cnf.specs.Marks.{AddsNeededMarks};
 
 use crate::form::{Form, find_form};
 use aig_base::MemoryError;
@@ -17,7 +17,7 @@ use std::alloc::Global;
 /// Marks the nodes of the edges of sets.
 fn mark_sets(marks: &mut [bool], sets: &[Vec<AigEdge>])
     requires { All (λ set. HasMarks marks.old set.items) sets.now }
-    ensures { MarksToo marks.old marks.new (flat_map (λ set. set.items) sets.now) }
+    ensures { AddsEdgeMarks marks.old marks.new (flat_map (λ set. set.items) sets.now) }
 {
     for set in sets {
         mark_edges(marks, set);
@@ -27,7 +27,7 @@ fn mark_sets(marks: &mut [bool], sets: &[Vec<AigEdge>])
 /// Marks the nodes of a latch's next edge, and of its initial edge if it has one.
 fn mark_latch(marks: &mut [bool], latch: &AigLatch)
     requires { HasMarks marks.old (latch_edges latch.now) }
-    ensures { MarksToo marks.old marks.new (latch_edges latch.now) }
+    ensures { AddsEdgeMarks marks.old marks.new (latch_edges latch.now) }
 {
     marks[latch.next().node_id()] = true;
     if let Some(e) = latch.init() {
@@ -38,7 +38,7 @@ fn mark_latch(marks: &mut [bool], latch: &AigLatch)
 /// Marks the nodes of the next and the initial edges of latches.
 fn mark_latches(marks: &mut [bool], latchs: &[AigLatch])
     requires { All (λ latch. HasMarks marks.old (latch_edges latch)) latchs.now }
-    ensures { MarksToo marks.old marks.new (flat_map latch_edges latchs.now) }
+    ensures { AddsEdgeMarks marks.old marks.new (flat_map latch_edges latchs.now) }
 {
     for latch in latchs {
         mark_latch(marks, latch);
@@ -49,7 +49,7 @@ fn mark_latches(marks: &mut [bool], latchs: &[AigLatch])
 fn mark_roots(marks: &mut [bool], circuit: &CircuitView<'_>)
     requires circuit { IsCircuit circuit.now }
     requires lengths { length marks.old ≡ length circuit.now.nodes }
-    ensures { MarksToo marks.old marks.new (roots_of circuit.now) }
+    ensures { AddsEdgeMarks marks.old marks.new (roots_of circuit.now) }
 {
     mark_edges(marks, circuit.outputs());
     mark_edges(marks, circuit.bads());
@@ -62,7 +62,7 @@ fn mark_roots(marks: &mut [bool], circuit: &CircuitView<'_>)
 /// Marks the nodes of the edges of a form.
 fn mark_form(marks: &mut [bool], form: Form)
     requires { HasMarks marks.old (edges_of_form form) }
-    ensures { MarksToo marks.old marks.new (edges_of_form form) }
+    ensures { AddsEdgeMarks marks.old marks.new (edges_of_form form) }
 {
     match form {
         Form::AndOf(a, b) => mark_edges(marks, &[a, b]),
@@ -76,7 +76,7 @@ fn mark_needed(marks: &mut [bool], nodes: &[AigNode], id: usize, optimize: bool)
     requires sound { AreNodes nodes.now }
     requires lengths { length marks.old ≡ length nodes.now }
     requires there { id < length nodes.now }
-    ensures { MarksNeeded nodes.now optimize marks.old marks.new id }
+    ensures { AddsNeededMarks nodes.now optimize marks.old marks.new id }
 {
     if marks[id]
         && let Some(form) = find_form(nodes, id, optimize)

@@ -10,17 +10,17 @@ use Rattle.aig_circuit.specs.Node.{IsOrdered}
 use Rattle.aig_circuit.specs.Reach.{IsFanin, IsReached, root, step}
 use Rattle.aig_circuit.proofs.Trees.{kind_at-within}
 use Rattle.aig_circuit.specs.Marks.{IsMarked}
-use Rattle.aig_cone.specs.Marks.{MarksAlso}
+use Rattle.aig_cone.specs.Marks.{AddsMarks}
 
 -- a mark that is set, and the others as they were
-pub MarksAlso-set : (marks : List Bool) (i : ℕ) → i < length marks → MarksAlso marks (set marks i true) (λ n. n ≡ i)
-MarksAlso-set marks i h n = elim (cases_eq n i) [
+pub AddsMarks-set : (marks : List Bool) (i : ℕ) → i < length marks → AddsMarks marks (set marks i true) (λ n. n ≡ i)
+AddsMarks-set marks i h n = elim (cases_eq n i) [
   | inl e ↦ (λ m. inr e, λ m. rw (e, get_or-set_same))
   | inr ne ↦ (λ m. inl (rw get_or-set_other at m), λ m. elim m [ inl old ↦ rw get_or-set_other old | inr e ↦ absurd (ne e) ])
 ]
 
-pub MarksAlso-then : (P Q : ℕ → Type 0) (a b c : List Bool) → MarksAlso a b P → MarksAlso b c Q → MarksAlso a c (λ n. P n ⊎ Q n)
-MarksAlso-then P Q a b c p q n = (
+pub AddsMarks-then : (P Q : ℕ → Type 0) (a b c : List Bool) → AddsMarks a b P → AddsMarks b c Q → AddsMarks a c (λ n. P n ⊎ Q n)
+AddsMarks-then P Q a b c p q n = (
   λ m. elim ((q n).0 m) [
     | inl in_b ↦ elim ((p n).0 in_b) [ inl in_a ↦ inl in_a | inr h ↦ inr (inl h) ]
     | inr h ↦ inr (inr h)
@@ -31,14 +31,14 @@ MarksAlso-then P Q a b c p q n = (
   ],
 )
 
-pub MarksAlso-same : (P Q : ℕ → Type 0) (a b : List Bool) → ((n : ℕ) → P n ↔ Q n) → MarksAlso a b P → MarksAlso a b Q
-MarksAlso-same P Q a b same p n = (
+pub AddsMarks-same : (P Q : ℕ → Type 0) (a b : List Bool) → ((n : ℕ) → P n ↔ Q n) → AddsMarks a b P → AddsMarks a b Q
+AddsMarks-same P Q a b same p n = (
   λ m. elim ((p n).0 m) [ inl old ↦ inl old | inr h ↦ inr ((same n).0 h) ],
   λ m. elim m [ inl old ↦ (p n).1 (inl old) | inr h ↦ (p n).1 (inr ((same n).1 h)) ],
 )
 
-pub MarksAlso-none : (P : ℕ → Type 0) (a : List Bool) → ((n : ℕ) → ¬ P n) → MarksAlso a a P
-MarksAlso-none P a none n = (λ m. inl m, λ m. elim m [ inl old ↦ old | inr h ↦ absurd (none n h) ])
+pub AddsMarks-none : (P : ℕ → Type 0) (a : List Bool) → ((n : ℕ) → ¬ P n) → AddsMarks a a P
+AddsMarks-none P a none n = (λ m. inl m, λ m. elim m [ inl old ↦ old | inr h ↦ absurd (none n h) ])
 
 -- a list with one number more
 pub Contains-one_more : (xs : List ℕ) (x n : ℕ) → (Contains xs n ⊎ (n ≡ x)) ↔ Contains (xs ++ x ∷ []) n
@@ -68,14 +68,14 @@ operand_below nodes o n m (a, b, kind, inr is) = let low = o.second_before n a b
 gate_within : (nodes : List AigNode) (n m : ℕ) → IsFanin nodes n m → n < length nodes
 gate_within nodes n m (a, b, kind, which) = kind_at-within nodes n (And a b) kind
 
-pub MarkedDownTo-start : (nodes : List AigNode) (roots : List ℕ) (old new : List Bool) → ((n : ℕ) → ¬ IsMarked old n) → MarksAlso old new (Contains roots) → MarkedDownTo nodes roots new (length nodes)
+pub MarkedDownTo-start : (nodes : List AigNode) (roots : List ℕ) (old new : List Bool) → ((n : ℕ) → ¬ IsMarked old n) → AddsMarks old new (Contains roots) → MarkedDownTo nodes roots new (length nodes)
 MarkedDownTo-start nodes roots old new none marked = record {
   only = λ n m. elim ((marked n).0 m) [ inl was ↦ absurd (none n was) | inr h ↦ root h ];
   roots_marked = λ n h. (marked n).1 (inr h);
   closed = λ n m h is operand. let low = gate_within nodes n m operand in absurd (omega arith);
 }
 
-pub MarkedDownTo-step : (nodes : List AigNode) (roots : List ℕ) (old new : List Bool) (i : ℕ) → IsOrdered nodes → MarkedDownTo nodes roots old (i + 1) → MarksAlso old new (λ n. IsMarked old i × IsFanin nodes i n) → MarkedDownTo nodes roots new i
+pub MarkedDownTo-step : (nodes : List AigNode) (roots : List ℕ) (old new : List Bool) (i : ℕ) → IsOrdered nodes → MarkedDownTo nodes roots old (i + 1) → AddsMarks old new (λ n. IsMarked old i × IsFanin nodes i n) → MarkedDownTo nodes roots new i
 MarkedDownTo-step nodes roots old new i o d marked = record {
   only = λ n m. elim ((marked n).0 m) [ inl was ↦ d.only n was | inr p ↦ step (d.only i p.0) p.1 ];
   roots_marked = λ n h. (marked n).1 (inl (d.roots_marked n h));

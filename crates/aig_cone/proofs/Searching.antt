@@ -17,16 +17,16 @@ use Rattle.aig_circuit.specs.Reach.{DependsOn, IsInCone, IsLatchNext, IsFanin, I
 use Rattle.aig_circuit.proofs.Trees.{kind_at-within}
 use Rattle.aig_circuit.specs.Marks.{IsMarked}
 use Rattle.aig_cone.specs.Marks.{AreNextStates, Visits}
-use Rattle.aig_cone.proofs.Marking.{MarksAlso-none, MarksAlso-same, MarksAlso-set, MarksAlso-then}
+use Rattle.aig_cone.proofs.Marking.{AddsMarks-none, AddsMarks-same, AddsMarks-set, AddsMarks-then}
 
 -- ---- visits
 
 -- a node that wasn't marked
 pub Visits-set : (marks : List Bool) (stack stacked : List ℕ) (i : ℕ) → i < length marks → get_or marks i false ≡ false → stacked ≡ stack ++ i ∷ [] → Visits marks (set marks i true) stack stacked (λ n. n ≡ i)
 Visits-set marks stack stacked i h was put = record {
-  marks = MarksAlso-set marks i h;
+  marks = AddsMarks-set marks i h;
   kept = λ n had. rw put (Contains-append_left stack (i ∷ []) n had);
-  put = λ n m. elim ((MarksAlso-set marks i h n).0 m) [ inl old ↦ inl old | inr e ↦ inr (rw (put, e) (Contains-push stack i)) ];
+  put = λ n m. elim ((AddsMarks-set marks i h n).0 m) [ inl old ↦ inl old | inr e ↦ inr (rw (put, e) (Contains-push stack i)) ];
   only = λ n has. elim (Contains-push_cases stack i n (subst (λ s. Contains s n) put has)) [ inl had ↦ inl had | inr e ↦ inr (sym e) ];
   once =
       let f : Bool → ℕ = λ marked. cond marked 0 1 in
@@ -48,7 +48,7 @@ Visits-marked marks stack i is = record {
 
 pub Visits-none : (P : ℕ → Type 0) (marks : List Bool) (stack : List ℕ) → ((n : ℕ) → ¬ P n) → Visits marks marks stack stack P
 Visits-none P marks stack none = record {
-  marks = MarksAlso-none P marks none;
+  marks = AddsMarks-none P marks none;
   kept = λ n had. had;
   put = λ n m. inl m;
   only = λ n has. inl has;
@@ -57,7 +57,7 @@ Visits-none P marks stack none = record {
 
 pub Visits-then : (P Q : ℕ → Type 0) (a b c : List Bool) (s t u : List ℕ) → Visits a b s t P → Visits b c t u Q → Visits a c s u (λ n. P n ⊎ Q n)
 Visits-then P Q a b c s t u p q = record {
-  marks = MarksAlso-then P Q a b c p.marks q.marks;
+  marks = AddsMarks-then P Q a b c p.marks q.marks;
   kept = λ n had. q.kept n (p.kept n had);
   put = λ n m. elim (q.put n m) [
     | inl in_b ↦ elim (p.put n in_b) [ inl in_a ↦ inl in_a | inr on_t ↦ inr (q.kept n on_t) ]
@@ -72,7 +72,7 @@ Visits-then P Q a b c s t u p q = record {
 
 pub Visits-same : (P Q : ℕ → Type 0) (a b : List Bool) (s t : List ℕ) → ((n : ℕ) → P n ↔ Q n) → Visits a b s t P → Visits a b s t Q
 Visits-same P Q a b s t same p = record {
-  marks = MarksAlso-same P Q a b same p.marks;
+  marks = AddsMarks-same P Q a b same p.marks;
   kept = p.kept;
   put = p.put;
   only = λ n has. elim (p.only n has) [ inl had ↦ inl had | inr h ↦ inr ((same n).0 h) ];

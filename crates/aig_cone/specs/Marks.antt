@@ -6,8 +6,8 @@ use Rattle.aig_circuit.specs.Marks.{IsMarked}
 use Rattle.aig_circuit.specs.Reach.{IsLatchNext}
 
 -- the nodes of which P holds are marked too, and nothing else
-abbrev pub MarksAlso : List Bool → List Bool → (ℕ → Type 0) → Type 0
-MarksAlso old new P = (n : ℕ) → IsMarked new n ↔ (IsMarked old n ⊎ P n)
+abbrev pub AddsMarks : List Bool → List Bool → (ℕ → Type 0) → Type 0
+AddsMarks old new P = (n : ℕ) → IsMarked new n ↔ (IsMarked old n ⊎ P n)
 
 -- how many nodes aren't marked
 abbrev pub unmarked : List Bool → ℕ
@@ -15,7 +15,7 @@ unmarked marks = sum_by (λ marked. if marked then 0 else 1) marks
 
 -- The nodes of which P holds are marked too, and nothing else. Those that weren't are put on the stack, each once.
 pub record Visits (old new : List Bool) (stack stacked : List ℕ) (P : ℕ → Type 0) : Type 0 where
-  pub marks : MarksAlso old new P
+  pub marks : AddsMarks old new P
   pub kept : (n : ℕ) → Contains stack n → Contains stacked n
   pub put : (n : ℕ) → IsMarked new n → IsMarked old n ⊎ Contains stacked n
   pub only : (n : ℕ) → Contains stacked n → Contains stack n ⊎ P n

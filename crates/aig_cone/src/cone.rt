@@ -4,7 +4,7 @@ ghost use Rattle.std.specs.Prelude.{◌≡◌, ◌<◌, ◌↔◌, ℕ, IfOk, Al
 ghost use Rattle.aig_circuit.specs.Circuit.{AreNodes, IsInRange};
 ghost use Rattle.aig_circuit.specs.Reach.{IsInCone, IsFanin, IsReached, MarksExactly};
 ghost use Rattle.aig_circuit.specs.Marks.{IsMarked};
-ghost use Rattle.aig_cone.specs.Marks.{MarksAlso};
+ghost use Rattle.aig_cone.specs.Marks.{AddsMarks};
 
 use crate::search::cone_marks;
 use aig_base::MemoryError;
@@ -51,7 +51,7 @@ fn mark_operands(marks: &mut [bool], nodes: &[AigNode], id: usize)
     requires sound { AreNodes nodes.now }
     requires lengths { length marks.old ≡ length nodes.now }
     requires there { id < length nodes.now }
-    ensures { MarksAlso marks.old marks.new
+    ensures { AddsMarks marks.old marks.new
         (λ n. IsMarked marks.old id × IsFanin nodes.now id n) }
 {
     if marks[id]

@@ -1,7 +1,7 @@
 use Rattle.std.proofs.Common.{◌≡◌, ◌+◌, ◌-◌, List, subst, arith}
 use Rattle.aig_circuit.specs.declared.node.AigNode.{AigNode}
 use Rattle.aig_circuit.specs.Edges.{roots_of}
-use Rattle.aig_cnf.specs.Marks.{MarksNeeded}
+use Rattle.aig_cnf.specs.Marks.{AddsNeededMarks}
 use Rattle.aig_cnf.proofs.Marking.{MarkedDownTo, MarkedDownTo-start, MarkedDownTo-step, needed_is_marked}
 use Rattle.aig_cnf.proofs.Needing.{roots_in_range}
 use Rattle.aig_cnf.proofs.marks.mark_all.Goals as goal
@@ -15,7 +15,7 @@ loop-id-preserved c =
     let nodes = c.args.circuit.now.nodes in
     let roots = roots_of c.args.circuit.now in
     let next : c.loop-id.id ≡ c.loop-id.id - 1 + 1 = omega arith in
-    let marked = subst (λ (ns : List AigNode). MarksNeeded ns c.args.optimize c.loop-id.marks c.mark_needed.new.marks (c.loop-id.id - 1)) c.nodes-nodes.ensures.value c.mark_needed.ensures in
+    let marked = subst (λ (ns : List AigNode). AddsNeededMarks ns c.args.optimize c.loop-id.marks c.mark_needed.new.marks (c.loop-id.id - 1)) c.nodes-nodes.ensures.value c.mark_needed.ensures in
     MarkedDownTo-step nodes c.args.optimize roots c.loop-id.marks c.mark_needed.new.marks (c.loop-id.id - 1) c.requires.circuit.nodes.ordered (subst (MarkedDownTo nodes c.args.optimize roots c.loop-id.marks) next c.loop-id.invariant) (omega arith) marked
 
 pub returns : goal.returns

@@ -6,8 +6,8 @@ use Rattle.aig_circuit.specs.declared.edge.AigEdge.{AigEdge}
 use Rattle.aig_circuit.specs.declared.node.AigLatch.{AigLatch}
 use Rattle.aig_circuit.specs.Circuit.{IsInRange}
 use Rattle.aig_circuit.specs.Edges.{latch_edges}
-use Rattle.aig_circuit.specs.Marks.{MarksToo}
-use Rattle.aig_circuit.proofs.Marking.{MarksToo-then}
+use Rattle.aig_circuit.specs.Marks.{AddsEdgeMarks}
+use Rattle.aig_circuit.proofs.Marking.{AddsEdgeMarks-then}
 use Rattle.aig_cnf.proofs.Needing.{sets_in_range}
 use Rattle.aig_cnf.proofs.marks.mark_roots.Goals as goal
 
@@ -31,17 +31,17 @@ returns c =
     let four = c.mark_sets.new.marks in
     let five = c.mark_edges-4.new.marks in
     let six = c.mark_latches.new.marks in
-    let marks_outputs = subst (MarksToo start one) c.outputs.ensures.value c.mark_edges.ensures in
-    let marks_bads = subst (MarksToo one two) c.bads.ensures.value c.mark_edges-2.ensures in
-    let marks_constraints = subst (MarksToo two three) c.constraints.ensures.value c.mark_edges-3.ensures in
-    let marks_sets = subst (MarksToo three four) (sym (flat_map-map whole items c.justice.result.now) ∙ ap (flat_map whole) c.justice.ensures.value) c.mark_sets.ensures in
-    let marks_fairness = subst (MarksToo four five) c.fairness.ensures.value c.mark_edges-4.ensures in
-    let marks_latches = subst (λ (latchs : List AigLatch). MarksToo five six (flat_map latch_edges latchs)) c.latchs.ensures.value c.mark_latches.ensures in
+    let marks_outputs = subst (AddsEdgeMarks start one) c.outputs.ensures.value c.mark_edges.ensures in
+    let marks_bads = subst (AddsEdgeMarks one two) c.bads.ensures.value c.mark_edges-2.ensures in
+    let marks_constraints = subst (AddsEdgeMarks two three) c.constraints.ensures.value c.mark_edges-3.ensures in
+    let marks_sets = subst (AddsEdgeMarks three four) (sym (flat_map-map whole items c.justice.result.now) ∙ ap (flat_map whole) c.justice.ensures.value) c.mark_sets.ensures in
+    let marks_fairness = subst (AddsEdgeMarks four five) c.fairness.ensures.value c.mark_edges-4.ensures in
+    let marks_latches = subst (λ (latchs : List AigLatch). AddsEdgeMarks five six (flat_map latch_edges latchs)) c.latchs.ensures.value c.mark_latches.ensures in
     let bads = v.outputs ++ v.bads in
     let constraints = bads ++ v.constraints in
     let justice = constraints ++ sets in
-    let to_bads = MarksToo-then start one two v.outputs v.bads marks_outputs marks_bads in
-    let to_constraints = MarksToo-then start two three bads v.constraints to_bads marks_constraints in
-    let to_justice = MarksToo-then start three four constraints sets to_constraints marks_sets in
-    let to_fairness = MarksToo-then start four five justice v.fairness to_justice marks_fairness in
-    MarksToo-then start five six (justice ++ v.fairness) (flat_map latch_edges v.latchs) to_fairness marks_latches
+    let to_bads = AddsEdgeMarks-then start one two v.outputs v.bads marks_outputs marks_bads in
+    let to_constraints = AddsEdgeMarks-then start two three bads v.constraints to_bads marks_constraints in
+    let to_justice = AddsEdgeMarks-then start three four constraints sets to_constraints marks_sets in
+    let to_fairness = AddsEdgeMarks-then start four five justice v.fairness to_justice marks_fairness in
+    AddsEdgeMarks-then start five six (justice ++ v.fairness) (flat_map latch_edges v.latchs) to_fairness marks_latches

@@ -1,7 +1,7 @@
 use Rattle.std.proofs.Common.{take}
 use Rattle.std.specs.List.{flat_map}
-use Rattle.aig_circuit.specs.Marks.{MarksToo}
+use Rattle.aig_circuit.specs.Marks.{AddsEdgeMarks}
 use Rattle.aig_cnf.proofs.marks.mark_sets.Given as goal
 
 abbrev pub invariant-loop-set : goal.invariant-loop-set
-invariant-loop-set l = MarksToo l.initial.marks l.marks (flat_map (λ set. set.items) (take l.set-index l.sets))
+invariant-loop-set l = AddsEdgeMarks l.initial.marks l.marks (flat_map (λ set. set.items) (take l.set-index l.sets))
