@@ -1,4 +1,4 @@
--- The nodes that a table of gates tells.
+-- The nodes that a table of gates records.
 use Rattle.std.proofs.Common.{◌≡◌, ℕ, zero, suc, ◌+◌, ◌<◌, List, [], ◌∷◌, length, get_or, Option, refl, sym, ap, ◌∙◌, arith}
 use Rattle.std.specs.Prelude.{option_and_then}
 use Rattle.aig_circuit.specs.declared.node.AigNode.{AigNode}

@@ -16,9 +16,9 @@ use Rattle.aig_ordering.specs.declared.levels.Search.{Search}
 use Rattle.aig_ordering.specs.Lists.{kind_among}
 use Rattle.aig_ordering.specs.declared.error.OrderError.{OrderError}
 use Rattle.aig_ordering.specs.declared.error.OrderError.TheVariants.{Memory, Variable}
-use Rattle.aig_ordering.specs.Tables.{AreNodesOf, OnOrder, all_have_levels, level_at, told}
+use Rattle.aig_ordering.specs.Tables.{AreNodesOf, OnOrder, all_have_levels, level_at, entry_value}
 use Rattle.aig_ordering.specs.Search.{Descends, IsAt, IsAtRest, IsAtSome, IsFound, IsLevelBy, IsOperandOf, IsPath, IsSearch, Opens, work_of}
-use Rattle.aig_ordering.proofs.Tables.{gate_at, gate_level, leaf_level, operands_below, operands_within, some_level_missing, told-more}
+use Rattle.aig_ordering.proofs.Tables.{gate_at, gate_level, leaf_level, operands_below, operands_within, some_level_missing, entry_value-more}
 
 -- ---- paths
 
@@ -130,7 +130,7 @@ module _ (f : File) (nodes : List AigNode) (are : AreNodesOf f nodes) where
     within_levels = omega (arith, at.search.levels, at_within f s v at)
 
     level_here : level_at t.levels.items v ≡ Some k
-    level_here = ap (λ (ls : List ℕ). level_at ls v) known ∙ ap told (get_or-set_same s.levels.items v (k + 1) 0 within_levels) ∙ told-more k
+    level_here = ap (λ (ls : List ℕ). level_at ls v) known ∙ ap entry_value (get_or-set_same s.levels.items v (k + 1) 0 within_levels) ∙ entry_value-more k
 
     found_here : IsFound t v
     found_here = (k, level_here)
@@ -140,7 +140,7 @@ module _ (f : File) (nodes : List AigNode) (are : AreNodesOf f nodes) where
       where
         by_case : (w ≡ v) ⊎ (w ≢ v) → IsFound t w
         by_case (inl same) = rw same found_here
-        by_case (inr differs) = (has.0, ap (λ (ls : List ℕ). level_at ls w) known ∙ ap told (get_or-set_other s.levels.items v w (k + 1) 0 differs) ∙ has.1)
+        by_case (inr differs) = (has.0, ap (λ (ls : List ℕ). level_at ls w) known ∙ ap entry_value (get_or-set_other s.levels.items v w (k + 1) 0 differs) ∙ has.1)
 
     search_still : IsSearch f t
     search_still = record {
@@ -151,7 +151,7 @@ module _ (f : File) (nodes : List AigNode) (are : AreNodesOf f nodes) where
       where
         by_case : (w j : ℕ) → (w ≡ v) ⊎ (w ≢ v) → level_at t.levels.items w ≡ Some j → level_of f w ≡ Some j
         by_case w j (inl same) is = ap (level_of f) same ∙ right ∙ sym level_here ∙ ap (level_at t.levels.items) (sym same) ∙ is
-        by_case w j (inr differs) is = at.search.right w j (ap told (sym (get_or-set_other s.levels.items v w (k + 1) 0 differs)) ∙ ap (λ (ls : List ℕ). level_at ls w) (sym known) ∙ is)
+        by_case w j (inr differs) is = at.search.right w j (ap entry_value (sym (get_or-set_other s.levels.items v w (k + 1) 0 differs)) ∙ ap (λ (ls : List ℕ). level_at ls w) (sym known) ∙ is)
 
     open_still : (w : ℕ) → get_or t.opened.items w false ≡ true → IsFound t w ⊎ Contains s.path.items w
     open_still w is = elim (at.opened w (ap (λ (ms : List Bool). get_or ms w false) (sym same_marks) ∙ is)) [

@@ -21,29 +21,29 @@ use Rattle.aig_format.proofs.Searches.{find_some, find_none}
 use Rattle.aig_format.proofs.Members.{length-numbers}
 use Rattle.aig_format.proofs.Levels.{level_of-gate, level_of-leaf, level_of-operands, levelled}
 use Rattle.aig_ordering.specs.Lists.{edge_from, kind_of_line, kind_among, node_from, nodes_in_row, nodes_of}
-use Rattle.aig_ordering.specs.Tables.{AreNodesOf, HasOperands, all_have_levels, told}
+use Rattle.aig_ordering.specs.Tables.{AreNodesOf, HasOperands, all_have_levels, entry_value}
 use Rattle.aig_ordering.specs.Search.{Descends}
 
 -- ---- entries
 
-pub told-more : (n : ℕ) → told (n + 1) ≡ Some n
-told-more n = let e : n + 1 ≡ suc n = omega arith in ap told e
+pub entry_value-more : (n : ℕ) → entry_value (n + 1) ≡ Some n
+entry_value-more n = let e : n + 1 ≡ suc n = omega arith in ap entry_value e
 
--- an entry is above what it tells
-pub told-below : (entry k : ℕ) → told entry ≡ Some k → k < entry
-told-below zero k is = absurd cc
-told-below (suc entry) k is = let same = same_Some _ _ is in omega (arith, same)
+-- an entry is above what it records
+pub entry_value-below : (entry k : ℕ) → entry_value entry ≡ Some k → k < entry
+entry_value-below zero k is = absurd cc
+entry_value-below (suc entry) k is = let same = same_Some _ _ is in omega (arith, same)
 
 -- and no greater than any number above that
-pub told-least : (entry bound : ℕ) → ((k : ℕ) → told entry ≡ Some k → k < bound) → entry ≤ bound
-told-least zero bound within = omega arith
-told-least (suc entry) bound within = within entry refl
+pub entry_value-least : (entry bound : ℕ) → ((k : ℕ) → entry_value entry ≡ Some k → k < bound) → entry ≤ bound
+entry_value-least zero bound within = omega arith
+entry_value-least (suc entry) bound within = within entry refl
 
--- a table that tells nothing
-pub told-nothing : (n v : ℕ) → told (get_or (replicate n 0) v 0) ≡ None
-told-nothing zero v = refl
-told-nothing (suc n) zero = refl
-told-nothing (suc n) (suc v) = told-nothing n v
+-- a table that records nothing
+pub entry_value-nothing : (n v : ℕ) → entry_value (get_or (replicate n 0) v 0) ≡ None
+entry_value-nothing zero v = refl
+entry_value-nothing (suc n) zero = refl
+entry_value-nothing (suc n) (suc v) = entry_value-nothing n v
 
 -- ---- nodes in a row
 
@@ -184,15 +184,15 @@ all_levels : (f : File) (gs : List GateLine) → list_all (has_level f) gs ≡ t
 all_levels f [] h = tt
 all_levels f (g ∷ gs) h = let p = and_parts (has_level f g) (list_all (has_level f) gs) h in (p.0, all_levels f gs p.1)
 
-pub all_levels-told : (f : File) → all_have_levels f ≡ true → (v : ℕ) → (k : ℕ) × (level_of f v ≡ Some k)
-all_levels-told f h = levelled f (all_levels f f.gates h)
+pub all_levels-entry_value : (f : File) → all_have_levels f ≡ true → (v : ℕ) → (k : ℕ) × (level_of f v ≡ Some k)
+all_levels-entry_value f h = levelled f (all_levels f f.gates h)
 
 -- a variable without a level refutes that all gates have one
 pub some_level_missing : (f : File) (v : ℕ) → ((k : ℕ) → level_of f v ≡ Some k → ⊥) → all_have_levels f ≡ false
 some_level_missing f v none = by_test (all_have_levels f) refl
   where
     by_test : (b : Bool) → all_have_levels f ≡ b → all_have_levels f ≡ false
-    by_test true is = let has = all_levels-told f is v in absurd (none has.0 has.1)
+    by_test true is = let has = all_levels-entry_value f is v in absurd (none has.0 has.1)
     by_test false is = is
 
 each_level : (f : File) (gs : List GateLine) → ((v : ℕ) → v ≤ f.greatest → (k : ℕ) × (level_of f v ≡ Some k)) → AllByRecursion (λ (g : GateLine). g.lhs / 2 ≤ f.greatest) gs → list_all (has_level f) gs ≡ true

@@ -11,15 +11,15 @@ use Rattle.aig_circuit.specs.Edge.{edge_to}
 use Rattle.aig_circuit.specs.Node.{and_of}
 use Rattle.aig_circuit.specs.Renumber.{place_of}
 use Rattle.aig_ordering.specs.declared.error.OrderError.{OrderError}
-use Rattle.aig_ordering.specs.Tables.{OnOrder, told}
+use Rattle.aig_ordering.specs.Tables.{OnOrder, entry_value}
 
 -- the place of a variable in an order, if it is there
 abbrev pub place_in : List ℕ → ℕ → Option ℕ
 place_in order v = if list_any (λ u. u == v) order then Some (place_of order v) else None
 
--- the number of a variable, if the table tells one
+-- the number of a variable, if the table records one
 abbrev pub number_at : List ℕ → ℕ → Option ℕ
-number_at numbers v = told (slice_index_or numbers v 0)
+number_at numbers v = entry_value (slice_index_or numbers v 0)
 
 -- the images of all entries, if each has one
 abbrev pub all_by : {A B : Type 0} → (A → Option B) → List A → Option (List B)

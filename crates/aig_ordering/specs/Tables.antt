@@ -41,14 +41,14 @@ abbrev pub IfLevels : {X : Type 0} → File → (X → Type 0) → Result X Orde
 IfLevels f P (Ok x) = (all_have_levels f ≡ true) × P x
 IfLevels f P (Err e) = OnOrder e (all_have_levels f ≡ false)
 
--- what an entry of a table tells: n + 1 tells n, and 0 nothing
-abbrev pub told : ℕ → Option ℕ
-told zero = None
-told (suc n) = Some n
+-- what an entry of a table records: n + 1 records n, and 0 nothing
+abbrev pub entry_value : ℕ → Option ℕ
+entry_value zero = None
+entry_value (suc n) = Some n
 
--- the level of a variable, if the table tells one
+-- the level of a variable, if the table records one
 abbrev pub level_at : List ℕ → ℕ → Option ℕ
-level_at levels v = told (slice_index_or levels v 0)
+level_at levels v = entry_value (slice_index_or levels v 0)
 
 -- the level of each variable of the file
 pub record AreLevelsOf (f : File) (levels : List ℕ) : Type 0 where

@@ -7,7 +7,7 @@ ghost use Rattle.aig_ordering.specs.Gates.{nodes_in};
 ghost use Rattle.aig_ordering.specs.Search.{IsAt, IsAtRest, IsAtSome, IsLevelBy, IsTask, Opens, StaysOpen, work_of};
 ghost use Rattle.aig_ordering.specs.Tables.{AreLevelsOf, AreNodesOf, IfLevels, OnOrder, all_have_levels};
 
-use crate::order::told;
+use crate::order::entry_value;
 use crate::error::OrderError;
 use crate::gates::{Operands, variable_node};
 use aig_circuit::AigNodeType;
@@ -42,8 +42,8 @@ fn task_of(levels: &[u32], kind: AigNodeType) -> Task
         return Task::Level(0);
     };
     match (
-        told(levels[first.node_id()]),
-        told(levels[second.node_id()]),
+        entry_value(levels[first.node_id()]),
+        entry_value(levels[second.node_id()]),
     ) {
         (None, _) => Task::Operand(first.node_id()),
         (_, None) => Task::Operand(second.node_id()),

@@ -3,7 +3,7 @@
 ghost use Rattle.std.specs.Prelude.{◌≡◌, map};
 ghost use Rattle.aig_ordering.specs.Numbers.{MakesAll, all_by, edge_by, latch_by, number_at};
 
-use crate::order::told;
+use crate::order::entry_value;
 use crate::error::OrderError;
 use aig_circuit::{AigEdge, AigLatch};
 use std::alloc::Global;
@@ -13,7 +13,7 @@ pub fn number(numbers: &[u32], variable: usize) -> Option<u32>
     ensures { result ≡ number_at numbers.now variable }
 {
     if variable < numbers.len() {
-        told(numbers[variable])
+        entry_value(numbers[variable])
     } else {
         None
     }

@@ -33,7 +33,7 @@ use Rattle.aig_parsing.proofs.Guards.{Decides-list_all}
 use Rattle.aig_ordering.specs.Lists as lists
 use Rattle.aig_format.specs.Circuit as of_file
 use Rattle.aig_ordering.specs.Lists.{edge_from, kind_among, latch_from, nodes_of, variable_of}
-use Rattle.aig_ordering.specs.Tables.{told}
+use Rattle.aig_ordering.specs.Tables.{entry_value}
 use Rattle.aig_ordering.specs.Numbers.{all_by, edge_by, kind_by_numbers, latch_by, node_of, number_at, place_in, numbered}
 use Rattle.aig_ordering.proofs.Tables.{kind_at-variable}
 use Rattle.aig_reader.specs.Numbered.{AreNumbersOf, have_operands, knows}
@@ -109,7 +109,7 @@ module _ (f : File) (good : HasGoodLines f) (well_founded : is_compact f ≡ fal
     where
       by_known : (b : Bool) → is_known f v ≡ b → f.greatest + 1 ≤ v → number_at numbers v ≡ cond (is_known f v) (Some (node_of_variable f v)) None
       by_known true known high = absurd (omega (arith, within v known))
-      by_known false known high = ap told (get_or_past numbers v 0 (omega (arith, count))) ∙ ap (λ b. cond b (Some (node_of_variable f v)) None) (sym known)
+      by_known false known high = ap entry_value (get_or_past numbers v 0 (omega (arith, count))) ∙ ap (λ b. cond b (Some (node_of_variable f v)) None) (sym known)
 
       by_bound : (b : Bool) → ltb v (f.greatest + 1) ≡ b → number_at numbers v ≡ cond (is_known f v) (Some (node_of_variable f v)) None
       by_bound true low =

@@ -11,7 +11,7 @@ use Rattle.aig_format.proofs.Entries.{rec_append, rec_both, rec_parts, rec_weake
 use Rattle.aig_format.proofs.Numbers.{half_differs}
 use Rattle.aig_parsing.specs.ParseTested.{defines}
 use Rattle.aig_parsing.proofs.Guards.{Decides-defines}
-use Rattle.aig_reader.specs.Bits.{bit_told}
+use Rattle.aig_reader.specs.Bits.{bit_is_set}
 use Rattle.aig_reader.specs.declared.error.LineError.{LineError}
 use Rattle.aig_reader.specs.declared.variables.Marks.{Marks}
 use Rattle.aig_reader.specs.Variables.{AreCounted, AreDefined, AreMarks, IsNewAmong, Tested, is_marked}
@@ -59,7 +59,7 @@ marked_is greatest v (e ∷ es) all =
     ap (λ b. b || list_any (λ e. e == 2 * v) es) same ∙ ap (λ b. (e / 2 == v) || b) (marked_is greatest v es all.1)
 
 -- whether a variable is 0 or marked tells whether it is known
-pub known_at : (f : File) (marks : Marks) (v : ℕ) → AreMarks f.greatest marks (defined f) → v ≤ f.greatest → (v == 0 || bit_told marks.marked.items v) ≡ is_known f v
+pub known_at : (f : File) (marks : Marks) (v : ℕ) → AreMarks f.greatest marks (defined f) → v ≤ f.greatest → (v == 0 || bit_is_set marks.marked.items v) ≡ is_known f v
 known_at f marks v h low = ap (λ b. v == 0 || b) (h.marked v low ∙ marked_is f.greatest v (defined f) h.definable)
 
 -- ---- in both

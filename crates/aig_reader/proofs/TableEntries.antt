@@ -1,4 +1,4 @@
--- The nodes that a table of gates tells, as gates are put in it.
+-- The nodes that a table of gates records, as gates are put in it.
 use Rattle.std.proofs.Common.{◌≡◌, ◌≢◌, ℕ, zero, suc, ◌+◌, ◌*◌, ◌/◌, ◌%◌, ◌<◌, ◌≤◌, Bool, true, false, cond, List, [], ◌∷◌, ◌++◌, length, map, set, replicate, Option, Some, None, refl, sym, ap, subst, ◌∙◌, append_assoc, arith, inl, inr}
 use Rattle.std.specs.Prelude.{◌^◌, ◌==◌, All}
 use Rattle.std.specs.List.{AllByRecursion}

@@ -4,5 +4,5 @@ use Rattle.std.specs.Prelude.{ℕ, ◌/◌, ◌%◌, ◌==◌, Bool, List, slice
 use Rattle.std.specs.Int.{bit_at}
 
 -- whether bit v % 64 of word v / 64 is set; past the end none is
-abbrev pub bit_told : List ℕ → ℕ → Bool
-bit_told words v = bit_at (slice_index_or words (v / 64) 0) (v % 64) == 1
+abbrev pub bit_is_set : List ℕ → ℕ → Bool
+bit_is_set words v = bit_at (slice_index_or words (v / 64) 0) (v % 64) == 1

@@ -5,7 +5,7 @@ use Rattle.std.specs.List.{AllByRecursion, list_any}
 use Rattle.aig_format.specs.Fits.{IsDefinable}
 use Rattle.aig_format.specs.declared.FileKind.{FileKind}
 use Rattle.aig_format.specs.declared.FileKind.TheVariants.{Text, Binary}
-use Rattle.aig_reader.specs.Bits.{bit_told}
+use Rattle.aig_reader.specs.Bits.{bit_is_set}
 use Rattle.aig_reader.specs.declared.error.LineError.{LineError}
 use Rattle.aig_reader.specs.declared.error.LineError.TheVariants.{Literal, Memory}
 use Rattle.aig_reader.specs.declared.variables.Marks.{Marks}
@@ -22,7 +22,7 @@ file_kind (kinds.Binary count) = Binary
 pub record AreMarks (greatest : ℕ) (marks : Marks) (literals : List ℕ) : Type 0 where
   pub top : marks.greatest ≡ greatest
   pub definable : AllByRecursion (IsDefinable greatest) literals
-  pub marked : (v : ℕ) → v ≤ greatest → bit_told marks.marked.items v ≡ list_any (λ e. e == 2 * v) literals
+  pub marked : (v : ℕ) → v ≤ greatest → bit_is_set marks.marked.items v ≡ list_any (λ e. e == 2 * v) literals
 
 -- there are so many even literals, and no variable of theirs is above the count
 pub record AreCounted (count : ℕ) (literals : List ℕ) : Type 0 where
@@ -36,7 +36,7 @@ AreDefined greatest (kinds.Binary count) literals = AreCounted count literals
 
 -- whether this variable, which is not 0, is defined
 abbrev pub is_marked : DefinedVariables → ℕ → Bool
-is_marked (kinds.Text marks) v = bit_told marks.marked.items v
+is_marked (kinds.Text marks) v = bit_is_set marks.marked.items v
 is_marked (kinds.Binary count) v = nat_le v count
 
 -- there are `size` variables, the false one counted, and in a binary file k more of them can be defined

@@ -6,7 +6,7 @@ ghost use Rattle.aig_lexer.specs.Faults.{OnShape};
 ghost use Rattle.aig_lexer.specs.Takes.{Gives};
 ghost use Rattle.aig_format.specs.File.{File, defined};
 ghost use Rattle.aig_ordering.specs.Tables.{AreKnownOf};
-ghost use Rattle.aig_reader.specs.Bits.{bit_told};
+ghost use Rattle.aig_reader.specs.Bits.{bit_is_set};
 ghost use Rattle.aig_reader.specs.ParseEntry.{may_define, parse_own};
 ghost use Rattle.aig_reader.specs.Variables.{AreDefined, AreMarks, HasRoom, IsLiteralFault, IsNewAmong, IsNext, IsOwn, Tested, is_marked, file_kind};
 
@@ -35,7 +35,7 @@ pub enum DefinedVariables {
 
 /// Makes room for the bit of this variable.
 fn cover(marked: &mut Vec<u64>, variable: usize) -> Result<(), AllocError>
-    ensures same { (v : ℕ) → bit_told marked.new.items v ≡ bit_told marked.old.items v }
+    ensures same { (v : ℕ) → bit_is_set marked.new.items v ≡ bit_is_set marked.old.items v }
     ensures len { OnOk result (variable / 64 < vec_len marked.new) }
     // No word after it is made.
     ensures within { (most : ℕ) → variable / 64 < most → vec_len marked.old ≤ most

@@ -1,7 +1,7 @@
 use Rattle.std.proofs.Common.{◌≡◌, ◌<◌, ◌||◌, ℕ, false, length, slice_index_or}
 use Rattle.std.specs.Prelude.{◌==◌}
-use Rattle.aig_reader.specs.Bits.{bit_told}
+use Rattle.aig_reader.specs.Bits.{bit_is_set}
 use Rattle.aig_reader.proofs.variables.Marks.known.Given as goal
 
 abbrev pub invariant-loop-variable : goal.invariant-loop-variable
-invariant-loop-variable l = (length l.known.items ≡ l.variable) × ((v : ℕ) → v < l.variable → slice_index_or l.known.items v false ≡ (v == 0 || bit_told l.marked.items v))
+invariant-loop-variable l = (length l.known.items ≡ l.variable) × ((v : ℕ) → v < l.variable → slice_index_or l.known.items v false ≡ (v == 0 || bit_is_set l.marked.items v))
