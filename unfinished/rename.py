@@ -839,7 +839,7 @@ def g33(t):
 
 @group("34", "A verdict on a circuit that is written")
 def g34(t):
-    t.ident("TellsOf", "IsVerdictOf")
+    t.ident("IsVerdictOf", "IsVerdictOf")
     f = ["crates/aig/*"]
     t.ident("refusal", "check_writable", f, (".rt", ".antt", ".edit"), prose=False)
     t.git_mv("crates/aig/proofs/graph/Aig/refusal", "crates/aig/proofs/graph/Aig/check_writable")

@@ -16,12 +16,12 @@ IsRefusal errors.TooLarge = Unit {0}
 IsRefusal e = ⊥
 
 -- what an answer tells of the circuit: of the refusals the first that applies, and else that none does
-abbrev pub TellsOf : Circuit → Result Unit WriteError → Type 0
-TellsOf c (Ok _) = IsWritable c
-TellsOf c (Err errors.Memory) = IsWritable c
-TellsOf c (Err errors.Stream) = IsWritable c
-TellsOf c (Err errors.Open) = IsWritable c
-TellsOf c (Err errors.FreeLeaf) = HasFreeLeaf c.nodes c.inputs c.latchs
-TellsOf c (Err errors.InitialEdge) = IsClosed c × Any HasNonConstantInit c.latchs
-TellsOf c (Err errors.Name) = IsClosed c × All HasConstantInit c.latchs × Any (HasLineFeed c.names) (named_nodes c)
-TellsOf c (Err errors.TooLarge) = IsClosed c × All HasConstantInit c.latchs × All (λ n. ¬ HasLineFeed c.names n) (named_nodes c) × ¬ FitsFormat c
+abbrev pub IsVerdictOf : Circuit → Result Unit WriteError → Type 0
+IsVerdictOf c (Ok _) = IsWritable c
+IsVerdictOf c (Err errors.Memory) = IsWritable c
+IsVerdictOf c (Err errors.Stream) = IsWritable c
+IsVerdictOf c (Err errors.Open) = IsWritable c
+IsVerdictOf c (Err errors.FreeLeaf) = HasFreeLeaf c.nodes c.inputs c.latchs
+IsVerdictOf c (Err errors.InitialEdge) = IsClosed c × Any HasNonConstantInit c.latchs
+IsVerdictOf c (Err errors.Name) = IsClosed c × All HasConstantInit c.latchs × Any (HasLineFeed c.names) (named_nodes c)
+IsVerdictOf c (Err errors.TooLarge) = IsClosed c × All HasConstantInit c.latchs × All (λ n. ¬ HasLineFeed c.names n) (named_nodes c) × ¬ FitsFormat c

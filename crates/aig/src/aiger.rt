@@ -13,7 +13,7 @@ ghost use Rattle.aig_writer.specs.Sinks.{AppendsBeginning, WritesOrStops};
 ghost use Rattle.aig_circuit.specs.Circuit.{IsClosed};
 ghost use Rattle.aig_format.specs.Writable.{IsWritable};
 ghost use Rattle.aig.specs.Reading.{IsFileCircuit};
-ghost use Rattle.aig.specs.Writing.{IsRefusal, TellsOf};
+ghost use Rattle.aig.specs.Writing.{IsRefusal, IsVerdictOf};
 ghost use Rattle.aig.specs.declared.aiger.WriteError.TheVariants as errors;
 
 use crate::graph::Aig;
@@ -193,7 +193,7 @@ impl Aig {
     /// - `Stream`: `w` failed in this call. A beginning of the text was written.
     /// - `Memory`, `Open`: never.
     pub fn write_text<W: Sink>(&self, w: &mut W) -> Result<(), WriteError>
-        ensures tells { TellsOf self.now result }
+        ensures tells { IsVerdictOf self.now result }
         // All of the text was written, and the writer has not failed.
         ensures ok { OnOk result
             (Appends (W.held w.old) (W.held w.new) (text_of self.now) × (W.failed w.new ≡ false)) }
@@ -208,7 +208,7 @@ impl Aig {
         // Memory and Open are never answered.
         ensures faults { IfErr result (λ e. IsRefusal e ⊎ (e ≡ WriteError.Stream)) }
     {
-        self.refusal()?;
+        self.check_writable()?;
         Ok(aig_writer::write_text(w, &self.view())?)
     }
 
@@ -231,7 +231,7 @@ impl Aig {
     /// - `Stream`: `w` failed in this call. A beginning of the bytes was written.
     /// - `Open`: never.
     pub fn write_binary<W: Sink>(&self, w: &mut W) -> Result<(), WriteError>
-        ensures tells { TellsOf self.now result }
+        ensures tells { IsVerdictOf self.now result }
         // All of the bytes were written, and the writer has not failed.
         ensures ok { OnOk result (Appends (W.held w.old) (W.held w.new) (binary_of self.now)
             × (W.failed w.new ≡ false)) }
@@ -246,7 +246,7 @@ impl Aig {
         ensures kept { IfErr result (λ e. e ≢ WriteError.Stream → w.new ≡ w.old) }
         ensures never_open { IsErrOf result WriteError.Open → ⊥ }
     {
-        self.refusal()?;
+        self.check_writable()?;
         let circuit = self.view();
         let numbers = aig_writer::binary_numbers(&circuit)?;
         Ok(aig_writer::write_binary(w, &circuit, &numbers)?)
@@ -266,11 +266,11 @@ impl Aig {
     /// - `Open`: the file can't be made.
     /// - `Stream`: a write failed. The file holds a beginning of the form.
     pub fn to_file(&self, rt: &impl Files, f: Path<'_>, ascii: bool) -> Result<(), WriteError>
-        ensures tells { TellsOf self.now result }
+        ensures tells { IsVerdictOf self.now result }
         // Of the text form Memory is never answered.
         ensures no_memory { ascii ≡ true → IsErrOf result WriteError.Memory → ⊥ }
     {
-        self.refusal()?;
+        self.check_writable()?;
         let numbers = self.form_numbers(ascii)?;
         self.write_file(rt, f, ascii, &numbers)
     }
@@ -362,7 +362,7 @@ impl fmt::Display for Aig {
     ghost styled_output = { λ aig _. Some (text_of aig) };
 
     fn fmt<W: fmt::Write>(&self, f: &mut fmt::Formatter<W>) -> fmt::Result {
-        match self.refusal() {
+        match self.check_writable() {
             Ok(()) => aig_writer::fmt_text(&self.view(), f),
             Err(_) => Err(fmt::Error),
         }

@@ -4,7 +4,7 @@ ghost use Rattle.std.specs.Prelude.{◌↔◌, ◌<◌, ◌^◌, All, Any, Conta
 ghost use Rattle.aig_circuit.specs.Circuit.{IsCircuit};
 ghost use Rattle.aig_circuit.specs.View.{names_of};
 ghost use Rattle.aig_format.specs.Writable.{HasLineFeed, FitsFormat, named_nodes};
-ghost use Rattle.aig.specs.Writing.{IsRefusal, TellsOf};
+ghost use Rattle.aig.specs.Writing.{IsRefusal, IsVerdictOf};
 
 use crate::aiger::WriteError;
 use crate::graph::{Aig, MOST_NODES};
@@ -96,8 +96,8 @@ impl Aig {
     }
 
     /// The first refusal that applies, if one does.
-    pub(crate) fn refusal(&self) -> Result<(), WriteError>
-        ensures tells { TellsOf self.now result }
+    pub(crate) fn check_writable(&self) -> Result<(), WriteError>
+        ensures tells { IsVerdictOf self.now result }
         ensures own { IfErr result IsRefusal }
         ensures circuit { OnOk result (IsCircuit self.now) }
     {

@@ -13,7 +13,7 @@ use Rattle.aig_reader.specs.Reading as reading
 use Rattle.aig_reader.specs.Reading.{ReadsExactly}
 use Rattle.aig.specs.declared.aiger.WriteError.{WriteError}
 use Rattle.aig.specs.declared.aiger.WriteError.TheVariants as write
-use Rattle.aig.specs.Writing.{IsRefusal, TellsOf}
+use Rattle.aig.specs.Writing.{IsRefusal, IsVerdictOf}
 use Rattle.aig_encode.specs.declared.error.EncodeError.{EncodeError}
 use Rattle.aig_encode.specs.declared.error.EncodeError.TheVariants as encode
 use Rattle.aig_encode.specs.Encoding as encoding
@@ -125,7 +125,7 @@ no_free_leaf c (n, leaf, free) w = elim (Contains-append_cases c.inputs (latch_l
 ]
 
 -- A circuit that has a written form is refused for want of memory or by its writer alone.
-pub only_interrupted : (c : Circuit) (e : WriteError) → IsWritable c → TellsOf c (Err e) → (e ≡ write.Open → ⊥) → (e ≡ write.Memory) ⊎ (e ≡ write.Stream)
+pub only_interrupted : (c : Circuit) (e : WriteError) → IsWritable c → IsVerdictOf c (Err e) → (e ≡ write.Open → ⊥) → (e ≡ write.Memory) ⊎ (e ≡ write.Stream)
 only_interrupted c write.Memory w tells opened = inl refl
 only_interrupted c write.Stream w tells opened = inr refl
 only_interrupted c write.FreeLeaf w tells opened = absurd (no_free_leaf c tells w)
@@ -135,7 +135,7 @@ only_interrupted c write.TooLarge w tells opened = absurd (tells.3 w.small)
 only_interrupted c write.Open w tells opened = absurd (opened refl)
 
 -- and where no memory is asked for, by its writer alone
-pub only_stopped : (c : Circuit) (e : WriteError) → IsWritable c → TellsOf c (Err e) → (IsRefusal e ⊎ (e ≡ write.Stream)) → e ≡ write.Stream
+pub only_stopped : (c : Circuit) (e : WriteError) → IsWritable c → IsVerdictOf c (Err e) → (IsRefusal e ⊎ (e ≡ write.Stream)) → e ≡ write.Stream
 only_stopped c e w tells (inr is) = is
 only_stopped c write.Memory w tells (inl own) = absurd own
 only_stopped c write.Stream w tells (inl own) = refl

@@ -16,4 +16,4 @@ returns-in_err-write_binary-clause-stream g c = λ _.
 pub returns-clause-again : goal.returns-clause-again
 returns-clause-again g c =
     let circuit = c.args.self.now in
-    binary_is_read_again circuit c.view-circuit.ensures.circuit c.in_ok-refusal.ensures.tells (AreTexts-renumbered (new_number circuit) circuit.names c.view-circuit.ensures.texts)
+    binary_is_read_again circuit c.view-circuit.ensures.circuit c.in_ok-check_writable.ensures.tells (AreTexts-renumbered (new_number circuit) circuit.names c.view-circuit.ensures.texts)

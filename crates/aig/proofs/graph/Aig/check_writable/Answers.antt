@@ -4,7 +4,7 @@ use Rattle.std.proofs.lemmas.Bool.{false≢true}
 use Rattle.aig_circuit.specs.Edges.{HasConstantInit}
 use Rattle.aig_format.specs.Writable.{HasLineFeed, named_nodes}
 use Rattle.aig.proofs.Refusing.{none_where_false}
-use Rattle.aig.proofs.graph.Aig.refusal.Goals as goal
+use Rattle.aig.proofs.graph.Aig.check_writable.Goals as goal
 
 pub returns-then-names_hold_line_feed-clause-tells :
     goal.returns-then-names_hold_line_feed-clause-tells
