@@ -847,12 +847,12 @@ def g34(t):
 
 @group("35", "A file is consumed and read as a value")
 def g35(t):
-    t.ident("TookFile", "ConsumedFile")
+    t.ident("ConsumedFile", "ConsumedFile")
     reading = ["aig_reader.specs.Reading"]
     t.spec(reading, "IsOfFile", "IsReadAs")
     t.ident("IsOfFile", "IsReadAs", ["docs/*", "README.md"], (".md",))
     t.spec(reading, "AnswersFile", "ReadsWhere")
-    t.ident("PassesReading", "IsPastReading")
+    t.ident("IsPastReading", "IsPastReading")
 
 
 @group("36", "A fact unless a fault is transient")

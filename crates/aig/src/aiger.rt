@@ -7,7 +7,7 @@ ghost use Rattle.aig_format.specs.Circuit.{binary_of, circuit_of, file_of, text_
 ghost use Rattle.aig_format.specs.declared.FileKind.TheVariants.{Binary, Text};
 ghost use Rattle.aig_format.specs.File.{File};
 ghost use Rattle.aig_format.specs.Fits.{Accepts};
-ghost use Rattle.aig_reader.specs.Reading.{IsOfFile, ReadsExactly, UnlessInterrupted};
+ghost use Rattle.aig_reader.specs.Reading.{IsReadAs, ReadsExactly, UnlessInterrupted};
 ghost use Rattle.aig_writer.specs.Numbering.{IsBinaryNumbering};
 ghost use Rattle.aig_writer.specs.Sinks.{AppendsBeginning, WritesOrStops};
 ghost use Rattle.aig_circuit.specs.Circuit.{IsClosed};
@@ -126,7 +126,7 @@ impl Aig {
         requires few { limit ≤ 2 ^ 31 }
         // The bytes that were read are a file that is accepted, and the circuit is that file's.
         ensures circuit { IfOk result
-            (IsOfFile (λ bytes. Accepts bytes limit) IsFileCircuit (R.left r.old) (R.left r.new)) }
+            (IsReadAs (λ bytes. Accepts bytes limit) IsFileCircuit (R.left r.old) (R.left r.new)) }
         // The limit is on its nodes.
         ensures few { IfOk result (λ aig. length aig.nodes ≤ limit) }
         // It has a written form: no leaf is free, initial edges are constant, and names hold no line feed.

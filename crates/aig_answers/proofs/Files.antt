@@ -11,13 +11,13 @@ use Rattle.aig_format.specs.Fits.{Accepts}
 use Rattle.aig_reader.specs.declared.error.ReadError.{ReadError}
 use Rattle.aig_reader.specs.declared.error.ReadError.TheVariants as read
 use Rattle.aig_reader.specs.Reading as reading
-use Rattle.aig_reader.specs.Reading.{IsOfFile}
+use Rattle.aig_reader.specs.Reading.{IsReadAs}
 use Rattle.aig_unroll.specs.Places.{unrolled_size}
 use Rattle.aig.specs.Reading.{IsFileCircuit}
 use Rattle.aig_certify.specs.declared.window.Window.{Window}
 use Rattle.aig_encode.specs.declared.error.EncodeError.{EncodeError}
 use Rattle.aig_encode.specs.declared.error.EncodeError.TheVariants as encode
-use Rattle.aig_encode.specs.Encoding.{IsBeyond, IsWithin, TookFile, UnlessInterrupted}
+use Rattle.aig_encode.specs.Encoding.{IsBeyond, IsWithin, ConsumedFile, UnlessInterrupted}
 use Rattle.aig_encode.proofs.Exactly.{Reads, Tells, answered, answered_again, no_refusal, refused_again, refused_as_large, refused_in_reading}
 use Rattle.aig_answers.specs.declared.error.AnswerError.{AnswerError}
 use Rattle.aig_answers.specs.declared.error.AnswerError.TheVariants as errors
@@ -51,7 +51,7 @@ OfFile f u = Unit {0}
 module _ {R : Type 0} (left : R → Option (List ℕ)) (failed : R → Bool) (limit k : ℕ) (r rest : R) (T : Type 0) where
   -- the file is refused, as another call refuses it
   pub refused_alike : {X : Type 0} (Means : File → X → Type 0) (e : EncodeError) → Tells Means limit k (Err e) (left r)
-      → (IsErrOf {T = X} (Err e) encode.Memory → TookFile (IsWithin limit k) (left r) (left rest)) → (IsErrOf {T = X} (Err e) encode.TooLarge → TookFile (IsBeyond limit k) (left r) (left rest))
+      → (IsErrOf {T = X} (Err e) encode.Memory → ConsumedFile (IsWithin limit k) (left r) (left rest)) → (IsErrOf {T = X} (Err e) encode.TooLarge → ConsumedFile (IsBeyond limit k) (left r) (left rest))
       → (IsErrOf {T = X} (Err e) (encode.Read read.Stream) → IsTrue (failed rest)) → (IsErrOf {T = X} (Err e) (encode.Read read.Open) → ⊥)
       → TellsOfFile {T = T} left failed limit k (Err (errors.Encode e)) r rest
   refused_alike {X} Means e exact memory large stream opened = record {
@@ -70,7 +70,7 @@ module _ {R : Type 0} (left : R → Option (List ℕ)) (failed : R → Bool) (li
       apart is = cc
 
   -- the file is a good one
-  module _ (result : Result T AnswerError) (good : of_file result ≡ Ok tt) (other : (e : EncodeError) → IsErrOf result (errors.Encode e) → ⊥) (none : IsErrOf result errors.NoBads → TookFile (AsksNothing limit k) (left r) (left rest)) where
+  module _ (result : Result T AnswerError) (good : of_file result ≡ Ok tt) (other : (e : EncodeError) → IsErrOf result (errors.Encode e) → ⊥) (none : IsErrOf result errors.NoBads → ConsumedFile (AsksNothing limit k) (left r) (left rest)) where
     pub file_good : Tells OfFile limit k (Ok tt) (left r) → TellsOfFile left failed limit k result r rest
     file_good exact = record {
       exact = subst (λ of. Tells OfFile limit k of (left r)) (sym good) exact;
@@ -109,7 +109,7 @@ module _ {R : Type 0} (left : R → Option (List ℕ)) (failed : R → Bool) (li
       not_bads is = cc
 
   -- a circuit was read, and asked for its window
-  module _ (c : Circuit) (file : IsOfFile (λ bytes. Accepts bytes limit) IsFileCircuit (left r) (left rest) c) (exact : Reads Circuit (Unit {0}) IsFileCircuit OfFile limit k (Ok c) (left r)) where
+  module _ (c : Circuit) (file : IsReadAs (λ bytes. Accepts bytes limit) IsFileCircuit (left r) (left rest) c) (exact : Reads Circuit (Unit {0}) IsFileCircuit OfFile limit k (Ok c) (left r)) where
     low_of : unrolled_size c k ≤ limit → (f : File) → c ≡ circuit_of f → unrolled_size (circuit_of f) k ≤ limit
     low_of low f is = subst (λ d. unrolled_size d k ≤ limit) is low
 
@@ -127,13 +127,13 @@ module _ {R : Type 0} (left : R → Option (List ℕ)) (failed : R → Bool) (li
         by None h = tt
         by (Some bytes) h = refused_as_large Circuit (Unit {0}) IsFileCircuit OfFile limit k c bytes (λ f is. subst (λ d. limit < unrolled_size d k) is high) h
 
-    took_within : unrolled_size c k ≤ limit → TookFile (IsWithin limit k) (left r) (left rest)
+    took_within : unrolled_size c k ≤ limit → ConsumedFile (IsWithin limit k) (left r) (left rest)
     took_within low = (file.file, file.bytes, (file.holds, low_of low file.file file.means), file.taken)
 
-    took_beyond : limit < unrolled_size c k → TookFile (IsBeyond limit k) (left r) (left rest)
+    took_beyond : limit < unrolled_size c k → ConsumedFile (IsBeyond limit k) (left r) (left rest)
     took_beyond high = (file.file, file.bytes, (file.holds, subst (λ d. limit < unrolled_size d k) file.means high), file.taken)
 
-    took_nothing : unrolled_size c k ≤ limit → c.bads ≡ [] → TookFile (AsksNothing limit k) (left r) (left rest)
+    took_nothing : unrolled_size c k ≤ limit → c.bads ≡ [] → ConsumedFile (AsksNothing limit k) (left r) (left rest)
     took_nothing low none =
         (file.file, file.bytes, ((file.holds, low_of low file.file file.means), no_bads file.file file.file.bads (subst (λ (d : Circuit). d.bads ≡ []) file.means none)), file.taken)
 
@@ -263,7 +263,7 @@ module _ {R : Type 0} (left : R → Option (List ℕ)) (form : Window) (limit k 
       subst (λ d. limit < window_size form d k) (sym is) crowded.1,
     )
 
-    pub window_room : IsOfFile (λ bytes. Accepts bytes limit) IsFileCircuit (left r) (left rest) c → Reads Circuit (Unit {0}) IsFileCircuit OfFile limit (k + 1) (Ok c) (left r) → TellsOfRoom left form limit k result r rest
+    pub window_room : IsReadAs (λ bytes. Accepts bytes limit) IsFileCircuit (left r) (left rest) c → Reads Circuit (Unit {0}) IsFileCircuit OfFile limit (k + 1) (Ok c) (left r) → TellsOfRoom left form limit k result r rest
     window_room file exact = record { exact = by (left r) exact; only = λ is. (file.file, file.bytes, crowded_file file.bytes file.file file.holds file.means is, file.taken) }
       where
         by : (known : Option (List ℕ)) → Reads Circuit (Unit {0}) IsFileCircuit OfFile limit (k + 1) (Ok c) known

@@ -11,13 +11,13 @@ use Rattle.aig_format.specs.Fits.{Accepts, Fits}
 use Rattle.aig_reader.specs.declared.error.ReadError.{ReadError}
 use Rattle.aig_reader.specs.declared.error.ReadError.TheVariants as read
 use Rattle.aig_reader.specs.Reading as reading
-use Rattle.aig_reader.specs.Reading.{IsOfFile, ReadsExactly}
+use Rattle.aig_reader.specs.Reading.{IsReadAs, ReadsExactly}
 use Rattle.aig.specs.Reading.{IsFileCircuit}
 use Rattle.aig_unroll.specs.Places.{unrolled_size}
 use Rattle.aig_certify.specs.Safety.{IsCircuitSafeAt, IsSafeAt}
 use Rattle.aig_reduction.specs.Reduction.{IsReduced}
 use Rattle.aig_encode.specs.declared.error.EncodeError.TheVariants as encode
-use Rattle.aig_encode.specs.Encoding.{IsBeyond, TookFile, UnlessInterrupted}
+use Rattle.aig_encode.specs.Encoding.{IsBeyond, ConsumedFile, UnlessInterrupted}
 use Rattle.aig_encode.proofs.Exactly.{no_refusal}
 use Rattle.aig_answers.specs.declared.error.AnswerError.{AnswerError}
 use Rattle.aig_answers.specs.declared.error.AnswerError.TheVariants as errors
@@ -158,8 +158,8 @@ module _ {R : Type 0} (left : R → Option (List ℕ)) (failed : R → Bool) (li
       apart_crowded is = cc
 
   -- a circuit was read
-  module _ (c : Circuit) (file : IsOfFile (λ bytes. Accepts bytes limit) IsFileCircuit (left r) (left rest) c) where
-    took : TookFile (λ bytes. Accepts bytes limit) (left r) (left rest)
+  module _ (c : Circuit) (file : IsReadAs (λ bytes. Accepts bytes limit) IsFileCircuit (left r) (left rest) c) where
+    took : ConsumedFile (λ bytes. Accepts bytes limit) (left r) (left rest)
     took = (file.file, file.bytes, file.holds, file.taken)
 
     pub memory_told : TellsOfReduced {T = Unit {0}} left failed limit k (Err (errors.Encode encode.Memory)) r rest
@@ -186,15 +186,15 @@ module _ {R : Type 0} (left : R → Option (List ℕ)) (failed : R → Bool) (li
 
     -- it was reduced, and the reduced circuit asked
     module _ (exact : ReadAs limit (Ok c) (left r)) (d : Circuit) (reduces : IsReduced c d) (alone : (e : Circuit) → IsReduced c e → e ≡ d) where
-      took_beyond : (d.bads ≢ []) × (limit < unrolled_size d k) → TookFile (IsReducedBeyond limit k) (left r) (left rest)
+      took_beyond : (d.bads ≢ []) × (limit < unrolled_size d k) → ConsumedFile (IsReducedBeyond limit k) (left r) (left rest)
       took_beyond high = (file.file, file.bytes, beyond_of c d reduces limit k file.bytes file.file file.means file.holds high, file.taken)
 
-      took_larger : limit < unrolled_size d k → TookFile (IsBeyond limit k) (left r) (left rest)
+      took_larger : limit < unrolled_size d k → ConsumedFile (IsBeyond limit k) (left r) (left rest)
       took_larger high =
           let low = smaller c d k reduces.nodes reduces.latchs in
           (file.file, file.bytes, (file.holds, subst (λ (x : Circuit). limit < unrolled_size x k) file.means (omega (arith, high, low))), file.taken)
 
-      took_nothing : d.bads ≡ [] → TookFile (HasNoBads limit) (left r) (left rest)
+      took_nothing : d.bads ≡ [] → ConsumedFile (HasNoBads limit) (left r) (left rest)
       took_nothing none = (file.file, file.bytes, (file.holds, none_of c d reduces limit k file.file file.means none), file.taken)
 
       module _ (result : Result Unit AnswerError) (err : IfErr result IsOfCircuitQuery) (none : IsErrOf result errors.NoBads ↔ (d.bads ≡ []))
@@ -217,7 +217,7 @@ module _ {R : Type 0} (left : R → Option (List ℕ)) (failed : R → Bool) (li
 
       -- and where the circuit is safe, so is the machine
       module _ (law : (f : File) → Fits f limit → IsCircuitSafeAt (circuit_of f) k → IsSafeAt f k) where
-        safe_of : (d.bads ≢ []) → unrolled_size d k ≤ limit → IsCircuitSafeAt d k → IsOfFile (IsReducedWithin limit k) (λ f (u : Unit {0}). IsSafeAt f k) (left r) (left rest) tt
+        safe_of : (d.bads ≢ []) → unrolled_size d k ≤ limit → IsCircuitSafeAt d k → IsReadAs (IsReducedWithin limit k) (λ f (u : Unit {0}). IsSafeAt f k) (left r) (left rest) tt
         safe_of some low safe = record {
           file = file.file;
           bytes = file.bytes;
@@ -227,7 +227,7 @@ module _ {R : Type 0} (left : R → Option (List ℕ)) (failed : R → Bool) (li
         }
 
         pub answers : (result : Result Unit AnswerError) → OnOk result (IsCircuitSafeAt d k) → (IsErrOf result errors.NoBads ↔ (d.bads ≡ [])) → (IsErrOf result (errors.Encode encode.TooLarge) ↔ ((d.bads ≢ []) × (limit < unrolled_size d k)))
-            → IfOk result (IsOfFile (IsReducedWithin limit k) (λ f u. IsSafeAt f k) (left r) (left rest))
+            → IfOk result (IsReadAs (IsReducedWithin limit k) (λ f u. IsSafeAt f k) (left r) (left rest))
         answers (Ok u) safe none large =
             let some : d.bads ≢ [] = λ empty. no_refusal Unit AnswerError u errors.NoBads (none.1 empty) in
             let low : unrolled_size d k ≤ limit = elim (cases_lt limit (unrolled_size d k)) [

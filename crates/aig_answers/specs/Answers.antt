@@ -14,7 +14,7 @@ use Rattle.aig_certify.specs.declared.window.Window.{Window}
 use Rattle.aig_certify.specs.WindowClauses.{count_free}
 use Rattle.aig_encode.specs.declared.error.EncodeError.{EncodeError}
 use Rattle.aig_encode.specs.declared.error.EncodeError.TheVariants as encode
-use Rattle.aig_encode.specs.Encoding.{AnswersExactly, IsBeyond, IsWithin, TookFile, UnlessInterrupted}
+use Rattle.aig_encode.specs.Encoding.{AnswersExactly, IsBeyond, IsWithin, ConsumedFile, UnlessInterrupted}
 use Rattle.aig_answers.specs.declared.error.AnswerError.{AnswerError}
 use Rattle.aig_answers.specs.declared.error.AnswerError.TheVariants as errors
 
@@ -48,10 +48,10 @@ pub record TellsOfFile {R T : Type 0} (left : R → Option (List ℕ)) (failed :
   -- where these apply
   pub exact : IfSome (left r) (λ bytes. UnlessInterrupted (of_file result) (AnswersExactly (λ f u. Unit {0}) limit k (of_file result) bytes))
   -- memory runs out only after a file within the limit was read, and further steps pass the limit only after one beyond it
-  pub memory : IsErrOf result (errors.Encode encode.Memory) → TookFile (IsWithin limit k) (left r) (left rest)
-  pub large : IsErrOf result (errors.Encode encode.TooLarge) → TookFile (IsBeyond limit k) (left r) (left rest)
+  pub memory : IsErrOf result (errors.Encode encode.Memory) → ConsumedFile (IsWithin limit k) (left r) (left rest)
+  pub large : IsErrOf result (errors.Encode encode.TooLarge) → ConsumedFile (IsBeyond limit k) (left r) (left rest)
   -- nothing is asked only after a file without bad literals was read
-  pub no_bads : IsErrOf result errors.NoBads → TookFile (AsksNothing limit k) (left r) (left rest)
+  pub no_bads : IsErrOf result errors.NoBads → ConsumedFile (AsksNothing limit k) (left r) (left rest)
   -- Stream only where a read failed in this call
   pub stream : IsErrOf result (errors.Encode (encode.Read read.Stream)) → IsTrue (failed rest)
   pub never_open : IsErrOf result (errors.Encode (encode.Read read.Open)) → ⊥
@@ -61,7 +61,7 @@ pub record TellsOfRoom {R T : Type 0} (left : R → Option (List ℕ)) (form : W
   -- of known bytes, memory and the stream aside: exactly where the bound of the variables passes the limit
   pub exact : IfSome (left r) (λ bytes. UnlessInterrupted (of_file result) (IsErrOf result errors.TooLarge ↔ ((f : File) × IsCrowded form limit k bytes f)))
   -- only after such a file was read
-  pub only : IsErrOf result errors.TooLarge → TookFile (IsCrowded form limit k) (left r) (left rest)
+  pub only : IsErrOf result errors.TooLarge → ConsumedFile (IsCrowded form limit k) (left r) (left rest)
 
 -- the answer tells nothing of a proof: none was read
 abbrev pub IsOfFileAlone : {T : Type 0} → Result T AnswerError → Type 0
@@ -136,12 +136,12 @@ pub record TellsOfReduced {R T : Type 0} (left : R → Option (List ℕ)) (faile
   -- of known bytes, memory and the stream aside: they are refused exactly where these apply
   pub exact : IfSome (left r) (λ bytes. UnlessInterrupted (of_file result) (RefusesReduced limit k result bytes))
   -- memory runs out after the reading only after a file that fits was read
-  pub memory : IsErrOf result (errors.Encode encode.Memory) → TookFile (λ bytes. Accepts bytes limit) (left r) (left rest)
+  pub memory : IsErrOf result (errors.Encode encode.Memory) → ConsumedFile (λ bytes. Accepts bytes limit) (left r) (left rest)
   -- further steps pass the limit only after a file whose reduced circuit's do, and then its own circuit's do
-  pub large : IsErrOf result (errors.Encode encode.TooLarge) → TookFile (IsReducedBeyond limit k) (left r) (left rest)
-  pub larger : IsErrOf result (errors.Encode encode.TooLarge) → TookFile (IsBeyond limit k) (left r) (left rest)
+  pub large : IsErrOf result (errors.Encode encode.TooLarge) → ConsumedFile (IsReducedBeyond limit k) (left r) (left rest)
+  pub larger : IsErrOf result (errors.Encode encode.TooLarge) → ConsumedFile (IsBeyond limit k) (left r) (left rest)
   -- nothing is asked only after a file without bad literals was read
-  pub no_bads : IsErrOf result errors.NoBads → TookFile (HasNoBads limit) (left r) (left rest)
+  pub no_bads : IsErrOf result errors.NoBads → ConsumedFile (HasNoBads limit) (left r) (left rest)
   -- Stream only where a read failed in this call
   pub stream : IsErrOf result (errors.Encode (encode.Read read.Stream)) → IsTrue (failed rest)
   pub never_open : IsErrOf result (errors.Encode (encode.Read read.Open)) → ⊥

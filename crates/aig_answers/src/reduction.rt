@@ -3,7 +3,7 @@
 ghost use Rattle.std.specs.Prelude.{◌≡◌, ◌^◌, ◌≤◌, IfOk, IsErrOf, IsTrue};
 ghost use Rattle.aig_answers.specs.Answers.{IsOfFileAlone, IsReducedWithin, TellsOfReduced};
 ghost use Rattle.aig_certify.specs.Safety.{IsSafeAt};
-ghost use Rattle.aig_reader.specs.Reading.{IsOfFile};
+ghost use Rattle.aig_reader.specs.Reading.{IsReadAs};
 
 use crate::circuits::check_query_of;
 use crate::error::AnswerError;
@@ -33,7 +33,7 @@ pub fn check_step_reduced<R: Source, P: Source>(
     requires few { limit ≤ 2 ^ 31 }
     // The bytes that were read are a file with a bad literal, whose reduced circuit is within the limit, and whose machine
     // has no run from an initial state that meets every constraint at the steps 0 to k and some bad literal at step k.
-    ensures answer { IfOk result (IsOfFile (IsReducedWithin limit k) (λ f _. IsSafeAt f k)
+    ensures answer { IfOk result (IsReadAs (IsReducedWithin limit k) (λ f _. IsSafeAt f k)
         (R.left r.old) (R.left r.new)) }
     ensures file { TellsOfReduced R.left R.failed limit k result r.old r.new }
     ensures unread { IsOfFileAlone result → proof.new ≡ proof.old }

@@ -3,7 +3,7 @@
 ghost use Rattle.std.specs.Prelude.{◌≡◌, ◌^◌, ◌≤◌, IfOk, IsErrOf, IsTrue};
 ghost use Rattle.aig_answers.specs.Answers.{IsAsked, IsOfFileAlone, TellsOfFile};
 ghost use Rattle.aig_certify.specs.Safety.{IsSafeAt};
-ghost use Rattle.aig_reader.specs.Reading.{IsOfFile};
+ghost use Rattle.aig_reader.specs.Reading.{IsReadAs};
 
 use crate::error::AnswerError;
 use aig_base::Source;
@@ -29,7 +29,7 @@ pub fn check_step<R: Source, P: Source>(
     requires few { limit ≤ 2 ^ 31 }
     // The bytes that were read are a file within the limit, with a bad literal, whose machine has no run from an initial state that
     // meets every constraint at the steps 0 to k and some bad literal at step k.
-    ensures answer { IfOk result (IsOfFile (IsAsked limit k) (λ f _. IsSafeAt f k)
+    ensures answer { IfOk result (IsReadAs (IsAsked limit k) (λ f _. IsSafeAt f k)
         (R.left r.old) (R.left r.new)) }
     ensures file { TellsOfFile R.left R.failed limit k result r.old r.new }
     ensures unread { IsOfFileAlone result → proof.new ≡ proof.old }

@@ -6,7 +6,7 @@ ghost use Rattle.aig_answers.specs.Answers.{IsAsked, IsOfCircuit, IsOfFileAlone,
 ghost use Rattle.aig_base.specs.Clauses.{AreBelow};
 ghost use Rattle.aig_certify.specs.Induction.{IsKInductive};
 ghost use Rattle.aig_certify.specs.WindowClauses.{AsksWindow, count_free, states_clauses, watched};
-ghost use Rattle.aig_reader.specs.Reading.{IsOfFile};
+ghost use Rattle.aig_reader.specs.Reading.{IsReadAs};
 ghost use Rattle.aig_format.specs.Circuit.{circuit_of};
 ghost use Rattle.aig_unroll.specs.Places.{unrolled_size};
 
@@ -154,7 +154,7 @@ pub fn window<R: Source>(
     requires few { limit ≤ 2 ^ 31 }
     requires steps { k < 2 ^ 32 }
     // The bytes that were read are a file within the limit, with a bad literal, of which the clauses ask for a window.
-    ensures answer { IfOk result (IsOfFile (IsAsked limit (k + 1))
+    ensures answer { IfOk result (IsReadAs (IsAsked limit (k + 1))
         (λ f made. AsksWindow form (circuit_of f) k optimize made.clauses made.further)
         (R.left r.old) (R.left r.new)) }
     // The window clauses are of variables that are there.
@@ -185,7 +185,7 @@ pub fn check_window<R: Source, P: Source>(
     requires some { 1 ≤ limit }
     requires few { limit ≤ 2 ^ 31 }
     requires steps { k < 2 ^ 32 }
-    ensures answer { IfOk result (IsOfFile (IsAsked limit (k + 1)) (λ f _. IsKInductive form f k)
+    ensures answer { IfOk result (IsReadAs (IsAsked limit (k + 1)) (λ f _. IsKInductive form f k)
         (R.left r.old) (R.left r.new)) }
     ensures file { TellsOfFile R.left R.failed limit (k + 1) result r.old r.new }
     ensures room { TellsOfRoom R.left form limit k result r.old r.new }

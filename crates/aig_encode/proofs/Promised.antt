@@ -7,7 +7,7 @@ use Rattle.aig_cnf.specs.Cnf.{FixesRoots, HasClauses, NodeValuesSatisfy}
 use Rattle.aig_format.specs.Circuit.{circuit_of}
 use Rattle.aig_format.specs.File.{File}
 use Rattle.aig_format.specs.Fits.{Accepts, Fits}
-use Rattle.aig_reader.specs.Reading.{IsOfFile}
+use Rattle.aig_reader.specs.Reading.{IsReadAs}
 use Rattle.aig_runs.specs.Encodes.{Encodes}
 use Rattle.aig_runs.proofs.FileRuns.{files_are_encoded}
 use Rattle.aig_unroll.specs.Places.{unrolled_size}
@@ -16,7 +16,7 @@ use Rattle.aig.specs.Reading.{IsFileCircuit}
 use Rattle.aig_encode.specs.declared.encoding.Encoded.{Encoded}
 use Rattle.aig_encode.specs.declared.error.EncodeError.{EncodeError}
 use Rattle.aig_encode.specs.declared.error.EncodeError.TheVariants as errors
-use Rattle.aig_encode.specs.Encoding.{IsBeyond, IsEncoding, IsWithin, TookFile}
+use Rattle.aig_encode.specs.Encoding.{IsBeyond, IsEncoding, IsWithin, ConsumedFile}
 use Rattle.aig_encode.proofs.Exactly.{Reads, Tells, answered, no_refusal, refused_as_large}
 
 -- these are the circuit, it with k further steps, and the clauses of that
@@ -74,9 +74,9 @@ module _ (of : Circuit) (limit k : ℕ) (optimize : Bool) where
   tells (Err errors.TooLarge) (Some bytes) p h = refused_as_large Circuit Encoded IsFileCircuit (IsEncoding k optimize) limit k of bytes (λ f. high f p) h
   tells (Err (errors.Read e)) (Some bytes) p h = absurd p
 
-  module _ (old new : Option (List ℕ)) (read : IsOfFile (λ bytes. Accepts bytes limit) IsFileCircuit old new of) where
+  module _ (old new : Option (List ℕ)) (read : IsReadAs (λ bytes. Accepts bytes limit) IsFileCircuit old new of) where
     -- the file that was read is encoded
-    pub answers : (r : Result Encoded EncodeError) → Promised of limit k optimize r → IfOk r (IsOfFile (IsWithin limit k) (IsEncoding k optimize) old new)
+    pub answers : (r : Result Encoded EncodeError) → Promised of limit k optimize r → IfOk r (IsReadAs (IsWithin limit k) (IsEncoding k optimize) old new)
     answers (Ok e) p = record {
       file = read.file;
       bytes = read.bytes;
@@ -87,14 +87,14 @@ module _ (of : Circuit) (limit k : ℕ) (optimize : Bool) where
     answers (Err e) p = tt
 
     -- memory ran out after a file within the limit
-    pub took_within : (r : Result Encoded EncodeError) → Promised of limit k optimize r → IsErrOf r errors.Memory → TookFile (IsWithin limit k) old new
+    pub took_within : (r : Result Encoded EncodeError) → Promised of limit k optimize r → IsErrOf r errors.Memory → ConsumedFile (IsWithin limit k) old new
     took_within (Ok e) p is = cc
     took_within (Err errors.Memory) p is = (read.file, read.bytes, (read.holds, low read.file p read.means), read.taken)
     took_within (Err errors.TooLarge) p is = cc
     took_within (Err (errors.Read e)) p is = absurd p
 
     -- and a file was too large beyond it
-    pub took_beyond : (r : Result Encoded EncodeError) → Promised of limit k optimize r → IsErrOf r errors.TooLarge → TookFile (IsBeyond limit k) old new
+    pub took_beyond : (r : Result Encoded EncodeError) → Promised of limit k optimize r → IsErrOf r errors.TooLarge → ConsumedFile (IsBeyond limit k) old new
     took_beyond (Ok e) p is = cc
     took_beyond (Err errors.Memory) p is = cc
     took_beyond (Err errors.TooLarge) p is = (read.file, read.bytes, (read.holds, high read.file p read.means), read.taken)

@@ -6,7 +6,7 @@ use Rattle.aig_format.specs.File.{File}
 use Rattle.aig_format.specs.Fits.{Accepts, TooMany}
 use Rattle.aig_format.specs.Circuit.{circuit_of}
 use Rattle.aig_reader.specs.declared.error.ReadError.TheVariants as read
-use Rattle.aig_reader.specs.Reading.{AnswersFile}
+use Rattle.aig_reader.specs.Reading.{ReadsWhere}
 use Rattle.aig_unroll.specs.Places.{unrolled_size}
 use Rattle.aig_runs.specs.Encodes.{Encodes}
 use Rattle.aig_runs.specs.Queries.{IsQueryOf}
@@ -36,13 +36,13 @@ abbrev pub IsBeyond : ℕ → ℕ → List ℕ → File → Type 0
 IsBeyond limit k bytes f = Accepts bytes limit f × (limit < unrolled_size (circuit_of f) k)
 
 -- the bytes that were taken are a file of which this holds
-abbrev pub TookFile : (List ℕ → File → Type 0) → Option (List ℕ) → Option (List ℕ) → Type 0
-TookFile Holds old new = (f : File) × (bytes : List ℕ) × Holds bytes f × Consumes old new bytes
+abbrev pub ConsumedFile : (List ℕ → File → Type 0) → Option (List ℕ) → Option (List ℕ) → Type 0
+ConsumedFile Holds old new = (f : File) × (bytes : List ℕ) × Holds bytes f × Consumes old new bytes
 
 -- Which bytes are answered, and which are refused as too large.
 pub record AnswersExactly {T : Type 0} (Means : File → T → Type 0) (limit k : ℕ) (result : Result T EncodeError) (bytes : List ℕ) : Type 0 where
   -- there is an answer exactly where the bytes are a file within the limit, and it is what is meant for that file
-  pub accepted : AnswersFile (IsWithin limit k bytes) Means result
+  pub accepted : ReadsWhere (IsWithin limit k bytes) Means result
   -- TooMany exactly where the header line is good and passes the limit
   pub too_many : IsErrOf result (errors.Read read.TooMany) ↔ TooMany bytes limit
   -- TooLarge exactly where the bytes are a file whose further steps may pass the limit
@@ -51,11 +51,11 @@ pub record AnswersExactly {T : Type 0} (Means : File → T → Type 0) (limit k 
 -- ---- refusals
 
 -- the bytes were not refused
-abbrev pub PassesReading : {T : Type 0} → Result T EncodeError → Type 0
-PassesReading (Ok answer) = Unit {0}
-PassesReading (Err (errors.Read e)) = ⊥
-PassesReading (Err errors.Memory) = Unit {0}
-PassesReading (Err errors.TooLarge) = Unit {0}
+abbrev pub IsPastReading : {T : Type 0} → Result T EncodeError → Type 0
+IsPastReading (Ok answer) = Unit {0}
+IsPastReading (Err (errors.Read e)) = ⊥
+IsPastReading (Err errors.Memory) = Unit {0}
+IsPastReading (Err errors.TooLarge) = Unit {0}
 
 -- the fact, unless memory or the stream failed
 abbrev pub UnlessInterrupted : {T : Type 0} → Result T EncodeError → Type 0 → Type 0

@@ -3,10 +3,10 @@
 ghost use Rattle.std.specs.Prelude.{◌≡◌, ◌^◌, ◌<◌, ◌≤◌, ◌⊎◌, ◌↔◌, false, IfErr, IfOk, IfSome, IsErrOf, IsTrue};
 ghost use Rattle.std.specs.Io.KnownBytes.{IsAtEnd};
 ghost use Rattle.aig_cnf.specs.Cnf.{FixesRoots, HasClauses, NodeValuesSatisfy};
-ghost use Rattle.aig_reader.specs.Reading.{IsOfFile};
+ghost use Rattle.aig_reader.specs.Reading.{IsReadAs};
 ghost use Rattle.aig_unroll.specs.Places.{unrolled_size};
 ghost use Rattle.aig_unroll.specs.Unroll.{UnrollsTo};
-ghost use Rattle.aig_encode.specs.Encoding.{AnswersExactly, IsBeyond, IsEncoding, IsWithin, PassesReading, TookFile, UnlessInterrupted};
+ghost use Rattle.aig_encode.specs.Encoding.{AnswersExactly, IsBeyond, IsEncoding, IsWithin, IsPastReading, ConsumedFile, UnlessInterrupted};
 
 use crate::error::EncodeError;
 use aig::{Aig, ReadError};
@@ -70,18 +70,18 @@ pub fn encode<R: Source>(
     requires few { limit ≤ 2 ^ 31 }
     // The bytes that were read are a file within the limit, and that file is encoded.
     ensures answer { IfOk result
-        (IsOfFile (IsWithin limit k) (IsEncoding k optimize) (R.left r.old) (R.left r.new)) }
+        (IsReadAs (IsWithin limit k) (IsEncoding k optimize) (R.left r.old) (R.left r.new)) }
     // Memory and stream aside, there is an answer exactly where the bytes are such a file, and TooMany and TooLarge
     // come exactly where they apply.
     ensures exact { IfSome (R.left r.old) (λ bytes.
         UnlessInterrupted result (AnswersExactly (IsEncoding k optimize) limit k result bytes)) }
     // Memory comes only after a file within the limit was read, and TooLarge only after one beyond it.
     ensures memory { IsErrOf result EncodeError.Memory
-        → TookFile (IsWithin limit k) (R.left r.old) (R.left r.new) }
+        → ConsumedFile (IsWithin limit k) (R.left r.old) (R.left r.new) }
     ensures large { IsErrOf result EncodeError.TooLarge
-        → TookFile (IsBeyond limit k) (R.left r.old) (R.left r.new) }
+        → ConsumedFile (IsBeyond limit k) (R.left r.old) (R.left r.new) }
     // Unless the bytes were refused, no read failed and the stream was read to its end.
-    ensures whole { PassesReading result → (R.failed r.new ≡ false) × IsAtEnd (R.left r.new) }
+    ensures whole { IsPastReading result → (R.failed r.new ≡ false) × IsAtEnd (R.left r.new) }
     // Stream only where a read failed in this call.
     ensures stream { IsErrOf result (EncodeError.Read ReadError.Stream) → IsTrue (R.failed r.new) }
     ensures never_open { IsErrOf result (EncodeError.Read ReadError.Open) → ⊥ }

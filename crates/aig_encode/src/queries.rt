@@ -3,8 +3,8 @@
 ghost use Rattle.std.specs.Prelude.{◌≡◌, ◌^◌, ◌≤◌, false, IfOk, IfSome, IsErrOf, IsTrue, length};
 ghost use Rattle.std.specs.Io.KnownBytes.{IsAtEnd};
 ghost use Rattle.aig_base.specs.Clauses.{AreBelow};
-ghost use Rattle.aig_reader.specs.Reading.{IsOfFile};
-ghost use Rattle.aig_encode.specs.Encoding.{AnswersExactly, IsBeyond, IsQuery, IsWithin, PassesReading, TookFile, UnlessInterrupted};
+ghost use Rattle.aig_reader.specs.Reading.{IsReadAs};
+ghost use Rattle.aig_encode.specs.Encoding.{AnswersExactly, IsBeyond, IsQuery, IsWithin, IsPastReading, ConsumedFile, UnlessInterrupted};
 
 use crate::encoding::encode;
 use crate::error::EncodeError;
@@ -61,7 +61,7 @@ pub fn query<R: Source>(
     requires few { limit ≤ 2 ^ 31 }
     // The bytes that were read are a file within the limit, and that file is encoded and asked for.
     ensures answer { IfOk result
-        (IsOfFile (IsWithin limit k) (IsQuery k optimize) (R.left r.old) (R.left r.new)) }
+        (IsReadAs (IsWithin limit k) (IsQuery k optimize) (R.left r.old) (R.left r.new)) }
     // The query clauses are of variables that are there.
     ensures below { IfOk result (λ q. AreBelow (length q.encoded.clauses) q.extra) }
     // Memory and stream aside, there is an answer exactly where the bytes are such a file, and TooMany and TooLarge
@@ -70,11 +70,11 @@ pub fn query<R: Source>(
         UnlessInterrupted result (AnswersExactly (IsQuery k optimize) limit k result bytes)) }
     // Memory comes only after a file within the limit was read, and TooLarge only after one beyond it.
     ensures memory { IsErrOf result EncodeError.Memory
-        → TookFile (IsWithin limit k) (R.left r.old) (R.left r.new) }
+        → ConsumedFile (IsWithin limit k) (R.left r.old) (R.left r.new) }
     ensures large { IsErrOf result EncodeError.TooLarge
-        → TookFile (IsBeyond limit k) (R.left r.old) (R.left r.new) }
+        → ConsumedFile (IsBeyond limit k) (R.left r.old) (R.left r.new) }
     // Unless the bytes were refused, no read failed and the stream was read to its end.
-    ensures whole { PassesReading result → (R.failed r.new ≡ false) × IsAtEnd (R.left r.new) }
+    ensures whole { IsPastReading result → (R.failed r.new ≡ false) × IsAtEnd (R.left r.new) }
     // Stream only where a read failed in this call.
     ensures stream { IsErrOf result (EncodeError.Read ReadError.Stream) → IsTrue (R.failed r.new) }
     ensures never_open { IsErrOf result (EncodeError.Read ReadError.Open) → ⊥ }

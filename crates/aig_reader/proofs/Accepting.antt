@@ -15,7 +15,7 @@ use Rattle.aig_reader.specs.Names.{tail_of}
 use Rattle.aig_reader.specs.declared.error.ReadError.{ReadError}
 use Rattle.aig_reader.specs.declared.error.ReadError.TheVariants as errors
 use Rattle.aig_reader.specs.Faults.{IsSectionFault, OnRefusal}
-use Rattle.aig_reader.specs.Reading.{AreListsOf, IsOfFile, ReadsExactly, UnlessInterrupted}
+use Rattle.aig_reader.specs.Reading.{AreListsOf, IsReadAs, ReadsExactly, UnlessInterrupted}
 use Rattle.aig_lexer.specs.Takes.{Takes, Misses}
 use Rattle.aig_reader.proofs.Body.{on_refusal-weaker}
 use Rattle.aig_lexer.proofs.Going.{known_rest}
@@ -151,7 +151,7 @@ one_file : (limit : ℕ) (bytes : List ℕ) (f g : File) → Accepts bytes limit
 one_file limit bytes f g p q = same_Some f g (sym (fitting_complete limit bytes f p) ∙ fitting_complete limit bytes g q)
 
 -- what was read of known bytes
-pub accepts : (T : Type 0) (header : T) (limit : ℕ) (before after : Option (List ℕ)) (lists : CircuitLists) → IsOfFile (λ bytes. Accepts bytes limit) AreListsOf before after lists → IsAtEnd after
+pub accepts : (T : Type 0) (header : T) (limit : ℕ) (before after : Option (List ℕ)) (lists : CircuitLists) → IsReadAs (λ bytes. Accepts bytes limit) AreListsOf before after lists → IsAtEnd after
     → IfSome before (λ bytes. ◌≡◌ {A = Result T ReadError} (Ok header) (Err errors.TooMany) ↔ (too_many_at limit bytes ≡ true)) → IfSome before (λ bytes. ReadsExactly AreListsOf limit (Ok lists) bytes)
 accepts T header limit before after lists o end k =
     both_known before (λ bytes. Accepts bytes limit o.file) (λ bytes. ◌≡◌ {A = Result T ReadError} (Ok header) (Err errors.TooMany) ↔ (too_many_at limit bytes ≡ true)) (λ bytes. ReadsExactly AreListsOf limit (Ok lists) bytes)

@@ -22,7 +22,7 @@ abbrev pub AreListsOf : File → CircuitLists → Type 0
 AreListsOf f lists = lists_circuit lists ≡ circuit_of f
 
 -- the bytes that were taken are a file of which this holds, and the value is what is meant for that file
-pub record IsOfFile {T : Type 0} (Holds : List ℕ → File → Type 0) (Means : File → T → Type 0) (old new : Option (List ℕ)) (value : T) : Type 0 where
+pub record IsReadAs {T : Type 0} (Holds : List ℕ → File → Type 0) (Means : File → T → Type 0) (old new : Option (List ℕ)) (value : T) : Type 0 where
   pub file : File
   pub bytes : List ℕ
   pub holds : Holds bytes file
@@ -30,12 +30,12 @@ pub record IsOfFile {T : Type 0} (Holds : List ℕ → File → Type 0) (Means :
   pub taken : Consumes old new bytes
 
 -- there is a value exactly where there is a file of which this holds, and it is what is meant for that file
-pub record AnswersFile {T E : Type 0} (Holds : File → Type 0) (Means : File → T → Type 0) (result : Result T E) : Type 0 where
+pub record ReadsWhere {T E : Type 0} (Holds : File → Type 0) (Means : File → T → Type 0) (result : Result T E) : Type 0 where
   pub each : (f : File) → Holds f → IsOkAnd result (Means f)
   pub only : IsOk result → (f : File) × Holds f
 
 -- there is a value exactly where the bytes are a file that is accepted, and TooMany exactly where the header line is good and passes the
 -- limit
 pub record ReadsExactly {T : Type 0} (Means : File → T → Type 0) (limit : ℕ) (result : Result T ReadError) (bytes : List ℕ) : Type 0 where
-  pub accepted : AnswersFile (Accepts bytes limit) Means result
+  pub accepted : ReadsWhere (Accepts bytes limit) Means result
   pub too_many : IsErrOf result errors.TooMany ↔ TooMany bytes limit

@@ -8,7 +8,7 @@ ghost use Rattle.aig_format.specs.Fits.{Accepts};
 ghost use Rattle.aig_lexer.specs.Header.{numbers_of};
 ghost use Rattle.aig_lexer.specs.Takes.{Makes};
 ghost use Rattle.aig_reader.specs.Faults.{IsSectionFault, OnRefusal};
-ghost use Rattle.aig_reader.specs.Reading.{AreListsOf, IsOfFile, ReadsExactly, UnlessInterrupted};
+ghost use Rattle.aig_reader.specs.Reading.{AreListsOf, IsReadAs, ReadsExactly, UnlessInterrupted};
 ghost use Rattle.aig_reader.specs.Numbered.{IsCircuitOf};
 ghost use Rattle.aig_reader.specs.Sections.{file_by};
 
@@ -30,7 +30,7 @@ pub fn read<R: Source>(alloc: Global, r: &mut R, limit: usize) -> Result<Circuit
     requires few { limit ≤ 2 ^ 31 }
     // The bytes that were read are a file that is accepted, and the lists are those of its circuit.
     ensures circuit { IfOk result
-        (IsOfFile (λ bytes. Accepts bytes limit) AreListsOf (R.left r.old) (R.left r.new)) }
+        (IsReadAs (λ bytes. Accepts bytes limit) AreListsOf (R.left r.old) (R.left r.new)) }
     // Of known bytes, memory and stream aside: where they are a file that is accepted, the lists are those of its
     // circuit; else there is a refusal, TooMany exactly where the header line is good and passes the limit.
     ensures exact { IfSome (R.left r.old) (λ bytes.
@@ -50,7 +50,7 @@ pub fn read<R: Source>(alloc: Global, r: &mut R, limit: usize) -> Result<Circuit
 fn read_file<F: ByteFeed>(alloc: Global, f: &mut F, limit: usize) -> Result<CircuitLists, ReadError>
     requires { limit ≤ 2 ^ 31 }
     ensures circuit { IfOk result
-        (IsOfFile (λ bytes. Accepts bytes limit) AreListsOf (F.coming f.old) (F.coming f.new)) }
+        (IsReadAs (λ bytes. Accepts bytes limit) AreListsOf (F.coming f.old) (F.coming f.new)) }
     ensures exact { IfSome (F.coming f.old) (λ bytes.
         UnlessInterrupted result (ReadsExactly AreListsOf limit result bytes)) }
     ensures whole { OnOk result ((F.failed f.new ≡ false) × IsAtEnd (F.coming f.new)) }

@@ -11,7 +11,7 @@ use Rattle.aig_format.proofs.Circuits.{IsCircuit-of_file}
 use Rattle.aig_lexer.specs.Takes.{Takes}
 use Rattle.aig_reader.specs.declared.error.ReadError.{ReadError}
 use Rattle.aig_reader.specs.declared.error.ReadError.TheVariants as read
-use Rattle.aig_reader.specs.Reading.{AreListsOf, IsOfFile, ReadsExactly, UnlessInterrupted}
+use Rattle.aig_reader.specs.Reading.{AreListsOf, IsReadAs, ReadsExactly, UnlessInterrupted}
 use Rattle.aig_witness.specs.Faults.{Ends}
 use Rattle.aig_witness.specs.Reading.{parse_next}
 use Rattle.aig_witness.specs.Witness.{Witness}
@@ -43,12 +43,12 @@ refused limit (Some bytes) read.Name h = λ f accepts. h.accepted.each f accepts
 refused limit (Some bytes) read.Open h = λ f accepts. h.accepted.each f accepts
 
 -- the lists of a file are a circuit
-pub lists_are : (limit : ℕ) (old new : Option (List ℕ)) (lists : CircuitLists) → IsOfFile (λ bytes. Accepts bytes limit) AreListsOf old new lists → IsCircuit (lists_circuit lists)
+pub lists_are : (limit : ℕ) (old new : Option (List ℕ)) (lists : CircuitLists) → IsReadAs (λ bytes. Accepts bytes limit) AreListsOf old new lists → IsCircuit (lists_circuit lists)
 lists_are limit old new lists o = subst IsCircuit (sym o.means) (IsCircuit-of_file o.file limit o.holds.1)
 
 -- the fault of a witness, on the file's circuit
-pub fails_on : (limit : ℕ) (old new text : Option (List ℕ)) (lists : CircuitLists) (w : Witness) (e : CheckError) → IsOfFile (λ bytes. Accepts bytes limit) AreListsOf old new lists → IsNext text w → IsWrong (lists_circuit lists) w e
-    → IsOfFile (λ bytes. Accepts bytes limit) (FailsNext text) old new e
+pub fails_on : (limit : ℕ) (old new text : Option (List ℕ)) (lists : CircuitLists) (w : Witness) (e : CheckError) → IsReadAs (λ bytes. Accepts bytes limit) AreListsOf old new lists → IsNext text w → IsWrong (lists_circuit lists) w e
+    → IsReadAs (λ bytes. Accepts bytes limit) (FailsNext text) old new e
 fails_on limit old new text lists w e o next wrong = record {
   file = o.file;
   bytes = o.bytes;

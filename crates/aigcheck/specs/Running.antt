@@ -19,7 +19,7 @@ use Rattle.aig_reader.specs.declared.error.ReadError.TheVariants as read
 use Rattle.aig_witness_check.specs.declared.file.ShowError.TheVariants as shows
 use Rattle.aig_witness_check.specs.declared.file.Shown.{Shown}
 use Rattle.aig_encode.specs.declared.query_clauses.Query.{Query}
-use Rattle.aig_encode.specs.Encoding.{IsQuery, TookFile}
+use Rattle.aig_encode.specs.Encoding.{IsQuery, ConsumedFile}
 use Rattle.aig_witness.specs.Witness.{Witness, witness_text}
 use Rattle.aig_witness_check.specs.Machine.{ShowsBad}
 use Rattle.aig_witness_check.specs.Files as witnesses
@@ -102,7 +102,7 @@ pub record AnswersFile (c : Command) (limit : ℕ) (given old new : Option (List
 abbrev pub Runs : {R W : Type 0} → (R → Option (List ℕ)) → (R → Bool) → (W → Option (List ℕ)) → (W → Bool) → Command → ℕ → Option (List ℕ) → R → W → Result Unit CheckError → R → W → Type 0
 Runs left read_failed held write_failed c limit given r w (Ok done) rest made = AnswersFile c limit given (left r) (left rest) (Appends (held w) (held made)) × (write_failed made ≡ false)
 Runs left read_failed held write_failed c limit given r w (Err (errors.Answer e)) rest made = TellsOfFile {T = Unit} left read_failed limit (steps_of c) (Err e) r rest × (made ≡ w)
-Runs left read_failed held write_failed c limit given r w (Err (errors.Solution e)) rest made = TookFile (IsAsked limit (steps_of c)) (left r) (left rest) × (made ≡ w)
+Runs left read_failed held write_failed c limit given r w (Err (errors.Solution e)) rest made = ConsumedFile (IsAsked limit (steps_of c)) (left r) (left rest) × (made ≡ w)
 Runs left read_failed held write_failed c limit given r w (Err (errors.Show e)) rest made = witnesses.Answers limit (left r) (left rest) given (Err e) × (e ≡ shows.File read.Stream → IsTrue (read_failed rest)) × (made ≡ w)
 Runs left read_failed held write_failed c limit given r w (Err errors.Write) rest made = AnswersFile c limit given (left r) (left rest) (AppendsBeginning (held w) (held made)) × IsTrue (write_failed made)
 Runs left read_failed held write_failed c limit given r w (Err errors.Open) rest made = ⊥

@@ -6,7 +6,7 @@ ghost use Rattle.aig_answers.specs.declared.error.AnswerError.TheVariants as ans
 ghost use Rattle.aig_base.specs.Clauses.{AreBelow};
 ghost use Rattle.aig_encode.specs.declared.error.EncodeError.TheVariants as encode;
 ghost use Rattle.aig_encode.specs.Encoding.{IsQuery};
-ghost use Rattle.aig_reader.specs.Reading.{IsOfFile};
+ghost use Rattle.aig_reader.specs.Reading.{IsReadAs};
 ghost use Rattle.aig_writer.specs.Sinks.{BuffersOrStops, WritesOrStops};
 ghost use Rattle.aigcheck.specs.Running.{Runs, shown_line};
 ghost use Rattle.aigcheck.specs.declared.tool.CheckError.TheVariants as errors;
@@ -200,7 +200,7 @@ fn asked_query<R: Source>(
     optimize: bool,
     r: &mut R,
 ) -> Result<Query, AnswerError>
-    ensures answer { IfOk result (IsOfFile (IsAsked LIMIT k) (IsQuery k optimize)
+    ensures answer { IfOk result (IsReadAs (IsAsked LIMIT k) (IsQuery k optimize)
         (R.left r.old) (R.left r.new)) }
     ensures file { TellsOfFile R.left R.failed LIMIT k result r.old r.new }
     // The further clauses are of variables that are there.

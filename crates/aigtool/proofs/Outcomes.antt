@@ -10,7 +10,7 @@ use Rattle.aig.specs.declared.aiger.WriteError.{WriteError}
 use Rattle.aig.specs.declared.aiger.WriteError.TheVariants as write
 use Rattle.aig_encode.specs.declared.error.EncodeError.{EncodeError}
 use Rattle.aig_encode.specs.declared.error.EncodeError.TheVariants as encode
-use Rattle.aig_encode.specs.Encoding.{IsBeyond, IsWithin, TookFile}
+use Rattle.aig_encode.specs.Encoding.{IsBeyond, IsWithin, ConsumedFile}
 use Rattle.aigtool.specs.declared.command.Command.{Command}
 use Rattle.aigtool.specs.declared.tool.ToolError.{ToolError}
 use Rattle.aigtool.specs.declared.tool.ToolError.TheVariants as errors
@@ -37,14 +37,14 @@ module _ {R W : Type 0} (left : R → Option (List ℕ)) (read_failed : R → Bo
 
   -- the bytes were refused, or memory ran out, or further steps may pass the limit
   pub not_encoded : {X : Type 0} (Means : File → X → Type 0) (k : ℕ) (e : EncodeError) → steps_of c ≡ Some k → Says c Short (Err (errors.Encode encode.Memory)) → Encodes {X = X} Means limit k (Err e) (left r)
-      → (IsErrOf {T = X} (Err e) encode.Memory → TookFile (IsWithin limit k) (left r) (left rest)) → (IsErrOf {T = X} (Err e) encode.TooLarge → TookFile (IsBeyond limit k) (left r) (left rest))
+      → (IsErrOf {T = X} (Err e) encode.Memory → ConsumedFile (IsWithin limit k) (left r) (left rest)) → (IsErrOf {T = X} (Err e) encode.TooLarge → ConsumedFile (IsBeyond limit k) (left r) (left rest))
       → ((e ≡ encode.Memory) → (read_failed rest ≡ false) × IsAtEnd (left rest)) → ((e ≡ encode.TooLarge) → (read_failed rest ≡ false) × IsAtEnd (left rest))
       → (IsErrOf {T = X} (Err e) (encode.Read read.Stream) → IsTrue (read_failed rest)) → (IsErrOf {T = X} (Err e) (encode.Read read.Open) → ⊥)
       → Runs left read_failed held write_failed c limit r w (Err (errors.Encode e)) rest w
   not_encoded {X} Means k encode.Memory some short exact memory large whole beyond stream opened = record {
     outcome = Short;
     says = short;
-    tells = subst (λ steps. TookFile (TakesBy steps limit) (left r) (left rest)) (sym some) (memory refl);
+    tells = subst (λ steps. ConsumedFile (TakesBy steps limit) (left r) (left rest)) (sym some) (memory refl);
     exact = λ not. absurd (not tt);
     kept = λ not stopped. refl;
     whole = λ not. whole refl;
@@ -52,7 +52,7 @@ module _ {R W : Type 0} (left : R → Option (List ℕ)) (read_failed : R → Bo
   not_encoded {X} Means k encode.TooLarge some short exact memory large whole beyond stream opened = record {
     outcome = Passes;
     says = (λ none. let is = some in cc, refl);
-    tells = subst (λ steps. TookFile (ExceedsBy steps limit) (left r) (left rest)) (sym some) (large refl);
+    tells = subst (λ steps. ConsumedFile (ExceedsBy steps limit) (left r) (left rest)) (sym some) (large refl);
     exact = subst (λ steps. Tell steps limit Passes (left r)) (sym some) (passes_in_encoding X Means limit k (left r) exact);
     kept = λ not stopped. refl;
     whole = λ not. beyond refl;
@@ -65,7 +65,7 @@ module _ {R W : Type 0} (left : R → Option (List ℕ)) (read_failed : R → Bo
 
   -- memory ran out after the reading
   module _ (e : ToolError) (made : W) where
-    pub no_memory : Says c Short (Err e) → TookFile (TakesBy (steps_of c) limit) (left r) (left rest) → (read_failed rest ≡ false) × IsAtEnd (left rest) → made ≡ w → Runs left read_failed held write_failed c limit r w (Err e) rest made
+    pub no_memory : Says c Short (Err e) → ConsumedFile (TakesBy (steps_of c) limit) (left r) (left rest) → (read_failed rest ≡ false) × IsAtEnd (left rest) → made ≡ w → Runs left read_failed held write_failed c limit r w (Err e) rest made
     no_memory says took whole kept = record { outcome = Short; says = says; tells = took; exact = λ not. absurd (not tt); kept = λ not stopped. kept; whole = λ not. whole }
 
   module _ (made : W) where

@@ -17,7 +17,7 @@ use Rattle.aig.specs.declared.aiger.WriteError.TheVariants as write
 use Rattle.aig_encode.specs.declared.encoding.Encoded.{Encoded}
 use Rattle.aig_encode.specs.declared.query_clauses.Query.{Query}
 use Rattle.aig_encode.specs.declared.error.EncodeError.TheVariants as encode
-use Rattle.aig_encode.specs.Encoding.{IsBeyond, IsEncoding, IsQuery, IsWithin, TookFile}
+use Rattle.aig_encode.specs.Encoding.{IsBeyond, IsEncoding, IsQuery, IsWithin, ConsumedFile}
 use Rattle.aigtool.specs.declared.command.Command.{Command}
 use Rattle.aigtool.specs.declared.command.Command.TheVariants as commands
 use Rattle.aigtool.specs.declared.tool.ToolError.{ToolError}
@@ -106,8 +106,8 @@ Says c Stopped result = IsErrOf result (errors.Write write.Stream)
 abbrev pub Tells : Command → ℕ → Option (List ℕ) → Option (List ℕ) → Bool → Option (List ℕ) → Option (List ℕ) → Bool → Outcome → Type 0
 Tells c limit left rest read_failed old new failed Answered = AnswersFile c limit left rest (Appends old new) × (failed ≡ false)
 Tells c limit left rest read_failed old new failed (Refused e) = (e ≡ read.Stream → IsTrue read_failed) × (e ≢ read.Open)
-Tells c limit left rest read_failed old new failed Passes = TookFile (Exceeds c limit) left rest
-Tells c limit left rest read_failed old new failed Short = TookFile (Takes c limit) left rest
+Tells c limit left rest read_failed old new failed Passes = ConsumedFile (Exceeds c limit) left rest
+Tells c limit left rest read_failed old new failed Short = ConsumedFile (Takes c limit) left rest
 Tells c limit left rest read_failed old new failed Stopped = AnswersFile c limit left rest (AppendsBeginning old new) × IsTrue failed
 
 -- memory or a stream failed
