@@ -7,7 +7,7 @@ ghost use Rattle.aig_format.specs.Circuit.{binary_of, circuit_of, file_of, text_
 ghost use Rattle.aig_format.specs.declared.FileKind.TheVariants.{Binary, Text};
 ghost use Rattle.aig_format.specs.File.{File};
 ghost use Rattle.aig_format.specs.Fits.{Accepts};
-ghost use Rattle.aig_reader.specs.Reading.{IsReadAs, ReadsExactly, UnlessInterrupted};
+ghost use Rattle.aig_reader.specs.Reading.{IsReadAs, ReadsExactly, UnlessTransient};
 ghost use Rattle.aig_writer.specs.Numbering.{IsBinaryNumbering};
 ghost use Rattle.aig_writer.specs.Sinks.{AppendsBeginning, WritesOrStops};
 ghost use Rattle.aig_circuit.specs.Circuit.{IsClosed};
@@ -134,7 +134,7 @@ impl Aig {
         // Of known bytes, memory and stream aside: where they are a file that is accepted, the circuit is that file's; else
         // there is a refusal, TooMany exactly where the header line is good and passes the limit.
         ensures exact { IfSome (R.left r.old) (λ bytes.
-            UnlessInterrupted result (ReadsExactly IsFileCircuit limit result bytes)) }
+            UnlessTransient result (ReadsExactly IsFileCircuit limit result bytes)) }
         // A circuit only where no read failed and the stream was read to its end.
         ensures whole { OnOk result ((R.failed r.new ≡ false) × IsAtEnd (R.left r.new)) }
         // Stream only where a read failed in this call.

@@ -17,7 +17,7 @@ use Rattle.aig.specs.Reading.{IsFileCircuit}
 use Rattle.aig_certify.specs.declared.window.Window.{Window}
 use Rattle.aig_encode.specs.declared.error.EncodeError.{EncodeError}
 use Rattle.aig_encode.specs.declared.error.EncodeError.TheVariants as encode
-use Rattle.aig_encode.specs.Encoding.{IsBeyond, IsWithin, ConsumedFile, UnlessInterrupted}
+use Rattle.aig_encode.specs.Encoding.{IsBeyond, IsWithin, ConsumedFile, EncodeUnlessTransient}
 use Rattle.aig_encode.proofs.Exactly.{Reads, Tells, answered, answered_again, no_refusal, refused_again, refused_as_large, refused_in_reading}
 use Rattle.aig_answers.specs.declared.error.AnswerError.{AnswerError}
 use Rattle.aig_answers.specs.declared.error.AnswerError.TheVariants as errors
@@ -190,7 +190,7 @@ told_again left failed limit k r rest A B e told = record {
 -- ---- room
 
 -- what holds is told
-pub unless_holds : {T : Type 0} (r : Result T EncodeError) (P : Type 0) → P → UnlessInterrupted r P
+pub unless_holds : {T : Type 0} (r : Result T EncodeError) (P : Type 0) → P → EncodeUnlessTransient r P
 unless_holds (Ok x) P holds = holds
 unless_holds (Err encode.Memory) P holds = tt
 unless_holds (Err encode.TooLarge) P holds = holds
@@ -205,7 +205,7 @@ unless_holds (Err (encode.Read read.Name)) P holds = holds
 unless_holds (Err (encode.Read read.Open)) P holds = holds
 
 -- what follows from what was told is told
-unless_so : {T : Type 0} (r : Result T EncodeError) (P Q : Type 0) → (P → Q) → UnlessInterrupted r P → UnlessInterrupted r Q
+unless_so : {T : Type 0} (r : Result T EncodeError) (P Q : Type 0) → (P → Q) → EncodeUnlessTransient r P → EncodeUnlessTransient r Q
 unless_so (Ok x) P Q so told = so told
 unless_so (Err encode.Memory) P Q so told = tt
 unless_so (Err encode.TooLarge) P Q so told = so told
@@ -220,7 +220,7 @@ unless_so (Err (encode.Read read.Name)) P Q so told = so told
 unless_so (Err (encode.Read read.Open)) P Q so told = so told
 
 -- what follows from what reading told is told
-pub unless_read : (X T : Type 0) (e : ReadError) (P Q : Type 0) → (P → Q) → reading.UnlessInterrupted {T = X} (Err e) P → UnlessInterrupted {T = T} (Err (encode.Read e)) Q
+pub unless_read : (X T : Type 0) (e : ReadError) (P Q : Type 0) → (P → Q) → reading.UnlessTransient {T = X} (Err e) P → EncodeUnlessTransient {T = T} (Err (encode.Read e)) Q
 unless_read X T read.Memory P Q so told = tt
 unless_read X T read.Stream P Q so told = tt
 unless_read X T read.Header P Q so told = so told
@@ -240,7 +240,7 @@ module _ {R : Type 0} (left : R → Option (List ℕ)) (form : Window) (limit k 
       apart is = cc
 
       by : (known : Option (List ℕ)) → Reads Circuit (Unit {0}) IsFileCircuit OfFile limit (k + 1) (Err e) known
-          → IfSome known (λ bytes. UnlessInterrupted {T = Unit {0}} (Err (encode.Read e)) (IsErrOf {T = T} (Err (errors.Encode (encode.Read e))) errors.TooLarge ↔ ((f : File) × IsCrowded form limit k bytes f)))
+          → IfSome known (λ bytes. EncodeUnlessTransient {T = Unit {0}} (Err (encode.Read e)) (IsErrOf {T = T} (Err (errors.Encode (encode.Read e))) errors.TooLarge ↔ ((f : File) × IsCrowded form limit k bytes f)))
       by None h = tt
       by (Some bytes) h = unless_read Circuit (Unit {0}) e _ _ (λ told. (λ is. absurd (apart is), λ crowded. absurd (told.accepted.each crowded.0 crowded.1.0.0.0))) h
 
@@ -267,7 +267,7 @@ module _ {R : Type 0} (left : R → Option (List ℕ)) (form : Window) (limit k 
     window_room file exact = record { exact = by (left r) exact; only = λ is. (file.file, file.bytes, crowded_file file.bytes file.file file.holds file.means is, file.taken) }
       where
         by : (known : Option (List ℕ)) → Reads Circuit (Unit {0}) IsFileCircuit OfFile limit (k + 1) (Ok c) known
-            → IfSome known (λ bytes. UnlessInterrupted (of_file result) (IsErrOf result errors.TooLarge ↔ ((f : File) × IsCrowded form limit k bytes f)))
+            → IfSome known (λ bytes. EncodeUnlessTransient (of_file result) (IsErrOf result errors.TooLarge ↔ ((f : File) × IsCrowded form limit k bytes f)))
         by None h = tt
         by (Some bytes) h = unless_holds (of_file result) _ (
           λ is. let f = h.accepted.only refl in (f.0, crowded_file bytes f.0 f.1 (h.accepted.each f.0 f.1) is),
@@ -279,9 +279,9 @@ module _ {R : Type 0} (left : R → Option (List ℕ)) (form : Window) (limit k 
   room_again {X} x result good other told = record { exact = by (left r) told.exact; only = λ is. absurd (other is) }
     where
       by : (known : Option (List ℕ)) → IfSome known (λ bytes. IsErrOf {T = X} (Ok x) errors.TooLarge ↔ ((f : File) × IsCrowded form limit k bytes f))
-          → IfSome known (λ bytes. UnlessInterrupted (of_file result) (IsErrOf result errors.TooLarge ↔ ((f : File) × IsCrowded form limit k bytes f)))
+          → IfSome known (λ bytes. EncodeUnlessTransient (of_file result) (IsErrOf result errors.TooLarge ↔ ((f : File) × IsCrowded form limit k bytes f)))
       by None h = tt
-      by (Some bytes) h = subst (λ of. UnlessInterrupted of (IsErrOf result errors.TooLarge ↔ ((f : File) × IsCrowded form limit k bytes f))) (sym good) (λ is. absurd (other is), λ crowded. absurd (no_refusal X AnswerError x errors.TooLarge (h.1 crowded)))
+      by (Some bytes) h = subst (λ of. EncodeUnlessTransient of (IsErrOf result errors.TooLarge ↔ ((f : File) × IsCrowded form limit k bytes f))) (sym good) (λ is. absurd (other is), λ crowded. absurd (no_refusal X AnswerError x errors.TooLarge (h.1 crowded)))
 
 -- a refusal tells the same, whatever would have been answered
 pub room_told_again : {R : Type 0} (left : R → Option (List ℕ)) (form : Window) (limit k : ℕ) (r rest : R) (A B : Type 0) (e : AnswerError) → TellsOfRoom {T = A} left form limit k (Err e) r rest → TellsOfRoom {T = B} left form limit k (Err e) r rest
@@ -293,7 +293,7 @@ room_told_again left form limit k r rest A B e told = record { exact = by (left 
     forth : IsErrOf {T = A} (Err e) errors.TooLarge → IsErrOf {T = B} (Err e) errors.TooLarge
     forth is = let this : e ≡ errors.TooLarge = cc in err_of e errors.TooLarge this
 
-    by : (known : Option (List ℕ)) → IfSome known (λ bytes. UnlessInterrupted (of_file {T = A} (Err e)) (IsErrOf {T = A} (Err e) errors.TooLarge ↔ ((f : File) × IsCrowded form limit k bytes f)))
-        → IfSome known (λ bytes. UnlessInterrupted (of_file {T = B} (Err e)) (IsErrOf {T = B} (Err e) errors.TooLarge ↔ ((f : File) × IsCrowded form limit k bytes f)))
+    by : (known : Option (List ℕ)) → IfSome known (λ bytes. EncodeUnlessTransient (of_file {T = A} (Err e)) (IsErrOf {T = A} (Err e) errors.TooLarge ↔ ((f : File) × IsCrowded form limit k bytes f)))
+        → IfSome known (λ bytes. EncodeUnlessTransient (of_file {T = B} (Err e)) (IsErrOf {T = B} (Err e) errors.TooLarge ↔ ((f : File) × IsCrowded form limit k bytes f)))
     by None h = tt
-    by (Some bytes) h = subst (λ of. UnlessInterrupted of (IsErrOf {T = B} (Err e) errors.TooLarge ↔ ((f : File) × IsCrowded form limit k bytes f))) (same_part A B e) (unless_so (of_file {T = A} (Err e)) _ _ (λ told. (λ is. told.0 (back is), λ crowded. forth (told.1 crowded))) h)
+    by (Some bytes) h = subst (λ of. EncodeUnlessTransient of (IsErrOf {T = B} (Err e) errors.TooLarge ↔ ((f : File) × IsCrowded form limit k bytes f))) (same_part A B e) (unless_so (of_file {T = A} (Err e)) _ _ (λ told. (λ is. told.0 (back is), λ crowded. forth (told.1 crowded))) h)

@@ -17,7 +17,7 @@ use Rattle.aig_unroll.specs.Places.{unrolled_size}
 use Rattle.aig_certify.specs.Safety.{IsCircuitSafeAt, IsSafeAt}
 use Rattle.aig_reduction.specs.Reduction.{IsReduced}
 use Rattle.aig_encode.specs.declared.error.EncodeError.TheVariants as encode
-use Rattle.aig_encode.specs.Encoding.{IsBeyond, ConsumedFile, UnlessInterrupted}
+use Rattle.aig_encode.specs.Encoding.{IsBeyond, ConsumedFile, EncodeUnlessTransient}
 use Rattle.aig_encode.proofs.Exactly.{no_refusal}
 use Rattle.aig_answers.specs.declared.error.AnswerError.{AnswerError}
 use Rattle.aig_answers.specs.declared.error.AnswerError.TheVariants as errors
@@ -26,7 +26,7 @@ use Rattle.aig_answers.proofs.Files.{OfFile, err_of, unless_holds, unless_read}
 
 -- what reading told of the bytes, where they are known
 abbrev pub ReadAs : ℕ → Result Circuit ReadError → Option (List ℕ) → Type 0
-ReadAs limit result left = IfSome left (λ bytes. reading.UnlessInterrupted result (ReadsExactly IsFileCircuit limit result bytes))
+ReadAs limit result left = IfSome left (λ bytes. reading.UnlessTransient result (ReadsExactly IsFileCircuit limit result bytes))
 
 -- bytes that were refused are refused
 refused : (limit k : ℕ) (e : ReadError) (bytes : List ℕ) → ReadsExactly IsFileCircuit limit (Err e) bytes → RefusesReduced {T = Unit {0}} limit k (Err (errors.Encode (encode.Read e))) bytes
@@ -138,7 +138,7 @@ module _ {R : Type 0} (left : R → Option (List ℕ)) (failed : R → Bool) (li
     never_crowded = apart_crowded;
   }
     where
-      by : (known : Option (List ℕ)) → ReadAs limit (Err e) known → IfSome known (λ bytes. UnlessInterrupted {T = Unit {0}} (Err (encode.Read e)) (RefusesReduced {T = Unit {0}} limit k (Err (errors.Encode (encode.Read e))) bytes))
+      by : (known : Option (List ℕ)) → ReadAs limit (Err e) known → IfSome known (λ bytes. EncodeUnlessTransient {T = Unit {0}} (Err (encode.Read e)) (RefusesReduced {T = Unit {0}} limit k (Err (errors.Encode (encode.Read e))) bytes))
       by None h = tt
       by (Some bytes) h = unless_read Circuit (Unit {0}) e _ _ (refused limit k e bytes) h
 
@@ -174,7 +174,7 @@ module _ {R : Type 0} (left : R → Option (List ℕ)) (failed : R → Bool) (li
       never_crowded = not_crowded (Err (errors.Encode encode.Memory)) tt;
     }
       where
-        by : (known : Option (List ℕ)) → IfSome known (λ bytes. UnlessInterrupted {T = Unit {0}} (Err encode.Memory) (RefusesReduced {T = Unit {0}} limit k (Err (errors.Encode encode.Memory)) bytes))
+        by : (known : Option (List ℕ)) → IfSome known (λ bytes. EncodeUnlessTransient {T = Unit {0}} (Err encode.Memory) (RefusesReduced {T = Unit {0}} limit k (Err (errors.Encode encode.Memory)) bytes))
         by None = tt
         by (Some bytes) = tt
 
@@ -199,7 +199,7 @@ module _ {R : Type 0} (left : R → Option (List ℕ)) (failed : R → Bool) (li
 
       module _ (result : Result Unit AnswerError) (err : IfErr result IsOfCircuitQuery) (none : IsErrOf result errors.NoBads ↔ (d.bads ≡ []))
           (large : IsErrOf result (errors.Encode encode.TooLarge) ↔ ((d.bads ≢ []) × (limit < unrolled_size d k))) where
-        exactly : (known : Option (List ℕ)) → ReadAs limit (Ok c) known → IfSome known (λ bytes. UnlessInterrupted (of_file result) (RefusesReduced limit k result bytes))
+        exactly : (known : Option (List ℕ)) → ReadAs limit (Ok c) known → IfSome known (λ bytes. EncodeUnlessTransient (of_file result) (RefusesReduced limit k result bytes))
         exactly None h = tt
         exactly (Some bytes) h = unless_holds (of_file result) (RefusesReduced limit k result bytes) (answered c d reduces limit k alone result (reading_good result err) none large bytes h)
 

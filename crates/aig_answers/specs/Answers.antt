@@ -14,7 +14,7 @@ use Rattle.aig_certify.specs.declared.window.Window.{Window}
 use Rattle.aig_certify.specs.WindowClauses.{count_free}
 use Rattle.aig_encode.specs.declared.error.EncodeError.{EncodeError}
 use Rattle.aig_encode.specs.declared.error.EncodeError.TheVariants as encode
-use Rattle.aig_encode.specs.Encoding.{AnswersExactly, IsBeyond, IsWithin, ConsumedFile, UnlessInterrupted}
+use Rattle.aig_encode.specs.Encoding.{AnswersExactly, IsBeyond, IsWithin, ConsumedFile, EncodeUnlessTransient}
 use Rattle.aig_answers.specs.declared.error.AnswerError.{AnswerError}
 use Rattle.aig_answers.specs.declared.error.AnswerError.TheVariants as errors
 
@@ -46,7 +46,7 @@ of_file (Err (errors.Refutation e)) = Ok tt
 pub record TellsOfFile {R T : Type 0} (left : R → Option (List ℕ)) (failed : R → Bool) (limit k : ℕ) (result : Result T AnswerError) (r rest : R) : Type 0 where
   -- of known bytes, memory and the stream aside: they are refused exactly where they are no file within the limit, as TooMany and TooLarge exactly
   -- where these apply
-  pub exact : IfSome (left r) (λ bytes. UnlessInterrupted (of_file result) (AnswersExactly (λ f u. Unit {0}) limit k (of_file result) bytes))
+  pub exact : IfSome (left r) (λ bytes. EncodeUnlessTransient (of_file result) (AnswersExactly (λ f u. Unit {0}) limit k (of_file result) bytes))
   -- memory runs out only after a file within the limit was read, and further steps pass the limit only after one beyond it
   pub memory : IsErrOf result (errors.Encode encode.Memory) → ConsumedFile (IsWithin limit k) (left r) (left rest)
   pub large : IsErrOf result (errors.Encode encode.TooLarge) → ConsumedFile (IsBeyond limit k) (left r) (left rest)
@@ -59,7 +59,7 @@ pub record TellsOfFile {R T : Type 0} (left : R → Option (List ℕ)) (failed :
 -- What the answer for a window tells of the bytes, as TooLarge.
 pub record TellsOfRoom {R T : Type 0} (left : R → Option (List ℕ)) (form : Window) (limit k : ℕ) (result : Result T AnswerError) (r rest : R) : Type 0 where
   -- of known bytes, memory and the stream aside: exactly where the bound of the variables passes the limit
-  pub exact : IfSome (left r) (λ bytes. UnlessInterrupted (of_file result) (IsErrOf result errors.TooLarge ↔ ((f : File) × IsCrowded form limit k bytes f)))
+  pub exact : IfSome (left r) (λ bytes. EncodeUnlessTransient (of_file result) (IsErrOf result errors.TooLarge ↔ ((f : File) × IsCrowded form limit k bytes f)))
   -- only after such a file was read
   pub only : IsErrOf result errors.TooLarge → ConsumedFile (IsCrowded form limit k) (left r) (left rest)
 
@@ -134,7 +134,7 @@ pub record RefusesReduced {T : Type 0} (limit k : ℕ) (result : Result T Answer
 -- What an answer of a file's reduced circuit tells of the bytes that the reader has left before and after, and of whether it has failed.
 pub record TellsOfReduced {R T : Type 0} (left : R → Option (List ℕ)) (failed : R → Bool) (limit k : ℕ) (result : Result T AnswerError) (r rest : R) : Type 0 where
   -- of known bytes, memory and the stream aside: they are refused exactly where these apply
-  pub exact : IfSome (left r) (λ bytes. UnlessInterrupted (of_file result) (RefusesReduced limit k result bytes))
+  pub exact : IfSome (left r) (λ bytes. EncodeUnlessTransient (of_file result) (RefusesReduced limit k result bytes))
   -- memory runs out after the reading only after a file that fits was read
   pub memory : IsErrOf result (errors.Encode encode.Memory) → ConsumedFile (λ bytes. Accepts bytes limit) (left r) (left rest)
   -- further steps pass the limit only after a file whose reduced circuit's do, and then its own circuit's do

@@ -12,11 +12,11 @@ use Rattle.aig_reader.specs.Reading.{ReadsExactly}
 use Rattle.aig_unroll.specs.Places.{unrolled_size}
 use Rattle.aig_encode.specs.declared.error.EncodeError.{EncodeError}
 use Rattle.aig_encode.specs.declared.error.EncodeError.TheVariants as errors
-use Rattle.aig_encode.specs.Encoding.{AnswersExactly, IsWithin, UnlessInterrupted}
+use Rattle.aig_encode.specs.Encoding.{AnswersExactly, IsWithin, EncodeUnlessTransient}
 
 -- what an answer tells of the bytes, where they are known
 abbrev pub Tells : {T : Type 0} → (File → T → Type 0) → ℕ → ℕ → Result T EncodeError → Option (List ℕ) → Type 0
-Tells Means limit k result left = IfSome left (λ bytes. UnlessInterrupted result (AnswersExactly Means limit k result bytes))
+Tells Means limit k result left = IfSome left (λ bytes. EncodeUnlessTransient result (AnswersExactly Means limit k result bytes))
 
 -- an answer is no refusal
 pub no_refusal : (T E : Type 0) (x : T) (e : E) → IsErrOf {T = T} {E = E} (Ok x) e → ⊥
@@ -25,7 +25,7 @@ no_refusal T E x e is = cc
 module _ (X T : Type 0) (Read : File → X → Type 0) (Means : File → T → Type 0) (limit k : ℕ) where
   -- what reading told of the bytes, where they are known
   abbrev pub Reads : Result X ReadError → Option (List ℕ) → Type 0
-  Reads result left = IfSome left (λ bytes. reading.UnlessInterrupted result (ReadsExactly Read limit result bytes))
+  Reads result left = IfSome left (λ bytes. reading.UnlessTransient result (ReadsExactly Read limit result bytes))
 
   -- bytes that reading refused are refused
   refused : (e : ReadError) (bytes : List ℕ) → ReadsExactly Read limit (Err e) bytes → AnswersExactly Means limit k (Err (errors.Read e)) bytes

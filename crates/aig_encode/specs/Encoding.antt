@@ -58,9 +58,9 @@ IsPastReading (Err errors.Memory) = Unit {0}
 IsPastReading (Err errors.TooLarge) = Unit {0}
 
 -- the fact, unless memory or the stream failed
-abbrev pub UnlessInterrupted : {T : Type 0} → Result T EncodeError → Type 0 → Type 0
-UnlessInterrupted (Err errors.Memory) P = Unit {0}
-UnlessInterrupted (Err (errors.Read read.Memory)) P = Unit {0}
-UnlessInterrupted (Err (errors.Read read.Stream)) P = Unit {0}
-UnlessInterrupted (Err e) P = P
-UnlessInterrupted (Ok answer) P = P
+abbrev pub EncodeUnlessTransient : {T : Type 0} → Result T EncodeError → Type 0 → Type 0
+EncodeUnlessTransient (Err errors.Memory) P = Unit {0}
+EncodeUnlessTransient (Err (errors.Read read.Memory)) P = Unit {0}
+EncodeUnlessTransient (Err (errors.Read read.Stream)) P = Unit {0}
+EncodeUnlessTransient (Err e) P = P
+EncodeUnlessTransient (Ok answer) P = P

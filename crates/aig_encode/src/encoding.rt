@@ -6,7 +6,7 @@ ghost use Rattle.aig_cnf.specs.Cnf.{FixesRoots, HasClauses, NodeValuesSatisfy};
 ghost use Rattle.aig_reader.specs.Reading.{IsReadAs};
 ghost use Rattle.aig_unroll.specs.Places.{unrolled_size};
 ghost use Rattle.aig_unroll.specs.Unroll.{UnrollsTo};
-ghost use Rattle.aig_encode.specs.Encoding.{AnswersExactly, IsBeyond, IsEncoding, IsWithin, IsPastReading, ConsumedFile, UnlessInterrupted};
+ghost use Rattle.aig_encode.specs.Encoding.{AnswersExactly, IsBeyond, IsEncoding, IsWithin, IsPastReading, ConsumedFile, EncodeUnlessTransient};
 
 use crate::error::EncodeError;
 use aig::{Aig, ReadError};
@@ -74,7 +74,7 @@ pub fn encode<R: Source>(
     // Memory and stream aside, there is an answer exactly where the bytes are such a file, and TooMany and TooLarge
     // come exactly where they apply.
     ensures exact { IfSome (R.left r.old) (λ bytes.
-        UnlessInterrupted result (AnswersExactly (IsEncoding k optimize) limit k result bytes)) }
+        EncodeUnlessTransient result (AnswersExactly (IsEncoding k optimize) limit k result bytes)) }
     // Memory comes only after a file within the limit was read, and TooLarge only after one beyond it.
     ensures memory { IsErrOf result EncodeError.Memory
         → ConsumedFile (IsWithin limit k) (R.left r.old) (R.left r.new) }

@@ -4,7 +4,7 @@ ghost use Rattle.std.specs.Prelude.{◌≡◌, ◌^◌, ◌≤◌, false, IfOk, 
 ghost use Rattle.std.specs.Io.KnownBytes.{IsAtEnd};
 ghost use Rattle.aig_base.specs.Clauses.{AreBelow};
 ghost use Rattle.aig_reader.specs.Reading.{IsReadAs};
-ghost use Rattle.aig_encode.specs.Encoding.{AnswersExactly, IsBeyond, IsQuery, IsWithin, IsPastReading, ConsumedFile, UnlessInterrupted};
+ghost use Rattle.aig_encode.specs.Encoding.{AnswersExactly, IsBeyond, IsQuery, IsWithin, IsPastReading, ConsumedFile, EncodeUnlessTransient};
 
 use crate::encoding::encode;
 use crate::error::EncodeError;
@@ -67,7 +67,7 @@ pub fn query<R: Source>(
     // Memory and stream aside, there is an answer exactly where the bytes are such a file, and TooMany and TooLarge
     // come exactly where they apply.
     ensures exact { IfSome (R.left r.old) (λ bytes.
-        UnlessInterrupted result (AnswersExactly (IsQuery k optimize) limit k result bytes)) }
+        EncodeUnlessTransient result (AnswersExactly (IsQuery k optimize) limit k result bytes)) }
     // Memory comes only after a file within the limit was read, and TooLarge only after one beyond it.
     ensures memory { IsErrOf result EncodeError.Memory
         → ConsumedFile (IsWithin limit k) (R.left r.old) (R.left r.new) }

@@ -6,24 +6,24 @@ use Rattle.aig_parsing.specs.Parse.{◌>>=◌, parse_number, parse_ended}
 use Rattle.aig_parsing.specs.ParseTested.{parse_pair}
 use Rattle.aig_lexer.specs.declared.error.LexError.{LexError}
 use Rattle.aig_lexer.specs.declared.error.LexError.TheVariants.{Stream, Shape}
-use Rattle.aig_lexer.specs.Faults.{OnShape}
+use Rattle.aig_lexer.specs.Faults.{LexUnlessTransient}
 use Rattle.aig_lexer.specs.Takes.{Gives, Takes, Misses}
 use Rattle.aig_lexer.proofs.Going.{GoesOn, goes_start, goes_byte, goes_call, goes_done, goes_wrong}
 use Rattle.aig_lexer.proofs.Taking.{takes_bind, misses_first, misses_next, takes_nothing, takes_both}
 
-pub on_shape-weaker : (e : LexError) (P Q : Type 0) → (P → Q) → OnShape e P → OnShape e Q
+pub on_shape-weaker : (e : LexError) (P Q : Type 0) → (P → Q) → LexUnlessTransient e P → LexUnlessTransient e Q
 on_shape-weaker Stream P Q f h = tt
 on_shape-weaker Shape P Q f h = f h
 
 -- a call after a byte that came
 pub gives_behind : {X Y : Type 0} (view : X → Y) (p : List ℕ → Option (Y × List ℕ)) (before mid after : Option (List ℕ)) (o : Option ℕ) (b : ℕ) (r : Result X LexError)
-    → Consumes before mid (option_to_list o) → o ≡ Some b → Gives OnShape view mid after r (λ bs. p (b ∷ bs)) → Gives OnShape view before after r p
+    → Consumes before mid (option_to_list o) → o ≡ Some b → Gives LexUnlessTransient view mid after r (λ bs. p (b ∷ bs)) → Gives LexUnlessTransient view before after r p
 gives_behind {X} view p before mid after o b r c is h = go r h
   where
     behind : GoesOn p before (λ bs. p (b ∷ bs)) mid
     behind = goes_byte p p (λ bs. p (b ∷ bs)) before before mid o b (goes_start p before) c is (λ bs. refl)
 
-    go : (r : Result X LexError) → Gives OnShape view mid after r (λ bs. p (b ∷ bs)) → Gives OnShape view before after r p
+    go : (r : Result X LexError) → Gives LexUnlessTransient view mid after r (λ bs. p (b ∷ bs)) → Gives LexUnlessTransient view before after r p
     go (Ok x) h = goes_done p (view x) before after (goes_call p (λ bs. p (b ∷ bs)) (λ bs. p (b ∷ bs)) (λ bs. Some (view x, bs)) before mid after (view x) behind h (λ bs rest e. e))
     go (Err e) h = on_shape-weaker e _ _ (goes_wrong p (λ bs. p (b ∷ bs)) before mid behind) h
 

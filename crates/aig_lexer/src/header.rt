@@ -2,7 +2,7 @@
 
 ghost use Rattle.std.specs.Prelude.{◌≡◌, ◌<◌, IsErrOf, OnOk, true};
 ghost use Rattle.aig_parsing.specs.Parse.{parse_header, header_from, parse_header_numbers, parse_kind};
-ghost use Rattle.aig_lexer.specs.Faults.{OnShape};
+ghost use Rattle.aig_lexer.specs.Faults.{LexUnlessTransient};
 ghost use Rattle.aig_lexer.specs.Header.{numbers_of};
 ghost use Rattle.aig_lexer.specs.Takes.{Gives};
 ghost use Rattle.aig_lexer.specs.Words.{parse_kind_byte};
@@ -43,7 +43,7 @@ pub struct Header {
 ///
 /// Returns `Shape` where the bytes are no such line, or end in it, and `Stream` where a read failed.
 pub fn header_line<F: ByteFeed>(f: &mut F) -> Result<Header, LexError>
-    ensures exact { Gives OnShape (λ h. (h.kind, numbers_of h))
+    ensures exact { Gives LexUnlessTransient (λ h. (h.kind, numbers_of h))
         (F.coming f.old) (F.coming f.new) result parse_header }
     ensures stream { IsErrOf result LexError.Stream → F.failed f.new ≡ true }
     ensures same { F.behind f.new ≡ F.behind f.old }
@@ -77,7 +77,7 @@ pub fn header_line<F: ByteFeed>(f: &mut F) -> Result<Header, LexError>
 
 /// Reads `aag` or `aig`, and the space after it.
 fn kind_word<F: ByteFeed>(f: &mut F) -> Result<FileKind, LexError>
-    ensures exact { Gives OnShape (λ kind. kind) (F.coming f.old) (F.coming f.new) result parse_kind }
+    ensures exact { Gives LexUnlessTransient (λ kind. kind) (F.coming f.old) (F.coming f.new) result parse_kind }
     ensures stream { IsErrOf result LexError.Stream → F.failed f.new ≡ true }
     ensures same { F.behind f.new ≡ F.behind f.old }
     ensures fewer { OnOk result (F.turns f.new < F.turns f.old) }
@@ -90,7 +90,7 @@ fn kind_word<F: ByteFeed>(f: &mut F) -> Result<FileKind, LexError>
 
 /// Reads the byte that tells the kind.
 fn kind_byte<F: ByteFeed>(f: &mut F) -> Result<FileKind, LexError>
-    ensures exact { Gives OnShape (λ kind. kind)
+    ensures exact { Gives LexUnlessTransient (λ kind. kind)
         (F.coming f.old) (F.coming f.new) result parse_kind_byte }
     ensures stream { IsErrOf result LexError.Stream → F.failed f.new ≡ true }
     ensures same { F.behind f.new ≡ F.behind f.old }
@@ -111,7 +111,7 @@ const MOST: usize = 9;
 
 /// Reads a line of five to nine numbers; those that are not written are 0.
 fn header_numbers<F: ByteFeed>(f: &mut F) -> Result<[u32; MOST], LexError>
-    ensures exact { Gives OnShape header_from
+    ensures exact { Gives LexUnlessTransient header_from
         (F.coming f.old) (F.coming f.new) result parse_header_numbers }
     ensures stream { IsErrOf result LexError.Stream → F.failed f.new ≡ true }
     ensures same { F.behind f.new ≡ F.behind f.old }

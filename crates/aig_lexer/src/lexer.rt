@@ -3,7 +3,7 @@
 ghost use Rattle.std.specs.Prelude.{◌≡◌, ◌+◌, ◌<◌, ◌≤◌, length, IsErrOf, OnOk, true};
 ghost use Rattle.aig_parsing.specs.Parse.{parse_delta, parse_ended, parse_number};
 ghost use Rattle.aig_parsing.specs.ParseTested.{parse_next_and_reset, parse_pair};
-ghost use Rattle.aig_lexer.specs.Faults.{OnShape};
+ghost use Rattle.aig_lexer.specs.Faults.{LexUnlessTransient};
 ghost use Rattle.aig_lexer.specs.Takes.{Gives};
 ghost use Rattle.aig_lexer.specs.Words.{parse_expected, parse_number_from, parse_word};
 
@@ -12,7 +12,7 @@ use crate::feed::ByteFeed;
 
 /// Reads this byte.
 pub(crate) fn expect<F: ByteFeed>(f: &mut F, byte: u8) -> Result<(), LexError>
-    ensures exact { Gives OnShape (λ _. byte)
+    ensures exact { Gives LexUnlessTransient (λ _. byte)
         (F.coming f.old) (F.coming f.new) result (parse_expected byte) }
     ensures stream { IsErrOf result LexError.Stream → F.failed f.new ≡ true }
     ensures same { F.behind f.new ≡ F.behind f.old }
@@ -29,7 +29,7 @@ pub(crate) fn expect<F: ByteFeed>(f: &mut F, byte: u8) -> Result<(), LexError>
 /// A number is one or more decimal digits (AIGER format 20071012, "Header"); zeros may lead, and its value is below 2^32.
 /// Returns `Shape` where there is no such number, or the bytes end in it, and `Stream` where a read failed.
 pub fn number_from<F: ByteFeed>(f: &mut F, first: u8) -> Result<(u32, u8), LexError>
-    ensures exact { Gives OnShape (λ x. (x.0, x.1))
+    ensures exact { Gives LexUnlessTransient (λ x. (x.0, x.1))
         (F.coming f.old) (F.coming f.new) result (parse_number_from first) }
     ensures stream { IsErrOf result LexError.Stream → F.failed f.new ≡ true }
     ensures same { F.behind f.new ≡ F.behind f.old }
@@ -53,7 +53,7 @@ pub fn number_from<F: ByteFeed>(f: &mut F, first: u8) -> Result<(u32, u8), LexEr
 
 /// Reads a number as `number_from` does, its first byte included: its value, and the byte that ends it.
 pub(crate) fn number<F: ByteFeed>(f: &mut F) -> Result<(u32, u8), LexError>
-    ensures exact { Gives OnShape (λ x. (x.0, x.1))
+    ensures exact { Gives LexUnlessTransient (λ x. (x.0, x.1))
         (F.coming f.old) (F.coming f.new) result parse_number }
     ensures stream { IsErrOf result LexError.Stream → F.failed f.new ≡ true }
     ensures same { F.behind f.new ≡ F.behind f.old }
@@ -69,7 +69,7 @@ pub(crate) fn number<F: ByteFeed>(f: &mut F) -> Result<(u32, u8), LexError>
 ///
 /// Returns `Shape` where there is no such number, or another byte ends it, and `Stream` where a read failed.
 pub fn ended<F: ByteFeed>(f: &mut F, end: u8) -> Result<u32, LexError>
-    ensures exact { Gives OnShape (λ x. x) (F.coming f.old) (F.coming f.new) result (parse_ended end) }
+    ensures exact { Gives LexUnlessTransient (λ x. x) (F.coming f.old) (F.coming f.new) result (parse_ended end) }
     ensures stream { IsErrOf result LexError.Stream → F.failed f.new ≡ true }
     ensures same { F.behind f.new ≡ F.behind f.old }
     ensures fewer { OnOk result (F.turns f.new < F.turns f.old) }
@@ -86,7 +86,7 @@ pub fn ended<F: ByteFeed>(f: &mut F, end: u8) -> Result<u32, LexError>
 ///
 /// Returns `Shape` where there is no such line, and `Stream` where a read failed.
 pub fn pair<F: ByteFeed>(f: &mut F) -> Result<(u32, u32), LexError>
-    ensures exact { Gives OnShape (λ x. (x.0, x.1))
+    ensures exact { Gives LexUnlessTransient (λ x. (x.0, x.1))
         (F.coming f.old) (F.coming f.new) result parse_pair }
     ensures stream { IsErrOf result LexError.Stream → F.failed f.new ≡ true }
     ensures same { F.behind f.new ≡ F.behind f.old }
@@ -103,7 +103,7 @@ pub fn pair<F: ByteFeed>(f: &mut F) -> Result<(u32, u32), LexError>
 /// Returns `Shape` where there is no such line, and `Stream` where a read failed. Which resets a latch may have is not
 /// tested here.
 pub fn next_line<F: ByteFeed>(f: &mut F) -> Result<(u32, Option<u32>), LexError>
-    ensures exact { Gives OnShape (λ x. (x.0, x.1))
+    ensures exact { Gives LexUnlessTransient (λ x. (x.0, x.1))
         (F.coming f.old) (F.coming f.new) result parse_next_and_reset }
     ensures stream { IsErrOf result LexError.Stream → F.failed f.new ≡ true }
     ensures same { F.behind f.new ≡ F.behind f.old }
@@ -129,7 +129,7 @@ const MOST_GROUPS: u32 = 5;
 /// A spelling need not be the shortest. Returns `Shape` where the difference has more than five bytes or is not below 2^32,
 /// or the bytes end in it, and `Stream` where a read failed.
 pub fn delta<F: ByteFeed>(f: &mut F) -> Result<u32, LexError>
-    ensures exact { Gives OnShape (λ d. d) (F.coming f.old) (F.coming f.new) result parse_delta }
+    ensures exact { Gives LexUnlessTransient (λ d. d) (F.coming f.old) (F.coming f.new) result parse_delta }
     ensures stream { IsErrOf result LexError.Stream → F.failed f.new ≡ true }
     ensures same { F.behind f.new ≡ F.behind f.old }
     ensures fewer { OnOk result (F.turns f.new < F.turns f.old) }
@@ -154,7 +154,7 @@ pub fn delta<F: ByteFeed>(f: &mut F) -> Result<u32, LexError>
 
 /// Reads the bytes of a word.
 pub(crate) fn word<F: ByteFeed>(f: &mut F, text: &[u8]) -> Result<(), LexError>
-    ensures exact { Gives OnShape (λ _. tt {0})
+    ensures exact { Gives LexUnlessTransient (λ _. tt {0})
         (F.coming f.old) (F.coming f.new) result (parse_word text.now) }
     ensures stream { IsErrOf result LexError.Stream → F.failed f.new ≡ true }
     ensures same { F.behind f.new ≡ F.behind f.old }

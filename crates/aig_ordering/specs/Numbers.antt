@@ -11,7 +11,7 @@ use Rattle.aig_circuit.specs.Edge.{edge_to}
 use Rattle.aig_circuit.specs.Node.{and_of}
 use Rattle.aig_circuit.specs.Renumber.{place_of}
 use Rattle.aig_ordering.specs.declared.error.OrderError.{OrderError}
-use Rattle.aig_ordering.specs.Tables.{OnOrder, entry_value}
+use Rattle.aig_ordering.specs.Tables.{OrderUnlessTransient, entry_value}
 
 -- the place of a variable in an order, if it is there
 abbrev pub place_in : List ℕ → ℕ → Option ℕ
@@ -54,4 +54,4 @@ numbered n (kind ∷ kinds) = node_of n kind ∷ numbered (n + 1) kinds
 -- what was made of the images of all entries, or a refusal where some entry has none
 abbrev pub MakesAll : {X Y : Type 0} → (X → Y) → Option Y → Result X OrderError → Type 0
 MakesAll view images (Ok x) = images ≡ Some (view x)
-MakesAll view images (Err e) = OnOrder e (images ≡ None)
+MakesAll view images (Err e) = OrderUnlessTransient e (images ≡ None)

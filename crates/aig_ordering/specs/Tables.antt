@@ -28,9 +28,9 @@ pub record AreKnownOf (f : File) (known : List Bool) : Type 0 where
   pub each : (v : ℕ) → v ≤ f.greatest → slice_index_or known v false ≡ is_known f v
 
 -- the fact, unless memory failed
-abbrev pub OnOrder : OrderError → Type 0 → Type 0
-OnOrder Memory P = Unit {0}
-OnOrder Variable P = P
+abbrev pub OrderUnlessTransient : OrderError → Type 0 → Type 0
+OrderUnlessTransient Memory P = Unit {0}
+OrderUnlessTransient Variable P = P
 
 -- no gate of the file depends on itself
 abbrev pub all_have_levels : File → Bool
@@ -39,7 +39,7 @@ all_have_levels f = list_all (has_level f) f.gates
 -- a value of a file in which each gate has a level, or a refusal of one in which some gate has none
 abbrev pub IfLevels : {X : Type 0} → File → (X → Type 0) → Result X OrderError → Type 0
 IfLevels f P (Ok x) = (all_have_levels f ≡ true) × P x
-IfLevels f P (Err e) = OnOrder e (all_have_levels f ≡ false)
+IfLevels f P (Err e) = OrderUnlessTransient e (all_have_levels f ≡ false)
 
 -- what an entry of a table records: n + 1 records n, and 0 nothing
 abbrev pub entry_value : ℕ → Option ℕ

@@ -5,7 +5,7 @@ ghost use Rattle.aig_circuit.specs.Node.{IfAnd};
 ghost use Rattle.aig_format.specs.File.{File};
 ghost use Rattle.aig_ordering.specs.Gates.{nodes_in};
 ghost use Rattle.aig_ordering.specs.Search.{IsAt, IsAtRest, IsAtSome, IsLevelBy, IsTask, Opens, StaysOpen, work_of};
-ghost use Rattle.aig_ordering.specs.Tables.{AreLevelsOf, AreNodesOf, IfLevels, OnOrder, all_have_levels};
+ghost use Rattle.aig_ordering.specs.Tables.{AreLevelsOf, AreNodesOf, IfLevels, OrderUnlessTransient, all_have_levels};
 
 use crate::order::entry_value;
 use crate::error::OrderError;
@@ -72,7 +72,7 @@ impl Search {
         requires { operand < vec_len self.old.opened }
         ensures ok { IfOk result (λ at. (at ≡ operand) × Opens self.old self.new variable operand) }
         ensures err { IfErr result
-            (λ e. OnOrder e (slice_index_or self.old.opened.items operand false ≡ true)) }
+            (λ e. OrderUnlessTransient e (slice_index_or self.old.opened.items operand false ≡ true)) }
     {
         if self.opened[operand] {
             return Err(OrderError::Variable);
@@ -94,7 +94,7 @@ impl Search {
         requires at { (f : File) → AreNodesOf f (nodes_in gates.now) → IsAt f self.old variable }
         ensures at { (f : File) → AreNodesOf f (nodes_in gates.now) → MatchResult result
             (IsAtSome f self.new)
-            (λ e. OnOrder e (all_have_levels f ≡ false)) }
+            (λ e. OrderUnlessTransient e (all_have_levels f ≡ false)) }
         ensures stays { OnOk result (StaysOpen self.old self.new) }
         ensures fewer { IfOk result (λ at. MatchOption at
             (work_of self.new ≤ work_of self.old)
@@ -118,7 +118,7 @@ impl Search {
         requires rest { (f : File) → AreNodesOf f (nodes_in gates.now) → IsAtRest f self.old }
         ensures rest { (f : File) → AreNodesOf f (nodes_in gates.now) → MatchResult result
             (λ _. IsAtRest f self.new)
-            (λ e. OnOrder e (all_have_levels f ≡ false)) }
+            (λ e. OrderUnlessTransient e (all_have_levels f ≡ false)) }
         ensures stays { OnOk result (StaysOpen self.old self.new) }
         ensures started { OnOk result (slice_index_or self.new.opened.items start false ≡ true) }
     {

@@ -14,8 +14,8 @@ use Rattle.aig_circuit.specs.declared.view.CircuitLists.{CircuitLists}
 use Rattle.aig_reader.specs.Names.{tail_of}
 use Rattle.aig_reader.specs.declared.error.ReadError.{ReadError}
 use Rattle.aig_reader.specs.declared.error.ReadError.TheVariants as errors
-use Rattle.aig_reader.specs.Faults.{IsSectionFault, OnRefusal}
-use Rattle.aig_reader.specs.Reading.{AreListsOf, IsReadAs, ReadsExactly, UnlessInterrupted}
+use Rattle.aig_reader.specs.Faults.{IsSectionFault, ReadUnlessTransient}
+use Rattle.aig_reader.specs.Reading.{AreListsOf, IsReadAs, ReadsExactly, UnlessTransient}
 use Rattle.aig_lexer.specs.Takes.{Takes, Misses}
 use Rattle.aig_reader.proofs.Body.{on_refusal-weaker}
 use Rattle.aig_lexer.proofs.Going.{known_rest}
@@ -48,7 +48,7 @@ refuses limit bytes e none tells = record {
 }
 
 -- a fault that refuses, with what it tells
-refusal : (T U : Type 0) (e : ReadError) (P Q R : Type 0) → (P → Q → R) → OnRefusal e P → UnlessInterrupted (fault T e) Q → UnlessInterrupted (fault U e) R
+refusal : (T U : Type 0) (e : ReadError) (P Q R : Type 0) → (P → Q → R) → ReadUnlessTransient e P → UnlessTransient (fault T e) Q → UnlessTransient (fault U e) R
 refusal T U errors.Memory P Q R f h k = tt
 refusal T U errors.Stream P Q R f h k = tt
 refusal T U errors.Header P Q R f h k = f h k
@@ -59,7 +59,7 @@ refusal T U errors.Delta P Q R f h k = f h k
 refusal T U errors.Name P Q R f h k = f h k
 refusal T U errors.Open P Q R f h k = f h k
 
-always : (T : Type 0) (e : ReadError) → UnlessInterrupted (fault T e) (Unit {0})
+always : (T : Type 0) (e : ReadError) → UnlessTransient (fault T e) (Unit {0})
 always T errors.Memory = tt
 always T errors.Stream = tt
 always T errors.Header = tt
@@ -72,7 +72,7 @@ always T errors.Open = tt
 
 -- what is said of an answer where the bytes are known
 abbrev pub ReadsKnown : Result CircuitLists ReadError → ℕ → Option (List ℕ) → Type 0
-ReadsKnown result limit before = IfSome before (λ bytes. UnlessInterrupted result (ReadsExactly AreListsOf limit result bytes))
+ReadsKnown result limit before = IfSome before (λ bytes. UnlessTransient result (ReadsExactly AreListsOf limit result bytes))
 
 -- what stands after the body, read as names
 abbrev with_names : Body × List ℕ → Option File
@@ -90,8 +90,8 @@ abbrev pub sections_of : FileKind × HeaderNumbers → List ℕ → Option (Part
 sections_of h = parse_fitting_sections h.0 h.1
 
 -- the header is refused
-pub refused_header : (T : Type 0) (limit : ℕ) (before : Option (List ℕ)) (e : ReadError) → OnRefusal e (Misses (parse_fitting_header limit) before)
-    → IfSome before (λ bytes. UnlessInterrupted (fault T e) (IsErrOf (fault T e) errors.TooMany ↔ (too_many_at limit bytes ≡ true))) → ReadsKnown (fault CircuitLists e) limit before
+pub refused_header : (T : Type 0) (limit : ℕ) (before : Option (List ℕ)) (e : ReadError) → ReadUnlessTransient e (Misses (parse_fitting_header limit) before)
+    → IfSome before (λ bytes. UnlessTransient (fault T e) (IsErrOf (fault T e) errors.TooMany ↔ (too_many_at limit bytes ≡ true))) → ReadsKnown (fault CircuitLists e) limit before
 refused_header T limit None e h k = tt
 refused_header T limit (Some bytes) e h k =
     refusal T CircuitLists e (parse_fitting_header limit bytes ≡ None) (IsErrOf (fault T e) errors.TooMany ↔ (too_many_at limit bytes ≡ true)) (ReadsExactly AreListsOf limit (fault CircuitLists e) bytes)
@@ -105,7 +105,7 @@ pub section_fault : (e : ReadError) → IsSectionFault e → e ≢ errors.TooMan
 section_fault e h is = subst IsSectionFault is h
 
 -- where a header was taken and no file is read, a fault that isn't TooMany is told
-refused_behind : (T : Type 0) (header : T) (limit : ℕ) (before : Option (List ℕ)) (e : ReadError) → OnRefusal e (IfSome before (λ bytes. parse_fitting limit bytes ≡ None)) → e ≢ errors.TooMany
+refused_behind : (T : Type 0) (header : T) (limit : ℕ) (before : Option (List ℕ)) (e : ReadError) → ReadUnlessTransient e (IfSome before (λ bytes. parse_fitting limit bytes ≡ None)) → e ≢ errors.TooMany
     → IfSome before (λ bytes. ◌≡◌ {A = Result T ReadError} (Ok header) (Err errors.TooMany) ↔ (too_many_at limit bytes ≡ true)) → ReadsKnown (fault CircuitLists e) limit before
 refused_behind T header limit None e h other k = tt
 refused_behind T header limit (Some bytes) e h other k =
@@ -117,14 +117,14 @@ no_files limit None h = tt
 no_files limit (Some bytes) h = no_file limit bytes h
 
 -- a section is refused
-pub refused_section : (T : Type 0) (header : T) (limit : ℕ) (before m : Option (List ℕ)) (h : FileKind × HeaderNumbers) (e : ReadError) → Takes (parse_fitting_header limit) before m h → OnRefusal e (Misses (sections_of h) m) → e ≢ errors.TooMany
+pub refused_section : (T : Type 0) (header : T) (limit : ℕ) (before m : Option (List ℕ)) (h : FileKind × HeaderNumbers) (e : ReadError) → Takes (parse_fitting_header limit) before m h → ReadUnlessTransient e (Misses (sections_of h) m) → e ≢ errors.TooMany
     → IfSome before (λ bytes. ◌≡◌ {A = Result T ReadError} (Ok header) (Err errors.TooMany) ↔ (too_many_at limit bytes ≡ true)) → ReadsKnown (fault CircuitLists e) limit before
 refused_section T header limit before m h e taken missed other k =
     refused_behind T header limit before e
     (on_refusal-weaker e _ _ (λ (none : Misses (sections_of h) m). no_files limit before (misses_both (parse_fitting_header limit) sections_of before m h taken none)) missed) other k
 
 -- the names are refused
-pub refused_names : (T : Type 0) (header : T) (limit : ℕ) (before m : Option (List ℕ)) (body : Body) (e : ReadError) → Takes (parse_fitting_body limit) before m body → OnRefusal e (IfSome m (λ bytes. tail_of body.0.1 bytes ≡ None)) → e ≢ errors.TooMany
+pub refused_names : (T : Type 0) (header : T) (limit : ℕ) (before m : Option (List ℕ)) (body : Body) (e : ReadError) → Takes (parse_fitting_body limit) before m body → ReadUnlessTransient e (IfSome m (λ bytes. tail_of body.0.1 bytes ≡ None)) → e ≢ errors.TooMany
     → IfSome before (λ bytes. ◌≡◌ {A = Result T ReadError} (Ok header) (Err errors.TooMany) ↔ (too_many_at limit bytes ≡ true)) → ReadsKnown (fault CircuitLists e) limit before
 refused_names T header limit before m body e taken missed other k =
     refused_behind T header limit before e

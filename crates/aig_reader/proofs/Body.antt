@@ -10,7 +10,7 @@ use Rattle.aig_reader.specs.declared.error.LineError.{LineError}
 use Rattle.aig_reader.specs.declared.error.LineError.TheVariants.{Memory, Stream, Syntax, Literal}
 use Rattle.aig_reader.specs.declared.error.ReadError.{ReadError}
 use Rattle.aig_reader.specs.declared.error.ReadError.TheVariants as errors
-use Rattle.aig_reader.specs.Faults.{OnLine, OnRefusal, error_in, gate_error_in, result_by}
+use Rattle.aig_reader.specs.Faults.{LineUnlessTransient, ReadUnlessTransient, error_in, gate_error_in, result_by}
 use Rattle.aig_lexer.specs.Takes.{Takes, Misses, Made, Makes}
 use Rattle.aig_lexer.proofs.Taking.{misses_first, misses_mapped, misses_next, takes_bind, takes_mapped}
 
@@ -18,7 +18,7 @@ use Rattle.aig_lexer.proofs.Taking.{misses_first, misses_mapped, misses_next, ta
 
 -- a fault of a line that refuses is one of the file that refuses
 abbrev Refuses : (LineError → ReadError) → Type 1
-Refuses fault = (e : LineError) (P : Type 0) → OnLine e P → OnRefusal (fault e) P
+Refuses fault = (e : LineError) (P : Type 0) → LineUnlessTransient e P → ReadUnlessTransient (fault e) P
 
 pub in_section : (s : Section) → Refuses (error_in s)
 in_section s Memory P h = tt
@@ -27,12 +27,12 @@ in_section s Syntax P h = h
 in_section s Literal P h = h
 
 pub in_gates : (kind : FileKind) → Refuses (gate_error_in kind)
-in_gates Text e P h = elim e as (λ d. OnLine d P → OnRefusal (gate_error_in Text d) P) [ Memory ↦ λ k. tt | Stream ↦ λ k. tt | Syntax ↦ λ k. k | Literal ↦ λ k. k ] h
-in_gates Binary e P h = elim e as (λ d. OnLine d P → OnRefusal (gate_error_in Binary d) P) [ Memory ↦ λ k. tt | Stream ↦ λ k. tt | Syntax ↦ λ k. k | Literal ↦ λ k. k ] h
+in_gates Text e P h = elim e as (λ d. LineUnlessTransient d P → ReadUnlessTransient (gate_error_in Text d) P) [ Memory ↦ λ k. tt | Stream ↦ λ k. tt | Syntax ↦ λ k. k | Literal ↦ λ k. k ] h
+in_gates Binary e P h = elim e as (λ d. LineUnlessTransient d P → ReadUnlessTransient (gate_error_in Binary d) P) [ Memory ↦ λ k. tt | Stream ↦ λ k. tt | Syntax ↦ λ k. k | Literal ↦ λ k. k ] h
 
 -- ---- answers
 
-pub on_refusal-weaker : (e : ReadError) (P Q : Type 0) → (P → Q) → OnRefusal e P → OnRefusal e Q
+pub on_refusal-weaker : (e : ReadError) (P Q : Type 0) → (P → Q) → ReadUnlessTransient e P → ReadUnlessTransient e Q
 on_refusal-weaker errors.Memory P Q f h = tt
 on_refusal-weaker errors.Stream P Q f h = tt
 on_refusal-weaker errors.Header P Q f h = f h
@@ -53,13 +53,13 @@ err_in fault (Ok y) result e is was = let same = sym is ∙ was in absurd cc
 err_in {X} {E} fault (Err k) result e is was = let same : ◌≡◌ {A = Result X ReadError} (Err (fault k)) (Err e) = sym is ∙ was in (k, refl, cc)
 
 module _ {X Y : Type 0} (fault : LineError → ReadError) (refuses : Refuses fault) (IsOf : X → Y → Type 0) (b a : Option (List ℕ)) (read : List ℕ → Option (Y × List ℕ)) where
-  pub made_in : (lines : Result X LineError) (result : Result X ReadError) (x : X) → result ≡ result_by fault lines → result ≡ Ok x → Makes OnLine IsOf b a lines read → Made IsOf b a x read
-  made_in lines result x is was h = subst (λ (r : Result X LineError). Makes OnLine IsOf b a r read) (ok_in fault lines result x is was) h
+  pub made_in : (lines : Result X LineError) (result : Result X ReadError) (x : X) → result ≡ result_by fault lines → result ≡ Ok x → Makes LineUnlessTransient IsOf b a lines read → Made IsOf b a x read
+  made_in lines result x is was h = subst (λ (r : Result X LineError). Makes LineUnlessTransient IsOf b a r read) (ok_in fault lines result x is was) h
 
-  pub missed_in : (lines : Result X LineError) (result : Result X ReadError) (e : ReadError) → result ≡ result_by fault lines → result ≡ Err e → Makes OnLine IsOf b a lines read → OnRefusal e (Misses read b)
+  pub missed_in : (lines : Result X LineError) (result : Result X ReadError) (e : ReadError) → result ≡ result_by fault lines → result ≡ Err e → Makes LineUnlessTransient IsOf b a lines read → ReadUnlessTransient e (Misses read b)
   missed_in lines result e is was h =
       let k = err_in fault lines result e is was in
-      subst (λ (d : ReadError). OnRefusal d (Misses read b)) k.2 (refuses k.0 (Misses read b) (subst (λ (r : Result X LineError). Makes OnLine IsOf b a r read) k.1 h))
+      subst (λ (d : ReadError). ReadUnlessTransient d (Misses read b)) k.2 (refuses k.0 (Misses read b) (subst (λ (r : Result X LineError). Makes LineUnlessTransient IsOf b a r read) k.1 h))
 
 -- ---- the properties: what they take, and where they stop
 

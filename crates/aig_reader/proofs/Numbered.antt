@@ -16,7 +16,7 @@ use Rattle.aig_ordering.specs.Lists.{edge_from}
 use Rattle.aig_ordering.specs.Numbers.{MakesAll, all_by, edge_by, number_at}
 use Rattle.aig_reader.specs.declared.error.ReadError.{ReadError}
 use Rattle.aig_reader.specs.declared.error.Section.{Section}
-use Rattle.aig_reader.specs.Faults.{OnRefusal, order_error_in, result_by}
+use Rattle.aig_reader.specs.Faults.{ReadUnlessTransient, order_error_in, result_by}
 use Rattle.aig_reader.specs.Numbered.{AreNumbersOf, Judged, JudgedOrder, have_operands, knows, knows_lists, knows_properties}
 use Rattle.aig_reader.proofs.ByLevel.{edges_are, sets_are}
 
@@ -30,7 +30,7 @@ module _ {X : Type 0} (test : Bool) (P : X → Type 0) where
   pub judged_ok : (result : Result X ReadError) (x : X) → Judged test P result → result ≡ Ok x → (test ≡ true) × P x
   judged_ok result x h was = subst (λ (r : Result X ReadError). Judged test P r) was h
 
-  pub judged_err : (result : Result X ReadError) (e : ReadError) → Judged test P result → result ≡ Err e → OnRefusal e (test ≡ false)
+  pub judged_err : (result : Result X ReadError) (e : ReadError) → Judged test P result → result ≡ Err e → ReadUnlessTransient e (test ≡ false)
   judged_err result e h was = subst (λ (r : Result X ReadError). Judged test P r) was h
 
   -- a judgement of lists, as one of their section

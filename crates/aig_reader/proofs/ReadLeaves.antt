@@ -13,7 +13,7 @@ use Rattle.aig_reader.specs.declared.error.LineError.{LineError}
 use Rattle.aig_reader.specs.declared.error.ReadError.{ReadError}
 use Rattle.aig_reader.specs.declared.error.Section.TheVariants.{Inputs, Latches}
 use Rattle.aig_reader.specs.declared.variables.DefinedVariables.{DefinedVariables}
-use Rattle.aig_reader.specs.Faults.{OnLine, error_in, result_by}
+use Rattle.aig_reader.specs.Faults.{LineUnlessTransient, error_in, result_by}
 use Rattle.aig_ordering.specs.Lists.{variable_of, latch_from}
 use Rattle.aig_reader.specs.Variables.{AreDefined, file_kind}
 use Rattle.aig_reader.proofs.Body.{in_section, made_in}
@@ -40,11 +40,11 @@ module _ (header : Header) (kind : FileKind) (b m a : Option (List ℕ)) (u v w 
   pub leaves_read :
       file_kind u ≡ kind → file_kind v ≡ file_kind u
       → inputs_result ≡ result_by (error_in Inputs) input_lines → inputs_result ≡ Ok inputs
-      → Makes OnLine (λ (xs : Vec ℕ Global) literals. (xs.items ≡ map variable_of literals) × AreDefined header.greatest v literals) b m input_lines (parse_fitting_inputs (file_kind u) (numbers_of header))
+      → Makes LineUnlessTransient (λ (xs : Vec ℕ Global) literals. (xs.items ≡ map variable_of literals) × AreDefined header.greatest v literals) b m input_lines (parse_fitting_inputs (file_kind u) (numbers_of header))
       → IfOk input_lines (λ xs. vec_len xs ≡ header.inputs)
       → latchs_result ≡ result_by (error_in Latches) latch_lines → latchs_result ≡ Ok latchs
       → ((literals : List ℕ) → length literals ≡ header.inputs → AreDefined header.greatest v literals
-      → Makes OnLine (λ (xs : Vec AigLatch Global) lines. (xs.items ≡ map latch_from lines) × AreDefined header.greatest w (literals_with literals lines)) m a latch_lines (parse_fitting_latches (file_kind v) (numbers_of header) literals))
+      → Makes LineUnlessTransient (λ (xs : Vec AigLatch Global) lines. (xs.items ≡ map latch_from lines) × AreDefined header.greatest w (literals_with literals lines)) m a latch_lines (parse_fitting_latches (file_kind v) (numbers_of header) literals))
       → IfOk latch_lines (λ xs. vec_len xs ≡ header.latches)
       → LeavesRead header kind b m a w inputs.items latchs.items
   leaves_read start same inputs_is inputs_was inputs_made inputs_count latchs_is latchs_was latchs_made latchs_count =

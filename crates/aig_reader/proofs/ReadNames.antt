@@ -5,14 +5,14 @@ use Rattle.aig_format.specs.File.{HeaderNumbers}
 use Rattle.aig_parsing.specs.ParseTested.{parse_fitting_tail}
 use Rattle.aig_reader.specs.declared.names.error.NameError.{NameError}
 use Rattle.aig_reader.specs.declared.names.error.NameError.TheVariants as name
-use Rattle.aig_reader.specs.NameFaults.{OnName}
+use Rattle.aig_reader.specs.NameFaults.{NameUnlessTransient}
 use Rattle.aig_reader.specs.Names.{EndsWith, tail_of}
 use Rattle.aig_reader.specs.declared.error.ReadError.{ReadError}
 use Rattle.aig_reader.specs.declared.error.ReadError.TheVariants as errors
-use Rattle.aig_reader.specs.Faults.{OnRefusal, name_error_of, result_by}
+use Rattle.aig_reader.specs.Faults.{ReadUnlessTransient, name_error_of, result_by}
 use Rattle.aig_reader.proofs.Body.{ok_in, err_in}
 
-in_names : (k : NameError) (P : Type 0) → OnName k P → OnRefusal (name_error_of k) P
+in_names : (k : NameError) (P : Type 0) → NameUnlessTransient k P → ReadUnlessTransient (name_error_of k) P
 in_names name.Memory P h = tt
 in_names name.Stream P h = tt
 in_names name.Shape P h = h
@@ -27,16 +27,16 @@ is_names_fault name.Memory = tt
 is_names_fault name.Stream = tt
 is_names_fault name.Shape = tt
 
-module _ {X Y : Type 0} (IsOf : X → Y → Type 0) (b a : Option (List ℕ)) (read : List ℕ → Option Y) (lines : Result X NameError) (result : Result X ReadError) (is : result ≡ result_by name_error_of lines) (h : EndsWith OnName IsOf b a lines read) where
+module _ {X Y : Type 0} (IsOf : X → Y → Type 0) (b a : Option (List ℕ)) (read : List ℕ → Option Y) (lines : Result X NameError) (result : Result X ReadError) (is : result ≡ result_by name_error_of lines) (h : EndsWith NameUnlessTransient IsOf b a lines read) where
   -- the names, the bytes that were read so, and what they are
   pub names_in : (x : X) → result ≡ Ok x → (y : Y) × IsOf x y × (taken : List ℕ) × (read taken ≡ Some y) × Consumes b a taken
-  names_in x was = subst (λ (r : Result X NameError). EndsWith OnName IsOf b a r read) (ok_in name_error_of lines result x is was) h
+  names_in x was = subst (λ (r : Result X NameError). EndsWith NameUnlessTransient IsOf b a r read) (ok_in name_error_of lines result x is was) h
 
-  pub no_names_in : (e : ReadError) → result ≡ Err e → OnRefusal e (IfSome b (λ bytes. read bytes ≡ None))
+  pub no_names_in : (e : ReadError) → result ≡ Err e → ReadUnlessTransient e (IfSome b (λ bytes. read bytes ≡ None))
   no_names_in e was =
       let k = err_in name_error_of lines result e is was in
       let P = IfSome b (λ bytes. read bytes ≡ None) in
-      subst (λ (d : ReadError). OnRefusal d P) k.2 (in_names k.0 P (subst (λ (r : Result X NameError). EndsWith OnName IsOf b a r read) k.1 h))
+      subst (λ (d : ReadError). ReadUnlessTransient d P) k.2 (in_names k.0 P (subst (λ (r : Result X NameError). EndsWith NameUnlessTransient IsOf b a r read) k.1 h))
 
 -- what holds of an answer that is there
 pub if_ok_in : {X E : Type 0} (fault : E → ReadError) (P : X → Type 0) (lines : Result X E) (result : Result X ReadError) (x : X) → result ≡ result_by fault lines → result ≡ Ok x → IfOk lines P → P x

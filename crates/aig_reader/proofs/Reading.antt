@@ -4,11 +4,11 @@ use Rattle.std.specs.Prelude.{IfSome, IsErrOf, IsOk}
 use Rattle.aig_format.specs.File.{File}
 use Rattle.aig_reader.specs.declared.error.ReadError.{ReadError}
 use Rattle.aig_reader.specs.declared.error.ReadError.TheVariants.{Memory, Stream, Header, TooMany, Syntax, Literal, Delta, Name, Open}
-use Rattle.aig_reader.specs.Reading.{ReadsExactly, UnlessInterrupted}
+use Rattle.aig_reader.specs.Reading.{ReadsExactly, UnlessTransient}
 
 -- what an answer tells of the bytes, where they are known
 abbrev Tells : {T : Type 0} → (File → T → Type 0) → ℕ → Result T ReadError → Option (List ℕ) → Type 0
-Tells Means limit result left = IfSome left (λ bytes. UnlessInterrupted result (ReadsExactly Means limit result bytes))
+Tells Means limit result left = IfSome left (λ bytes. UnlessTransient result (ReadsExactly Means limit result bytes))
 
 -- a refusal is the same one, whatever would have been answered
 same_error : (T U : Type 0) (e x : ReadError) → IsErrOf {T = T} (Err e) x → IsErrOf {T = U} (Err e) x

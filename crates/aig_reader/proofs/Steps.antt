@@ -20,7 +20,7 @@ use Rattle.aig_lexer.proofs.Taking.{misses_test, takes_tested}
 use Rattle.aig_reader.specs.declared.error.ReadError.{ReadError}
 use Rattle.aig_reader.specs.declared.error.ReadError.TheVariants as errors
 use Rattle.aig_reader.specs.declared.sections.Sections.{Sections}
-use Rattle.aig_reader.specs.Faults.{IsNumberFault, IsSectionFault, OnRefusal}
+use Rattle.aig_reader.specs.Faults.{IsNumberFault, IsSectionFault, ReadUnlessTransient}
 use Rattle.aig_reader.specs.Numbered.{AreListsByNumber, IsCircuitOf, Judged}
 use Rattle.aig_circuit.specs.declared.node.AigNode.{AigNode}
 use Rattle.aig_reader.specs.Gates.{AreFirstNodes}
@@ -35,7 +35,7 @@ module _ (header : Header) (x : Parts) (b a : Option (List ℕ)) (taken : Takes 
 
   -- numbered sections, or a refusal, after the last gate
   pub numbered_made : (result : Result Sections ReadError) → Judged (keeps x) (IsCircuitOf (file_by header x)) result
-      → Makes OnRefusal (λ (sections : Sections) y. IsCircuitOf (file_by header y) sections) b a result (parse_fitting_sections header.kind (numbers_of header))
+      → Makes ReadUnlessTransient (λ (sections : Sections) y. IsCircuitOf (file_by header y) sections) b a result (parse_fitting_sections header.kind (numbers_of header))
   numbered_made (Ok sections) h = (x, h.1, takes_tested (parse_section_lines header.kind (numbers_of header)) keeps b a x taken h.0)
   numbered_made (Err e) h = on_refusal-weaker e _ _ (λ (no : keeps x ≡ false). misses_test (parse_section_lines header.kind (numbers_of header)) keeps b a x taken no) h
 

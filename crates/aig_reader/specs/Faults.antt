@@ -28,17 +28,17 @@ section_name sections.Fairness = codes "fairness"
 section_name sections.Gates = codes "gates"
 
 -- the fact, unless memory or the stream failed
-abbrev pub OnLine : LineError → Type 0 → Type 0
-OnLine line.Memory P = Unit {0}
-OnLine line.Stream P = Unit {0}
-OnLine line.Syntax P = P
-OnLine line.Literal P = P
+abbrev pub LineUnlessTransient : LineError → Type 0 → Type 0
+LineUnlessTransient line.Memory P = Unit {0}
+LineUnlessTransient line.Stream P = Unit {0}
+LineUnlessTransient line.Syntax P = P
+LineUnlessTransient line.Literal P = P
 
 -- the fact, unless memory or the stream failed
-abbrev pub OnRefusal : ReadError → Type 0 → Type 0
-OnRefusal errors.Memory P = Unit {0}
-OnRefusal errors.Stream P = Unit {0}
-OnRefusal e P = P
+abbrev pub ReadUnlessTransient : ReadError → Type 0 → Type 0
+ReadUnlessTransient errors.Memory P = Unit {0}
+ReadUnlessTransient errors.Stream P = Unit {0}
+ReadUnlessTransient e P = P
 
 -- a fault in a line
 abbrev pub line_error_of : LexError → LineError

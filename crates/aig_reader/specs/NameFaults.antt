@@ -11,7 +11,7 @@ error_of lex.Stream = name.Stream
 error_of lex.Shape = name.Shape
 
 -- the fact, unless memory or the stream failed
-abbrev pub OnName : NameError → Type 0 → Type 0
-OnName name.Memory P = Unit {0}
-OnName name.Stream P = Unit {0}
-OnName name.Shape P = P
+abbrev pub NameUnlessTransient : NameError → Type 0 → Type 0
+NameUnlessTransient name.Memory P = Unit {0}
+NameUnlessTransient name.Stream P = Unit {0}
+NameUnlessTransient name.Shape P = P

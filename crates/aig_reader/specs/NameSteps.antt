@@ -7,7 +7,7 @@ use Rattle.std.specs.FinMap.{FinMap, insert}
 use Rattle.aig_format.specs.Letters.{letter_of_inputs, letter_of_latches}
 use Rattle.aig_parsing.specs.Parse.{is_comment, parse_name, parse_ended}
 use Rattle.aig_lexer.specs.declared.error.LexError.{LexError}
-use Rattle.aig_lexer.specs.Faults.{OnShape}
+use Rattle.aig_lexer.specs.Faults.{LexUnlessTransient}
 use Rattle.aig_reader.specs.declared.names.section.NamedSection.{NamedSection}
 use Rattle.aig_reader.specs.NamedSections.{letter_of}
 
@@ -20,7 +20,7 @@ pub record IsNoTail (bytes : List ℕ) : Type 0 where
 abbrev pub NameStarts : Option (List ℕ) → Option (List ℕ) → Result (Option (NamedSection × ℕ)) LexError → Type 0
 NameStarts before after (Ok None) = (taken : List ℕ) × (is_comment taken ≡ true) × Consumes before after taken
 NameStarts before after (Ok (Some x)) = let start = letter_of x.0 ∷ x.1 ∷ [] in (is_comment start ≡ false) × Consumes before after start
-NameStarts before after (Err e) = OnShape e (IfSome before IsNoTail)
+NameStarts before after (Err e) = LexUnlessTransient e (IfSome before IsNoTail)
 
 -- a number that a space ends, whose first byte came before
 abbrev pub parse_position : ℕ → List ℕ → Option (ℕ × List ℕ)

@@ -10,12 +10,12 @@ use Rattle.aig_format.specs.Numbering.{node_of_variable}
 use Rattle.aig_format.specs.Circuit.{circuit_of, edge_of, latch_of}
 use Rattle.aig_ordering.specs.declared.error.OrderError.{OrderError}
 use Rattle.aig_ordering.specs.Numbers.{number_at}
-use Rattle.aig_ordering.specs.Tables.{OnOrder}
+use Rattle.aig_ordering.specs.Tables.{OrderUnlessTransient}
 use Rattle.aig_reader.specs.declared.error.ReadError.{ReadError}
 use Rattle.aig_reader.specs.declared.properties.Properties.{Properties}
 use Rattle.aig_reader.specs.declared.sections.Lists.{Lists}
 use Rattle.aig_reader.specs.declared.sections.Sections.{Sections}
-use Rattle.aig_reader.specs.Faults.{OnRefusal}
+use Rattle.aig_reader.specs.Faults.{ReadUnlessTransient}
 use Rattle.aig_reader.specs.Sections.{circuit_with}
 
 -- ---- tests, and what they allow
@@ -23,12 +23,12 @@ use Rattle.aig_reader.specs.Sections.{circuit_with}
 -- a value where the test is passed, and else a fault, unless memory failed
 abbrev pub JudgedOrder : {X : Type 0} → Bool → (X → Type 0) → Result X OrderError → Type 0
 JudgedOrder test P (Ok x) = (test ≡ true) × P x
-JudgedOrder test P (Err e) = OnOrder e (test ≡ false)
+JudgedOrder test P (Err e) = OrderUnlessTransient e (test ≡ false)
 
 -- a value where the test is passed, and else a fault, unless memory or the stream failed
 abbrev pub Judged : {X : Type 0} → Bool → (X → Type 0) → Result X ReadError → Type 0
 Judged test P (Ok x) = (test ≡ true) × P x
-Judged test P (Err e) = OnRefusal e (test ≡ false)
+Judged test P (Err e) = ReadUnlessTransient e (test ≡ false)
 
 -- whether the variables of these literals are 0 or defined
 abbrev pub knows : File → List ℕ → Bool

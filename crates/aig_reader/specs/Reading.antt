@@ -11,11 +11,11 @@ use Rattle.aig_reader.specs.declared.error.ReadError.{ReadError}
 use Rattle.aig_reader.specs.declared.error.ReadError.TheVariants as errors
 
 -- the fact, unless memory or the stream failed
-abbrev pub UnlessInterrupted : {T : Type 0} → Result T ReadError → Type 0 → Type 0
-UnlessInterrupted (Err errors.Memory) P = Unit {0}
-UnlessInterrupted (Err errors.Stream) P = Unit {0}
-UnlessInterrupted (Err e) P = P
-UnlessInterrupted (Ok x) P = P
+abbrev pub UnlessTransient : {T : Type 0} → Result T ReadError → Type 0 → Type 0
+UnlessTransient (Err errors.Memory) P = Unit {0}
+UnlessTransient (Err errors.Stream) P = Unit {0}
+UnlessTransient (Err e) P = P
+UnlessTransient (Ok x) P = P
 
 -- the lists are those of the file's circuit
 abbrev pub AreListsOf : File → CircuitLists → Type 0

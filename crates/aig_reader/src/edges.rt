@@ -4,7 +4,7 @@ ghost use Rattle.std.specs.Prelude.{◌≡◌, [], map, true, IfErr, IsErrOf};
 ghost use Rattle.aig_parsing.specs.ParseTested.{is_literal, parse_literals};
 ghost use Rattle.aig_parsing.specs.Parse.{parse_ended, parse_if};
 ghost use Rattle.aig_lexer.specs.Takes.{Makes};
-ghost use Rattle.aig_reader.specs.Faults.{OnLine};
+ghost use Rattle.aig_reader.specs.Faults.{LineUnlessTransient};
 ghost use Rattle.aig_ordering.specs.Lists.{edge_from};
 ghost use Rattle.aig_reader.specs.Variables.{Tested};
 
@@ -27,7 +27,7 @@ pub fn edge_within(greatest: u32, literal: u32) -> Result<AigEdge, LineError>
 
 /// Reads a line of one literal.
 fn edge_line<F: ByteFeed>(f: &mut F, greatest: u32) -> Result<AigEdge, LineError>
-    ensures exact { Makes OnLine (λ edge literal. edge ≡ edge_from literal)
+    ensures exact { Makes LineUnlessTransient (λ edge literal. edge ≡ edge_from literal)
         (F.coming f.old) (F.coming f.new) result (parse_if (parse_ended 10) (is_literal greatest)) }
     ensures stream { IsErrOf result LineError.Stream → F.failed f.new ≡ true }
     ensures same { F.behind f.new ≡ F.behind f.old }
@@ -43,7 +43,7 @@ pub fn read_edges<F: ByteFeed>(
     count: u32,
     greatest: u32,
 ) -> Result<Vec<AigEdge>, LineError>
-    ensures exact { Makes OnLine (λ edges literals. edges.items ≡ map edge_from literals)
+    ensures exact { Makes LineUnlessTransient (λ edges literals. edges.items ≡ map edge_from literals)
         (F.coming f.old) (F.coming f.new) result (parse_literals greatest count) }
     ensures stream { IsErrOf result LineError.Stream → F.failed f.new ≡ true }
     ensures same { F.behind f.new ≡ F.behind f.old }

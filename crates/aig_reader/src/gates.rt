@@ -4,11 +4,11 @@ ghost use Rattle.std.specs.Prelude.{◌≡◌, ℕ, ◌+◌, ◌^◌, ◌<◌, �
 ghost use Rattle.aig_parsing.specs.ParseTested.{parse_fitting_gates};
 ghost use Rattle.aig_format.specs.declared.FileKind.TheVariants.{Binary};
 ghost use Rattle.aig_format.specs.File.{GateLine};
-ghost use Rattle.aig_lexer.specs.Faults.{OnShape};
+ghost use Rattle.aig_lexer.specs.Faults.{LexUnlessTransient};
 ghost use Rattle.aig_lexer.specs.Header.{numbers_of};
 ghost use Rattle.aig_lexer.specs.Takes.{Gives, Makes};
 ghost use Rattle.aig_reader.specs.ParseEntry.{parse_gate_entry, may_use, parse_operands};
-ghost use Rattle.aig_reader.specs.Faults.{OnLine};
+ghost use Rattle.aig_reader.specs.Faults.{LineUnlessTransient};
 ghost use Rattle.aig_reader.specs.Gates.{AreGates, HasSpace, line_of};
 ghost use Rattle.aig_reader.specs.Variables.{AreDefined, HasRoom, file_kind};
 
@@ -21,7 +21,7 @@ use std::alloc::Global;
 
 /// Reads two differences: from a gate's literal to its first operand, and from this to its second.
 fn differences<F: ByteFeed>(f: &mut F, lhs: u32) -> Result<(u32, u32), LexError>
-    ensures exact { Gives OnShape (λ x. (x.0, x.1))
+    ensures exact { Gives LexUnlessTransient (λ x. (x.0, x.1))
         (F.coming f.old) (F.coming f.new) result (parse_operands Binary lhs) }
     ensures stream { IsErrOf result LexError.Stream → F.failed f.new ≡ true }
     ensures same { F.behind f.new ≡ F.behind f.old }
@@ -36,7 +36,7 @@ fn differences<F: ByteFeed>(f: &mut F, lhs: u32) -> Result<(u32, u32), LexError>
 
 /// Reads the operands of the gate that defines this literal.
 fn operands<F: ByteFeed>(f: &mut F, variables: &DefinedVariables, lhs: u32) -> Result<(u32, u32), LexError>
-    ensures exact { Gives OnShape (λ x. (x.0, x.1))
+    ensures exact { Gives LexUnlessTransient (λ x. (x.0, x.1))
         (F.coming f.old) (F.coming f.new) result (parse_operands (file_kind variables.now) lhs) }
     ensures stream { IsErrOf result LexError.Stream → F.failed f.new ≡ true }
     ensures same { F.behind f.new ≡ F.behind f.old }
@@ -74,7 +74,7 @@ fn gate_line<F: ByteFeed>(
         × AreGates greatest leaves before variables.old gates.old }
     ensures exact { (greatest : ℕ) (leaves : List ℕ) (before : List GateLine)
         → AreGates greatest leaves before variables.old gates.old
-        → Makes OnLine
+        → Makes LineUnlessTransient
         (λ _ gate. AreGates greatest leaves (before ++ gate ∷ []) variables.new gates.new)
         (F.coming f.old) (F.coming f.new) result
         (parse_gate_entry (file_kind variables.old) greatest leaves before) }
@@ -109,7 +109,7 @@ pub fn read_gates<F: ByteFeed>(
     requires defined { (leaves : List ℕ) × AreDefined header.greatest variables.old leaves }
     ensures exact { (leaves : List ℕ) → length leaves ≡ header.inputs + header.latches
         → AreDefined header.greatest variables.old leaves
-        → Makes OnLine (λ held gates. AreGates header.greatest leaves gates variables.new held)
+        → Makes LineUnlessTransient (λ held gates. AreGates header.greatest leaves gates variables.new held)
         (F.coming f.old) (F.coming f.new) result
         (parse_fitting_gates (file_kind variables.old) (numbers_of header) leaves) }
     ensures space { IfOk result (HasSpace (header.greatest + 1)) }

@@ -5,8 +5,8 @@ ghost use Rattle.aig_parsing.specs.ParseTested.{parse_fitting_header};
 ghost use Rattle.aig_parsing.specs.Parse.{is_good, too_many_at};
 ghost use Rattle.aig_lexer.specs.Header.{numbers_of};
 ghost use Rattle.aig_lexer.specs.Takes.{Gives};
-ghost use Rattle.aig_reader.specs.Faults.{OnRefusal};
-ghost use Rattle.aig_reader.specs.Reading.{UnlessInterrupted};
+ghost use Rattle.aig_reader.specs.Faults.{ReadUnlessTransient};
+ghost use Rattle.aig_reader.specs.Reading.{UnlessTransient};
 
 use crate::error::{ReadError, in_header};
 use aig_lexer::{ByteFeed, FileKind, Header, header_line};
@@ -27,9 +27,9 @@ fn has_enough(header: Header) -> bool
 
 /// Reads the header line, which is good, and within the limit of `limit` variables, the false one counted.
 pub fn read_header<F: ByteFeed>(f: &mut F, limit: usize) -> Result<Header, ReadError>
-    ensures exact { Gives OnRefusal (λ h. (h.kind, numbers_of h))
+    ensures exact { Gives ReadUnlessTransient (λ h. (h.kind, numbers_of h))
         (F.coming f.old) (F.coming f.new) result (parse_fitting_header limit) }
-    ensures too_many { IfSome (F.coming f.old) (λ bytes. UnlessInterrupted result
+    ensures too_many { IfSome (F.coming f.old) (λ bytes. UnlessTransient result
         (IsErrOf result ReadError.TooMany ↔ (too_many_at limit bytes ≡ true))) }
     ensures within { IfOk result (λ h. h.greatest + 1 ≤ limit) }
     ensures good { IfOk result (λ h. is_good h.kind (numbers_of h) ≡ true) }

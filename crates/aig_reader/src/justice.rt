@@ -4,7 +4,7 @@ ghost use Rattle.std.specs.Prelude.{◌≡◌, map, true, IsErrOf};
 ghost use Rattle.aig_parsing.specs.ParseTested.{parse_literal_sets};
 ghost use Rattle.aig_parsing.specs.Parse.{parse_numbers};
 ghost use Rattle.aig_lexer.specs.Takes.{Makes};
-ghost use Rattle.aig_reader.specs.Faults.{OnLine};
+ghost use Rattle.aig_reader.specs.Faults.{LineUnlessTransient};
 ghost use Rattle.aig_ordering.specs.Lists.{edge_from};
 
 use crate::edges::read_edges;
@@ -15,7 +15,7 @@ use std::alloc::Global;
 
 /// Reads so many lines of one size each.
 pub fn read_sizes<F: ByteFeed>(alloc: Global, f: &mut F, count: u32) -> Result<Vec<u32>, LineError>
-    ensures exact { Makes OnLine (λ sizes numbers. sizes.items ≡ numbers)
+    ensures exact { Makes LineUnlessTransient (λ sizes numbers. sizes.items ≡ numbers)
         (F.coming f.old) (F.coming f.new) result (parse_numbers count) }
     ensures stream { IsErrOf result LineError.Stream → F.failed f.new ≡ true }
     ensures same { F.behind f.new ≡ F.behind f.old }
@@ -35,7 +35,7 @@ pub fn read_sets<F: ByteFeed>(
     sizes: &[u32],
     greatest: u32,
 ) -> Result<Vec<Vec<AigEdge>>, LineError>
-    ensures exact { Makes OnLine
+    ensures exact { Makes LineUnlessTransient
         (λ sets literals. map (λ set. set.items) sets.items ≡ map (map edge_from) literals)
         (F.coming f.old) (F.coming f.new) result (parse_literal_sets greatest sizes.now) }
     ensures stream { IsErrOf result LineError.Stream → F.failed f.new ≡ true }

@@ -5,7 +5,7 @@ ghost use Rattle.aig_parsing.specs.ParseTested.{parse_section_lines};
 ghost use Rattle.aig_parsing.specs.Parse.{is_good};
 ghost use Rattle.aig_lexer.specs.Header.{numbers_of};
 ghost use Rattle.aig_lexer.specs.Takes.{Makes};
-ghost use Rattle.aig_reader.specs.Faults.{IsSectionFault, OnRefusal};
+ghost use Rattle.aig_reader.specs.Faults.{IsSectionFault, ReadUnlessTransient};
 ghost use Rattle.aig_reader.specs.Sections.{AreLinesOf, file_by};
 
 use crate::error::{ReadError, Section, gates_result};
@@ -47,7 +47,7 @@ pub fn read_lines<F: ByteFeed>(alloc: Global, f: &mut F, header: Header) -> Resu
     requires few { header.greatest < 2 ^ 31 }
     requires good { is_good header.kind (numbers_of header) ≡ true }
     requires enough { header.inputs + header.latches + header.gates ≤ header.greatest }
-    ensures exact { Makes OnRefusal (λ lines x. AreLinesOf (file_by header x) lines)
+    ensures exact { Makes ReadUnlessTransient (λ lines x. AreLinesOf (file_by header x) lines)
         (F.coming f.old) (F.coming f.new) result
         (parse_section_lines header.kind (numbers_of header)) }
     ensures fault { IfErr result IsSectionFault }

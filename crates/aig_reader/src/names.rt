@@ -8,7 +8,7 @@ ghost use Rattle.aig_circuit.specs.View.{names_of};
 ghost use Rattle.aig_parsing.specs.Parse.{parse_if, parse_text};
 ghost use Rattle.aig_lexer.specs.Header.{numbers_of};
 ghost use Rattle.aig_lexer.specs.Takes.{Makes};
-ghost use Rattle.aig_reader.specs.NameFaults.{OnName};
+ghost use Rattle.aig_reader.specs.NameFaults.{NameUnlessTransient};
 ghost use Rattle.aig_reader.specs.Names.{EndsWith, kept_names, tail_of};
 ghost use Rattle.aig_reader.specs.NameSteps.{NameStarts, with_name};
 
@@ -64,7 +64,7 @@ fn read_name<F: ByteFeed>(
     node: Option<usize>,
     names: &mut HashMap<usize, String>,
 ) -> Result<(), NameError>
-    ensures exact { Makes OnName
+    ensures exact { Makes NameUnlessTransient
         (λ _ name. names_of names.new.entries ≡ with_name node name (names_of names.old.entries))
         (F.coming f.old) (F.coming f.new) result
         (parse_if parse_text (λ name. not (is_some node) || is_utf8 name)) }
@@ -100,7 +100,7 @@ pub fn read_names<F: ByteFeed>(
     requires inputs { length inputs.now ≡ header.now.inputs }
     requires latchs { length latchs.now ≡ header.now.latches }
     requires distinct { AllPairs (λ m n. m ≢ n) (inputs.now ++ latch_leaves latchs.now) }
-    ensures exact { EndsWith OnName
+    ensures exact { EndsWith NameUnlessTransient
         (λ map names. names_of map.entries ≡ kept_names inputs.now (latch_leaves latchs.now) names)
         (F.coming f.old) (F.coming f.new) result (tail_of (numbers_of header.now)) }
     ensures whole { OnOk result ((F.failed f.new ≡ false) × IsAtEnd (F.coming f.new)) }

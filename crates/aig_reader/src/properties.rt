@@ -4,7 +4,7 @@ ghost use Rattle.std.specs.Prelude.{◌≡◌, true, IfErr, IsErrOf};
 ghost use Rattle.aig_parsing.specs.ParseTested.{parse_fitting_properties};
 ghost use Rattle.aig_lexer.specs.Header.{numbers_of};
 ghost use Rattle.aig_lexer.specs.Takes.{Makes};
-ghost use Rattle.aig_reader.specs.Faults.{IsSectionFault, OnRefusal};
+ghost use Rattle.aig_reader.specs.Faults.{IsSectionFault, ReadUnlessTransient};
 ghost use Rattle.aig_reader.specs.Properties.{ArePropertiesOf};
 
 use crate::edges::read_edges;
@@ -35,7 +35,7 @@ pub fn read_properties<F: ByteFeed>(
     f: &mut F,
     header: Header,
 ) -> Result<Properties, ReadError>
-    ensures exact { Makes OnRefusal ArePropertiesOf
+    ensures exact { Makes ReadUnlessTransient ArePropertiesOf
         (F.coming f.old) (F.coming f.new) result (parse_fitting_properties (numbers_of header)) }
     ensures fault { IfErr result IsSectionFault }
     ensures stream { IsErrOf result ReadError.Stream → F.failed f.new ≡ true }

@@ -7,8 +7,8 @@ ghost use Rattle.aig_parsing.specs.Parse.{is_good};
 ghost use Rattle.aig_format.specs.Fits.{Accepts};
 ghost use Rattle.aig_lexer.specs.Header.{numbers_of};
 ghost use Rattle.aig_lexer.specs.Takes.{Makes};
-ghost use Rattle.aig_reader.specs.Faults.{IsSectionFault, OnRefusal};
-ghost use Rattle.aig_reader.specs.Reading.{AreListsOf, IsReadAs, ReadsExactly, UnlessInterrupted};
+ghost use Rattle.aig_reader.specs.Faults.{IsSectionFault, ReadUnlessTransient};
+ghost use Rattle.aig_reader.specs.Reading.{AreListsOf, IsReadAs, ReadsExactly, UnlessTransient};
 ghost use Rattle.aig_reader.specs.Numbered.{IsCircuitOf};
 ghost use Rattle.aig_reader.specs.Sections.{file_by};
 
@@ -34,7 +34,7 @@ pub fn read<R: Source>(alloc: Global, r: &mut R, limit: usize) -> Result<Circuit
     // Of known bytes, memory and stream aside: where they are a file that is accepted, the lists are those of its
     // circuit; else there is a refusal, TooMany exactly where the header line is good and passes the limit.
     ensures exact { IfSome (R.left r.old) (λ bytes.
-        UnlessInterrupted result (ReadsExactly AreListsOf limit result bytes)) }
+        UnlessTransient result (ReadsExactly AreListsOf limit result bytes)) }
     // A circuit only where no read failed and the stream was read to its end.
     ensures whole { OnOk result ((R.failed r.new ≡ false) × IsAtEnd (R.left r.new)) }
     // Stream only where a read failed in this call.
@@ -52,7 +52,7 @@ fn read_file<F: ByteFeed>(alloc: Global, f: &mut F, limit: usize) -> Result<Circ
     ensures circuit { IfOk result
         (IsReadAs (λ bytes. Accepts bytes limit) AreListsOf (F.coming f.old) (F.coming f.new)) }
     ensures exact { IfSome (F.coming f.old) (λ bytes.
-        UnlessInterrupted result (ReadsExactly AreListsOf limit result bytes)) }
+        UnlessTransient result (ReadsExactly AreListsOf limit result bytes)) }
     ensures whole { OnOk result ((F.failed f.new ≡ false) × IsAtEnd (F.coming f.new)) }
     ensures stream { IsErrOf result ReadError.Stream → IsTrue (F.failed f.new) }
     ensures never_open { IsErrOf result ReadError.Open → ⊥ }
@@ -75,7 +75,7 @@ fn read_sections<F: ByteFeed>(
     requires few { header.greatest < 2 ^ 31 }
     requires good { is_good header.kind (numbers_of header) ≡ true }
     requires enough { header.inputs + header.latches + header.gates ≤ header.greatest }
-    ensures exact { Makes OnRefusal (λ sections x. IsCircuitOf (file_by header x) sections)
+    ensures exact { Makes ReadUnlessTransient (λ sections x. IsCircuitOf (file_by header x) sections)
         (F.coming f.old) (F.coming f.new) result
         (parse_fitting_sections header.kind (numbers_of header)) }
     ensures inputs { IfOk result (λ sections. vec_len sections.lists.inputs ≡ header.inputs) }

@@ -2,7 +2,7 @@
 
 ghost use Rattle.std.specs.Prelude.{◌≡◌, ℕ, ◌+◌, ◌/◌, ◌^◌, ◌<◌, ◌≤◌, List, [], ◌∷◌, ◌++◌, IfErr, IfOk, IsErrOf, MatchOption, OnOk, false, true, vec_len};
 ghost use Rattle.aig_parsing.specs.ParseTested.{defines};
-ghost use Rattle.aig_lexer.specs.Faults.{OnShape};
+ghost use Rattle.aig_lexer.specs.Faults.{LexUnlessTransient};
 ghost use Rattle.aig_lexer.specs.Takes.{Gives};
 ghost use Rattle.aig_format.specs.File.{File, defined};
 ghost use Rattle.aig_ordering.specs.Tables.{AreKnownOf};
@@ -110,7 +110,7 @@ impl DefinedVariables {
     pub fn own_literal<F: ByteFeed>(&self, f: &mut F, end: u8) -> Result<u32, LexError>
         requires { (size : ℕ) × (size ≤ 2 ^ 31) × HasRoom size self.now 1 }
         ensures exact { (greatest : ℕ) (before : List ℕ) → AreDefined greatest self.now before
-            → Gives OnShape (λ e. e)
+            → Gives LexUnlessTransient (λ e. e)
             (F.coming f.old) (F.coming f.new) result (parse_own (file_kind self.now) end before) }
         ensures next { IfOk result (λ e. IsNext self.now e) }
         ensures stream { IsErrOf result LexError.Stream → F.failed f.new ≡ true }

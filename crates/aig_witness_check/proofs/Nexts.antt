@@ -11,7 +11,7 @@ use Rattle.aig_format.proofs.Circuits.{IsCircuit-of_file}
 use Rattle.aig_lexer.specs.Takes.{Takes}
 use Rattle.aig_reader.specs.declared.error.ReadError.{ReadError}
 use Rattle.aig_reader.specs.declared.error.ReadError.TheVariants as read
-use Rattle.aig_reader.specs.Reading.{AreListsOf, IsReadAs, ReadsExactly, UnlessInterrupted}
+use Rattle.aig_reader.specs.Reading.{AreListsOf, IsReadAs, ReadsExactly, UnlessTransient}
 use Rattle.aig_witness.specs.Faults.{Ends}
 use Rattle.aig_witness.specs.Reading.{parse_next}
 use Rattle.aig_witness.specs.Witness.{Witness}
@@ -29,8 +29,8 @@ pub ends_none : (before after : Option (List ℕ)) → Ends before after → Has
 ends_none before after h = Consumes-whole before after h.taken (λ bytes. parse_next bytes ≡ Some (None, [])) h.consumed h.whole h.none
 
 -- a file that is refused
-pub refused : (limit : ℕ) (old : Option (List ℕ)) (e : ReadError) → IfSome old (λ bytes. UnlessInterrupted {T = CircuitLists} (Err e) (ReadsExactly AreListsOf limit (Err e) bytes))
-    → IfSome old (λ bytes. UnlessInterrupted {T = Shown} (Err e) ((f : File) → ¬ Accepts bytes limit f))
+pub refused : (limit : ℕ) (old : Option (List ℕ)) (e : ReadError) → IfSome old (λ bytes. UnlessTransient {T = CircuitLists} (Err e) (ReadsExactly AreListsOf limit (Err e) bytes))
+    → IfSome old (λ bytes. UnlessTransient {T = Shown} (Err e) ((f : File) → ¬ Accepts bytes limit f))
 refused limit None e h = tt
 refused limit (Some bytes) read.Memory h = tt
 refused limit (Some bytes) read.Stream h = tt

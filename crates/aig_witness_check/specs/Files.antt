@@ -5,7 +5,7 @@ use Rattle.aig_format.specs.File.{File}
 use Rattle.aig_format.specs.Fits.{Accepts}
 use Rattle.aig_format.specs.Circuit.{circuit_of}
 use Rattle.aig_lexer.specs.Takes.{Misses}
-use Rattle.aig_reader.specs.Reading.{IsReadAs, UnlessInterrupted}
+use Rattle.aig_reader.specs.Reading.{IsReadAs, UnlessTransient}
 use Rattle.aig_witness.specs.declared.witness.Witness as lists
 use Rattle.aig_witness.specs.Faults.{OnWitness}
 use Rattle.aig_witness.specs.Reading.{parse_next}
@@ -53,7 +53,7 @@ GivesFirst text (Err (errors.Check e)) = ⊥
 -- accepted, or the text has no witness, or the file is accepted and the witness has the fault that is named.
 abbrev pub Answers : ℕ → Option (List ℕ) → Option (List ℕ) → Option (List ℕ) → Result Shown ShowError → Type 0
 Answers limit old new text (Ok shown) = IsReadAs (λ bytes. Accepts bytes limit) (ShowsNext text) old new shown
-Answers limit old new text (Err (errors.File e)) = IfSome old (λ bytes. UnlessInterrupted {T = Shown} (Err e) ((f : File) → ¬ Accepts bytes limit f))
+Answers limit old new text (Err (errors.File e)) = IfSome old (λ bytes. UnlessTransient {T = Shown} (Err e) ((f : File) → ¬ Accepts bytes limit f))
 Answers limit old new text (Err (errors.Witness e)) = OnWitness e (Misses parse_next text)
 Answers limit old new text (Err errors.NoWitness) = HasNone text
 Answers limit old new text (Err (errors.Check e)) = IsReadAs (λ bytes. Accepts bytes limit) (FailsNext text) old new e

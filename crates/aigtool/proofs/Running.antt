@@ -32,7 +32,7 @@ Tell steps limit outcome left = ¬ IsInterrupted outcome → IfSome left (λ byt
 
 -- what the reader told of the bytes, where they are known
 abbrev pub Reads : {X : Type 0} → (File → X → Type 0) → ℕ → Result X ReadError → Option (List ℕ) → Type 0
-Reads Means limit result left = IfSome left (λ bytes. reading.UnlessInterrupted result (ReadsExactly Means limit result bytes))
+Reads Means limit result left = IfSome left (λ bytes. reading.UnlessTransient result (ReadsExactly Means limit result bytes))
 
 module _ (X : Type 0) (Means : File → X → Type 0) (limit : ℕ) where
   refused : (e : ReadError) (bytes : List ℕ) → ReadsExactly Means limit (Err e) bytes → AnswersExactly None limit bytes (Refused e)
@@ -67,7 +67,7 @@ module _ (X : Type 0) (Means : File → X → Type 0) (limit : ℕ) where
 
 -- what encoding told of the bytes, where they are known
 abbrev pub Encodes : {X : Type 0} → (File → X → Type 0) → ℕ → ℕ → Result X EncodeError → Option (List ℕ) → Type 0
-Encodes Means limit k result left = IfSome left (λ bytes. encoding.UnlessInterrupted result (encoding.AnswersExactly Means limit k result bytes))
+Encodes Means limit k result left = IfSome left (λ bytes. encoding.EncodeUnlessTransient result (encoding.AnswersExactly Means limit k result bytes))
 
 module _ (X : Type 0) (Means : File → X → Type 0) (limit k : ℕ) where
   too_large : (left : Option (List ℕ)) → Encodes Means limit k (Err encode.TooLarge) left → IfSome left (λ bytes. AnswersExactly (Some k) limit bytes Passes)

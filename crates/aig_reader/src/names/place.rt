@@ -4,7 +4,7 @@ ghost use Rattle.std.specs.Prelude.{◌≡◌, ◌<◌, nat_lt, length, IfOk, Is
 ghost use Rattle.aig_circuit.specs.Circuit.{latch_leaves};
 ghost use Rattle.aig_parsing.specs.Parse.{parse_if};
 ghost use Rattle.aig_format.specs.Letters.{count_of};
-ghost use Rattle.aig_lexer.specs.Faults.{OnShape};
+ghost use Rattle.aig_lexer.specs.Faults.{LexUnlessTransient};
 ghost use Rattle.aig_lexer.specs.Header.{numbers_of};
 ghost use Rattle.aig_lexer.specs.Takes.{Gives};
 ghost use Rattle.aig_reader.specs.NamedSections.{letter_of};
@@ -26,7 +26,7 @@ pub struct Place {
 
 /// Reads the rest of a number whose first byte is `first`, up to the space that ends it.
 fn position<F: ByteFeed>(f: &mut F, first: u8) -> Result<u32, LexError>
-    ensures exact { Gives OnShape (λ x. x)
+    ensures exact { Gives LexUnlessTransient (λ x. x)
         (F.coming f.old) (F.coming f.new) result (parse_position first) }
     ensures stream { IsErrOf result LexError.Stream → F.failed f.new ≡ true }
     ensures same { F.behind f.new ≡ F.behind f.old }
@@ -47,7 +47,7 @@ pub fn read_place<F: ByteFeed>(
     section: NamedSection,
     first: u8,
 ) -> Result<Place, LexError>
-    ensures exact { Gives OnShape (λ place. place.position)
+    ensures exact { Gives LexUnlessTransient (λ place. place.position)
         (F.coming f.old) (F.coming f.new) result
         (parse_if (parse_position first)
         (λ n. nat_lt n (count_of (numbers_of header.now) (letter_of section)))) }

@@ -4,9 +4,9 @@ ghost use Rattle.std.specs.Prelude.{◌≡◌, ◌<◌, List, ℕ, IsErrOf, OnEr
 ghost use Rattle.std.specs.Io.KnownBytes.{Consumes, IsAtEnd};
 ghost use Rattle.std.specs.Str.{is_utf8};
 ghost use Rattle.aig_parsing.specs.Parse.{parse_if, parse_text};
-ghost use Rattle.aig_lexer.specs.Faults.{OnShape};
+ghost use Rattle.aig_lexer.specs.Faults.{LexUnlessTransient};
 ghost use Rattle.aig_lexer.specs.Takes.{Gives, Makes};
-ghost use Rattle.aig_reader.specs.NameFaults.{OnName};
+ghost use Rattle.aig_reader.specs.NameFaults.{NameUnlessTransient};
 
 use super::error::NameError;
 use aig_base::StreamFault;
@@ -15,7 +15,7 @@ use std::alloc::Global;
 
 /// Reads the bytes of a name, up to the line feed, which is not one of them.
 fn name_bytes<F: ByteFeed>(alloc: Global, f: &mut F) -> Result<Vec<u8>, NameError>
-    ensures exact { Gives OnName (λ text. text.items)
+    ensures exact { Gives NameUnlessTransient (λ text. text.items)
         (F.coming f.old) (F.coming f.new) result parse_text }
     ensures stream { IsErrOf result NameError.Stream → F.failed f.new ≡ true }
     ensures same { F.behind f.new ≡ F.behind f.old }
@@ -33,7 +33,7 @@ fn name_bytes<F: ByteFeed>(alloc: Global, f: &mut F) -> Result<Vec<u8>, NameErro
 
 /// Reads a name that is kept, up to the line feed: it has to be UTF-8.
 pub fn kept_text<F: ByteFeed>(alloc: Global, f: &mut F) -> Result<String, NameError>
-    ensures exact { Gives OnName (λ text. string_bytes text)
+    ensures exact { Gives NameUnlessTransient (λ text. string_bytes text)
         (F.coming f.old) (F.coming f.new) result (parse_if parse_text is_utf8) }
     ensures stream { IsErrOf result NameError.Stream → F.failed f.new ≡ true }
     ensures same { F.behind f.new ≡ F.behind f.old }
@@ -45,7 +45,7 @@ pub fn kept_text<F: ByteFeed>(alloc: Global, f: &mut F) -> Result<String, NameEr
 
 /// Reads a name that is dropped, up to the line feed, and holds none of it.
 pub fn skip_text<F: ByteFeed>(f: &mut F) -> Result<(), LexError>
-    ensures exact { Makes OnShape (λ _ _. Unit {0})
+    ensures exact { Makes LexUnlessTransient (λ _ _. Unit {0})
         (F.coming f.old) (F.coming f.new) result parse_text }
     ensures stream { IsErrOf result LexError.Stream → F.failed f.new ≡ true }
     ensures same { F.behind f.new ≡ F.behind f.old }

@@ -7,7 +7,7 @@ use Rattle.aig_lexer.specs.Takes.{Takes, Misses}
 use Rattle.std.proofs.lemmas.List.{append-nil}
 use Rattle.aig_lexer.proofs.Taking.{takes_nothing, takes_same, misses_same}
 use Rattle.aig_reader.specs.ParseEntry.{parse_gate_entry}
-use Rattle.aig_reader.specs.Faults.{OnLine}
+use Rattle.aig_reader.specs.Faults.{LineUnlessTransient}
 use Rattle.aig_reader.specs.Variables.{AreDefined, HasRoom, file_kind}
 use Rattle.aig_reader.proofs.BothKinds.{gates_is}
 use Rattle.aig_reader.proofs.Entries.{entries_at, takes_more, misses_more}
@@ -51,7 +51,7 @@ returns-in_err-gate_line-clause-exact g c = λ leaves length defined.
     rw (p.1, p.2) (on_line-weaker e _ _
     (λ (k : Misses (parse_gate_entry kind greatest leaves h.0) now).
     misses_same (entries_at (parse_gate_entry kind greatest leaves) [] count) (parse_fitting_gates kind ns leaves) _ (misses_more (parse_gate_entry kind greatest leaves) c.loop.counter count _ _ h.0 c.loop-test.true h.2 k) (λ bs. gates_is kind ns leaves bs length))
-    (subst (λ (k : FileKind). OnLine e (Misses (parse_gate_entry k greatest leaves h.0) now)) c.loop.invariant.kind (c.in_err-gate_line.ensures.exact greatest leaves h.0 h.1)))
+    (subst (λ (k : FileKind). LineUnlessTransient e (Misses (parse_gate_entry k greatest leaves h.0) now)) c.loop.invariant.kind (c.in_err-gate_line.ensures.exact greatest leaves h.0 h.1)))
 
 pub loop-preserved : goal.loop-preserved
 loop-preserved g c = record {

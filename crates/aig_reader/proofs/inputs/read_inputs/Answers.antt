@@ -6,7 +6,7 @@ use Rattle.aig_lexer.specs.Header.{numbers_of}
 use Rattle.aig_lexer.specs.Takes.{Takes, Misses}
 use Rattle.aig_lexer.proofs.Taking.{takes_same, misses_same}
 use Rattle.aig_reader.specs.ParseEntry.{parse_input_entry}
-use Rattle.aig_reader.specs.Faults.{OnLine}
+use Rattle.aig_reader.specs.Faults.{LineUnlessTransient}
 use Rattle.aig_ordering.specs.Lists.{variable_of}
 use Rattle.aig_reader.specs.Variables.{file_kind}
 use Rattle.aig_reader.proofs.BothKinds.{inputs_is}
@@ -33,7 +33,7 @@ returns-in_err-input-clause-exact g c = λ start.
     let e = c.in_err-input.field-0.0 in
     rw (p.1, p.2) (on_line-weaker e _ _
     (λ (k : Misses (parse_input_entry kind greatest h.0) now). misses_same (entries_at (parse_input_entry kind greatest) [] count) (parse_fitting_inputs kind ns) _ (misses_more (parse_input_entry kind greatest) c.loop.counter count _ _ h.0 c.loop-test.true h.2 k) (inputs_is kind ns))
-    (subst (λ (k : FileKind). OnLine e (Misses (parse_input_entry k greatest h.0) now)) c.loop.invariant.kind (c.in_err-input.ensures.exact greatest h.0 h.1.1)))
+    (subst (λ (k : FileKind). LineUnlessTransient e (Misses (parse_input_entry k greatest h.0) now)) c.loop.invariant.kind (c.in_err-input.ensures.exact greatest h.0 h.1.1)))
 
 pub loop-preserved : goal.loop-preserved
 loop-preserved g c = record {

@@ -9,7 +9,7 @@ use Rattle.aig_lexer.specs.Takes.{Takes, Misses}
 use Rattle.aig_lexer.proofs.Taking.{takes_same, misses_same}
 use Rattle.aig_reader.specs.declared.variables.DefinedVariables.{DefinedVariables}
 use Rattle.aig_reader.specs.ParseEntry.{parse_latch_entry}
-use Rattle.aig_reader.specs.Faults.{OnLine}
+use Rattle.aig_reader.specs.Faults.{LineUnlessTransient}
 use Rattle.aig_ordering.specs.Lists.{latch_from}
 use Rattle.aig_reader.specs.Variables.{AreDefined, file_kind}
 use Rattle.aig_reader.proofs.BothKinds.{latches_is}
@@ -45,7 +45,7 @@ returns-in_err-latch-clause-exact g c = λ inputs length defined.
     rw (p.1, p.2) (on_line-weaker e _ _
     (λ (k : Misses (parse_latch_entry kind greatest inputs h.0) now).
     misses_same (entries_at (parse_latch_entry kind greatest inputs) [] count) (parse_fitting_latches kind ns inputs) _ (misses_more (parse_latch_entry kind greatest inputs) c.loop.counter count _ _ h.0 c.loop-test.true h.2 k) (λ bs. latches_is kind ns inputs bs length))
-    (subst (λ (k : FileKind). OnLine e (Misses (parse_latch_entry k greatest inputs h.0) now)) c.loop.invariant.kind (c.in_err-latch.ensures.exact inputs h.0 h.1.1)))
+    (subst (λ (k : FileKind). LineUnlessTransient e (Misses (parse_latch_entry k greatest inputs h.0) now)) c.loop.invariant.kind (c.in_err-latch.ensures.exact inputs h.0 h.1.1)))
 
 pub loop-preserved : goal.loop-preserved
 loop-preserved g c = record {

@@ -8,7 +8,7 @@ use Rattle.aig_format.specs.declared.FileKind.{FileKind}
 use Rattle.aig_lexer.specs.Header.{numbers_of}
 use Rattle.aig_lexer.specs.Takes.{Misses, Takes}
 use Rattle.aig_reader.specs.declared.error.Section.TheVariants.{Inputs, Latches}
-use Rattle.aig_reader.specs.Faults.{OnRefusal, error_in, gate_error_in}
+use Rattle.aig_reader.specs.Faults.{ReadUnlessTransient, error_in, gate_error_in}
 use Rattle.aig_reader.specs.Gates.{HasSpace}
 use Rattle.aig_reader.specs.Sections.{file_by}
 use Rattle.aig_reader.specs.Variables.{HasRoom}
@@ -86,7 +86,7 @@ returns-in_err-gates-clause-exact g c =
     let missed = missed_in (gate_error_in kind) (in_gates kind) _ _ _ _ c.read_gates-gates.result c.gates_result.result e c.gates_result.ensures c.in_err-gates.was gates in
     let p = err_from_is_err_and c.from_residual-in_err-gates.result c.from_residual-in_err-gates.ensures.1 in
     rw (p.1, p.2) (on_refusal-weaker e _ _ (misses_gates kind (numbers_of header) _ _ leaves.literals leaves.takes_inputs _ leaves.lines leaves.takes_latchs _ properties.0 properties.2)
-    (subst (λ (k : FileKind). OnRefusal e (Misses (parse_fitting_gates k (numbers_of header) (literals_with leaves.literals leaves.lines)) (g.F.ByteFeed.coming c.read_properties.new.f))) (latchs.kind ∙ inputs.kind ∙ start) missed))
+    (subst (λ (k : FileKind). ReadUnlessTransient e (Misses (parse_fitting_gates k (numbers_of header) (literals_with leaves.literals leaves.lines)) (g.F.ByteFeed.coming c.read_properties.new.f))) (latchs.kind ∙ inputs.kind ∙ start) missed))
 
 pub returns-clause-exact : goal.returns-clause-exact
 returns-clause-exact g c =

@@ -12,7 +12,7 @@ use Rattle.std.specs.List.{list_all}
 use Rattle.aig_ordering.specs.Gates.{nodes_in}
 use Rattle.aig_ordering.specs.Numbers.{all_by, numbered}
 use Rattle.aig_ordering.specs.Order.{AreOrdered}
-use Rattle.aig_ordering.specs.Tables.{AreKnownOf, AreNodesOf, OnOrder}
+use Rattle.aig_ordering.specs.Tables.{AreKnownOf, AreNodesOf, OrderUnlessTransient}
 use Rattle.aig_ordering.proofs.NodesIn.{count-gates, node_under}
 use Rattle.aig_ordering.proofs.Written.{images_ordered}
 use Rattle.aig_reader.specs.Numbered.{AreNumbersOf, JudgedOrder, have_operands}
@@ -45,8 +45,8 @@ returns-in_err-nodes c = λ f good are known well_founded.
     let here = (goal.at.returns-in_err-nodes c).After-nodes in
     let p = err_from_is_err_and c.from_residual-in_err-nodes.result c.from_residual-in_err-nodes.ensures.1 in
     let e = c.in_err-nodes.field-0.0 in
-    let no : OnOrder e (have_operands f ≡ false) = subst (JudgedOrder (have_operands f) (λ (new : Vec AigNode Global). new.items ≡ (circuit_of f).nodes)) c.in_err-nodes.was (nodes_judged here f good are known well_founded) in
-    rw (p.1, p.2) (subst (λ (b : Bool). OnOrder e (b && have_operands f ≡ false)) (sym (ordered here f good are known well_founded).0) no)
+    let no : OrderUnlessTransient e (have_operands f ≡ false) = subst (JudgedOrder (have_operands f) (λ (new : Vec AigNode Global). new.items ≡ (circuit_of f).nodes)) c.in_err-nodes.was (nodes_judged here f good are known well_founded) in
+    rw (p.1, p.2) (subst (λ (b : Bool). OrderUnlessTransient e (b && have_operands f ≡ false)) (sym (ordered here f good are known well_founded).0) no)
 
 pub returns : goal.returns
 returns c = λ f good are known well_founded.
