@@ -10,7 +10,7 @@ use Rattle.aig_ordering.specs.Lists.{edge_from}
 
 -- what a variable is: with a gate the and of its operands, put in order; else 0 is false, and any other a leaf
 abbrev pub kind_of_operands : ℕ → Option Operands → AigNodeType
-kind_of_operands v (Some gate) = and_of (edge_from gate.first) (edge_from gate.second)
+kind_of_operands v (Some gate) = and_of (edge_from gate.rhs0) (edge_from gate.rhs1)
 kind_of_operands v None = if v == 0 then False else Leaf
 
 -- the node of a variable, which has its number

@@ -22,10 +22,10 @@ fn push_node(
 {
     match gate {
         Some(operands) => {
-            let Some(first) = edge(numbers, edge_of(operands.first)) else {
+            let Some(first) = edge(numbers, edge_of(operands.rhs0)) else {
                 return Err(OrderError::Variable);
             };
-            let Some(second) = edge(numbers, edge_of(operands.second)) else {
+            let Some(second) = edge(numbers, edge_of(operands.rhs1)) else {
                 return Err(OrderError::Variable);
             };
             new.push(gate_node(new.len(), first, second))?;

@@ -10,9 +10,9 @@ use aig_circuit::{AigEdge, AigNode, false_node, gate_node, leaf_node};
 #[derive(Clone, Copy)]
 pub struct Operands {
     /// The literal of one of them.
-    pub first: u32,
+    pub rhs0: u32,
     /// The literal of the other.
-    pub second: u32,
+    pub rhs1: u32,
 }
 
 /// The edge of a literal.
@@ -27,7 +27,7 @@ pub fn variable_node(variable: usize, gate: Option<Operands>) -> AigNode
     ensures { result ≡ node_in variable gate }
 {
     match gate {
-        Some(operands) => gate_node(variable, edge_of(operands.first), edge_of(operands.second)),
+        Some(operands) => gate_node(variable, edge_of(operands.rhs0), edge_of(operands.rhs1)),
         None if variable == 0 => false_node(),
         None => leaf_node(variable),
     }

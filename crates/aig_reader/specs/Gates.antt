@@ -28,7 +28,7 @@ last_or n (x ∷ xs) = last_or x xs
 
 -- the line of a gate of this literal and these operands
 abbrev pub line_of : ℕ → Operands → GateLine
-line_of lhs operands = record { lhs = lhs; rhs0 = operands.first; rhs1 = operands.second }
+line_of lhs operands = record { lhs = lhs; rhs0 = operands.rhs0; rhs1 = operands.rhs1 }
 
 -- the node of a gate
 abbrev pub gate_node_of : GateLine → AigNode
@@ -36,7 +36,7 @@ gate_node_of g = record { node_id = g.lhs / 2; typ = and_of (edge_from g.rhs0) (
 
 -- the operands of what is a gate
 abbrev pub gate_in : AigNodeType → Option Operands
-gate_in (And a b) = Some (record { first = literal_of a; second = literal_of b })
+gate_in (And a b) = Some (record { rhs0 = literal_of a; rhs1 = literal_of b })
 gate_in False = None
 gate_in Leaf = None
 

@@ -37,7 +37,7 @@ impl InOrder {
     fn is_above(&self, lhs: u32, operands: Operands) -> bool
         ensures { result ≡ (nat_lt self.now.last lhs && is_above_operands (line_of lhs operands)) }
     {
-        self.last < lhs && operands.first / 2 < lhs / 2 && operands.second / 2 < lhs / 2
+        self.last < lhs && operands.rhs0 / 2 < lhs / 2 && operands.rhs1 / 2 < lhs / 2
     }
 
     /// Whether a gate may be the next one of a file in which no variable is missing and gates rise, each above its operands:

@@ -55,9 +55,9 @@ fn are_usable(variables: &DefinedVariables, lhs: u32, operands: Operands) -> boo
 {
     match variables {
         DefinedVariables::Text(marks) => {
-            operands.first / 2 <= marks.greatest && operands.second / 2 <= marks.greatest
+            operands.rhs0 / 2 <= marks.greatest && operands.rhs1 / 2 <= marks.greatest
         }
-        DefinedVariables::Binary(_) => operands.first < lhs,
+        DefinedVariables::Binary(_) => operands.rhs0 < lhs,
     }
 }
 
@@ -87,8 +87,8 @@ fn gate_line<F: ByteFeed>(
     ensures same { F.behind f.new ≡ F.behind f.old }
 {
     let lhs = variables.own_literal(f, b' ')?;
-    let (first, second) = operands(f, variables, lhs)?;
-    let operands = Operands { first, second };
+    let (rhs0, rhs1) = operands(f, variables, lhs)?;
+    let operands = Operands { rhs0, rhs1 };
     if !are_usable(variables, lhs, operands) {
         return Err(LineError::Literal);
     }

@@ -50,8 +50,8 @@ fn gate_of(kind: AigNodeType) -> Option<Operands>
 {
     match kind {
         AigNodeType::And(first, second) => Some(Operands {
-            first: literal(first),
-            second: literal(second),
+            rhs0: literal(first),
+            rhs1: literal(second),
         }),
         AigNodeType::Leaf | AigNodeType::False => None,
     }

@@ -11,14 +11,14 @@ pub returns-clause-exact : goal.returns-clause-exact
 returns-clause-exact g c = λ greatest leaves before h.
     let kind = file_kind c.args.variables.now in
     let literals = leaves ++ literals_of before in
-    let gate = gate_line_from (c.in_ok-lhs.lhs, (c.in_ok-first.first, c.in_ok-first.second)) in
+    let gate = gate_line_from (c.in_ok-lhs.lhs, (c.in_ok-rhs0.rhs0, c.in_ok-rhs0.rhs1)) in
     let first = c.in_ok-define.ensures.exact greatest literals h.defined in
     let usable = sym (c.are_usable.ensures greatest literals h.defined) ∙ c.if-not-are_usable.false in
     let own = c.in_ok-define.ensures.own c.requires.space.0 c.requires.space.2 in
     let new = new_among leaves before gate.lhs (c.in_ok-define.ensures.new greatest literals h.defined) in (
       gate,
       more_gates greatest leaves before _ _ gate (c.in_ok-put.ensures.placed greatest leaves before h.placed first.1.1 new own.1) first.1.1,
-      takes_line kind 32 literals (parse_operands kind) gate_line_from (may_stand kind greatest literals) _ _ c.in_ok-lhs.lhs (c.in_ok-lhs.ensures.exact greatest literals h.defined) _ (c.in_ok-first.first, c.in_ok-first.second) c.in_ok-first.ensures.exact
+      takes_line kind 32 literals (parse_operands kind) gate_line_from (may_stand kind greatest literals) _ _ c.in_ok-lhs.lhs (c.in_ok-lhs.ensures.exact greatest literals h.defined) _ (c.in_ok-rhs0.rhs0, c.in_ok-rhs0.rhs1) c.in_ok-rhs0.ensures.exact
           (may_stand-both kind greatest literals gate ∙ rw (first.0, usable) refl),
     )
 
