@@ -59,7 +59,7 @@ pub fn query_of(
     ensures err { IfErr result (λ e. (e ≡ EncodeError.Memory) ⊎ (e ≡ EncodeError.TooLarge)) }
 {
     circuit_queries_ask();
-    if !aig_unroll::is_within(circuit.num_nodes(), circuit.latchs().len(), k, limit) {
+    if !aig_unroll::is_size_within(circuit.num_nodes(), circuit.latchs().len(), k, limit) {
         return Err(EncodeError::TooLarge);
     }
     let unrolled = circuit.unroll_to(k)?;

@@ -57,7 +57,7 @@ fn has_room(circuit: &Aig, k: usize, form: Window, limit: usize) -> bool
     if latchs != 0 && pairs > limit / latchs {
         return false;
     }
-    aig_unroll::is_within(circuit.num_nodes(), latchs, k + 1, limit - pairs * latchs)
+    aig_unroll::is_size_within(circuit.num_nodes(), latchs, k + 1, limit - pairs * latchs)
 }
 
 /// Appends the clauses that tell the states of a window apart, where the form asks for them.
@@ -113,7 +113,7 @@ fn ask_window(
         × (limit < window_size form circuit k)) }
     ensures err { IfErr result IsOfCircuit }
 {
-    if !aig_unroll::is_within(circuit.num_nodes(), circuit.latchs().len(), k + 1, limit) {
+    if !aig_unroll::is_size_within(circuit.num_nodes(), circuit.latchs().len(), k + 1, limit) {
         return Err(AnswerError::Encode(EncodeError::TooLarge));
     }
     if circuit.bads().is_empty() {

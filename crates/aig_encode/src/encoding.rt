@@ -108,7 +108,7 @@ fn encode_circuit(
     ensures large { IsErrOf result EncodeError.TooLarge ↔ (limit < unrolled_size circuit k) }
     ensures err { IfErr result (λ e. (e ≡ EncodeError.Memory) ⊎ (e ≡ EncodeError.TooLarge)) }
 {
-    if !aig_unroll::is_within(circuit.num_nodes(), circuit.latchs().len(), k, limit) {
+    if !aig_unroll::is_size_within(circuit.num_nodes(), circuit.latchs().len(), k, limit) {
         return Err(EncodeError::TooLarge);
     }
     let unrolled = circuit.unroll_to(k)?;

@@ -24,7 +24,7 @@ pub fn step_table(circuit: &CircuitView<'_>) -> Result<Vec<AigEdge>, MemoryError
 
 /// Adds the nodes and the justice sets of one step more, and makes room for its other entries. A refused one leaves the
 /// nodes that it added.
-fn prepare(
+fn add_nodes_and_reserve(
     lists: &mut CircuitLists,
     from: &CircuitView<'_>,
     images: &mut [AigEdge],
@@ -68,7 +68,7 @@ pub fn unroll(
     ensures err { OnErr result (lists_circuit lists.new ≡ lists_circuit lists.old) }
 {
     let start = lists.nodes.len();
-    match prepare(lists, from, images) {
+    match add_nodes_and_reserve(lists, from, images) {
         Ok(()) => {
             append_step(lists, from, images, start);
             Ok(())
@@ -98,7 +98,7 @@ pub fn unroll_to(circuit: &CircuitView<'_>, k: usize) -> Result<CircuitLists, Me
 
 /// Returns whether a circuit of so many nodes and latches has, with `k` steps more, at most `limit` nodes by the bound that
 /// `unroll_to` keeps. Exact for every `k` and `limit`.
-pub fn is_within(nodes: usize, latchs: usize, k: usize, limit: usize) -> bool
+pub fn is_size_within(nodes: usize, latchs: usize, k: usize, limit: usize) -> bool
     ensures { IsTrue result ↔ (size_by_counts nodes latchs k ≤ limit) }
 {
     let added = nodes.saturating_sub(1).saturating_sub(latchs);

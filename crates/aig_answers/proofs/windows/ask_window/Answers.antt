@@ -9,7 +9,7 @@ use Rattle.aig_answers.proofs.windows.ask_window.Goals as goal
 pub cnf-requires : goal.cnf-requires
 cnf-requires c =
     let form = c.args.form in
-    let low = within_told c.args.circuit (c.args.k + 1) c.args.limit _ _ _ c.num_nodes.ensures.value c.latchs.ensures.value c.is_within.ensures c.if-not-is_within.false in
+    let low = within_told c.args.circuit (c.args.k + 1) c.args.limit _ _ _ c.num_nodes.ensures.value c.latchs.ensures.value c.is_size_within.ensures c.if-not-is_size_within.false in
     let steps = subst (λ w. UnrollsTo w (c.args.k + 1) c.in_ok-unrolled.unrolled) c.in_ok-watch.ensures c.in_ok-unrolled.ensures.unrolls in
     omega (arith, low, steps.size, same_size form c.args.circuit (c.args.k + 1), c.requires.few)
 
@@ -31,7 +31,7 @@ tell_apart-requires-clause-states c =
 
 pub returns-clause-large : goal.returns-clause-large
 returns-clause-large c =
-    let low = within_told c.args.circuit (c.args.k + 1) c.args.limit _ _ _ c.num_nodes.ensures.value c.latchs.ensures.value c.is_within.ensures c.if-not-is_within.false in
+    let low = within_told c.args.circuit (c.args.k + 1) c.args.limit _ _ _ c.num_nodes.ensures.value c.latchs.ensures.value c.is_size_within.ensures c.if-not-is_size_within.false in
     (λ is. cc, λ high. absurd (omega (arith, low, high)))
 
 pub returns-clause-asks : goal.returns-clause-asks

@@ -5,12 +5,12 @@ use Rattle.aig_unroll.proofs.Stepped.{stepped_in_parts, stepped_is_circuit, step
 use Rattle.aig_unroll.proofs.steps.unroll.Goals as goal
 
 -- what both clauses stand on
-stepped : (c : goal.After-append_step) → CopiesAll c.args.from.now c.args.lists.now.latchs.items c.args.lists.now.nodes.items c.append_step.new.lists.nodes.items c.prepare.new.images × AppendsImages c.args.from.now (lists_circuit c.args.lists.now) c.prepare.new.images (lists_circuit c.append_step.new.lists)
+stepped : (c : goal.After-append_step) → CopiesAll c.args.from.now c.args.lists.now.latchs.items c.args.lists.now.nodes.items c.append_step.new.lists.nodes.items c.add_nodes_and_reserve.new.images × AppendsImages c.args.from.now (lists_circuit c.args.lists.now) c.add_nodes_and_reserve.new.images (lists_circuit c.append_step.new.lists)
 stepped c =
     let old = c.args.lists.now in
-    let mid = c.prepare.new.lists in
+    let mid = c.add_nodes_and_reserve.new.lists in
     let new = c.append_step.new.lists in
-    let images = c.prepare.new.images in
+    let images = c.add_nodes_and_reserve.new.images in
     let start : c.len-start.result ≡ length old.nodes.items = omega arith in
     let prepared : IsPrepared c.args.from.now old mid images = c.in-Ok.ensures.ok in
     let ensures = c.append_step.ensures in
@@ -18,7 +18,7 @@ stepped c =
     ensures.nodes ensures.inputs ensures.latchs ensures.outputs ensures.bads ensures.constraints (ap (map (λ set. set.items)) ensures.justice) ensures.fairness (ap (λ names. names_of names.entries) ensures.names)
 
 pub returns-in-Ok-clause-circuit : goal.returns-in-Ok-clause-circuit
-returns-in-Ok-clause-circuit c = stepped_is_circuit c.args.from.now (lists_circuit c.args.lists.now) (lists_circuit c.append_step.new.lists) c.prepare.new.images c.append_step.ensures.circuit c.requires.circuit (stepped c).0 (stepped c).1
+returns-in-Ok-clause-circuit c = stepped_is_circuit c.args.from.now (lists_circuit c.args.lists.now) (lists_circuit c.append_step.new.lists) c.add_nodes_and_reserve.new.images c.append_step.ensures.circuit c.requires.circuit (stepped c).0 (stepped c).1
 
 pub returns-in-Ok-clause-unrolls : goal.returns-in-Ok-clause-unrolls
-returns-in-Ok-clause-unrolls c = stepped_unrolls c.args.from.now (lists_circuit c.args.lists.now) (lists_circuit c.append_step.new.lists) c.prepare.new.images c.append_step.ensures.circuit c.requires.circuit (stepped c).0 (stepped c).1
+returns-in-Ok-clause-unrolls c = stepped_unrolls c.args.from.now (lists_circuit c.args.lists.now) (lists_circuit c.append_step.new.lists) c.add_nodes_and_reserve.new.images c.append_step.ensures.circuit c.requires.circuit (stepped c).0 (stepped c).1
