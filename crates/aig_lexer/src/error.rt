@@ -10,7 +10,7 @@ use aig_base::StreamFault;
 pub enum LexError {
     /// A read failed.
     Stream,
-    /// The bytes are misshapen, or the stream ended.
+    /// The bytes are malformed, or the stream ended.
     Shape,
 }
 

@@ -29,7 +29,7 @@ pub tested_line : {X Y : Type 0} (p : List ℕ → Option (Y × List ℕ)) (test
 tested_line p test IsOf P b m y (Ok x) h t f = (y, f x t.1, takes_tested p test b m y h t.0)
 tested_line p test IsOf P b m y (Err e) h t f = on_line-weaker e (test y ≡ false) (Misses (parse_if p test) b) (misses_test p test b m y h) t
 
--- a misshapen word, as a fault in a line
+-- a malformed word, as a fault in a line
 pub on_line-from_shape : (e : LexError) (P Q : Type 0) → (P → Q) → LexUnlessTransient e P → LineUnlessTransient (line_error_of e) Q
 on_line-from_shape lex.Stream P Q f h = tt
 on_line-from_shape lex.Shape P Q f h = f h

@@ -91,7 +91,7 @@ pub enum LineError {
     Memory,
     /// A read failed.
     Stream,
-    /// The line is misshapen, or the stream ended in it.
+    /// The line is malformed, or the stream ended in it.
     Syntax,
     /// A number is not a literal that may stand there.
     Literal,

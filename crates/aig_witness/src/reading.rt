@@ -152,7 +152,7 @@ fn read_after<F: ByteFeed>(alloc: Global, f: &mut F, first: u8) -> Result<Witnes
 ///
 /// # Errors
 ///
-/// `Status`, `Property` and `Values` name the first line that is misshapen or cut; `Stream` where a read failed; `Memory`.
+/// `Status`, `Property` and `Values` name the first line that is malformed or cut; `Stream` where a read failed; `Memory`.
 pub fn read_witness<F: ByteFeed>(alloc: Global, f: &mut F) -> Result<Option<Witness>, WitnessError>
     // A witness stands after comments in the bytes that were taken, whatever follows them; or these are comments alone, and
     // nothing follows; or known bytes are neither.
