@@ -20,7 +20,7 @@ use Rattle.aig_circuit.proofs.Trees.{kind_at-within}
 use Rattle.aig_format.specs.Writable.{HasLineFeed, IsWritable, list_lengths, named_nodes}
 use Rattle.aig_renumber.proofs.Circuits.{leaves-map}
 use Rattle.aig_renumber.proofs.Places.{Contains-map, Contains-map_back}
-use Rattle.aig_strash.specs.Exchange.{IsGate, representative_of, image_of, is_kept, kept_before, node_numbers}
+use Rattle.aig_strash.specs.Exchange.{IsGate, representative_of, image_of, is_representative, kept_before, node_numbers}
 use Rattle.aig_strash.specs.Strash.{KeepsRepresentatives, strashed}
 use Rattle.aig_strash.proofs.Keeping.{KeepsRepresentatives-strashed, NumbersRepresentatives-images}
 use Rattle.aig_strash.proofs.Merged.{MergesTrees-strashed}
@@ -97,8 +97,8 @@ module _ (c : Circuit) (is : IsCircuit c) (w : IsWritable c) where
     small = record {
       nodes =
           let count = keeps.count in
-          let kept = length-filter (is_kept c.nodes) (node_numbers c.nodes) in
-          let low = count_by-le-length (is_kept c.nodes) (node_numbers c.nodes) in
+          let kept = length-filter (is_representative c.nodes) (node_numbers c.nodes) in
+          let low = count_by-le-length (is_representative c.nodes) (node_numbers c.nodes) in
           let all = length-map c.nodes (λ (node : AigNode). node.node_id) in
           omega (arith, w.small.nodes);
       lists = subst (All (λ n. n < 2 ^ 32)) (sym as_long) w.small.lists;

@@ -6,7 +6,7 @@ use Rattle.std.specs.Option.{option_and_then}
 use Rattle.std.proofs.lemmas.List.Elements.{All-contains, All-from_recursion, All-weaker, recursion_from_All}
 use Rattle.aig_format.specs.File.{File, GateLine, LatchLine}
 use Rattle.aig_format.specs.Fits.{Fits, IsDefinable}
-use Rattle.aig_format.specs.Machine.{IsRun, IsInitial, IsStep, literal_value, start_of}
+use Rattle.aig_format.specs.Machine.{IsMachineRun, IsMachineInitial, IsStep, value_of_literal, initial_value_of}
 use Rattle.aig_format.specs.Variables.{IsKnown}
 use Rattle.aig_format.proofs.Circuits.{differ_from, differs_half, distinct_front, used_by_section}
 use Rattle.aig_format.proofs.Entries.{rec_both, rec_unmap, rec_weaker}
@@ -32,13 +32,13 @@ carried P xs ys within all =
 
 -- the gate's equation, that of the latch's next value, and that of its first one
 abbrev IsAnd : (ℕ → Bool) → GateLine → Type 0
-IsAnd v gate = v (gate.lhs / 2) ≡ literal_value v gate.rhs0 && literal_value v gate.rhs1
+IsAnd v gate = v (gate.lhs / 2) ≡ value_of_literal v gate.rhs0 && value_of_literal v gate.rhs1
 
 abbrev Follows : (ℕ → Bool) → (ℕ → Bool) → LatchLine → Type 0
-Follows v after l = after (l.literal / 2) ≡ literal_value v l.next
+Follows v after l = after (l.literal / 2) ≡ value_of_literal v l.next
 
 abbrev Starts : (ℕ → Bool) → LatchLine → Type 0
-Starts v l = IfSome (start_of l) (λ b. v (l.literal / 2) ≡ b)
+Starts v l = IfSome (initial_value_of l) (λ b. v (l.literal / 2) ≡ b)
 
 module _ (g f : File) (extends : Extends g f) where
   step_back : (values : ℕ → Bool) → IsStep g values → IsStep f values
@@ -47,7 +47,7 @@ module _ (g f : File) (extends : Extends g f) where
     gates = carried (IsAnd values) f.gates g.gates extends.gates is.gates;
   }
 
-  pub run_back : (last : ℕ) (run : ℕ → ℕ → Bool) → IsRun g last run → IsRun f last run
+  pub run_back : (last : ℕ) (run : ℕ → ℕ → Bool) → IsMachineRun g last run → IsMachineRun f last run
   run_back last run is = record {
     steps = λ t low. step_back (run t) (is.steps t low);
     moves = λ t low.
@@ -55,7 +55,7 @@ module _ (g f : File) (extends : Extends g f) where
         carried Next f.latches g.latches extends.latches (is.moves t low);
   }
 
-  pub start_back : (run : ℕ → ℕ → Bool) → IsInitial g run → IsInitial f run
+  pub start_back : (run : ℕ → ℕ → Bool) → IsMachineInitial g run → IsMachineInitial f run
   start_back run start = carried (Starts (run 0)) f.latches g.latches extends.latches start
 
 -- ---- latches by their variables
@@ -128,11 +128,11 @@ kept (Some first) b is = is
 kept None b is = refl
 
 module _ (g f : File) (bound limit : ℕ) (fits : Fits g bound) (fits_too : Fits f limit)
-    (extends : Extends g f) (last : ℕ) (run : ℕ → ℕ → Bool) (is : IsRun f last run)
-    (start : IsInitial f run) where
+    (extends : Extends g f) (last : ℕ) (run : ℕ → ℕ → Bool) (is : IsMachineRun f last run)
+    (start : IsMachineInitial f run) where
   -- what the variable's latch in g starts with, if it has one that starts with a value
   abbrev start_at : ℕ → Option Bool
-  start_at v = option_and_then start_of (latch_at g v)
+  start_at v = option_and_then initial_value_of (latch_at g v)
 
   -- the values of the run, and at step 0 those that latches start with
   abbrev given : ℕ → ℕ → Bool
@@ -143,7 +143,7 @@ module _ (g f : File) (bound limit : ℕ) (fits : Fits g bound) (fits_too : Fits
   abbrev other : ℕ → ℕ → Bool
   other = (given_run g bound last given fits).0
 
-  is_run : IsRun g last other
+  is_run : IsMachineRun g last other
   is_run = (given_run g bound last given fits).1
 
   agree : AgreeOnInputs g last given other
@@ -158,12 +158,12 @@ module _ (g f : File) (bound limit : ℕ) (fits : Fits g bound) (fits_too : Fits
       let Agrees = λ (l : LatchLine). given 0 (l.literal / 2) ≡ other 0 (l.literal / 2) in
       rec_both (IsFound g) Agrees g.latches (latches_found g bound fits) agree.latches
 
-  is_start : IsInitial g other
+  is_start : IsMachineInitial g other
   is_start =
       rec_weaker IsGiven (Starts (other 0))
       (λ l p.
       let v = l.literal / 2 in
-      let found : start_at v ≡ start_of l = ap (option_and_then start_of) p.0 in
+      let found : start_at v ≡ initial_value_of l = ap (option_and_then initial_value_of) p.0 in
       let starts = started (start_at v) (run 0 v) (other 0 v) p.1 in
       subst (λ o. IfSome o (λ b. other 0 v ≡ b)) found starts)
       g.latches latches_given
@@ -171,14 +171,14 @@ module _ (g f : File) (bound limit : ℕ) (fits : Fits g bound) (fits_too : Fits
   -- inputs have the run's values, and so have the latches of f at step 0
   given_input : (t e : ℕ) → IsMissed g e → run t (e / 2) ≡ given t (e / 2)
   given_input zero e none =
-      sym (ap (λ o. unwrap_or (option_and_then start_of o) (run 0 (e / 2))) none)
+      sym (ap (λ o. unwrap_or (option_and_then initial_value_of o) (run 0 (e / 2))) none)
   given_input (suc t) e none = refl
 
   given_latch : (l : LatchLine) → IsFound g l → Starts (run 0) l
       → run 0 (l.literal / 2) ≡ given 0 (l.literal / 2)
   given_latch l found starts =
       let b = run 0 (l.literal / 2) in
-      kept (start_of l) b starts ∙ sym (ap (λ o. unwrap_or (option_and_then start_of o) b) found)
+      kept (initial_value_of l) b starts ∙ sym (ap (λ o. unwrap_or (option_and_then initial_value_of o) b) found)
 
   agree_back : AgreeOnInputs f last run other
   agree_back = record {
@@ -201,7 +201,7 @@ module _ (g f : File) (bound limit : ℕ) (fits : Fits g bound) (fits_too : Fits
       let back = run_back g f extends last other is_run in
       agree_on_known f limit last fits_too run other is back agree_back
 
-  pub run_forth : (r : ℕ → ℕ → Bool) × IsRun g last r × IsInitial g r × AgreeOnKnown f last run r
+  pub run_forth : (r : ℕ → ℕ → Bool) × IsMachineRun g last r × IsMachineInitial g r × AgreeOnKnown f last run r
   run_forth = (other, is_run, is_start, agree_known)
 
 -- ---- safety
@@ -209,12 +209,12 @@ module _ (g f : File) (bound limit : ℕ) (fits : Fits g bound) (fits_too : Fits
 -- the literals of a run that agrees on what is known
 module _ (f : File) (limit : ℕ) (fits : Fits f limit) (last : ℕ) (run other : ℕ → ℕ → Bool)
     (agree : AgreeOnKnown f last run other) (t : ℕ) (low : t ≤ last) where
-  literal_alike : (e : ℕ) → IsKnown f e → literal_value (run t) e ≡ literal_value (other t) e
+  literal_alike : (e : ℕ) → IsKnown f e → value_of_literal (run t) e ≡ value_of_literal (other t) e
   literal_alike e known = ap (λ b. if e % 2 == 0 then b else not b) (agree t (e / 2) low known)
 
   constrained_alike : IsConstrained f (run t) → IsConstrained f (other t)
   constrained_alike holds =
-      let Holds = λ (v : ℕ → Bool) (e : ℕ). literal_value v e ≡ true in
+      let Holds = λ (v : ℕ → Bool) (e : ℕ). value_of_literal v e ≡ true in
       let known = (used_by_section (IsKnown f) f (used_known f limit fits)).constraints in
       rec_weaker (λ e. IsKnown f e × Holds (run t) e) (Holds (other t))
       (λ e p. sym (literal_alike e p.0) ∙ p.1) f.constraints
@@ -222,7 +222,7 @@ module _ (f : File) (limit : ℕ) (fits : Fits f limit) (last : ℕ) (run other 
 
   good_alike : IsGood f (other t) → IsGood f (run t)
   good_alike good =
-      let Fails = λ (v : ℕ → Bool) (e : ℕ). literal_value v e ≡ false in
+      let Fails = λ (v : ℕ → Bool) (e : ℕ). value_of_literal v e ≡ false in
       let known = (used_by_section (IsKnown f) f (used_known f limit fits)).bads in
       rec_weaker (λ e. IsKnown f e × Fails (other t) e) (Fails (run t))
       (λ e p. literal_alike e p.0 ∙ p.1) f.bads
@@ -249,7 +249,7 @@ pub listed_certificate : (g f : File) → Extends g f → All (Contains f.constr
 listed_certificate g f extends constraints bads = record {
   extends = extends;
   constraints = λ values step holds.
-      carried (λ e. literal_value values e ≡ true) g.constraints f.constraints constraints holds;
+      carried (λ e. value_of_literal values e ≡ true) g.constraints f.constraints constraints holds;
   good = λ values step holds good.
-      carried (λ e. literal_value values e ≡ false) f.bads g.bads bads good;
+      carried (λ e. value_of_literal values e ≡ false) f.bads g.bads bads good;
 }

@@ -2,7 +2,7 @@
 use Rattle.std.proofs.Common.{◌≡◌, ℕ, zero, suc, ◌+◌, ◌-◌, ◌<◌, ◌≤◌, Bool, subst, inl, inr, arith}
 use Rattle.std.proofs.lemmas.Bool.{cases_lt}
 use Rattle.aig_format.specs.File.{File}
-use Rattle.aig_format.specs.Machine.{IsRun, IsInitial, Moves}
+use Rattle.aig_format.specs.Machine.{IsMachineRun, IsMachineInitial, Moves}
 use Rattle.aig_runs.specs.Queries.{IsSafeTo}
 use Rattle.aig_runs.proofs.Safety.{run_cut}
 use Rattle.aig_certify.specs.declared.window.Window.{Window}
@@ -12,7 +12,7 @@ use Rattle.aig_certify.specs.Induction.{IsKInductive, IsSameState}
 use Rattle.aig_certify.proofs.Splicing.{repeats_or_not, spliced, spliced-after, spliced_each, spliced_run, spliced_start}
 
 -- the steps of a run from step s on
-window : (f : File) (last s k : ℕ) (run : ℕ → ℕ → Bool) → IsRun f last run → s + k ≤ last → IsRun f k (λ t. run (s + t))
+window : (f : File) (last s k : ℕ) (run : ℕ → ℕ → Bool) → IsMachineRun f last run → s + k ≤ last → IsMachineRun f k (λ t. run (s + t))
 window f last s k run is h = record {
   steps = λ t l. is.steps (s + t) (omega arith);
   moves = λ t l.
@@ -22,7 +22,7 @@ window f last s k run is h = record {
 
 module _ (f : File) (k : ℕ) (base : IsSafeTo f k) (step : IsKInductive Distinct f k) where
   -- no bad literal holds at the end of a run from an initial state, by induction over its length
-  good_at : (m n : ℕ) → n < m → (run : ℕ → ℕ → Bool) → IsRun f n run → IsInitial f run → ((t : ℕ) → t ≤ n → IsConstrained f (run t)) → IsGood f (run n)
+  good_at : (m n : ℕ) → n < m → (run : ℕ → ℕ → Bool) → IsMachineRun f n run → IsMachineInitial f run → ((t : ℕ) → t ≤ n → IsConstrained f (run t)) → IsGood f (run n)
   good_at zero n less run is start constraints = absurd (omega arith)
   good_at (suc m) n less run is start constraints = elim (cases_lt k n) [
     | inr small ↦ base n n run is start (omega arith) small constraints
@@ -47,7 +47,7 @@ module _ (f : File) (k : ℕ) (base : IsSafeTo f k) (step : IsKInductive Distinc
           let whole : n ≡ last + gap = omega arith in
           let far : n - (k + 1) + found.1 ≡ s + gap = omega arith in
           let same = subst (λ t. IsSameState f (run s) (run t)) far found.4 in
-          let long = subst (λ l. IsRun f l run) whole is in
+          let long = subst (λ l. IsMachineRun f l run) whole is in
           let held : (t : ℕ) → t ≤ last + gap → IsConstrained f (run t) = λ t low. constraints t (omega arith) in
           let good = good_at m last (omega arith) (spliced s gap run) (spliced_run s gap run f last long same) (spliced_start s gap run f last long same start) (spliced_each s gap run (IsConstrained f) last held) in
           let is_end = spliced-after s gap run last (omega arith) in

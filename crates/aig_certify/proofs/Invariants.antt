@@ -2,14 +2,14 @@
 -- bad is kept by each window of two steps.
 use Rattle.std.proofs.Common.{◌≡◌, ◌↔◌, ℕ, zero, suc, ◌+◌, ◌<◌, ◌≤◌, Bool, IsTrue, subst, arith}
 use Rattle.aig_format.specs.File.{File}
-use Rattle.aig_format.specs.Machine.{IsRun, IsInitial, IsStep, Moves}
+use Rattle.aig_format.specs.Machine.{IsMachineRun, IsMachineInitial, IsStep, Moves}
 use Rattle.aig_runs.specs.Queries.{IsSafeTo}
 use Rattle.aig_certify.specs.declared.window.Window.TheVariants.{Plain}
 use Rattle.aig_certify.specs.Induction.{IsKInductive, IsWindow}
 use Rattle.aig_certify.specs.Inductive.{IsInductive}
 use Rattle.aig_certify.specs.Safety.{IsConstrained, IsGood}
 
-module _ (f : File) (invariant : (ℕ → Bool) → Bool) (is : IsInductive f invariant) (last : ℕ) (run : ℕ → ℕ → Bool) (runs : IsRun f last run) (start : IsInitial f run) where
+module _ (f : File) (invariant : (ℕ → Bool) → Bool) (is : IsInductive f invariant) (last : ℕ) (run : ℕ → ℕ → Bool) (runs : IsMachineRun f last run) (start : IsMachineInitial f run) where
   holds_at : (t : ℕ) → t ≤ last → ((s : ℕ) → s ≤ t → IsConstrained f (run s)) → IsTrue (invariant (run t))
   holds_at zero low constraints = is.base (run 0) (runs.steps 0 low) start (constraints 0 (omega arith))
   holds_at (suc t) low constraints =
@@ -61,7 +61,7 @@ module _ (f : File) (invariant : (ℕ → Bool) → Bool)
   shown_by_windows base step = record {
     base = λ values is starting holds.
         let stays = λ (t : ℕ). values in
-        let run : IsRun f 0 stays = record {
+        let run : IsMachineRun f 0 stays = record {
           steps = λ t low. is;
           moves = λ t low. absurd (omega arith);
         } in

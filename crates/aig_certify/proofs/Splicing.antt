@@ -5,22 +5,22 @@ use Rattle.std.specs.List.{AllByRecursion}
 use Rattle.std.proofs.lemmas.Bool.{cases_lt}
 use Rattle.std.proofs.lemmas.Bool.Decides.{nat_tests}
 use Rattle.aig_format.specs.File.{File, LatchLine}
-use Rattle.aig_format.specs.Machine.{IsRun, IsInitial, IsStep, Moves, literal_value, start_of}
+use Rattle.aig_format.specs.Machine.{IsMachineRun, IsMachineInitial, IsStep, Moves, value_of_literal, initial_value_of}
 use Rattle.aig_certify.specs.Induction.{HasDistinctStates, IsSameState}
 
 -- ---- states
 
 -- what each latch has after a step, it has in the same state
 moves_alike : (values after other : ℕ → Bool) (ls : List LatchLine) → AllByRecursion (λ (l : LatchLine). after (l.literal / 2) ≡ other (l.literal / 2)) ls
-    → AllByRecursion (λ (l : LatchLine). after (l.literal / 2) ≡ literal_value values l.next) ls → AllByRecursion (λ (l : LatchLine). other (l.literal / 2) ≡ literal_value values l.next) ls
+    → AllByRecursion (λ (l : LatchLine). after (l.literal / 2) ≡ value_of_literal values l.next) ls → AllByRecursion (λ (l : LatchLine). other (l.literal / 2) ≡ value_of_literal values l.next) ls
 moves_alike values after other [] same moves = tt
 moves_alike values after other (l ∷ ls) same moves = (sym same.0 ∙ moves.0, moves_alike values after other ls same.1 moves.1)
 
 starts_alike : (values other : ℕ → Bool) (ls : List LatchLine) → AllByRecursion (λ (l : LatchLine). values (l.literal / 2) ≡ other (l.literal / 2)) ls
-    → AllByRecursion (λ (l : LatchLine). IfSome (start_of l) (λ b. values (l.literal / 2) ≡ b)) ls → AllByRecursion (λ (l : LatchLine). IfSome (start_of l) (λ b. other (l.literal / 2) ≡ b)) ls
+    → AllByRecursion (λ (l : LatchLine). IfSome (initial_value_of l) (λ b. values (l.literal / 2) ≡ b)) ls → AllByRecursion (λ (l : LatchLine). IfSome (initial_value_of l) (λ b. other (l.literal / 2) ≡ b)) ls
 starts_alike values other [] same start = tt
 starts_alike values other (l ∷ ls) same start =
-    (subst (λ v. IfSome (start_of l) (λ b. v ≡ b)) same.0 start.0, starts_alike values other ls same.1 start.1)
+    (subst (λ v. IfSome (initial_value_of l) (λ b. v ≡ b)) same.0 start.0, starts_alike values other ls same.1 start.1)
 
 same_bit : (a b : Bool) → (a ≡ b) ⊎ (¬ (a ≡ b))
 same_bit true true = inl refl
@@ -86,7 +86,7 @@ module _ (s gap : ℕ) (run : ℕ → ℕ → Bool) where
     | inr after ↦ subst P (sym (spliced-after t after)) (all (t + gap) (omega arith))
   ]
 
-  module _ (f : File) (last : ℕ) (is : IsRun f (last + gap) run) (same : IsSameState f (run s) (run (s + gap))) where
+  module _ (f : File) (last : ℕ) (is : IsMachineRun f (last + gap) run) (same : IsSameState f (run s) (run (s + gap))) where
     spliced_moves : (t : ℕ) → t < last → Moves f (spliced s gap run t) (spliced s gap run (t + 1))
     spliced_moves t h = elim (cases_lt (t + 1) s) [
       | inl before ↦
@@ -108,12 +108,12 @@ module _ (s gap : ℕ) (run : ℕ → ℕ → Bool) where
     ]
 
     -- a run, from an initial state where the run is from one
-    pub spliced_run : IsRun f last (spliced s gap run)
+    pub spliced_run : IsMachineRun f last (spliced s gap run)
     spliced_run = record { steps = spliced_each (IsStep f) last is.steps; moves = spliced_moves }
 
-    pub spliced_start : IsInitial f run → IsInitial f (spliced s gap run)
+    pub spliced_start : IsMachineInitial f run → IsMachineInitial f (spliced s gap run)
     spliced_start start =
-        let Starts = λ (values : ℕ → Bool). AllByRecursion (λ (l : LatchLine). IfSome (start_of l) (λ b. values (l.literal / 2) ≡ b)) f.latches in
+        let Starts = λ (values : ℕ → Bool). AllByRecursion (λ (l : LatchLine). IfSome (initial_value_of l) (λ b. values (l.literal / 2) ≡ b)) f.latches in
         elim (cases_lt 0 s) [
           | inl before ↦ subst Starts (sym (spliced-before 0 before)) start
           | inr after ↦ (

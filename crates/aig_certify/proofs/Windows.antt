@@ -20,7 +20,7 @@ use Rattle.aig_circuit.proofs.Trees.{kind_at-within}
 use Rattle.aig_cnf.specs.Cnf.{FixesRoots, IsFixed, NodeValuesSatisfy, edge_in}
 use Rattle.aig_format.specs.File.{File, LatchLine}
 use Rattle.aig_format.specs.Fits.{Fits}
-use Rattle.aig_format.specs.Machine.{IsRun, literal_value}
+use Rattle.aig_format.specs.Machine.{IsMachineRun, value_of_literal}
 use Rattle.aig_format.specs.Circuit.{circuit_of, edge_of, latch_of}
 use Rattle.aig_format.specs.Numbering.{node_of_variable}
 use Rattle.aig_format.specs.Variables.{IsKnown}
@@ -30,7 +30,7 @@ use Rattle.aig_format.proofs.Numbers.{used_known}
 use Rattle.aig_format_laws.specs.Nodes.{HasNodeValues}
 use Rattle.aig_format_laws.proofs.Joining.{forth_run, forth_values, latches_known, leaves_of, literal_is}
 use Rattle.aig_unroll.specs.Unroll.{HasStepValues, HasValuesAtSteps, UnrollsTo}
-use Rattle.aig_runs.specs.Circuits.{IsOneAssignment}
+use Rattle.aig_runs.specs.Circuits.{IsOneCircuitAssignment}
 use Rattle.aig_runs.specs.Queries.{last_bads, unit_clauses}
 use Rattle.aig_runs.proofs.CircuitRuns.{runs_are_assignments}
 use Rattle.aig_runs.proofs.Further.{Holds, clause_says, stand_all, stand_any, units_say}
@@ -109,10 +109,10 @@ module _ (f : File) (limit last : ℕ) (outputs : List AigEdge) (u : Circuit) (l
   fixed_in longer fixed holds = All-weaker (IsFixed u lists) (λ e. edge_in v e ≡ edge_value u.nodes v e) (λ e is. is v holds) longer fixed
 
   literals_stand : (entries : List ℕ) (longer : List AigEdge) → AllByRecursion (IsKnown f) entries → All (λ e. edge_in v e ≡ edge_value u.nodes v e) longer → HasValuesAtSteps last at (map (edge_of f) entries) (edge_value u.nodes v) longer
-      → HasValuesAtSteps last (λ t. literal_value (run t)) entries (edge_in v) longer
+      → HasValuesAtSteps last (λ t. value_of_literal (run t)) entries (edge_in v) longer
   literals_stand entries longer known same s =
       let old = λ (t e : ℕ). at t (edge_of f e) in
-      let first = λ (t : ℕ). literal_value (run t) in
+      let first = λ (t : ℕ). value_of_literal (run t) in
       let Keep = Keeps last old first (edge_in v) in
       stand_same last old first (edge_in v) entries longer (All-from_recursion Keep entries (rec_weaker (IsKnown f) Keep (λ e is t h. literal_is f last x run values t e h is) entries known))
       (stand_unmade (edge_of f) last at (edge_in v) entries longer (stand_other last at (edge_value u.nodes v) (edge_in v) (map (edge_of f) entries) longer same s))
@@ -177,11 +177,11 @@ watched_circuit Distinct c is = record {
 }
 
 module _ (f : File) (limit k : ℕ) (outputs : List AigEdge) (u : Circuit) (lists : List (List (List Lit))) (fits : Fits f limit) (is_circuit : IsCircuit (record (circuit_of f) { outputs = outputs }))
-    (unrolls : UnrollsTo (record (circuit_of f) { outputs = outputs }) (k + 1) u) (fixes : FixesRoots u lists) (satisfied : NodeValuesSatisfy u lists) (run : ℕ → ℕ → Bool) (is : IsRun f (k + 1) run) where
+    (unrolls : UnrollsTo (record (circuit_of f) { outputs = outputs }) (k + 1) u) (fixes : FixesRoots u lists) (satisfied : NodeValuesSatisfy u lists) (run : ℕ → ℕ → Bool) (is : IsMachineRun f (k + 1) run) where
   abbrev x : ℕ → ℕ → Bool
   x = leaves_of f run
 
-  abbrev one : IsOneAssignment (record (circuit_of f) { outputs = outputs }) u (k + 1) lists x
+  abbrev one : IsOneCircuitAssignment (record (circuit_of f) { outputs = outputs }) u (k + 1) lists x
   one = runs_are_assignments (record (circuit_of f) { outputs = outputs }) u (k + 1) lists is_circuit unrolls satisfied x (forth_run f limit (k + 1) run fits is)
 
   -- the run's values of all nodes
@@ -194,12 +194,12 @@ module _ (f : File) (limit k : ℕ) (outputs : List AigEdge) (u : Circuit) (list
   values : HasNodeValues f (k + 1) x run
   values = forth_values f limit (k + 1) run fits is
 
-  constraints_stand : HasValuesAtSteps (k + 1) (λ t. literal_value (run t)) f.constraints (edge_in v) u.constraints
+  constraints_stand : HasValuesAtSteps (k + 1) (λ t. value_of_literal (run t)) f.constraints (edge_in v) u.constraints
   constraints_stand =
       literals_stand f limit (k + 1) outputs u lists fits unrolls v x run values f.constraints u.constraints (used_by_section (IsKnown f) f (used_known f limit fits)).constraints
       (fixed_in f limit (k + 1) outputs u lists fits unrolls v x run values u.constraints fixes.constraints one.satisfies) shows.constraints
 
-  bads_stand : HasValuesAtSteps (k + 1) (λ t. literal_value (run t)) f.bads (edge_in v) u.bads
+  bads_stand : HasValuesAtSteps (k + 1) (λ t. value_of_literal (run t)) f.bads (edge_in v) u.bads
   bads_stand =
       literals_stand f limit (k + 1) outputs u lists fits unrolls v x run values f.bads u.bads (used_by_section (IsKnown f) f (used_known f limit fits)).bads
       (fixed_in f limit (k + 1) outputs u lists fits unrolls v x run values u.bads fixes.bads one.satisfies) shows.bads
@@ -210,10 +210,10 @@ module _ (f : File) (limit k : ℕ) (outputs : List AigEdge) (u : Circuit) (list
       (subst (λ es. HasValuesAtSteps (k + 1) (λ t. edge_value (circuit_of f).nodes (x t)) es (edge_value u.nodes v) u.outputs) are shows.outputs)
 
   -- the constraints hold, no bad literal does before the last step, and some does at it
-  module _ (constraints : (t : ℕ) → t ≤ k + 1 → IsConstrained f (run t)) (good : (t : ℕ) → t ≤ k → IsGood f (run t)) (bad : IsTrue (list_any (literal_value (run (k + 1))) f.bads)) where
+  module _ (constraints : (t : ℕ) → t ≤ k + 1 → IsConstrained f (run t)) (good : (t : ℕ) → t ≤ k → IsGood f (run t)) (bad : IsTrue (list_any (value_of_literal (run (k + 1))) f.bads)) where
     induction_hold : AllByRecursion (Holds v) (induction_clauses (circuit_of f) k u)
     induction_hold =
-        let value = λ (t : ℕ). literal_value (run t) in
+        let value = λ (t : ℕ). value_of_literal (run t) in
         let count : length (circuit_of f).bads ≡ length f.bads = length-map f.bads (edge_of f) in
         let early = take ((k + 1) * length (circuit_of f).bads) u.bads in
         let units = unit_clauses u.constraints in
@@ -272,7 +272,7 @@ module _ (f : File) (limit k : ℕ) (outputs : List AigEdge) (u : Circuit) (list
 
 -- a window with a bad literal at its end satisfies its clauses
 pub window_satisfies : (form : Window) (f : File) (limit k : ℕ) (optimize : Bool) (lists : List (List (List Lit))) (further : List (List Lit)) → Fits f limit → AsksWindow form (circuit_of f) k optimize lists further
-    → (run : ℕ → ℕ → Bool) → IsWindow form f k run → IsTrue (list_any (literal_value (run (k + 1))) f.bads) → IsSatisfiable (clauses_in lists ++ further)
+    → (run : ℕ → ℕ → Bool) → IsWindow form f k run → IsTrue (list_any (value_of_literal (run (k + 1))) f.bads) → IsSatisfiable (clauses_in lists ++ further)
 window_satisfies Plain f limit k optimize lists further fits asks run w bad =
     rw (asks.exact, asks.further_exact, append-nil (induction_clauses (circuit_of f) k asks.unrolled)) (plain_satisfiable f limit k (circuit_of f).outputs asks.unrolled asks.clauses fits (IsCircuit-of_file f limit fits) asks.steps asks.fixes asks.satisfied run w.is_run w.constraints w.good bad)
 window_satisfies Distinct f limit k optimize lists further fits asks run w bad =
@@ -283,4 +283,4 @@ window_satisfies Distinct f limit k optimize lists further fits asks run w bad =
 pub refuted_window : (form : Window) (f : File) (limit k : ℕ) (optimize : Bool) (lists : List (List (List Lit))) (further : List (List Lit)) → Fits f limit → AsksWindow form (circuit_of f) k optimize lists further
     → ¬ IsSatisfiable (clauses_in lists ++ further) → IsKInductive form f k
 refuted_window form f limit k optimize lists further fits asks none run w =
-    (any_none (literal_value (run (k + 1))) f.bads).0 (false_from_ne_true (list_any (literal_value (run (k + 1))) f.bads) (λ bad. none (window_satisfies form f limit k optimize lists further fits asks run w bad)))
+    (any_none (value_of_literal (run (k + 1))) f.bads).0 (false_from_ne_true (list_any (value_of_literal (run (k + 1))) f.bads) (λ bad. none (window_satisfies form f limit k optimize lists further fits asks run w bad)))

@@ -4,7 +4,7 @@
 use Rattle.std.specs.Prelude.{◌≡◌, ℕ, ◌+◌, ◌/◌, ◌<◌, ◌≤◌, Bool}
 use Rattle.std.specs.List.{AllByRecursion}
 use Rattle.aig_format.specs.File.{File}
-use Rattle.aig_format.specs.Machine.{IsRun}
+use Rattle.aig_format.specs.Machine.{IsMachineRun}
 use Rattle.aig_certify.specs.declared.window.Window.{Window}
 use Rattle.aig_certify.specs.declared.window.Window.TheVariants.{Plain, Distinct}
 use Rattle.aig_certify.specs.Safety.{IsConstrained, IsGood}
@@ -24,7 +24,7 @@ Regards Distinct f last run = HasDistinctStates f last run
 
 -- a run of k + 2 steps, from any state, at which the form looks, with every constraint at each step, and no bad literal at the steps 0 to k
 pub record IsWindow (form : Window) (f : File) (k : ℕ) (run : ℕ → ℕ → Bool) : Type 0 where
-  pub is_run : IsRun f (k + 1) run
+  pub is_run : IsMachineRun f (k + 1) run
   pub constraints : (t : ℕ) → t ≤ k + 1 → IsConstrained f (run t)
   pub good : (t : ℕ) → t ≤ k → IsGood f (run t)
   pub states : Regards form f (k + 1) run

@@ -4,12 +4,12 @@
 use Rattle.std.specs.Prelude.{◌≡◌, ℕ, ◌/◌, Bool, IfSome, IsTrue}
 use Rattle.std.specs.List.{AllByRecursion}
 use Rattle.aig_format.specs.File.{File}
-use Rattle.aig_format.specs.Machine.{IsStep, Moves, start_of}
+use Rattle.aig_format.specs.Machine.{IsStep, Moves, initial_value_of}
 use Rattle.aig_certify.specs.Safety.{IsConstrained, IsGood}
 
 -- each latch has the value that it starts with, where it has one
 abbrev pub IsStarting : File → (ℕ → Bool) → Type 0
-IsStarting f values = AllByRecursion (λ l. IfSome (start_of l) (λ b. values (l.literal / 2) ≡ b)) f.latches
+IsStarting f values = AllByRecursion (λ l. IfSome (initial_value_of l) (λ b. values (l.literal / 2) ≡ b)) f.latches
 
 -- the invariant, a test of valuations, as a literal of the file is
 pub record IsInductive (f : File) (invariant : (ℕ → Bool) → Bool) : Type 0 where

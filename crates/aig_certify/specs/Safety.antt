@@ -3,18 +3,18 @@
 use Rattle.std.specs.Prelude.{◌≡◌, ℕ, Bool, false, IsTrue}
 use Rattle.std.specs.List.{AllByRecursion}
 use Rattle.aig_format.specs.File.{File}
-use Rattle.aig_format.specs.Machine.{literal_value}
+use Rattle.aig_format.specs.Machine.{value_of_literal}
 use Rattle.aig_circuit.specs.Circuit.{Circuit}
 use Rattle.aig_runs.specs.CircuitQueries.{HasCircuitWitness}
 use Rattle.aig_runs.specs.Queries.{IsWitness}
 
 -- every constraint holds
 abbrev pub IsConstrained : File → (ℕ → Bool) → Type 0
-IsConstrained f values = AllByRecursion (λ e. IsTrue (literal_value values e)) f.constraints
+IsConstrained f values = AllByRecursion (λ e. IsTrue (value_of_literal values e)) f.constraints
 
 -- no bad literal holds
 abbrev pub IsGood : File → (ℕ → Bool) → Type 0
-IsGood f values = AllByRecursion (λ e. literal_value values e ≡ false) f.bads
+IsGood f values = AllByRecursion (λ e. value_of_literal values e ≡ false) f.bads
 
 -- no run of k + 1 steps from an initial state meets every constraint and, at step k, some bad literal
 abbrev pub IsSafeAt : File → ℕ → Type 0

@@ -7,7 +7,7 @@ ghost use Rattle.aig_circuit.specs.Circuit.{Circuit};
 ghost use Rattle.aig_format.specs.File.{File};
 ghost use Rattle.aig_format.specs.Circuit.{circuit_of};
 ghost use Rattle.aig_format.specs.Fits.{Fits};
-ghost use Rattle.aig_format.specs.Machine.{IsRun, IsInitial};
+ghost use Rattle.aig_format.specs.Machine.{IsMachineRun, IsMachineInitial};
 ghost use Rattle.aig_format_laws.specs.MachineRuns.{AgreeOnKnown};
 ghost use Rattle.aig_base.specs.Formula.{clauses_in, IsSatisfiable};
 ghost use Rattle.aig_runs.specs.Queries.{IsQueryOf, IsSafeTo};
@@ -93,12 +93,12 @@ pub fn refuted_windows_are_inductive()
 /// its own runs is one of the other.
 pub fn extended_files_have_runs()
     ensures forth { (g f : File) (bound limit last : ℕ) (run : ℕ → ℕ → Bool)
-        → Fits g bound → Fits f limit → Extends g f → IsRun f last run → IsInitial f run
-        → (r : ℕ → ℕ → Bool) × IsRun g last r × IsInitial g r × AgreeOnKnown f last run r }
+        → Fits g bound → Fits f limit → Extends g f → IsMachineRun f last run → IsMachineInitial f run
+        → (r : ℕ → ℕ → Bool) × IsMachineRun g last r × IsMachineInitial g r × AgreeOnKnown f last run r }
     ensures back { (g f : File) (last : ℕ) (run : ℕ → ℕ → Bool) → Extends g f
-        → IsRun g last run → IsRun f last run }
+        → IsMachineRun g last run → IsMachineRun f last run }
     ensures starts { (g f : File) (run : ℕ → ℕ → Bool) → Extends g f
-        → IsInitial g run → IsInitial f run }
+        → IsMachineInitial g run → IsMachineInitial f run }
 {}
 
 /// Law: a file is safe as far as its certificate is, and so at every step where the certificate is

@@ -17,7 +17,7 @@ pub record IsLatchBelow (size : ℕ) (latch : AigLatch) : Type 0 where
   pub init : IfSome latch.init (IsEdgeBelow size)
 
 -- each list but the sets has room for the other circuit's entries
-pub record HasRoom (lists : CircuitLists) (other : Circuit) : Type 0 where
+pub record HasRoomForCircuit (lists : CircuitLists) (other : Circuit) : Type 0 where
   pub nodes : vec_len lists.nodes + length other.nodes ≤ vec_capacity lists.nodes
   pub inputs : vec_len lists.inputs + length other.inputs ≤ vec_capacity lists.inputs
   pub latchs : vec_len lists.latchs + length other.latchs ≤ vec_capacity lists.latchs

@@ -6,7 +6,7 @@ ghost use Rattle.aig_circuit.specs.Circuit.{AreNodes};
 ghost use Rattle.aig_circuit.specs.Node.{IfAnd};
 ghost use Rattle.aig_circuit.specs.Renumber.{nodes_in_order, renumbered_edge, renumbered_kind, renumbered_latch};
 ghost use Rattle.aig_circuit.specs.View.{lists_circuit};
-ghost use Rattle.aig_change.specs.Append.{HasRoom, IsEdgeBelow, IsLatchBelow};
+ghost use Rattle.aig_change.specs.Append.{HasRoomForCircuit, IsEdgeBelow, IsLatchBelow};
 ghost use Rattle.aig_change.specs.Merge.{numbers_but_0, shifted};
 
 use aig_base::MemoryError;
@@ -36,7 +36,7 @@ fn edge(count: usize, size: usize, e: AigEdge) -> AigEdge
 /// Makes room for the entries of the other circuit, but for its sets and names.
 pub(crate) fn reserve(lists: &mut CircuitLists, other: &CircuitView<'_>) -> Result<(), MemoryError>
     ensures same { lists_circuit lists.new ≡ lists_circuit lists.old }
-    ensures room { IfOk result (λ _. HasRoom lists.new other.now) }
+    ensures room { IfOk result (λ _. HasRoomForCircuit lists.new other.now) }
 {
     lists.nodes.reserve(other.nodes().len())?;
     lists.inputs.reserve(other.inputs().len())?;

@@ -10,7 +10,7 @@ use Rattle.std.proofs.lemmas.Str.Parse.{IsNumeralModel, numerals_by_value, tells
 use Rattle.aig_base.specs.declared.logic.literal.Lit.{Lit}
 use Rattle.aig_base.specs.Clauses.{is_positive, variable_of}
 use Rattle.aig_dimacs.specs.Text.{sign_of}
-use Rattle.aig_dimacs.specs.Reading.{in_front, is_blank, number_in, signed_in, words_from}
+use Rattle.aig_dimacs.specs.Reading.{word_in_front, is_blank, number_in, signed_in, words_from}
 
 own : IsNumeralModel (λ ds. all_ascii_digits ds ≡ true) (digits_value 10)
 own = numerals_by_value _ tells_all_ascii_digits
@@ -29,18 +29,18 @@ digits_plain [] all = tt
 digits_plain (d ∷ ds) all = let h = tells_all_ascii_digits.parts d ds all in (plain d h.0.0, digits_plain ds h.1)
 
 -- a word, and the blank that ends it
-words_from-ended : (before word : List ℕ) (end : ℕ) (rest : List ℕ) → IsWord word → is_blank end ≡ true → words_from before (word ++ end ∷ rest) ≡ in_front (before ++ word) (words_from [] rest)
+words_from-ended : (before word : List ℕ) (end : ℕ) (rest : List ℕ) → IsWord word → is_blank end ≡ true → words_from before (word ++ end ∷ rest) ≡ word_in_front (before ++ word) (words_from [] rest)
 unfolding words_from
 words_from-ended before [] end rest all blank = rw (blank, append-nil before) refl
 words_from-ended before (b ∷ bs) end rest all blank =
-    rw all.0 (words_from-ended (before ++ b ∷ []) bs end rest all.1 blank ∙ ap (λ w. in_front w (words_from [] rest)) (append_assoc before (b ∷ []) bs))
+    rw all.0 (words_from-ended (before ++ b ∷ []) bs end rest all.1 blank ∙ ap (λ w. word_in_front w (words_from [] rest)) (append_assoc before (b ∷ []) bs))
 
-in_front-some : (word : List ℕ) (words : List (List ℕ)) → 0 < length word → in_front word words ≡ word ∷ words
-in_front-some [] words some = absurd (omega arith)
-in_front-some (b ∷ bs) words some = refl
+word_in_front-some : (word : List ℕ) (words : List (List ℕ)) → 0 < length word → word_in_front word words ≡ word ∷ words
+word_in_front-some [] words some = absurd (omega arith)
+word_in_front-some (b ∷ bs) words some = refl
 
 pub words_from-word : (word : List ℕ) (end : ℕ) (rest : List ℕ) → IsWord word → 0 < length word → is_blank end ≡ true → words_from [] (word ++ end ∷ rest) ≡ word ∷ words_from [] rest
-words_from-word word end rest all some blank = words_from-ended [] word end rest all blank ∙ in_front-some word (words_from [] rest) some
+words_from-word word end rest all some blank = words_from-ended [] word end rest all blank ∙ word_in_front-some word (words_from [] rest) some
 
 -- ---- numbers
 

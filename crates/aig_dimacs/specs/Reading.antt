@@ -12,14 +12,14 @@ abbrev pub is_blank : ℕ → Bool
 is_blank b = (b == 32) || (b == 10)
 
 -- a word in front of others, unless it is empty
-abbrev pub in_front : List ℕ → List (List ℕ) → List (List ℕ)
-in_front [] words = words
-in_front (b ∷ bs) words = (b ∷ bs) ∷ words
+abbrev pub word_in_front : List ℕ → List (List ℕ) → List (List ℕ)
+word_in_front [] words = words
+word_in_front (b ∷ bs) words = (b ∷ bs) ∷ words
 
 -- the words of bytes, of which the first begins with `word`
 unfoldable pub words_from : List ℕ → List ℕ → List (List ℕ)
-words_from word [] = in_front word []
-words_from word (b ∷ bs) = if is_blank b then in_front word (words_from [] bs) else words_from (word ++ b ∷ []) bs
+words_from word [] = word_in_front word []
+words_from word (b ∷ bs) = if is_blank b then word_in_front word (words_from [] bs) else words_from (word ++ b ∷ []) bs
 
 -- the number of a word, if it is digits
 abbrev pub number_in : List ℕ → Option ℕ

@@ -6,27 +6,27 @@ use Rattle.std.specs.List.{AllByRecursion}
 use Rattle.aig_format.specs.File.{LatchLine, File}
 
 -- the value of a literal, where each variable has one
-abbrev pub literal_value : (ℕ → Bool) → ℕ → Bool
-literal_value values e = if e % 2 == 0 then values (e / 2) else not (values (e / 2))
+abbrev pub value_of_literal : (ℕ → Bool) → ℕ → Bool
+value_of_literal values e = if e % 2 == 0 then values (e / 2) else not (values (e / 2))
 
 -- variable 0 is false, and each gate's variable is the conjunction of its two literals
 pub record IsStep (f : File) (values : ℕ → Bool) : Type 0 where
   pub zero : values 0 ≡ false
-  pub gates : AllByRecursion (λ g. values (g.lhs / 2) ≡ literal_value values g.rhs0 && literal_value values g.rhs1) f.gates
+  pub gates : AllByRecursion (λ g. values (g.lhs / 2) ≡ value_of_literal values g.rhs0 && value_of_literal values g.rhs1) f.gates
 
 -- each latch has the value that its next literal had
 abbrev pub Moves : File → (ℕ → Bool) → (ℕ → Bool) → Type 0
-Moves f values after = AllByRecursion (λ l. after (l.literal / 2) ≡ literal_value values l.next) f.latches
+Moves f values after = AllByRecursion (λ l. after (l.literal / 2) ≡ value_of_literal values l.next) f.latches
 
 -- a run of T + 1 steps
-pub record IsRun (f : File) (T : ℕ) (run : ℕ → ℕ → Bool) : Type 0 where
+pub record IsMachineRun (f : File) (T : ℕ) (run : ℕ → ℕ → Bool) : Type 0 where
   pub steps : (t : ℕ) → t ≤ T → IsStep f (run t)
   pub moves : (t : ℕ) → t < T → Moves f (run t) (run (t + 1))
 
 -- the value that a latch starts with, if it has one: a reset that is missing is 0, its own literal is none
-abbrev pub start_of : LatchLine → Option Bool
-start_of l = let r = unwrap_or l.reset 0 in if r == 0 then Some false else if r == 1 then Some true else None
+abbrev pub initial_value_of : LatchLine → Option Bool
+initial_value_of l = let r = unwrap_or l.reset 0 in if r == 0 then Some false else if r == 1 then Some true else None
 
 -- a run is from an initial state
-abbrev pub IsInitial : File → (ℕ → ℕ → Bool) → Type 0
-IsInitial f run = AllByRecursion (λ l. IfSome (start_of l) (λ b. run 0 (l.literal / 2) ≡ b)) f.latches
+abbrev pub IsMachineInitial : File → (ℕ → ℕ → Bool) → Type 0
+IsMachineInitial f run = AllByRecursion (λ l. IfSome (initial_value_of l) (λ b. run 0 (l.literal / 2) ≡ b)) f.latches

@@ -16,7 +16,7 @@ use Rattle.aig_format.specs.File.{LatchLine, GateLine, File}
 use Rattle.aig_format.specs.Variables.{is_known, IsKnown, gate_of_variable}
 use Rattle.aig_format.specs.Numbering.{node_of_variable}
 use Rattle.aig_format.specs.Fits.{Fits, IsDefinable}
-use Rattle.aig_format.specs.Machine.{literal_value, IsStep, Moves}
+use Rattle.aig_format.specs.Machine.{value_of_literal, IsStep, Moves}
 use Rattle.aig_format.specs.Machine as machine
 use Rattle.aig_format.specs.Circuit.{edge_of, kind_by, kind_of, latch_of, circuit_of}
 use Rattle.aig_format.proofs.Entries.{rec_weaker, rec_both, rec_parts, rec_unmap}
@@ -33,11 +33,11 @@ by_parity (suc zero) h b = refl
 by_parity (suc (suc r)) h b = absurd (omega arith)
 
 -- an edge has its literal's value where its node has its variable's
-pub edge_is : (f : File) (x values : ℕ → Bool) (e : ℕ) → node_value (nodes_of f) x (node_of_variable f (e / 2)) ≡ values (e / 2) → edge_value (nodes_of f) x (edge_of f e) ≡ literal_value values e
+pub edge_is : (f : File) (x values : ℕ → Bool) (e : ℕ) → node_value (nodes_of f) x (node_of_variable f (e / 2)) ≡ values (e / 2) → edge_value (nodes_of f) x (edge_of f e) ≡ value_of_literal values e
 edge_is f x values e h = ap (inverted_if (e % 2 == 1)) h ∙ by_parity (e % 2) (omega arith) (values (e / 2))
 
 -- so each literal of 0 or a defined variable has on a run the value of its edge
-pub literal_is : (f : File) (last : ℕ) (x run : ℕ → ℕ → Bool) → HasNodeValues f last x run → (t e : ℕ) → t ≤ last → IsKnown f e → edge_value (circuit_of f).nodes (x t) (edge_of f e) ≡ literal_value (run t) e
+pub literal_is : (f : File) (last : ℕ) (x run : ℕ → ℕ → Bool) → HasNodeValues f last x run → (t e : ℕ) → t ≤ last → IsKnown f e → edge_value (circuit_of f).nodes (x t) (edge_of f e) ≡ value_of_literal (run t) e
 literal_is f last x run same t e h known = edge_is f (x t) (run t) e (same t (e / 2) h known)
 
 -- ---- from the machine to the circuit
@@ -60,7 +60,7 @@ module _ (f : File) (limit : ℕ) (fits : Fits f limit) (values : ℕ → Bool) 
   has_value v known smaller (at_leaf z k) =
       node_value-leaf (nodes_of f) x (node_of_variable f v) (kind_at-number f limit fits v known ∙ ap Some k) ∙ ap values (variable_at-number f limit fits v known)
   has_value v known smaller (at_gate g found k) =
-      let s = find_some (λ (g : GateLine). values (g.lhs / 2) ≡ literal_value values g.rhs0 && literal_value values g.rhs1) (λ (i : GateLine). i.lhs / 2 == v) f.gates g step.gates found in
+      let s = find_some (λ (g : GateLine). values (g.lhs / 2) ≡ value_of_literal values g.rhs0 && value_of_literal values g.rhs1) (λ (i : GateLine). i.lhs / 2 == v) f.gates g step.gates found in
       let e : g.lhs / 2 ≡ v = eqb-true (g.lhs / 2) v s.0 in
       let operands = operands_known f limit fits v g found in
       let before = operands_before f limit fits v g found in
@@ -68,7 +68,7 @@ module _ (f : File) (limit : ℕ) (fits : Fits f limit) (values : ℕ → Bool) 
       let second = edge_is f x values g.rhs1 (smaller (g.rhs1 / 2) operands.1 before.1) in
       node_value-and_of (nodes_of f) (nodes-ordered f limit fits) x (node_of_variable f v) (edge_of f g.rhs0) (edge_of f g.rhs1) (kind_at-number f limit fits v known ∙ ap Some k)
       ∙ ap (λ b. b && edge_value (nodes_of f) x (edge_of f g.rhs1)) first
-      ∙ ap (λ b. literal_value values g.rhs0 && b) second
+      ∙ ap (λ b. value_of_literal values g.rhs0 && b) second
       ∙ sym s.1 ∙ ap values e
 
   -- the nodes have the variables' values
@@ -104,13 +104,13 @@ nexts_known f limit fits = rec_unmap (IsKnown f) (λ (l : LatchLine). l.next) f.
 abbrev pub leaves_of : File → (ℕ → ℕ → Bool) → ℕ → ℕ → Bool
 leaves_of f run t = leaf_values f (run t)
 
-pub forth_values : (f : File) (limit last : ℕ) (run : ℕ → ℕ → Bool) → Fits f limit → machine.IsRun f last run → HasNodeValues f last (leaves_of f run) run
+pub forth_values : (f : File) (limit last : ℕ) (run : ℕ → ℕ → Bool) → Fits f limit → machine.IsMachineRun f last run → HasNodeValues f last (leaves_of f run) run
 forth_values f limit last run fits r t v h known = values_at f limit fits (run t) (r.steps t h) v known
 
-pub forth_run : (f : File) (limit last : ℕ) (run : ℕ → ℕ → Bool) → Fits f limit → machine.IsRun f last run → IsRun (circuit_of f) last (leaves_of f run)
+pub forth_run : (f : File) (limit last : ℕ) (run : ℕ → ℕ → Bool) → Fits f limit → machine.IsMachineRun f last run → IsRun (circuit_of f) last (leaves_of f run)
 forth_run f limit last run fits r t h =
     let x = leaves_of f run in
-    let Moved = λ (l : LatchLine). run (t + 1) (l.literal / 2) ≡ literal_value (run t) l.next in
+    let Moved = λ (l : LatchLine). run (t + 1) (l.literal / 2) ≡ value_of_literal (run t) l.next in
     let Known = λ (l : LatchLine). IsKnown f l.literal × IsKnown f l.next in
     let To = λ (l : AigLatch). x (t + 1) l.input ≡ edge_value (nodes_of f) (x t) l.next in
     let known = rec_both (λ (l : LatchLine). IsKnown f l.literal) (λ (l : LatchLine). IsKnown f l.next) f.latches (latches_known f) (nexts_known f limit fits) in
@@ -147,14 +147,14 @@ kind_found f v g h is = ap (λ b. cond b False (kind_by f (gate_of_variable f v)
 -- a gate's node has the value of the and of its operands
 gate_step : (f : File) (limit : ℕ) → Fits f limit → (x : ℕ → Bool) (g : GateLine) → IsDefinable f.greatest g.lhs → IsKnown f g.lhs → gate_of_variable f (g.lhs / 2) ≡ Some g
     → (let values = λ (v : ℕ). node_value (nodes_of f) x (node_of_variable f v) in
-    values (g.lhs / 2) ≡ literal_value values g.rhs0 && literal_value values g.rhs1)
+    values (g.lhs / 2) ≡ value_of_literal values g.rhs0 && value_of_literal values g.rhs1)
 gate_step f limit fits x g d known is =
     let values = λ (v : ℕ). node_value (nodes_of f) x (node_of_variable f v) in
     let low = d.1 in
     let some : 1 ≤ g.lhs / 2 = omega arith in
     node_value-and_of (nodes_of f) (nodes-ordered f limit fits) x (node_of_variable f (g.lhs / 2)) (edge_of f g.rhs0) (edge_of f g.rhs1) (kind_at-number f limit fits (g.lhs / 2) known ∙ ap Some (kind_found f (g.lhs / 2) g some is))
     ∙ ap (λ b. b && edge_value (nodes_of f) x (edge_of f g.rhs1)) (edge_is f x values g.rhs0 refl)
-    ∙ ap (λ b. literal_value values g.rhs0 && b) (edge_is f x values g.rhs1 refl)
+    ∙ ap (λ b. value_of_literal values g.rhs0 && b) (edge_is f x values g.rhs1 refl)
 
 pub back_step : (f : File) (limit : ℕ) → Fits f limit → (x : ℕ → Bool) → IsStep f (λ v. node_value (nodes_of f) x (node_of_variable f v))
 back_step f limit fits x =
@@ -165,7 +165,7 @@ back_step f limit fits x =
     let definable = gates_definable f limit fits in
     let found = found_all (λ (g : GateLine). g.lhs) f.gates (rec_weaker Definable (λ (g : GateLine). g.lhs % 2 ≡ 0) (λ g d. d.0) f.gates definable) (later_distinct f limit fits).1 in record {
       zero = ap (node_value (nodes_of f) x) (node_of_variable-zero f) ∙ node_value-false (nodes_of f) x 0 (sym (ap (λ n. kind_at (nodes_of f) n) (node_of_variable-zero f)) ∙ kind_at-number f limit fits 0 refl);
-      gates = rec_weaker (λ g. (Definable g × Known g) × Found g) (λ (g : GateLine). values (g.lhs / 2) ≡ literal_value values g.rhs0 && literal_value values g.rhs1)
+      gates = rec_weaker (λ g. (Definable g × Known g) × Found g) (λ (g : GateLine). values (g.lhs / 2) ≡ value_of_literal values g.rhs0 && value_of_literal values g.rhs1)
           (λ g p. gate_step f limit fits x g p.0.0 p.0.1 p.1) f.gates (rec_both (λ g. Definable g × Known g) Found f.gates (rec_both Definable Known f.gates definable (gates_known f)) found);
     }
 
@@ -207,9 +207,9 @@ back_moves f limit last x fits r t h =
     let To = λ (l : AigLatch). x (t + 1) l.input ≡ edge_value (nodes_of f) (x t) l.next in
     let Goes = λ (l : LatchLine). To (latch_of f l) in
     let Is = λ (l : LatchLine). values_over f x (t + 1) (l.literal / 2) ≡ x (t + 1) (node_of_variable f (l.literal / 2)) in
-    rec_weaker (λ l. Is l × Goes l) (λ (l : LatchLine). values_over f x (t + 1) (l.literal / 2) ≡ literal_value (values_over f x t) l.next)
+    rec_weaker (λ l. Is l × Goes l) (λ (l : LatchLine). values_over f x (t + 1) (l.literal / 2) ≡ value_of_literal (values_over f x t) l.next)
     (λ l p. p.0 ∙ p.1 ∙ edge_is f (x t) (values_over f x t) l.next refl)
     f.latches (rec_both Is Goes f.latches (latch_values f limit fits (x (t + 1))) (all_unmap To (latch_of f) f.latches (r t h)))
 
-pub back_run : (f : File) (limit last : ℕ) (x : ℕ → ℕ → Bool) → Fits f limit → IsRun (circuit_of f) last x → machine.IsRun f last (values_over f x)
+pub back_run : (f : File) (limit last : ℕ) (x : ℕ → ℕ → Bool) → Fits f limit → IsRun (circuit_of f) last x → machine.IsMachineRun f last (values_over f x)
 back_run f limit last x fits r = record { steps = λ t h. back_step f limit fits (x t); moves = λ t h. back_moves f limit last x fits r t h }

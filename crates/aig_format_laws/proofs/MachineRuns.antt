@@ -11,7 +11,7 @@ use Rattle.aig_format.specs.File.{GateLine, LatchLine, File}
 use Rattle.aig_format.specs.Variables.{is_known, IsKnown}
 use Rattle.aig_format.specs.Numbering.{node_of_variable}
 use Rattle.aig_format.specs.Fits.{Fits, IsDefinable}
-use Rattle.aig_format.specs.Machine.{IsStep, literal_value}
+use Rattle.aig_format.specs.Machine.{IsStep, value_of_literal}
 use Rattle.aig_format.specs.Machine as machine
 use Rattle.aig_format.specs.Circuit.{circuit_of, edge_of, latch_of}
 use Rattle.aig_format.proofs.Entries.{rec_both, rec_unmap, rec_weaker}
@@ -27,7 +27,7 @@ use Rattle.aig_format_laws.proofs.Joining.{back_run, input_values, inputs_defina
 use Rattle.aig_format_laws.proofs.Leaves.{leaf_is}
 
 -- a literal has the same value where its variable has
-literal_same : (values other : ℕ → Bool) (e : ℕ) → values (e / 2) ≡ other (e / 2) → literal_value values e ≡ literal_value other e
+literal_same : (values other : ℕ → Bool) (e : ℕ) → values (e / 2) ≡ other (e / 2) → value_of_literal values e ≡ value_of_literal other e
 literal_same values other e h = ap (λ b. if e % 2 == 0 then b else not b) h
 
 -- ---- one step
@@ -36,7 +36,7 @@ module _ (f : File) (limit : ℕ) (fits : Fits f limit) (values other : ℕ → 
     (inputs : AllByRecursion (λ e. values (e / 2) ≡ other (e / 2)) f.inputs) (latches : AllByRecursion (λ (l : LatchLine). values (l.literal / 2) ≡ other (l.literal / 2)) f.latches) where
   -- the gate's equation
   abbrev Is : (ℕ → Bool) → GateLine → Type 0
-  Is v g = v (g.lhs / 2) ≡ literal_value v g.rhs0 && literal_value v g.rhs1
+  Is v g = v (g.lhs / 2) ≡ value_of_literal v g.rhs0 && value_of_literal v g.rhs1
 
   same_case : (v : ℕ) → is_known f v ≡ true → ((u : ℕ) → is_known f u ≡ true → node_of_variable f u < node_of_variable f v → values u ≡ other u) → VariableCase f v → values v ≡ other v
   same_case v known smaller (at_zero z k) = subst (λ u. values u ≡ other u) (sym z) (step.zero ∙ sym step_too.zero)
@@ -49,7 +49,7 @@ module _ (f : File) (limit : ℕ) (fits : Fits f limit) (values other : ℕ → 
       let first = literal_same values other g.rhs0 (smaller (g.rhs0 / 2) operands.0 before.0) in
       let second = literal_same values other g.rhs1 (smaller (g.rhs1 / 2) operands.1 before.1) in
       subst (λ u. values u ≡ other u) e
-      (s.1.0 ∙ ap (λ b. b && literal_value values g.rhs1) first ∙ ap (λ b. literal_value other g.rhs0 && b) second ∙ sym s.1.1)
+      (s.1.0 ∙ ap (λ b. b && value_of_literal values g.rhs1) first ∙ ap (λ b. value_of_literal other g.rhs0 && b) second ∙ sym s.1.1)
 
   -- the step's values agree on 0 and every defined variable
   same_step : (v : ℕ) → is_known f v ≡ true → values v ≡ other v
@@ -59,14 +59,14 @@ module _ (f : File) (limit : ℕ) (fits : Fits f limit) (values other : ℕ → 
 
 -- ---- all steps
 
-module _ (f : File) (limit last : ℕ) (fits : Fits f limit) (run other : ℕ → ℕ → Bool) (is : machine.IsRun f last run) (is_too : machine.IsRun f last other) (agree : AgreeOnInputs f last run other) where
+module _ (f : File) (limit last : ℕ) (fits : Fits f limit) (run other : ℕ → ℕ → Bool) (is : machine.IsMachineRun f last run) (is_too : machine.IsMachineRun f last other) (agree : AgreeOnInputs f last run other) where
   same_from : (t : ℕ) → t ≤ last → AllByRecursion (λ (l : LatchLine). run t (l.literal / 2) ≡ other t (l.literal / 2)) f.latches → (v : ℕ) → is_known f v ≡ true → run t v ≡ other t v
   same_from t h latches = same_step f limit fits (run t) (other t) (is.steps t h) (is_too.steps t h) (agree.inputs t h) latches
 
   latches_same : (t : ℕ) → t ≤ last → AllByRecursion (λ (l : LatchLine). run t (l.literal / 2) ≡ other t (l.literal / 2)) f.latches
   latches_same zero h = agree.latches
   latches_same (suc t) h =
-      let To = λ (r : ℕ → ℕ → Bool) (l : LatchLine). r (t + 1) (l.literal / 2) ≡ literal_value (r t) l.next in
+      let To = λ (r : ℕ → ℕ → Bool) (l : LatchLine). r (t + 1) (l.literal / 2) ≡ value_of_literal (r t) l.next in
       let less : t < last = omega arith in
       let low : t ≤ last = omega arith in
       let next : t + 1 ≡ suc t = omega arith in
@@ -160,7 +160,7 @@ module _ (f : File) (limit : ℕ) (fits : Fits f limit) (given : ℕ → ℕ →
   }
 
 -- given values of the inputs at each step and of the latches at step 0 are met by a run
-pub given_run : (f : File) (limit last : ℕ) (given : ℕ → ℕ → Bool) → Fits f limit → (run : ℕ → ℕ → Bool) × machine.IsRun f last run × AgreeOnInputs f last given run
+pub given_run : (f : File) (limit last : ℕ) (given : ℕ → ℕ → Bool) → Fits f limit → (run : ℕ → ℕ → Bool) × machine.IsMachineRun f last run × AgreeOnInputs f last given run
 given_run f limit last given fits =
     let x = leaf_run f limit fits given in
     (values_over f x, back_run f limit last x fits (is_leaf_run f limit fits given last), agrees f limit fits given last)

@@ -54,14 +54,14 @@ module _ (nodes : List AigNode) (x : ℕ → Bool) (zero_false : kind_at nodes 0
       let large : nat_lt (suc (suc r)) 2 ≡ false = grind (arith, nat_tests) in
       none_says (suc (suc r) == 0) (suc (suc r) == 1) (nat_lt (suc (suc r)) 2) (suc (suc r) == 1) (ne_eqb (suc (suc r)) 0 (λ e. absurd (omega arith))) (ne_eqb (suc (suc r)) 1 (λ e. absurd (omega arith))) large
 
-pub starts_agree : (f : File) (limit last : ℕ) (x run : ℕ → ℕ → Bool) → Fits f limit → HasNodeValues f last x run → machine.IsInitial f run ↔ IsInitial (circuit_of f) (x 0)
+pub starts_agree : (f : File) (limit last : ℕ) (x run : ℕ → ℕ → Bool) → Fits f limit → HasNodeValues f last x run → machine.IsMachineInitial f run ↔ IsInitial (circuit_of f) (x 0)
 starts_agree f limit last x run fits same = (forth, back)
   where
     c_nodes : List AigNode
     c_nodes = (circuit_of f).nodes
 
     Starts : LatchLine → Type 0
-    Starts l = IfSome (machine.start_of l) (λ b. run 0 (l.literal / 2) ≡ b)
+    Starts l = IfSome (machine.initial_value_of l) (λ b. run 0 (l.literal / 2) ≡ b)
 
     Begins : AigLatch → Type 0
     Begins latch = IfSome latch.init (λ e. edge_value (circuit_of f).nodes (x 0) e ≡ x 0 latch.input)
@@ -81,11 +81,11 @@ starts_agree f limit last x run fits same = (forth, back)
         by_reset (circuit_of f).nodes (x 0) (IsCircuit-of_file f limit fits).nodes.false_first (run 0 (l.literal / 2)) (x 0 (node_of_variable f (l.literal / 2)))
         (sym (same 0 (l.literal / 2) none k.0) ∙ node_value-leaf (circuit_of f).nodes (x 0) (node_of_variable f (l.literal / 2)) k.1) (unwrap_or l.reset 0)
 
-    forth : machine.IsInitial f run → IsInitial (circuit_of f) (x 0)
+    forth : machine.IsMachineInitial f run → IsInitial (circuit_of f) (x 0)
     forth start = All-from_recursion Begins (circuit_of f).latchs ((rec_map Begins (latch_of f) f.latches).1
         (rec_weaker (λ (l : LatchLine). Known l × Starts l) (λ (l : LatchLine). Begins (latch_of f l)) (λ l p. (each l p.0).0 p.1) f.latches (rec_both Known Starts f.latches known start)))
 
-    back : IsInitial (circuit_of f) (x 0) → machine.IsInitial f run
+    back : IsInitial (circuit_of f) (x 0) → machine.IsMachineInitial f run
     back start =
         let begins = rec_unmap Begins (latch_of f) f.latches (recursion_from_All Begins (circuit_of f).latchs start) in
         rec_weaker (λ (l : LatchLine). Known l × Begins (latch_of f l)) Starts (λ l p. (each l p.0).1 p.1) f.latches (rec_both Known (λ (l : LatchLine). Begins (latch_of f l)) f.latches known begins)

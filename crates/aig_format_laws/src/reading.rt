@@ -9,7 +9,7 @@ ghost use Rattle.aig_format.specs.File.{File, used};
 ghost use Rattle.aig_format.specs.Fits.{Accepts, Fits};
 ghost use Rattle.aig_format.specs.Circuit.{circuit_of, edge_of};
 ghost use Rattle.aig_format.specs.Machine as machine;
-ghost use Rattle.aig_format.specs.Machine.{literal_value};
+ghost use Rattle.aig_format.specs.Machine.{value_of_literal};
 ghost use Rattle.aig_format.specs.Variables.{IsKnown};
 ghost use Rattle.aig_format.specs.Writable.{AreTexts, IsWritable};
 ghost use Rattle.aig_format_laws.specs.MachineRuns.{AgreeOnInputs, AgreeOnKnown};
@@ -32,25 +32,25 @@ pub fn files_are_circuits()
 /// literal has the value of its edge.
 pub fn joins_runs()
     ensures forth { (f : File) (limit last : ℕ) (run : ℕ → ℕ → Bool)
-        → Fits f limit → machine.IsRun f last run
+        → Fits f limit → machine.IsMachineRun f last run
         → (x : ℕ → ℕ → Bool) × IsRun (circuit_of f) last x × HasNodeValues f last x run }
     ensures back { (f : File) (limit last : ℕ) (x : ℕ → ℕ → Bool)
         → Fits f limit → IsRun (circuit_of f) last x
-        → machine.IsRun f last (values_over f x) }
+        → machine.IsMachineRun f last (values_over f x) }
     ensures starts { (f : File) (limit last : ℕ) (x run : ℕ → ℕ → Bool)
         → Fits f limit → HasNodeValues f last x run
-        → machine.IsInitial f run ↔ IsInitial (circuit_of f) (x 0) }
+        → machine.IsMachineInitial f run ↔ IsInitial (circuit_of f) (x 0) }
     ensures literals { (f : File) (last : ℕ) (x run : ℕ → ℕ → Bool) → HasNodeValues f last x run
         → (t e : ℕ) → t ≤ last → IsKnown f e
-        → edge_value (circuit_of f).nodes (x t) (edge_of f e) ≡ literal_value (run t) e }
+        → edge_value (circuit_of f).nodes (x t) (edge_of f e) ≡ value_of_literal (run t) e }
 {}
 
 /// Law: the values of the inputs at each step and of the latches at step 0 determine a run of a file's machine, and all such
 /// values have a run.
 pub fn inputs_determine_runs()
     ensures one { (f : File) (limit last : ℕ) (run other : ℕ → ℕ → Bool) → Fits f limit
-        → machine.IsRun f last run → machine.IsRun f last other
+        → machine.IsMachineRun f last run → machine.IsMachineRun f last other
         → AgreeOnInputs f last run other → AgreeOnKnown f last run other }
     ensures each { (f : File) (limit last : ℕ) (given : ℕ → ℕ → Bool) → Fits f limit
-        → (run : ℕ → ℕ → Bool) × machine.IsRun f last run × AgreeOnInputs f last given run }
+        → (run : ℕ → ℕ → Bool) × machine.IsMachineRun f last run × AgreeOnInputs f last given run }
 {}

@@ -20,7 +20,7 @@ use Rattle.aig_format.proofs.Entries.{rec_parts, rec_unmap, rec_weaker}
 use Rattle.aig_format.proofs.Searches.{find_some, find_none}
 use Rattle.aig_format.proofs.Members.{length-numbers}
 use Rattle.aig_format.proofs.Levels.{level_of-gate, level_of-leaf, level_of-operands, levelled}
-use Rattle.aig_ordering.specs.Lists.{edge_from, kind_of_line, kind_among, node_from, nodes_in_row, nodes_of}
+use Rattle.aig_ordering.specs.Lists.{edge_from, kind_of_line, kind_among, node_from, nodes_in_row, nodes_of_variables}
 use Rattle.aig_ordering.specs.Tables.{AreNodesOf, HasOperands, all_have_levels, entry_value}
 use Rattle.aig_ordering.specs.Search.{Descends}
 
@@ -61,7 +61,7 @@ get_at_row gates (suc n) w zero h = let e : w ≡ w + 0 = omega arith in ap (λ 
 get_at_row gates (suc n) w (suc i) h = let e : w + 1 + i ≡ w + suc i = omega arith in get_at_row gates n (w + 1) i (omega arith) ∙ ap (λ v. Some (node_from gates v)) e
 
 -- what a variable is
-pub kind_at-variable : (greatest v : ℕ) (gates : List GateLine) → v ≤ greatest → kind_at (nodes_of greatest gates) v ≡ Some (kind_among gates v)
+pub kind_at-variable : (greatest v : ℕ) (gates : List GateLine) → v ≤ greatest → kind_at (nodes_of_variables greatest gates) v ≡ Some (kind_among gates v)
 kind_at-variable greatest v gates h = let e : 0 + v ≡ v = omega arith in ap (λ (o : Option AigNode). option_map (λ (node : AigNode). node.typ) o) (get_at_row gates (greatest + 1) 0 v (omega arith)) ∙ ap (λ u. Some (kind_among gates u)) e
 
 -- ---- gates

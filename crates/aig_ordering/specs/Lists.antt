@@ -14,16 +14,16 @@ use Rattle.aig_format.specs.Numbering.{numbers_from}
 use Rattle.aig_format.specs.Circuit.{initial_of}
 
 -- a literal's variable
-abbrev pub variable_of : ℕ → ℕ
-variable_of e = e / 2
+abbrev pub variable_of_literal : ℕ → ℕ
+variable_of_literal e = e / 2
 
 -- a literal's edge
 abbrev pub edge_from : ℕ → AigEdge
 edge_from e = edge_to (e / 2) (e % 2 == 1)
 
 -- a latch
-abbrev pub latch_from : LatchLine → AigLatch
-latch_from l = record { input = l.literal / 2; next = edge_from l.next; init = initial_of l }
+abbrev pub latch_of_line : LatchLine → AigLatch
+latch_of_line l = record { input = l.literal / 2; next = edge_from l.next; init = initial_of l }
 
 -- a gate is the and of its operands, put in order; a variable that no gate defines is a leaf
 abbrev pub kind_of_line : Option GateLine → AigNodeType
@@ -43,5 +43,5 @@ abbrev pub nodes_in_row : List GateLine → ℕ → ℕ → List AigNode
 nodes_in_row gates n v = map (node_from gates) (numbers_from n v)
 
 -- the nodes of the variables 0 to the greatest
-abbrev pub nodes_of : ℕ → List GateLine → List AigNode
-nodes_of greatest gates = nodes_in_row gates (greatest + 1) 0
+abbrev pub nodes_of_variables : ℕ → List GateLine → List AigNode
+nodes_of_variables greatest gates = nodes_in_row gates (greatest + 1) 0

@@ -47,9 +47,9 @@ node_of n Leaf = record { node_id = n; typ = Leaf }
 node_of n (And a b) = record { node_id = n; typ = And a b }
 
 -- nodes of these kinds, numbered from n on
-abbrev pub numbered : ℕ → List AigNodeType → List AigNode
-numbered n [] = []
-numbered n (kind ∷ kinds) = node_of n kind ∷ numbered (n + 1) kinds
+abbrev pub nodes_numbered_from : ℕ → List AigNodeType → List AigNode
+nodes_numbered_from n [] = []
+nodes_numbered_from n (kind ∷ kinds) = node_of n kind ∷ nodes_numbered_from (n + 1) kinds
 
 -- what was made of the images of all entries, or a refusal where some entry has none
 abbrev pub MakesAll : {X Y : Type 0} → (X → Y) → Option Y → Result X OrderError → Type 0

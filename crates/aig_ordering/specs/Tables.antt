@@ -9,7 +9,7 @@ use Rattle.aig_format.specs.Levels.{has_level, level_of}
 use Rattle.aig_format.specs.Fits.{IsDefinable}
 use Rattle.aig_ordering.specs.declared.error.OrderError.{OrderError}
 use Rattle.aig_ordering.specs.declared.error.OrderError.TheVariants.{Memory, Variable}
-use Rattle.aig_ordering.specs.Lists.{nodes_of}
+use Rattle.aig_ordering.specs.Lists.{nodes_of_variables}
 
 -- both operands are literals of variables up to the greatest
 abbrev pub HasOperands : ℕ → GateLine → Type 0
@@ -17,7 +17,7 @@ HasOperands greatest g = (g.rhs0 ≤ 2 * greatest + 1) × (g.rhs1 ≤ 2 * greate
 
 -- the nodes of the file's variables, each at the place of its variable; what the lines define is definable and leaves room
 pub record AreNodesOf (f : File) (nodes : List AigNode) : Type 0 where
-  pub placed : nodes ≡ nodes_of f.greatest f.gates
+  pub placed : nodes ≡ nodes_of_variables f.greatest f.gates
   pub definable : AllByRecursion (IsDefinable f.greatest) (defined f)
   pub operands : AllByRecursion (HasOperands f.greatest) f.gates
   pub few : length f.gates ≤ f.greatest

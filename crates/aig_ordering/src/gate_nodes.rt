@@ -2,7 +2,7 @@
 
 ghost use Rattle.std.specs.Prelude.{◌≡◌, [], ◌∷◌, ◌++◌, option_map, vec_len};
 ghost use Rattle.aig_ordering.specs.Gates.{kind_of_operands, nodes_in};
-ghost use Rattle.aig_ordering.specs.Numbers.{MakesAll, all_by, kind_by_numbers, node_of, number_at, numbered};
+ghost use Rattle.aig_ordering.specs.Numbers.{MakesAll, all_by, kind_by_numbers, node_of, number_at, nodes_numbered_from};
 
 use crate::error::OrderError;
 use crate::gates::{Operands, edge_of};
@@ -43,7 +43,7 @@ pub fn nodes(
     gates: &[Option<Operands>],
 ) -> Result<Vec<AigNode>, OrderError>
     ensures { MakesAll (λ new. new.items)
-        (option_map (numbered 0)
+        (option_map (nodes_numbered_from 0)
         (all_by (λ node. kind_by_numbers (number_at numbers.now) node.typ) (nodes_in gates.now))) result }
 {
     let mut new = Vec::with_capacity(alloc, gates.len())?;

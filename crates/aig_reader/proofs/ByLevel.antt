@@ -32,9 +32,9 @@ use Rattle.aig_format.proofs.Searches.{find_some}
 use Rattle.aig_parsing.proofs.Guards.{Decides-list_all}
 use Rattle.aig_ordering.specs.Lists as lists
 use Rattle.aig_format.specs.Circuit as of_file
-use Rattle.aig_ordering.specs.Lists.{edge_from, kind_among, latch_from, nodes_of, variable_of}
+use Rattle.aig_ordering.specs.Lists.{edge_from, kind_among, latch_of_line, nodes_of_variables, variable_of_literal}
 use Rattle.aig_ordering.specs.Tables.{entry_value}
-use Rattle.aig_ordering.specs.Numbers.{all_by, edge_by, kind_by_numbers, latch_by, node_of, number_at, place_in, numbered}
+use Rattle.aig_ordering.specs.Numbers.{all_by, edge_by, kind_by_numbers, latch_by, node_of, number_at, place_in, nodes_numbered_from}
 use Rattle.aig_ordering.proofs.Tables.{kind_at-variable}
 use Rattle.aig_reader.specs.Numbered.{AreNumbersOf, have_operands, knows}
 use Rattle.aig_reader.specs.Sections.{HasGoodLines}
@@ -151,9 +151,9 @@ module _ (f : File) (table : List ℕ) (are : AreNumbersOf f table) where
       rec_parts (IsKnown f) f.inputs literals (rec_parts (IsKnown f) (f.inputs ++ literals) (map (λ (g : GateLine). g.lhs) f.gates) (defined_known f)).0
 
   -- inputs all have numbers
-  pub inputs_are : all_by number (map variable_of f.inputs) ≡ Some (map (λ e. node_of_variable f (e / 2)) f.inputs)
+  pub inputs_are : all_by number (map variable_of_literal f.inputs) ≡ Some (map (λ e. node_of_variable f (e / 2)) f.inputs)
   inputs_are =
-      images number variable_of (λ _. true) (λ e. node_of_variable f (e / 2)) f.inputs
+      images number variable_of_literal (λ _. true) (λ e. node_of_variable f (e / 2)) f.inputs
       (rec_weaker (IsKnown f) (λ e. number (e / 2) ≡ Some (node_of_variable f (e / 2))) (λ e known. are (e / 2) ∙ ap (λ b. cond b (Some (node_of_variable f (e / 2))) None) known) f.inputs leaves_known.0)
       ∙ ap (λ b. cond b (Some (map (λ e. node_of_variable f (e / 2)) f.inputs)) None) (always f.inputs)
     where
@@ -164,7 +164,7 @@ module _ (f : File) (table : List ℕ) (are : AreNumbersOf f table) where
   abbrev knows_next : LatchLine → Bool
   knows_next l = is_known f (l.next / 2)
 
-  latch_is : (l : LatchLine) → IsKnown f l.literal → latch_by number (latch_from l) ≡ cond (knows_next l) (Some (latch_of f l)) None
+  latch_is : (l : LatchLine) → IsKnown f l.literal → latch_by number (latch_of_line l) ≡ cond (knows_next l) (Some (latch_of f l)) None
   latch_is l known =
       let made = λ (n : ℕ) (e : AigEdge). let latch : AigLatch = record { input = n; next = e; init = initial_of l } in latch in
       ap (λ (o : Option ℕ). option_and_then (λ n. option_map (made n) (edge_by number (edge_from l.next))) o) (are (l.literal / 2) ∙ ap (λ b. cond b (Some (node_of_variable f (l.literal / 2))) None) known)
@@ -178,10 +178,10 @@ module _ (f : File) (table : List ℕ) (are : AreNumbersOf f table) where
   nexts_known [] = refl
   nexts_known (l ∷ ls) = ap (λ b. knows_next l && b) (nexts_known ls)
 
-  pub latches_are : all_by (latch_by number) (map latch_from f.latches) ≡ cond (knows f (map (λ (l : LatchLine). l.next) f.latches)) (Some (map (latch_of f) f.latches)) None
+  pub latches_are : all_by (latch_by number) (map latch_of_line f.latches) ≡ cond (knows f (map (λ (l : LatchLine). l.next) f.latches)) (Some (map (latch_of f) f.latches)) None
   latches_are =
-      images (latch_by number) latch_from knows_next (latch_of f) f.latches
-      (rec_weaker (λ (l : LatchLine). IsKnown f l.literal) (λ l. latch_by number (latch_from l) ≡ cond (knows_next l) (Some (latch_of f l)) None) latch_is f.latches (rec_unmap (IsKnown f) (λ (l : LatchLine). l.literal) f.latches leaves_known.1))
+      images (latch_by number) latch_of_line knows_next (latch_of f) f.latches
+      (rec_weaker (λ (l : LatchLine). IsKnown f l.literal) (λ l. latch_by number (latch_of_line l) ≡ cond (knows_next l) (Some (latch_of f l)) None) latch_is f.latches (rec_unmap (IsKnown f) (λ (l : LatchLine). l.literal) f.latches leaves_known.1))
       ∙ ap (λ b. cond b (Some (map (latch_of f) f.latches)) None) (nexts_known f.latches)
 
   -- ---- nodes
@@ -250,11 +250,11 @@ module _ (f : File) (table : List ℕ) (are : AreNumbersOf f table) where
       by_gate None is = absurd cc
       by_gate (Some g) is = and_of-not_false (edge_of f g.rhs0) (edge_of f g.rhs1) is
 
-  numbered_is : (n : ℕ) (vs : List ℕ) → AllByRecursion (λ v. 1 ≤ v) vs → numbered n (map (kind_of f) vs) ≡ nodes_from f n vs
+  numbered_is : (n : ℕ) (vs : List ℕ) → AllByRecursion (λ v. 1 ≤ v) vs → nodes_numbered_from n (map (kind_of f) vs) ≡ nodes_from f n vs
   numbered_is n [] all = refl
   numbered_is n (v ∷ vs) all =
       let made : AigNode = record { node_id = n; typ = kind_of f v } in
-      ap (λ (node : AigNode). node ∷ numbered (n + 1) (map (kind_of f) vs)) (node_is n (kind_of f v) (not_false v all.0)) ∙ ap (λ (nodes : List AigNode). made ∷ nodes) (numbered_is (n + 1) vs all.1)
+      ap (λ (node : AigNode). node ∷ nodes_numbered_from (n + 1) (map (kind_of f) vs)) (node_is n (kind_of f v) (not_false v all.0)) ∙ ap (λ (nodes : List AigNode). made ∷ nodes) (numbered_is (n + 1) vs all.1)
 
   module _ (good : HasGoodLines f) (well_founded : is_compact f ≡ false) (levels : list_all (has_level f) f.gates ≡ true) where
     abbrev in_order : List ℕ
@@ -310,13 +310,13 @@ module _ (f : File) (table : List ℕ) (are : AreNumbersOf f table) where
         by_tests false false kinds gates = kinds ∙ sym gates
 
     -- the nodes of the order
-    pub nodes_are : (old : List AigNode) → old ≡ nodes_of f.greatest f.gates
-        → option_map (numbered 0) (all_by (λ v. option_and_then (kind_by_numbers number) (kind_at old v)) in_order) ≡ cond (have_operands f) (Some (circuit_of f).nodes) None
+    pub nodes_are : (old : List AigNode) → old ≡ nodes_of_variables f.greatest f.gates
+        → option_map (nodes_numbered_from 0) (all_by (λ v. option_and_then (kind_by_numbers number) (kind_at old v)) in_order) ≡ cond (have_operands f) (Some (circuit_of f).nodes) None
     nodes_are old placed =
-        ap (λ (vs : List ℕ). option_map (numbered 0) (all_by image vs)) (sym (map_id in_order))
-        ∙ ap (λ (o : Option (List AigNodeType)). option_map (numbered 0) o)
+        ap (λ (vs : List ℕ). option_map (nodes_numbered_from 0) (all_by image vs)) (sym (map_id in_order))
+        ∙ ap (λ (o : Option (List AigNodeType)). option_map (nodes_numbered_from 0) o)
         (images image (λ v. v) kind_known (kind_of f) in_order (rec_weaker (λ v. is_known f v ≡ true) (λ v. image v ≡ cond (kind_known v) (Some (kind_of f v)) None) at_known in_order (order_known f good well_founded levels)))
-        ∙ ap (λ b. option_map (numbered 0) (cond b (Some (map (kind_of f) in_order)) None)) kinds_known
+        ∙ ap (λ b. option_map (nodes_numbered_from 0) (cond b (Some (map (kind_of f) in_order)) None)) kinds_known
         ∙ by_test (have_operands f)
       where
         image : ℕ → Option AigNodeType
@@ -327,11 +327,11 @@ module _ (f : File) (table : List ℕ) (are : AreNumbersOf f table) where
             ap (λ (ns : List AigNode). option_and_then (kind_by_numbers number) (kind_at ns v)) placed
             ∙ ap (λ (o : Option AigNodeType). option_and_then (kind_by_numbers number) o) (kind_at-variable f.greatest v f.gates (within f good well_founded levels v known)) ∙ kind_is v
 
-        all_nodes : numbered 0 (map (kind_of f) in_order) ≡ (circuit_of f).nodes
+        all_nodes : nodes_numbered_from 0 (map (kind_of f) in_order) ≡ (circuit_of f).nodes
         all_nodes =
             ap (λ (nodes : List AigNode). node_of 0 (kind_of f 0) ∷ nodes) (numbered_is 1 (variables_by_level f) (some-by_level f))
             ∙ ap (λ (vs : List ℕ). nodes_from f 0 vs) (order_is f good well_founded levels)
 
-        by_test : (b : Bool) → option_map (numbered 0) (cond b (Some (map (kind_of f) in_order)) None) ≡ cond b (Some (circuit_of f).nodes) None
+        by_test : (b : Bool) → option_map (nodes_numbered_from 0) (cond b (Some (map (kind_of f) in_order)) None) ≡ cond b (Some (circuit_of f).nodes) None
         by_test true = ap Some all_nodes
         by_test false = refl

@@ -25,7 +25,7 @@ use Rattle.aig_format.proofs.Entries.{rec_both, rec_flat_map, rec_parts, rec_unm
 use Rattle.aig_format.proofs.Numbers.{node_of_variable-compact, node_of_variable-zero, order-compact}
 use Rattle.aig_format.proofs.Compact.{compact-told}
 use Rattle.aig_format.proofs.Searches.{find_some}
-use Rattle.aig_ordering.specs.Lists.{edge_from, kind_of_line, kind_among, latch_from, nodes_in_row, nodes_of, variable_of}
+use Rattle.aig_ordering.specs.Lists.{edge_from, kind_of_line, kind_among, latch_of_line, nodes_in_row, nodes_of_variables, variable_of_literal}
 use Rattle.aig_reader.specs.Names.{kept_name, kept_names}
 use Rattle.aig_reader.specs.declared.sections.Sections.{Sections}
 use Rattle.aig_reader.specs.Numbered.{IsCircuitOf}
@@ -56,7 +56,7 @@ module _ (f : File) (good : HasGoodLines f) (compact : is_compact f ≡ true) wh
       let literals = map (λ (l : LatchLine). l.literal) f.latches in
       rec_parts IsWithin f.inputs literals (rec_parts IsWithin (f.inputs ++ literals) (map (λ (g : GateLine). g.lhs) f.gates) defined_within).0
 
-  number_is : (e : ℕ) → IsWithin e → variable_of e ≡ node_of_variable f (e / 2)
+  number_is : (e : ℕ) → IsWithin e → variable_of_literal e ≡ node_of_variable f (e / 2)
   number_is e h = sym (node_of_variable-compact f compact (e / 2) h)
 
   edge_is : (e : ℕ) → IsWithin e → edge_from e ≡ edge_of f e
@@ -70,16 +70,16 @@ module _ (f : File) (good : HasGoodLines f) (compact : is_compact f ≡ true) wh
   sets_are [] all = refl
   sets_are (es ∷ sets) all = let p = rec_parts IsWithin es (flat_map (λ s. s) sets) all in rw (edges_are es p.0, sets_are sets p.1) refl
 
-  numbers_are : (es : List ℕ) → AllByRecursion IsWithin es → map variable_of es ≡ map (λ e. node_of_variable f (e / 2)) es
+  numbers_are : (es : List ℕ) → AllByRecursion IsWithin es → map variable_of_literal es ≡ map (λ e. node_of_variable f (e / 2)) es
   numbers_are [] all = refl
-  numbers_are (e ∷ es) all = ap (λ n. n ∷ map variable_of es) (number_is e all.0) ∙ ap (λ (ns : List ℕ). node_of_variable f (e / 2) ∷ ns) (numbers_are es all.1)
+  numbers_are (e ∷ es) all = ap (λ n. n ∷ map variable_of_literal es) (number_is e all.0) ∙ ap (λ (ns : List ℕ). node_of_variable f (e / 2) ∷ ns) (numbers_are es all.1)
 
-  latches_are : (ls : List LatchLine) → AllByRecursion (λ (l : LatchLine). IsWithin l.literal × IsWithin l.next) ls → map latch_from ls ≡ map (latch_of f) ls
+  latches_are : (ls : List LatchLine) → AllByRecursion (λ (l : LatchLine). IsWithin l.literal × IsWithin l.next) ls → map latch_of_line ls ≡ map (latch_of f) ls
   latches_are [] all = refl
   latches_are (l ∷ ls) all =
       let made = λ (n : ℕ) (e : AigEdge). let latch : AigLatch = record { input = n; next = e; init = initial_of l } in latch in
-      ap (λ n. made n (edge_from l.next) ∷ map latch_from ls) (number_is l.literal all.0.0)
-      ∙ ap (λ e. made (node_of_variable f (l.literal / 2)) e ∷ map latch_from ls) (edge_is l.next all.0.1)
+      ap (λ n. made n (edge_from l.next) ∷ map latch_of_line ls) (number_is l.literal all.0.0)
+      ∙ ap (λ e. made (node_of_variable f (l.literal / 2)) e ∷ map latch_of_line ls) (edge_is l.next all.0.1)
       ∙ ap (λ (latches : List AigLatch). latch_of f l ∷ latches) (latches_are ls all.1)
 
   latches_within : AllByRecursion (λ (l : LatchLine). IsWithin l.literal × IsWithin l.next) f.latches
@@ -110,14 +110,14 @@ module _ (f : File) (good : HasGoodLines f) (compact : is_compact f ≡ true) wh
       ap (λ k. made k ∷ nodes_in_row f.gates n (v + 1)) (kind_is v) ∙ ap (λ (nodes : List AigNode). made (kind_of f v) ∷ nodes) (nodes_are n (v + 1))
 
   -- the nodes by variable are the circuit's
-  nodes_same : nodes_of f.greatest f.gates ≡ (circuit_of f).nodes
+  nodes_same : nodes_of_variables f.greatest f.gates ≡ (circuit_of f).nodes
   nodes_same =
       let n : f.greatest + 1 ≡ suc f.greatest = omega arith in
       let exact = (compact-told f compact).exact in
       ap (λ k. nodes_in_row f.gates k 0) n ∙ nodes_are (suc f.greatest) 0 ∙ ap (λ vs. nodes_from f 0 (0 ∷ vs)) (ap (λ n. numbers_from n 1) exact ∙ sym (order-compact f compact))
 
   -- the sections by variable are the file's circuit
-  pub compact_circuit : (sections : Sections) → AreListsByVariable sections.lists f → sections.nodes.items ≡ nodes_of f.greatest f.gates → IsCircuitOf f sections
+  pub compact_circuit : (sections : Sections) → AreListsByVariable sections.lists f → sections.nodes.items ≡ nodes_of_variables f.greatest f.gates → IsCircuitOf f sections
   compact_circuit sections h placed = λ names.
       let p = h.properties in
       let used = sections_within in

@@ -17,7 +17,7 @@ use Rattle.aig_format.specs.Letters.{count_of, is_kept}
 use Rattle.aig_reader.specs.contracts.names.section.NamedSection.{the_type}
 use Rattle.aig_reader.specs.declared.names.place.Place.{Place}
 use Rattle.aig_reader.specs.Names.{kept_name, kept_names}
-use Rattle.aig_reader.specs.NamedSections.{letter_of}
+use Rattle.aig_reader.specs.NamedSections.{letter_of_section}
 use Rattle.aig_reader.specs.NameSteps.{node_at, with_name}
 use Rattle.aig_reader.proofs.NameLines.{name_line, is_taken}
 use Rattle.aig_reader.proofs.NamedSections.{same_letters}
@@ -35,11 +35,11 @@ or_last false true = refl
 or_last false false = refl
 
 -- one more place is taken
-pub taken_more : (names : List NameLine) (place q : Place) (name : List ℕ) → cond (same_spot place q) true (is_taken names (letter_of q.section) q.position) ≡ is_taken (names ++ name_line (letter_of place.section) place.position name ∷ []) (letter_of q.section) q.position
+pub taken_more : (names : List NameLine) (place q : Place) (name : List ℕ) → cond (same_spot place q) true (is_taken names (letter_of_section q.section) q.position) ≡ is_taken (names ++ name_line (letter_of_section place.section) place.position name ∷ []) (letter_of_section q.section) q.position
 taken_more names place q name =
-    let line = name_line (letter_of place.section) place.position name in
-    let wanted = name_line (letter_of q.section) q.position [] in
-    let taken = is_taken names (letter_of q.section) q.position in
+    let line = name_line (letter_of_section place.section) place.position name in
+    let wanted = name_line (letter_of_section q.section) q.position [] in
+    let taken = is_taken names (letter_of_section q.section) q.position in
     ap (λ t. cond (t && nat_eq place.position q.position) true taken) (same_letters place.section q.section) ∙ or_last (same_place line wanted) taken
     ∙ sym (list_any-append (λ m. same_place m wanted) names (line ∷ []))
 

@@ -5,7 +5,7 @@ use Rattle.aig_format.specs.Spells.{is_letter}
 use Rattle.aig_reader.specs.contracts.names.section.NamedSection.{the_type}
 use Rattle.aig_reader.specs.declared.names.section.NamedSection.{NamedSection}
 use Rattle.aig_reader.specs.declared.names.section.NamedSection.TheVariants as sections
-use Rattle.aig_reader.specs.NamedSections.{letter_of}
+use Rattle.aig_reader.specs.NamedSections.{letter_of_section}
 
 -- what holds of each section holds of every one
 every : (P : NamedSection → Type 0) → P sections.Inputs → P sections.Latches → P sections.Outputs → P sections.Bads → P sections.Constraints → P sections.Justice → P sections.Fairness → (section : NamedSection) → P section
@@ -17,12 +17,12 @@ every P i l o b c j f sections.Constraints = c
 every P i l o b c j f sections.Justice = j
 every P i l o b c j f sections.Fairness = f
 
-pub is_letter_of : (section : NamedSection) → is_letter (letter_of section) ≡ true
-is_letter_of = every (λ section. is_letter (letter_of section) ≡ true) refl refl refl refl refl refl refl
+pub is_letter_of : (section : NamedSection) → is_letter (letter_of_section section) ≡ true
+is_letter_of = every (λ section. is_letter (letter_of_section section) ≡ true) refl refl refl refl refl refl refl
 
 -- the test of two sections is that of their letters
 abbrev TestsLetters : NamedSection → NamedSection → Type 0
-TestsLetters a b = sameb the_type a b ≡ eqb (letter_of a) (letter_of b)
+TestsLetters a b = sameb the_type a b ≡ eqb (letter_of_section a) (letter_of_section b)
 
 pub same_letters : (a b : NamedSection) → TestsLetters a b
 same_letters sections.Inputs = every (TestsLetters sections.Inputs) refl refl refl refl refl refl refl

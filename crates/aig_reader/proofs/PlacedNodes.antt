@@ -11,7 +11,7 @@ use Rattle.aig_circuit.specs.Node.{and_of}
 use Rattle.aig_format.specs.File.{GateLine}
 use Rattle.aig_format.proofs.Entries.{rec_append, rec_unmap, rec_weaker}
 use Rattle.aig_format.proofs.Searches.{find_none}
-use Rattle.aig_ordering.specs.Lists.{edge_from, kind_of_line, kind_among, node_from, nodes_in_row, nodes_of}
+use Rattle.aig_ordering.specs.Lists.{edge_from, kind_of_line, kind_among, node_from, nodes_in_row, nodes_of_variables}
 use Rattle.aig_reader.specs.Gates.{AreFirstNodes, gate_node_of, literals_of}
 use Rattle.aig_reader.specs.Variables.{IsNewAmong}
 
@@ -73,7 +73,7 @@ module _ (gates : List GateLine) (g : GateLine) where
 -- ---- the nodes so far
 
 -- the nodes up to the greatest are all
-pub first_all : (greatest : ℕ) (gates : List GateLine) (nodes : List AigNode) → AreFirstNodes gates nodes → length nodes ≡ greatest + 1 → nodes ≡ nodes_of greatest gates
+pub first_all : (greatest : ℕ) (gates : List GateLine) (nodes : List AigNode) → AreFirstNodes gates nodes → length nodes ≡ greatest + 1 → nodes ≡ nodes_of_variables greatest gates
 first_all greatest gates nodes h all = h.placed ∙ ap (λ (n : ℕ). nodes_in_row gates n 0) all
 
 -- one more node is that of the number after them

@@ -15,7 +15,7 @@ use Rattle.aig_lexer.specs.Takes.{Takes, Misses}
 use Rattle.aig_reader.specs.declared.names.place.Place.{Place}
 use Rattle.aig_reader.specs.declared.names.section.NamedSection.{NamedSection}
 use Rattle.aig_reader.specs.Names.{tail_of, kept_names}
-use Rattle.aig_reader.specs.NamedSections.{letter_of}
+use Rattle.aig_reader.specs.NamedSections.{letter_of_section}
 use Rattle.aig_reader.specs.NameSteps.{NameStarts, IsNoTail, node_at, with_name}
 use Rattle.aig_reader.proofs.NameLines.{name_line, is_taken, place_at, name_text_at, line_at, line_without_place, line_with_place, line_of_taken, line_without_name, line_with_name}
 use Rattle.aig_reader.proofs.Tails.{TailGoes, tail_begins, tail_goes, tail_wrong, tail_ends, wrong_start, wrong_line}
@@ -41,7 +41,7 @@ pub record SoFar (ns : HeaderNumbers) (inputs leaves : List ℕ) (before now : O
   pub names : List NameLine
   pub goes : TailGoes ns before names now
   pub all_within : AllByRecursion (IsWithin ns) names
-  pub places : (q : Place) → has q ≡ is_taken names (letter_of q.section) q.position
+  pub places : (q : Place) → has q ≡ is_taken names (letter_of_section q.section) q.position
   pub entries : kept ≡ kept_names inputs leaves names
 
 -- the bytes that were to come are read as no names
@@ -54,7 +54,7 @@ pub record LineStart (now mid : Option (List ℕ)) (letter first : ℕ) : Type 0
   pub no_comment : is_comment (letter ∷ first ∷ []) ≡ false
   pub taken : Consumes now mid (letter ∷ first ∷ [])
 
-pub start_of_line : (now mid : Option (List ℕ)) (o : Option (NamedSection × ℕ)) (section : NamedSection) (first : ℕ) → NameStarts now mid (Ok o) → o ≡ Some (section, first) → LineStart now mid (letter_of section) first
+pub start_of_line : (now mid : Option (List ℕ)) (o : Option (NamedSection × ℕ)) (section : NamedSection) (first : ℕ) → NameStarts now mid (Ok o) → o ≡ Some (section, first) → LineStart now mid (letter_of_section section) first
 start_of_line now mid o section first h is = let k = subst (λ (o : Option (NamedSection × ℕ)). NameStarts now mid (Ok o)) is h in record { is = is_letter_of section; no_comment = k.0; taken = k.1 }
 
 pub start_of_end : (now mid : Option (List ℕ)) (o : Option (NamedSection × ℕ)) → NameStarts now mid (Ok o) → o ≡ None → (taken : List ℕ) × (is_comment taken ≡ true) × Consumes now mid taken
@@ -77,16 +77,16 @@ module _ (ns : HeaderNumbers) (inputs leaves : List ℕ) (before now : Option (L
   pub place_refused : (mid : Option (List ℕ)) (l b : ℕ) → SoFar ns inputs leaves before now has kept → LineStart now mid l b → Misses (place_at ns l b) mid → IsRefused ns before
   place_refused mid l b s f k = line_refused mid l b s f (line_without_place ns s.names now mid l b f.is f.taken k)
 
-  module _ (mid rest : Option (List ℕ)) (l b : ℕ) (place : Place) (same : letter_of place.section ≡ l) (s : SoFar ns inputs leaves before now has kept) (f : LineStart now mid l b) (p : Takes (place_at ns l b) mid rest place.position) where
+  module _ (mid rest : Option (List ℕ)) (l b : ℕ) (place : Place) (same : letter_of_section place.section ≡ l) (s : SoFar ns inputs leaves before now has kept) (f : LineStart now mid l b) (p : Takes (place_at ns l b) mid rest place.position) where
     is_at : (t : Bool) → has place ≡ t → is_taken s.names l place.position ≡ t
     is_at t h = ap (λ k. is_taken s.names k place.position) (sym same) ∙ sym (s.places place) ∙ h
 
     pub repeated_refused : has place ≡ true → IsRefused ns before
     repeated_refused h = line_refused mid l b s f (line_of_taken ns s.names now rest l place.position (line_with_place ns s.names now mid l b f.is f.taken rest place.position p) (is_at true h))
 
-    module _ (node : Option ℕ) (named : node ≡ node_at inputs leaves (letter_of place.section) place.position) (free : has place ≡ false) where
+    module _ (node : Option ℕ) (named : node ≡ node_at inputs leaves (letter_of_section place.section) place.position) (free : has place ≡ false) where
       kept_letter : is_some node ≡ is_kept l
-      kept_letter = ap (λ (o : Option ℕ). is_some o) named ∙ node_is_kept inputs leaves (letter_of place.section) place.position ∙ ap is_kept same
+      kept_letter = ap (λ (o : Option ℕ). is_some o) named ∙ node_is_kept inputs leaves (letter_of_section place.section) place.position ∙ ap is_kept same
 
       pub name_refused : Misses (name_text_at (is_some node)) rest → IsRefused ns before
       name_refused k =
@@ -97,7 +97,7 @@ module _ (ns : HeaderNumbers) (inputs leaves : List ℕ) (before now : Option (L
         pub name_read : (later : Option (List ℕ)) (name : List ℕ) (now_has : Place → Bool) (now_kept : FinMap nat_cmp (List ℕ)) → Takes (name_text_at (is_some node)) rest later name
             → ((q : Place) → now_has q ≡ cond (same_spot place q) true (has q)) → now_kept ≡ with_name node name kept → SoFar ns inputs leaves before later now_has now_kept
         name_read later name now_has now_kept k adds keeps =
-            let letter = letter_of place.section in
+            let letter = letter_of_section place.section in
             let n = place.position in
             let within : n < count_of ns letter = within_section ns n l letter (takes_within ns mid rest l b n p) (sym same) in
             let line : Takes (line_at ns s.names) now later (name_line l n name) =

@@ -9,7 +9,7 @@ use Rattle.aig_parsing.specs.Parse.{is_comment, parse_name, parse_ended}
 use Rattle.aig_lexer.specs.declared.error.LexError.{LexError}
 use Rattle.aig_lexer.specs.Faults.{LexUnlessTransient}
 use Rattle.aig_reader.specs.declared.names.section.NamedSection.{NamedSection}
-use Rattle.aig_reader.specs.NamedSections.{letter_of}
+use Rattle.aig_reader.specs.NamedSections.{letter_of_section}
 
 -- neither a comment nor a name
 pub record IsNoTail (bytes : List ℕ) : Type 0 where
@@ -19,7 +19,7 @@ pub record IsNoTail (bytes : List ℕ) : Type 0 where
 -- a comment that went to the end was taken, or of what is none a section's letter and the byte after it, or the bytes are neither comment nor name
 abbrev pub NameStarts : Option (List ℕ) → Option (List ℕ) → Result (Option (NamedSection × ℕ)) LexError → Type 0
 NameStarts before after (Ok None) = (taken : List ℕ) × (is_comment taken ≡ true) × Consumes before after taken
-NameStarts before after (Ok (Some x)) = let start = letter_of x.0 ∷ x.1 ∷ [] in (is_comment start ≡ false) × Consumes before after start
+NameStarts before after (Ok (Some x)) = let start = letter_of_section x.0 ∷ x.1 ∷ [] in (is_comment start ≡ false) × Consumes before after start
 NameStarts before after (Err e) = LexUnlessTransient e (IfSome before IsNoTail)
 
 -- a number that a space ends, whose first byte came before

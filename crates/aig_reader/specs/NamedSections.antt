@@ -15,5 +15,5 @@ mark sections.Justice = codes "j"
 mark sections.Fairness = codes "f"
 
 -- the letter of a section
-abbrev pub letter_of : NamedSection → ℕ
-letter_of section = slice_index (mark section) 0
+abbrev pub letter_of_section : NamedSection → ℕ
+letter_of_section section = slice_index (mark section) 0

@@ -12,7 +12,7 @@ use Rattle.aig_format.specs.Numbering.{is_compact}
 use Rattle.aig_parsing.specs.Parse.{Parts, file_from, property_parts}
 use Rattle.aig_lexer.specs.declared.header.Header.{Header}
 use Rattle.aig_lexer.specs.Header.{numbers_of}
-use Rattle.aig_ordering.specs.Lists.{latch_from, variable_of}
+use Rattle.aig_ordering.specs.Lists.{latch_of_line, variable_of_literal}
 use Rattle.aig_reader.specs.declared.lines.Lines.{Lines}
 use Rattle.aig_reader.specs.declared.sections.Lists.{Lists}
 use Rattle.aig_reader.specs.declared.sections.Sections.{Sections}
@@ -26,8 +26,8 @@ file_by header x = file_from ((header.kind, numbers_of header), x) []
 
 -- the lists have the entries of the file's sections, each variable as its own number
 pub record AreListsByVariable (lists : Lists) (f : File) : Type 0 where
-  pub inputs : lists.inputs.items ≡ map variable_of f.inputs
-  pub latchs : lists.latchs.items ≡ map latch_from f.latches
+  pub inputs : lists.inputs.items ≡ map variable_of_literal f.inputs
+  pub latchs : lists.latchs.items ≡ map latch_of_line f.latches
   pub properties : ArePropertiesOf lists.properties (property_parts f)
 
 -- what the lines of sections tell of their file: literals are defined once and are those of its variables, and binary files are

@@ -6,7 +6,7 @@ ghost use Rattle.aig_lexer.specs.Header.{numbers_of};
 ghost use Rattle.aig_lexer.specs.Takes.{Makes};
 ghost use Rattle.aig_reader.specs.ParseEntry.{parse_input_entry};
 ghost use Rattle.aig_reader.specs.Faults.{LineUnlessTransient};
-ghost use Rattle.aig_ordering.specs.Lists.{variable_of};
+ghost use Rattle.aig_ordering.specs.Lists.{variable_of_literal};
 ghost use Rattle.aig_reader.specs.Variables.{AreDefined, HasRoom, file_kind};
 
 use crate::error::LineError;
@@ -18,7 +18,7 @@ use std::alloc::Global;
 fn input_line<F: ByteFeed>(f: &mut F, variables: &mut DefinedVariables) -> Result<usize, LineError>
     requires { (size : ℕ) × (size ≤ 2 ^ 31) × HasRoom size variables.old 1 }
     ensures exact { (greatest : ℕ) (before : List ℕ) → AreDefined greatest variables.old before
-        → Makes LineUnlessTransient (λ id literal. (id ≡ variable_of literal)
+        → Makes LineUnlessTransient (λ id literal. (id ≡ variable_of_literal literal)
         × AreDefined greatest variables.new (before ++ literal ∷ []))
         (F.coming f.old) (F.coming f.new) result
         (parse_input_entry (file_kind variables.old) greatest before) }
@@ -42,7 +42,7 @@ pub fn read_inputs<F: ByteFeed>(
     requires few { header.greatest < 2 ^ 31 }
     requires room { HasRoom (header.greatest + 1) variables.old header.inputs }
     ensures exact { AreDefined header.greatest variables.old []
-        → Makes LineUnlessTransient (λ inputs literals. (inputs.items ≡ map variable_of literals)
+        → Makes LineUnlessTransient (λ inputs literals. (inputs.items ≡ map variable_of_literal literals)
         × AreDefined header.greatest variables.new literals)
         (F.coming f.old) (F.coming f.new) result
         (parse_fitting_inputs (file_kind variables.old) (numbers_of header)) }

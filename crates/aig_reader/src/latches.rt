@@ -8,7 +8,7 @@ ghost use Rattle.aig_lexer.specs.Header.{numbers_of};
 ghost use Rattle.aig_lexer.specs.Takes.{Makes};
 ghost use Rattle.aig_reader.specs.ParseEntry.{parse_latch_entry};
 ghost use Rattle.aig_reader.specs.Faults.{LineUnlessTransient};
-ghost use Rattle.aig_ordering.specs.Lists.{latch_from};
+ghost use Rattle.aig_ordering.specs.Lists.{latch_of_line};
 ghost use Rattle.aig_reader.specs.Variables.{AreDefined, HasRoom, Tested, file_kind};
 
 use crate::edges::edge_within;
@@ -44,7 +44,7 @@ fn latch_line<F: ByteFeed>(
     requires { (size : ℕ) × (size ≤ 2 ^ 31) × HasRoom size variables.old 1 }
     ensures exact { (inputs : List ℕ) (before : List LatchLine)
         → AreDefined greatest variables.old (inputs ++ map (λ l. l.literal) before)
-        → Makes LineUnlessTransient (λ latch line. (latch ≡ latch_from line)
+        → Makes LineUnlessTransient (λ latch line. (latch ≡ latch_of_line line)
         × AreDefined greatest variables.new
         ((inputs ++ map (λ l. l.literal) before) ++ line.literal ∷ []))
         (F.coming f.old) (F.coming f.new) result
@@ -74,7 +74,7 @@ pub fn read_latches<F: ByteFeed>(
     requires room { HasRoom (header.greatest + 1) variables.old header.latches }
     ensures exact { (inputs : List ℕ) → length inputs ≡ header.inputs
         → AreDefined header.greatest variables.old inputs
-        → Makes LineUnlessTransient (λ latchs lines. (latchs.items ≡ map latch_from lines)
+        → Makes LineUnlessTransient (λ latchs lines. (latchs.items ≡ map latch_of_line lines)
         × AreDefined header.greatest variables.new (inputs ++ map (λ l. l.literal) lines))
         (F.coming f.old) (F.coming f.new) result
         (parse_fitting_latches (file_kind variables.old) (numbers_of header) inputs) }

@@ -2,7 +2,7 @@
 
 ghost use Rattle.std.specs.Prelude.{◌≡◌, ◌+◌, ◌/◌, ◌<◌, ◌≤◌, [], ◌∷◌, ◌++◌, List, IfOk, OnOk, max, vec_capacity, vec_len};
 ghost use Rattle.aig_format.specs.File.{GateLine};
-ghost use Rattle.aig_ordering.specs.Lists.{nodes_of};
+ghost use Rattle.aig_ordering.specs.Lists.{nodes_of_variables};
 ghost use Rattle.aig_reader.specs.Gates.{AreFirstNodes, gate_node_of, literals_of};
 ghost use Rattle.aig_reader.specs.Variables.{IsNewAmong};
 
@@ -11,7 +11,7 @@ use std::alloc::{AllocError, Global};
 
 /// The node of variable 0, which is false.
 pub fn first_node(alloc: Global) -> Result<Vec<AigNode>, AllocError>
-    ensures { IfOk result (λ nodes. nodes.items ≡ nodes_of 0 []) }
+    ensures { IfOk result (λ nodes. nodes.items ≡ nodes_of_variables 0 []) }
 {
     let mut nodes = Vec::with_capacity(alloc, 1)?;
     nodes.push_reserved(false_node());

@@ -8,14 +8,14 @@ use Rattle.aig_circuit.specs.Renumber.{place_of, renumbered_edge, renumbered_lat
 use Rattle.aig_renumber.proofs.Numbering.{length-nodes_in_order}
 use Rattle.aig_cone.specs.Refine.{AreKept, refined}
 use Rattle.aig_cone.proofs.Keeping.{kept-few}
-use Rattle.aig_strash.specs.Exchange.{image_of, is_kept, kept_nodes, node_numbers}
+use Rattle.aig_strash.specs.Exchange.{image_of, is_representative, kept_nodes, node_numbers}
 use Rattle.aig_strash.specs.Strash.{strashed}
 use Rattle.aig_reduction.specs.Reduction.{asked_alone}
 
 strashed_few : (c : Circuit) → length (strashed c).nodes ≤ length c.nodes
 strashed_few c =
     let all = node_numbers c.nodes in
-    let parts = length-filter_both (is_kept c.nodes) (λ n. not (is_kept c.nodes n)) (λ n. refl) all in
+    let parts = length-filter_both (is_representative c.nodes) (λ n. not (is_representative c.nodes n)) (λ n. refl) all in
     omega (arith, length-nodes_in_order c.nodes (image_of c.nodes) 0 (kept_nodes c.nodes), parts, length-map c.nodes (λ (node : AigNode). node.node_id))
 
 pub reduced_few : (c : Circuit) (kept : List ℕ) → IsCircuit (asked_alone c) → AreKept (asked_alone c) kept → length (strashed (refined kept (asked_alone c))).nodes ≤ length c.nodes

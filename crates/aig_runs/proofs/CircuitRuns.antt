@@ -13,7 +13,7 @@ use Rattle.aig_renumber.proofs.Places.{All-from_map}
 use Rattle.aig_cnf.specs.Cnf.{FixesRoots, IsFixed, NodeValuesSatisfy, edge_in}
 use Rattle.aig_unroll.specs.Unroll.{HasStepValues, UnrollsTo}
 use Rattle.aig_unroll.proofs.Lists.{zip_weaker}
-use Rattle.aig_runs.specs.Circuits.{AssignmentsAreRuns, RunsAreAssignments}
+use Rattle.aig_runs.specs.Circuits.{AssignmentsAreCircuitRuns, CircuitRunsAreAssignments}
 use Rattle.aig_runs.proofs.Leaves.{are_node_values, values_read}
 use Rattle.aig_runs.proofs.Standing.{sets_other, stand_other}
 
@@ -41,7 +41,7 @@ module _ (c u : Circuit) (k : ℕ) (lists : List (List (List Lit))) (v : ℕ →
             (λ (now : AigLatch). IsSame now.next) c.latchs u.latchs (λ old now p q. p ∙ q) (All-from_map (λ (latch : AigLatch). latch.next) IsSame u.latchs next) s.state;
       }
 
-pub assignments_are_runs : (c u : Circuit) (k : ℕ) (lists : List (List (List Lit))) → UnrollsTo c k u → FixesRoots u lists → AssignmentsAreRuns c u k lists
+pub assignments_are_runs : (c u : Circuit) (k : ℕ) (lists : List (List (List Lit))) → UnrollsTo c k u → FixesRoots u lists → AssignmentsAreCircuitRuns c u k lists
 assignments_are_runs c u k lists unrolls fixes v holds =
     let r = unrolls.run_of v in
     record {
@@ -52,7 +52,7 @@ assignments_are_runs c u k lists unrolls fixes v holds =
       shows = shown c u k lists v r.0 fixes holds (unrolls.same v r.0 r.1 r.2);
     }
 
-pub runs_are_assignments : (c u : Circuit) (k : ℕ) (lists : List (List (List Lit))) → IsCircuit c → UnrollsTo c k u → NodeValuesSatisfy u lists → RunsAreAssignments c u k lists
+pub runs_are_assignments : (c u : Circuit) (k : ℕ) (lists : List (List (List Lit))) → IsCircuit c → UnrollsTo c k u → NodeValuesSatisfy u lists → CircuitRunsAreAssignments c u k lists
 runs_are_assignments c u k lists is unrolls satisfied run is_run =
     let y = unrolls.values_of run is_run in
     let reads = values_read c u k is unrolls y.0 run y.1 in

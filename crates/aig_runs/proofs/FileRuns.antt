@@ -107,7 +107,7 @@ module _ (f : File) (limit k : ℕ) (fits : Fits f limit) (x run : ℕ → ℕ �
 module _ (f : File) (limit k : ℕ) (fits : Fits f limit) (x run : ℕ → ℕ → Bool) (values : HasNodeValues f k x run) where
   -- a literal has at each step the value of its edge
   abbrev Keeps : ℕ → Type 0
-  Keeps e = (t : ℕ) → t ≤ k → edge_value (circuit_of f).nodes (x t) (edge_of f e) ≡ machine.literal_value (run t) e
+  Keeps e = (t : ℕ) → t ≤ k → edge_value (circuit_of f).nodes (x t) (edge_of f e) ≡ machine.value_of_literal (run t) e
 
   kept : (es : List ℕ) → AllByRecursion (IsKnown f) es → All Keeps es
   kept es known = All-from_recursion Keeps es (rec_weaker (IsKnown f) Keeps (λ e is t h. literal_is f k x run values t e h is) es known)
@@ -116,7 +116,7 @@ module _ (f : File) (limit k : ℕ) (fits : Fits f limit) (x run : ℕ → ℕ �
   shows_run u value s =
       let edge_at = λ (t : ℕ). edge_value (circuit_of f).nodes (x t) in
       let old = λ (t e : ℕ). edge_at t (edge_of f e) in
-      let first = λ (t : ℕ). machine.literal_value (run t) in
+      let first = λ (t : ℕ). machine.value_of_literal (run t) in
       let is = used_by_section (IsKnown f) f (used_known f limit fits) in
       let sets = (rec_flat_map (IsKnown f) (λ (set : List ℕ). set) f.justice).0 is.justice in
       let list = λ (es : List ℕ) (known : AllByRecursion (IsKnown f) es) (longer : List AigEdge) (stand : HasValuesAtSteps k edge_at (map (edge_of f) es) value longer).

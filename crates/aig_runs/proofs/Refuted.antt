@@ -11,7 +11,7 @@ use Rattle.aig_circuit.proofs.Trees.{node_value-leaf}
 use Rattle.aig_circuit.specs.Edge.{edge_to}
 use Rattle.aig_format.specs.declared.FileKind.TheVariants.{Text}
 use Rattle.aig_format.specs.File.{File, LatchLine, GateLine}
-use Rattle.aig_format.specs.Machine.{IsRun, Moves, start_of}
+use Rattle.aig_format.specs.Machine.{IsMachineRun, Moves, initial_value_of}
 use Rattle.aig_runs.specs.Queries.{IsWitness, IsSafeTo, query_clauses, start_clauses}
 use Rattle.aig_runs.specs.CircuitQueries.{HasCircuitWitness}
 
@@ -34,16 +34,16 @@ machine inputs latches gates bads constraints = record {
 abbrev line : ℕ → Option ℕ → LatchLine
 line next reset = record { literal = 2; next = next; reset = reset }
 
-reset-missing : start_of (line 3 None) ≡ Some false
+reset-missing : initial_value_of (line 3 None) ≡ Some false
 reset-missing = refl
 
-reset-0 : start_of (line 3 (Some 0)) ≡ Some false
+reset-0 : initial_value_of (line 3 (Some 0)) ≡ Some false
 reset-0 = refl
 
-reset-1 : start_of (line 3 (Some 1)) ≡ Some true
+reset-1 : initial_value_of (line 3 (Some 1)) ≡ Some true
 reset-1 = refl
 
-reset-own : start_of (line 3 (Some 2)) ≡ None
+reset-own : initial_value_of (line 3 (Some 2)) ≡ None
 reset-own = refl
 
 -- from false, bad where true: no witness at step 0, one at step 1
@@ -102,7 +102,7 @@ opposite-safe n last t run r s low within constraints =
 abbrev swap : File
 swap = machine [] (record { literal = 2; next = 4; reset = Some 2 } ∷ record { literal = 4; next = 2; reset = Some 1 } ∷ []) [] [] []
 
-swap-back : (run : ℕ → ℕ → Bool) → IsRun swap 2 run → run 2 1 ≡ run 0 1
+swap-back : (run : ℕ → ℕ → Bool) → IsMachineRun swap 2 run → run 2 1 ≡ run 0 1
 swap-back run r =
     let first = (r.moves 1 (omega arith)).0 in
     let second = (r.moves 0 (omega arith)).1.0 in

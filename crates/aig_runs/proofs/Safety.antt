@@ -5,12 +5,12 @@ use Rattle.std.proofs.lemmas.Bool.{false≢true, false_from_ne_true}
 use Rattle.aig_base.specs.declared.logic.literal.Lit.{Lit}
 use Rattle.aig_circuit.specs.Circuit.{Circuit}
 use Rattle.aig_format.specs.File.{File}
-use Rattle.aig_format.specs.Machine.{IsRun, literal_value}
+use Rattle.aig_format.specs.Machine.{IsMachineRun, value_of_literal}
 use Rattle.aig_runs.specs.Queries.{IsQueryOf, IsRefuted, IsSafeTo, IsWitness}
 use Rattle.aig_runs.proofs.Rows.{any_none}
 
 -- a run's first steps are a run
-pub run_cut : (f : File) (last t : ℕ) (run : ℕ → ℕ → Bool) → IsRun f last run → t ≤ last → IsRun f t run
+pub run_cut : (f : File) (last t : ℕ) (run : ℕ → ℕ → Bool) → IsMachineRun f last run → t ≤ last → IsMachineRun f t run
 run_cut f last t run is h = record { steps = λ s l. is.steps s (omega arith); moves = λ s l. is.moves s (omega arith) }
 
 module _ (f : File) (n : ℕ) where
@@ -18,11 +18,11 @@ module _ (f : File) (n : ℕ) where
   pub safe_is : ((k : ℕ) → k ≤ n → ¬ ((run : ℕ → ℕ → Bool) × IsWitness f k run)) ↔ IsSafeTo f n
   safe_is = (
     λ none last t run is start low h constraints.
-        (any_none (literal_value (run t)) f.bads).0 (false_from_ne_true (list_any (literal_value (run t)) f.bads) (λ bad.
+        (any_none (value_of_literal (run t)) f.bads).0 (false_from_ne_true (list_any (value_of_literal (run t)) f.bads) (λ bad.
         none t h (run, record { is_run = run_cut f last t run is low; start = start; constraints = constraints; bad = bad }))),
     λ safe k h w.
         let b = w.1 in
-        false≢true (sym ((any_none (literal_value (w.0 k)) f.bads).1 (safe k k w.0 b.is_run b.start (omega arith) h b.constraints)) ∙ b.bad),
+        false≢true (sym ((any_none (value_of_literal (w.0 k)) f.bads).1 (safe k k w.0 b.is_run b.start (omega arith) h b.constraints)) ∙ b.bad),
   )
 
   -- and so exactly where each query is refuted

@@ -12,7 +12,7 @@ use Rattle.aig_format.specs.Circuit.{circuit_of, edge_of}
 use Rattle.aig_format.specs.File.{File}
 use Rattle.aig_format.specs.Fits.{Fits}
 use Rattle.aig_format.specs.Machine as machine
-use Rattle.aig_format.specs.Machine.{literal_value}
+use Rattle.aig_format.specs.Machine.{value_of_literal}
 use Rattle.aig_format.specs.Variables.{IsKnown}
 use Rattle.aig_format.proofs.Circuits.{used_by_section}
 use Rattle.aig_format.proofs.Entries.{rec_both, rec_weaker}
@@ -32,7 +32,7 @@ module _ (f : File) (limit k : ℕ) (fits : Fits f limit) (x run : ℕ → ℕ �
 
   -- the literal has at the step the value of its edge
   abbrev Keeps : ℕ → ℕ → Type 0
-  Keeps t e = edge_value c.nodes (x t) (edge_of f e) ≡ literal_value (run t) e
+  Keeps t e = edge_value c.nodes (x t) (edge_of f e) ≡ value_of_literal (run t) e
 
   keeps : (t : ℕ) → t ≤ k → (es : List ℕ) → AllByRecursion (IsKnown f) es → AllByRecursion (Keeps t) es
   keeps t h es known = rec_weaker (IsKnown f) (Keeps t) (λ e is. literal_is f k x run values t e h is) es known
@@ -41,18 +41,18 @@ module _ (f : File) (limit k : ℕ) (fits : Fits f limit) (x run : ℕ → ℕ �
   constraints_known = (used_by_section (IsKnown f) f (used_known f limit fits)).constraints
 
   -- some bad edge is true where some bad literal is
-  bads_same : list_any (edge_value c.nodes (x k)) c.bads ≡ list_any (literal_value (run k)) f.bads
+  bads_same : list_any (edge_value c.nodes (x k)) c.bads ≡ list_any (value_of_literal (run k)) f.bads
   bads_same =
       let value = edge_value c.nodes (x k) in
       let known = (used_by_section (IsKnown f) f (used_known f limit fits)).bads in
-      any_zip (literal_value (run k)) value f.bads c.bads
-      (AllZip-map (edge_of f) (λ e edge. value edge ≡ literal_value (run k) e) f.bads (All-from_recursion (Keeps k) f.bads (keeps k (omega arith) f.bads known)))
+      any_zip (value_of_literal (run k)) value f.bads c.bads
+      (AllZip-map (edge_of f) (λ e edge. value edge ≡ value_of_literal (run k) e) f.bads (All-from_recursion (Keeps k) f.bads (keeps k (omega arith) f.bads known)))
 
   abbrev IsTrueEdge : ℕ → AigEdge → Type 0
   IsTrueEdge t e = IsTrue (edge_value c.nodes (x t) e)
 
   abbrev IsTrueLiteral : ℕ → ℕ → Type 0
-  IsTrueLiteral t e = IsTrue (literal_value (run t) e)
+  IsTrueLiteral t e = IsTrue (value_of_literal (run t) e)
 
   pub to_circuit : IsRun c k x → IsWitness f k run → IsCircuitWitness c k x
   to_circuit is w = record {
@@ -65,7 +65,7 @@ module _ (f : File) (limit k : ℕ) (fits : Fits f limit) (x run : ℕ → ℕ �
     bad = bads_same ∙ w.bad;
   }
 
-  pub to_machine : machine.IsRun f k run → IsCircuitWitness c k x → IsWitness f k run
+  pub to_machine : machine.IsMachineRun f k run → IsCircuitWitness c k x → IsWitness f k run
   to_machine is w = record {
     is_run = is;
     start = (starts_agree f limit k x run fits values).1 w.start;

@@ -13,7 +13,7 @@ use Rattle.aig_unroll.specs.Unroll.{HasStepValues}
 
 -- The assignment v is one run of k + 1 steps: there is one with its leaf values, and on that run each property at each step, and the state
 -- after step k, has the value that v gives it.
-pub record IsOneRun (c unrolled : Circuit) (k : ℕ) (v : ℕ → Bool) : Type 0 where
+pub record IsOneCircuitRun (c unrolled : Circuit) (k : ℕ) (v : ℕ → Bool) : Type 0 where
   pub run : ℕ → ℕ → Bool
   pub is_run : IsRun c k run
   pub reads : Reads c unrolled k v run
@@ -21,8 +21,8 @@ pub record IsOneRun (c unrolled : Circuit) (k : ℕ) (v : ℕ → Bool) : Type 0
   pub shows : HasStepValues c unrolled k (edge_in v) run
 
 -- each assignment that satisfies the clauses is one run
-abbrev pub AssignmentsAreRuns : Circuit → Circuit → ℕ → List (List (List Lit)) → Type 0
-AssignmentsAreRuns c unrolled k clauses = (v : ℕ → Bool) → Satisfies v clauses → IsOneRun c unrolled k v
+abbrev pub AssignmentsAreCircuitRuns : Circuit → Circuit → ℕ → List (List (List Lit)) → Type 0
+AssignmentsAreCircuitRuns c unrolled k clauses = (v : ℕ → Bool) → Satisfies v clauses → IsOneCircuitRun c unrolled k v
 
 -- each node of the circuit has in v its value under the leaf values of v
 abbrev pub AreNodeValues : Circuit → (ℕ → Bool) → Type 0
@@ -30,7 +30,7 @@ AreNodeValues c v = (n : ℕ) → n < length c.nodes → v n ≡ node_value c.no
 
 -- The run is one assignment: there is one that gives each leaf of the unrolled circuit the run's value, and each node its value under those
 -- of the leaves, and it satisfies the clauses.
-pub record IsOneAssignment (c unrolled : Circuit) (k : ℕ) (clauses : List (List (List Lit))) (run : ℕ → ℕ → Bool) : Type 0 where
+pub record IsOneCircuitAssignment (c unrolled : Circuit) (k : ℕ) (clauses : List (List (List Lit))) (run : ℕ → ℕ → Bool) : Type 0 where
   pub values : ℕ → Bool
   pub reads : Reads c unrolled k values run
   pub only : (other : ℕ → Bool) → Reads c unrolled k other run → (n : ℕ) → IsLeaf unrolled.nodes n → values n ≡ other n
@@ -38,5 +38,5 @@ pub record IsOneAssignment (c unrolled : Circuit) (k : ℕ) (clauses : List (Lis
   pub satisfies : Satisfies values clauses
 
 -- each run, from any state, is one assignment
-abbrev pub RunsAreAssignments : Circuit → Circuit → ℕ → List (List (List Lit)) → Type 0
-RunsAreAssignments c unrolled k clauses = (run : ℕ → ℕ → Bool) → IsRun c k run → IsOneAssignment c unrolled k clauses run
+abbrev pub CircuitRunsAreAssignments : Circuit → Circuit → ℕ → List (List (List Lit)) → Type 0
+CircuitRunsAreAssignments c unrolled k clauses = (run : ℕ → ℕ → Bool) → IsRun c k run → IsOneCircuitAssignment c unrolled k clauses run

@@ -9,7 +9,7 @@ use Rattle.aig_circuit.specs.declared.edge.AigEdge.{AigEdge}
 use Rattle.aig_circuit.specs.Circuit.{Circuit, IsLeaf}
 use Rattle.aig_cnf.specs.Cnf.{edge_in}
 use Rattle.aig_format.specs.File.{File}
-use Rattle.aig_format.specs.Machine.{literal_value, IsRun}
+use Rattle.aig_format.specs.Machine.{value_of_literal, IsMachineRun}
 use Rattle.aig_format_laws.specs.MachineRuns.{AgreeOnKnown}
 use Rattle.aig_unroll.specs.Places.{place_at}
 use Rattle.aig_unroll.specs.Unroll.{HasValuesAtSteps, SetsStandAtSteps}
@@ -23,20 +23,20 @@ pub record HasLeafValues (f : File) (circuit unrolled : Circuit) (k : ℕ) (v : 
 
 -- The edges of the unrolled circuit give each property literal at each step, and each next literal at step k, its value on the run.
 pub record HasRunValues (f : File) (unrolled : Circuit) (k : ℕ) (value : AigEdge → Bool) (run : ℕ → ℕ → Bool) : Type 0 where
-  pub outputs : HasValuesAtSteps k (λ t. literal_value (run t)) f.outputs value unrolled.outputs
-  pub bads : HasValuesAtSteps k (λ t. literal_value (run t)) f.bads value unrolled.bads
-  pub constraints : HasValuesAtSteps k (λ t. literal_value (run t)) f.constraints value unrolled.constraints
-  pub justice : SetsStandAtSteps k (λ t. literal_value (run t)) f.justice value unrolled.justice
-  pub fairness : HasValuesAtSteps k (λ t. literal_value (run t)) f.fairness value unrolled.fairness
-  pub state : AllZip (λ l latch. value latch.next ≡ literal_value (run k) l.next) f.latches unrolled.latchs
+  pub outputs : HasValuesAtSteps k (λ t. value_of_literal (run t)) f.outputs value unrolled.outputs
+  pub bads : HasValuesAtSteps k (λ t. value_of_literal (run t)) f.bads value unrolled.bads
+  pub constraints : HasValuesAtSteps k (λ t. value_of_literal (run t)) f.constraints value unrolled.constraints
+  pub justice : SetsStandAtSteps k (λ t. value_of_literal (run t)) f.justice value unrolled.justice
+  pub fairness : HasValuesAtSteps k (λ t. value_of_literal (run t)) f.fairness value unrolled.fairness
+  pub state : AllZip (λ l latch. value latch.next ≡ value_of_literal (run k) l.next) f.latches unrolled.latchs
 
 -- The assignment v is one run of k + 1 steps of the file's machine: there is one with its leaf values, and on that run each property literal
 -- at each step, and the state after step k, has the value that v gives it.
 pub record IsOneRun (f : File) (circuit unrolled : Circuit) (k : ℕ) (v : ℕ → Bool) : Type 0 where
   pub run : ℕ → ℕ → Bool
-  pub is_run : IsRun f k run
+  pub is_run : IsMachineRun f k run
   pub leaves : HasLeafValues f circuit unrolled k v run
-  pub only : (other : ℕ → ℕ → Bool) → IsRun f k other → HasLeafValues f circuit unrolled k v other → AgreeOnKnown f k run other
+  pub only : (other : ℕ → ℕ → Bool) → IsMachineRun f k other → HasLeafValues f circuit unrolled k v other → AgreeOnKnown f k run other
   pub shows : HasRunValues f unrolled k (edge_in v) run
 
 -- each assignment that satisfies the clauses is one run of the machine
@@ -54,4 +54,4 @@ pub record IsOneAssignment (f : File) (circuit unrolled : Circuit) (k : ℕ) (cl
 
 -- each run of the machine, from any state, is one assignment
 abbrev pub RunsAreAssignments : File → Circuit → Circuit → ℕ → List (List (List Lit)) → Type 0
-RunsAreAssignments f circuit unrolled k clauses = (run : ℕ → ℕ → Bool) → IsRun f k run → IsOneAssignment f circuit unrolled k clauses run
+RunsAreAssignments f circuit unrolled k clauses = (run : ℕ → ℕ → Bool) → IsMachineRun f k run → IsOneAssignment f circuit unrolled k clauses run

@@ -10,15 +10,15 @@ use Rattle.aig_circuit.specs.declared.node.AigLatch.{AigLatch}
 use Rattle.aig_circuit.specs.Edge.{inverse, lit_of}
 use Rattle.aig_circuit.specs.Circuit.{Circuit}
 use Rattle.aig_format.specs.File.{File}
-use Rattle.aig_format.specs.Machine.{literal_value, IsRun, IsInitial}
+use Rattle.aig_format.specs.Machine.{value_of_literal, IsMachineRun, IsMachineInitial}
 use Rattle.aig_runs.specs.Files.{HasLeafValues}
 
 -- a run from an initial state with every constraint at the steps 0 to k, and some bad literal at step k
 pub record IsWitness (f : File) (k : ℕ) (run : ℕ → ℕ → Bool) : Type 0 where
-  pub is_run : IsRun f k run
-  pub start : IsInitial f run
-  pub constraints : (t : ℕ) → t ≤ k → AllByRecursion (λ e. IsTrue (literal_value (run t) e)) f.constraints
-  pub bad : IsTrue (list_any (literal_value (run k)) f.bads)
+  pub is_run : IsMachineRun f k run
+  pub start : IsMachineInitial f run
+  pub constraints : (t : ℕ) → t ≤ k → AllByRecursion (λ e. IsTrue (value_of_literal (run t) e)) f.constraints
+  pub bad : IsTrue (list_any (value_of_literal (run k)) f.bads)
 
 -- ---- the clauses
 
@@ -63,7 +63,7 @@ pub record IsQueryOf (f : File) (k : ℕ) (circuit unrolled : Circuit) (clauses 
   -- some assignment satisfies both exactly where there is a witness
   pub satisfiable : ((v : ℕ → Bool) × SatisfiesBoth v clauses further) ↔ ((run : ℕ → ℕ → Bool) × IsWitness f k run)
   -- and the run with the leaf values of such an assignment is a witness
-  pub read_off : (v : ℕ → Bool) → SatisfiesBoth v clauses further → (run : ℕ → ℕ → Bool) → IsRun f k run → HasLeafValues f circuit unrolled k v run → IsWitness f k run
+  pub read_off : (v : ℕ → Bool) → SatisfiesBoth v clauses further → (run : ℕ → ℕ → Bool) → IsMachineRun f k run → HasLeafValues f circuit unrolled k v run → IsWitness f k run
 
 -- no assignment satisfies both
 abbrev pub IsRefuted : List (List (List Lit)) → List (List Lit) → Type 0
@@ -72,6 +72,6 @@ IsRefuted clauses further = ¬ ((v : ℕ → Bool) × SatisfiesBoth v clauses fu
 -- On every run from an initial state, each bad literal is false at each step up to n at which, and before which, every constraint holds.
 abbrev pub IsSafeTo : File → ℕ → Type 0
 IsSafeTo f n =
-    (last t : ℕ) (run : ℕ → ℕ → Bool) → IsRun f last run → IsInitial f run → t ≤ last → t ≤ n
-    → ((s : ℕ) → s ≤ t → AllByRecursion (λ e. IsTrue (literal_value (run s) e)) f.constraints)
-    → AllByRecursion (λ e. literal_value (run t) e ≡ false) f.bads
+    (last t : ℕ) (run : ℕ → ℕ → Bool) → IsMachineRun f last run → IsMachineInitial f run → t ≤ last → t ≤ n
+    → ((s : ℕ) → s ≤ t → AllByRecursion (λ e. IsTrue (value_of_literal (run s) e)) f.constraints)
+    → AllByRecursion (λ e. value_of_literal (run t) e ≡ false) f.bads

@@ -10,7 +10,7 @@ ghost use Rattle.aig_format.specs.Fits.{Fits};
 ghost use Rattle.aig_format.specs.Circuit.{circuit_of};
 ghost use Rattle.aig_format_laws.specs.Nodes.{HasNodeValues, values_over};
 ghost use Rattle.aig_unroll.specs.Unroll.{UnrollsTo};
-ghost use Rattle.aig_runs.specs.Circuits.{AssignmentsAreRuns, RunsAreAssignments};
+ghost use Rattle.aig_runs.specs.Circuits.{AssignmentsAreCircuitRuns, CircuitRunsAreAssignments};
 ghost use Rattle.aig_runs.specs.CircuitQueries.{AsksOfCircuit, IsCircuitWitness};
 ghost use Rattle.aig_runs.specs.Encodes.{Encodes};
 ghost use Rattle.aig_runs.specs.Queries.{IsQueryOf, IsRefuted, IsSafeTo, IsWitness, query_clauses};
@@ -19,10 +19,10 @@ ghost use Rattle.aig_runs.specs.Queries.{IsQueryOf, IsRefuted, IsSafeTo, IsWitne
 pub fn clauses_are_circuit_runs()
     ensures assignments { (c unrolled : Circuit) (k : ℕ) (clauses : List (List (List Lit)))
         → UnrollsTo c k unrolled → FixesRoots unrolled clauses
-        → AssignmentsAreRuns c unrolled k clauses }
+        → AssignmentsAreCircuitRuns c unrolled k clauses }
     ensures runs { (c unrolled : Circuit) (k : ℕ) (clauses : List (List (List Lit)))
         → IsCircuit c → UnrollsTo c k unrolled → NodeValuesSatisfy unrolled clauses
-        → RunsAreAssignments c unrolled k clauses }
+        → CircuitRunsAreAssignments c unrolled k clauses }
 {}
 
 /// Law: of every file that fits, the same holds of the runs of its machine.

@@ -17,7 +17,7 @@ use Rattle.aig_circuit.proofs.Trees.{kind_at-within}
 use Rattle.aig_cnf.specs.Cnf.{edge_in}
 use Rattle.aig_format.specs.File.{File, LatchLine}
 use Rattle.aig_format.specs.Fits.{Fits}
-use Rattle.aig_format.specs.Machine.{IsRun, literal_value}
+use Rattle.aig_format.specs.Machine.{IsMachineRun, value_of_literal}
 use Rattle.aig_format.specs.Circuit.{edge_of}
 use Rattle.aig_format.specs.Variables.{IsKnown}
 use Rattle.aig_format.proofs.Circuits.{IsCircuit-of_file, used_by_section}
@@ -74,7 +74,7 @@ zip_unright g R (x ∷ xs) [] zip = absurd zip
 zip_unright g R (x ∷ xs) (y ∷ ys) zip = (zip.0, zip_unright g R xs ys zip.1)
 
 -- values of a literal whose variable has the same value
-same_literal : (one other : ℕ → Bool) (e : ℕ) → one (e / 2) ≡ other (e / 2) → literal_value one e ≡ literal_value other e
+same_literal : (one other : ℕ → Bool) (e : ℕ) → one (e / 2) ≡ other (e / 2) → value_of_literal one e ≡ value_of_literal other e
 same_literal one other e is = ap (λ b. cond (e % 2 == 0) b (not b)) is
 
 module _ (f : File) (limit k : ℕ) (optimize : Bool) (c u : Circuit) (clauses : List (List (List Lit))) (further : List (List Lit)) (v : ℕ → Bool) (values : List Lbool) (w : Witness)
@@ -161,7 +161,7 @@ module _ (f : File) (limit k : ℕ) (optimize : Bool) (c u : Circuit) (clauses :
   there = slice_get-get_or f.bads w.bad 0 bad_below
 
   -- it is true on the one run
-  true_once : literal_value (one.run k) e ≡ true
+  true_once : value_of_literal (one.run k) e ≡ true
   true_once =
       let found = one.shows.bads.each k w.bad e (omega arith) there in
       let edge = found.0 in
@@ -173,7 +173,7 @@ module _ (f : File) (limit k : ℕ) (optimize : Bool) (c u : Circuit) (clauses :
       sym found.2 ∙ known_true (edge_in v edge) (sym known ∙ ap (edge_at values) (sym named) ∙ says.bad.here)
 
   -- and on each run with the given values
-  true_always : (run : ℕ → ℕ → Bool) → IsRun f k run → HasLeafValues f c u k v run → literal_value (run k) e ≡ true
+  true_always : (run : ℕ → ℕ → Bool) → IsMachineRun f k run → HasLeafValues f c u k v run → value_of_literal (run k) e ≡ true
   true_always run is_run leaves =
       let known : IsKnown f e = All-from_recursion (IsKnown f) f.bads (used_by_section (IsKnown f) f (used_known f limit fits)).bads w.bad 0 bad_below in
       sym (same_literal (one.run k) (run k) e (one.only run is_run leaves k (e / 2) (omega arith) known)) ∙ true_once
@@ -181,10 +181,10 @@ module _ (f : File) (limit k : ℕ) (optimize : Bool) (c u : Circuit) (clauses :
   pub solution_shows : ShowsBad f w
   solution_shows = record {
     some = omega (arith, says.steps.count);
-    there = (one.run, subst (λ n. IsRun f n one.run) (sym last) one.is_run, given_from one.run one.leaves);
+    there = (one.run, subst (λ n. IsMachineRun f n one.run) (sym last) one.is_run, given_from one.run one.leaves);
     named = (e, there);
     each = λ run is_run given.
-        let runs = subst (λ n. IsRun f n run) last is_run in
+        let runs = subst (λ n. IsMachineRun f n run) last is_run in
         let leaves = leaves_from run given in
-        (subst (λ n. IsWitness f n run) (sym last) (asks.read_off v holds run runs leaves), subst (λ n. IsTrue (literal_value (run n) e)) (sym last) (true_always run runs leaves));
+        (subst (λ n. IsWitness f n run) (sym last) (asks.read_off v holds run runs leaves), subst (λ n. IsTrue (value_of_literal (run n) e)) (sym last) (true_always run runs leaves));
   }

@@ -16,7 +16,7 @@ use Rattle.aig_circuit.specs.Renumber.{is_in, place_of}
 use Rattle.aig_renumber.proofs.Places.{Contains-map_back, place_of-within}
 use Rattle.aig_unroll.proofs.Others.{others-are}
 use Rattle.aig_unroll.specs.Places.{is_other_leaf, other_leaves, place_at}
-use Rattle.aig_solutions.specs.Turns.{CountsOthers, HasStep, HasTurns, MarksLatches}
+use Rattle.aig_solutions.specs.Turns.{CountsOthers, HasStep, HasTurns, MarksLatchLeaves}
 
 -- ---- turns
 
@@ -81,7 +81,7 @@ turns_from c turns total are counts all = record {
 
 -- ---- counting
 
-module _ (c : Circuit) (marks : List Bool) (are : AreNodes c.nodes) (is : MarksLatches c marks) (i : ℕ) (d : AigNode) (e : Bool) (h : i < length c.nodes) where
+module _ (c : Circuit) (marks : List Bool) (are : AreNodes c.nodes) (is : MarksLatchLeaves c marks) (i : ℕ) (d : AigNode) (e : Bool) (h : i < length c.nodes) where
   abbrev node : AigNode
   node = get_or c.nodes i d
 

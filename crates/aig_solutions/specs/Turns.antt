@@ -6,7 +6,7 @@ use Rattle.aig_circuit.specs.Renumber.{is_in, place_of}
 use Rattle.aig_unroll.specs.Places.{is_other_leaf, other_leaves}
 
 -- a mark for each node, whether it is a latch's leaf
-pub record MarksLatches (c : Circuit) (marks : List Bool) : Type 0 where
+pub record MarksLatchLeaves (c : Circuit) (marks : List Bool) : Type 0 where
   pub count : length marks ≡ length c.nodes
   pub each : (n : ℕ) (d : Bool) → n < length c.nodes → slice_index_or marks n d ≡ is_in (latch_leaves c.latchs) n
 

@@ -2,7 +2,7 @@
 
 ghost use Rattle.std.specs.Prelude.{◌≡◌, Contains, IfOk, count_by, length};
 ghost use Rattle.aig_circuit.specs.Circuit.{IsCircuit};
-ghost use Rattle.aig_solutions.specs.Turns.{CountsOthers, HasStep, MarksLatches};
+ghost use Rattle.aig_solutions.specs.Turns.{CountsOthers, HasStep, MarksLatchLeaves};
 ghost use Rattle.aig_unroll.specs.Places.{is_other_leaf, other_leaves, place_at};
 
 use aig::Aig;
@@ -12,7 +12,7 @@ use std::marker::Model;
 
 /// Marks the leaves of latches.
 fn mark_latchs(alloc: Global, circuit: &Aig) -> Result<Vec<bool>, MemoryError>
-    ensures { IfOk result (λ marks. MarksLatches circuit.now marks.items) }
+    ensures { IfOk result (λ marks. MarksLatchLeaves circuit.now marks.items) }
 {
     let latchs = circuit.latchs();
     let mut marks = vec![in alloc; false; circuit.num_nodes()]?;
@@ -28,7 +28,7 @@ fn count_others(
     circuit: &Aig,
     marks: &[bool],
 ) -> Result<(Vec<usize>, usize), MemoryError>
-    requires { MarksLatches circuit.now marks.now }
+    requires { MarksLatchLeaves circuit.now marks.now }
     ensures turns { IfOk result (λ counts. CountsOthers circuit.now counts.0.items) }
     ensures all { IfOk result
         (λ counts. counts.1 ≡ count_by (is_other_leaf circuit.now) circuit.now.nodes) }

@@ -15,7 +15,7 @@ use Rattle.aig_circuit.specs.Circuit.{AreNodes, IsLeaf}
 use Rattle.aig_circuit.specs.Renumber.{place_of}
 use Rattle.aig_circuit.proofs.Trees.{kind_at-there, kind_at-within, tree_of-false, tree_of-leaf, tree_of-and}
 use Rattle.aig_renumber.proofs.Places.{filter-back, get_or-place_of, place_of-within, places-rise, rising-place}
-use Rattle.aig_strash.specs.Exchange.{HaveEqualTrees, IsRepresentative, equal_up_to_exchange, representative_of, image_of, is_kept, kept_nodes, node_numbers}
+use Rattle.aig_strash.specs.Exchange.{HaveEqualTrees, IsRepresentative, equal_up_to_exchange, representative_of, image_of, is_representative, kept_nodes, node_numbers}
 use Rattle.aig_strash.proofs.Equal.{Equal, equal-itself, equal-turned, equal-then}
 use Rattle.aig_strash.proofs.Listing.{Counts, counting-has, counting-rises, counting-within, filter-has, find-counting}
 
@@ -99,19 +99,19 @@ module _ (nodes : List AigNode) (are : AreNodes nodes) where
   Kept n = Contains (kept_nodes nodes) n
 
   pub kept-from : (n : ℕ) → n < length nodes → representative_of nodes n ≡ n → Kept n
-  kept-from n h is = filter-has (is_kept nodes) (node_numbers nodes) n (counting-has (node_numbers nodes) numbers-count n (omega (arith, numbers-length))) (eq-eqb (representative_of nodes n) n is)
+  kept-from n h is = filter-has (is_representative nodes) (node_numbers nodes) n (counting-has (node_numbers nodes) numbers-count n (omega (arith, numbers-length))) (eq-eqb (representative_of nodes n) n is)
 
   pub kept-first : (n : ℕ) → n < length nodes → Kept (representative_of nodes n)
   kept-first n h = kept-from (representative_of nodes n) (first-within n h) (first-twice n h)
 
   pub kept-within : (n : ℕ) → Kept n → n < length nodes
-  kept-within n kept = omega (arith, numbers-length, counting-within (node_numbers nodes) numbers-count n (filter-back (is_kept nodes) (node_numbers nodes) n kept).0)
+  kept-within n kept = omega (arith, numbers-length, counting-within (node_numbers nodes) numbers-count n (filter-back (is_representative nodes) (node_numbers nodes) n kept).0)
 
   pub kept-is : (n : ℕ) → Kept n → representative_of nodes n ≡ n
-  kept-is n kept = eqb-true (representative_of nodes n) n (filter-back (is_kept nodes) (node_numbers nodes) n kept).1
+  kept-is n kept = eqb-true (representative_of nodes n) n (filter-back (is_representative nodes) (node_numbers nodes) n kept).1
 
   pub kept-rises : AllPairs (λ m n. m < n) (kept_nodes nodes)
-  kept-rises = AllPairs-filter (λ m n. m < n) (is_kept nodes) (node_numbers nodes) (counting-rises (node_numbers nodes) numbers-count)
+  kept-rises = AllPairs-filter (λ m n. m < n) (is_representative nodes) (node_numbers nodes) (counting-rises (node_numbers nodes) numbers-count)
 
   -- the kept node at place i
   abbrev pub kept_at : ℕ → ℕ

@@ -16,7 +16,7 @@ use Rattle.aig_circuit.proofs.Trees.{kind_at-there, tree_of-false, tree_of-leaf,
 use Rattle.aig_strash.specs.Exchange.{HaveEqualTrees, IsGate, representative_of, image_of, kept_before, node_numbers}
 use Rattle.aig_strash.specs.declared.numbers.Tables.{Tables}
 use Rattle.aig_strash.specs.Numbering.{HasGates, HasSmallLiteral, gate_literals, operand_literals}
-use Rattle.aig_strash.specs.Tables.{Gates, Literals, PutsIfAbsent, are_same, literal_limit, number_of_gate, numbers_of}
+use Rattle.aig_strash.specs.Tables.{Gates, Literals, PutsIfAbsent, are_same, literal_limit, number_of_gate, number_table}
 use Rattle.aig_strash.proofs.Equal.{Equal}
 use Rattle.aig_strash.proofs.Firsts.{first-0, first-is, first-leaf, first-within, image-same, numbers-count, numbers-length}
 use Rattle.aig_strash.proofs.Numbered.{equal-from_literals, image-before, image-kept, kept_before-few, literals-from_equal}
@@ -64,13 +64,13 @@ module _ (nodes : List AigNode) (are : AreNodes nodes) where
       ∙ ap (image_of nodes) (get_or-take n (node_numbers nodes) m 0 low ∙ omega (arith, numbers-count nodes are m 0 (omega (arith, numbers-length nodes are))))
 
   -- the tables have room for the literals of an edge to an earlier node
-  pub small-literal : (n : ℕ) (e : AigEdge) (tables : Tables) → n ≤ length nodes → e.node_id < n → numbers_of tables ≡ images_to n → 2 * length nodes ≤ literal_limit tables → HasSmallLiteral tables e
+  pub small-literal : (n : ℕ) (e : AigEdge) (tables : Tables) → n ≤ length nodes → e.node_id < n → number_table tables ≡ images_to n → 2 * length nodes ≤ literal_limit tables → HasSmallLiteral tables e
   small-literal n e tables h low so_far limit = record {
     there = omega (arith, ap length so_far, images-length n h);
     small = (
         let below = image-before nodes are e.node_id n low h in
         let few = kept_before-few nodes are n h in
-        let at : slice_index (numbers_of tables) e.node_id ≡ image_of nodes e.node_id = ap (λ (l : List ℕ). slice_index l e.node_id) so_far ∙ images-at n e.node_id h low in
+        let at : slice_index (number_table tables) e.node_id ≡ image_of nodes e.node_id = ap (λ (l : List ℕ). slice_index l e.node_id) so_far ∙ images-at n e.node_id h low in
         omega arith);
   }
 

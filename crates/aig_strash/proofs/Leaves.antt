@@ -12,7 +12,7 @@ use Rattle.aig_circuit.specs.Circuit.{AreNodes}
 use Rattle.aig_circuit.specs.Runs.{is_leaf}
 use Rattle.aig_circuit.specs.Renumber.{nodes_in_order, place_of, renumbered_edge, renumbered_kind}
 use Rattle.aig_circuit.proofs.Building.{and_of-cases}
-use Rattle.aig_strash.specs.Exchange.{representative_of, image_of, is_kept, kept_nodes, leaves_before, node_numbers}
+use Rattle.aig_strash.specs.Exchange.{representative_of, image_of, is_representative, kept_nodes, leaves_before, node_numbers}
 use Rattle.aig_strash.proofs.Firsts.{first-leaf, numbers-count, numbers-length}
 use Rattle.aig_strash.proofs.Listing.{counting-place, filter-places}
 
@@ -72,7 +72,7 @@ module _ (nodes : List AigNode) (are : AreNodes nodes) where
       let number = are.numbered k (get_or nodes k d) at in
       sym (ap (λ n. leaf_at nodes n) number ∙ ap (λ (o : Option AigNode). is_leaf_there (option_map (λ (x : AigNode). x.typ) o)) at)
 
-  leaf-kept : (n : ℕ) → leaf_at nodes n ≡ true → is_kept nodes n ≡ true
+  leaf-kept : (n : ℕ) → leaf_at nodes n ≡ true → is_representative nodes n ≡ true
   leaf-kept n h = eq-eqb (representative_of nodes n) n (first-leaf nodes are n (leaf_at-is (kind_at nodes n) h))
 
   pub leaves-kept : (n : ℕ) → n < length nodes → representative_of nodes n ≡ n → leaves_before (nodes_in_order nodes (image_of nodes) 0 (kept_nodes nodes)) (image_of nodes n) ≡ leaves_before nodes n
@@ -83,7 +83,7 @@ module _ (nodes : List AigNode) (are : AreNodes nodes) where
       sym (count (take (image_of nodes n) new))
       ∙ leaves-in_order nodes (image_of nodes) 0 (image_of nodes n) (kept_nodes nodes)
       ∙ ap (λ m. length (filter (leaf_at nodes) (take (place_of (kept_nodes nodes) m) (kept_nodes nodes)))) first
-      ∙ filter-places (leaf_at nodes) (is_kept nodes) leaf-kept (node_numbers nodes) n (eq-eqb (representative_of nodes n) n first)
+      ∙ filter-places (leaf_at nodes) (is_representative nodes) leaf-kept (node_numbers nodes) n (eq-eqb (representative_of nodes n) n first)
       ∙ ap (λ p. length (filter (leaf_at nodes) (take p (node_numbers nodes)))) place
       ∙ sym (leaves-by_numbers (leaf_at nodes) n nodes leaf_at-number)
       ∙ count (take n nodes)

@@ -14,7 +14,7 @@ use Rattle.aig_circuit.specs.Renumber.{place_of, renumbered_edge, renumbered_kin
 use Rattle.aig_circuit.specs.Tree.{AndTree, tree_of}
 use Rattle.aig_circuit.proofs.Building.{and_of-cases}
 use Rattle.aig_circuit.proofs.Trees.{tree_of-and}
-use Rattle.aig_strash.specs.Exchange.{HaveEqualTrees, IsGate, representative_of, image_of, is_kept, kept_before, node_numbers}
+use Rattle.aig_strash.specs.Exchange.{HaveEqualTrees, IsGate, representative_of, image_of, is_representative, kept_before, node_numbers}
 use Rattle.aig_strash.specs.Numbering.{gate_literals, operand_literals}
 use Rattle.aig_strash.specs.Tables.{Literals}
 use Rattle.aig_circuit.proofs.Edges.{literals-same}
@@ -110,7 +110,7 @@ module _ (nodes : List AigNode) (are : AreNodes nodes) where
   pub image-count : (n : ℕ) → n < length nodes → image_of nodes n ≡ kept_before nodes (representative_of nodes n)
   image-count n h =
       let within = first-within nodes are n h in
-      place_of-filter (is_kept nodes) (node_numbers nodes) (representative_of nodes n) (eq-eqb (representative_of nodes (representative_of nodes n)) (representative_of nodes n) (first-twice nodes are n h))
+      place_of-filter (is_representative nodes) (node_numbers nodes) (representative_of nodes n) (eq-eqb (representative_of nodes (representative_of nodes n)) (representative_of nodes n) (first-twice nodes are n h))
       ∙ ap (kept_before nodes) (counting-place (node_numbers nodes) (numbers-count nodes are) (representative_of nodes n) (omega (arith, numbers-length nodes are)))
 
   -- a kept node's number is the count of the kept nodes before it
@@ -120,7 +120,7 @@ module _ (nodes : List AigNode) (are : AreNodes nodes) where
   -- at most so many are kept
   pub kept_before-few : (n : ℕ) → n ≤ length nodes → kept_before nodes n ≤ n
   kept_before-few n h =
-      let both = length-filter_both (is_kept nodes) (λ m. not (is_kept nodes m)) (λ m. refl) (take n (node_numbers nodes)) in
+      let both = length-filter_both (is_representative nodes) (λ m. not (is_representative nodes m)) (λ m. refl) (take n (node_numbers nodes)) in
       omega (arith, both, length-take n (node_numbers nodes), numbers-length nodes are)
 
   -- earlier nodes have numbers below the count
@@ -131,12 +131,12 @@ module _ (nodes : List AigNode) (are : AreNodes nodes) where
       let low : representative_of nodes m < n = omega (arith, first.low) in
       let there : representative_of nodes m < length nodes = omega arith in
       let at : get_or (node_numbers nodes) (representative_of nodes m) 0 ≡ representative_of nodes m = omega (arith, numbers-count nodes are (representative_of nodes m) 0 (omega (arith, numbers-length nodes are))) in
-      let kept : is_kept nodes (get_or (node_numbers nodes) (representative_of nodes m) 0) ≡ true = ap (is_kept nodes) at ∙ eq-eqb (representative_of nodes (representative_of nodes m)) (representative_of nodes m) (first-twice nodes are m here) in
+      let kept : is_representative nodes (get_or (node_numbers nodes) (representative_of nodes m) 0) ≡ true = ap (is_representative nodes) at ∙ eq-eqb (representative_of nodes (representative_of nodes m)) (representative_of nodes m) (first-twice nodes are m here) in
       subst (λ k. k < kept_before nodes n) (sym (image-count m here))
-      (passing-rises (is_kept nodes) (node_numbers nodes) (representative_of nodes m) n low (omega (arith, numbers-length nodes are)) kept)
+      (passing-rises (is_representative nodes) (node_numbers nodes) (representative_of nodes m) n low (omega (arith, numbers-length nodes are)) kept)
 
   -- a node is kept exactly where its number is the count of the kept nodes before it
-  pub kept-from_number : (n : ℕ) → n < length nodes → image_of nodes n ≡ kept_before nodes n → is_kept nodes n ≡ true
+  pub kept-from_number : (n : ℕ) → n < length nodes → image_of nodes n ≡ kept_before nodes n → is_representative nodes n ≡ true
   kept-from_number n h is = eq-eqb (representative_of nodes n) n (elim (cases_lt (representative_of nodes n) n) [
     | inl low ↦ (
         let first = first-is nodes are n h in
@@ -145,10 +145,10 @@ module _ (nodes : List AigNode) (are : AreNodes nodes) where
     | inr high ↦ (let low = (first-is nodes are n h).low in omega arith)
   ])
 
-  pub dropped-from_number : (n : ℕ) → n < length nodes → image_of nodes n ≢ kept_before nodes n → is_kept nodes n ≡ false
-  dropped-from_number n h differs = by_test (is_kept nodes n) refl
+  pub dropped-from_number : (n : ℕ) → n < length nodes → image_of nodes n ≢ kept_before nodes n → is_representative nodes n ≡ false
+  dropped-from_number n h differs = by_test (is_representative nodes n) refl
     where
-      by_test : (b : Bool) → is_kept nodes n ≡ b → b ≡ false
+      by_test : (b : Bool) → is_representative nodes n ≡ b → b ≡ false
       by_test true kept = absurd (differs (image-kept n h (eqb-true (representative_of nodes n) n kept)))
       by_test false dropped = refl
 
@@ -168,32 +168,32 @@ module _ (nodes : List AigNode) (are : AreNodes nodes) where
       made ∙ ap (λ l. l ++ number ∷ []) so_far ∙ ap (λ m. map (image_of nodes) (take n numbers) ++ m ∷ []) is
       ∙ sym (ap (map (image_of nodes)) (numbers-more n h) ∙ map-append (image_of nodes) (take n numbers) (n ∷ []))
 
-  kept-step : (n : ℕ) → n < length nodes → (b : Bool) → is_kept nodes n ≡ b → filter (is_kept nodes) (take (n + 1) numbers) ≡ filter (is_kept nodes) (take n numbers) ++ cond b (n ∷ []) []
+  kept-step : (n : ℕ) → n < length nodes → (b : Bool) → is_representative nodes n ≡ b → filter (is_representative nodes) (take (n + 1) numbers) ≡ filter (is_representative nodes) (take n numbers) ++ cond b (n ∷ []) []
   kept-step n h b is =
-      ap (filter (is_kept nodes)) (numbers-more n h) ∙ filter-append (is_kept nodes) (take n numbers) (n ∷ [])
-      ∙ ap (λ d. filter (is_kept nodes) (take n numbers) ++ cond d (n ∷ []) []) is
+      ap (filter (is_representative nodes)) (numbers-more n h) ∙ filter-append (is_representative nodes) (take n numbers) (n ∷ [])
+      ∙ ap (λ d. filter (is_representative nodes) (take n numbers) ++ cond d (n ∷ []) []) is
 
   -- the kept nodes so far, with the next one, whose number is their count
-  pub kept-more : (n : ℕ) → n < length nodes → (list more : List ℕ) (number : ℕ) → list ≡ filter (is_kept nodes) (take n numbers) → number ≡ image_of nodes n → number ≡ length list → more ≡ list ++ n ∷ [] → more ≡ filter (is_kept nodes) (take (n + 1) numbers)
+  pub kept-more : (n : ℕ) → n < length nodes → (list more : List ℕ) (number : ℕ) → list ≡ filter (is_representative nodes) (take n numbers) → number ≡ image_of nodes n → number ≡ length list → more ≡ list ++ n ∷ [] → more ≡ filter (is_representative nodes) (take (n + 1) numbers)
   kept-more n h list more number so_far is count made =
       let kept = kept-from_number n h (sym is ∙ count ∙ ap length so_far) in
       made ∙ ap (λ l. l ++ n ∷ []) so_far ∙ sym (kept-step n h true kept)
 
   -- and without it, where its number is another
-  pub kept-same : (n : ℕ) → n < length nodes → (list : List ℕ) (number : ℕ) → list ≡ filter (is_kept nodes) (take n numbers) → number ≡ image_of nodes n → number ≢ length list → list ≡ filter (is_kept nodes) (take (n + 1) numbers)
+  pub kept-same : (n : ℕ) → n < length nodes → (list : List ℕ) (number : ℕ) → list ≡ filter (is_representative nodes) (take n numbers) → number ≡ image_of nodes n → number ≢ length list → list ≡ filter (is_representative nodes) (take (n + 1) numbers)
   kept-same n h list number so_far is differs =
       let dropped = dropped-from_number n h (λ e. differs (is ∙ e ∙ ap length (sym so_far))) in
-      so_far ∙ sym (kept-step n h false dropped ∙ append-nil (filter (is_kept nodes) (take n numbers)))
+      so_far ∙ sym (kept-step n h false dropped ∙ append-nil (filter (is_representative nodes) (take n numbers)))
 
   -- the count of the kept nodes so far, with the next one
   pub count-more : (n : ℕ) → n < length nodes → image_of nodes n ≡ kept_before nodes n → kept_before nodes (n + 1) ≡ kept_before nodes n + 1
   count-more n h is =
       let step = ap length (kept-step n h true (kept-from_number n h is)) in
-      omega (arith, step, length-append (filter (is_kept nodes) (take n numbers)) (n ∷ []))
+      omega (arith, step, length-append (filter (is_representative nodes) (take n numbers)) (n ∷ []))
 
   pub count-same : (n : ℕ) → n < length nodes → image_of nodes n ≢ kept_before nodes n → kept_before nodes (n + 1) ≡ kept_before nodes n
   count-same n h differs =
-      ap length (kept-step n h false (dropped-from_number n h differs) ∙ append-nil (filter (is_kept nodes) (take n numbers)))
+      ap length (kept-step n h false (dropped-from_number n h differs) ∙ append-nil (filter (is_representative nodes) (take n numbers)))
 
   -- a number is that of its node
   pub image-at : (list : List ℕ) → list ≡ map (image_of nodes) numbers → (n d : ℕ) → n < length list → (n < length nodes) × (get_or list n d ≡ image_of nodes n)

@@ -10,7 +10,7 @@ use Rattle.aig_circuit.proofs.Trees.{kind_at-within}
 use Rattle.aig_renumber.proofs.Kept.{is_in-there}
 use Rattle.aig_renumber.proofs.Places.{filter_all}
 use Rattle.aig_renumber.proofs.Same.{renumbered-same, retained-all}
-use Rattle.aig_strash.specs.Exchange.{HaveEqualTrees, representative_of, image_of, is_kept, kept_nodes, node_numbers}
+use Rattle.aig_strash.specs.Exchange.{HaveEqualTrees, representative_of, image_of, is_representative, kept_nodes, node_numbers}
 use Rattle.aig_strash.specs.Strash.{strashed}
 use Rattle.aig_strash.proofs.Firsts.{first-is, first-within, kept-from, numbers-count, numbers-length}
 use Rattle.aig_strash.proofs.Listing.{counting-place}
@@ -27,7 +27,7 @@ module _ (nodes : List AigNode) (are : AreNodes nodes) (distinct : AreDistinct n
   first-own n h = distinct (representative_of nodes n) n (first-within nodes are n h) h (first-is nodes are n h).equal
 
   pub kept-all : kept_nodes nodes ≡ node_numbers nodes
-  kept-all = filter_all (is_kept nodes) (node_numbers nodes) (λ k d h.
+  kept-all = filter_all (is_representative nodes) (node_numbers nodes) (λ k d h.
       let n = get_or (node_numbers nodes) k d in
       eq-eqb (representative_of nodes n) n (first-own n (omega (arith, numbers-length nodes are, numbers-count nodes are k d h))))
 

@@ -59,12 +59,12 @@ abbrev pub representative_of : List AigNode → ℕ → ℕ
 representative_of nodes n = unwrap_or (find (λ m. equal_up_to_exchange (tree_of nodes m) (tree_of nodes n)) (node_numbers nodes)) n
 
 -- the node is its own representative
-abbrev pub is_kept : List AigNode → ℕ → Bool
-is_kept nodes n = representative_of nodes n == n
+abbrev pub is_representative : List AigNode → ℕ → Bool
+is_representative nodes n = representative_of nodes n == n
 
 -- the nodes that are kept, in their order
 abbrev pub kept_nodes : List AigNode → List ℕ
-kept_nodes nodes = filter (is_kept nodes) (node_numbers nodes)
+kept_nodes nodes = filter (is_representative nodes) (node_numbers nodes)
 
 -- the new number of node n: the place of its representative among the kept nodes
 abbrev pub image_of : List AigNode → ℕ → ℕ
@@ -72,4 +72,4 @@ image_of nodes n = place_of (kept_nodes nodes) (representative_of nodes n)
 
 -- how many of the first n nodes are kept
 abbrev pub kept_before : List AigNode → ℕ → ℕ
-kept_before nodes n = length (filter (is_kept nodes) (take n (node_numbers nodes)))
+kept_before nodes n = length (filter (is_representative nodes) (take n (node_numbers nodes)))

@@ -9,14 +9,14 @@ use Rattle.aig_circuit.specs.Edge.{literal_of}
 use Rattle.aig_circuit.specs.Node.{kind_at}
 use Rattle.aig_circuit.specs.Renumber.{renumbered_kind}
 use Rattle.aig_strash.specs.Exchange.{IsGate, image_of, kept_before, node_numbers}
-use Rattle.aig_strash.specs.Tables.{Gates, Literals, gates_of, literal_limit, number_of_gate, numbers_of}
+use Rattle.aig_strash.specs.Tables.{Gates, Literals, gate_table, literal_limit, number_of_gate, number_table}
 use Rattle.aig_strash.specs.declared.numbers.Tables.{Tables}
 use Rattle.aig_strash.specs.declared.hashing.Numbering.{Numbering}
 
 -- the edge's node has a number, and the tables have room for its literals
 pub record HasSmallLiteral (tables : Tables) (edge : AigEdge) : Type 0 where
-  pub there : edge.node_id < length (numbers_of tables)
-  pub small : 2 * slice_index (numbers_of tables) edge.node_id + 1 < literal_limit tables
+  pub there : edge.node_id < length (number_table tables)
+  pub small : 2 * slice_index (number_table tables) edge.node_id + 1 < literal_limit tables
 
 -- the literals of a gate's operands
 abbrev pub operand_literals : AigNodeType → Literals
@@ -35,7 +35,7 @@ pub record HasGates (nodes : List AigNode) (n : ℕ) (gates : Gates) : Type 0 wh
 
 -- the first n nodes are numbered, and the tables have room for the literals of all
 pub record HasNumbered (nodes : List AigNode) (n : ℕ) (numbering : Numbering) : Type 0 where
-  pub numbers : numbers_of numbering.tables ≡ map (image_of nodes) (take n (node_numbers nodes))
+  pub numbers : number_table numbering.tables ≡ map (image_of nodes) (take n (node_numbers nodes))
   pub count : numbering.count ≡ kept_before nodes n
-  pub gates : HasGates nodes n (gates_of numbering.tables)
+  pub gates : HasGates nodes n (gate_table numbering.tables)
   pub limit : 2 * length nodes ≤ literal_limit numbering.tables

@@ -30,14 +30,14 @@ abbrev pub number_of_gate : Gates → Literals → Option ℕ
 number_of_gate gates literals = get are_same gates literals
 
 -- the new number of each node so far
-abbrev pub numbers_of : Tables → List ℕ
-numbers_of (Narrow numbers gates) = numbers.items
-numbers_of (Wide numbers gates) = numbers.items
+abbrev pub number_table : Tables → List ℕ
+number_table (Narrow numbers gates) = numbers.items
+number_table (Wide numbers gates) = numbers.items
 
 -- the new number of each kept gate so far
-abbrev pub gates_of : Tables → Gates
-gates_of (Narrow numbers gates) = gates
-gates_of (Wide numbers gates) = gates
+abbrev pub gate_table : Tables → Gates
+gate_table (Narrow numbers gates) = gates
+gate_table (Wide numbers gates) = gates
 
 -- every literal that the tables have room for is below
 abbrev pub literal_limit : Tables → ℕ

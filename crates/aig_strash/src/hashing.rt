@@ -10,7 +10,7 @@ ghost use Rattle.aig_circuit.specs.View.{lists_circuit};
 ghost use Rattle.aig_strash.specs.Exchange.{image_of, kept_nodes, node_numbers};
 ghost use Rattle.aig_strash.specs.Numbering.{HasGates, HasNumbered, HasSmallLiteral, operand_literals};
 ghost use Rattle.aig_strash.specs.Strash.{strashed};
-ghost use Rattle.aig_strash.specs.Tables.{gates_of, literal_limit, numbers_of};
+ghost use Rattle.aig_strash.specs.Tables.{gate_table, literal_limit, number_table};
 
 use crate::numbers::Tables;
 use aig_base::MemoryError;
@@ -100,8 +100,8 @@ impl Numbering {
         requires there { n < length nodes.now }
         requires so_far { HasNumbered nodes.now n self.old }
         ensures number { IfOk result (λ number. number ≡ image_of nodes.now n) }
-        ensures gates { OnOk result (HasGates nodes.now (n + 1) (gates_of self.new.tables)) }
-        ensures numbers { numbers_of self.new.tables ≡ numbers_of self.old.tables }
+        ensures gates { OnOk result (HasGates nodes.now (n + 1) (gate_table self.new.tables)) }
+        ensures numbers { number_table self.new.tables ≡ number_table self.old.tables }
         ensures limit { literal_limit self.new.tables ≡ literal_limit self.old.tables }
         ensures count { self.new.count ≡ self.old.count }
     {
@@ -119,7 +119,7 @@ impl Numbering {
 fn new_literals(tables: &Tables, fanin0: AigEdge, fanin1: AigEdge) -> (usize, usize)
     requires first { HasSmallLiteral tables.now fanin0 }
     requires second { HasSmallLiteral tables.now fanin1 }
-    ensures literals { let image = renumbered_edge (slice_index (numbers_of tables.now)) in
+    ensures literals { let image = renumbered_edge (slice_index (number_table tables.now)) in
         result ≡ operand_literals (and_of (image fanin0) (image fanin1)) }
     ensures first { result.0 < literal_limit tables.now }
     ensures second { result.1 < literal_limit tables.now }
@@ -133,7 +133,7 @@ fn new_literals(tables: &Tables, fanin0: AigEdge, fanin1: AigEdge) -> (usize, us
 fn new_literal(tables: &Tables, edge: AigEdge) -> usize
     requires { HasSmallLiteral tables.now edge }
     ensures literal { result
-        ≡ literal_of (renumbered_edge (slice_index (numbers_of tables.now)) edge) }
+        ≡ literal_of (renumbered_edge (slice_index (number_table tables.now)) edge) }
     ensures small { result < literal_limit tables.now }
 {
     2 * tables.number(edge.node_id()) + usize::from(edge.compl())

@@ -2,7 +2,7 @@
 
 ghost use Rattle.std.specs.Prelude.{◌≡◌, ◌+◌, ◌*◌, ◌<◌, ◌≤◌, ◌^◌, ◌++◌, ◌∷◌, [], IfOk, OnOk, length, slice_index};
 ghost use Rattle.std.specs.HashMap.{IsEmpty};
-ghost use Rattle.aig_strash.specs.Tables.{PutsIfAbsent, are_same, gates_of, literal_limit, numbers_of};
+ghost use Rattle.aig_strash.specs.Tables.{PutsIfAbsent, are_same, gate_table, literal_limit, number_table};
 
 use aig_base::MemoryError;
 use aig_circuit::AigNode;
@@ -30,8 +30,8 @@ pub(crate) enum Tables {
 impl Tables {
     /// Returns the tables of no node so far, with room for these, so that none grows.
     pub(crate) fn with_room(alloc: Global, nodes: &[AigNode]) -> Result<Tables, MemoryError>
-        ensures numbers { IfOk result (λ new. numbers_of new ≡ []) }
-        ensures gates { IfOk result (λ new. IsEmpty (gates_of new)) }
+        ensures numbers { IfOk result (λ new. number_table new ≡ []) }
+        ensures gates { IfOk result (λ new. IsEmpty (gate_table new)) }
         ensures limit { IfOk result (λ new. 2 * length nodes.now ≤ literal_limit new) }
     {
         let count = nodes.len();
@@ -51,8 +51,8 @@ impl Tables {
 
     /// Returns the new number of node `n`.
     pub(crate) fn number(&self, n: usize) -> usize
-        requires { n < length (numbers_of self.now) }
-        ensures value { result ≡ slice_index (numbers_of self.now) n }
+        requires { n < length (number_table self.now) }
+        ensures value { result ≡ slice_index (number_table self.now) n }
         ensures limit { literal_limit self.now ≤ 2 ^ 64 }
     {
         match self {
@@ -64,8 +64,8 @@ impl Tables {
     /// Appends the number of the next node.
     pub(crate) fn push(&mut self, number: usize) -> Result<(), MemoryError>
         requires { number < literal_limit self.old }
-        ensures numbers { OnOk result (numbers_of self.new ≡ numbers_of self.old ++ number ∷ []) }
-        ensures gates { gates_of self.new ≡ gates_of self.old }
+        ensures numbers { OnOk result (number_table self.new ≡ number_table self.old ++ number ∷ []) }
+        ensures gates { gate_table self.new ≡ gate_table self.old }
         ensures limit { literal_limit self.new ≡ literal_limit self.old }
     {
         match self {
@@ -86,8 +86,8 @@ impl Tables {
         requires second { literals.1 < literal_limit self.old }
         requires next { next < literal_limit self.old }
         ensures gates { IfOk result
-            (PutsIfAbsent are_same (gates_of self.old) (gates_of self.new) literals next) }
-        ensures numbers { numbers_of self.new ≡ numbers_of self.old }
+            (PutsIfAbsent are_same (gate_table self.old) (gate_table self.new) literals next) }
+        ensures numbers { number_table self.new ≡ number_table self.old }
         ensures limit { literal_limit self.new ≡ literal_limit self.old }
     {
         match self {
@@ -101,7 +101,7 @@ impl Tables {
 
     /// Returns the new numbers of all nodes. The gates are dropped first.
     pub(crate) fn into_numbers(self, alloc: Global) -> Result<Vec<usize>, MemoryError>
-        ensures { IfOk result (λ numbers. numbers.items ≡ numbers_of self) }
+        ensures { IfOk result (λ numbers. numbers.items ≡ number_table self) }
     {
         match self {
             Tables::Narrow { numbers, gates } => {

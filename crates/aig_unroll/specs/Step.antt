@@ -91,8 +91,8 @@ abbrev pub entries_of : List (Vec AigEdge Global) → List (List AigEdge)
 entries_of sets = map (λ set. set.items) sets
 
 -- the node of each edge has a place in a table of so many
-abbrev pub AreBelow : ℕ → List AigEdge → Type 0
-AreBelow count es = All (λ e. e.node_id < count) es
+abbrev pub AreNodesBelow : ℕ → List AigEdge → Type 0
+AreNodesBelow count es = All (λ e. e.node_id < count) es
 
 -- the images of the edges stand after the old ones
 abbrev pub Appends : List AigEdge → List AigEdge → List AigEdge → List AigEdge → Type 0
@@ -103,7 +103,7 @@ abbrev pub AppendsSets : List AigEdge → List (List AigEdge) → List (List Aig
 AppendsSets images sets old new = new ≡ old ++ map (map (image_in images)) sets
 
 -- there is room for the entries of a step, but for justice
-pub record HasRoom (lists : CircuitLists) (from : Circuit) (before : ℕ) : Type 0 where
+pub record HasRoomForStep (lists : CircuitLists) (from : Circuit) (before : ℕ) : Type 0 where
   pub inputs : vec_len lists.inputs + length (leaves_after before lists.nodes.items) ≤ vec_capacity lists.inputs
   pub outputs : vec_len lists.outputs + length from.outputs ≤ vec_capacity lists.outputs
   pub bads : vec_len lists.bads + length from.bads ≤ vec_capacity lists.bads
@@ -130,6 +130,6 @@ pub record AppendsImages (from old : Circuit) (images : List AigEdge) (new : Cir
 -- the nodes and the justice sets of the step stand, the rest is as it was, and there is room for it
 pub record IsPrepared (from : Circuit) (old new : CircuitLists) (images : List AigEdge) : Type 0 where
   pub copies : CopiesAll from old.latchs.items old.nodes.items new.nodes.items images
-  pub room : HasRoom new from (length old.nodes.items)
+  pub room : HasRoomForStep new from (length old.nodes.items)
   pub justice : AppendsSets images from.justice (entries_of old.justice.items) (entries_of new.justice.items)
   pub same : record (lists_circuit new) { justice = (lists_circuit old).justice } ≡ record (lists_circuit old) { nodes = new.nodes.items }

@@ -5,7 +5,7 @@ ghost use Rattle.aig_circuit.specs.Circuit.{IsCircuit};
 ghost use Rattle.aig_circuit.specs.Runs.{is_leaf};
 ghost use Rattle.aig_circuit.specs.View.{lists_circuit};
 ghost use Rattle.aig_unroll.specs.Places.{leaves_after};
-ghost use Rattle.aig_unroll.specs.Step.{Appends, AppendsSets, AreBelow, HasRoom, HaveNextImages, entries_of};
+ghost use Rattle.aig_unroll.specs.Step.{Appends, AppendsSets, AreNodesBelow, HasRoomForStep, HaveNextImages, entries_of};
 
 use crate::nodes::image_of;
 use aig_base::MemoryError;
@@ -14,7 +14,7 @@ use aig_circuit::{AigEdge, AigLatch, AigNode, CircuitLists, CircuitView};
 /// Appends the images of edges. Requires room, so that no push fails.
 fn append_images(list: &mut Vec<AigEdge>, edges: &[AigEdge], images: &[AigEdge])
     requires room { vec_len list.old + length edges.now ≤ vec_capacity list.old }
-    requires there { AreBelow (length images.now) edges.now }
+    requires there { AreNodesBelow (length images.now) edges.now }
     ensures { Appends images.now edges.now list.old.items list.new.items }
 {
     for edge in edges {
@@ -50,7 +50,7 @@ fn push_sets(
     sets: &[Vec<AigEdge>],
     images: &[AigEdge],
 ) -> Result<(), MemoryError>
-    requires { All (AreBelow (length images.now)) (entries_of sets.now) }
+    requires { All (AreNodesBelow (length images.now)) (entries_of sets.now) }
     ensures ok { OnOk result
         (AppendsSets images.now (entries_of sets.now)
         (entries_of list.old.items) (entries_of list.new.items)) }
@@ -70,7 +70,7 @@ pub(crate) fn append_sets(
     sets: &[Vec<AigEdge>],
     images: &[AigEdge],
 ) -> Result<(), MemoryError>
-    requires { All (AreBelow (length images.now)) (entries_of sets.now) }
+    requires { All (AreNodesBelow (length images.now)) (entries_of sets.now) }
     ensures ok { OnOk result
         (AppendsSets images.now (entries_of sets.now)
         (entries_of list.old.items) (entries_of list.new.items)) }
@@ -91,7 +91,7 @@ pub(crate) fn reserve(
     start: usize,
 ) -> Result<(), MemoryError>
     requires { start ≤ length lists.old.nodes.items }
-    ensures room { OnOk result (HasRoom lists.new from.now start) }
+    ensures room { OnOk result (HasRoomForStep lists.new from.now start) }
     ensures same { lists_circuit lists.new ≡ lists_circuit lists.old }
 {
     lists.inputs.reserve(count_leaves(&lists.nodes, start))?;
@@ -122,7 +122,7 @@ pub(crate) fn append_step(
     images: &[AigEdge],
     start: usize,
 )
-    requires room { HasRoom lists.old from.now start }
+    requires room { HasRoomForStep lists.old from.now start }
     requires start { start ≤ length lists.old.nodes.items }
     requires table { length images.now ≡ length from.now.nodes }
     requires latchs { length lists.old.latchs.items ≡ length from.now.latchs }

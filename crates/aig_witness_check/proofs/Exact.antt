@@ -15,7 +15,7 @@ use Rattle.aig_circuit.specs.Circuit.{Circuit, IsCircuit, IsInRange, latch_leave
 use Rattle.aig_circuit.specs.Runs.{IsInitial}
 use Rattle.aig_format.specs.File.{File, LatchLine}
 use Rattle.aig_format.specs.Fits.{Fits}
-use Rattle.aig_format.specs.Machine.{literal_value}
+use Rattle.aig_format.specs.Machine.{value_of_literal}
 use Rattle.aig_format.specs.Circuit.{circuit_of, edge_of, initial_of, latch_of}
 use Rattle.aig_format.specs.Numbering.{node_of_variable}
 use Rattle.aig_format.specs.Variables.{IsKnown}
@@ -76,7 +76,7 @@ module _ (f : File) (limit : ℕ) (w : Witness) (fits : Fits f limit) (given : I
   filling = is_filling f limit w fits run shows.there.1 shows.there.2
 
   -- a literal that holds has an edge that is known to
-  seen : (t e : ℕ) → t < length w.steps → IsKnown f e → IsInRange c.nodes (edge_of f e) → IsTrue (literal_value (run t) e) → value_in (simulated c w t) (edge_of f e) ≡ TRUE
+  seen : (t e : ℕ) → t < length w.steps → IsKnown f e → IsInRange c.nodes (edge_of f e) → IsTrue (value_of_literal (run t) e) → value_in (simulated c w t) (edge_of f e) ≡ TRUE
   seen t e h is there holds =
       let low : t ≤ last = omega arith in
       value_known c is_circuit (IsClosed-of_file f limit fits) w given x filling t h (edge_of f e) there ∙ ap known_of (literal_is f last x run values t e low is ∙ holds)
@@ -108,12 +108,12 @@ module _ (f : File) (limit : ℕ) (w : Witness) (fits : Fits f limit) (given : I
           constraints = λ t h. All-map (λ e. value_in (simulated c w t) e ≡ TRUE) (edge_of f) f.constraints (λ i d lt.
               let low : t ≤ last = omega arith in
               seen t (get_or f.constraints i d) h (All-from_recursion (IsKnown f) f.constraints used.constraints i d lt) (All-from_map (edge_of f) (IsInRange c.nodes) f.constraints is_circuit.constraints i d lt)
-              (All-from_recursion (λ e. IsTrue (literal_value (run t) e)) f.constraints (shown.0.constraints t low) i d lt));
+              (All-from_recursion (λ e. IsTrue (value_of_literal (run t) e)) f.constraints (shown.0.constraints t low) i d lt));
         };
         bad =
             ap (value_in (simulated c w last)) (get_or-map (edge_of f) f.bads w.bad 0 (edge_to 0 false) within)
             ∙ seen last (get_or f.bads w.bad 0) end (All-from_recursion (IsKnown f) f.bads used.bads w.bad 0 within) (All-from_map (edge_of f) (IsInRange c.nodes) f.bads is_circuit.bads w.bad 0 within)
-            (subst (λ e. IsTrue (literal_value (run last) e)) (sym named) shown.1);
+            (subst (λ e. IsTrue (value_of_literal (run last) e)) (sym named) shown.1);
       }
 
 -- what is wrong of a witness is not so of a known one

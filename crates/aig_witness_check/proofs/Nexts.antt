@@ -18,9 +18,9 @@ use Rattle.aig_witness.specs.Witness.{Witness}
 use Rattle.aig_witness_check.specs.declared.error.CheckError.{CheckError}
 use Rattle.aig_witness_check.specs.declared.file.Shown.{Shown}
 use Rattle.aig_witness_check.specs.Answers.{IsWrong}
-use Rattle.aig_witness_check.specs.Files.{FailsNext, HasNone, IsNext}
+use Rattle.aig_witness_check.specs.Files.{FailsNext, HasNone, IsNextWitness}
 
-pub takes_next : (before after : Option (List ℕ)) (w : Witness) → Takes parse_next before after (Some w) → IsNext before w
+pub takes_next : (before after : Option (List ℕ)) (w : Witness) → Takes parse_next before after (Some w) → IsNextWitness before w
 takes_next None after w h = tt
 takes_next (Some bytes) None w h = absurd h.consumed
 takes_next (Some bytes) (Some rest) w h = (rest, ap parse_next h.consumed ∙ h.reads rest)
@@ -47,7 +47,7 @@ pub lists_are : (limit : ℕ) (old new : Option (List ℕ)) (lists : CircuitList
 lists_are limit old new lists o = subst IsCircuit (sym o.means) (IsCircuit-of_file o.file limit o.holds.1)
 
 -- the fault of a witness, on the file's circuit
-pub fails_on : (limit : ℕ) (old new text : Option (List ℕ)) (lists : CircuitLists) (w : Witness) (e : CheckError) → IsReadAs (λ bytes. Accepts bytes limit) AreListsOf old new lists → IsNext text w → IsWrong (lists_circuit lists) w e
+pub fails_on : (limit : ℕ) (old new text : Option (List ℕ)) (lists : CircuitLists) (w : Witness) (e : CheckError) → IsReadAs (λ bytes. Accepts bytes limit) AreListsOf old new lists → IsNextWitness text w → IsWrong (lists_circuit lists) w e
     → IsReadAs (λ bytes. Accepts bytes limit) (FailsNext text) old new e
 fails_on limit old new text lists w e o next wrong = record {
   file = o.file;

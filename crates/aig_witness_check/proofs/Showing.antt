@@ -16,7 +16,7 @@ use Rattle.aig_circuit.proofs.Circuits.{AreLeaves-of_circuit}
 use Rattle.aig_format.specs.File.{File, LatchLine}
 use Rattle.aig_format.specs.Fits.{Fits}
 use Rattle.aig_format.specs.Machine as machine
-use Rattle.aig_format.specs.Machine.{literal_value}
+use Rattle.aig_format.specs.Machine.{value_of_literal}
 use Rattle.aig_format.specs.Circuit.{circuit_of, edge_of, latch_of}
 use Rattle.aig_format.specs.Numbering.{node_of_variable}
 use Rattle.aig_format.specs.Variables.{IsKnown}
@@ -56,7 +56,7 @@ module _ (f : File) (limit : ℕ) (w : Witness) (fits : Fits f limit) where
   last = length w.steps - 1
 
   -- the leaf values of a run with the given values
-  module _ (run : ℕ → ℕ → Bool) (is_run : machine.IsRun f last run) (given : HasGiven f w run) where
+  module _ (run : ℕ → ℕ → Bool) (is_run : machine.IsMachineRun f last run) (given : HasGiven f w run) where
     abbrev x : ℕ → ℕ → Bool
     x = leaves_of f run
 
@@ -114,7 +114,7 @@ module _ (f : File) (limit : ℕ) (w : Witness) (fits : Fits f limit) where
           (zip_unmade (λ e. node_of_variable f (e / 2)) (λ n v. given_values (circuit_of f) row w.state n ≡ v) f.inputs row (placed t within).0));
     }
 
-    pub given_is_there : 0 < length w.steps → (run : ℕ → ℕ → Bool) × machine.IsRun f last run × HasGiven f w run
+    pub given_is_there : 0 < length w.steps → (run : ℕ → ℕ → Bool) × machine.IsMachineRun f last run × HasGiven f w run
     given_is_there some =
         let r = given_run f limit last chosen fits in
         (r.0, r.1, has_given r.0 some r.2.inputs r.2.latches)
@@ -134,12 +134,12 @@ module _ (f : File) (limit : ℕ) (w : Witness) (fits : Fits f limit) where
     named_is : named_bad (circuit_of f) w ≡ edge_of f named
     named_is = get_or-map (edge_of f) f.bads w.bad 0 (edge_to 0 false) bads_long
 
-    module _ (run : ℕ → ℕ → Bool) (is_run : machine.IsRun f last run) (given : HasGiven f w run) where
+    module _ (run : ℕ → ℕ → Bool) (is_run : machine.IsMachineRun f last run) (given : HasGiven f w run) where
       values : HasNodeValues f last (leaves_of f run) run
       values = forth_values f limit last run fits is_run
 
       -- a literal whose edge is known to be true
-      holds : (t e : ℕ) → t < length w.steps → IsKnown f e → IsInRange (circuit_of f).nodes (edge_of f e) → value_in (simulated (circuit_of f) w t) (edge_of f e) ≡ TRUE → IsTrue (literal_value (run t) e)
+      holds : (t e : ℕ) → t < length w.steps → IsKnown f e → IsInRange (circuit_of f).nodes (edge_of f e) → value_in (simulated (circuit_of f) w t) (edge_of f e) ≡ TRUE → IsTrue (value_of_literal (run t) e)
       holds t e h is there true_in =
           let next : t + 1 ≡ suc t = omega arith in
           let low : t ≤ last = omega arith in
@@ -150,23 +150,23 @@ module _ (f : File) (limit : ℕ) (w : Witness) (fits : Fits f limit) where
           sym (literal_is f last (leaves_of f run) run values t e low is)
           ∙ hold (circuit_of f) (edge_of f e) w.state w.steps is_circuit there (leaves_of f run) (is_filling run is_run given) t TRUE found
 
-      is_witness : IsWitness f last run × IsTrue (literal_value (run last) named)
+      is_witness : IsWitness f last run × IsTrue (value_of_literal (run last) named)
       is_witness =
           let some = known.some in
           let end : last < length w.steps = omega arith in
           let used = used_by_section (IsKnown f) f (used_known f limit fits) in
-          let bad : IsTrue (literal_value (run last) named) =
+          let bad : IsTrue (value_of_literal (run last) named) =
           holds last named end (All-from_recursion (IsKnown f) f.bads used.bads w.bad 0 bads_long) (All-from_map (edge_of f) (IsInRange (circuit_of f).nodes) f.bads is_circuit.bads w.bad 0 bads_long)
           (ap (value_in (simulated (circuit_of f) w last)) (sym named_is) ∙ known.bad) in (
             record {
               is_run = is_run;
               start = (starts_agree f limit last (leaves_of f run) run fits values).1 (starts_hold (circuit_of f) w.state is_circuit known.start (leaves_of f run 0) (first_agrees run is_run given));
-              constraints = λ t low. recursion_from_All (λ e. IsTrue (literal_value (run t) e)) f.constraints (λ i d h.
+              constraints = λ t low. recursion_from_All (λ e. IsTrue (value_of_literal (run t) e)) f.constraints (λ i d h.
                   let within : t < length w.steps = omega arith in
                   holds t (get_or f.constraints i d) within (All-from_recursion (IsKnown f) f.constraints used.constraints i d h)
                   (All-from_map (edge_of f) (IsInRange (circuit_of f).nodes) f.constraints is_circuit.constraints i d h)
                   (All-from_map (edge_of f) (λ e. value_in (simulated (circuit_of f) w t) e ≡ TRUE) f.constraints (known.steps.constraints t within) i d h));
-              bad = list_any_at (literal_value (run last)) f.bads w.bad 0 bads_long bad;
+              bad = list_any_at (value_of_literal (run last)) f.bads w.bad 0 bads_long bad;
             },
             bad,
           )

@@ -19,8 +19,8 @@ use Rattle.aig_witness_check.specs.Machine.{ShowsBad}
 use Rattle.aig_witness_check.specs.Shown.{IsKnownWitness}
 
 -- where the bytes are known, the next witness in them is this one
-abbrev pub IsNext : Option (List ℕ) → Witness → Type 0
-IsNext text w = IfSome text (λ bytes. (rest : List ℕ) × (parse_next bytes ≡ Some (Some w, rest)))
+abbrev pub IsNextWitness : Option (List ℕ) → Witness → Type 0
+IsNextWitness text w = IfSome text (λ bytes. (rest : List ℕ) × (parse_next bytes ≡ Some (Some w, rest)))
 
 -- where the bytes are known, there is no witness in them, but comments alone
 abbrev pub HasNone : Option (List ℕ) → Type 0
@@ -29,7 +29,7 @@ HasNone text = IfSome text (λ bytes. parse_next bytes ≡ Some (None, []))
 -- the next witness of the text shows this bad state of the file's machine
 pub record ShowsNext (text : Option (List ℕ)) (f : File) (shown : Shown) : Type 0 where
   pub witness : Witness
-  pub next : IsNext text witness
+  pub next : IsNextWitness text witness
   pub known : IsKnownWitness (circuit_of f) witness
   pub shows : ShowsBad f witness
   pub bad : shown.bad ≡ witness.bad
@@ -38,12 +38,12 @@ pub record ShowsNext (text : Option (List ℕ)) (f : File) (shown : Shown) : Typ
 -- the next witness of the text has this fault
 pub record FailsNext (text : Option (List ℕ)) (f : File) (e : CheckError) : Type 0 where
   pub witness : Witness
-  pub next : IsNext text witness
+  pub next : IsNextWitness text witness
   pub wrong : IsWrong (circuit_of f) witness e
 
 -- the next witness, or why there is none
 abbrev pub GivesFirst : Option (List ℕ) → Result lists.Witness ShowError → Type 0
-GivesFirst text (Ok w) = IsNext text (said_by w)
+GivesFirst text (Ok w) = IsNextWitness text (said_by w)
 GivesFirst text (Err (errors.File e)) = ⊥
 GivesFirst text (Err (errors.Witness e)) = OnWitness e (Misses parse_next text)
 GivesFirst text (Err errors.NoWitness) = HasNone text

@@ -6,7 +6,7 @@ use Rattle.aig_base.specs.declared.logic.three.Lbool.TheVariants.{NONE}
 use Rattle.aig_base.specs.declared.logic.three.Lbool.{Lbool}
 use Rattle.aig_base.specs.Three.{Agrees}
 use Rattle.aig_format.specs.File.{File}
-use Rattle.aig_format.specs.Machine.{IsRun, literal_value}
+use Rattle.aig_format.specs.Machine.{IsMachineRun, value_of_literal}
 use Rattle.aig_runs.specs.Queries.{IsWitness}
 use Rattle.aig_witness.specs.Witness.{Witness}
 
@@ -19,9 +19,9 @@ pub record HasGiven (f : File) (w : Witness) (run : ℕ → ℕ → Bool) : Type
 -- and has the named bad literal at its last step.
 pub record ShowsBad (f : File) (w : Witness) : Type 0 where
   pub some : 0 < length w.steps
-  pub there : (run : ℕ → ℕ → Bool) × IsRun f (length w.steps - 1) run × HasGiven f w run
+  pub there : (run : ℕ → ℕ → Bool) × IsMachineRun f (length w.steps - 1) run × HasGiven f w run
   pub named : (e : ℕ) × (slice_get f.bads w.bad ≡ Some e)
-  pub each : (run : ℕ → ℕ → Bool) → IsRun f (length w.steps - 1) run → HasGiven f w run → IsWitness f (length w.steps - 1) run × IsTrue (literal_value (run (length w.steps - 1)) named.0)
+  pub each : (run : ℕ → ℕ → Bool) → IsMachineRun f (length w.steps - 1) run → HasGiven f w run → IsWitness f (length w.steps - 1) run × IsTrue (value_of_literal (run (length w.steps - 1)) named.0)
 
 -- every value is known
 pub record IsGiven (w : Witness) : Type 0 where

@@ -13,7 +13,7 @@ use Rattle.aig_format.specs.declared.FileKind.{FileKind}
 use Rattle.aig_format.specs.Written.{line_text, lines_text, latch_text, gate_text}
 use Rattle.aig_format.specs.Circuit.{latch_line, gate_line}
 use Rattle.aig_writer.specs.Literals.{IsSmallEdge}
-use Rattle.aig_writer.specs.Parts.{edges_of, literal_sets}
+use Rattle.aig_writer.specs.Parts.{edges_of_sets, literal_sets}
 use Rattle.aig_writer.specs.Numbering.{renumbered_node}
 use Rattle.aig_circuit.specs.Renumber.{renumbered_edge, renumbered_latch}
 
@@ -84,11 +84,11 @@ numbered_gates number kind nodes = gate_texts kind (map (renumbered_node number)
 abbrev pub numbered_set : (ℕ → ℕ) → Vec AigEdge Global → List ℕ
 numbered_set number set = lines_text (map literal_of (map (renumbered_edge number) set.items))
 
-pub numbered_sets : (number : ℕ → ℕ) (sets : List (Vec AigEdge Global)) → flat_map lines_text (map (map literal_of) (map (map (renumbered_edge number)) (edges_of sets))) ≡ flat_map (numbered_set number) sets
+pub numbered_sets : (number : ℕ → ℕ) (sets : List (Vec AigEdge Global)) → flat_map lines_text (map (map literal_of) (map (map (renumbered_edge number)) (edges_of_sets sets))) ≡ flat_map (numbered_set number) sets
 numbered_sets number [] = refl
 numbered_sets number (set ∷ sets) = ap (λ l. numbered_set number set ++ l) (numbered_sets number sets)
 
-pub set_sizes : (sets : List (Vec AigEdge Global)) → lines_text (map length (edges_of sets)) ≡ flat_map size_line sets
+pub set_sizes : (sets : List (Vec AigEdge Global)) → lines_text (map length (edges_of_sets sets)) ≡ flat_map size_line sets
 set_sizes [] = refl
 set_sizes (set ∷ sets) = ap (λ l. size_line set ++ l) (set_sizes sets)
 

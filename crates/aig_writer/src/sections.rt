@@ -7,7 +7,7 @@ ghost use Rattle.aig_circuit.specs.Renumber.{renumbered_edge, renumbered_latch};
 ghost use Rattle.aig_format.specs.Written.{delta_of, gate_text, inputs_text, latch_text, lines_text};
 ghost use Rattle.aig_format.specs.Circuit.{latch_line, gate_line};
 ghost use Rattle.aig_writer.specs.Sinks.{BuffersOrStops};
-ghost use Rattle.aig_writer.specs.Parts.{edges_of};
+ghost use Rattle.aig_writer.specs.Parts.{edges_of_sets};
 ghost use Rattle.aig_writer.specs.Numbering.{written_number, renumbered_node};
 ghost use Rattle.aig_writer.specs.Literals.{HasLiteral, IsSmallEdge, IsSmallLatch, IsSmallNode, FallsBelow};
 
@@ -122,7 +122,7 @@ pub(crate) fn write_set_sizes<W: Sink>(
     w: &mut W,
     sets: &[Vec<AigEdge>],
 ) -> Result<(), StreamFault>
-    ensures { let text = lines_text (map length (edges_of sets.now)) in
+    ensures { let text = lines_text (map length (edges_of_sets sets.now)) in
         BuffersOrStops W.held W.failed buffer.old w.old result text buffer.new w.new }
 {
     for set in sets {
@@ -141,7 +141,7 @@ pub(crate) fn write_sets<W: Sink>(
     requires table { All HasLiteral numbers.now }
     requires sets { All (λ set. All IsSmallEdge set.items) sets.now }
     ensures { let written = map (map (renumbered_edge (written_number numbers.now)))
-        (edges_of sets.now) in
+        (edges_of_sets sets.now) in
         let text = flat_map lines_text (map (map literal_of) written) in
         BuffersOrStops W.held W.failed buffer.old w.old result text buffer.new w.new }
 {

@@ -28,8 +28,8 @@ unfoldable pub input_lines : Circuit → Circuit → ℕ → List ℕ
 input_lines c unrolled t = flat_map (input_line c unrolled t) (enumerate_from 0 c.inputs)
 
 -- for each latch, by its number, the variable of its leaf, which is its place at step 0
-abbrev pub latch_line : ℕ × ℕ → List ℕ
-latch_line (i, leaf) = literal_line (codes "c l") i 0 (lit_to leaf true)
+abbrev pub latch_comment : ℕ × ℕ → List ℕ
+latch_comment (i, leaf) = literal_line (codes "c l") i 0 (lit_to leaf true)
 
 -- for each bad edge, by its number, its literal at step k
 abbrev pub bad_line : ℕ → ℕ × AigEdge → List ℕ
@@ -38,4 +38,4 @@ bad_line k (i, e) = literal_line (codes "c b") i k (lit_of e)
 -- the comments of a query for step k: the inputs of each step, the latches at step 0, and the bad edges of step k
 unfoldable pub comments_of : Circuit → Circuit → ℕ → List ℕ
 comments_of c unrolled k =
-    flat_map (input_lines c unrolled) (range_with_len 0 (k + 1)) ++ flat_map latch_line (enumerate_from 0 (latch_leaves c.latchs)) ++ flat_map (bad_line k) (enumerate_from 0 (last_bads c k unrolled))
+    flat_map (input_lines c unrolled) (range_with_len 0 (k + 1)) ++ flat_map latch_comment (enumerate_from 0 (latch_leaves c.latchs)) ++ flat_map (bad_line k) (enumerate_from 0 (last_bads c k unrolled))

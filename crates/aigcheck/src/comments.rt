@@ -8,7 +8,7 @@ ghost use Rattle.aig_solutions.specs.Turns.{HasStep};
 ghost use Rattle.aig_unroll.specs.Places.{place_at};
 ghost use Rattle.aig_unroll.specs.Unroll.{UnrollsTo};
 ghost use Rattle.aig_writer.specs.Sinks.{BuffersOrStops, WritesOrStops};
-ghost use Rattle.aigcheck.specs.Comments.{bad_line, comments_of, input_lines, latch_line, literal_line};
+ghost use Rattle.aigcheck.specs.Comments.{bad_line, comments_of, input_lines, latch_comment, literal_line};
 
 use crate::line::buffer_named;
 use aig::{AigEdge, AigLatch};
@@ -97,7 +97,7 @@ fn buffer_latchs<W: Sink>(
     latchs: &[AigLatch],
 ) -> Result<(), StreamFault>
     requires { All (λ latch. latch.input < 2 ^ 31) latchs.now }
-    ensures { let text = flat_map latch_line (enumerate_from 0 (latch_leaves latchs.now)) in
+    ensures { let text = flat_map latch_comment (enumerate_from 0 (latch_leaves latchs.now)) in
         BuffersOrStops W.held W.failed buffer.old w.old result text buffer.new w.new }
 {
     for (i, latch) in latchs.iter().enumerate() {

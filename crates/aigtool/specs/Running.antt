@@ -53,8 +53,8 @@ abbrev pub TakesBy : Option ℕ → ℕ → List ℕ → File → Type 0
 TakesBy None limit bytes f = Accepts bytes limit f
 TakesBy (Some k) limit bytes f = IsWithin limit k bytes f
 
-abbrev pub Takes : Command → ℕ → List ℕ → File → Type 0
-Takes c = TakesBy (steps_of c)
+abbrev pub TakesFile : Command → ℕ → List ℕ → File → Type 0
+TakesFile c = TakesBy (steps_of c)
 
 -- the bytes are this file, it fits the limit, and its further steps may pass it
 abbrev pub ExceedsBy : Option ℕ → ℕ → List ℕ → File → Type 0
@@ -68,7 +68,7 @@ Exceeds c = ExceedsBy (steps_of c)
 pub record AnswersFile (c : Command) (limit : ℕ) (old new : Option (List ℕ)) (Holds : List ℕ → Type 0) : Type 0 where
   pub file : File
   pub bytes : List ℕ
-  pub takes : Takes c limit bytes file
+  pub takes : TakesFile c limit bytes file
   pub taken : Consumes old new bytes
   pub text : List ℕ
   pub answers : Answers c file text
@@ -107,7 +107,7 @@ abbrev pub Tells : Command → ℕ → Option (List ℕ) → Option (List ℕ) �
 Tells c limit left rest read_failed old new failed Answered = AnswersFile c limit left rest (Appends old new) × (failed ≡ false)
 Tells c limit left rest read_failed old new failed (Refused e) = (e ≡ read.Stream → IsTrue read_failed) × (e ≢ read.Open)
 Tells c limit left rest read_failed old new failed Passes = ConsumedFile (Exceeds c limit) left rest
-Tells c limit left rest read_failed old new failed Short = ConsumedFile (Takes c limit) left rest
+Tells c limit left rest read_failed old new failed Short = ConsumedFile (TakesFile c limit) left rest
 Tells c limit left rest read_failed old new failed Stopped = AnswersFile c limit left rest (AppendsBeginning old new) × IsTrue failed
 
 -- memory or a stream failed

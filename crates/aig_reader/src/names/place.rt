@@ -7,7 +7,7 @@ ghost use Rattle.aig_format.specs.Letters.{count_of};
 ghost use Rattle.aig_lexer.specs.Faults.{LexUnlessTransient};
 ghost use Rattle.aig_lexer.specs.Header.{numbers_of};
 ghost use Rattle.aig_lexer.specs.Takes.{Gives};
-ghost use Rattle.aig_reader.specs.NamedSections.{letter_of};
+ghost use Rattle.aig_reader.specs.NamedSections.{letter_of_section};
 ghost use Rattle.aig_reader.specs.NameSteps.{node_at, parse_position};
 ghost use Rattle.aig_reader.specs.declared.names.section.NamedSection.TheVariants as sections;
 
@@ -50,7 +50,7 @@ pub fn read_place<F: ByteFeed>(
     ensures exact { Gives LexUnlessTransient (λ place. place.position)
         (F.coming f.old) (F.coming f.new) result
         (parse_if (parse_position first)
-        (λ n. nat_lt n (count_of (numbers_of header.now) (letter_of section)))) }
+        (λ n. nat_lt n (count_of (numbers_of header.now) (letter_of_section section)))) }
     ensures section { IfOk result (λ place. place.section ≡ section) }
     ensures stream { IsErrOf result LexError.Stream → F.failed f.new ≡ true }
     ensures same { F.behind f.new ≡ F.behind f.old }
@@ -68,7 +68,7 @@ pub fn named_node(place: Place, inputs: &[usize], latchs: &[AigLatch]) -> Option
     requires inputs { place.section ≡ sections.Inputs → place.position < length inputs.now }
     requires latchs { place.section ≡ sections.Latches → place.position < length latchs.now }
     ensures { result
-        ≡ node_at inputs.now (latch_leaves latchs.now) (letter_of place.section) place.position }
+        ≡ node_at inputs.now (latch_leaves latchs.now) (letter_of_section place.section) place.position }
 {
     match place.section {
         NamedSection::Inputs => Some(inputs[place.position as usize]),

@@ -4,7 +4,7 @@ ghost use Rattle.std.specs.Prelude.{◌≡◌, MatchOption, false};
 ghost use Rattle.aig_format.specs.Letters.{count_of};
 ghost use Rattle.aig_format.specs.Spells.{is_letter};
 ghost use Rattle.aig_lexer.specs.Header.{numbers_of};
-ghost use Rattle.aig_reader.specs.NamedSections.{letter_of};
+ghost use Rattle.aig_reader.specs.NamedSections.{letter_of_section};
 
 use aig_lexer::Header;
 
@@ -31,7 +31,7 @@ impl NamedSection {
     /// The section whose names begin with this letter, if there is one.
     pub fn of_letter(letter: u8) -> Option<Self>
         ensures { MatchOption result (is_letter letter ≡ false)
-            (λ section. letter_of section ≡ letter) }
+            (λ section. letter_of_section section ≡ letter) }
     {
         match letter {
             b'i' => Some(NamedSection::Inputs),
@@ -47,7 +47,7 @@ impl NamedSection {
 
     /// How many entries of this section the header tells of.
     pub fn count(self, header: &Header) -> u32
-        ensures { result ≡ count_of (numbers_of header.now) (letter_of self) }
+        ensures { result ≡ count_of (numbers_of header.now) (letter_of_section self) }
     {
         match self {
             NamedSection::Inputs => header.inputs,

@@ -5,10 +5,10 @@ use Rattle.std.proofs.lemmas.Result.{err_from_is_err_and}
 use Rattle.aig_circuit.specs.declared.node.AigNode.{AigNode}
 use Rattle.aig_circuit.specs.declared.node.AigNodeType.{AigNodeType}
 use Rattle.aig_ordering.specs.Gates.{node_in, nodes_in}
-use Rattle.aig_ordering.specs.Numbers.{all_by, node_of, numbered}
+use Rattle.aig_ordering.specs.Numbers.{all_by, node_of, nodes_numbered_from}
 use Rattle.aig_ordering.proofs.Images.{all_by-missed, all_by-more, mapped_none, mapped_some}
 use Rattle.aig_ordering.proofs.NodesIn.{length-nodes_in, node_under, nodes_in-at}
-use Rattle.aig_ordering.proofs.Numbering.{numbered-more}
+use Rattle.aig_ordering.proofs.Numbering.{nodes_numbered_from-more}
 use Rattle.aig_ordering.proofs.Searching.{on_order}
 use Rattle.aig_ordering.proofs.gate_nodes.nodes.Goals as goal
 use Rattle.aig_ordering.proofs.gate_nodes.nodes.Goals.{After-push_node}
@@ -44,7 +44,7 @@ loop-gate-preserved c =
       count = omega (arith, inv.count, old.ok.0, new.ok.0, ap length made.2, length_push old.items (node_of (vec_len old) made.0));
       kinds = inv.kinds ++ made.0 ∷ [];
       are = all_by-more (node_under c.args.numbers.now) (nodes_in c.args.gates.now) i (next here) inv.kinds made.0 (within here) inv.are (next_is here ∙ made.1);
-      made = made.2 ∙ numbered-more inv.kinds made.0 old.items (vec_len old) (omega (arith, old.ok.0)) inv.made;
+      made = made.2 ∙ nodes_numbered_from-more inv.kinds made.0 old.items (vec_len old) (omega (arith, old.ok.0)) inv.made;
     }
 
 pub returns-in_err-push_node : goal.returns-in_err-push_node
@@ -54,11 +54,11 @@ returns-in_err-push_node c =
     let p = err_from_is_err_and c.from_residual-in_err-push_node.result c.from_residual-in_err-push_node.ensures.1 in
     rw (p.1, p.2)
     (on_order c.in_err-push_node.field-0.0 _ _
-    (λ none. ap (option_map (numbered 0)) (all_by-missed (node_under c.args.numbers.now) (nodes_in c.args.gates.now) i (next here) (within here) (next_is here ∙ mapped_none (behind here) _ none))) c.in_err-push_node.ensures)
+    (λ none. ap (option_map (nodes_numbered_from 0)) (all_by-missed (node_under c.args.numbers.now) (nodes_in c.args.gates.now) i (next here) (within here) (next_is here ∙ mapped_none (behind here) _ none))) c.in_err-push_node.ensures)
 
 pub returns : goal.returns
 returns c =
     let inv = c.loop-gate.invariant in
     let nodes = nodes_in c.args.gates.now in
     let all = take_all c.loop-gate.gate-index nodes (omega (arith, length-nodes_in c.args.gates.now)) in
-    ap (λ (ns : List AigNode). option_map (numbered 0) (all_by (node_under c.args.numbers.now) ns)) (sym all) ∙ ap (option_map (numbered 0)) inv.are ∙ ap Some (sym inv.made)
+    ap (λ (ns : List AigNode). option_map (nodes_numbered_from 0) (all_by (node_under c.args.numbers.now) ns)) (sym all) ∙ ap (option_map (nodes_numbered_from 0)) inv.are ∙ ap Some (sym inv.made)

@@ -7,7 +7,7 @@ use Rattle.aig_lexer.specs.Takes.{Takes, Misses}
 use Rattle.aig_lexer.proofs.Taking.{takes_same, misses_same}
 use Rattle.aig_reader.specs.ParseEntry.{parse_input_entry}
 use Rattle.aig_reader.specs.Faults.{LineUnlessTransient}
-use Rattle.aig_ordering.specs.Lists.{variable_of}
+use Rattle.aig_ordering.specs.Lists.{variable_of_literal}
 use Rattle.aig_reader.specs.Variables.{file_kind}
 use Rattle.aig_reader.proofs.BothKinds.{inputs_is}
 use Rattle.aig_reader.proofs.Entries.{entries_at, takes_more, misses_more, made_push}
@@ -43,7 +43,7 @@ loop-preserved g c = record {
       let greatest = c.args.header.greatest in
       let k = c.in_ok-input.ensures.exact greatest h.0 h.1.1 in (
         h.0 ++ k.0 ∷ [],
-        (made_push variable_of h.0 k.0 _ _ _ h.1.0 k.1.0 c.in_ok-push.ensures.items, k.1.1),
+        (made_push variable_of_literal h.0 k.0 _ _ _ h.1.0 k.1.0 c.in_ok-push.ensures.items, k.1.1),
         takes_more (parse_input_entry kind greatest) c.loop.counter _ _ _ h.0 k.0 h.2 (subst (λ (d : FileKind). Takes (parse_input_entry d greatest h.0) (g.F.ByteFeed.coming c.loop.f) (g.F.ByteFeed.coming c.input_line.new.f) k.0) c.loop.invariant.kind k.2),
       );
   count = c.in_ok-push.ensures.len ∙ ap (λ (n : ℕ). n + 1) c.loop.invariant.count;

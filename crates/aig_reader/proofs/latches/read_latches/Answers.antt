@@ -10,7 +10,7 @@ use Rattle.aig_lexer.proofs.Taking.{takes_same, misses_same}
 use Rattle.aig_reader.specs.declared.variables.DefinedVariables.{DefinedVariables}
 use Rattle.aig_reader.specs.ParseEntry.{parse_latch_entry}
 use Rattle.aig_reader.specs.Faults.{LineUnlessTransient}
-use Rattle.aig_ordering.specs.Lists.{latch_from}
+use Rattle.aig_ordering.specs.Lists.{latch_of_line}
 use Rattle.aig_reader.specs.Variables.{AreDefined, file_kind}
 use Rattle.aig_reader.proofs.BothKinds.{latches_is}
 use Rattle.aig_reader.proofs.Entries.{entries_at, takes_more, misses_more, made_push}
@@ -55,7 +55,7 @@ loop-preserved g c = record {
       let greatest = c.args.header.greatest in
       let k = c.in_ok-latch.ensures.exact inputs h.0 h.1.1 in (
         h.0 ++ k.0 ∷ [],
-        (made_push latch_from h.0 k.0 _ _ _ h.1.0 k.1.0 c.in_ok-push.ensures.items, defined_push greatest _ inputs h.0 k.0 k.1.1),
+        (made_push latch_of_line h.0 k.0 _ _ _ h.1.0 k.1.0 c.in_ok-push.ensures.items, defined_push greatest _ inputs h.0 k.0 k.1.1),
         takes_more (parse_latch_entry kind greatest inputs) c.loop.counter _ _ _ h.0 k.0 h.2 (subst (λ (d : FileKind). Takes (parse_latch_entry d greatest inputs h.0) (g.F.ByteFeed.coming c.loop.f) (g.F.ByteFeed.coming c.latch_line.new.f) k.0) c.loop.invariant.kind k.2),
       );
   count = c.in_ok-push.ensures.len ∙ ap (λ (n : ℕ). n + 1) c.loop.invariant.count;

@@ -1,6 +1,6 @@
 use Rattle.std.proofs.Common.{◌≡◌, ℕ, ◌+◌, List, [], ◌++◌, map, vec_len}
 use Rattle.aig_reader.specs.ParseEntry.{parse_latch_entry}
-use Rattle.aig_ordering.specs.Lists.{latch_from}
+use Rattle.aig_ordering.specs.Lists.{latch_of_line}
 use Rattle.aig_reader.specs.Variables.{AreDefined, HasRoom, file_kind}
 use Rattle.aig_lexer.specs.Takes.{Made}
 use Rattle.aig_reader.proofs.Entries.{entries_at}
@@ -9,7 +9,7 @@ use Rattle.aig_reader.proofs.latches.read_latches.Given as goal
 abbrev pub invariant-loop : goal.invariant-loop
 invariant-loop g l = record {
   made : (inputs : List ℕ) → AreDefined l.header.greatest l.fn.variables inputs
-      → Made (λ latchs lines. (latchs.items ≡ map latch_from lines) × AreDefined l.header.greatest l.variables (inputs ++ map (λ l. l.literal) lines)) (g.F.ByteFeed.coming l.fn.f) (g.F.ByteFeed.coming l.f) l.latchs (entries_at (parse_latch_entry (file_kind l.fn.variables) l.header.greatest inputs) [] l.counter);
+      → Made (λ latchs lines. (latchs.items ≡ map latch_of_line lines) × AreDefined l.header.greatest l.variables (inputs ++ map (λ l. l.literal) lines)) (g.F.ByteFeed.coming l.fn.f) (g.F.ByteFeed.coming l.f) l.latchs (entries_at (parse_latch_entry (file_kind l.fn.variables) l.header.greatest inputs) [] l.counter);
   count : vec_len l.latchs ≡ l.counter;
   room : (size k : ℕ) → HasRoom size l.fn.variables (k + l.counter) → HasRoom size l.variables k;
   kind : file_kind l.variables ≡ file_kind l.fn.variables;

@@ -8,7 +8,7 @@ use Rattle.aig_circuit.specs.declared.node.AigLatch.{AigLatch}
 use Rattle.aig_circuit.specs.Circuit.{latch_leaves}
 use Rattle.aig_circuit.specs.View.{names_of}
 use Rattle.aig_lexer.specs.Header.{numbers_of}
-use Rattle.aig_reader.specs.NamedSections.{letter_of}
+use Rattle.aig_reader.specs.NamedSections.{letter_of_section}
 use Rattle.aig_reader.proofs.NameFaults.{on_name-from_shape, on_name-weaker}
 use Rattle.aig_reader.proofs.KeptNames.{same_spot}
 use Rattle.aig_reader.proofs.SoFar.{so_far_none, start_of_line, start_of_end, start_refused, names_end, place_refused, repeated_refused, name_refused, name_read, takes_within, within_section}
@@ -32,7 +32,7 @@ returns-in_err-place-clause-exact g c =
     let p = err_from_is_err_and c.from_residual-in_err-place.result c.from_residual-in_err-place.ensures.1 in
     let s = c.loop-names.invariant.so_far in
     let section = c.in-Some.section in
-    let l = letter_of section in
+    let l = letter_of_section section in
     let b = c.in-Some.first in
     let mid = g.F.ByteFeed.coming c.name_start.new.f in
     let f = start_of_line _ mid c.in_ok-section.field-0 section b c.in_ok-section.ensures.exact c.in-Some.is in
@@ -42,38 +42,38 @@ pub returns-then-not-branch-clause-exact : goal.returns-then-not-branch-clause-e
 returns-then-not-branch-clause-exact g c =
     let s = c.loop-names.invariant.so_far in
     let section = c.in-Some.section in
-    let l = letter_of section in
+    let l = letter_of_section section in
     let b = c.in-Some.first in
     let mid = g.F.ByteFeed.coming c.name_start.new.f in
     let f = start_of_line _ mid c.in_ok-section.field-0 section b c.in_ok-section.ensures.exact c.in-Some.is in
-    repeated_refused (numbers_of c.args.header.now) c.args.inputs.now (latch_leaves c.args.latchs.now) _ _ _ _ mid _ l b c.in_ok-place.place (ap letter_of c.in_ok-place.ensures.section) s f c.in_ok-place.ensures.exact
+    repeated_refused (numbers_of c.args.header.now) c.args.inputs.now (latch_leaves c.args.latchs.now) _ _ _ _ mid _ l b c.in_ok-place.place (ap letter_of_section c.in_ok-place.ensures.section) s f c.in_ok-place.ensures.exact
     (not-false _ (sym c.in_ok-insert.ensures.added ∙ c.if-not-branch.true))
 
 pub named_node-node-requires-clause-inputs : goal.named_node-node-requires-clause-inputs
 named_node-node-requires-clause-inputs g c = λ is.
-    let l = letter_of c.in-Some.section in
+    let l = letter_of_section c.in-Some.section in
     let within = takes_within (numbers_of c.args.header.now) _ _ l c.in-Some.first c.in_ok-place.place.position c.in_ok-place.ensures.exact in
-    let small : c.in_ok-place.place.position < c.args.header.now.inputs = within_section (numbers_of c.args.header.now) c.in_ok-place.place.position l 105 within (ap letter_of (sym c.in_ok-place.ensures.section ∙ is)) in
+    let small : c.in_ok-place.place.position < c.args.header.now.inputs = within_section (numbers_of c.args.header.now) c.in_ok-place.place.position l 105 within (ap letter_of_section (sym c.in_ok-place.ensures.section ∙ is)) in
     omega (arith, c.requires.inputs)
 
 pub named_node-node-requires-clause-latchs : goal.named_node-node-requires-clause-latchs
 named_node-node-requires-clause-latchs g c = λ is.
-    let l = letter_of c.in-Some.section in
+    let l = letter_of_section c.in-Some.section in
     let within = takes_within (numbers_of c.args.header.now) _ _ l c.in-Some.first c.in_ok-place.place.position c.in_ok-place.ensures.exact in
-    let small : c.in_ok-place.place.position < c.args.header.now.latches = within_section (numbers_of c.args.header.now) c.in_ok-place.place.position l 108 within (ap letter_of (sym c.in_ok-place.ensures.section ∙ is)) in
+    let small : c.in_ok-place.place.position < c.args.header.now.latches = within_section (numbers_of c.args.header.now) c.in_ok-place.place.position l 108 within (ap letter_of_section (sym c.in_ok-place.ensures.section ∙ is)) in
     omega (arith, c.requires.latchs)
 
 pub loop-names-preserved : goal.loop-names-preserved
 loop-names-preserved g c =
     let s = c.loop-names.invariant.so_far in
     let section = c.in-Some.section in
-    let l = letter_of section in
+    let l = letter_of_section section in
     let b = c.in-Some.first in
     let mid = g.F.ByteFeed.coming c.name_start.new.f in
     let f = start_of_line _ mid c.in_ok-section.field-0 section b c.in_ok-section.ensures.exact c.in-Some.is in
     let name = c.in_ok-read_name.ensures.exact in
     record {
-      so_far = name_read (numbers_of c.args.header.now) c.args.inputs.now (latch_leaves c.args.latchs.now) _ _ _ _ mid _ l b c.in_ok-place.place (ap letter_of c.in_ok-place.ensures.section) s f c.in_ok-place.ensures.exact
+      so_far = name_read (numbers_of c.args.header.now) c.args.inputs.now (latch_leaves c.args.latchs.now) _ _ _ _ mid _ l b c.in_ok-place.place (ap letter_of_section c.in_ok-place.ensures.section) s f c.in_ok-place.ensures.exact
           c.named_node-node.result c.named_node-node.ensures (not-true _ (sym c.in_ok-insert.ensures.added ∙ c.if-not-branch.false))
           c.requires.inputs (length-map c.args.latchs.now (λ (latch : AigLatch). latch.input) ∙ c.requires.latchs) c.requires.distinct
           _ name.0 (contains same_spot c.insert.new.self) (names_of c.read_name.new.names.entries) name.2 c.in_ok-insert.ensures.updates.0 name.1;
@@ -85,12 +85,12 @@ returns-in_err-read_name-clause-exact g c =
     let p = err_from_is_err_and c.from_residual-in_err-read_name.result c.from_residual-in_err-read_name.ensures.1 in
     let s = c.loop-names.invariant.so_far in
     let section = c.in-Some.section in
-    let l = letter_of section in
+    let l = letter_of_section section in
     let b = c.in-Some.first in
     let mid = g.F.ByteFeed.coming c.name_start.new.f in
     let f = start_of_line _ mid c.in_ok-section.field-0 section b c.in_ok-section.ensures.exact c.in-Some.is in
     rw (p.1, p.2) (on_name-weaker c.in_err-read_name.field-0.0 _ _
-    (name_refused (numbers_of c.args.header.now) c.args.inputs.now (latch_leaves c.args.latchs.now) _ _ _ _ mid _ l b c.in_ok-place.place (ap letter_of c.in_ok-place.ensures.section) s f c.in_ok-place.ensures.exact c.named_node-node.result c.named_node-node.ensures
+    (name_refused (numbers_of c.args.header.now) c.args.inputs.now (latch_leaves c.args.latchs.now) _ _ _ _ mid _ l b c.in_ok-place.place (ap letter_of_section c.in_ok-place.ensures.section) s f c.in_ok-place.ensures.exact c.named_node-node.result c.named_node-node.ensures
     (not-true _ (sym c.in_ok-insert.ensures.added ∙ c.if-not-branch.false)))
     c.in_err-read_name.ensures.exact)
 

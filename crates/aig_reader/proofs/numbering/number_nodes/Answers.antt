@@ -10,7 +10,7 @@ use Rattle.aig_format.specs.Levels.{has_level}
 use Rattle.aig_format.specs.Numbering.{is_compact}
 use Rattle.std.specs.List.{list_all}
 use Rattle.aig_ordering.specs.Gates.{nodes_in}
-use Rattle.aig_ordering.specs.Numbers.{all_by, numbered}
+use Rattle.aig_ordering.specs.Numbers.{all_by, nodes_numbered_from}
 use Rattle.aig_ordering.specs.Order.{AreOrdered}
 use Rattle.aig_ordering.specs.Tables.{AreKnownOf, AreNodesOf, OrderUnlessTransient}
 use Rattle.aig_ordering.proofs.NodesIn.{count-gates, node_under}
@@ -37,8 +37,8 @@ module _ (c : After-nodes) (f : File) (good : HasGoodLines f) (are : AreNodesOf 
       let numbers = c.in_ok-numbers.field-0.numbers.items in
       let sorted = c.in_ok-numbers.field-0.gates.items in
       let kinds = images_ordered numbers gates f sorted (count-gates f gates are) ordered.1.gates in
-      let images = ap (λ (o : Option (List AigNodeType)). option_map (numbered 0) o) kinds ∙ nodes_are f numbers numbers_judged good well_founded ordered.0 (nodes_in gates) are.placed in
-      images_judged (λ (new : Vec AigNode Global). new.items) (option_map (numbered 0) (all_by (node_under numbers) (nodes_in sorted))) (have_operands f) (circuit_of f).nodes c.nodes.result images (rw (c.deref-2.ensures.value, c.deref-3.ensures.value) at c.nodes.ensures)
+      let images = ap (λ (o : Option (List AigNodeType)). option_map (nodes_numbered_from 0) o) kinds ∙ nodes_are f numbers numbers_judged good well_founded ordered.0 (nodes_in gates) are.placed in
+      images_judged (λ (new : Vec AigNode Global). new.items) (option_map (nodes_numbered_from 0) (all_by (node_under numbers) (nodes_in sorted))) (have_operands f) (circuit_of f).nodes c.nodes.result images (rw (c.deref-2.ensures.value, c.deref-3.ensures.value) at c.nodes.ensures)
 
 pub returns-in_err-nodes : goal.returns-in_err-nodes
 returns-in_err-nodes c = λ f good are known well_founded.

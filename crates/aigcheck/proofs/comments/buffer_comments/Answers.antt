@@ -8,7 +8,7 @@ use Rattle.aig_runs.specs.Queries.{last_bads}
 use Rattle.aigcheck.proofs.Commenting.{tail_is}
 use Rattle.aigcheck.proofs.Placing.{leaf_below, place_below}
 use Rattle.aig_writer.proofs.Putting.{Buffers-trans, failed_among, failed_first, then_call}
-use Rattle.aigcheck.specs.Comments.{bad_line, comments_of, latch_line}
+use Rattle.aigcheck.specs.Comments.{bad_line, comments_of, latch_comment}
 use Rattle.aigcheck.proofs.comments.buffer_comments.Goals as goal
 
 pub overflow_mul-first : goal.overflow_mul-first
@@ -43,7 +43,7 @@ pub returns-in_err-buffer_steps : goal.returns-in_err-buffer_steps
 unfolding comments_of
 returns-in_err-buffer_steps g c =
     let q = c.args.asked.now.encoded in
-    failed_first (flat_map latch_line (enumerate_from 0 (latch_leaves q.circuit.latchs)) ∷ flat_map (bad_line c.args.k) (enumerate_from 0 (last_bads q.circuit c.args.k q.unrolled)) ∷ []) c.in_err-buffer_steps.ensures (search rules)
+    failed_first (flat_map latch_comment (enumerate_from 0 (latch_leaves q.circuit.latchs)) ∷ flat_map (bad_line c.args.k) (enumerate_from 0 (last_bads q.circuit c.args.k q.unrolled)) ∷ []) c.in_err-buffer_steps.ensures (search rules)
 
 pub returns-in_err-buffer_latchs : goal.returns-in_err-buffer_latchs
 unfolding comments_of

@@ -6,7 +6,7 @@ use Rattle.aig_circuit.specs.Node.{kind_at}
 use Rattle.aig_circuit.proofs.Trees.{kind_at-read}
 use Rattle.aig_strash.specs.Exchange.{IsGate, image_of}
 use Rattle.aig_strash.specs.Numbering.{HasGates}
-use Rattle.aig_strash.specs.Tables.{gates_of, numbers_of}
+use Rattle.aig_strash.specs.Tables.{gate_table, number_table}
 use Rattle.aig_strash.proofs.Gates.{gates-other, number-other, small-literal, step-gate}
 use Rattle.aig_strash.proofs.Numbered.{kept_before-few}
 use Rattle.aig_strash.proofs.hashing.Numbering.new_number.Goals as goal
@@ -34,14 +34,14 @@ pub returns-in-And-clause-number : goal.returns-in-And-clause-number
 returns-in-And-clause-number c =
     let is : kind_at c.args.nodes.now c.args.n ≡ Some (And c.in-And.fanin0 c.in-And.fanin1) = kind_at-read c.args.nodes.now c.args.n _ _ c.requires.there (sym c.in-And.is ∙ c.typ.ensures) in
     MatchResult-weaker c.number_at.result c.number_at.ensures.gates
-    (λ number puts. (step-gate c.args.nodes.now c.requires.nodes c.args.n c.requires.there _ _ is (numbers_of c.args.self.now.tables) c.requires.so_far.numbers c.new_literals-literals.result c.new_literals-literals.ensures.literals c.args.self.now.count c.requires.so_far.count (gates_of c.args.self.now.tables) (gates_of c.number_at.new.self) c.requires.so_far.gates number puts).0)
+    (λ number puts. (step-gate c.args.nodes.now c.requires.nodes c.args.n c.requires.there _ _ is (number_table c.args.self.now.tables) c.requires.so_far.numbers c.new_literals-literals.result c.new_literals-literals.ensures.literals c.args.self.now.count c.requires.so_far.count (gate_table c.args.self.now.tables) (gate_table c.number_at.new.self) c.requires.so_far.gates number puts).0)
     (λ e h. tt)
 
 pub returns-in-And-clause-gates : goal.returns-in-And-clause-gates
 returns-in-And-clause-gates c =
     let is : kind_at c.args.nodes.now c.args.n ≡ Some (And c.in-And.fanin0 c.in-And.fanin1) = kind_at-read c.args.nodes.now c.args.n _ _ c.requires.there (sym c.in-And.is ∙ c.typ.ensures) in
     MatchResult-weaker c.number_at.result c.number_at.ensures.gates
-    (λ number puts. (step-gate c.args.nodes.now c.requires.nodes c.args.n c.requires.there _ _ is (numbers_of c.args.self.now.tables) c.requires.so_far.numbers c.new_literals-literals.result c.new_literals-literals.ensures.literals c.args.self.now.count c.requires.so_far.count (gates_of c.args.self.now.tables) (gates_of c.number_at.new.self) c.requires.so_far.gates number puts).1)
+    (λ number puts. (step-gate c.args.nodes.now c.requires.nodes c.args.n c.requires.there _ _ is (number_table c.args.self.now.tables) c.requires.so_far.numbers c.new_literals-literals.result c.new_literals-literals.ensures.literals c.args.self.now.count c.requires.so_far.count (gate_table c.args.self.now.tables) (gate_table c.number_at.new.self) c.requires.so_far.gates number puts).1)
     (λ e h. tt)
 
 pub returns-in-False : goal.returns-in-False
@@ -49,7 +49,7 @@ returns-in-False c =
     let nodes = c.args.nodes.now in
     let n = c.args.n in
     let are = c.requires.nodes in
-    let gates = gates_of c.args.self.now.tables in
+    let gates = gate_table c.args.self.now.tables in
     let step : (k : AigNodeType) → c.typ.result.now ≡ k → (kind_at nodes n ≡ Some k → IsGate nodes n → ⊥) → (c.args.self.now.count ≡ image_of nodes n) × HasGates nodes (n + 1) gates =
     λ k at no_gate.
     let is : kind_at nodes n ≡ Some k = kind_at-read nodes n _ k c.requires.there (sym at ∙ c.typ.ensures) in

@@ -1,6 +1,6 @@
 use Rattle.std.proofs.Common.{◌+◌, arith, subst, sym, ◌∙◌}
 use Rattle.aig_strash.specs.Numbering.{HasGates}
-use Rattle.aig_strash.specs.Tables.{numbers_of}
+use Rattle.aig_strash.specs.Tables.{number_table}
 use Rattle.aig_strash.proofs.Numbered.{count-more, count-same, image-before, images-more, kept_before-few}
 use Rattle.aig_strash.proofs.hashing.Numbering.number_node.Goals as goal
 
@@ -24,7 +24,7 @@ returns-then-number-self c =
     let made = c.in_ok-number.ensures in
     let pushed = c.in_ok-push.ensures in
     record {
-      numbers = images-more nodes are n c.requires.there (numbers_of c.new_number.new.self.tables) (numbers_of c.push.new.self) c.in_ok-number.number (made.numbers ∙ c.requires.so_far.numbers) made.number pushed.numbers;
+      numbers = images-more nodes are n c.requires.there (number_table c.new_number.new.self.tables) (number_table c.push.new.self) c.in_ok-number.number (made.numbers ∙ c.requires.so_far.numbers) made.number pushed.numbers;
       count = omega (arith, made.count, c.requires.so_far.count, count-more nodes are n c.requires.there (omega (arith, made.number, made.count, c.requires.so_far.count)));
       gates = subst (HasGates nodes (n + 1)) (sym pushed.gates) made.gates;
       limit = omega (arith, pushed.limit, made.limit, c.requires.so_far.limit);
@@ -38,7 +38,7 @@ returns-else-number-self c =
     let made = c.in_ok-number.ensures in
     let pushed = c.in_ok-push.ensures in
     record {
-      numbers = images-more nodes are n c.requires.there (numbers_of c.new_number.new.self.tables) (numbers_of c.push.new.self) c.in_ok-number.number (made.numbers ∙ c.requires.so_far.numbers) made.number pushed.numbers;
+      numbers = images-more nodes are n c.requires.there (number_table c.new_number.new.self.tables) (number_table c.push.new.self) c.in_ok-number.number (made.numbers ∙ c.requires.so_far.numbers) made.number pushed.numbers;
       count = omega (arith, made.count, c.requires.so_far.count, count-same nodes are n c.requires.there (λ e. c.if-number-self.false (omega (arith, e, made.number, made.count, c.requires.so_far.count))));
       gates = subst (HasGates nodes (n + 1)) (sym pushed.gates) made.gates;
       limit = omega (arith, pushed.limit, made.limit, c.requires.so_far.limit);

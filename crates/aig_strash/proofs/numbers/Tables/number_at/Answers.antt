@@ -1,12 +1,12 @@
 use Rattle.std.proofs.Common.{ap, subst, sym}
 use Rattle.std.specs.Prelude.{IfOk}
-use Rattle.aig_strash.specs.Tables.{Gates, PutsIfAbsent, are_same, gates_of}
+use Rattle.aig_strash.specs.Tables.{Gates, PutsIfAbsent, are_same, gate_table}
 use Rattle.aig_strash.proofs.numbers.Tables.number_at.Goals as goal
 
 pub returns-in_ok-number-in-Narrow-clause-gates : goal.returns-in_ok-number-in-Narrow-clause-gates
 returns-in_ok-number-in-Narrow-clause-gates c =
-    subst (λ (gates : Gates). PutsIfAbsent are_same gates c.value_at.new.map c.args.literals c.args.next c.in_ok-number-in-Narrow.number) (sym (ap gates_of c.in-Narrow.is)) c.in_ok-number-in-Narrow.ensures
+    subst (λ (gates : Gates). PutsIfAbsent are_same gates c.value_at.new.map c.args.literals c.args.next c.in_ok-number-in-Narrow.number) (sym (ap gate_table c.in-Narrow.is)) c.in_ok-number-in-Narrow.ensures
 
 pub returns-in-Wide-clause-gates : goal.returns-in-Wide-clause-gates
 returns-in-Wide-clause-gates c =
-    subst (λ (gates : Gates). IfOk c.value_at-in-Wide.result (PutsIfAbsent are_same gates c.value_at-in-Wide.new.map c.args.literals c.args.next)) (sym (ap gates_of c.in-Wide.is)) c.value_at-in-Wide.ensures
+    subst (λ (gates : Gates). IfOk c.value_at-in-Wide.result (PutsIfAbsent are_same gates c.value_at-in-Wide.new.map c.args.literals c.args.next)) (sym (ap gate_table c.in-Wide.is)) c.value_at-in-Wide.ensures
