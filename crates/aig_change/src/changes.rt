@@ -8,8 +8,8 @@ ghost use Rattle.aig_change.specs.Merge.{merged};
 ghost use Rattle.aig_change.specs.Changes.{CompressesBads, ConstrainsInits, FoldsConstraints};
 
 use crate::append;
-use crate::joining::{inverses, join_first};
 use crate::inits::{constrain_starts, make_plain};
+use crate::joining::{inverses, join_first};
 use aig_base::MemoryError;
 use aig_circuit::build::{new_and_node, new_ands_node, new_leaf_node};
 use aig_circuit::inits::are_inits_constant;

@@ -3,9 +3,9 @@
 
 mod append;
 mod changes;
+mod inits;
 mod joining;
 mod laws;
-mod inits;
 
 pub use changes::{aig_move, compress_property, gate_init_to_constraint, merge};
 pub use laws::{merging_is_circuit, merging_pairs_runs, merging_with_false};

@@ -5,12 +5,12 @@ mod ands;
 pub mod build;
 pub mod checks;
 mod edge;
+pub mod inits;
 mod laws;
 pub mod leaves;
 pub mod marks;
 mod node;
 mod prop_list;
-pub mod inits;
 mod view;
 
 pub use ands::{AndsIter, gates_among};

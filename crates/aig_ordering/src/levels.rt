@@ -7,9 +7,9 @@ ghost use Rattle.aig_ordering.specs.Gates.{nodes_in};
 ghost use Rattle.aig_ordering.specs.Search.{IsAt, IsAtRest, IsAtSome, IsLevelBy, IsTask, Opens, StaysOpen, work_of};
 ghost use Rattle.aig_ordering.specs.Tables.{AreLevelsOf, AreNodesOf, IfLevels, OrderUnlessTransient, all_have_levels};
 
-use crate::order::entry_value;
 use crate::error::OrderError;
 use crate::gates::{Operands, variable_node};
+use crate::order::entry_value;
 use aig_circuit::AigNodeType;
 use std::alloc::Global;
 

@@ -3,14 +3,14 @@
 #![tactic(auto)]
 
 mod error;
-mod gates;
 mod gate_nodes;
+mod gates;
 mod levels;
 mod lists;
 mod order;
 
 pub use error::OrderError;
-pub use gates::{Operands, edge_of, variable_node};
 pub use gate_nodes::nodes;
+pub use gates::{Operands, edge_of, variable_node};
 pub use lists::{edges, latchs, sets, variables};
 pub use order::{Ordered, order_by_level};

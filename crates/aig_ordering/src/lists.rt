@@ -3,8 +3,8 @@
 ghost use Rattle.std.specs.Prelude.{◌≡◌, map};
 ghost use Rattle.aig_ordering.specs.Numbers.{MakesAll, all_by, edge_by, latch_by, number_at};
 
-use crate::order::entry_value;
 use crate::error::OrderError;
+use crate::order::entry_value;
 use aig_circuit::{AigEdge, AigLatch};
 use std::alloc::Global;
 

@@ -35,7 +35,11 @@ fn differences<F: ByteFeed>(f: &mut F, lhs: u32) -> Result<(u32, u32), LexError>
 }
 
 /// Reads the operands of the gate that defines this literal.
-fn operands<F: ByteFeed>(f: &mut F, variables: &DefinedVariables, lhs: u32) -> Result<(u32, u32), LexError>
+fn operands<F: ByteFeed>(
+    f: &mut F,
+    variables: &DefinedVariables,
+    lhs: u32,
+) -> Result<(u32, u32), LexError>
     ensures exact { Gives LexUnlessTransient (λ x. (x.0, x.1))
         (F.coming f.old) (F.coming f.new) result (parse_operands (file_kind variables.now) lhs) }
     ensures stream { IsErrOf result LexError.Stream → F.failed f.new ≡ true }

@@ -4,6 +4,7 @@
 mod bits;
 mod edges;
 mod error;
+mod gate_store;
 mod gates;
 mod header;
 mod inputs;
@@ -13,7 +14,6 @@ mod lines;
 mod names;
 mod nodes;
 mod numbering;
-mod gate_store;
 mod properties;
 mod reader;
 mod sections;

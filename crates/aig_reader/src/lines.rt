@@ -9,10 +9,10 @@ ghost use Rattle.aig_reader.specs.Faults.{IsSectionFault, ReadUnlessTransient};
 ghost use Rattle.aig_reader.specs.Sections.{AreLinesOf, file_by};
 
 use crate::error::{ReadError, Section, gates_result};
+use crate::gate_store::GateStore;
 use crate::gates::read_gates;
 use crate::inputs::read_inputs;
 use crate::latches::read_latches;
-use crate::gate_store::GateStore;
 use crate::properties::read_properties;
 use crate::sections::Lists;
 use crate::variables::DefinedVariables;

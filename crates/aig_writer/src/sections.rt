@@ -13,7 +13,7 @@ ghost use Rattle.aig_writer.specs.Literals.{HasLiteral, IsSmallEdge, IsSmallLatc
 
 use crate::buffer::OutputBuffer;
 use crate::literal::{literal, reset_literal};
-use crate::numbering::{written_number, renumber_edge, renumber_latch};
+use crate::numbering::{renumber_edge, renumber_latch, written_number};
 use aig_base::{Sink, StreamFault};
 use aig_circuit::{AigEdge, AigLatch, AigNode, AigNodeType, gate_node};
 use aig_format::FileKind;
