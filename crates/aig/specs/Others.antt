@@ -6,7 +6,8 @@ use Rattle.std.specs.FinMap.{FinMap}
 use Rattle.aig_circuit.specs.Circuit.{Circuit}
 use Rattle.aig_cone.specs.Refine.{AreKept, CutsRuns, IsMapOf, refined}
 
--- The circuit of the kept nodes in their old order, whose runs are the old ones, cut to the kept leaves, and each kept node's old number.
+-- The circuit of the kept nodes in their old order, whose runs are the old ones, cut to the kept
+-- leaves, and each kept node's old number.
 pub record IsRefined (old new : Circuit) (numbers : FinMap nat_cmp ℕ) : Type 0 where
   pub kept : List ℕ
   pub are_kept : AreKept old kept

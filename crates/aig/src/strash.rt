@@ -42,7 +42,8 @@ impl Aig {
         ensures numbers { IfOk result
             (λ made. NumbersRepresentatives self.now.nodes (image_of self.now.nodes)) }
         // Kept nodes have their kinds and their names.
-        ensures kept { IfOk result (λ made. KeepsRepresentatives self.now made (image_of self.now.nodes)) }
+        ensures kept { IfOk result (λ made.
+            KeepsRepresentatives self.now made (image_of self.now.nodes)) }
         // Gates share a node exactly where their trees are equal up to exchange, and each has its image's tree.
         ensures merges { IfOk result (λ made. MergesTrees self.now made (image_of self.now.nodes)) }
         // Runs, initial states and all values stay, both ways.

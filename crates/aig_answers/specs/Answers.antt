@@ -26,13 +26,15 @@ IsAsked limit k bytes f = IsWithin limit k bytes f × (f.bads ≢ [])
 abbrev pub AsksNothing : ℕ → ℕ → List ℕ → File → Type 0
 AsksNothing limit k bytes f = IsWithin limit k bytes f × (f.bads ≡ [])
 
--- how many variables the clauses of a window have at most: the bound of the circuit with k + 1 further steps, and the free ones
+-- how many variables the clauses of a window have at most: the bound of the circuit with k + 1
+-- further steps, and the free ones
 abbrev pub window_size : Window → Circuit → ℕ → ℕ
 window_size form c k = unrolled_size c (k + 1) + count_free form c k
 
 -- a window is asked of the file of these bytes, and that bound passes the limit
 abbrev pub IsCrowded : Window → ℕ → ℕ → List ℕ → File → Type 0
-IsCrowded form limit k bytes f = IsAsked limit (k + 1) bytes f × (limit < window_size form (circuit_of f) k)
+IsCrowded form limit k bytes f =
+    IsAsked limit (k + 1) bytes f × (limit < window_size form (circuit_of f) k)
 
 -- what an answer says of the file alone: that it is refused, or not
 abbrev pub of_file : {T : Type 0} → Result T AnswerError → Result Unit EncodeError
@@ -42,26 +44,39 @@ of_file (Err errors.NoBads) = Ok tt
 of_file (Err errors.TooLarge) = Ok tt
 of_file (Err (errors.Refutation e)) = Ok tt
 
--- What an answer tells of the bytes that the reader has left before and after, and of whether it has failed.
-pub record TellsOfFile {R T : Type 0} (left : R → Option (List ℕ)) (failed : R → Bool) (limit k : ℕ) (result : Result T AnswerError) (r rest : R) : Type 0 where
-  -- of known bytes, memory and the stream aside: they are refused exactly where they are no file within the limit, as TooMany and TooLarge exactly
-  -- where these apply
-  pub exact : IfSome (left r) (λ bytes. EncodeUnlessTransient (of_file result) (AnswersExactly (λ f u. Unit {0}) limit k (of_file result) bytes))
-  -- memory runs out only after a file within the limit was read, and further steps pass the limit only after one beyond it
-  pub memory : IsErrOf result (errors.Encode encode.Memory) → ConsumedFile (IsWithin limit k) (left r) (left rest)
-  pub large : IsErrOf result (errors.Encode encode.TooLarge) → ConsumedFile (IsBeyond limit k) (left r) (left rest)
+-- What an answer tells of the bytes that the reader has left before and after, and of whether it
+-- has failed.
+pub record TellsOfFile {R T : Type 0} (left : R → Option (List ℕ)) (failed : R → Bool) (limit k : ℕ)
+    (result : Result T AnswerError) (r rest : R) : Type 0 where
+  -- of known bytes, memory and the stream aside: they are refused exactly where they are no file
+  -- within the limit, as TooMany and TooLarge exactly where these apply
+  pub exact : IfSome (left r)
+      (λ bytes. EncodeUnlessTransient (of_file result)
+      (AnswersExactly (λ f u. Unit {0}) limit k (of_file result) bytes))
+  -- memory runs out only after a file within the limit was read, and further steps pass the limit
+  -- only after one beyond it
+  pub memory : IsErrOf result (errors.Encode encode.Memory)
+      → ConsumedFile (IsWithin limit k) (left r) (left rest)
+  pub large : IsErrOf result (errors.Encode encode.TooLarge)
+      → ConsumedFile (IsBeyond limit k) (left r) (left rest)
   -- nothing is asked only after a file without bad literals was read
-  pub no_bads : IsErrOf result errors.NoBads → ConsumedFile (AsksNothing limit k) (left r) (left rest)
+  pub no_bads : IsErrOf result errors.NoBads
+      → ConsumedFile (AsksNothing limit k) (left r) (left rest)
   -- Stream only where a read failed in this call
   pub stream : IsErrOf result (errors.Encode (encode.Read read.Stream)) → IsTrue (failed rest)
   pub never_open : IsErrOf result (errors.Encode (encode.Read read.Open)) → ⊥
 
 -- What the answer for a window tells of the bytes, as TooLarge.
-pub record TellsOfRoom {R T : Type 0} (left : R → Option (List ℕ)) (form : Window) (limit k : ℕ) (result : Result T AnswerError) (r rest : R) : Type 0 where
-  -- of known bytes, memory and the stream aside: exactly where the bound of the variables passes the limit
-  pub exact : IfSome (left r) (λ bytes. EncodeUnlessTransient (of_file result) (IsErrOf result errors.TooLarge ↔ ((f : File) × IsCrowded form limit k bytes f)))
+pub record TellsOfRoom {R T : Type 0} (left : R → Option (List ℕ)) (form : Window) (limit k : ℕ)
+    (result : Result T AnswerError) (r rest : R) : Type 0 where
+  -- of known bytes, memory and the stream aside: exactly where the bound of the variables passes
+  -- the limit
+  pub exact : IfSome (left r)
+      (λ bytes. EncodeUnlessTransient (of_file result)
+      (IsErrOf result errors.TooLarge ↔ ((f : File) × IsCrowded form limit k bytes f)))
   -- only after such a file was read
-  pub only : IsErrOf result errors.TooLarge → ConsumedFile (IsCrowded form limit k) (left r) (left rest)
+  pub only : IsErrOf result errors.TooLarge
+      → ConsumedFile (IsCrowded form limit k) (left r) (left rest)
 
 -- the answer tells nothing of a proof: none was read
 abbrev pub IsOfFileAlone : {T : Type 0} → Result T AnswerError → Type 0
@@ -71,7 +86,8 @@ IsOfFileAlone (Err errors.NoBads) = Unit {0}
 IsOfFileAlone (Err errors.TooLarge) = Unit {0}
 IsOfFileAlone (Err (errors.Refutation e)) = ⊥
 
--- the refusals of a window's clauses: further steps pass the limit, there is nothing to ask, or there is no room
+-- the refusals of a window's clauses: further steps pass the limit, there is nothing to ask, or
+-- there is no room
 abbrev pub IsOfCircuit : AnswerError → Type 0
 IsOfCircuit (errors.Encode (encode.Read e)) = ⊥
 IsOfCircuit (errors.Encode encode.Memory) = Unit {0}
@@ -106,13 +122,17 @@ HasBads limit bytes f = Accepts bytes limit f × (f.bads ≢ [])
 abbrev pub HasNoBads : ℕ → List ℕ → File → Type 0
 HasNoBads limit bytes f = Accepts bytes limit f × (f.bads ≡ [])
 
--- the bytes are this file, it fits and has a bad literal, and the bound of its reduced circuit with k further steps is within the limit
+-- the bytes are this file, it fits and has a bad literal, and the bound of its reduced circuit with
+-- k further steps is within the limit
 abbrev pub IsReducedWithin : ℕ → ℕ → List ℕ → File → Type 0
-IsReducedWithin limit k bytes f = HasBads limit bytes f × (d : Circuit) × IsReduced (circuit_of f) d × (unrolled_size d k ≤ limit)
+IsReducedWithin limit k bytes f =
+    HasBads limit bytes f × (d : Circuit) × IsReduced (circuit_of f) d × (unrolled_size d k ≤ limit)
 
--- the bytes are this file, it fits and has a bad literal, and the bound of its reduced circuit with k further steps passes the limit
+-- the bytes are this file, it fits and has a bad literal, and the bound of its reduced circuit with
+-- k further steps passes the limit
 abbrev pub IsReducedBeyond : ℕ → ℕ → List ℕ → File → Type 0
-IsReducedBeyond limit k bytes f = HasBads limit bytes f × (d : Circuit) × IsReduced (circuit_of f) d × (limit < unrolled_size d k)
+IsReducedBeyond limit k bytes f =
+    HasBads limit bytes f × (d : Circuit) × IsReduced (circuit_of f) d × (limit < unrolled_size d k)
 
 -- what an answer says of the reading alone: that the bytes are refused, or not
 abbrev pub of_reading : {T : Type 0} → Result T AnswerError → Result Unit ReadError
@@ -125,21 +145,30 @@ of_reading (Err errors.TooLarge) = Ok tt
 of_reading (Err (errors.Refutation e)) = Ok tt
 
 -- Which bytes are refused before a proof is read, and as what.
-pub record RefusesReduced {T : Type 0} (limit k : ℕ) (result : Result T AnswerError) (bytes : List ℕ) : Type 0 where
+pub record RefusesReduced {T : Type 0} (limit k : ℕ) (result : Result T AnswerError)
+    (bytes : List ℕ) : Type 0 where
   -- reading refuses exactly what is no file that fits, as TooMany exactly where this applies
   pub reading : ReadsExactly (λ f u. Unit {0}) limit (of_reading result) bytes
   pub no_bads : IsErrOf result errors.NoBads ↔ ((f : File) × HasNoBads limit bytes f)
-  pub too_large : IsErrOf result (errors.Encode encode.TooLarge) ↔ ((f : File) × IsReducedBeyond limit k bytes f)
+  pub too_large : IsErrOf result (errors.Encode encode.TooLarge)
+      ↔ ((f : File) × IsReducedBeyond limit k bytes f)
 
--- What an answer of a file's reduced circuit tells of the bytes that the reader has left before and after, and of whether it has failed.
-pub record TellsOfReduced {R T : Type 0} (left : R → Option (List ℕ)) (failed : R → Bool) (limit k : ℕ) (result : Result T AnswerError) (r rest : R) : Type 0 where
+-- What an answer of a file's reduced circuit tells of the bytes that the reader has left before and
+-- after, and of whether it has failed.
+pub record TellsOfReduced {R T : Type 0} (left : R → Option (List ℕ)) (failed : R → Bool)
+    (limit k : ℕ) (result : Result T AnswerError) (r rest : R) : Type 0 where
   -- of known bytes, memory and the stream aside: they are refused exactly where these apply
-  pub exact : IfSome (left r) (λ bytes. EncodeUnlessTransient (of_file result) (RefusesReduced limit k result bytes))
+  pub exact : IfSome (left r)
+      (λ bytes. EncodeUnlessTransient (of_file result) (RefusesReduced limit k result bytes))
   -- memory runs out after the reading only after a file that fits was read
-  pub memory : IsErrOf result (errors.Encode encode.Memory) → ConsumedFile (λ bytes. Accepts bytes limit) (left r) (left rest)
-  -- further steps pass the limit only after a file whose reduced circuit's do, and then its own circuit's do
-  pub large : IsErrOf result (errors.Encode encode.TooLarge) → ConsumedFile (IsReducedBeyond limit k) (left r) (left rest)
-  pub larger : IsErrOf result (errors.Encode encode.TooLarge) → ConsumedFile (IsBeyond limit k) (left r) (left rest)
+  pub memory : IsErrOf result (errors.Encode encode.Memory)
+      → ConsumedFile (λ bytes. Accepts bytes limit) (left r) (left rest)
+  -- further steps pass the limit only after a file whose reduced circuit's do, and then its own
+  -- circuit's do
+  pub large : IsErrOf result (errors.Encode encode.TooLarge)
+      → ConsumedFile (IsReducedBeyond limit k) (left r) (left rest)
+  pub larger : IsErrOf result (errors.Encode encode.TooLarge)
+      → ConsumedFile (IsBeyond limit k) (left r) (left rest)
   -- nothing is asked only after a file without bad literals was read
   pub no_bads : IsErrOf result errors.NoBads → ConsumedFile (HasNoBads limit) (left r) (left rest)
   -- Stream only where a read failed in this call

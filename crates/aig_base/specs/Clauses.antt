@@ -58,7 +58,8 @@ Satisfies v lists = All (λ clauses. IsTrue (are_true v clauses)) lists
 abbrev pub AreBelow : ℕ → List (List Lit) → Type 0
 AreBelow n clauses = All (λ clause. All (λ lit. variable_of lit < n) clause) clauses
 
--- one list of clauses for each variable: one at least and 2^31 at most, and each literal's variable has a list
+-- one list of clauses for each variable: one at least and 2^31 at most, and each literal's variable
+-- has a list
 pub record AreRelations (lists : List (List (List Lit))) : Type 0 where
   pub some : 0 < length lists
   pub few : length lists ≤ 2 ^ 31
@@ -76,9 +77,11 @@ and_clauses n lits = map (λ a. inverse_lit n ∷ a ∷ []) lits ++ (n ∷ map i
 -- n is x exclusive or y
 abbrev pub xor_clauses : Lit → Lit → Lit → List (List Lit)
 xor_clauses n x y =
-    (inverse_lit n ∷ x ∷ y ∷ []) ∷ (inverse_lit n ∷ inverse_lit x ∷ inverse_lit y ∷ []) ∷ (n ∷ inverse_lit x ∷ y ∷ []) ∷ (n ∷ x ∷ inverse_lit y ∷ []) ∷ []
+    (inverse_lit n ∷ x ∷ y ∷ []) ∷ (inverse_lit n ∷ inverse_lit x ∷ inverse_lit y ∷ [])
+    ∷ (n ∷ inverse_lit x ∷ y ∷ []) ∷ (n ∷ x ∷ inverse_lit y ∷ []) ∷ []
 
 -- n is t where c, and else e
 abbrev pub ite_clauses : Lit → Lit → Lit → Lit → List (List Lit)
 ite_clauses n c t e =
-    (inverse_lit c ∷ inverse_lit t ∷ n ∷ []) ∷ (inverse_lit c ∷ t ∷ inverse_lit n ∷ []) ∷ (c ∷ inverse_lit e ∷ n ∷ []) ∷ (c ∷ e ∷ inverse_lit n ∷ []) ∷ []
+    (inverse_lit c ∷ inverse_lit t ∷ n ∷ []) ∷ (inverse_lit c ∷ t ∷ inverse_lit n ∷ [])
+    ∷ (c ∷ inverse_lit e ∷ n ∷ []) ∷ (c ∷ e ∷ inverse_lit n ∷ []) ∷ []

@@ -2,7 +2,8 @@
 -- Lists that stand one after another in one list, and where each ends.
 use Rattle.std.specs.Prelude.{◌≡◌, ℕ, zero, suc, ◌≤◌, List, [], ◌∷◌, slice_range, slice_index}
 
--- the lists that a list is cut into: the first begins at `from`, and each other where the one before it ends
+-- the lists that a list is cut into: the first begins at `from`, and each other where the one
+-- before it ends
 abbrev pub cut_at : {X : Type 0} → ℕ → List ℕ → List X → List (List X)
 cut_at from [] items = []
 cut_at from (end ∷ ends) items = slice_range items from end ∷ cut_at end ends items

@@ -4,7 +4,8 @@ use Rattle.std.specs.Prelude.{◌≡◌, Bool, true, false}
 use Rattle.aig_base.specs.declared.logic.three.Lbool.{Lbool}
 use Rattle.aig_base.specs.declared.logic.three.Lbool.TheVariants.{FALSE, TRUE, NONE}
 
--- the and of two values: false with anything is false, true with true is true, and all else is unknown
+-- the and of two values: false with anything is false, true with true is true, and all else is
+-- unknown
 abbrev pub lbool_and : Lbool → Lbool → Lbool
 lbool_and FALSE b = FALSE
 lbool_and TRUE b = b

@@ -44,7 +44,8 @@ pub fn second_value(
     requires first { length first.items ≡ length aig.now.inputs }
     requires second { length second.items ≡ length aig.now.inputs }
     ensures { IfOk result (λ known. IfSome known (λ value. value
-        ≡ value_in (stepped (stepped (simulation_of aig.now state.items) first.items) second.items) e)) }
+        ≡ value_in
+        (stepped (stepped (simulation_of aig.now state.items) first.items) second.items) e)) }
 {
     let mut simulation = TernarySimulate::new(aig, state);
     simulation.simulate(first)?;

@@ -1,7 +1,7 @@
 -- Part of what laws say, and of no promise of a call.
 -- A file that shows the safety of another. (Certificates of model checking: an inductive invariant
--- is handed over as a file of the same machine with more gates, one of which says the invariant, and
--- whose inverse is a bad literal beside the others.)
+-- is handed over as a file of the same machine with more gates, one of which says the invariant,
+-- and whose inverse is a bad literal beside the others.)
 use Rattle.std.specs.Prelude.{ℕ, Bool, All, Contains}
 use Rattle.aig_format.specs.File.{File}
 use Rattle.aig_format.specs.Machine.{IsStep}

@@ -1,6 +1,7 @@
 -- Part of what is promised.
--- Safety at every step, by induction over windows of steps. (Temporal induction, k-induction, and its form over runs without a repeated
--- state: Sheeran, Singh and Stålmarck, 2000; Bjesse and Claessen, 2000.)
+-- Safety at every step, by induction over windows of steps. (Temporal induction, k-induction, and
+-- its form over runs without a repeated state: Sheeran, Singh and Stålmarck, 2000; Bjesse and
+-- Claessen, 2000.)
 use Rattle.std.specs.Prelude.{◌≡◌, ℕ, ◌+◌, ◌/◌, ◌<◌, ◌≤◌, Bool}
 use Rattle.std.specs.List.{AllByRecursion}
 use Rattle.aig_format.specs.File.{File}
@@ -11,7 +12,8 @@ use Rattle.aig_certify.specs.Safety.{IsConstrained, IsGood}
 
 -- the latches have the same values
 abbrev pub IsSameState : File → (ℕ → Bool) → (ℕ → Bool) → Type 0
-IsSameState f values other = AllByRecursion (λ l. values (l.literal / 2) ≡ other (l.literal / 2)) f.latches
+IsSameState f values other =
+    AllByRecursion (λ l. values (l.literal / 2) ≡ other (l.literal / 2)) f.latches
 
 -- of the steps 0 to last no two have the same state
 abbrev pub HasDistinctStates : File → ℕ → (ℕ → ℕ → Bool) → Type 0
@@ -22,7 +24,8 @@ abbrev pub Regards : Window → File → ℕ → (ℕ → ℕ → Bool) → Type
 Regards Plain f last run = Unit {0}
 Regards Distinct f last run = HasDistinctStates f last run
 
--- a run of k + 2 steps, from any state, at which the form looks, with every constraint at each step, and no bad literal at the steps 0 to k
+-- a run of k + 2 steps, from any state, at which the form looks, with every constraint at each
+-- step, and no bad literal at the steps 0 to k
 pub record IsWindow (form : Window) (f : File) (k : ℕ) (run : ℕ → ℕ → Bool) : Type 0 where
   pub is_run : IsMachineRun f (k + 1) run
   pub constraints : (t : ℕ) → t ≤ k + 1 → IsConstrained f (run t)

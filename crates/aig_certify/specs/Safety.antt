@@ -16,10 +16,12 @@ IsConstrained f values = AllByRecursion (λ e. IsTrue (value_of_literal values e
 abbrev pub IsGood : File → (ℕ → Bool) → Type 0
 IsGood f values = AllByRecursion (λ e. value_of_literal values e ≡ false) f.bads
 
--- no run of k + 1 steps from an initial state meets every constraint and, at step k, some bad literal
+-- no run of k + 1 steps from an initial state meets every constraint and, at step k, some bad
+-- literal
 abbrev pub IsSafeAt : File → ℕ → Type 0
 IsSafeAt f k = ¬ ((run : ℕ → ℕ → Bool) × IsWitness f k run)
 
--- no run of k + 1 steps of the circuit from an initial state meets every constraint and, at step k, some bad edge
+-- no run of k + 1 steps of the circuit from an initial state meets every constraint and, at step k,
+-- some bad edge
 abbrev pub IsCircuitSafeAt : Circuit → ℕ → Type 0
 IsCircuitSafeAt c k = ¬ HasCircuitWitness c k

@@ -1,5 +1,6 @@
 -- Part of what is promised.
--- The clauses that ask for a window of steps that is bad first at its end. (Temporal induction: Sheeran, Singh and Stålmarck, 2000.)
+-- The clauses that ask for a window of steps that is bad first at its end. (Temporal induction:
+-- Sheeran, Singh and Stålmarck, 2000.)
 use Rattle.std.specs.Prelude.{◌≡◌, ℕ, zero, suc, ◌+◌, ◌*◌, Bool, true, false, List, [], ◌∷◌, ◌++◌, length, map, take, drop, replicate}
 use Rattle.aig_base.specs.declared.logic.literal.Lit.{Lit}
 use Rattle.aig_base.specs.Clauses.{AreRelations, lit_to}
@@ -14,11 +15,13 @@ use Rattle.aig_certify.specs.declared.window.Window.TheVariants.{Plain, Distinct
 
 -- ---- induction
 
--- Each constraint at each step, that each bad edge of the steps 0 to k is false, and one clause of the bad edges of step k + 1, where the
--- circuit is unrolled by k + 1 steps.
+-- Each constraint at each step, that each bad edge of the steps 0 to k is false, and one clause of
+-- the bad edges of step k + 1, where the circuit is unrolled by k + 1 steps.
 abbrev pub induction_clauses : Circuit → ℕ → Circuit → List (List Lit)
 induction_clauses c k unrolled =
-    unit_clauses unrolled.constraints ++ unit_clauses (map inverse (take ((k + 1) * length c.bads) unrolled.bads)) ++ map lit_of (last_bads c (k + 1) unrolled) ∷ []
+    unit_clauses unrolled.constraints
+    ++ unit_clauses (map inverse (take ((k + 1) * length c.bads) unrolled.bads))
+    ++ map lit_of (last_bads c (k + 1) unrolled) ∷ []
 
 -- ---- distinct states
 
@@ -31,12 +34,15 @@ abbrev pub watched : Window → Circuit → Circuit
 watched Plain c = c
 watched Distinct c = record c { outputs = state_edges c }
 
--- for each pair of edges, that they differ where variable n is true, n + 1 for the next pair, and so on
+-- for each pair of edges, that they differ where variable n is true, n + 1 for the next pair, and
+-- so on
 abbrev pub difference_clauses : ℕ → List AigEdge → List AigEdge → List (List Lit)
 difference_clauses n [] ys = []
 difference_clauses n (x ∷ xs) [] = []
 difference_clauses n (x ∷ xs) (y ∷ ys) =
-    (lit_to n false ∷ lit_of x ∷ lit_of y ∷ []) ∷ (lit_to n false ∷ lit_of (inverse x) ∷ lit_of (inverse y) ∷ []) ∷ difference_clauses (n + 1) xs ys
+    (lit_to n false ∷ lit_of x ∷ lit_of y ∷ [])
+    ∷ (lit_to n false ∷ lit_of (inverse x) ∷ lit_of (inverse y) ∷ [])
+    ∷ difference_clauses (n + 1) xs ys
 
 -- so many variables, from n on
 abbrev pub variables_from : ℕ → ℕ → List Lit
@@ -54,7 +60,9 @@ state_at l edges t = take l (drop (t * l) edges)
 -- the state at step t differs from that at each of the first so many steps
 abbrev pub apart_clauses : ℕ → ℕ → List AigEdge → ℕ → ℕ → List (List Lit)
 apart_clauses n l edges t zero = []
-apart_clauses n l edges t (suc s) = apart_clauses n l edges t s ++ pair_clauses (n + s * l) (state_at l edges s) (state_at l edges t)
+apart_clauses n l edges t (suc s) =
+    apart_clauses n l edges t s
+    ++ pair_clauses (n + s * l) (state_at l edges s) (state_at l edges t)
 
 -- how many pairs of steps there are among so many
 abbrev pub count_pairs : ℕ → ℕ
@@ -64,7 +72,8 @@ count_pairs (suc t) = count_pairs t + t
 -- the states at the first so many steps differ, where variables from n on are free
 abbrev pub distinct_clauses : ℕ → ℕ → List AigEdge → ℕ → List (List Lit)
 distinct_clauses n l edges zero = []
-distinct_clauses n l edges (suc t) = distinct_clauses n l edges t ++ apart_clauses (n + count_pairs t * l) l edges t t
+distinct_clauses n l edges (suc t) =
+    distinct_clauses n l edges t ++ apart_clauses (n + count_pairs t * l) l edges t t
 
 -- ---- windows
 
@@ -76,14 +85,17 @@ count_free Distinct c k = count_pairs (k + 2) * length c.latchs
 -- the clauses by which a form tells states apart, where n is the count of nodes
 abbrev pub states_clauses : Window → ℕ → Circuit → ℕ → Circuit → List (List Lit)
 states_clauses Plain n c k unrolled = []
-states_clauses Distinct n c k unrolled = distinct_clauses n (length c.latchs) unrolled.outputs (k + 2)
+states_clauses Distinct n c k unrolled =
+    distinct_clauses n (length c.latchs) unrolled.outputs (k + 2)
 
 -- the window clauses of a window, in order
 abbrev pub window_clauses : Window → ℕ → Circuit → ℕ → Circuit → List (List Lit)
-window_clauses form n c k unrolled = induction_clauses c k unrolled ++ states_clauses form n c k unrolled
+window_clauses form n c k unrolled =
+    induction_clauses c k unrolled ++ states_clauses form n c k unrolled
 
 -- The clauses of the circuit, unrolled by k + 1 steps, and the further ones of a window.
-pub record AsksWindow (form : Window) (c : Circuit) (k : ℕ) (optimize : Bool) (lists : List (List (List Lit))) (further : List (List Lit)) : Type 0 where
+pub record AsksWindow (form : Window) (c : Circuit) (k : ℕ) (optimize : Bool)
+    (lists : List (List (List Lit))) (further : List (List Lit)) : Type 0 where
   pub unrolled : Circuit
   pub clauses : List (List (List Lit))
   pub is_circuit : IsCircuit unrolled

@@ -15,7 +15,8 @@ use aig_runs::circuit_witnesses_are_file_witnesses;
 /// Law: where no assignment satisfies both lists of clauses of a circuit's query, the circuit has no run of k + 1 steps from a
 /// start on which every constraint holds and, at the last step, some bad edge.
 pub fn refuted_circuit_queries_have_no_witness()
-    ensures { (c unrolled : Circuit) (k : ℕ) (clauses : List (List (List Lit))) (further : List (List Lit))
+    ensures { (c unrolled : Circuit) (k : ℕ) (clauses : List (List (List Lit)))
+        (further : List (List Lit))
         → AsksOfCircuit c k unrolled clauses further
         → ¬ IsSatisfiable (clauses_in clauses ++ further) → IsCircuitSafeAt c k }
 {}

@@ -24,7 +24,8 @@ use aig_runs::refuted_queries_are_safe;
 /// Law: where no assignment satisfies both lists of clauses of a query, the file's machine has no run of k + 1 steps from a
 /// start on which every constraint holds and, at the last step, some bad literal.
 pub fn refuted_queries_have_no_witness()
-    ensures { (f : File) (k : ℕ) (circuit unrolled : Circuit) (clauses : List (List (List Lit))) (further : List (List Lit))
+    ensures { (f : File) (k : ℕ) (circuit unrolled : Circuit) (clauses : List (List (List Lit)))
+        (further : List (List Lit))
         → IsQueryOf f k circuit unrolled clauses further
         → ¬ IsSatisfiable (clauses_in clauses ++ further) → IsSafeAt f k }
 {}
@@ -93,8 +94,10 @@ pub fn refuted_windows_are_inductive()
 /// its own runs is one of the other.
 pub fn extended_files_have_runs()
     ensures forth { (g f : File) (bound limit last : ℕ) (run : ℕ → ℕ → Bool)
-        → Fits g bound → Fits f limit → Extends g f → IsMachineRun f last run → IsMachineInitial f run
-        → (r : ℕ → ℕ → Bool) × IsMachineRun g last r × IsMachineInitial g r × AgreeOnKnown f last run r }
+        → Fits g bound → Fits f limit → Extends g f → IsMachineRun f last run
+        → IsMachineInitial f run
+        → (r : ℕ → ℕ → Bool) × IsMachineRun g last r × IsMachineInitial g r
+        × AgreeOnKnown f last run r }
     ensures back { (g f : File) (last : ℕ) (run : ℕ → ℕ → Bool) → Extends g f
         → IsMachineRun g last run → IsMachineRun f last run }
     ensures starts { (g f : File) (run : ℕ → ℕ → Bool) → Extends g f

@@ -23,5 +23,6 @@ pub record HasRoomForCircuit (lists : CircuitLists) (other : Circuit) : Type 0 w
   pub latchs : vec_len lists.latchs + length other.latchs ≤ vec_capacity lists.latchs
   pub outputs : vec_len lists.outputs + length other.outputs ≤ vec_capacity lists.outputs
   pub bads : vec_len lists.bads + length other.bads ≤ vec_capacity lists.bads
-  pub constraints : vec_len lists.constraints + length other.constraints ≤ vec_capacity lists.constraints
+  pub constraints : vec_len lists.constraints + length other.constraints
+      ≤ vec_capacity lists.constraints
   pub fairness : vec_len lists.fairness + length other.fairness ≤ vec_capacity lists.fairness

@@ -12,7 +12,8 @@ use Rattle.aig_circuit.specs.Build.{FoldsOrAdds, FoldsOrAddsEq}
 
 -- an initial edge that isn't constant has the latch's value
 abbrev pub MeetsInit : List AigNode → (ℕ → Bool) → AigLatch → Type 0
-MeetsInit nodes x latch = IfSome latch.init (λ e. e.node_id ≢ 0 → edge_value nodes x e ≡ x latch.input)
+MeetsInit nodes x latch =
+    IfSome latch.init (λ e. e.node_id ≢ 0 → edge_value nodes x e ≡ x latch.input)
 
 -- the initial edge is there and isn't constant
 abbrev pub is_variable : Option AigEdge → Bool
@@ -23,12 +24,17 @@ is_variable None = false
 abbrev pub variable_latchs : List AigLatch → List AigLatch
 variable_latchs latchs = filter (λ latch. is_variable latch.init) latchs
 
--- the constraint holds exactly where the edge `first` implies that the latch has the value of its initial edge
+-- the constraint holds exactly where the edge `first` implies that the latch has the value of its
+-- initial edge
 abbrev pub ImpliesInit : List AigNode → List AigNode → AigEdge → AigEdge → AigLatch → Type 0
-ImpliesInit old new first constraint latch = (x : ℕ → Bool) → IsTrue (edge_value new x constraint) ↔ (edge_value old x first ≡ true → MeetsInit old x latch)
+ImpliesInit old new first constraint latch =
+    (x : ℕ → Bool)
+    → IsTrue (edge_value new x constraint) ↔ (edge_value old x first ≡ true → MeetsInit old x latch)
 
--- One latch's constraint by the builders' rules: its leaf equals its initial edge, and the edge `first` implies that.
-pub record SaysInSteps (old new : List AigNode) (first constraint : AigEdge) (latch : AigLatch) : Type 0 where
+-- One latch's constraint by the builders' rules: its leaf equals its initial edge, and the edge
+-- `first` implies that.
+pub record SaysInSteps (old new : List AigNode) (first constraint : AigEdge) (latch : AigLatch)
+    : Type 0 where
   pub start : AigEdge
   pub is_start : latch.init ≡ Some start
   pub mid : List AigNode
@@ -37,19 +43,25 @@ pub record SaysInSteps (old new : List AigNode) (first constraint : AigEdge) (la
   pub implies : FoldsOrAdds mid new first (inverse equal) (inverse constraint)
 
 -- the constraints of these latches, made one after the other
-abbrev pub SayInSteps : List AigNode → AigEdge → List AigEdge → List AigLatch → List AigNode → Type 0
+abbrev pub SayInSteps : List AigNode → AigEdge → List AigEdge → List AigLatch → List AigNode
+    → Type 0
 SayInSteps old first [] [] new = new ≡ old
 SayInSteps old first [] (latch ∷ latchs) new = ⊥
 SayInSteps old first (constraint ∷ constraints) [] new = ⊥
 SayInSteps old first (constraint ∷ constraints) (latch ∷ latchs) new =
-    (mid : List AigNode) × SaysInSteps old mid first constraint latch × SayInSteps mid first constraints latchs new
+    (mid : List AigNode) × SaysInSteps old mid first constraint latch
+    × SayInSteps mid first constraints latchs new
 
--- Constraints are appended, one for each latch whose initial edge isn't constant. They all hold exactly where the edge `first` implies that
--- each of these latches has the value of its initial edge.
-pub record Constrains (old new : List AigNode) (first : AigEdge) (latchs : List AigLatch) (before after : List AigEdge) : Type 0 where
+-- Constraints are appended, one for each latch whose initial edge isn't constant. They all hold
+-- exactly where the edge `first` implies that each of these latches has the value of its initial
+-- edge.
+pub record Constrains (old new : List AigNode) (first : AigEdge) (latchs : List AigLatch)
+    (before after : List AigEdge) : Type 0 where
   pub constrained : List AigEdge
   pub appended : after ≡ before ++ constrained
   pub there : All (IsInRange new) constrained
-  pub says : (x : ℕ → Bool) → All (λ e. IsTrue (edge_value new x e)) constrained ↔ (edge_value old x first ≡ true → All (MeetsInit old x) latchs)
+  pub says : (x : ℕ → Bool)
+      → All (λ e. IsTrue (edge_value new x e)) constrained
+      ↔ (edge_value old x first ≡ true → All (MeetsInit old x) latchs)
   pub each : AllZip (ImpliesInit old new first) constrained (variable_latchs latchs)
   pub steps : SayInSteps old first constrained (variable_latchs latchs) new

@@ -41,7 +41,8 @@ KeepsTrees old new = (n : ℕ) → n < length old → tree_of new n ≡ tree_of 
 
 -- every edge to an old node keeps its value for all leaf values
 abbrev pub KeepsValues : List AigNode → List AigNode → Type 0
-KeepsValues old new = (x : ℕ → Bool) (e : AigEdge) → IsInRange old e → edge_value new x e ≡ edge_value old x e
+KeepsValues old new =
+    (x : ℕ → Bool) (e : AigEdge) → IsInRange old e → edge_value new x e ≡ edge_value old x e
 
 -- sound nodes, the old ones first, which keep their trees and values
 pub record Grows (old new : List AigNode) : Type 0 where
@@ -55,7 +56,8 @@ pub record Grows (old new : List AigNode) : Type 0 where
 -- gates alone are added, after the old nodes
 pub record AddsGates (old new : List AigNode) : Type 0 where
   pub grows : Grows old new
-  pub gates : (n : ℕ) → length old ≤ n → n < length new → (a b : AigEdge) × (kind_at new n ≡ Some (And a b))
+  pub gates : (n : ℕ) → length old ≤ n → n < length new
+      → (a b : AigEdge) × (kind_at new n ≡ Some (And a b))
 
 -- gates alone are added to the circuit: all its lists and its names stay
 pub record AddsOnlyGates (old new : Circuit) : Type 0 where
@@ -67,16 +69,20 @@ abbrev pub JoiningStep : Type 1
 JoiningStep = List AigNode → List AigNode → AigEdge → AigEdge → AigEdge → Type 0
 
 -- the edge e is made of the edge `all` and the edges es, from the left, by one step for each of es
-abbrev pub JoinsFromLeft : JoiningStep → List AigNode → AigEdge → List AigEdge → List AigNode → AigEdge → Type 0
+abbrev pub JoinsFromLeft : JoiningStep → List AigNode → AigEdge → List AigEdge → List AigNode
+    → AigEdge → Type 0
 JoinsFromLeft Step old all [] new e = (new ≡ old) × (e ≡ all)
 JoinsFromLeft Step old all (f ∷ fs) new e =
-    (mid : List AigNode) × (next : AigEdge) × Step old mid all f next × JoinsFromLeft Step mid next fs new e
+    (mid : List AigNode) × (next : AigEdge) × Step old mid all f next
+    × JoinsFromLeft Step mid next fs new e
 
--- true and then each of the edges, joined from the left: an edge that folds adds no node, and any other adds one gate
+-- true and then each of the edges, joined from the left: an edge that folds adds no node, and any
+-- other adds one gate
 abbrev pub FoldsOrAddsAll : List AigNode → List AigEdge → List AigNode → AigEdge → Type 0
 FoldsOrAddsAll old es new e = JoinsFromLeft FoldsOrAdds old (edge_to 0 true) es new e
 
--- the edges joined from the left by one gate for each edge after the first; of no edges true, and no node is added
+-- the edges joined from the left by one gate for each edge after the first; of no edges true, and
+-- no node is added
 abbrev pub AddsGateForEach : List AigNode → List AigEdge → List AigNode → AigEdge → Type 0
 AddsGateForEach old [] new e = (new ≡ old) × (e ≡ edge_to 0 true)
 AddsGateForEach old (f ∷ fs) new e = JoinsFromLeft AddsGate old f fs new e
@@ -91,8 +97,10 @@ pub record FoldsOrAddsEq (old new : List AigNode) (a b e : AigEdge) : Type 0 whe
   pub is_neither : FoldsOrAdds one two (inverse a) (inverse b) neither
   pub is_either : FoldsOrAdds two new (inverse both) (inverse neither) (inverse e)
 
--- the edge e joins the edges es: its value is what `join` gives of theirs, of no edges it is constant, and of one edge it is that one
-pub record Joins (join : (AigEdge → Bool) → List AigEdge → Bool) (unit : Bool) (old new : List AigNode) (es : List AigEdge) (e : AigEdge) : Type 0 where
+-- the edge e joins the edges es: its value is what `join` gives of theirs, of no edges it is
+-- constant, and of one edge it is that one
+pub record Joins (join : (AigEdge → Bool) → List AigEdge → Bool) (unit : Bool)
+    (old new : List AigNode) (es : List AigEdge) (e : AigEdge) : Type 0 where
   pub there : IsInRange new e
   pub value : (x : ℕ → Bool) → edge_value new x e ≡ join (edge_value old x) es
   pub none : es ≡ [] → (e ≡ edge_to 0 unit) × (new ≡ old)

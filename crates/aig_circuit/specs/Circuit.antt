@@ -1,6 +1,7 @@
 -- Part of what is promised.
 -- Circuits: nodes, inputs, latches, and properties.
--- (The crate aig; AIGER 1.9: "Reset logic" for initial edges, "Properties" for all properties but outputs.)
+-- (The crate aig; AIGER 1.9: "Reset logic" for initial edges, "Properties" for all properties but
+-- outputs.)
 use Rattle.std.specs.Prelude.{◌≡◌, ◌≢◌, ℕ, ◌<◌, ◌≤◌, IsTrue, Some, IfSome, List, [], ◌∷◌, ◌++◌, length, map, All, AllPairs, Contains, slice_get}
 use Rattle.std.specs.Ordering.{nat_cmp}
 use Rattle.std.specs.FinMap.{FinMap, contains_key, empty}
@@ -10,7 +11,8 @@ use Rattle.aig_circuit.specs.declared.node.AigNode.{AigNode}
 use Rattle.aig_circuit.specs.declared.node.AigLatch.{AigLatch}
 use Rattle.aig_circuit.specs.Node.{kind_at, IsOrdered}
 
--- an And-Inverter Graph with its lists: nodes, inputs, latches, properties, and the names of nodes by their bytes
+-- an And-Inverter Graph with its lists: nodes, inputs, latches, properties, and the names of nodes
+-- by their bytes
 pub record Circuit : Type 0 where
   pub nodes : List AigNode
   pub inputs : List ℕ
@@ -50,7 +52,8 @@ abbrev pub HasFreeLeaf : List AigNode → List ℕ → List AigLatch → Type 0
 HasFreeLeaf nodes inputs latchs = (n : ℕ) × IsLeaf nodes n × IsFree inputs latchs n
 
 -- inputs and the leaves of latches are leaves, all of them distinct
-pub record AreLeaves (nodes : List AigNode) (inputs : List ℕ) (latchs : List AigLatch) : Type 0 where
+pub record AreLeaves (nodes : List AigNode) (inputs : List ℕ) (latchs : List AigLatch)
+    : Type 0 where
   pub leaves : All (IsLeaf nodes) (inputs ++ latch_leaves latchs)
   pub distinct : AllPairs (λ m n. m ≢ n) (inputs ++ latch_leaves latchs)
 

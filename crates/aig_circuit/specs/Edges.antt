@@ -1,5 +1,6 @@
 -- Part of what is promised.
--- Which edges a circuit names: those of its properties, its next edges and its initial edges; which nodes edges name.
+-- Which edges a circuit names: those of its properties, its next edges and its initial edges; which
+-- nodes edges name.
 -- (AIGER 1.9: "Properties" and "Reset logic".)
 use Rattle.std.specs.Prelude.{◌≢◌, ◌≡◌, ℕ, option_to_list, IfSome, IsSomeAnd, List, ◌∷◌, ◌++◌, map, Contains}
 use Rattle.std.specs.List.{flat_map}
@@ -17,7 +18,8 @@ ReferTo es n = Contains (nodes_of es) n
 
 -- the edges of all properties
 abbrev pub property_edges : Circuit → List AigEdge
-property_edges c = c.outputs ++ c.bads ++ c.constraints ++ flat_map (λ set. set) c.justice ++ c.fairness
+property_edges c =
+    c.outputs ++ c.bads ++ c.constraints ++ flat_map (λ set. set) c.justice ++ c.fairness
 
 -- a latch's next edge, and its initial edge if it has one
 abbrev pub latch_edges : AigLatch → List AigEdge
@@ -29,7 +31,9 @@ initial_edges latchs = flat_map (λ latch. option_to_list latch.init) latchs
 
 -- all properties, all next and all initial edges
 abbrev pub roots_of : Circuit → List AigEdge
-roots_of c = c.outputs ++ c.bads ++ c.constraints ++ flat_map (λ set. set) c.justice ++ c.fairness ++ flat_map latch_edges c.latchs
+roots_of c =
+    c.outputs ++ c.bads ++ c.constraints ++ flat_map (λ set. set) c.justice ++ c.fairness
+    ++ flat_map latch_edges c.latchs
 
 -- the latch has an initial edge that isn't constant
 abbrev pub HasNonConstantInit : AigLatch → Type 0

@@ -1,5 +1,6 @@
 -- Part of what is promised.
--- What is reached from a set of nodes, along operands, and over time along next edges. (The cone of influence.)
+-- What is reached from a set of nodes, along operands, and over time along next edges. (The cone of
+-- influence.)
 use Rattle.std.specs.Prelude.{◌≡◌, ℕ, ◌<◌, ◌⊎◌, ◌↔◌, Bool, Some, List, length, Contains}
 use Rattle.aig_circuit.specs.declared.edge.AigEdge.{AigEdge}
 use Rattle.aig_circuit.specs.declared.node.AigNodeType.TheVariants.{And}
@@ -11,11 +12,13 @@ use Rattle.aig_circuit.specs.Marks.{IsMarked}
 
 -- n is a gate, and m the node of one of its operands
 abbrev pub IsFanin : List AigNode → ℕ → ℕ → Type 0
-IsFanin nodes n m = (a b : AigEdge) × (kind_at nodes n ≡ Some (And a b)) × ((m ≡ a.node_id) ⊎ (m ≡ b.node_id))
+IsFanin nodes n m =
+    (a b : AigEdge) × (kind_at nodes n ≡ Some (And a b)) × ((m ≡ a.node_id) ⊎ (m ≡ b.node_id))
 
 -- n is a latch's leaf, and m the node of its next edge
 abbrev pub IsLatchNext : List AigLatch → ℕ → ℕ → Type 0
-IsLatchNext latchs n m = (latch : AigLatch) × Contains latchs latch × (n ≡ latch.input) × (m ≡ latch.next.node_id)
+IsLatchNext latchs n m =
+    (latch : AigLatch) × Contains latchs latch × (n ≡ latch.input) × (m ≡ latch.next.node_id)
 
 -- m is an operand's node, or the node of a latch's next edge
 abbrev pub DependsOn : Circuit → ℕ → ℕ → Type 0

@@ -1,5 +1,6 @@
 -- Part of what is promised.
--- The numbering of a closed circuit that a binary file has: inputs first, then latches, then gates in rising number.
+-- The numbering of a closed circuit that a binary file has: inputs first, then latches, then gates
+-- in rising number.
 -- (AIGER format 20071012, "Binary encoding".)
 use Rattle.std.specs.Prelude.{◌≡◌, ℕ, ◌+◌, Option, Some, None, List, ◌∷◌, ◌++◌, filter_map, slice_index, EachIndex}
 use Rattle.aig_circuit.specs.declared.node.AigNodeType.{AigNodeType}

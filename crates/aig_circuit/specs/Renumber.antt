@@ -24,7 +24,8 @@ renumbered_edge number e = edge_to (number e.node_id) e.compl
 
 -- a gate's operands have their new numbers, and are put in order again
 abbrev pub renumbered_kind : (ℕ → ℕ) → Option AigNodeType → AigNodeType
-renumbered_kind number (Some (And a b)) = and_of (renumbered_edge number a) (renumbered_edge number b)
+renumbered_kind number (Some (And a b)) =
+    and_of (renumbered_edge number a) (renumbered_edge number b)
 renumbered_kind number (Some Leaf) = Leaf
 renumbered_kind number (Some False) = False
 renumbered_kind number None = False
@@ -32,18 +33,26 @@ renumbered_kind number None = False
 -- the latch with its leaf and its edges under their new numbers
 abbrev pub renumbered_latch : (ℕ → ℕ) → AigLatch → AigLatch
 renumbered_latch number latch =
-    record { input = number latch.input; next = renumbered_edge number latch.next; init = option_map (renumbered_edge number) latch.init }
+    record {
+      input = number latch.input;
+      next = renumbered_edge number latch.next;
+      init = option_map (renumbered_edge number) latch.init;
+    }
 
 -- the old nodes of these numbers, numbered from i on
 abbrev pub nodes_in_order : List AigNode → (ℕ → ℕ) → ℕ → List ℕ → List AigNode
 nodes_in_order nodes number i [] = []
-nodes_in_order nodes number i (n ∷ ns) = record { node_id = i; typ = renumbered_kind number (kind_at nodes n) } ∷ nodes_in_order nodes number (i + 1) ns
+nodes_in_order nodes number i (n ∷ ns) =
+    record { node_id = i; typ = renumbered_kind number (kind_at nodes n) }
+    ∷ nodes_in_order nodes number (i + 1) ns
 
 -- the names under the new numbers
 abbrev pub renumbered_names : (ℕ → ℕ) → FinMap nat_cmp (List ℕ) → FinMap nat_cmp (List ℕ)
-renumbered_names number names = from_entries (map (λ entry. (number entry.0, entry.1)) (entries names))
+renumbered_names number names =
+    from_entries (map (λ entry. (number entry.0, entry.1)) (entries names))
 
--- the circuit of the nodes of these numbers, in their order, with all lists and names under the new numbers
+-- the circuit of the nodes of these numbers, in their order, with all lists and names under the new
+-- numbers
 abbrev pub renumbered_circuit : (ℕ → ℕ) → List ℕ → Circuit → Circuit
 renumbered_circuit number ns c =
     let edges = map (renumbered_edge number) in
@@ -65,9 +74,10 @@ is_in kept n = list_any (λ m. m == n) kept
 
 -- the circuit without the inputs and the names that aren't kept
 abbrev pub only_kept : List ℕ → Circuit → Circuit
-only_kept kept c = record c { inputs = filter (is_in kept) c.inputs; names = retain_keys c.names (is_in kept) }
+only_kept kept c =
+    record c { inputs = filter (is_in kept) c.inputs; names = retain_keys c.names (is_in kept) }
 
--- The circuit of the kept nodes, in the order of their new numbers, where `number` gives every old node a new number: operands and lists
--- follow, and so do the inputs and the names of kept nodes.
+-- The circuit of the kept nodes, in the order of their new numbers, where `number` gives every old
+-- node a new number: operands and lists follow, and so do the inputs and the names of kept nodes.
 abbrev pub kept_circuit : (ℕ → ℕ) → List ℕ → Circuit → Circuit
 kept_circuit number kept c = renumbered_circuit number kept (only_kept kept c)

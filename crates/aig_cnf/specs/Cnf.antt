@@ -22,7 +22,8 @@ pub record Inner (nodes : List AigNode) (e first second : AigEdge) : Type 0 wher
   pub inverted : e.compl ≡ true
   pub gate : kind_at nodes e.node_id ≡ Some (And first second)
 
--- the and of a and b is the exclusive or of x and y: the inner gates are the and of x and y and the and of their inverses
+-- the and of a and b is the exclusive or of x and y: the inner gates are the and of x and y and the
+-- and of their inverses
 pub record IsXor (nodes : List AigNode) (a b x y : AigEdge) : Type 0 where
   pub first : Inner nodes a x y
   pub second : Inner nodes b (inverse x) (inverse y)
@@ -32,8 +33,10 @@ pub record IsXor (nodes : List AigNode) (a b x y : AigEdge) : Type 0 where
 pub data Chooses (p0 p1 q0 q1 : AigEdge) : AigEdge → AigEdge → AigEdge → Type 0 where
   by_0_0 : p0 ≡ inverse q0 → Chooses p0 p1 q0 q1 p0 (inverse p1) (inverse q1)
   by_0_1 : p0 ≢ inverse q0 → p0 ≡ inverse q1 → Chooses p0 p1 q0 q1 p0 (inverse p1) (inverse q0)
-  by_1_0 : p0 ≢ inverse q0 → p0 ≢ inverse q1 → p1 ≡ inverse q0 → Chooses p0 p1 q0 q1 p1 (inverse p0) (inverse q1)
-  by_1_1 : p0 ≢ inverse q0 → p0 ≢ inverse q1 → p1 ≢ inverse q0 → p1 ≡ inverse q1 → Chooses p0 p1 q0 q1 p1 (inverse p0) (inverse q0)
+  by_1_0 : p0 ≢ inverse q0 → p0 ≢ inverse q1 → p1 ≡ inverse q0
+      → Chooses p0 p1 q0 q1 p1 (inverse p0) (inverse q1)
+  by_1_1 : p0 ≢ inverse q0 → p0 ≢ inverse q1 → p1 ≢ inverse q0 → p1 ≡ inverse q1
+      → Chooses p0 p1 q0 q1 p1 (inverse p0) (inverse q0)
 
 -- the and of a and b is t where c is true and else e, which name three nodes
 pub record IsIte (nodes : List AigNode) (a b c t e : AigEdge) : Type 0 where
@@ -48,12 +51,19 @@ pub record IsIte (nodes : List AigNode) (a b c t e : AigEdge) : Type 0 where
   pub c_e : c.node_id ≢ e.node_id
   pub t_e : t.node_id ≢ e.node_id
 
--- the form of gate n: the and of its operands; with `optimize` an exclusive or where it is one, and else an if-then-else where it is one
+-- the form of gate n: the and of its operands; with `optimize` an exclusive or where it is one, and
+-- else an if-then-else where it is one
 pub data HasForm (nodes : List AigNode) (optimize : Bool) (n : ℕ) : Form → Type 0 where
-  plain : {a b : AigEdge} → kind_at nodes n ≡ Some (And a b) → optimize ≡ false → HasForm nodes optimize n (AndOf a b)
-  xor : {a b x y : AigEdge} → kind_at nodes n ≡ Some (And a b) → optimize ≡ true → IsXor nodes a b x y → HasForm nodes optimize n (XorOf x y)
-  ite : {a b c t e : AigEdge} → kind_at nodes n ≡ Some (And a b) → optimize ≡ true → ((x y : AigEdge) → ¬ IsXor nodes a b x y) → IsIte nodes a b c t e → HasForm nodes optimize n (IteOf c t e)
-  other : {a b : AigEdge} → kind_at nodes n ≡ Some (And a b) → optimize ≡ true → ((x y : AigEdge) → ¬ IsXor nodes a b x y) → ((c t e : AigEdge) → ¬ IsIte nodes a b c t e) → HasForm nodes optimize n (AndOf a b)
+  plain : {a b : AigEdge} → kind_at nodes n ≡ Some (And a b) → optimize ≡ false
+      → HasForm nodes optimize n (AndOf a b)
+  xor : {a b x y : AigEdge} → kind_at nodes n ≡ Some (And a b) → optimize ≡ true
+      → IsXor nodes a b x y → HasForm nodes optimize n (XorOf x y)
+  ite : {a b c t e : AigEdge} → kind_at nodes n ≡ Some (And a b) → optimize ≡ true
+      → ((x y : AigEdge) → ¬ IsXor nodes a b x y) → IsIte nodes a b c t e
+      → HasForm nodes optimize n (IteOf c t e)
+  other : {a b : AigEdge} → kind_at nodes n ≡ Some (And a b) → optimize ≡ true
+      → ((x y : AigEdge) → ¬ IsXor nodes a b x y) → ((c t e : AigEdge) → ¬ IsIte nodes a b c t e)
+      → HasForm nodes optimize n (AndOf a b)
 
 -- an edge's value where v gives each node its value
 abbrev pub edge_in : (ℕ → Bool) → AigEdge → Bool
@@ -73,7 +83,8 @@ edges_of_form (IteOf c t e) = c ∷ t ∷ e ∷ []
 
 -- the form of gate n names node m
 abbrev pub FormNames : List AigNode → Bool → ℕ → ℕ → Type 0
-FormNames nodes optimize n m = (form : Form) × HasForm nodes optimize n form × ReferTo (edges_of_form form) m
+FormNames nodes optimize n m =
+    (form : Form) × HasForm nodes optimize n form × ReferTo (edges_of_form form) m
 
 -- the node needs clauses if it is a gate: it is reached from a root along the forms of gates
 abbrev pub NeedsClauses : List AigNode → Bool → List AigEdge → ℕ → Type 0
@@ -85,12 +96,18 @@ clauses_of n (AndOf a b) = and_clauses (lit_to n true) (lit_of a ∷ lit_of b �
 clauses_of n (XorOf x y) = xor_clauses (lit_to n true) (lit_of x) (lit_of y)
 clauses_of n (IteOf c t e) = ite_clauses (lit_to n true) (lit_of c) (lit_of t) (lit_of e)
 
--- one variable a node; variable 0 is false, a gate that needs clauses has those of its form, and no other node has any
-pub record HasClauses (c : Circuit) (optimize : Bool) (lists : List (List (List Lit))) : Type 0 where
+-- one variable a node; variable 0 is false, a gate that needs clauses has those of its form, and no
+-- other node has any
+pub record HasClauses (c : Circuit) (optimize : Bool) (lists : List (List (List Lit)))
+    : Type 0 where
   pub count : length lists ≡ length c.nodes
   pub zero : slice_get lists 0 ≡ Some ((lit_to 0 false ∷ []) ∷ [])
-  pub needed : (n : ℕ) (form : Form) → NeedsClauses c.nodes optimize (roots_of c) n → HasForm c.nodes optimize n form → slice_get lists n ≡ Some (clauses_of n form)
-  pub none : (n : ℕ) (clauses : List (List Lit)) → n ≢ 0 → ((form : Form) → ¬ (NeedsClauses c.nodes optimize (roots_of c) n × HasForm c.nodes optimize n form)) → slice_get lists n ≡ Some clauses → clauses ≡ []
+  pub needed : (n : ℕ) (form : Form) → NeedsClauses c.nodes optimize (roots_of c) n
+      → HasForm c.nodes optimize n form → slice_get lists n ≡ Some (clauses_of n form)
+  pub none : (n : ℕ) (clauses : List (List Lit)) → n ≢ 0
+      → ((form : Form)
+      → ¬ (NeedsClauses c.nodes optimize (roots_of c) n × HasForm c.nodes optimize n form))
+      → slice_get lists n ≡ Some clauses → clauses ≡ []
 
 -- each satisfying assignment gives the edge its value under the assignment's leaf values
 abbrev pub IsFixed : Circuit → List (List (List Lit)) → AigEdge → Type 0

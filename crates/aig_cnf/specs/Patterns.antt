@@ -1,5 +1,6 @@
 -- Serves private clauses alone.
--- The forms that a gate has beside the and of its operands. (Tseitin encoding of the exclusive or and of if-then-else.)
+-- The forms that a gate has beside the and of its operands. (Tseitin encoding of the exclusive or
+-- and of if-then-else.)
 use Rattle.std.specs.Prelude.{◌≡◌, ◌≢◌, List}
 use Rattle.aig_circuit.specs.declared.edge.AigEdge.{AigEdge}
 use Rattle.aig_circuit.specs.declared.node.AigNode.{AigNode}
@@ -23,4 +24,5 @@ pub record AreApart (c t e : AigEdge) : Type 0 where
 -- the and of a and b is an exclusive or, or else an if-then-else
 pub data HasPattern (nodes : List AigNode) (a b : AigEdge) : Form → Type 0 where
   is_xor : {x y : AigEdge} → IsXor nodes a b x y → HasPattern nodes a b (XorOf x y)
-  is_ite : {c t e : AigEdge} → ((x y : AigEdge) → ¬ IsXor nodes a b x y) → IsIte nodes a b c t e → HasPattern nodes a b (IteOf c t e)
+  is_ite : {c t e : AigEdge} → ((x y : AigEdge) → ¬ IsXor nodes a b x y) → IsIte nodes a b c t e
+      → HasPattern nodes a b (IteOf c t e)

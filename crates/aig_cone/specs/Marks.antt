@@ -13,7 +13,8 @@ AddsMarks old new P = (n : ℕ) → IsMarked new n ↔ (IsMarked old n ⊎ P n)
 abbrev pub unmarked : List Bool → ℕ
 unmarked marks = sum_by (λ marked. if marked then 0 else 1) marks
 
--- The nodes of which P holds are marked too, and nothing else. Those that weren't are put on the stack, each once.
+-- The nodes of which P holds are marked too, and nothing else. Those that weren't are put on the
+-- stack, each once.
 pub record Visits (old new : List Bool) (stack stacked : List ℕ) (P : ℕ → Type 0) : Type 0 where
   pub marks : AddsMarks old new P
   pub kept : (n : ℕ) → Contains stack n → Contains stacked n

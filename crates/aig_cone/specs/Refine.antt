@@ -16,17 +16,20 @@ use Rattle.aig_circuit.specs.Reach.{IsInCone}
 abbrev pub variable_nodes : List AigEdge → List ℕ
 variable_nodes es = flat_map (λ e. if e.node_id == 0 then [] else e.node_id ∷ []) es
 
--- the nodes of all properties, the leaves of all latches, and the nodes of the initial edges that aren't constant
+-- the nodes of all properties, the leaves of all latches, and the nodes of the initial edges that
+-- aren't constant
 abbrev pub refining_roots : Circuit → List ℕ
 refining_roots c =
-    map (λ e. e.node_id) (property_edges c) ++ latch_leaves c.latchs ++ variable_nodes (initial_edges c.latchs)
+    map (λ e. e.node_id) (property_edges c) ++ latch_leaves c.latchs
+    ++ variable_nodes (initial_edges c.latchs)
 
 -- the kept numbers in rising order: exactly 0 and what the roots reach
 pub record AreKept (c : Circuit) (kept : List ℕ) : Type 0 where
   pub rising : AllPairs (λ m n. m < n) kept
   pub exactly : (n : ℕ) → Contains kept n ↔ IsInCone c (refining_roots c) n
 
--- at the place of each kept number stands its own place among the kept, and everywhere else some place among them
+-- at the place of each kept number stands its own place among the kept, and everywhere else some
+-- place among them
 pub record ArePlaces (kept : List ℕ) (n : ℕ) (numbers : List ℕ) : Type 0 where
   pub count : length numbers ≡ n
   pub within : All (λ n. n < length kept) numbers
@@ -48,12 +51,20 @@ IsMapOf kept numbers = (n : ℕ) → get numbers n ≡ slice_get kept n
 abbrev pub cut_to : List ℕ → (ℕ → Bool) → ℕ → Bool
 cut_to kept x n = x (slice_index kept n)
 
--- Every run of the old circuit, cut to the kept leaves, is a run of the new one, and each run of the new one is such a cut.
+-- Every run of the old circuit, cut to the kept leaves, is a run of the new one, and each run of
+-- the new one is such a cut.
 -- Initial states are initial states, and each property, next edge and initial edge keeps its value.
 pub record CutsRuns (old new : Circuit) (kept : List ℕ) : Type 0 where
-  pub cut : (last : ℕ) (x : ℕ → ℕ → Bool) → IsRun old last x → IsRun new last (λ t. cut_to kept (x t))
-  pub each : (last : ℕ) (z : ℕ → ℕ → Bool) → IsRun new last z → (x : ℕ → ℕ → Bool) × IsRun old last x × ((t n : ℕ) → IsLeaf new.nodes n → cut_to kept (x t) n ≡ z t n)
+  pub cut : (last : ℕ) (x : ℕ → ℕ → Bool) → IsRun old last x
+      → IsRun new last (λ t. cut_to kept (x t))
+  pub each : (last : ℕ) (z : ℕ → ℕ → Bool) → IsRun new last z
+      → (x : ℕ → ℕ → Bool) × IsRun old last x
+      × ((t n : ℕ) → IsLeaf new.nodes n → cut_to kept (x t) n ≡ z t n)
   pub starts : (x : ℕ → Bool) → IsInitial new (cut_to kept x) ↔ IsInitial old x
   pub properties : (x : ℕ → Bool) → HaveSameProperties old x new (cut_to kept x)
-  pub next : (x : ℕ → Bool) → HaveSameValues old.nodes x (next_edges old.latchs) new.nodes (cut_to kept x) (next_edges new.latchs)
-  pub initial : (x : ℕ → Bool) → HaveSameValues old.nodes x (initial_edges old.latchs) new.nodes (cut_to kept x) (initial_edges new.latchs)
+  pub next : (x : ℕ → Bool)
+      → HaveSameValues old.nodes x (next_edges old.latchs) new.nodes (cut_to kept x)
+      (next_edges new.latchs)
+  pub initial : (x : ℕ → Bool)
+      → HaveSameValues old.nodes x (initial_edges old.latchs) new.nodes (cut_to kept x)
+      (initial_edges new.latchs)

@@ -1,5 +1,6 @@
 -- Part of what is promised.
--- A plain reader of DIMACS: words apart by spaces and line feeds, of which a 0 ends a clause. It knows no comments.
+-- A plain reader of DIMACS: words apart by spaces and line feeds, of which a 0 ends a clause. It
+-- knows no comments.
 use Rattle.std.specs.Prelude.{ℕ, ◌-◌, ◌==◌, nat_le, Bool, true, false, ◌||◌, if◌then◌else◌, List, [], ◌∷◌, ◌++◌, length, codes, Option, Some, None, option_map}
 use Rattle.std.specs.Str.{all_ascii_digits}
 use Rattle.std.specs.Str.Parse.{digits_value}
@@ -19,7 +20,8 @@ word_in_front (b ∷ bs) words = (b ∷ bs) ∷ words
 -- the words of bytes, of which the first begins with `word`
 unfoldable pub words_from : List ℕ → List ℕ → List (List ℕ)
 words_from word [] = word_in_front word []
-words_from word (b ∷ bs) = if is_blank b then word_in_front word (words_from [] bs) else words_from (word ++ b ∷ []) bs
+words_from word (b ∷ bs) =
+    if is_blank b then word_in_front word (words_from [] bs) else words_from (word ++ b ∷ []) bs
 
 -- the number of a word, if it is digits
 abbrev pub number_in : List ℕ → Option ℕ
@@ -29,21 +31,28 @@ number_in (b ∷ bs) = if all_ascii_digits (b ∷ bs) then Some (digits_value 10
 -- the number of a word, and whether no minus stands in front of it
 unfoldable pub signed_in : List ℕ → Option (Bool × ℕ)
 signed_in [] = None
-signed_in (b ∷ bs) = if b == 45 then option_map (λ n. (false, n)) (number_in bs) else option_map (λ n. (true, n)) (number_in (b ∷ bs))
+signed_in (b ∷ bs) =
+    if b == 45 then option_map (λ n. (false, n)) (number_in bs)
+    else option_map (λ n. (true, n)) (number_in (b ∷ bs))
 
 -- no clauses, where no literal is left without its 0
 abbrev pub none_behind : List Lit → Option (List (List Lit))
 none_behind [] = Some []
 none_behind (lit ∷ lits) = None
 
--- the clauses of words over so many variables, after the first literals of a clause; each is ended by a 0
+-- the clauses of words over so many variables, after the first literals of a clause; each is ended
+-- by a 0
 unfoldable pub clauses_from : ℕ → List Lit → List (List ℕ) → Option (List (List Lit))
 clauses_from variables clause [] = none_behind clause
 clauses_from variables clause (word ∷ words) = do
   n ← signed_in word
-  if n.1 == 0 then (clauses_from variables [] words >>= λ clauses. Some (clause ∷ clauses)) else if nat_le n.1 variables then clauses_from variables (clause ++ lit_to (n.1 - 1) n.0 ∷ []) words else None
+  if n.1 == 0 then (clauses_from variables [] words >>= λ clauses. Some (clause ∷ clauses))
+  else if nat_le n.1 variables
+      then clauses_from variables (clause ++ lit_to (n.1 - 1) n.0 ∷ []) words
+  else None
 
--- the count of variables and the clauses of words: two counts come first, and there are as many clauses as the second says
+-- the count of variables and the clauses of words: two counts come first, and there are as many
+-- clauses as the second says
 unfoldable pub counted_in : List (List ℕ) → Option (ℕ × List (List Lit))
 counted_in [] = None
 counted_in (first ∷ []) = None

@@ -1,5 +1,6 @@
 -- Part of what is promised.
--- The DIMACS text of clauses: a header line with the counts of variables and of clauses, and a line for each clause. (DIMACS CNF format.)
+-- The DIMACS text of clauses: a header line with the counts of variables and of clauses, and a line
+-- for each clause. (DIMACS CNF format.)
 use Rattle.std.specs.Prelude.{ℕ, ◌+◌, ◌^◌, ◌<◌, if◌then◌else◌, List, [], ◌∷◌, ◌++◌, length, codes, decimal}
 use Rattle.std.specs.List.{flat_map}
 use Rattle.aig_base.specs.declared.logic.literal.Lit.{Lit}
@@ -19,7 +20,8 @@ clause_line clause = flat_map literal_text clause ++ 48 ∷ 10 ∷ []
 
 -- the header line: how many variables and how many clauses there are
 abbrev pub header_line : ℕ → ℕ → List ℕ
-header_line variables clauses = codes "p cnf " ++ (decimal variables ++ 32 ∷ []) ++ (decimal clauses ++ 10 ∷ [])
+header_line variables clauses =
+    codes "p cnf " ++ (decimal variables ++ 32 ∷ []) ++ (decimal clauses ++ 10 ∷ [])
 
 -- the text of clauses over so many variables
 unfoldable pub dimacs_of : ℕ → List (List Lit) → List ℕ

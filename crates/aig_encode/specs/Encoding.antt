@@ -21,17 +21,22 @@ use Rattle.aig_encode.specs.declared.query_clauses.Query.{Query}
 abbrev pub IsEncoding : ℕ → Bool → File → Encoded → Type 0
 IsEncoding k optimize f e = Encodes f k optimize e.circuit e.unrolled e.clauses
 
--- the file is encoded, and the query clauses ask for a run from an initial state to a bad literal at step k
+-- the file is encoded, and the query clauses ask for a run from an initial state to a bad literal
+-- at step k
 abbrev pub IsQuery : ℕ → Bool → File → Query → Type 0
-IsQuery k optimize f q = IsEncoding k optimize f q.encoded × IsQueryOf f k q.encoded.circuit q.encoded.unrolled q.encoded.clauses q.extra
+IsQuery k optimize f q =
+    IsEncoding k optimize f q.encoded
+    × IsQueryOf f k q.encoded.circuit q.encoded.unrolled q.encoded.clauses q.extra
 
 -- ---- bytes
 
--- the bytes are this file, it fits, and the bound of its circuit with k further steps is within the limit
+-- the bytes are this file, it fits, and the bound of its circuit with k further steps is within the
+-- limit
 abbrev pub IsWithin : ℕ → ℕ → List ℕ → File → Type 0
 IsWithin limit k bytes f = Accepts bytes limit f × (unrolled_size (circuit_of f) k ≤ limit)
 
--- the bytes are this file, it fits, and the bound of its circuit with k further steps passes the limit
+-- the bytes are this file, it fits, and the bound of its circuit with k further steps passes the
+-- limit
 abbrev pub IsBeyond : ℕ → ℕ → List ℕ → File → Type 0
 IsBeyond limit k bytes f = Accepts bytes limit f × (limit < unrolled_size (circuit_of f) k)
 
@@ -40,8 +45,10 @@ abbrev pub ConsumedFile : (List ℕ → File → Type 0) → Option (List ℕ) �
 ConsumedFile Holds old new = (f : File) × (bytes : List ℕ) × Holds bytes f × Consumes old new bytes
 
 -- Which bytes are answered, and which are refused as too large.
-pub record AnswersExactly {T : Type 0} (Means : File → T → Type 0) (limit k : ℕ) (result : Result T EncodeError) (bytes : List ℕ) : Type 0 where
-  -- there is an answer exactly where the bytes are a file within the limit, and it is what is meant for that file
+pub record AnswersExactly {T : Type 0} (Means : File → T → Type 0) (limit k : ℕ)
+    (result : Result T EncodeError) (bytes : List ℕ) : Type 0 where
+  -- there is an answer exactly where the bytes are a file within the limit, and it is what is meant
+  -- for that file
   pub accepted : ReadsWhere (IsWithin limit k bytes) Means result
   -- TooMany exactly where the header line is good and passes the limit
   pub too_many : IsErrOf result (errors.Read read.TooMany) ↔ TooMany bytes limit

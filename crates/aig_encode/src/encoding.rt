@@ -74,7 +74,8 @@ pub fn encode<R: Source>(
     // Memory and stream aside, there is an answer exactly where the bytes are such a file, and TooMany and TooLarge
     // come exactly where they apply.
     ensures exact { IfSome (R.left r.old) (λ bytes.
-        EncodeUnlessTransient result (AnswersExactly (IsEncoding k optimize) limit k result bytes)) }
+        EncodeUnlessTransient result
+        (AnswersExactly (IsEncoding k optimize) limit k result bytes)) }
     // Memory comes only after a file within the limit was read, and TooLarge only after one beyond it.
     ensures memory { IsErrOf result EncodeError.Memory
         → ConsumedFile (IsWithin limit k) (R.left r.old) (R.left r.new) }

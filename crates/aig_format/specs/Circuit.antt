@@ -1,6 +1,6 @@
 -- Part of what is promised.
--- The circuit of a file, and the files of a circuit. (AIGER format 20071012: "Input/Latch/Output/And section", "Binary encoding"; AIGER 1.9:
--- "Reset logic".)
+-- The circuit of a file, and the files of a circuit. (AIGER format 20071012:
+-- "Input/Latch/Output/And section", "Binary encoding"; AIGER 1.9: "Reset logic".)
 use Rattle.std.specs.Prelude.{◌≡◌, ℕ, ◌+◌, ◌-◌, ◌*◌, ◌/◌, ◌%◌, ◌==◌, ◌≤◌, nat_lt, slice_index, if◌then◌else◌, List, [], ◌∷◌, ◌++◌, length, map, filter_map, Option, Some, None, option_map, unwrap_or, option_to_list}
 use Rattle.std.specs.List.{list_any}
 use Rattle.std.specs.FinMap.{get, from_entries, retain_keys}
@@ -42,21 +42,29 @@ abbrev pub nodes_from : File → ℕ → List ℕ → List AigNode
 nodes_from f i [] = []
 nodes_from f i (v ∷ vs) = record { node_id = i; typ = kind_of f v } ∷ nodes_from f (i + 1) vs
 
--- a reset: 0 or none is the initial edge false, 1 is true, the latch's own literal is no initial edge
+-- a reset: 0 or none is the initial edge false, 1 is true, the latch's own literal is no initial
+-- edge
 abbrev pub initial_of : LatchLine → Option AigEdge
 initial_of l = let r = unwrap_or l.reset 0 in if nat_lt r 2 then Some (edge_to 0 (r == 1)) else None
 
 -- the latch of a line
 abbrev pub latch_of : File → LatchLine → AigLatch
-latch_of f l = record { input = node_of_variable f (l.literal / 2); next = edge_of f l.next; init = initial_of l }
+latch_of f l =
+    record
+    { input = node_of_variable f (l.literal / 2); next = edge_of f l.next; init = initial_of l }
 
 -- the node that a name of an input or a latch names; other names are dropped
 abbrev pub named_node : File → NameLine → Option (ℕ × List ℕ)
 named_node f n =
-    let node_at = λ (literals : List ℕ). Some (node_of_variable f (slice_index literals n.position / 2), n.name) in
-    if n.letter == letter_of_inputs then node_at f.inputs else if n.letter == letter_of_latches then node_at (map (λ l. l.literal) f.latches) else None
+    let node_at =
+    λ (literals : List ℕ). Some (node_of_variable f (slice_index literals n.position / 2), n.name)
+    in
+    if n.letter == letter_of_inputs then node_at f.inputs
+    else if n.letter == letter_of_latches then node_at (map (λ l. l.literal) f.latches)
+    else None
 
--- the circuit of a file: false, then a node for each variable that is defined, in their order; lists keep the file's order
+-- the circuit of a file: false, then a node for each variable that is defined, in their order;
+-- lists keep the file's order
 abbrev pub circuit_of : File → Circuit
 circuit_of f = record {
   nodes = nodes_from f 0 (0 ∷ variables_in_order f);
@@ -82,7 +90,8 @@ reset_of latch = by_init latch.input latch.init
 
 -- the line of a latch
 abbrev pub latch_line : AigLatch → LatchLine
-latch_line latch = record { literal = 2 * latch.input; next = literal_of latch.next; reset = reset_of latch }
+latch_line latch =
+    record { literal = 2 * latch.input; next = literal_of latch.next; reset = reset_of latch }
 
 -- a gate's line: the greater operand first
 abbrev pub gate_line : AigNode → Option GateLine
@@ -97,7 +106,9 @@ gate_line node = by_kind node.node_id node.typ
 abbrev pub name_lines : ℕ → ℕ → List ℕ → (ℕ → Option (List ℕ)) → List NameLine
 name_lines letter position [] name = []
 name_lines letter position (n ∷ ns) name =
-    option_to_list (option_map (λ bytes. record { letter = letter; position = position; name = bytes }) (name n)) ++ name_lines letter (position + 1) ns name
+    option_to_list
+    (option_map (λ bytes. record { letter = letter; position = position; name = bytes }) (name n))
+    ++ name_lines letter (position + 1) ns name
 
 -- the file of a circuit: its own node numbers; names of inputs, then of latches, and no others
 abbrev pub file_of : FileKind → Circuit → File
@@ -112,7 +123,9 @@ file_of kind c = record {
   constraints = map literal_of c.constraints;
   justice = map (map literal_of) c.justice;
   fairness = map literal_of c.fairness;
-  names = name_lines letter_of_inputs 0 c.inputs (get c.names) ++ name_lines letter_of_latches 0 (latch_leaves c.latchs) (get c.names);
+  names =
+      name_lines letter_of_inputs 0 c.inputs (get c.names)
+      ++ name_lines letter_of_latches 0 (latch_leaves c.latchs) (get c.names);
 }
 
 -- the one text form of a circuit
@@ -125,8 +138,15 @@ binary_of c = file_text (file_of Binary (reencoded c))
 
 -- the circuit without the names of nodes that are neither inputs nor latches
 abbrev pub without_other_names : Circuit → Circuit
-without_other_names c = record c { names = retain_keys c.names (λ n. list_any (λ m. m == n) (c.inputs ++ latch_leaves c.latchs)) }
+without_other_names c =
+    record c {
+      names =
+          retain_keys c.names (λ n. list_any (λ m. m == n) (c.inputs ++ latch_leaves c.latchs));
+    }
 
--- the text spells a file that fits any limit from the count of nodes up, and whose circuit is c without other names
+-- the text spells a file that fits any limit from the count of nodes up, and whose circuit is c
+-- without other names
 abbrev pub IsReadAgain : Circuit → File → Type 0
-IsReadAgain c f = ((limit : ℕ) → length c.nodes ≤ limit → Accepts (file_text f) limit f) × (circuit_of f ≡ without_other_names c)
+IsReadAgain c f =
+    ((limit : ℕ) → length c.nodes ≤ limit → Accepts (file_text f) limit f)
+    × (circuit_of f ≡ without_other_names c)

@@ -1,6 +1,6 @@
 -- Part of what is promised.
--- A file as a record. (AIGER format 20071012: "Header", "Input/Latch/Output/And section", "Symbol table"; AIGER 1.9: "Reset logic",
--- "Properties".)
+-- A file as a record. (AIGER format 20071012: "Header", "Input/Latch/Output/And section", "Symbol
+-- table"; AIGER 1.9: "Reset logic", "Properties".)
 use Rattle.std.specs.Prelude.{ℕ, List, [], ◌∷◌, ◌++◌, length, map, Option}
 use Rattle.std.specs.List.{flat_map}
 use Rattle.aig_format.specs.declared.FileKind.{FileKind}
@@ -69,4 +69,6 @@ defined f = f.inputs ++ map (λ l. l.literal) f.latches ++ map (λ g. g.lhs) f.g
 
 -- the literals that are used
 abbrev pub used : File → List ℕ
-used f = map (λ l. l.next) f.latches ++ f.outputs ++ f.bads ++ f.constraints ++ flat_map (λ s. s) f.justice ++ f.fairness ++ flat_map (λ g. g.rhs0 ∷ g.rhs1 ∷ []) f.gates
+used f =
+    map (λ l. l.next) f.latches ++ f.outputs ++ f.bads ++ f.constraints
+    ++ flat_map (λ s. s) f.justice ++ f.fairness ++ flat_map (λ g. g.rhs0 ∷ g.rhs1 ∷ []) f.gates

@@ -1,6 +1,6 @@
 -- Part of what is promised.
--- What the numbers of a file must be. (AIGER format 20071012: "Header", "Input/Latch/Output/And section", "Symbol table"; AIGER 1.9:
--- "Reset logic".)
+-- What the numbers of a file must be. (AIGER format 20071012: "Header", "Input/Latch/Output/And
+-- section", "Symbol table"; AIGER 1.9: "Reset logic".)
 use Rattle.std.specs.Prelude.{◌≡◌, ℕ, ◌+◌, ◌*◌, ◌/◌, ◌%◌, ◌<◌, ◌≤◌, ◌⊎◌, Bool, ◌&&◌, ◌==◌, List, [], ◌∷◌, length, map, IfSome, nat_eq, IsUtf8}
 use Rattle.std.specs.List.{AllByRecursion, IsDistinct}
 use Rattle.aig_format.specs.Text.{◌then◌}
@@ -32,7 +32,9 @@ Rises (a ∷ b ∷ rest) = (a < b) × Rises (b ∷ rest)
 
 -- the name stands below its section's count; names of inputs and latches are UTF-8
 abbrev pub IsNameOf : File → NameLine → Type 0
-IsNameOf f n = (n.position < count_of (header_of f) n.letter) × ((n.letter ≡ letter_of_inputs) ⊎ (n.letter ≡ letter_of_latches) → IsUtf8 n.name)
+IsNameOf f n =
+    (n.position < count_of (header_of f) n.letter)
+    × ((n.letter ≡ letter_of_inputs) ⊎ (n.letter ≡ letter_of_latches) → IsUtf8 n.name)
 
 -- whether two names are for one letter and position
 abbrev pub same_place : NameLine → NameLine → Bool
@@ -44,8 +46,8 @@ pub record IsCompact (f : File) : Type 0 where
   pub rising : Rises (map (λ g. g.lhs) f.gates)
   pub ordered : AllByRecursion IsAboveOperands f.gates
 
--- a well-founded text file: variables may be missing and gates stand in any order, but what is used is 0 or defined, and no gate
--- depends on itself
+-- a well-founded text file: variables may be missing and gates stand in any order, but what is used
+-- is 0 or defined, and no gate depends on itself
 pub record IsWellFounded (f : File) : Type 0 where
   pub text : f.kind ≡ Text
   pub enough : length (defined f) ≤ f.greatest
@@ -72,14 +74,17 @@ abbrev pub HasEnough : FileKind → HeaderNumbers → Type 0
 HasEnough Text numbers = count_defined numbers ≤ numbers.greatest
 HasEnough Binary numbers = numbers.greatest ≡ count_defined numbers
 
--- the header line is good: it stands at the front of the bytes, and its greatest variable is great enough for all that are defined
+-- the header line is good: it stands at the front of the bytes, and its greatest variable is great
+-- enough for all that are defined
 pub record HasGoodHeader (bytes : List ℕ) (kind : FileKind) (numbers : HeaderNumbers) : Type 0 where
   pub line : (IsHeader kind numbers then λ _. Unit {0}) bytes
   pub enough : HasEnough kind numbers
 
 -- the header line is good, and M + 1 passes the limit
 abbrev pub TooMany : List ℕ → ℕ → Type 0
-TooMany bytes limit = (kind : FileKind) × (numbers : HeaderNumbers) × HasGoodHeader bytes kind numbers × (limit < numbers.greatest + 1)
+TooMany bytes limit =
+    (kind : FileKind) × (numbers : HeaderNumbers) × HasGoodHeader bytes kind numbers
+    × (limit < numbers.greatest + 1)
 
 -- the bytes are accepted, and are this file
 abbrev pub Accepts : List ℕ → ℕ → File → Type 0

@@ -21,7 +21,8 @@ abbrev pub level_within : List GateLine → ℕ → ℕ → Option ℕ
 level_within gates zero v = level_by (λ _. None) (gate_among gates v)
 level_within gates (suc n) v = level_by (level_within gates n) (gate_among gates v)
 
--- the level of a variable, if it has one: below a gate there is one of each lesser level, so it is at most the count of gates
+-- the level of a variable, if it has one: below a gate there is one of each lesser level, so it is
+-- at most the count of gates
 abbrev pub level_of : File → ℕ → Option ℕ
 level_of f v = level_within f.gates (length f.gates) v
 

@@ -36,7 +36,8 @@ numbers_from (suc n) v = v ∷ numbers_from n (v + 1)
 
 -- the defined variables of level k, in rising order
 abbrev pub variables_at : File → ℕ → List ℕ
-variables_at f k = filter (λ v. is_defined f v && is_level k (level_of f v)) (numbers_from f.greatest 1)
+variables_at f k =
+    filter (λ v. is_defined f v && is_level k (level_of f v)) (numbers_from f.greatest 1)
 
 -- the defined variables by level and, within a level, by variable
 abbrev pub variables_by_level : File → List ℕ
@@ -44,7 +45,8 @@ variables_by_level f = flat_map (variables_at f) (numbers_from (length f.gates +
 
 -- the defined variables in the order of their nodes: in a compact file as they are, else by level
 unfoldable pub variables_in_order : File → List ℕ
-variables_in_order f = if is_compact f then numbers_from (length (defined f)) 1 else variables_by_level f
+variables_in_order f =
+    if is_compact f then numbers_from (length (defined f)) 1 else variables_by_level f
 
 -- the node of a variable: 0 is 0, and the others are numbered from 1 on
 unfoldable pub node_of_variable : File → ℕ → ℕ

@@ -1,6 +1,7 @@
 -- Part of what is promised.
 -- Which bytes spell a file. It speaks of whole texts; no reader is in it.
--- (AIGER format 20071012: "Header", "Input/Latch/Output/And section", "Binary encoding", "Symbol table",
+-- (AIGER format 20071012: "Header", "Input/Latch/Output/And section", "Binary encoding", "Symbol
+-- table",
 -- "Comment section"; AIGER 1.9: "Reset logic", "Properties".)
 use Rattle.std.specs.Prelude.{◌≡◌, ◌≢◌, Bool, true, ◌==◌, ℕ, zero, suc, ◌+◌, ◌*◌, ◌≤◌, List, [], ◌∷◌, ◌++◌, length, map, replicate, codes}
 use Rattle.std.specs.Option.{option_to_list}
@@ -18,12 +19,15 @@ magic Binary = codes "aig "
 
 -- the nine numbers of a header in the order of its line: M I L O A B C J F
 abbrev pub numbers_in : HeaderNumbers → List ℕ
-numbers_in n = n.greatest ∷ n.inputs ∷ n.latches ∷ n.outputs ∷ n.gates ∷ n.bads ∷ n.constraints ∷ n.justice ∷ n.fairness ∷ []
+numbers_in n =
+    n.greatest ∷ n.inputs ∷ n.latches ∷ n.outputs ∷ n.gates ∷ n.bads ∷ n.constraints ∷ n.justice
+    ∷ n.fairness ∷ []
 
 -- header: the kind's word, then five to nine numbers; those that are not written are 0
 abbrev pub IsHeader : FileKind → HeaderNumbers → List ℕ → Type 0
-IsHeader kind numbers bytes = (written : List ℕ) × (absent : ℕ) × (numbers_in numbers ≡ written ++ replicate absent 0) × (5 ≤ length written)
-    × (Just (magic kind) then IsLine written) bytes
+IsHeader kind numbers bytes =
+    (written : List ℕ) × (absent : ℕ) × (numbers_in numbers ≡ written ++ replicate absent 0)
+    × (5 ≤ length written) × (Just (magic kind) then IsLine written) bytes
 
 -- the numbers of a latch line after its literal: next, and the reset if one is written
 abbrev pub next_and_reset : LatchLine → List ℕ
@@ -39,10 +43,13 @@ abbrev pub Latch : FileKind → LatchLine → List ℕ → Type 0
 Latch Text l = IsLine (l.literal ∷ next_and_reset l)
 Latch Binary l = IsLine (next_and_reset l)
 
--- gates: in a text file a line each, in a binary file two differences each, with nothing between them
+-- gates: in a text file a line each, in a binary file two differences each, with nothing between
+-- them
 abbrev pub Gate : FileKind → GateLine → List ℕ → Type 0
 Gate Text g = IsLine (g.lhs ∷ g.rhs0 ∷ g.rhs1 ∷ [])
-Gate Binary g = λ bytes. (d0 d1 : ℕ) × (g.lhs ≡ g.rhs0 + d0) × (g.rhs0 ≡ g.rhs1 + d1) × (IsDelta d0 then IsDelta d1) bytes
+Gate Binary g =
+    λ bytes. (d0 d1 : ℕ) × (g.lhs ≡ g.rhs0 + d0) × (g.rhs0 ≡ g.rhs1 + d1)
+    × (IsDelta d0 then IsDelta d1) bytes
 
 -- a letter of a section that has names
 abbrev pub is_letter : ℕ → Bool
@@ -50,7 +57,9 @@ is_letter b = list_any (λ c. c == b) (codes "ilobcjf")
 
 -- names: a letter, a position, a space, any bytes but a line feed, a line feed
 abbrev pub Name : NameLine → List ℕ → Type 0
-Name n bytes = (is_letter n.letter ≡ true) × AllByRecursion (λ b. b ≢ 10) n.name × (Just (n.letter ∷ []) then Ended 32 n.position then Just (n.name ++ 10 ∷ [])) bytes
+Name n bytes =
+    (is_letter n.letter ≡ true) × AllByRecursion (λ b. b ≢ 10) n.name
+    × (Just (n.letter ∷ []) then Ended 32 n.position then Just (n.name ++ 10 ∷ [])) bytes
 
 -- comment: nothing, or `c` with no digit after it and whatever follows
 abbrev pub IsComment : List ℕ → Type 0
@@ -61,8 +70,9 @@ IsComment (c ∷ b ∷ rest) = (c ≡ letter_of_comment) × (IsDigit b → ⊥)
 -- the header and the sections, in order
 abbrev pub Body : File → List ℕ → Type 0
 Body f =
-    IsHeader f.kind (header_of f) then Inputs f.kind f.inputs then Each (Latch f.kind) f.latches then Lines f.outputs
-    then Lines f.bads then Lines f.constraints then Lines (map length f.justice) then Each Lines f.justice then Lines f.fairness
+    IsHeader f.kind (header_of f) then Inputs f.kind f.inputs then Each (Latch f.kind) f.latches
+    then Lines f.outputs then Lines f.bads then Lines f.constraints
+    then Lines (map length f.justice) then Each Lines f.justice then Lines f.fairness
     then Each (Gate f.kind) f.gates
 
 -- the names, and the comment

@@ -16,7 +16,9 @@ named_nodes c = c.inputs ++ latch_leaves c.latchs
 
 -- the counts that a header has, that of gates aside
 abbrev pub list_lengths : Circuit → List ℕ
-list_lengths c = length c.inputs ∷ length c.latchs ∷ length c.outputs ∷ length c.bads ∷ length c.constraints ∷ length c.justice ∷ length c.fairness ∷ []
+list_lengths c =
+    length c.inputs ∷ length c.latchs ∷ length c.outputs ∷ length c.bads ∷ length c.constraints
+    ∷ length c.justice ∷ length c.fairness ∷ []
 
 -- at most 2^31 nodes, and lists and justice sets of at most 2^32 - 1 entries
 pub record FitsFormat (c : Circuit) : Type 0 where

@@ -1,6 +1,6 @@
 -- Part of what is promised.
--- The one text of a file, and its one binary form, as they are written here. (AIGER format 20071012: "Header", "Binary encoding",
--- "Symbol table"; AIGER 1.9: "Reset logic", "Properties".)
+-- The one text of a file, and its one binary form, as they are written here. (AIGER format
+-- 20071012: "Header", "Binary encoding", "Symbol table"; AIGER 1.9: "Reset logic", "Properties".)
 use Rattle.std.specs.Prelude.{ℕ, zero, suc, ◌+◌, ◌-◌, ◌/◌, ◌%◌, nat_lt, ◌==◌, if◌then◌else◌, List, [], ◌∷◌, ◌++◌, length, map, decimal}
 use Rattle.std.specs.List.{flat_map}
 use Rattle.aig_format.specs.declared.FileKind.{FileKind}
@@ -30,8 +30,12 @@ shortened (n ∷ ns) = in_front n (shortened ns)
 
 -- the numbers of the header: five, and of the other four as many as up to the last that is not 0
 abbrev pub header_line_of : File → List ℕ
-header_line_of f = magic f.kind ++ line_text (f.greatest ∷ length f.inputs ∷ length f.latches ∷ length f.outputs ∷ length f.gates
-    ∷ shortened (length f.bads ∷ length f.constraints ∷ length f.justice ∷ length f.fairness ∷ []))
+header_line_of f =
+    magic f.kind
+    ++ line_text
+    (f.greatest ∷ length f.inputs ∷ length f.latches ∷ length f.outputs ∷ length f.gates
+    ∷ shortened
+    (length f.bads ∷ length f.constraints ∷ length f.justice ∷ length f.fairness ∷ []))
 
 -- groups of seven bits, at most k and one more, the lowest first
 abbrev pub groups_of : ℕ → ℕ → List ℕ
@@ -63,6 +67,8 @@ name_text n = n.letter ∷ decimal n.position ++ 32 ∷ n.name ++ 10 ∷ []
 
 -- the text of a file: the header, the sections in order, the names
 unfoldable pub file_text : File → List ℕ
-file_text f = header_line_of f ++ inputs_text f.kind f.inputs ++ flat_map (latch_text f.kind) f.latches
-    ++ lines_text f.outputs ++ lines_text f.bads ++ lines_text f.constraints ++ lines_text (map length f.justice) ++ flat_map lines_text f.justice
-    ++ lines_text f.fairness ++ flat_map (gate_text f.kind) f.gates ++ flat_map name_text f.names
+file_text f =
+    header_line_of f ++ inputs_text f.kind f.inputs ++ flat_map (latch_text f.kind) f.latches
+    ++ lines_text f.outputs ++ lines_text f.bads ++ lines_text f.constraints
+    ++ lines_text (map length f.justice) ++ flat_map lines_text f.justice ++ lines_text f.fairness
+    ++ flat_map (gate_text f.kind) f.gates ++ flat_map name_text f.names

@@ -11,6 +11,8 @@ use Rattle.aig_format.specs.Circuit.{circuit_of}
 abbrev pub values_over : File → (ℕ → ℕ → Bool) → ℕ → ℕ → Bool
 values_over f x t v = node_value (circuit_of f).nodes (x t) (node_of_variable f v)
 
--- the run gives 0 and every defined variable at each step the value of its node over these leaf values
+-- the run gives 0 and every defined variable at each step the value of its node over these leaf
+-- values
 abbrev pub HasNodeValues : File → ℕ → (ℕ → ℕ → Bool) → (ℕ → ℕ → Bool) → Type 0
-HasNodeValues f last x run = (t v : ℕ) → t ≤ last → IsTrue (is_known f v) → values_over f x t v ≡ run t v
+HasNodeValues f last x run =
+    (t v : ℕ) → t ≤ last → IsTrue (is_known f v) → values_over f x t v ≡ run t v

@@ -20,4 +20,5 @@ parse_number_from first bytes = parse_number (first ∷ bytes)
 -- the second byte of the kind's word: `a` or `i`
 abbrev pub parse_kind_byte : List ℕ → Option (FileKind × List ℕ)
 parse_kind_byte [] = None
-parse_kind_byte (b ∷ bs) = if b == 97 then Some (Text, bs) else if b == 105 then Some (Binary, bs) else None
+parse_kind_byte (b ∷ bs) =
+    if b == 97 then Some (Text, bs) else if b == 105 then Some (Binary, bs) else None

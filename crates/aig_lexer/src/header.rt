@@ -77,7 +77,8 @@ pub fn header_line<F: ByteFeed>(f: &mut F) -> Result<Header, LexError>
 
 /// Reads `aag` or `aig`, and the space after it.
 fn kind_word<F: ByteFeed>(f: &mut F) -> Result<FileKind, LexError>
-    ensures exact { Gives LexUnlessTransient (λ kind. kind) (F.coming f.old) (F.coming f.new) result parse_kind }
+    ensures exact { Gives LexUnlessTransient (λ kind. kind) (F.coming f.old) (F.coming f.new) result
+        parse_kind }
     ensures stream { IsErrOf result LexError.Stream → F.failed f.new ≡ true }
     ensures same { F.behind f.new ≡ F.behind f.old }
     ensures fewer { OnOk result (F.turns f.new < F.turns f.old) }

@@ -69,7 +69,8 @@ pub(crate) fn number<F: ByteFeed>(f: &mut F) -> Result<(u32, u8), LexError>
 ///
 /// Returns `Shape` where there is no such number, or another byte ends it, and `Stream` where a read failed.
 pub fn ended<F: ByteFeed>(f: &mut F, end: u8) -> Result<u32, LexError>
-    ensures exact { Gives LexUnlessTransient (λ x. x) (F.coming f.old) (F.coming f.new) result (parse_ended end) }
+    ensures exact { Gives LexUnlessTransient (λ x. x) (F.coming f.old) (F.coming f.new) result
+        (parse_ended end) }
     ensures stream { IsErrOf result LexError.Stream → F.failed f.new ≡ true }
     ensures same { F.behind f.new ≡ F.behind f.old }
     ensures fewer { OnOk result (F.turns f.new < F.turns f.old) }
@@ -129,7 +130,8 @@ const MOST_GROUPS: u32 = 5;
 /// A spelling need not be the shortest. Returns `Shape` where the difference has more than five bytes or is not below 2^32,
 /// or the bytes end in it, and `Stream` where a read failed.
 pub fn delta<F: ByteFeed>(f: &mut F) -> Result<u32, LexError>
-    ensures exact { Gives LexUnlessTransient (λ d. d) (F.coming f.old) (F.coming f.new) result parse_delta }
+    ensures exact { Gives LexUnlessTransient (λ d. d) (F.coming f.old) (F.coming f.new) result
+        parse_delta }
     ensures stream { IsErrOf result LexError.Stream → F.failed f.new ≡ true }
     ensures same { F.behind f.new ≡ F.behind f.old }
     ensures fewer { OnOk result (F.turns f.new < F.turns f.old) }

@@ -8,7 +8,8 @@ use Rattle.aig_circuit.specs.Node.{and_of}
 use Rattle.aig_ordering.specs.declared.gates.Operands.{Operands}
 use Rattle.aig_ordering.specs.Lists.{edge_from}
 
--- what a variable is: with a gate the and of its operands, put in order; else 0 is false, and any other a leaf
+-- what a variable is: with a gate the and of its operands, put in order; else 0 is false, and any
+-- other a leaf
 abbrev pub kind_of_operands : ℕ → Option Operands → AigNodeType
 kind_of_operands v (Some gate) = and_of (edge_from gate.rhs0) (edge_from gate.rhs1)
 kind_of_operands v None = if v == 0 then False else Leaf

@@ -32,11 +32,15 @@ edge_by number e = option_map (λ n. edge_to n e.compl) (number e.node_id)
 
 -- the latch with the numbers of its leaf and of its next edge's variable
 abbrev pub latch_by : (ℕ → Option ℕ) → AigLatch → Option AigLatch
-latch_by number l = option_and_then (λ n. option_map (λ e. record { input = n; next = e; init = l.init }) (edge_by number l.next)) (number l.input)
+latch_by number l =
+    option_and_then
+    (λ n. option_map (λ e. record { input = n; next = e; init = l.init }) (edge_by number l.next))
+    (number l.input)
 
 -- the kind with a gate's operands under their numbers, put in order again
 abbrev pub kind_by_numbers : (ℕ → Option ℕ) → AigNodeType → Option AigNodeType
-kind_by_numbers number (And a b) = option_and_then (λ c. option_map (and_of c) (edge_by number b)) (edge_by number a)
+kind_by_numbers number (And a b) =
+    option_and_then (λ c. option_map (and_of c) (edge_by number b)) (edge_by number a)
 kind_by_numbers number Leaf = Some Leaf
 kind_by_numbers number False = Some False
 

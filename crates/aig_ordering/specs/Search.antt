@@ -12,11 +12,13 @@ use Rattle.aig_ordering.specs.declared.levels.Task.TheVariants.{Operand, Level}
 
 -- one more than the greater of two levels
 abbrev pub IsAbove : Option ℕ → Option ℕ → ℕ → Type 0
-IsAbove first second level = (a b : ℕ) × (first ≡ Some a) × (second ≡ Some b) × (level ≡ max a b + 1)
+IsAbove first second level =
+    (a b : ℕ) × (first ≡ Some a) × (second ≡ Some b) × (level ≡ max a b + 1)
 
 -- the level of what is no gate is 0, and that of a gate is above those of its operands
 abbrev pub IsLevelBy : List ℕ → AigNodeType → ℕ → Type 0
-IsLevelBy levels (And a b) level = IsAbove (level_at levels a.node_id) (level_at levels b.node_id) level
+IsLevelBy levels (And a b) level =
+    IsAbove (level_at levels a.node_id) (level_at levels b.node_id) level
 IsLevelBy levels False level = level ≡ 0
 IsLevelBy levels Leaf level = level ≡ 0
 
@@ -60,7 +62,8 @@ pub record IsAt (f : File) (s : Search) (v : ℕ) : Type 0 where
   pub search : IsSearch f s
   pub within : All (λ u. u < f.greatest + 1) (s.path.items ++ v ∷ [])
   pub path : IsPath f (s.path.items ++ v ∷ [])
-  pub opened : (u : ℕ) → slice_index_or s.opened.items u false ≡ true → IsFound s u ⊎ Contains (s.path.items ++ v ∷ []) u
+  pub opened : (u : ℕ) → slice_index_or s.opened.items u false ≡ true
+      → IsFound s u ⊎ Contains (s.path.items ++ v ∷ []) u
 
 -- nothing waits, and what was opened has its level
 pub record IsAtRest (f : File) (s : Search) : Type 0 where
@@ -75,7 +78,9 @@ IsAtSome f s None = IsAtRest f s
 
 -- what was opened stays so
 abbrev pub StaysOpen : Search → Search → Type 0
-StaysOpen old new = (u : ℕ) → slice_index_or old.opened.items u false ≡ true → slice_index_or new.opened.items u false ≡ true
+StaysOpen old new =
+    (u : ℕ) → slice_index_or old.opened.items u false ≡ true
+    → slice_index_or new.opened.items u false ≡ true
 
 -- the operand is opened, which it was not, and the variable waits for it
 pub record Opens (old new : Search) (variable operand : ℕ) : Type 0 where

@@ -1,5 +1,6 @@
 -- Serves private clauses alone.
--- The tables of a file's variables, and the order that they give. (AIGER format 20071012: "Input/Latch/Output/And section".)
+-- The tables of a file's variables, and the order that they give. (AIGER format 20071012:
+-- "Input/Latch/Output/And section".)
 use Rattle.std.specs.Prelude.{◌≡◌, ℕ, ◌+◌, ◌*◌, ◌≤◌, zero, suc, Bool, true, false, List, length, slice_index_or, Option, Some, None, Result, Ok, Err}
 use Rattle.std.specs.List.{AllByRecursion, list_all}
 use Rattle.aig_circuit.specs.declared.node.AigNode.{AigNode}
@@ -15,7 +16,8 @@ use Rattle.aig_ordering.specs.Lists.{nodes_of_variables}
 abbrev pub HasOperands : ℕ → GateLine → Type 0
 HasOperands greatest g = (g.rhs0 ≤ 2 * greatest + 1) × (g.rhs1 ≤ 2 * greatest + 1)
 
--- the nodes of the file's variables, each at the place of its variable; what the lines define is definable and leaves room
+-- the nodes of the file's variables, each at the place of its variable; what the lines define is
+-- definable and leaves room
 pub record AreNodesOf (f : File) (nodes : List AigNode) : Type 0 where
   pub placed : nodes ≡ nodes_of_variables f.greatest f.gates
   pub definable : AllByRecursion (IsDefinable f.greatest) (defined f)

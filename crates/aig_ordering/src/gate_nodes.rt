@@ -18,7 +18,8 @@ fn push_node(
 ) -> Result<(), OrderError>
     ensures { MakesAll (λ _. new.new.items)
         (option_map (λ kind. new.old.items ++ node_of (vec_len new.old) kind ∷ [])
-        (kind_by_numbers (number_at numbers.now) (kind_of_operands (vec_len new.old) gate))) result }
+        (kind_by_numbers (number_at numbers.now)
+        (kind_of_operands (vec_len new.old) gate))) result }
 {
     match gate {
         Some(operands) => {
@@ -44,7 +45,8 @@ pub fn nodes(
 ) -> Result<Vec<AigNode>, OrderError>
     ensures { MakesAll (λ new. new.items)
         (option_map (nodes_numbered_from 0)
-        (all_by (λ node. kind_by_numbers (number_at numbers.now) node.typ) (nodes_in gates.now))) result }
+        (all_by (λ node. kind_by_numbers (number_at numbers.now) node.typ)
+        (nodes_in gates.now))) result }
 {
     let mut new = Vec::with_capacity(alloc, gates.len())?;
     for gate in gates {

@@ -72,7 +72,8 @@ impl Search {
         requires { operand < vec_len self.old.opened }
         ensures ok { IfOk result (λ at. (at ≡ operand) × Opens self.old self.new variable operand) }
         ensures err { IfErr result
-            (λ e. OrderUnlessTransient e (slice_index_or self.old.opened.items operand false ≡ true)) }
+            (λ e. OrderUnlessTransient e
+            (slice_index_or self.old.opened.items operand false ≡ true)) }
     {
         if self.opened[operand] {
             return Err(OrderError::Variable);

@@ -1,6 +1,8 @@
 -- Part of what is promised.
--- Reading from the front: a value and the bytes after it, or nothing. Each reader is for one text of the grammar.
--- (AIGER format 20071012: "Header", "Binary encoding", "Symbol table"; AIGER 1.9: "Reset logic", "Properties".)
+-- Reading from the front: a value and the bytes after it, or nothing. Each reader is for one text
+-- of the grammar.
+-- (AIGER format 20071012: "Header", "Binary encoding", "Symbol table"; AIGER 1.9: "Reset logic",
+-- "Properties".)
 use Rattle.std.specs.Prelude.{ℕ, zero, suc, ◌+◌, ◌-◌, ◌*◌, ◌^◌, Bool, true, false, not, ◌&&◌, nat_lt, nat_le, ◌==◌, if◌then◌else◌, List, [], ◌∷◌, ◌++◌, length, slice_index, slice_index_or, slice_get, Option, Some, None, option_map}
 use Rattle.aig_format.specs.declared.FileKind.{FileKind}
 use Rattle.aig_format.specs.declared.FileKind.TheVariants.{Text, Binary}
@@ -23,7 +25,9 @@ is_digit b = nat_le 48 b && nat_le b 57
 unfoldable pub parse_digits : ℕ → List ℕ → Option ((ℕ × ℕ) × List ℕ)
 parse_digits v [] = None
 parse_digits v (b ∷ bs) =
-    if is_digit b then (if nat_lt (10 * v + (b - 48)) (2 ^ 32) then parse_digits (10 * v + (b - 48)) bs else None) else Some ((v, b), bs)
+    if is_digit b
+    then (if nat_lt (10 * v + (b - 48)) (2 ^ 32) then parse_digits (10 * v + (b - 48)) bs else None)
+    else Some ((v, b), bs)
 
 -- a number, and the byte that ends it
 unfoldable pub parse_number : List ℕ → Option ((ℕ × ℕ) × List ℕ)
@@ -37,26 +41,30 @@ parse_ended end bytes = do
   if n.0.1 == end then Some (n.0.0, n.1) else None
 
 -- one reader, and then another that may look at what the first gave
-abbrev pub parse_both : {A B : Type 0} → (List ℕ → Option (A × List ℕ)) → (A → List ℕ → Option (B × List ℕ)) → List ℕ → Option ((A × B) × List ℕ)
+abbrev pub parse_both : {A B : Type 0} → (List ℕ → Option (A × List ℕ))
+    → (A → List ℕ → Option (B × List ℕ)) → List ℕ → Option ((A × B) × List ℕ)
 parse_both p q bytes = do
   x ← p bytes
   y ← q x.0 x.1
   Some ((x.0, y.0), y.1)
 
 -- a reader that also wants a test passed
-abbrev pub parse_if : {A : Type 0} → (List ℕ → Option (A × List ℕ)) → (A → Bool) → List ℕ → Option (A × List ℕ)
+abbrev pub parse_if : {A : Type 0} → (List ℕ → Option (A × List ℕ)) → (A → Bool) → List ℕ
+    → Option (A × List ℕ)
 parse_if p test bytes = do
   x ← p bytes
   if test x.0 then Some x else None
 
 -- a reader whose value is seen otherwise
-abbrev pub parse_map : {A B : Type 0} → (A → B) → (List ℕ → Option (A × List ℕ)) → List ℕ → Option (B × List ℕ)
+abbrev pub parse_map : {A B : Type 0} → (A → B) → (List ℕ → Option (A × List ℕ)) → List ℕ
+    → Option (B × List ℕ)
 parse_map f p bytes = do
   x ← p bytes
   Some (f x.0, x.1)
 
 -- a reader n times
-abbrev pub parse_times : {A : Type 0} → (List ℕ → Option (A × List ℕ)) → ℕ → List ℕ → Option (List A × List ℕ)
+abbrev pub parse_times : {A : Type 0} → (List ℕ → Option (A × List ℕ)) → ℕ → List ℕ
+    → Option (List A × List ℕ)
 parse_times p zero bytes = Some ([], bytes)
 parse_times p (suc n) bytes = do
   x ← p bytes
@@ -68,7 +76,9 @@ unfoldable pub parse_line : ℕ → List ℕ → Option (List ℕ × List ℕ)
 parse_line zero bytes = None
 parse_line (suc k) bytes = do
   n ← parse_number bytes
-  if n.0.1 == 10 then Some (n.0.0 ∷ [], n.1) else if n.0.1 == 32 then (parse_line k n.1 >>= λ ns. Some (n.0.0 ∷ ns.0, ns.1)) else None
+  if n.0.1 == 10 then Some (n.0.0 ∷ [], n.1)
+  else if n.0.1 == 32 then (parse_line k n.1 >>= λ ns. Some (n.0.0 ∷ ns.0, ns.1))
+  else None
 
 -- what follows a text, if the bytes begin with it
 abbrev pub strip : List ℕ → List ℕ → Option (List ℕ)
@@ -83,7 +93,9 @@ or_else None other = other
 
 -- the kind's word
 unfoldable pub parse_kind : List ℕ → Option (FileKind × List ℕ)
-parse_kind bytes = or_else (option_map (λ rest. (Text, rest)) (strip (magic Text) bytes)) (option_map (λ rest. (Binary, rest)) (strip (magic Binary) bytes))
+parse_kind bytes =
+    or_else (option_map (λ rest. (Text, rest)) (strip (magic Text) bytes))
+    (option_map (λ rest. (Binary, rest)) (strip (magic Binary) bytes))
 
 -- the header of the numbers of a line; those that are not written are 0
 abbrev pub header_from : List ℕ → HeaderNumbers
@@ -109,7 +121,8 @@ parse_header = parse_both parse_kind (λ _. parse_header_numbers)
 
 -- the latch of the numbers of a line
 abbrev pub latch_from : List ℕ → LatchLine
-latch_from ns = record { literal = slice_index ns 0; next = slice_index ns 1; reset = slice_get ns 2 }
+latch_from ns =
+    record { literal = slice_index ns 0; next = slice_index ns 1; reset = slice_get ns 2 }
 
 -- the gate of the numbers of a line
 abbrev pub gate_from : List ℕ → GateLine
@@ -143,7 +156,8 @@ parse_byte (b ∷ bs) = Some (b, bs)
 -- the bytes before the first line feed
 unfoldable pub parse_text : List ℕ → Option (List ℕ × List ℕ)
 parse_text [] = None
-parse_text (b ∷ bs) = if b == 10 then Some ([], bs) else (parse_text bs >>= λ x. Some (b ∷ x.0, x.1))
+parse_text (b ∷ bs) =
+    if b == 10 then Some ([], bs) else (parse_text bs >>= λ x. Some (b ∷ x.0, x.1))
 
 -- a name of these parts
 abbrev pub name_from : ℕ × (ℕ × List ℕ) → NameLine
@@ -151,7 +165,10 @@ name_from x = record { letter = x.0; position = x.1.0; name = x.1.1 }
 
 -- a name line
 abbrev pub parse_name : List ℕ → Option (NameLine × List ℕ)
-parse_name = parse_map name_from (parse_both (parse_if parse_byte is_letter) (λ _. parse_both (parse_ended 32) (λ _. parse_text)))
+parse_name =
+    parse_map name_from
+    (parse_both (parse_if parse_byte is_letter)
+    (λ _. parse_both (parse_ended 32) (λ _. parse_text)))
 
 -- whether the bytes are a comment, or nothing
 abbrev pub is_comment : List ℕ → Bool
@@ -162,7 +179,9 @@ is_comment (c ∷ b ∷ bs) = c == letter_of_comment && not (is_digit b)
 -- the names, with the comment after them, up to the end; at most k names
 unfoldable pub parse_tail : ℕ → List ℕ → Option (List NameLine)
 parse_tail zero bytes = None
-parse_tail (suc k) bytes = if is_comment bytes then Some [] else (parse_name bytes >>= λ n. parse_tail k n.1 >>= λ ns. Some (n.0 ∷ ns))
+parse_tail (suc k) bytes =
+    if is_comment bytes then Some []
+    else (parse_name bytes >>= λ n. parse_tail k n.1 >>= λ ns. Some (n.0 ∷ ns))
 
 -- ---- binary files
 
@@ -170,14 +189,17 @@ parse_tail (suc k) bytes = if is_comment bytes then Some [] else (parse_name byt
 unfoldable pub parse_groups : ℕ → List ℕ → Option (ℕ × List ℕ)
 parse_groups zero bytes = None
 parse_groups (suc k) [] = None
-parse_groups (suc k) (b ∷ bs) = if nat_lt b 128 then Some (b, bs) else (parse_groups k bs >>= λ x. Some ((b - 128) + 128 * x.0, x.1))
+parse_groups (suc k) (b ∷ bs) =
+    if nat_lt b 128 then Some (b, bs)
+    else (parse_groups k bs >>= λ x. Some ((b - 128) + 128 * x.0, x.1))
 
 -- a difference
 abbrev pub parse_delta : List ℕ → Option (ℕ × List ℕ)
 parse_delta = parse_if (parse_groups 5) (λ d. nat_lt d (2 ^ 32))
 
 -- n entries, of the variables from v on
-abbrev pub parse_placed : {A : Type 0} → (ℕ → List ℕ → Option (A × List ℕ)) → ℕ → ℕ → List ℕ → Option (List A × List ℕ)
+abbrev pub parse_placed : {A : Type 0} → (ℕ → List ℕ → Option (A × List ℕ)) → ℕ → ℕ → List ℕ
+    → Option (List A × List ℕ)
 parse_placed p zero v bytes = Some ([], bytes)
 parse_placed p (suc n) v bytes = do
   x ← p v bytes
@@ -202,7 +224,8 @@ parse_placed_latch v = parse_map (placed_latch v) (parse_line 2)
 
 -- a gate of a binary file, for variable v
 abbrev pub parse_placed_gate : ℕ → List ℕ → Option (GateLine × List ℕ)
-parse_placed_gate v = parse_map (placed_gate v) (parse_if (parse_both parse_delta (λ _. parse_delta)) (fits_gate v))
+parse_placed_gate v =
+    parse_map (placed_gate v) (parse_if (parse_both parse_delta (λ _. parse_delta)) (fits_gate v))
 
 -- ---- files of both kinds, by the header's numbers
 
@@ -231,7 +254,14 @@ pub record PropertyParts : Type 0 where
 
 -- those of a file
 abbrev pub property_parts : File → PropertyParts
-property_parts f = record { outputs = f.outputs; bads = f.bads; constraints = f.constraints; justice = f.justice; fairness = f.fairness }
+property_parts f =
+    record {
+      outputs = f.outputs;
+      bads = f.bads;
+      constraints = f.constraints;
+      justice = f.justice;
+      fairness = f.fairness;
+    }
 
 -- the sections after the header
 pub record Parts : Type 0 where
@@ -247,28 +277,52 @@ parse_justice count bytes = do
   parse_sets sizes.0 sizes.1
 
 -- outputs and properties, by readers of so many literals and of so many sets
-abbrev pub properties_by : (ℕ → List ℕ → Option (List ℕ × List ℕ)) → (ℕ → List ℕ → Option (List (List ℕ) × List ℕ)) → HeaderNumbers → List ℕ → Option (PropertyParts × List ℕ)
+abbrev pub properties_by : (ℕ → List ℕ → Option (List ℕ × List ℕ))
+    → (ℕ → List ℕ → Option (List (List ℕ) × List ℕ)) → HeaderNumbers → List ℕ
+    → Option (PropertyParts × List ℕ)
 properties_by literals sets ns bytes = do
   outputs ← literals ns.outputs bytes
   bads ← literals ns.bads outputs.1
   constraints ← literals ns.constraints bads.1
   justice ← sets ns.justice constraints.1
   fairness ← literals ns.fairness justice.1
-  Some (record { outputs = outputs.0; bads = bads.0; constraints = constraints.0; justice = justice.0; fairness = fairness.0 }, fairness.1)
+  Some (
+    record {
+      outputs = outputs.0;
+      bads = bads.0;
+      constraints = constraints.0;
+      justice = justice.0;
+      fairness = fairness.0;
+    },
+    fairness.1,
+  )
 
 -- the sections, by their readers; latches may look at the inputs, and gates at both
-abbrev pub sections_by : (List ℕ → Option (List ℕ × List ℕ)) → (List ℕ → List ℕ → Option (List LatchLine × List ℕ)) → (List ℕ → Option (PropertyParts × List ℕ))
-    → (List ℕ → List LatchLine → List ℕ → Option (List GateLine × List ℕ)) → List ℕ → Option (Parts × List ℕ)
+abbrev pub sections_by : (List ℕ → Option (List ℕ × List ℕ))
+    → (List ℕ → List ℕ → Option (List LatchLine × List ℕ))
+    → (List ℕ → Option (PropertyParts × List ℕ))
+    → (List ℕ → List LatchLine → List ℕ → Option (List GateLine × List ℕ)) → List ℕ
+    → Option (Parts × List ℕ)
 sections_by read_inputs read_latches read_properties read_gates bytes = do
   inputs ← read_inputs bytes
   latches ← read_latches inputs.0 inputs.1
   properties ← read_properties latches.1
   gates ← read_gates inputs.0 latches.0 properties.1
-  Some (record { inputs = inputs.0; latches = latches.0; properties = properties.0; gates = gates.0 }, gates.1)
+  Some (
+    record {
+      inputs = inputs.0;
+      latches = latches.0;
+      properties = properties.0;
+      gates = gates.0;
+    },
+    gates.1,
+  )
 
 -- the sections after the header
 abbrev pub parse_sections : FileKind → HeaderNumbers → List ℕ → Option (Parts × List ℕ)
-parse_sections kind ns = sections_by (parse_inputs kind ns) (λ _. parse_latches kind ns) (properties_by parse_numbers parse_justice ns) (λ _ _. parse_gates kind ns)
+parse_sections kind ns =
+    sections_by (parse_inputs kind ns) (λ _. parse_latches kind ns)
+    (properties_by parse_numbers parse_justice ns) (λ _ _. parse_gates kind ns)
 
 -- the header and the sections
 abbrev pub parse_body : List ℕ → Option (((FileKind × HeaderNumbers) × Parts) × List ℕ)
@@ -314,7 +368,8 @@ too_many_at limit bytes = too_many_of limit (parse_header bytes)
 -- ---- entries with a test that looks at those before
 
 -- a reader n times, each entry tested beside the entries before it
-abbrev pub parse_checked : {A : Type 0} → (List ℕ → Option (A × List ℕ)) → (List A → A → Bool) → List A → ℕ → List ℕ → Option (List A × List ℕ)
+abbrev pub parse_checked : {A : Type 0} → (List ℕ → Option (A × List ℕ)) → (List A → A → Bool)
+    → List A → ℕ → List ℕ → Option (List A × List ℕ)
 parse_checked p test before zero bytes = Some ([], bytes)
 parse_checked p test before (suc n) bytes = do
   x ← parse_if p (test before) bytes

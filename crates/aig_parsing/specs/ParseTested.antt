@@ -1,7 +1,8 @@
 -- Serves private clauses alone.
--- Reading a file from the front, each line tested beside those before it, and the gates all together: what is read so is a file that fits
--- the limit.
--- (AIGER format 20071012: "Header", "Binary encoding", "Symbol table"; AIGER 1.9: "Reset logic", "Properties".)
+-- Reading a file from the front, each line tested beside those before it, and the gates all
+-- together: what is read so is a file that fits the limit.
+-- (AIGER format 20071012: "Header", "Binary encoding", "Symbol table"; AIGER 1.9: "Reset logic",
+-- "Properties".)
 use Rattle.std.specs.Prelude.{ℕ, zero, suc, ◌+◌, ◌*◌, ◌/◌, ◌%◌, Bool, true, not, ◌&&◌, ◌||◌, nat_lt, nat_le, ◌==◌, if◌then◌else◌, List, [], ◌∷◌, ◌++◌, length, map, Option, Some, None}
 use Rattle.std.specs.Str.{is_utf8}
 use Rattle.std.specs.List.{list_any, list_all}
@@ -51,16 +52,21 @@ has_next greatest l = is_literal greatest l.next && is_reset l.literal l.reset
 
 -- a latch defines a new literal
 abbrev pub tests_latch : ℕ → List ℕ → List LatchLine → LatchLine → Bool
-tests_latch greatest inputs before l = defines greatest (inputs ++ map (λ m. m.literal) before) l.literal && has_next greatest l
+tests_latch greatest inputs before l =
+    defines greatest (inputs ++ map (λ m. m.literal) before) l.literal && has_next greatest l
 
 -- a gate defines a new literal, and its operands may be used
 abbrev pub tests_gate : ℕ → List ℕ → List GateLine → GateLine → Bool
 tests_gate greatest leaves before g =
-    defines greatest (leaves ++ map (λ h. h.lhs) before) g.lhs && is_literal greatest g.rhs0 && is_literal greatest g.rhs1
+    defines greatest (leaves ++ map (λ h. h.lhs) before) g.lhs && is_literal greatest g.rhs0
+    && is_literal greatest g.rhs1
 
--- a name stands below its section's count, none of those before it is for its place, and it is UTF-8 if it is kept
+-- a name stands below its section's count, none of those before it is for its place, and it is
+-- UTF-8 if it is kept
 abbrev pub tests_name : HeaderNumbers → List NameLine → NameLine → Bool
-tests_name ns before n = nat_lt n.position (count_of ns n.letter) && not (list_any (λ m. same_place m n) before) && (not (is_kept n.letter) || is_utf8 n.name)
+tests_name ns before n =
+    nat_lt n.position (count_of ns n.letter) && not (list_any (λ m. same_place m n) before)
+    && (not (is_kept n.letter) || is_utf8 n.name)
 
 -- ---- lines
 
@@ -68,7 +74,9 @@ tests_name ns before n = nat_lt n.position (count_of ns n.letter) && not (list_a
 unfoldable pub parse_next_and_reset : List ℕ → Option ((ℕ × Option ℕ) × List ℕ)
 parse_next_and_reset bytes = do
   n ← parse_number bytes
-  if n.0.1 == 10 then Some ((n.0.0, None), n.1) else if n.0.1 == 32 then (parse_ended 10 n.1 >>= λ r. Some ((n.0.0, Some r.0), r.1)) else None
+  if n.0.1 == 10 then Some ((n.0.0, None), n.1)
+  else if n.0.1 == 32 then (parse_ended 10 n.1 >>= λ r. Some ((n.0.0, Some r.0), r.1))
+  else None
 
 -- a latch of this literal
 abbrev pub latch_line_from : ℕ → ℕ × Option ℕ → LatchLine
@@ -76,7 +84,9 @@ latch_line_from own x = record { literal = own; next = x.0; reset = x.1 }
 
 -- a latch line of a text file
 abbrev pub parse_latch_line : List ℕ → Option (LatchLine × List ℕ)
-parse_latch_line = parse_map (λ x. latch_line_from x.0 x.1) (parse_both (parse_ended 32) (λ _. parse_next_and_reset))
+parse_latch_line =
+    parse_map (λ x. latch_line_from x.0 x.1)
+    (parse_both (parse_ended 32) (λ _. parse_next_and_reset))
 
 -- a latch line of a binary file, for the latch of variable v
 abbrev pub parse_binary_latch : ℕ → List ℕ → Option (LatchLine × List ℕ)
@@ -106,9 +116,13 @@ parse_fitting_inputs Text ns = parse_checked (parse_ended 10) (defines ns.greate
 parse_fitting_inputs Binary ns = λ bytes. Some (places ns.inputs 1, bytes)
 
 -- latches, after these inputs
-abbrev pub parse_fitting_latches : FileKind → HeaderNumbers → List ℕ → List ℕ → Option (List LatchLine × List ℕ)
-parse_fitting_latches Text ns inputs = parse_checked parse_latch_line (tests_latch ns.greatest inputs) [] ns.latches
-parse_fitting_latches Binary ns inputs = parse_placed (λ v. parse_if (parse_binary_latch v) (has_next ns.greatest)) ns.latches (1 + ns.inputs)
+abbrev pub parse_fitting_latches : FileKind → HeaderNumbers → List ℕ → List ℕ
+    → Option (List LatchLine × List ℕ)
+parse_fitting_latches Text ns inputs =
+    parse_checked parse_latch_line (tests_latch ns.greatest inputs) [] ns.latches
+parse_fitting_latches Binary ns inputs =
+    parse_placed (λ v. parse_if (parse_binary_latch v) (has_next ns.greatest)) ns.latches
+    (1 + ns.inputs)
 
 -- so many literals that may be used, a line each
 abbrev pub parse_literals : ℕ → ℕ → List ℕ → Option (List ℕ × List ℕ)
@@ -129,18 +143,24 @@ parse_literal_justice greatest count bytes = do
   parse_literal_sets greatest sizes.0 sizes.1
 
 -- gates, after these leaves; in a binary file the first operand is below the gate
-abbrev pub parse_fitting_gates : FileKind → HeaderNumbers → List ℕ → List ℕ → Option (List GateLine × List ℕ)
-parse_fitting_gates Text ns leaves = parse_checked parse_gate_line (tests_gate ns.greatest leaves) [] ns.gates
-parse_fitting_gates Binary ns leaves = parse_placed (λ v. parse_if (parse_placed_gate v) (λ g. nat_lt g.rhs0 g.lhs)) ns.gates (1 + ns.inputs + ns.latches)
+abbrev pub parse_fitting_gates : FileKind → HeaderNumbers → List ℕ → List ℕ
+    → Option (List GateLine × List ℕ)
+parse_fitting_gates Text ns leaves =
+    parse_checked parse_gate_line (tests_gate ns.greatest leaves) [] ns.gates
+parse_fitting_gates Binary ns leaves =
+    parse_placed (λ v. parse_if (parse_placed_gate v) (λ g. nat_lt g.rhs0 g.lhs)) ns.gates
+    (1 + ns.inputs + ns.latches)
 
 -- outputs and properties
 abbrev pub parse_fitting_properties : HeaderNumbers → List ℕ → Option (PropertyParts × List ℕ)
-parse_fitting_properties ns = properties_by (parse_literals ns.greatest) (parse_literal_justice ns.greatest) ns
+parse_fitting_properties ns =
+    properties_by (parse_literals ns.greatest) (parse_literal_justice ns.greatest) ns
 
 -- the lines of the sections after the header
 abbrev pub parse_section_lines : FileKind → HeaderNumbers → List ℕ → Option (Parts × List ℕ)
 parse_section_lines kind ns =
-    sections_by (parse_fitting_inputs kind ns) (parse_fitting_latches kind ns) (parse_fitting_properties ns)
+    sections_by (parse_fitting_inputs kind ns) (parse_fitting_latches kind ns)
+    (parse_fitting_properties ns)
     (λ inputs latches. parse_fitting_gates kind ns (inputs ++ map (λ l. l.literal) latches))
 
 -- ---- the test after the last gate
@@ -149,25 +169,31 @@ parse_section_lines kind ns =
 abbrev pub uses_known : File → Bool
 uses_known f = list_all (λ e. is_known f (e / 2)) (used f)
 
--- in a text file no variable is missing and the gates are in order, or else what is used is 0 or defined and no gate depends on itself;
--- a binary file is in order by its lines
+-- in a text file no variable is missing and the gates are in order, or else what is used is 0 or
+-- defined and no gate depends on itself; a binary file is in order by its lines
 abbrev pub is_accepted_order : FileKind → File → Bool
 is_accepted_order Text f = is_compact f || (uses_known f && list_all (has_level f) f.gates)
 is_accepted_order Binary f = true
 
 -- the sections after the header
 abbrev pub parse_fitting_sections : FileKind → HeaderNumbers → List ℕ → Option (Parts × List ℕ)
-parse_fitting_sections kind ns = parse_if (parse_section_lines kind ns) (λ x. is_accepted_order kind (file_from ((kind, ns), x) []))
+parse_fitting_sections kind ns =
+    parse_if (parse_section_lines kind ns)
+    (λ x. is_accepted_order kind (file_from ((kind, ns), x) []))
 
 -- the header within the limit, and the sections
 abbrev pub parse_fitting_body : ℕ → List ℕ → Option (((FileKind × HeaderNumbers) × Parts) × List ℕ)
-parse_fitting_body limit = parse_both (parse_fitting_header limit) (λ h. parse_fitting_sections h.0 h.1)
+parse_fitting_body limit =
+    parse_both (parse_fitting_header limit) (λ h. parse_fitting_sections h.0 h.1)
 
 -- the names after these, with the comment after them, up to the end; at most k names
-unfoldable pub parse_fitting_tail : HeaderNumbers → ℕ → List NameLine → List ℕ → Option (List NameLine)
+unfoldable pub parse_fitting_tail : HeaderNumbers → ℕ → List NameLine → List ℕ
+    → Option (List NameLine)
 parse_fitting_tail ns zero before bytes = None
 parse_fitting_tail ns (suc k) before bytes =
-    if is_comment bytes then Some [] else (parse_if parse_name (tests_name ns before) bytes >>= λ n. parse_fitting_tail ns k (before ++ n.0 ∷ []) n.1 >>= λ names. Some (n.0 ∷ names))
+    if is_comment bytes then Some []
+    else (parse_if parse_name (tests_name ns before) bytes >>= λ n. parse_fitting_tail ns k
+    (before ++ n.0 ∷ []) n.1 >>= λ names. Some (n.0 ∷ names))
 
 -- the file that the bytes spell, if it fits the limit
 unfoldable pub parse_fitting : ℕ → List ℕ → Option File

@@ -11,7 +11,9 @@ IsFileNumber n = n < 2 ^ 32
 
 -- a latch of such numbers
 abbrev pub LatchSmall : LatchLine → Type 0
-LatchSmall l = IsFileNumber l.literal × IsFileNumber l.next × AllByRecursion IsFileNumber (option_to_list l.reset)
+LatchSmall l =
+    IsFileNumber l.literal × IsFileNumber l.next
+    × AllByRecursion IsFileNumber (option_to_list l.reset)
 
 -- a gate of such numbers, with its operands in the order of the written form
 abbrev pub GateSmall : GateLine → Type 0
@@ -19,7 +21,8 @@ GateSmall g = IsFileNumber g.lhs × (g.rhs0 ≤ g.lhs) × (g.rhs1 ≤ g.rhs0)
 
 -- a name with one of the seven letters, such a position, and no line feed
 abbrev pub NameSmall : NameLine → Type 0
-NameSmall n = (is_letter n.letter ≡ true) × IsFileNumber n.position × AllByRecursion (λ b. b ≢ 10) n.name
+NameSmall n =
+    (is_letter n.letter ≡ true) × IsFileNumber n.position × AllByRecursion (λ b. b ≢ 10) n.name
 
 -- a justice set of such numbers
 abbrev pub SetSmall : List ℕ → Type 0

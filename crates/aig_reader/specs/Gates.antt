@@ -58,7 +58,8 @@ is_in_order (held.Shuffled table) = false
 -- there are nodes of so many variables at most, and gates of no others
 abbrev pub HasSpace : ℕ → GateStore → Type 0
 HasSpace size (held.InOrder rising) = vec_len rising.nodes ≤ size
-HasSpace size (held.Shuffled table) = (vec_len table.entries ≤ size) × All (λ l. l.lhs / 2 < size) table.pending.items
+HasSpace size (held.Shuffled table) =
+    (vec_len table.entries ≤ size) × All (λ l. l.lhs / 2 < size) table.pending.items
 
 -- the nodes of the first variables, from 0 on, where these gates are defined, each within them
 pub record AreFirstNodes (gates : List GateLine) (nodes : List AigNode) : Type 0 where
@@ -73,7 +74,8 @@ lines_of pending = map (λ l. line_of l.lhs l.operands) pending
 -- each of these gates defines a variable that none before it does
 abbrev pub AreNew : List GateLine → List GateLine → Type 0
 AreNew front [] = Unit {0}
-AreNew front (g ∷ gates) = ((2 ≤ g.lhs) × IsNewAmong (literals_of front) g.lhs) × AreNew (front ++ g ∷ []) gates
+AreNew front (g ∷ gates) =
+    ((2 ≤ g.lhs) × IsNewAmong (literals_of front) g.lhs) × AreNew (front ++ g ∷ []) gates
 
 -- gates in their places, and after them those that wait
 pub record HoldsPending (gates : List GateLine) (table : Table) : Type 0 where
@@ -87,17 +89,21 @@ abbrev pub AreHeld : List GateLine → GateStore → Type 0
 AreHeld gates (held.InOrder rising) = AreFirstNodes gates rising.nodes.items
 AreHeld gates (held.Shuffled table) = HoldsPending gates table
 
--- the literal that the last of these gates defines, which rise, each above its operands, and all have numbers of 32 bits
+-- the literal that the last of these gates defines, which rise, each above its operands, and all
+-- have numbers of 32 bits
 pub record AreInOrder (gates : List GateLine) (rising : InOrder) : Type 0 where
   pub in_order : are_in_order gates ≡ true
   pub last : rising.last ≡ last_or 0 (literals_of gates)
   pub words : AllByRecursion HasWords gates
 
--- after these leaves, no gates that begin with these rise so that no variable up to the greatest is missing
+-- after these leaves, no gates that begin with these rise so that no variable up to the greatest is
+-- missing
 abbrev pub IsNeverCompact : ℕ → List ℕ → List GateLine → Type 0
 IsNeverCompact greatest leaves gates =
-    (rest : List GateLine) → let literals = leaves ++ literals_of (gates ++ rest) in
-    AllByRecursion (IsDefinable greatest) literals → IsDistinct nat_eq literals → greatest ≡ length literals → are_in_order (gates ++ rest) ≡ false
+    (rest : List GateLine)
+    → let literals = leaves ++ literals_of (gates ++ rest) in
+    AllByRecursion (IsDefinable greatest) literals → IsDistinct nat_eq literals
+    → greatest ≡ length literals → are_in_order (gates ++ rest) ≡ false
 
 -- as nodes they rise, in a table the file is well-founded alone
 abbrev pub IsHeld : ℕ → List ℕ → List GateLine → GateStore → Type 0
@@ -105,11 +111,13 @@ IsHeld greatest leaves gates (held.InOrder rising) = AreInOrder gates rising
 IsHeld greatest leaves gates (held.Shuffled table) = IsNeverCompact greatest leaves gates
 
 -- after these leaves, these gates are held
-pub record ArePlaced (greatest : ℕ) (leaves : List ℕ) (gates : List GateLine) (held : GateStore) : Type 0 where
+pub record ArePlaced (greatest : ℕ) (leaves : List ℕ) (gates : List GateLine) (held : GateStore)
+    : Type 0 where
   pub nodes : AreHeld gates held
   pub form : IsHeld greatest leaves gates held
 
 -- after these leaves and gates: the variables, and where the gates are held
-pub record AreGates (greatest : ℕ) (leaves : List ℕ) (gates : List GateLine) (variables : DefinedVariables) (held : GateStore) : Type 0 where
+pub record AreGates (greatest : ℕ) (leaves : List ℕ) (gates : List GateLine)
+    (variables : DefinedVariables) (held : GateStore) : Type 0 where
   pub defined : AreDefined greatest variables (leaves ++ literals_of gates)
   pub placed : ArePlaced greatest leaves gates held

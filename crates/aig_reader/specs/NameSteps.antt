@@ -16,10 +16,15 @@ pub record IsNoTail (bytes : List ℕ) : Type 0 where
   pub no_comment : is_comment bytes ≡ false
   pub no_name : parse_name bytes ≡ None
 
--- a comment that went to the end was taken, or of what is none a section's letter and the byte after it, or the bytes are neither comment nor name
-abbrev pub NameStarts : Option (List ℕ) → Option (List ℕ) → Result (Option (NamedSection × ℕ)) LexError → Type 0
-NameStarts before after (Ok None) = (taken : List ℕ) × (is_comment taken ≡ true) × Consumes before after taken
-NameStarts before after (Ok (Some x)) = let start = letter_of_section x.0 ∷ x.1 ∷ [] in (is_comment start ≡ false) × Consumes before after start
+-- a comment that went to the end was taken, or of what is none a section's letter and the byte
+-- after it, or the bytes are neither comment nor name
+abbrev pub NameStarts : Option (List ℕ) → Option (List ℕ)
+    → Result (Option (NamedSection × ℕ)) LexError → Type 0
+NameStarts before after (Ok None) =
+    (taken : List ℕ) × (is_comment taken ≡ true) × Consumes before after taken
+NameStarts before after (Ok (Some x)) =
+    let start = letter_of_section x.0 ∷ x.1 ∷ [] in
+    (is_comment start ≡ false) × Consumes before after start
 NameStarts before after (Err e) = LexUnlessTransient e (IfSome before IsNoTail)
 
 -- a number that a space ends, whose first byte came before
@@ -28,7 +33,10 @@ parse_position first bytes = parse_ended 32 (first ∷ bytes)
 
 -- the node at a position of inputs or latches
 abbrev pub node_at : List ℕ → List ℕ → ℕ → ℕ → Option ℕ
-node_at inputs leaves letter position = if letter == letter_of_inputs then Some (slice_index inputs position) else if letter == letter_of_latches then Some (slice_index leaves position) else None
+node_at inputs leaves letter position =
+    if letter == letter_of_inputs then Some (slice_index inputs position)
+    else if letter == letter_of_latches then Some (slice_index leaves position)
+    else None
 
 -- the names, with this one for the node if there is one
 abbrev pub with_name : Option ℕ → List ℕ → FinMap nat_cmp (List ℕ) → FinMap nat_cmp (List ℕ)

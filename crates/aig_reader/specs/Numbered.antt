@@ -40,7 +40,8 @@ have_operands f = knows f (flat_map (λ g. g.rhs0 ∷ g.rhs1 ∷ []) f.gates)
 
 -- whether those of outputs and properties are
 abbrev pub knows_properties : File → Bool
-knows_properties f = knows f (f.outputs ++ f.bads ++ f.constraints ++ flat_map (λ s. s) f.justice ++ f.fairness)
+knows_properties f =
+    knows f (f.outputs ++ f.bads ++ f.constraints ++ flat_map (λ s. s) f.justice ++ f.fairness)
 
 -- whether those of latches, outputs and properties are
 abbrev pub knows_lists : File → Bool
@@ -50,7 +51,8 @@ knows_lists f = knows f (map (λ l. l.next) f.latches) && knows_properties f
 
 -- the table has the number of each variable that is 0 or defined, and no others
 abbrev pub AreNumbersOf : File → List ℕ → Type 0
-AreNumbersOf f numbers = (v : ℕ) → number_at numbers v ≡ (if is_known f v then Some (node_of_variable f v) else None)
+AreNumbersOf f numbers =
+    (v : ℕ) → number_at numbers v ≡ (if is_known f v then Some (node_of_variable f v) else None)
 
 -- the edges of the file's outputs and properties
 pub record AreNumberedProperties (f : File) (properties : Properties) : Type 0 where
@@ -68,4 +70,6 @@ pub record AreListsByNumber (f : File) (lists : Lists) : Type 0 where
 
 -- the sections have the file's circuit, but for its names
 abbrev pub IsCircuitOf : File → Sections → Type 0
-IsCircuitOf f sections = (names : FinMap nat_cmp (List ℕ)) → circuit_with sections names ≡ record (circuit_of f) { names = names }
+IsCircuitOf f sections =
+    (names : FinMap nat_cmp (List ℕ))
+    → circuit_with sections names ≡ record (circuit_of f) { names = names }

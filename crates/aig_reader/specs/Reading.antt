@@ -21,21 +21,26 @@ UnlessTransient (Ok x) P = P
 abbrev pub AreListsOf : File → CircuitLists → Type 0
 AreListsOf f lists = lists_circuit lists ≡ circuit_of f
 
--- the bytes that were taken are a file of which this holds, and the value is what is meant for that file
-pub record IsReadAs {T : Type 0} (Holds : List ℕ → File → Type 0) (Means : File → T → Type 0) (old new : Option (List ℕ)) (value : T) : Type 0 where
+-- the bytes that were taken are a file of which this holds, and the value is what is meant for that
+-- file
+pub record IsReadAs {T : Type 0} (Holds : List ℕ → File → Type 0) (Means : File → T → Type 0)
+    (old new : Option (List ℕ)) (value : T) : Type 0 where
   pub file : File
   pub bytes : List ℕ
   pub holds : Holds bytes file
   pub means : Means file value
   pub taken : Consumes old new bytes
 
--- there is a value exactly where there is a file of which this holds, and it is what is meant for that file
-pub record ReadsWhere {T E : Type 0} (Holds : File → Type 0) (Means : File → T → Type 0) (result : Result T E) : Type 0 where
+-- there is a value exactly where there is a file of which this holds, and it is what is meant for
+-- that file
+pub record ReadsWhere {T E : Type 0} (Holds : File → Type 0) (Means : File → T → Type 0)
+    (result : Result T E) : Type 0 where
   pub each : (f : File) → Holds f → IsOkAnd result (Means f)
   pub only : IsOk result → (f : File) × Holds f
 
--- there is a value exactly where the bytes are a file that is accepted, and TooMany exactly where the header line is good and passes the
--- limit
-pub record ReadsExactly {T : Type 0} (Means : File → T → Type 0) (limit : ℕ) (result : Result T ReadError) (bytes : List ℕ) : Type 0 where
+-- there is a value exactly where the bytes are a file that is accepted, and TooMany exactly where
+-- the header line is good and passes the limit
+pub record ReadsExactly {T : Type 0} (Means : File → T → Type 0) (limit : ℕ)
+    (result : Result T ReadError) (bytes : List ℕ) : Type 0 where
   pub accepted : ReadsWhere (Accepts bytes limit) Means result
   pub too_many : IsErrOf result errors.TooMany ↔ TooMany bytes limit

@@ -30,8 +30,8 @@ pub record AreListsByVariable (lists : Lists) (f : File) : Type 0 where
   pub latchs : lists.latchs.items ≡ map latch_of_line f.latches
   pub properties : ArePropertiesOf lists.properties (property_parts f)
 
--- what the lines of sections tell of their file: literals are defined once and are those of its variables, and binary files are
--- compact
+-- what the lines of sections tell of their file: literals are defined once and are those of its
+-- variables, and binary files are compact
 pub record HasGoodLines (f : File) : Type 0 where
   pub definable : AllByRecursion (IsDefinable f.greatest) (defined f)
   pub distinct : IsDistinct nat_eq (defined f)
@@ -39,7 +39,8 @@ pub record HasGoodLines (f : File) : Type 0 where
   pub in_range : AllByRecursion (λ e. e ≤ 2 * f.greatest + 1) (used f)
   pub binary : f.kind ≡ Binary → is_compact f ≡ true
 
--- the lines of the file's sections were read: lists and gates by variable, what is defined, and whether any variable is missing
+-- the lines of the file's sections were read: lists and gates by variable, what is defined, and
+-- whether any variable is missing
 pub record AreLinesOf (f : File) (lines : Lines) : Type 0 where
   pub good : HasGoodLines f
   pub greatest : lines.greatest ≡ f.greatest

@@ -18,11 +18,13 @@ abbrev pub file_kind : DefinedVariables → FileKind
 file_kind (kinds.Text marks) = Text
 file_kind (kinds.Binary count) = Binary
 
--- these literals may be defined, and the marks of the variables up to the greatest tell which of them they define
+-- these literals may be defined, and the marks of the variables up to the greatest tell which of
+-- them they define
 pub record AreMarks (greatest : ℕ) (marks : Marks) (literals : List ℕ) : Type 0 where
   pub top : marks.greatest ≡ greatest
   pub definable : AllByRecursion (IsDefinable greatest) literals
-  pub marked : (v : ℕ) → v ≤ greatest → bit_is_set marks.marked.items v ≡ list_any (λ e. e == 2 * v) literals
+  pub marked : (v : ℕ) → v ≤ greatest
+      → bit_is_set marks.marked.items v ≡ list_any (λ e. e == 2 * v) literals
 
 -- there are so many even literals, and no variable of theirs is above the count
 pub record AreCounted (count : ℕ) (literals : List ℕ) : Type 0 where
@@ -39,7 +41,8 @@ abbrev pub is_marked : DefinedVariables → ℕ → Bool
 is_marked (kinds.Text marks) v = bit_is_set marks.marked.items v
 is_marked (kinds.Binary count) v = nat_le v count
 
--- there are `size` variables, the false one counted, and in a binary file k more of them can be defined
+-- there are `size` variables, the false one counted, and in a binary file k more of them can be
+-- defined
 abbrev pub HasRoom : ℕ → DefinedVariables → ℕ → Type 0
 HasRoom size (kinds.Text marks) k = marks.greatest + 1 ≡ size
 HasRoom size (kinds.Binary count) k = count + k < size

@@ -43,7 +43,8 @@ pub fn read_edges<F: ByteFeed>(
     count: u32,
     greatest: u32,
 ) -> Result<Vec<AigEdge>, LineError>
-    ensures exact { Makes LineUnlessTransient (λ edges literals. edges.items ≡ map edge_from literals)
+    ensures exact { Makes LineUnlessTransient
+        (λ edges literals. edges.items ≡ map edge_from literals)
         (F.coming f.old) (F.coming f.new) result (parse_literals greatest count) }
     ensures stream { IsErrOf result LineError.Stream → F.failed f.new ≡ true }
     ensures same { F.behind f.new ≡ F.behind f.old }

@@ -113,7 +113,8 @@ pub fn read_gates<F: ByteFeed>(
     requires defined { (leaves : List ℕ) × AreDefined header.greatest variables.old leaves }
     ensures exact { (leaves : List ℕ) → length leaves ≡ header.inputs + header.latches
         → AreDefined header.greatest variables.old leaves
-        → Makes LineUnlessTransient (λ held gates. AreGates header.greatest leaves gates variables.new held)
+        → Makes LineUnlessTransient
+        (λ held gates. AreGates header.greatest leaves gates variables.new held)
         (F.coming f.old) (F.coming f.new) result
         (parse_fitting_gates (file_kind variables.old) (numbers_of header) leaves) }
     ensures space { IfOk result (HasSpace (header.greatest + 1)) }

@@ -42,7 +42,8 @@ pub fn read_inputs<F: ByteFeed>(
     requires few { header.greatest < 2 ^ 31 }
     requires room { HasRoom (header.greatest + 1) variables.old header.inputs }
     ensures exact { AreDefined header.greatest variables.old []
-        → Makes LineUnlessTransient (λ inputs literals. (inputs.items ≡ map variable_of_literal literals)
+        → Makes LineUnlessTransient
+        (λ inputs literals. (inputs.items ≡ map variable_of_literal literals)
         × AreDefined header.greatest variables.new literals)
         (F.coming f.old) (F.coming f.new) result
         (parse_fitting_inputs (file_kind variables.old) (numbers_of header)) }

@@ -104,7 +104,8 @@ impl Lists {
         gates: Vec<Option<Operands>>,
         known: &[bool],
     ) -> Result<Sections, ReadError>
-        requires tables { (f : File) × AreNodesOf f (nodes_in gates.items) × AreKnownOf f known.now }
+        requires tables { (f : File)
+            × AreNodesOf f (nodes_in gates.items) × AreKnownOf f known.now }
         requires few { vec_len gates ≤ 2 ^ 31 }
         ensures exact { (f : File) → HasGoodLines f → AreNodesOf f (nodes_in gates.items)
             → AreKnownOf f known.now → AreListsByVariable self.now f → is_compact f ≡ false

@@ -75,7 +75,8 @@ fn read_sections<F: ByteFeed>(
     requires few { header.greatest < 2 ^ 31 }
     requires good { is_good header.kind (numbers_of header) ≡ true }
     requires enough { header.inputs + header.latches + header.gates ≤ header.greatest }
-    ensures exact { Makes ReadUnlessTransient (λ sections x. IsCircuitOf (file_by header x) sections)
+    ensures exact { Makes ReadUnlessTransient
+        (λ sections x. IsCircuitOf (file_by header x) sections)
         (F.coming f.old) (F.coming f.new) result
         (parse_fitting_sections header.kind (numbers_of header)) }
     ensures inputs { IfOk result (λ sections. vec_len sections.lists.inputs ≡ header.inputs) }

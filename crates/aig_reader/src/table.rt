@@ -120,7 +120,8 @@ impl Table {
         requires { (size : ℕ) × (size ≤ 2 ^ 31) × HasSpace size (held.Shuffled self.old) }
         ensures nodes { (gates : List GateLine) → HoldsPending gates self.old
             → OnOk result
-            (AreFirstNodes gates (nodes_in self.new.entries.items) × (self.new.pending.items ≡ [])) }
+            (AreFirstNodes gates (nodes_in self.new.entries.items)
+            × (self.new.pending.items ≡ [])) }
         ensures pending { OnOk result (self.new.pending.items ≡ []) }
         ensures space { OnOk result ((size : ℕ) → HasSpace size (held.Shuffled self.old)
             → HasSpace size (held.Shuffled self.new)) }

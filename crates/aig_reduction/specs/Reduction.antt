@@ -1,5 +1,6 @@
 -- Part of what is promised.
--- What of a circuit a query needs. (AIGER 1.9, "Properties"; the cone of influence reduction; structural hashing.)
+-- What of a circuit a query needs. (AIGER 1.9, "Properties"; the cone of influence reduction;
+-- structural hashing.)
 use Rattle.std.specs.Prelude.{◌≡◌, ℕ, ◌≤◌, ◌↔◌, List, [], length}
 use Rattle.aig_circuit.specs.Circuit.{Circuit}
 use Rattle.aig_cone.specs.Refine.{AreKept, refined}
@@ -14,8 +15,9 @@ HaveSameWitnesses c d = (k : ℕ) → HasCircuitWitness c k ↔ HasCircuitWitnes
 abbrev pub asked_alone : Circuit → Circuit
 asked_alone c = record c { outputs = []; justice = []; fairness = [] }
 
--- The circuit of what the bad edges, the constraints, the latches and the initial edges that aren't constant reach, in which gates share a node
--- exactly where their trees are equal up to exchange. At each step it has a witness exactly where the old one has.
+-- The circuit of what the bad edges, the constraints, the latches and the initial edges that aren't
+-- constant reach, in which gates share a node exactly where their trees are equal up to exchange.
+-- At each step it has a witness exactly where the old one has.
 pub record IsReduced (old new : Circuit) : Type 0 where
   pub kept : List ℕ
   pub are_kept : AreKept (asked_alone old) kept

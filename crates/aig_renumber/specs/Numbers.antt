@@ -11,7 +11,8 @@ use Rattle.aig_circuit.specs.Circuit.{Circuit}
 abbrev pub IsIndex : List ℕ → ℕ → Type 0
 IsIndex table n = n < length table
 
--- each new number is a place in the list of kept nodes, and each kept node has its place as its number
+-- each new number is a place in the list of kept nodes, and each kept node has its place as its
+-- number
 pub record HavePlaces (numbers kept : List ℕ) : Type 0 where
   pub within : All (λ i. i < length kept) numbers
   pub places : (i : ℕ) → i < length kept → slice_index numbers (slice_index kept i) ≡ i

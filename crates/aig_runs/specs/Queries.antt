@@ -1,6 +1,6 @@
 -- Part of what is promised.
--- What a query asks: a run from an initial state on which every constraint holds and, at the last step, some bad literal. (AIGER 1.9, "Properties";
--- bounded model checking.)
+-- What a query asks: a run from an initial state on which every constraint holds and, at the last
+-- step, some bad literal. (AIGER 1.9, "Properties"; bounded model checking.)
 use Rattle.std.specs.Prelude.{◌≡◌, ℕ, ◌*◌, ◌==◌, ◌≤◌, ◌↔◌, if◌then◌else◌, Bool, true, false, Option, Some, None, IsTrue, List, [], ◌∷◌, ◌++◌, length, map, drop}
 use Rattle.std.specs.List.{AllByRecursion, flat_map, list_any}
 use Rattle.aig_base.specs.declared.logic.literal.Lit.{Lit}
@@ -13,11 +13,13 @@ use Rattle.aig_format.specs.File.{File}
 use Rattle.aig_format.specs.Machine.{value_of_literal, IsMachineRun, IsMachineInitial}
 use Rattle.aig_runs.specs.Files.{HasLeafValues}
 
--- a run from an initial state with every constraint at the steps 0 to k, and some bad literal at step k
+-- a run from an initial state with every constraint at the steps 0 to k, and some bad literal at
+-- step k
 pub record IsWitness (f : File) (k : ℕ) (run : ℕ → ℕ → Bool) : Type 0 where
   pub is_run : IsMachineRun f k run
   pub start : IsMachineInitial f run
-  pub constraints : (t : ℕ) → t ≤ k → AllByRecursion (λ e. IsTrue (value_of_literal (run t) e)) f.constraints
+  pub constraints : (t : ℕ) → t ≤ k
+      → AllByRecursion (λ e. IsTrue (value_of_literal (run t) e)) f.constraints
   pub bad : IsTrue (list_any (value_of_literal (run k)) f.bads)
 
 -- ---- the clauses
@@ -44,34 +46,42 @@ unit_clauses es = map (λ e. lit_of e ∷ []) es
 abbrev pub last_bads : Circuit → ℕ → Circuit → List AigEdge
 last_bads c k unrolled = drop (k * length c.bads) unrolled.bads
 
--- the query clauses, in order: initial values, each constraint at each step, and one clause of the bad edges of step k
+-- the query clauses, in order: initial values, each constraint at each step, and one clause of the
+-- bad edges of step k
 abbrev pub query_clauses : Circuit → ℕ → Circuit → List (List Lit)
 query_clauses c k unrolled =
-    flat_map start_clauses c.latchs ++ unit_clauses unrolled.constraints ++ map lit_of (last_bads c k unrolled) ∷ []
+    flat_map start_clauses c.latchs ++ unit_clauses unrolled.constraints
+    ++ map lit_of (last_bads c k unrolled) ∷ []
 
 -- ---- what they say
 
 -- the assignment satisfies the clauses and the further ones together
-pub record SatisfiesBoth (v : ℕ → Bool) (clauses : List (List (List Lit))) (further : List (List Lit)) : Type 0 where
+pub record SatisfiesBoth (v : ℕ → Bool) (clauses : List (List (List Lit)))
+    (further : List (List Lit)) : Type 0 where
   pub clauses_hold : Satisfies v clauses
   pub further_hold : IsTrue (are_true v further)
 
 -- The clauses and the further ones ask for the witnesses of the file's machine.
-pub record IsQueryOf (f : File) (k : ℕ) (circuit unrolled : Circuit) (clauses : List (List (List Lit))) (further : List (List Lit)) : Type 0 where
+pub record IsQueryOf (f : File) (k : ℕ) (circuit unrolled : Circuit)
+    (clauses : List (List (List Lit))) (further : List (List Lit)) : Type 0 where
   -- which query clauses there are, and in which order
   pub exact : further ≡ query_clauses circuit k unrolled
   -- some assignment satisfies both exactly where there is a witness
-  pub satisfiable : ((v : ℕ → Bool) × SatisfiesBoth v clauses further) ↔ ((run : ℕ → ℕ → Bool) × IsWitness f k run)
+  pub satisfiable : ((v : ℕ → Bool) × SatisfiesBoth v clauses further)
+      ↔ ((run : ℕ → ℕ → Bool) × IsWitness f k run)
   -- and the run with the leaf values of such an assignment is a witness
-  pub read_off : (v : ℕ → Bool) → SatisfiesBoth v clauses further → (run : ℕ → ℕ → Bool) → IsMachineRun f k run → HasLeafValues f circuit unrolled k v run → IsWitness f k run
+  pub read_off : (v : ℕ → Bool) → SatisfiesBoth v clauses further → (run : ℕ → ℕ → Bool)
+      → IsMachineRun f k run → HasLeafValues f circuit unrolled k v run → IsWitness f k run
 
 -- no assignment satisfies both
 abbrev pub IsRefuted : List (List (List Lit)) → List (List Lit) → Type 0
 IsRefuted clauses further = ¬ ((v : ℕ → Bool) × SatisfiesBoth v clauses further)
 
--- On every run from an initial state, each bad literal is false at each step up to n at which, and before which, every constraint holds.
+-- On every run from an initial state, each bad literal is false at each step up to n at which, and
+-- before which, every constraint holds.
 abbrev pub IsSafeTo : File → ℕ → Type 0
 IsSafeTo f n =
-    (last t : ℕ) (run : ℕ → ℕ → Bool) → IsMachineRun f last run → IsMachineInitial f run → t ≤ last → t ≤ n
+    (last t : ℕ) (run : ℕ → ℕ → Bool) → IsMachineRun f last run → IsMachineInitial f run → t ≤ last
+    → t ≤ n
     → ((s : ℕ) → s ≤ t → AllByRecursion (λ e. IsTrue (value_of_literal (run s) e)) f.constraints)
     → AllByRecursion (λ e. value_of_literal (run t) e ≡ false) f.bads

@@ -1,6 +1,7 @@
 -- Part of what is promised.
--- From values of the variables of a query's clauses to the witness that they say. (Bounded model checking; AIGER 1.9, "Witness format".)
--- A variable of the clauses is a node of the unrolled circuit.
+-- From values of the variables of a query's clauses to the witness that they say. (Bounded model
+-- checking; AIGER 1.9, "Witness format".) A variable of the clauses is a node of the unrolled
+-- circuit.
 use Rattle.std.specs.Prelude.{◌≡◌, ◌≢◌, ℕ, ◌+◌, ◌<◌, ◌≤◌, ◌^◌, Bool, false, Some, List, length, map, slice_get, slice_index_or}
 use Rattle.aig_base.specs.declared.logic.three.Lbool.{Lbool}
 use Rattle.aig_base.specs.declared.logic.three.Lbool.TheVariants.{TRUE, NONE}
@@ -30,7 +31,8 @@ abbrev pub inputs_in : Circuit → Circuit → List Lbool → ℕ → List Lbool
 inputs_in c unrolled values t = map (λ n. value_at values (place_at c unrolled t n)) c.inputs
 
 -- the inputs at the steps 0 to k
-pub record AreInputsTo (c unrolled : Circuit) (k : ℕ) (values : List Lbool) (steps : List (List Lbool)) : Type 0 where
+pub record AreInputsTo (c unrolled : Circuit) (k : ℕ) (values : List Lbool)
+    (steps : List (List Lbool)) : Type 0 where
   pub count : length steps ≡ k + 1
   pub each : (t : ℕ) → t ≤ k → slice_get steps t ≡ Some (inputs_in c unrolled values t)
 
@@ -48,8 +50,10 @@ pub record IsFirstTrue (edges : List AigEdge) (values : List Lbool) (i : ℕ) : 
 abbrev pub HasNoTrue : List AigEdge → List Lbool → Type 0
 HasNoTrue edges values = (i : ℕ) → i < length edges → i < 2 ^ 32 → truth_at edges values i ≢ TRUE
 
--- The witness that the values say: the first state, the inputs at the steps 0 to k, and the first bad edge of step k that is true.
-pub record IsWitnessIn (c unrolled : Circuit) (k : ℕ) (values : List Lbool) (w : Witness) : Type 0 where
+-- The witness that the values say: the first state, the inputs at the steps 0 to k, and the first
+-- bad edge of step k that is true.
+pub record IsWitnessIn (c unrolled : Circuit) (k : ℕ) (values : List Lbool) (w : Witness)
+    : Type 0 where
   pub state : w.state ≡ state_in c values
   pub steps : AreInputsTo c unrolled k values w.steps
   pub bad : IsFirstTrue (last_bads c k unrolled) values w.bad

@@ -1,5 +1,6 @@
 -- Part of what is promised.
--- Trees that are equal up to the exchange of operands (commutativity). (Structural hashing of And-Inverter Graphs.)
+-- Trees that are equal up to the exchange of operands (commutativity). (Structural hashing of
+-- And-Inverter Graphs.)
 use Rattle.std.specs.Prelude.{◌≡◌, ℕ, ◌≤◌, ◌==◌, Bool, true, false, not, ◌&&◌, ◌||◌, if◌then◌else◌, IsTrue, Some, List, length, map, find, filter, unwrap_or, count_by, take}
 use Rattle.aig_circuit.specs.declared.edge.AigEdge.{AigEdge}
 use Rattle.aig_circuit.specs.declared.node.AigNodeType.TheVariants.{And}
@@ -13,13 +14,15 @@ use Rattle.aig_circuit.specs.Renumber.{place_of}
 abbrev pub same_inversion : Bool → Bool → Bool
 same_inversion i j = if i then j else not j
 
--- both are false, or the same leaf, or ands whose operands are equal up to exchange, pairwise or crossed
+-- both are false, or the same leaf, or ands whose operands are equal up to exchange, pairwise or
+-- crossed
 abbrev pub equal_up_to_exchange : Tree → Tree → Bool
 equal_up_to_exchange FalseTree FalseTree = true
 equal_up_to_exchange (LeafTree m) (LeafTree n) = m == n
 equal_up_to_exchange (AndTree i s j t) (AndTree k u l v) =
     same_inversion i k && equal_up_to_exchange s u && same_inversion j l && equal_up_to_exchange t v
-    || same_inversion i l && equal_up_to_exchange s v && same_inversion j k && equal_up_to_exchange t u
+    || same_inversion i l && equal_up_to_exchange s v && same_inversion j k
+    && equal_up_to_exchange t u
 equal_up_to_exchange s t = false
 
 -- the nodes have trees that are equal up to exchange
@@ -46,7 +49,8 @@ with_leaves name FalseTree = FalseTree
 with_leaves name (LeafTree leaf) = LeafTree (name leaf)
 with_leaves name (AndTree i s j t) = AndTree i (with_leaves name s) j (with_leaves name t)
 
--- the tree of node n with each leaf named by its place among the leaves, so that trees of two circuits are compared
+-- the tree of node n with each leaf named by its place among the leaves, so that trees of two
+-- circuits are compared
 abbrev pub placed_tree : List AigNode → ℕ → Tree
 placed_tree nodes n = with_leaves (leaves_before nodes) (tree_of nodes n)
 
@@ -54,9 +58,12 @@ placed_tree nodes n = with_leaves (leaves_before nodes) (tree_of nodes n)
 abbrev pub node_numbers : List AigNode → List ℕ
 node_numbers nodes = map (λ node. node.node_id) nodes
 
--- the representative of node n: the least node with its tree, which is the node itself where it is no gate
+-- the representative of node n: the least node with its tree, which is the node itself where it is
+-- no gate
 abbrev pub representative_of : List AigNode → ℕ → ℕ
-representative_of nodes n = unwrap_or (find (λ m. equal_up_to_exchange (tree_of nodes m) (tree_of nodes n)) (node_numbers nodes)) n
+representative_of nodes n =
+    unwrap_or
+    (find (λ m. equal_up_to_exchange (tree_of nodes m) (tree_of nodes n)) (node_numbers nodes)) n
 
 -- the node is its own representative
 abbrev pub is_representative : List AigNode → ℕ → Bool

@@ -1,5 +1,6 @@
 -- Serves private clauses alone.
--- How far a pass over the nodes has numbered them, with the gates by the literals of their operands.
+-- How far a pass over the nodes has numbered them, with the gates by the literals of their
+-- operands.
 use Rattle.std.specs.Prelude.{◌≡◌, ℕ, ◌+◌, ◌*◌, ◌<◌, ◌≤◌, IsSome, Some, List, length, slice_index, map, take}
 use Rattle.aig_circuit.specs.declared.edge.AigEdge.{AigEdge}
 use Rattle.aig_circuit.specs.declared.node.AigNodeType.{AigNodeType}
@@ -28,10 +29,13 @@ operand_literals Leaf = (0, 0)
 abbrev pub gate_literals : List AigNode → ℕ → Literals
 gate_literals nodes n = operand_literals (renumbered_kind (image_of nodes) (kind_at nodes n))
 
--- the map has the new number of each gate among the first n nodes, by its operands' literals, and nothing else
+-- the map has the new number of each gate among the first n nodes, by its operands' literals, and
+-- nothing else
 pub record HasGates (nodes : List AigNode) (n : ℕ) (gates : Gates) : Type 0 where
-  pub each : (m : ℕ) → m < n → IsGate nodes m → number_of_gate gates (gate_literals nodes m) ≡ Some (image_of nodes m)
-  pub no_more : (q : Literals) → IsSome (number_of_gate gates q) → (m : ℕ) × (m < n) × IsGate nodes m × (gate_literals nodes m ≡ q)
+  pub each : (m : ℕ) → m < n → IsGate nodes m
+      → number_of_gate gates (gate_literals nodes m) ≡ Some (image_of nodes m)
+  pub no_more : (q : Literals) → IsSome (number_of_gate gates q)
+      → (m : ℕ) × (m < n) × IsGate nodes m × (gate_literals nodes m ≡ q)
 
 -- the first n nodes are numbered, and the tables have room for the literals of all
 pub record HasNumbered (nodes : List AigNode) (n : ℕ) (numbering : Numbering) : Type 0 where

@@ -1,5 +1,6 @@
 -- Serves private clauses alone.
--- The tables of a pass that numbers nodes: new numbers, and those of gates by the literals of their operands.
+-- The tables of a pass that numbers nodes: new numbers, and those of gates by the literals of their
+-- operands.
 use Rattle.std.specs.Prelude.{◌≡◌, ℕ, ◌^◌, ◌&&◌, Bool, false, Option, Some, nat_eq, List, unwrap_or}
 use Rattle.std.specs.HashMap.{get, HashMap}
 use Rattle.std.specs.declared.hash.FoldHasher.{FoldHasher}
@@ -7,8 +8,11 @@ use Rattle.std.specs.declared.hash.BuildHasherDefault.{BuildHasherDefault}
 use Rattle.aig_strash.specs.declared.numbers.Tables.{Tables}
 use Rattle.aig_strash.specs.declared.numbers.Tables.TheVariants.{Narrow, Wide}
 
--- `found` is the value that was there, or `next` where there was none; it is there now, and all others are as before
-pub record PutsIfAbsent {K V : Type 0} (same : K → K → Bool) (old new : HashMap K V (BuildHasherDefault FoldHasher)) (key : K) (next found : V) : Type 0 where
+-- `found` is the value that was there, or `next` where there was none; it is there now, and all
+-- others are as before
+pub record PutsIfAbsent {K V : Type 0} (same : K → K → Bool)
+    (old new : HashMap K V (BuildHasherDefault FoldHasher)) (key : K) (next found : V)
+    : Type 0 where
   pub value : found ≡ unwrap_or (get same old key) next
   pub here : get same new key ≡ Some found
   pub others : (q : K) → same key q ≡ false → get same new q ≡ get same old q

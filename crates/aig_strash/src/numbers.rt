@@ -64,7 +64,8 @@ impl Tables {
     /// Appends the number of the next node.
     pub(crate) fn push(&mut self, number: usize) -> Result<(), MemoryError>
         requires { number < literal_limit self.old }
-        ensures numbers { OnOk result (number_table self.new ≡ number_table self.old ++ number ∷ []) }
+        ensures numbers { OnOk result
+            (number_table self.new ≡ number_table self.old ++ number ∷ []) }
         ensures gates { gate_table self.new ≡ gate_table self.old }
         ensures limit { literal_limit self.new ≡ literal_limit self.old }
     {

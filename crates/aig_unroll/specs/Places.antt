@@ -9,7 +9,8 @@ use Rattle.aig_circuit.specs.Renumber.{place_of}
 
 -- the node is a leaf that is no latch's
 abbrev pub is_other_leaf : Circuit → AigNode → Bool
-is_other_leaf c node = is_leaf node.typ && not (list_any (λ n. n == node.node_id) (latch_leaves c.latchs))
+is_other_leaf c node =
+    is_leaf node.typ && not (list_any (λ n. n == node.node_id) (latch_leaves c.latchs))
 
 -- the leaves that are no latch's, in rising number
 abbrev pub other_leaves : Circuit → List ℕ
@@ -17,22 +18,25 @@ other_leaves c = map (λ node. node.node_id) (filter (is_other_leaf c) c.nodes)
 
 -- the leaves among the nodes after the first so many, in rising number
 abbrev pub leaves_after : ℕ → List AigNode → List ℕ
-leaves_after count nodes = map (λ node. node.node_id) (filter (λ node. is_leaf node.typ) (drop count nodes))
+leaves_after count nodes =
+    map (λ node. node.node_id) (filter (λ node. is_leaf node.typ) (drop count nodes))
 
--- the place of leaf n, which is no latch's, at a step: at step 0 itself, and then its turn among the inputs that the step added
+-- the place of leaf n, which is no latch's, at a step: at step 0 itself, and then its turn among
+-- the inputs that the step added
 abbrev pub place_at : Circuit → Circuit → ℕ → ℕ → ℕ
 place_at c unrolled zero n = n
 place_at c unrolled (suc t) n =
     let m = length (other_leaves c) in
     slice_index unrolled.inputs (length c.inputs + t * m + place_of (other_leaves c) n)
 
--- x reads the steps 0 to k off the leaf values y of the unrolled circuit: the first state at the latches' leaves, and all else at its places
+-- x reads the steps 0 to k off the leaf values y of the unrolled circuit: the first state at the
+-- latches' leaves, and all else at its places
 pub record Reads (c unrolled : Circuit) (k : ℕ) (y : ℕ → Bool) (x : ℕ → ℕ → Bool) : Type 0 where
   pub state : All (λ n. x 0 n ≡ y n) (latch_leaves c.latchs)
   pub others : (t : ℕ) → t ≤ k → All (λ n. x t n ≡ y (place_at c unrolled t n)) (other_leaves c)
 
--- how many nodes k further steps of a circuit with n nodes and l latches take at the most: all nodes once, and for each step one for each
--- gate and each leaf that is no latch's
+-- how many nodes k further steps of a circuit with n nodes and l latches take at the most: all
+-- nodes once, and for each step one for each gate and each leaf that is no latch's
 abbrev pub size_by_counts : ℕ → ℕ → ℕ → ℕ
 size_by_counts n l k = n + k * (n - 1 - l)
 

@@ -1,5 +1,6 @@
 -- Serves private clauses alone.
--- One step more: the images of the nodes of a circuit in it, and what is appended to the lists. (The crate aig: `unroll`.)
+-- One step more: the images of the nodes of a circuit in it, and what is appended to the lists.
+-- (The crate aig: `unroll`.)
 use Rattle.std.specs.Prelude.{◌≡◌, ◌≢◌, ℕ, ◌+◌, ◌-◌, ◌<◌, ◌≤◌, Bool, false, not, All, Vec, ◌&&◌, ◌||◌, Some, List, ◌++◌, length, map, filter, take, Contains, slice_index_or, vec_len, vec_capacity}
 use Rattle.std.specs.declared.alloc.Global.{Global}
 use Rattle.aig_circuit.specs.declared.edge.AigEdge.{AigEdge}
@@ -25,7 +26,9 @@ image_at images n = slice_index_or images n (edge_to 0 false)
 
 -- the image of an edge: that of its node, inverted as the edge is
 abbrev pub image_in : List AigEdge → AigEdge → AigEdge
-image_in images e = edge_to (image_at images e.node_id).node_id (inverted_if e.compl (image_at images e.node_id).compl)
+image_in images e =
+    edge_to (image_at images e.node_id).node_id
+    (inverted_if e.compl (image_at images e.node_id).compl)
 
 -- the leaves that are no latch's among these nodes
 abbrev pub others_among : Circuit → List AigNode → List ℕ
@@ -37,51 +40,77 @@ takes_no_node c node = not (is_gate node.typ || is_other_leaf c node)
 
 -- ---- the table before the step
 
--- The images of the first so many latches' leaves are next edges, and at every other node stands the edge to node `unset`.
-pub record HasLatchImages (latchs current : List AigLatch) (count unset : ℕ) (images : List AigEdge) : Type 0 where
-  pub each : (k : ℕ) (d e : AigLatch) → k < count → image_at images (slice_index_or latchs k d).input ≡ (slice_index_or current k e).next
-  pub rest : (n : ℕ) → n < length images → ((k : ℕ) (d : AigLatch) → k < count → (slice_index_or latchs k d).input ≢ n) → image_at images n ≡ edge_to unset false
+-- The images of the first so many latches' leaves are next edges, and at every other node stands
+-- the edge to node `unset`.
+pub record HasLatchImages (latchs current : List AigLatch) (count unset : ℕ) (images : List AigEdge)
+    : Type 0 where
+  pub each : (k : ℕ) (d e : AigLatch) → k < count
+      → image_at images (slice_index_or latchs k d).input ≡ (slice_index_or current k e).next
+  pub rest : (n : ℕ) → n < length images
+      → ((k : ℕ) (d : AigLatch) → k < count → (slice_index_or latchs k d).input ≢ n)
+      → image_at images n ≡ edge_to unset false
 
 -- at latches' leaves stand edges to one of the first nodes, and at other nodes none
 pub record MarksLatches (c : Circuit) (count : ℕ) (images : List AigEdge) : Type 0 where
   pub latches : (n : ℕ) → Contains (latch_leaves c.latchs) n → (image_at images n).node_id < count
-  pub others : (n : ℕ) → n < length images → ¬ Contains (latch_leaves c.latchs) n → count ≤ (image_at images n).node_id
+  pub others : (n : ℕ) → n < length images → ¬ Contains (latch_leaves c.latchs) n
+      → count ≤ (image_at images n).node_id
 
 -- ---- one node
 
--- The edge e is the image of node n, where smaller nodes have these images: false, the old next edge of a latch, a new leaf, or the and of
--- the operands' images.
-pub data Copies (from : Circuit) (n start : ℕ) (old new : List AigNode) (images : List AigEdge) (e : AigEdge) : Type 0 where
-  false_node : kind_at from.nodes n ≡ Some False → e ≡ edge_to 0 false → new ≡ old → Copies from n start old new images e
-  latch_leaf : IsLeaf from.nodes n → (image_at images n).node_id < start → e ≡ image_at images n → new ≡ old → Copies from n start old new images e
-  other_leaf : IsLeaf from.nodes n → start ≤ (image_at images n).node_id → e ≡ edge_to (length old) false → new ≡ with_node old Leaf → Copies from n start old new images e
-  gate : (a b : AigEdge) → kind_at from.nodes n ≡ Some (And a b) → AddsGates old new → length new ≤ length old + 1
-      → ((y : ℕ → Bool) → edge_value new y e ≡ (edge_value old y (image_in images a) && edge_value old y (image_in images b))) → Copies from n start old new images e
+-- The edge e is the image of node n, where smaller nodes have these images: false, the old next
+-- edge of a latch, a new leaf, or the and of the operands' images.
+pub data Copies (from : Circuit) (n start : ℕ) (old new : List AigNode) (images : List AigEdge)
+    (e : AigEdge) : Type 0 where
+  false_node : kind_at from.nodes n ≡ Some False → e ≡ edge_to 0 false → new ≡ old
+      → Copies from n start old new images e
+  latch_leaf : IsLeaf from.nodes n → (image_at images n).node_id < start → e ≡ image_at images n
+      → new ≡ old → Copies from n start old new images e
+  other_leaf : IsLeaf from.nodes n → start ≤ (image_at images n).node_id
+      → e ≡ edge_to (length old) false → new ≡ with_node old Leaf
+      → Copies from n start old new images e
+  gate : (a b : AigEdge) → kind_at from.nodes n ≡ Some (And a b) → AddsGates old new
+      → length new ≤ length old + 1
+      → ((y : ℕ → Bool)
+      → edge_value new y e
+      ≡ (edge_value old y (image_in images a) && edge_value old y (image_in images b)))
+      → Copies from n start old new images e
 
 -- ---- the first nodes
 
--- The first i nodes have their images: each has under leaf values y the value that its node has under the values x of the leaves' images.
-pub record CopiesBelow (from : Circuit) (old new : List AigNode) (before images : List AigEdge) (i : ℕ) : Type 0 where
+-- The first i nodes have their images: each has under leaf values y the value that its node has
+-- under the values x of the leaves' images.
+pub record CopiesBelow (from : Circuit) (old new : List AigNode) (before images : List AigEdge)
+    (i : ℕ) : Type 0 where
   pub grows : Grows old new
   pub count : length images ≡ length from.nodes
   pub there : (n : ℕ) → n < i → IsInRange new (image_at images n)
-  pub latches : (n : ℕ) → Contains (latch_leaves from.latchs) n → image_at images n ≡ image_at before n
+  pub latches : (n : ℕ) → Contains (latch_leaves from.latchs) n
+      → image_at images n ≡ image_at before n
   pub rest : (n : ℕ) → i ≤ n → image_at images n ≡ image_at before n
-  pub others : map (image_at images) (others_among from (take i from.nodes)) ≡ map (λ n. edge_to n false) (leaves_after (length old) new)
-  pub value : (y x : ℕ → Bool) → ((n : ℕ) → n < i → IsLeaf from.nodes n → x n ≡ edge_value new y (image_at images n)) → (n : ℕ) → n < i → edge_value new y (image_at images n) ≡ node_value from.nodes x n
+  pub others : map (image_at images) (others_among from (take i from.nodes))
+      ≡ map (λ n. edge_to n false) (leaves_after (length old) new)
+  pub value : (y x : ℕ → Bool)
+      → ((n : ℕ) → n < i → IsLeaf from.nodes n → x n ≡ edge_value new y (image_at images n))
+      → (n : ℕ) → n < i → edge_value new y (image_at images n) ≡ node_value from.nodes x n
   pub size : length new + length (filter (takes_no_node from) (take i from.nodes)) ≤ length old + i
 
 -- ---- all nodes
 
--- All nodes have their images: a latch's leaf its old next edge, the r-th other leaf the r-th new leaf, and every node its value.
-pub record CopiesAll (from : Circuit) (latchs : List AigLatch) (old new : List AigNode) (images : List AigEdge) : Type 0 where
+-- All nodes have their images: a latch's leaf its old next edge, the r-th other leaf the r-th new
+-- leaf, and every node its value.
+pub record CopiesAll (from : Circuit) (latchs : List AigLatch) (old new : List AigNode)
+    (images : List AigEdge) : Type 0 where
   pub grows : Grows old new
   pub count : length images ≡ length from.nodes
   pub there : (n : ℕ) → n < length from.nodes → IsInRange new (image_at images n)
   pub latches : map (image_at images) (latch_leaves from.latchs) ≡ next_edges latchs
-  pub others : map (image_at images) (other_leaves from) ≡ map (λ n. edge_to n false) (leaves_after (length old) new)
-  pub value : (y x : ℕ → Bool) → ((n : ℕ) → n < length from.nodes → IsLeaf from.nodes n → x n ≡ edge_value new y (image_at images n))
-      → (n : ℕ) → n < length from.nodes → edge_value new y (image_at images n) ≡ node_value from.nodes x n
+  pub others : map (image_at images) (other_leaves from)
+      ≡ map (λ n. edge_to n false) (leaves_after (length old) new)
+  pub value : (y x : ℕ → Bool)
+      → ((n : ℕ) → n < length from.nodes → IsLeaf from.nodes n
+      → x n ≡ edge_value new y (image_at images n)) → (n : ℕ) → n < length from.nodes
+      → edge_value new y (image_at images n) ≡ node_value from.nodes x n
   pub size : length new ≤ length old + (length from.nodes - 1 - length from.latchs)
 
 -- ---- the lists
@@ -99,15 +128,18 @@ abbrev pub Appends : List AigEdge → List AigEdge → List AigEdge → List Aig
 Appends images es old new = new ≡ old ++ map (image_in images) es
 
 -- the sets of the images of edges stand after the old sets, a set for each set
-abbrev pub AppendsSets : List AigEdge → List (List AigEdge) → List (List AigEdge) → List (List AigEdge) → Type 0
+abbrev pub AppendsSets : List AigEdge → List (List AigEdge) → List (List AigEdge)
+    → List (List AigEdge) → Type 0
 AppendsSets images sets old new = new ≡ old ++ map (map (image_in images)) sets
 
 -- there is room for the entries of a step, but for justice
 pub record HasRoomForStep (lists : CircuitLists) (from : Circuit) (before : ℕ) : Type 0 where
-  pub inputs : vec_len lists.inputs + length (leaves_after before lists.nodes.items) ≤ vec_capacity lists.inputs
+  pub inputs : vec_len lists.inputs + length (leaves_after before lists.nodes.items)
+      ≤ vec_capacity lists.inputs
   pub outputs : vec_len lists.outputs + length from.outputs ≤ vec_capacity lists.outputs
   pub bads : vec_len lists.bads + length from.bads ≤ vec_capacity lists.bads
-  pub constraints : vec_len lists.constraints + length from.constraints ≤ vec_capacity lists.constraints
+  pub constraints : vec_len lists.constraints + length from.constraints
+      ≤ vec_capacity lists.constraints
   pub fairness : vec_len lists.fairness + length from.fairness ≤ vec_capacity lists.fairness
 
 -- the latches have their leaves and initial edges, and the images of the next edges of others
@@ -116,7 +148,8 @@ pub record HaveNextImages (images : List AigEdge) (others old new : List AigLatc
   pub starts : starts_of new ≡ starts_of old
   pub next : next_edges new ≡ map (image_in images) (next_edges others)
 
--- The new leaves are inputs, the image of each entry is appended to its list, and the next edges are the images of next edges.
+-- The new leaves are inputs, the image of each entry is appended to its list, and the next edges
+-- are the images of next edges.
 pub record AppendsImages (from old : Circuit) (images : List AigEdge) (new : Circuit) : Type 0 where
   pub inputs : new.inputs ≡ old.inputs ++ leaves_after (length old.nodes) new.nodes
   pub latchs : HaveNextImages images from.latchs old.latchs new.latchs
@@ -128,8 +161,11 @@ pub record AppendsImages (from old : Circuit) (images : List AigEdge) (new : Cir
   pub names : new.names ≡ old.names
 
 -- the nodes and the justice sets of the step stand, the rest is as it was, and there is room for it
-pub record IsPrepared (from : Circuit) (old new : CircuitLists) (images : List AigEdge) : Type 0 where
+pub record IsPrepared (from : Circuit) (old new : CircuitLists) (images : List AigEdge)
+    : Type 0 where
   pub copies : CopiesAll from old.latchs.items old.nodes.items new.nodes.items images
   pub room : HasRoomForStep new from (length old.nodes.items)
-  pub justice : AppendsSets images from.justice (entries_of old.justice.items) (entries_of new.justice.items)
-  pub same : record (lists_circuit new) { justice = (lists_circuit old).justice } ≡ record (lists_circuit old) { nodes = new.nodes.items }
+  pub justice : AppendsSets images from.justice (entries_of old.justice.items)
+      (entries_of new.justice.items)
+  pub same : record (lists_circuit new) { justice = (lists_circuit old).justice }
+      ≡ record (lists_circuit old) { nodes = new.nodes.items }

@@ -25,7 +25,8 @@ pub record Ends (before after : Option (List ℕ)) : Type 0 where
   pub whole : IsAtEnd after
 
 -- the next witness, or none at the end, or a fault that refuses what has neither
-abbrev pub GivesNext : Option (List ℕ) → Option (List ℕ) → Result (Option lists.Witness) WitnessError → Type 0
+abbrev pub GivesNext : Option (List ℕ) → Option (List ℕ)
+    → Result (Option lists.Witness) WitnessError → Type 0
 GivesNext before after (Ok (Some w)) = Takes parse_next before after (Some (said_by w))
 GivesNext before after (Ok None) = Ends before after
 GivesNext before after (Err e) = OnWitness e (Misses parse_next before)

@@ -8,20 +8,29 @@ use Rattle.aig_witness.specs.Witness.{Witness}
 
 -- the value of a letter
 abbrev pub value_of_letter : ℕ → Option Lbool
-value_of_letter b = if b == 48 then Some FALSE else if b == 49 then Some TRUE else if b == 120 then Some NONE else None
+value_of_letter b =
+    if b == 48 then Some FALSE
+    else if b == 49 then Some TRUE
+    else if b == 120 then Some NONE
+    else None
 
 -- what is left of a line of values, after those that were read
 unfoldable pub parse_row_after : List Lbool → List ℕ → Option (List Lbool × List ℕ)
 parse_row_after row [] = None
-parse_row_after row (b ∷ bs) = if b == 10 then Some (row, bs) else (value_of_letter b >>= λ v. parse_row_after (row ++ v ∷ []) bs)
+parse_row_after row (b ∷ bs) =
+    if b == 10 then Some (row, bs)
+    else (value_of_letter b >>= λ v. parse_row_after (row ++ v ∷ []) bs)
 
 -- the end of the line of a point, after these lines, and no value
-abbrev pub parse_point_after : List (List Lbool) → List Lbool → List ℕ → Option (List (List Lbool) × List ℕ)
+abbrev pub parse_point_after : List (List Lbool) → List Lbool → List ℕ
+    → Option (List (List Lbool) × List ℕ)
 parse_point_after steps [] bytes = strip (10 ∷ []) bytes >>= λ rest. Some (steps, rest)
 parse_point_after steps (v ∷ row) bytes = None
 
--- what is left of lines of values up to that of a point, after the lines that were read and the values of one
-unfoldable pub parse_steps_after : List (List Lbool) → List Lbool → List ℕ → Option (List (List Lbool) × List ℕ)
+-- what is left of lines of values up to that of a point, after the lines that were read and the
+-- values of one
+unfoldable pub parse_steps_after : List (List Lbool) → List Lbool → List ℕ
+    → Option (List (List Lbool) × List ℕ)
 parse_steps_after steps row [] = None
 parse_steps_after steps row (b ∷ bs) =
     if b == 10 then parse_steps_after (steps ++ row ∷ []) [] bs
@@ -34,7 +43,8 @@ parse_property bytes = strip (98 ∷ []) bytes >>= parse_ended 10
 
 -- the property, the state and the steps
 abbrev pub parse_parts : List ℕ → Option ((ℕ × (List Lbool × List (List Lbool))) × List ℕ)
-parse_parts = parse_both parse_property (λ _. parse_both (parse_row_after []) (λ _. parse_steps_after [] []))
+parse_parts =
+    parse_both parse_property (λ _. parse_both (parse_row_after []) (λ _. parse_steps_after [] []))
 
 -- the witness of these parts
 abbrev pub witness_from : ℕ × (List Lbool × List (List Lbool)) → Witness
@@ -44,7 +54,8 @@ witness_from x = record { bad = x.0; state = x.1.0; steps = x.1.1 }
 abbrev pub parse_witness : List ℕ → Option (Witness × List ℕ)
 parse_witness bytes = strip (codes "1\n") bytes >>= parse_map witness_from parse_parts
 
--- the bytes after comments, each of which begins with `c` and ends with its line; the first may have begun before
+-- the bytes after comments, each of which begins with `c` and ends with its line; the first may
+-- have begun before
 abbrev pub after_comments : Bool → List ℕ → List ℕ
 after_comments inside [] = []
 after_comments true (b ∷ bs) = after_comments (not (b == 10)) bs

@@ -27,11 +27,14 @@ row_text values = map letter_of values ++ 10 ∷ []
 -- `1`, the property, the state, a line for each step, and a point; a number may have leading zeros
 abbrev pub SpellsWitness : Witness → List ℕ → Type 0
 SpellsWitness w =
-    Just (codes "1\n") then (Just (codes "b") then Ended 10 w.bad) then Just (row_text w.state) then Each (λ row. Just (row_text row)) w.steps then Just (codes ".\n")
+    Just (codes "1\n") then (Just (codes "b") then Ended 10 w.bad) then Just (row_text w.state)
+    then Each (λ row. Just (row_text row)) w.steps then Just (codes ".\n")
 
 -- the one text of a witness that is written
 unfoldable pub witness_text : Witness → List ℕ
-witness_text w = codes "1\nb" ++ (decimal w.bad ++ 10 ∷ []) ++ row_text w.state ++ flat_map row_text w.steps ++ codes ".\n"
+witness_text w =
+    codes "1\nb" ++ (decimal w.bad ++ 10 ∷ []) ++ row_text w.state ++ flat_map row_text w.steps
+    ++ codes ".\n"
 
 -- ---- the program's lists
 

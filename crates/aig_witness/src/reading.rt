@@ -65,7 +65,8 @@ fn read_state<F: ByteFeed>(alloc: Global, f: &mut F) -> Result<Vec<Lbool>, Witne
 fn ends_line<F: ByteFeed>(f: &mut F) -> Result<bool, StreamFault>
     ensures takes { IfOk result (λ yes. yes ≡ true
         → Takes (parse_expected 10) (F.coming f.old) (F.coming f.new) 10) }
-    ensures misses { IfOk result (λ yes. yes ≡ false → Misses (parse_expected 10) (F.coming f.old)) }
+    ensures misses { IfOk result
+        (λ yes. yes ≡ false → Misses (parse_expected 10) (F.coming f.old)) }
     ensures stream { OnErr result (F.failed f.new ≡ true) }
     ensures same { F.behind f.new ≡ F.behind f.old }
 {

@@ -9,10 +9,13 @@ use Rattle.aig_witness_check.specs.declared.error.CheckError.{CheckError}
 use Rattle.aig_witness_check.specs.declared.error.CheckError.TheVariants as errors
 use Rattle.aig_witness_check.specs.Shown.{AreStarts, AreTrueIn, IsKnownWitness, named_bad, simulated}
 
--- what is wrong of a step: it has too few or too many values, or some constraint is not known to hold
+-- what is wrong of a step: it has too few or too many values, or some constraint is not known to
+-- hold
 abbrev pub IsWrongStep : Circuit → Witness → CheckError → Type 0
-IsWrongStep c w (errors.Inputs t) = (t < length w.steps) × (length (slice_index_or w.steps t []) ≢ length c.inputs)
-IsWrongStep c w (errors.Constraint t) = (t < length w.steps) × (¬ AreTrueIn (simulated c w t) c.constraints)
+IsWrongStep c w (errors.Inputs t) =
+    (t < length w.steps) × (length (slice_index_or w.steps t []) ≢ length c.inputs)
+IsWrongStep c w (errors.Constraint t) =
+    (t < length w.steps) × (¬ AreTrueIn (simulated c w t) c.constraints)
 IsWrongStep c w errors.Memory = Unit {0}
 IsWrongStep c w errors.Latches = ⊥
 IsWrongStep c w errors.NoStep = ⊥

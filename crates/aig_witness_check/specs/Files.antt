@@ -1,5 +1,6 @@
 -- Part of what is promised.
--- What the answer of a check tells of the bytes of a file and of a witness. (AIGER format 20071012; AIGER 1.9, "Witness format".)
+-- What the answer of a check tells of the bytes of a file and of a witness. (AIGER format 20071012;
+-- AIGER 1.9, "Witness format".)
 use Rattle.std.specs.Prelude.{◌≡◌, ℕ, ◌-◌, List, [], length, Option, Some, None, IfSome, Result, Ok, Err}
 use Rattle.aig_format.specs.File.{File}
 use Rattle.aig_format.specs.Fits.{Accepts}
@@ -20,7 +21,8 @@ use Rattle.aig_witness_check.specs.Shown.{IsKnownWitness}
 
 -- where the bytes are known, the next witness in them is this one
 abbrev pub IsNextWitness : Option (List ℕ) → Witness → Type 0
-IsNextWitness text w = IfSome text (λ bytes. (rest : List ℕ) × (parse_next bytes ≡ Some (Some w, rest)))
+IsNextWitness text w =
+    IfSome text (λ bytes. (rest : List ℕ) × (parse_next bytes ≡ Some (Some w, rest)))
 
 -- where the bytes are known, there is no witness in them, but comments alone
 abbrev pub HasNone : Option (List ℕ) → Type 0
@@ -49,11 +51,16 @@ GivesFirst text (Err (errors.Witness e)) = OnWitness e (Misses parse_next text)
 GivesFirst text (Err errors.NoWitness) = HasNone text
 GivesFirst text (Err (errors.Check e)) = ⊥
 
--- The bytes that were taken are a file, and the next witness shows a bad state of its machine; or, memory and streams aside: no file is
--- accepted, or the text has no witness, or the file is accepted and the witness has the fault that is named.
-abbrev pub Answers : ℕ → Option (List ℕ) → Option (List ℕ) → Option (List ℕ) → Result Shown ShowError → Type 0
-Answers limit old new text (Ok shown) = IsReadAs (λ bytes. Accepts bytes limit) (ShowsNext text) old new shown
-Answers limit old new text (Err (errors.File e)) = IfSome old (λ bytes. UnlessTransient {T = Shown} (Err e) ((f : File) → ¬ Accepts bytes limit f))
+-- The bytes that were taken are a file, and the next witness shows a bad state of its machine; or,
+-- memory and streams aside: no file is accepted, or the text has no witness, or the file is
+-- accepted and the witness has the fault that is named.
+abbrev pub Answers : ℕ → Option (List ℕ) → Option (List ℕ) → Option (List ℕ)
+    → Result Shown ShowError → Type 0
+Answers limit old new text (Ok shown) =
+    IsReadAs (λ bytes. Accepts bytes limit) (ShowsNext text) old new shown
+Answers limit old new text (Err (errors.File e)) =
+    IfSome old (λ bytes. UnlessTransient {T = Shown} (Err e) ((f : File) → ¬ Accepts bytes limit f))
 Answers limit old new text (Err (errors.Witness e)) = OnWitness e (Misses parse_next text)
 Answers limit old new text (Err errors.NoWitness) = HasNone text
-Answers limit old new text (Err (errors.Check e)) = IsReadAs (λ bytes. Accepts bytes limit) (FailsNext text) old new e
+Answers limit old new text (Err (errors.Check e)) =
+    IsReadAs (λ bytes. Accepts bytes limit) (FailsNext text) old new e

@@ -1,5 +1,6 @@
 -- Part of what is promised.
--- Witnesses of a circuit, by simulation in three values. (AIGER 1.9, "Witness format"; three-valued simulation.)
+-- Witnesses of a circuit, by simulation in three values. (AIGER 1.9, "Witness format"; three-valued
+-- simulation.)
 use Rattle.std.specs.Prelude.{◌≡◌, ℕ, ◌+◌, ◌-◌, ◌<◌, Bool, true, false, IfSome, List, [], length, take, slice_index_or, All}
 use Rattle.aig_base.specs.declared.logic.three.Lbool.{Lbool}
 use Rattle.aig_base.specs.declared.logic.three.Lbool.TheVariants.{FALSE, TRUE, NONE}
@@ -21,7 +22,9 @@ HasStart latch known = IfSome latch.init (λ e. (e.node_id ≡ 0) × (known ≡ 
 
 -- each latch has its start in the state
 abbrev pub AreStarts : List AigLatch → List Lbool → Type 0
-AreStarts latchs state = (i : ℕ) (d : AigLatch) → i < length latchs → HasStart (slice_index_or latchs i d) (slice_index_or state i NONE)
+AreStarts latchs state =
+    (i : ℕ) (d : AigLatch) → i < length latchs
+    → HasStart (slice_index_or latchs i d) (slice_index_or state i NONE)
 
 -- the simulation after step t
 abbrev pub simulated : Circuit → Witness → ℕ → Simulation
@@ -40,8 +43,8 @@ pub record HoldsSteps (c : Circuit) (w : Witness) : Type 0 where
   pub inputs : (t : ℕ) → t < length w.steps → length (slice_index_or w.steps t []) ≡ length c.inputs
   pub constraints : (t : ℕ) → t < length w.steps → AreTrueIn (simulated c w t) c.constraints
 
--- There is a value for each latch, and at each step for each input. By these each latch has its start, each constraint is known to hold at
--- each step, and the named bad edge at the last one.
+-- There is a value for each latch, and at each step for each input. By these each latch has its
+-- start, each constraint is known to hold at each step, and the named bad edge at the last one.
 pub record IsKnownWitness (c : Circuit) (w : Witness) : Type 0 where
   pub latches : length w.state ≡ length c.latchs
   pub some : 0 < length w.steps

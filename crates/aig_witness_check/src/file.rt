@@ -109,7 +109,8 @@ pub fn check_witness<R: Source, W: Source>(
     requires few { limit ≤ 2 ^ 31 }
     ensures answer { Answers limit (R.left r.old) (R.left r.new) (W.left w.old) result }
     // Stream only where a read failed in this call.
-    ensures file_stream { IsErrOf result (ShowError.File ReadError.Stream) → IsTrue (R.failed r.new) }
+    ensures file_stream { IsErrOf result (ShowError.File ReadError.Stream)
+        → IsTrue (R.failed r.new) }
     ensures witness_stream { IsErrOf result (ShowError.Witness WitnessError.Stream)
         → IsTrue (W.failed w.new) }
 {

@@ -27,7 +27,8 @@ pub record IsSmallNode (node : AigNode) : Type 0 where
   pub own : HasLiteral node.node_id
   pub operands : (a b : AigEdge) → node.typ ≡ And a b → IsSmallEdge a × IsSmallEdge b
 
--- a gate's literal is at least its second operand's, and that one at least its first's, so that differences can be written
+-- a gate's literal is at least its second operand's, and that one at least its first's, so that
+-- differences can be written
 pub record FallsBelow (node : AigNode) : Type 0 where
   pub own : 2 * node.node_id < 2 ^ 32
   pub second : (a b : AigEdge) → node.typ ≡ And a b → literal_of b ≤ 2 * node.node_id

@@ -9,13 +9,15 @@ use Rattle.aig_format.specs.declared.FileKind.{FileKind}
 use Rattle.aig_format.specs.File.{File}
 use Rattle.aig_format.specs.Circuit.{file_of, gate_line}
 
--- the number of a node in a table, which has it at the node's place; a node past its end keeps its own
+-- the number of a node in a table, which has it at the node's place; a node past its end keeps its
+-- own
 abbrev pub written_number : List ℕ → ℕ → ℕ
 written_number table n = slice_index_or table n n
 
 -- the node under another number, with a gate's operands put in order again
 abbrev pub renumbered_node : (ℕ → ℕ) → AigNode → AigNode
-renumbered_node number node = record { node_id = number node.node_id; typ = renumbered_kind number (Some node.typ) }
+renumbered_node number node =
+    record { node_id = number node.node_id; typ = renumbered_kind number (Some node.typ) }
 
 -- the file of a circuit under other numbers: its gates stand in the order of the circuit
 abbrev pub numbered_file : (ℕ → ℕ) → FileKind → Circuit → File
@@ -41,7 +43,8 @@ pub record FitsBinary (c : Circuit) (table : List ℕ) : Type 0 where
 abbrev pub IsRowFrom : ℕ → List ℕ → Type 0
 IsRowFrom first ns = EachIndex ns (λ i. slice_index ns i ≡ first + i)
 
--- in the new table the nodes have the numbers from `first` on, and other nodes have those of the old table
+-- in the new table the nodes have the numbers from `first` on, and other nodes have those of the
+-- old table
 pub record NumbersFrom (first : ℕ) (ids old new : List ℕ) : Type 0 where
   pub count : length new ≡ length old
   pub given : (i : ℕ) → i < length ids → slice_index new (slice_index ids i) ≡ first + i

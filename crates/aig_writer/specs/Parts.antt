@@ -19,8 +19,11 @@ literal_sets sets = map (map literal_of) (edges_of_sets sets)
 -- the line of a name, where there is one
 abbrev pub text_of_name : ℕ → ℕ → Option (List ℕ) → List ℕ
 text_of_name letter position None = []
-text_of_name letter position (Some name) = name_text (record { letter = letter; position = position; name = name })
+text_of_name letter position (Some name) =
+    name_text (record { letter = letter; position = position; name = name })
 
 -- the sections between the latches and the gates
 abbrev pub properties_of : File → List ℕ
-properties_of f = lines_text f.outputs ++ lines_text f.bads ++ lines_text f.constraints ++ lines_text (map length f.justice) ++ flat_map lines_text f.justice ++ lines_text f.fairness
+properties_of f =
+    lines_text f.outputs ++ lines_text f.bads ++ lines_text f.constraints
+    ++ lines_text (map length f.justice) ++ flat_map lines_text f.justice ++ lines_text f.fairness

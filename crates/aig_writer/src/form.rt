@@ -29,7 +29,8 @@ fn write_properties<W: Sink>(
 ) -> Result<(), StreamFault>
     requires table { All HasLiteral numbers.now }
     requires small { HasSmallNumbers circuit.now }
-    ensures { let text = properties_of (numbered_file (written_number numbers.now) Text circuit.now) in
+    ensures { let text = properties_of
+        (numbered_file (written_number numbers.now) Text circuit.now) in
         BuffersOrStops W.held W.failed buffer.old w.old result text buffer.new w.new }
 {
     write_edges(buffer, w, numbers, circuit.outputs())?;

@@ -27,7 +27,8 @@ fn write_input_lines<W: Sink>(
 ) -> Result<(), StreamFault>
     requires table { All HasLiteral numbers.now }
     requires inputs { All HasLiteral inputs.now }
-    ensures { let text = lines_text (map (λ n. 2 * n) (map (written_number numbers.now) inputs.now)) in
+    ensures { let text = lines_text
+        (map (λ n. 2 * n) (map (written_number numbers.now) inputs.now)) in
         BuffersOrStops W.held W.failed buffer.old w.old result text buffer.new w.new }
 {
     for n in inputs {

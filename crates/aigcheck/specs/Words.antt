@@ -42,14 +42,19 @@ name_of commands.Run = codes "run"
 abbrev pub AreLast : Command → List (List ℕ) → Type 0
 AreLast (commands.Clauses k optimize) words = words ≡ clause_words optimize
 AreLast (commands.Window k form optimize) words = words ≡ setting_words form optimize
-AreLast (commands.Refuted k optimize) words = (proof : List ℕ) × (words ≡ proof ∷ clause_words optimize)
-AreLast (commands.Inductive k form optimize) words = (proof : List ℕ) × (words ≡ proof ∷ setting_words form optimize)
-AreLast (commands.Witness k optimize) words = (solution : List ℕ) × (words ≡ solution ∷ clause_words optimize)
+AreLast (commands.Refuted k optimize) words =
+    (proof : List ℕ) × (words ≡ proof ∷ clause_words optimize)
+AreLast (commands.Inductive k form optimize) words =
+    (proof : List ℕ) × (words ≡ proof ∷ setting_words form optimize)
+AreLast (commands.Witness k optimize) words =
+    (solution : List ℕ) × (words ≡ solution ∷ clause_words optimize)
 AreLast commands.Run words = ⊥
 
 -- the words give a command that names a step: its name, FILE, K and the last words
 abbrev pub GiveSteps : List (List ℕ) → Command → Type 0
-GiveSteps words c = (file steps : List ℕ) × (last : List (List ℕ)) × (words ≡ name_of c ∷ file ∷ steps ∷ last) × IsNumber (step_of c) steps × AreLast c last
+GiveSteps words c =
+    (file steps : List ℕ) × (last : List (List ℕ)) × (words ≡ name_of c ∷ file ∷ steps ∷ last)
+    × IsNumber (step_of c) steps × AreLast c last
 
 -- the words give the command: one that names a step, or `run` with FILE and WITNESS
 abbrev pub Give : List (List ℕ) → Command → Type 0

@@ -1,5 +1,6 @@
 -- Part of what is promised.
--- What a command does with the bytes of a file: what it puts into its writer, and why it refuses a file.
+-- What a command does with the bytes of a file: what it puts into its writer, and why it refuses a
+-- file.
 use Rattle.std.specs.Prelude.{◌≡◌, ◌≢◌, ℕ, ◌↔◌, ◌⊎◌, Bool, false, IsTrue, List, [], ◌++◌, length, Option, Some, None, Result, IsOk, IsErrOf, IfSome}
 use Rattle.std.specs.Io.KnownBytes.{Appends, Consumes, IsAtEnd}
 use Rattle.aig_base.specs.declared.logic.literal.Lit.{Lit}
@@ -25,8 +26,10 @@ use Rattle.aigtool.specs.declared.tool.ToolError.TheVariants as errors
 
 -- ---- answers
 
--- the text of the variables' clauses and then further ones, from which a plain reader reads just these again
-pub record IsTextOf (lists : List (List (List Lit))) (further : List (List Lit)) (text : List ℕ) : Type 0 where
+-- the text of the variables' clauses and then further ones, from which a plain reader reads just
+-- these again
+pub record IsTextOf (lists : List (List (List Lit))) (further : List (List Lit)) (text : List ℕ)
+    : Type 0 where
   pub exact : text ≡ dimacs_of (length lists) (clauses_in lists ++ further)
   pub again : parse_formula text ≡ Some (length lists, clauses_in lists ++ further)
 
@@ -35,8 +38,10 @@ abbrev pub Answers : Command → File → List ℕ → Type 0
 Answers commands.Text f text = text ≡ text_of (circuit_of f)
 Answers commands.Binary f text = text ≡ binary_of (circuit_of f)
 Answers commands.Strash f text = text ≡ text_of (strashed (circuit_of f))
-Answers (commands.Cnf k optimize) f text = (e : Encoded) × IsEncoding k optimize f e × IsTextOf e.clauses [] text
-Answers (commands.Query k optimize) f text = (q : Query) × IsQuery k optimize f q × IsTextOf q.encoded.clauses q.extra text
+Answers (commands.Cnf k optimize) f text =
+    (e : Encoded) × IsEncoding k optimize f e × IsTextOf e.clauses [] text
+Answers (commands.Query k optimize) f text =
+    (q : Query) × IsQuery k optimize f q × IsTextOf q.encoded.clauses q.extra text
 
 -- ---- files
 
@@ -64,8 +69,10 @@ ExceedsBy (Some k) limit bytes f = IsBeyond limit k bytes f
 abbrev pub Exceeds : Command → ℕ → List ℕ → File → Type 0
 Exceeds c = ExceedsBy (steps_of c)
 
--- the bytes that were taken are a file that the command takes, and this holds of what it puts into its writer for that file
-pub record AnswersFile (c : Command) (limit : ℕ) (old new : Option (List ℕ)) (Holds : List ℕ → Type 0) : Type 0 where
+-- the bytes that were taken are a file that the command takes, and this holds of what it puts into
+-- its writer for that file
+pub record AnswersFile (c : Command) (limit : ℕ) (old new : Option (List ℕ))
+    (Holds : List ℕ → Type 0) : Type 0 where
   pub file : File
   pub bytes : List ℕ
   pub takes : TakesFile c limit bytes file
@@ -76,7 +83,8 @@ pub record AnswersFile (c : Command) (limit : ℕ) (old new : Option (List ℕ))
 
 -- ---- outcomes
 
--- how a command ends: it has answered, the bytes were refused, further steps may pass the limit, memory ran out after the reading, or the writer failed
+-- how a command ends: it has answered, the bytes were refused, further steps may pass the limit,
+-- memory ran out after the reading, or the writer failed
 pub data Outcome : Type 0 where
   Answered : Outcome
   Refused : ReadError → Outcome
@@ -101,14 +109,19 @@ Says (commands.Cnf k optimize) Short result = IsErrOf result (errors.Encode enco
 Says (commands.Query k optimize) Short result = IsErrOf result (errors.Encode encode.Memory)
 Says c Stopped result = IsErrOf result (errors.Write write.Stream)
 
--- What an outcome tells of the bytes that the reader has left before and after, and whether it has failed, and of those that the writer
--- holds before and after, and whether it has failed.
-abbrev pub Tells : Command → ℕ → Option (List ℕ) → Option (List ℕ) → Bool → Option (List ℕ) → Option (List ℕ) → Bool → Outcome → Type 0
-Tells c limit left rest read_failed old new failed Answered = AnswersFile c limit left rest (Appends old new) × (failed ≡ false)
-Tells c limit left rest read_failed old new failed (Refused e) = (e ≡ read.Stream → IsTrue read_failed) × (e ≢ read.Open)
+-- What an outcome tells of the bytes that the reader has left before and after, and whether it has
+-- failed, and of those that the writer holds before and after, and whether it has failed.
+abbrev pub Tells : Command → ℕ → Option (List ℕ) → Option (List ℕ) → Bool → Option (List ℕ)
+    → Option (List ℕ) → Bool → Outcome → Type 0
+Tells c limit left rest read_failed old new failed Answered =
+    AnswersFile c limit left rest (Appends old new) × (failed ≡ false)
+Tells c limit left rest read_failed old new failed (Refused e) =
+    (e ≡ read.Stream → IsTrue read_failed) × (e ≢ read.Open)
 Tells c limit left rest read_failed old new failed Passes = ConsumedFile (Exceeds c limit) left rest
-Tells c limit left rest read_failed old new failed Short = ConsumedFile (TakesFile c limit) left rest
-Tells c limit left rest read_failed old new failed Stopped = AnswersFile c limit left rest (AppendsBeginning old new) × IsTrue failed
+Tells c limit left rest read_failed old new failed Short =
+    ConsumedFile (TakesFile c limit) left rest
+Tells c limit left rest read_failed old new failed Stopped =
+    AnswersFile c limit left rest (AppendsBeginning old new) × IsTrue failed
 
 -- memory or a stream failed
 abbrev pub IsInterrupted : Outcome → Type 0
@@ -118,8 +131,10 @@ IsInterrupted Passes = ⊥
 IsInterrupted Short = Unit {0}
 IsInterrupted Stopped = Unit {0}
 
--- Which bytes a command of so many further steps answers, and which are refused as too many or too large.
-pub record AnswersExactly (steps : Option ℕ) (limit : ℕ) (bytes : List ℕ) (outcome : Outcome) : Type 0 where
+-- Which bytes a command of so many further steps answers, and which are refused as too many or too
+-- large.
+pub record AnswersExactly (steps : Option ℕ) (limit : ℕ) (bytes : List ℕ) (outcome : Outcome)
+    : Type 0 where
   pub accepted : (outcome ≡ Answered) ↔ ((f : File) × TakesBy steps limit bytes f)
   -- exactly where the header line is good and passes the limit
   pub too_many : (outcome ≡ Refused read.TooMany) ↔ TooMany bytes limit
@@ -127,13 +142,19 @@ pub record AnswersExactly (steps : Option ℕ) (limit : ℕ) (bytes : List ℕ) 
   pub too_large : (outcome ≡ Passes) ↔ ((f : File) × ExceedsBy steps limit bytes f)
 
 -- What a command does: r and w are the reader and the writer before it, rest and made after it.
-pub record Runs {R W : Type 0} (left : R → Option (List ℕ)) (read_failed : R → Bool) (held : W → Option (List ℕ)) (write_failed : W → Bool) (c : Command) (limit : ℕ) (r : R) (w : W) (result : Result Unit ToolError) (rest : R) (made : W) : Type 0 where
+pub record Runs {R W : Type 0} (left : R → Option (List ℕ)) (read_failed : R → Bool)
+    (held : W → Option (List ℕ)) (write_failed : W → Bool) (c : Command) (limit : ℕ) (r : R) (w : W)
+    (result : Result Unit ToolError) (rest : R) (made : W) : Type 0 where
   pub outcome : Outcome
   pub says : Says c outcome result
-  pub tells : Tells c limit (left r) (left rest) (read_failed rest) (held w) (held made) (write_failed made) outcome
-  -- of known bytes, memory and streams aside: there is an answer exactly where they are a file within the limit
-  pub exact : ¬ IsInterrupted outcome → IfSome (left r) (λ bytes. AnswersExactly (steps_of c) limit bytes outcome)
+  pub tells : Tells c limit (left r) (left rest) (read_failed rest) (held w) (held made)
+      (write_failed made) outcome
+  -- of known bytes, memory and streams aside: there is an answer exactly where they are a file
+  -- within the limit
+  pub exact : ¬ IsInterrupted outcome
+      → IfSome (left r) (λ bytes. AnswersExactly (steps_of c) limit bytes outcome)
   -- the writer is as it was, unless there is an answer or the writer failed
   pub kept : outcome ≢ Answered → outcome ≢ Stopped → made ≡ w
   -- unless the bytes were refused, no read failed and the reader was read to its end
-  pub whole : ((e : ReadError) → outcome ≢ Refused e) → (read_failed rest ≡ false) × IsAtEnd (left rest)
+  pub whole : ((e : ReadError) → outcome ≢ Refused e)
+      → (read_failed rest ≡ false) × IsAtEnd (left rest)

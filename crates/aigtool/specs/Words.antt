@@ -22,5 +22,9 @@ abbrev pub Give : List (List ℕ) → Command → Type 0
 Give words commands.Text = (file : List ℕ) × (words ≡ codes "text" ∷ file ∷ [])
 Give words commands.Binary = (file out : List ℕ) × (words ≡ codes "binary" ∷ file ∷ out ∷ [])
 Give words commands.Strash = (file : List ℕ) × (words ≡ codes "strash" ∷ file ∷ [])
-Give words (commands.Cnf k optimize) = (file : List ℕ) × (rest : List (List ℕ)) × (words ≡ codes "cnf" ∷ file ∷ rest) × IsUnrolling k optimize rest
-Give words (commands.Query k optimize) = (file : List ℕ) × (rest : List (List ℕ)) × (words ≡ codes "query" ∷ file ∷ rest) × IsUnrolling k optimize rest
+Give words (commands.Cnf k optimize) =
+    (file : List ℕ) × (rest : List (List ℕ)) × (words ≡ codes "cnf" ∷ file ∷ rest)
+    × IsUnrolling k optimize rest
+Give words (commands.Query k optimize) =
+    (file : List ℕ) × (rest : List (List ℕ)) × (words ≡ codes "query" ∷ file ∷ rest)
+    × IsUnrolling k optimize rest

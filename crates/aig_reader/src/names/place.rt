@@ -68,7 +68,8 @@ pub fn named_node(place: Place, inputs: &[usize], latchs: &[AigLatch]) -> Option
     requires inputs { place.section ≡ sections.Inputs → place.position < length inputs.now }
     requires latchs { place.section ≡ sections.Latches → place.position < length latchs.now }
     ensures { result
-        ≡ node_at inputs.now (latch_leaves latchs.now) (letter_of_section place.section) place.position }
+        ≡ node_at inputs.now (latch_leaves latchs.now) (letter_of_section place.section)
+        place.position }
 {
     match place.section {
         NamedSection::Inputs => Some(inputs[place.position as usize]),
