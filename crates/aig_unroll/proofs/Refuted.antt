@@ -1,8 +1,10 @@
 -- Wrong unrolled circuits, of which the definitions are false.
-use Rattle.std.proofs.Common.{◌≡◌, ◌≢◌, ℕ, Bool, true, false, not, Some, None, List, [], ◌∷◌, refl, sym, ◌∙◌, arith}
-use Rattle.std.specs.Prelude.{◌==◌}
+use Rattle.std.proofs.Common.{◌≡◌, ◌≢◌, ℕ, Bool, true, false, not, Some, None, Result, Err, List, [], ◌∷◌, length, refl, sym, ap, ◌∙◌, arith}
+use Rattle.std.specs.Prelude.{◌==◌, ◌++◌, OnErr}
 use Rattle.std.specs.FinMap.{empty}
 use Rattle.std.proofs.lemmas.Bool.{false≢true}
+use Rattle.aig_base.specs.declared.memory.MemoryError.{MemoryError}
+use Rattle.aig_base.specs.declared.memory.MemoryError.TheVariants.{Memory}
 use Rattle.aig_circuit.specs.declared.edge.AigEdge.{AigEdge}
 use Rattle.aig_circuit.specs.declared.node.AigNodeType.{AigNodeType}
 use Rattle.aig_circuit.specs.declared.node.AigNodeType.TheVariants.{False, Leaf, And}
@@ -75,6 +77,12 @@ no_inverted_output u =
     let value : not (first_alone 1) ≡ r.0 0 1 = rw (sym e) at o.2 in
     let read : r.0 0 1 ≡ true = r.2.others 0 (omega arith) 0 0 (omega arith) in
     false≢true (value ∙ read)
+
+-- ---- half a step
+
+-- where memory is refused, a leaf of the further step is left
+no_half_step : ¬ OnErr {T = Unit {0}} {E = MemoryError} (Err Memory) (record swap { nodes = swap.nodes ++ node 3 Leaf ∷ [] } ≡ swap)
+no_half_step same = let n : ◌≡◌ {A = ℕ} 4 3 = ap (λ (c : Circuit). length c.nodes) same in absurd (omega arith)
 
 -- ---- the size is that of all gates, whether they fold or not, and doesn't grow without gates and inputs
 
