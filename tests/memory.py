@@ -4,10 +4,11 @@
 Every call that takes memory is made by the program aig_memory, or on circuits by a step of aig_script, once for each of its own
 requests for memory, with that request refused, upwards until a run ends without a refusal. A refused call answers that memory ran
 out and nothing else, and leaves its receiver as it was; the last run answers what ample memory answers. The same of each command of
-aigtool, which says `aigtool: out of memory`, ends with status 1, prints at most a beginning, and leaves an old OUT as it was.
+aigtool and aigcheck, which says `out of memory` after its program's name, ends with status 1, prints at most a beginning, and leaves
+an old OUT as it was.
 
-Requests are counted as well: long lines and comments make none, and no number of a file makes a large one, but for the room for
-nodes, which is reserved within the limit.
+Requests are counted as well: long lines and comments make none, ands that fold and changes of entries make none, and no number of a
+file makes a large one, but for the room for nodes, which is reserved within the limit.
 
 The shim memory/refuse.c is built with the C compiler and loaded by LD_PRELOAD.
 """
@@ -41,6 +42,29 @@ WHOLE = (
     b"20 19 17\n18 5 3\n16 4 2\n14 8 6\ni0 a\nl1 state\no0 out\nccomment\n"
 )
 COMMANDS = [["text"], ["strash"], ["cnf", "2"], ["cnf", "2", "raw"], ["query", "1"], ["query", "1", "raw"]]
+
+# What the commands of aigcheck read beside that file, whose constraint fails in each initial state: a latch that waits for an input,
+# one that takes the input of the step before, and a count of two bits; and a proof, a solver's answer and a witness of each.
+CHECKED = {
+    "waiting.aag": b"aag 3 1 1 0 1 1\n2\n4 4\n6\n6 4 2\ni0 go\nl0 waits\nb0 gone\n",
+    "delayed.aag": b"aag 2 1 1 0 0 1\n2\n4 2\n4\ni0 in\nl0 before\nb0 bad\n",
+    "counter.aag": b"aag 10 1 2 0 7 1\n2\n4 12\n6 18\n20\n8 4 2\n10 5 3\n12 11 9\n14 8 6\n16 9 7\n18 17 15\n20 6 4\ni0 up\nl0 low\nl1 high\n",
+    "conflict": b"0\n",
+    "hints": b"13 3 0 9 5 0\n14 0 12 13 11 0\n",
+    "deletions": b"3 0\nd 3 -4 0\n0\n",
+    "solution": b"c a solver\ns SATISFIABLE\nv -1 2\nv -3 -4 0\n",
+    "witness": b"c before\n1\nb0\n00\n1\n1\n1\n0\n.\n",
+}
+CHECKS = [
+    *(["clauses", form, "2", *raw] for form in ("whole.aag", "whole.aig") for raw in ([], ["raw"])),
+    *(["window", form, "1", *window] for form in ("whole.aag", "whole.aig") for window in ([], ["raw"], ["distinct"])),
+    *(["refuted", form, "0", "conflict", *raw] for form in ("whole.aag", "whole.aig") for raw in ([], ["raw"])),
+    ["inductive", "waiting.aag", "0", "hints", "distinct"],
+    ["inductive", "waiting.aag", "0", "deletions", "distinct", "raw"],
+    ["witness", "delayed.aag", "1", "solution"],
+    ["witness", "delayed.aag", "1", "solution", "raw"],
+    ["run", "counter.aag", "witness"],
+]
 
 # Where a file has a few nodes all requests together stay below this, and room for nodes within the limit is reserved.
 ASKED_FOR_LITTLE = 20_000
@@ -195,6 +219,11 @@ STEPS = [
     "gate_init_to_constraint",
     "ternary_simulate =11 =xxx",
 ]
+# Those that ask for none: ands that fold, a simulation of no step, and what changes entries that are there.
+QUIET = [
+    *("and 24 24", "and 24 25", "and 0 24", "and 24 1", "simulate_all 24 =xxx"),
+    *("set bads 0 24", "clear outputs", "clear_justice", "next 0 24", "init 0 24", "init 0"),
+]
 
 
 class Steps:
@@ -227,56 +256,65 @@ class Steps:
             ended = self.run([*FILLED, "show", step, "show"], room, refused)
             if (ended.status, ended.out.decode(), ended.err) != (0, wanted, b""):
                 wrong.append(f"{step}, request {refused}: status {ended.status}, {ended.out[-300:]}, {ended.err}")
-        if (ample.status, ample.err) != (0, b"") or b"Memory" in ample.out or ample.requests == before.requests:
+        ended_well = (ample.status, ample.err) == (0, b"") and b"Memory" not in ample.out
+        if not ended_well or (ample.requests == before.requests) != (step in QUIET):
             wrong.append(f"{step}: status {ample.status}, {ample.requests} requests, {ample.err}")
         return ample.requests - before.requests + 1, wrong
 
 
-class Tool:
-    """The commands of aigtool, one by one."""
+class Program:
+    """The commands of a program, one by one."""
 
-    def __init__(self, shim, tool, folder):
-        self.shim, self.tool, self.folder = shim, tool, folder
+    def __init__(self, shim, name, path, folder):
+        self.shim, self.name, self.path, self.folder = shim, name, path, folder
 
-    def cases(self):
-        """Each command on a text and on its binary form, and `binary` over an old file and none."""
-        for form, (command, *further) in itertools.product(["whole.aag", "whole.aig"], COMMANDS):
-            yield [command, form, *further], None
-        for form, old in itertools.product(["whole.aag", "whole.aig"], [None, b"old"]):
-            yield ["binary", form, "out"], old
-
-    def files(self, room, old):
-        """Makes a folder with the files that the commands read, and an old OUT."""
+    def make(self, room, files):
+        """Makes a folder with these files."""
         room.mkdir()
-        (room / "whole.aag").write_bytes(WHOLE)
-        subprocess.run([self.tool, "binary", "whole.aag", "whole.aig"], cwd=room, check=True)
-        if old is not None:
-            (room / "out").write_bytes(old)
+        for name, data in files.items():
+            (room / name).write_bytes(data)
 
     def contents(self, room):
         return {path.name: path.read_bytes() for path in room.iterdir()}
 
-    def check(self, number, words, old):
-        """Failures of a command, one line each, and the count of checks."""
-        room, wrong = self.folder / f"tool{number}", []
-        self.files(room, old)
-        before = self.contents(room)
-        name = " ".join(words)
-        ample = subprocess.run([self.tool, *words], cwd=room, capture_output=True)
+    def check(self, number, words, files):
+        """Failures of a command in a folder with these files, one line each, and the count of checks."""
+        room, wrong = self.folder / f"{self.name}{number}", []
+        self.make(room, files)
+        name = f"{self.name} {' '.join(words)}"
+        ample = subprocess.run([self.path, *words], cwd=room, capture_output=True)
         made = self.contents(room)
         for refused in itertools.count(1):
             shutil.rmtree(room)
-            self.files(room, old)
-            ended = self.shim.run([self.tool, *words], room, refused)
+            self.make(room, files)
+            ended = self.shim.run([self.path, *words], room, refused)
             if ended.requests < refused:
                 break
-            if (ended.status, ended.err) != (1, b"aigtool: out of memory\n") or not ample.stdout.startswith(ended.out):
+            told = f"{self.name}: out of memory\n".encode()
+            if (ended.status, ended.err) != (1, told) or not ample.stdout.startswith(ended.out):
                 wrong.append(f"{name}, request {refused}: status {ended.status}, {ended.err}")
-            if self.contents(room) != before:
+            if self.contents(room) != files:
                 wrong.append(f"{name}, request {refused}: files {self.contents(room)}")
         if ended.whole() != (0, ample.stdout, b"") or ample.returncode or self.contents(room) != made:
             wrong.append(f"{name}: another answer without a refusal")
+        if refused == 1:
+            wrong.append(f"{name}: no request")
         return refused, wrong
+
+
+def both_forms(tool, folder):
+    """A file of each form, and what they hold."""
+    (folder / "whole.aag").write_bytes(WHOLE)
+    subprocess.run([tool, "binary", "whole.aag", "whole.aig"], cwd=folder, check=True)
+    return {"whole.aag": WHOLE, "whole.aig": (folder / "whole.aig").read_bytes()}
+
+
+def tool_cases(files):
+    """Each command of aigtool on a text and on its binary form, and `binary` over an old file and none."""
+    for form, (command, *further) in itertools.product(files, COMMANDS):
+        yield [command, form, *further], files
+    for form, old in itertools.product(files, [{}, {"out": b"old"}]):
+        yield ["binary", form, "out"], files | old
 
 
 def sizes(shim, tool, folder, failures):
@@ -299,7 +337,13 @@ def sizes(shim, tool, folder, failures):
         (b"aag 16777215 0 0 0 16777215\n2 1 1\n4 2 2\n", "bad line in gates"),
         (b"aag 16777215 0 0 0 16777215", "bad header line"),
         (b"aag 1 1 0 0 0\n4294967294\n", "bad literal in inputs"),
+        (b"aag 16777215 16777215 0 0 0\n2\n", "bad line in inputs"),
+        (b"aag 16777215 0 16777215 0 0\n2 3\n", "bad line in latches"),
+        (b"aig 16777215 0 16777215 0 0\n3\n", "bad line in latches"),
         (b"aag 0 0 0 4294967295 0\n0\n", "bad line in outputs"),
+        (b"aag 0 0 0 0 0 4294967295\n0\n", "bad line in bads"),
+        (b"aag 0 0 0 0 0 0 4294967295\n0\n", "bad line in constraints"),
+        (b"aag 0 0 0 0 0 0 0 0 4294967295\n0\n", "bad line in fairness"),
         (b"aag 0 0 0 0 0 0 0 2\n4294967295\n4294967295\n0\n", "bad line in justice"),
     ]:
         ended = asks(["text", "file"], data)
@@ -320,6 +364,7 @@ def main():
     script = CRATES / "aig_script" / "out" / "aig_script"
     parser.add_argument("--script", type=pathlib.Path, default=script, help="the program aig_script")
     parser.add_argument("--tool", type=pathlib.Path, default=CRATES / "aigtool" / "out" / "aigtool", help="the program aigtool")
+    parser.add_argument("--checker", type=pathlib.Path, default=CRATES / "aigcheck" / "out" / "aigcheck", help="the program aigcheck")
     parser.add_argument("--compiler", default=c_compiler(), help="the C compiler (%(default)s)")
     parser.add_argument("names", nargs="*", help="the calls to make (all, and the commands)")
     given = parser.parse_args()
@@ -329,13 +374,16 @@ def main():
         shim = Shim(given.compiler, folder)
         calls = Calls(shim, given.program.resolve(), folder)
         steps = Steps(shim, given.script.resolve(), folder)
-        tool = Tool(shim, given.tool.resolve(), folder)
+        tool = Program(shim, "aigtool", given.tool.resolve(), folder)
+        checker = Program(shim, "aigcheck", given.checker.resolve(), folder)
         with concurrent.futures.ThreadPoolExecutor(os.cpu_count()) as pool:
             running = [pool.submit(calls.check, call) for call in given.names or calls.names()]
             if not given.names:
-                running += [pool.submit(steps.check, step) for step in STEPS]
-                running += [pool.submit(tool.check, i, *case) for i, case in enumerate(tool.cases())]
-                sizes(shim, tool.tool, folder, failures)
+                running += [pool.submit(steps.check, step) for step in STEPS + QUIET]
+                files = both_forms(tool.path, folder)
+                running += [pool.submit(tool.check, i, *case) for i, case in enumerate(tool_cases(files))]
+                running += [pool.submit(checker.check, i, words, files | CHECKED) for i, words in enumerate(CHECKS)]
+                sizes(shim, tool.path, folder, failures)
         for count, wrong in (run.result() for run in running):
             failures.passed += count - len(wrong)
             failures.failed += len(wrong)

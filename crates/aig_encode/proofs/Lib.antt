@@ -1,2 +1,3 @@
 pub mod Exactly
 mod Promised
+mod Refuted

@@ -1,0 +1,57 @@
+-- Wrong refusals, and an answer past the limit, of which the definition is false.
+use Rattle.std.proofs.Common.{◌≡◌, ℕ, None, Ok, Err, List, [], ◌∷◌, refl, arith}
+use Rattle.aig_format.specs.declared.FileKind.TheVariants.{Text}
+use Rattle.aig_format.specs.File.{File, GateLine, LatchLine}
+use Rattle.aig_format.specs.Fits.{Accepts}
+use Rattle.aig_format.specs.Circuit.{circuit_of}
+use Rattle.aig_format.specs.Numbering.{node_of_variable, variables_in_order}
+use Rattle.aig_unroll.specs.Places.{unrolled_size}
+use Rattle.aig_encode.specs.declared.error.EncodeError.TheVariants.{TooLarge}
+use Rattle.aig_encode.specs.Encoding.{AnswersExactly}
+
+-- a text file of these sections alone
+abbrev file_with : ℕ → List ℕ → List LatchLine → List ℕ → List GateLine → File
+file_with greatest inputs latches outputs gates =
+    record
+      { kind = Text;
+        greatest = greatest;
+        inputs = inputs;
+        latches = latches;
+        outputs = outputs;
+        gates = gates;
+        bads = [];
+        constraints = [];
+        justice = [];
+        fairness = [];
+        names = [] }
+
+-- a latch that toggles: its steps add no node
+abbrev toggle : File
+toggle = file_with 1 [] (record { literal = 2; next = 3; reset = None } ∷ []) (2 ∷ []) []
+
+toggle-size : (k : ℕ) → unrolled_size (circuit_of toggle) k ≡ 2
+unfolding node_of_variable variables_in_order
+toggle-size k = omega arith
+
+-- it is refused for each step above 0
+no_refusal_above_0 : {T : Type 0} (Means : File → T → Type 0) (k : ℕ) (bytes : List ℕ)
+    → Accepts bytes 2 toggle → ¬ AnswersExactly Means 2 k (Err TooLarge) bytes
+no_refusal_above_0 Means k bytes accepts answers =
+    answers.accepted.each toggle (accepts, omega (arith, toggle-size k))
+
+-- input 1, latch 2 with the next literal true, and the gate 3 = and(1,2): of the gate of the second
+-- step no node is left
+abbrev folding : File
+folding =
+    file_with 3 (2 ∷ []) (record { literal = 4; next = 1; reset = None } ∷ []) (6 ∷ [])
+      (record { lhs = 6; rhs0 = 4; rhs1 = 2 } ∷ [])
+
+folding-size : unrolled_size (circuit_of folding) 1 ≡ 6
+unfolding node_of_variable variables_in_order
+folding-size = refl
+
+-- it is answered where the limit allows the nodes that are left, and no gate more
+no_answer_by_nodes_left : {T : Type 0} (Means : File → T → Type 0) (answer : T) (bytes : List ℕ)
+    → Accepts bytes 5 folding → ¬ AnswersExactly Means 5 1 (Ok answer) bytes
+no_answer_by_nodes_left Means answer bytes accepts answers =
+    let told = answers.too_large.1 (folding, (accepts, omega (arith, folding-size))) in cc
