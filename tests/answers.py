@@ -53,6 +53,7 @@ PROOFS = {
     "turned": LONG.replace("13 3 0", "13 -3 0"),
     "no_hint": LONG.replace("9 5 0", "5 0"),
     "twice": LONG.replace("14 0 12", "13 3 0 9 5 0\n14 0 12"),
+    "deleted_twice": LONG.replace("14 0 12", "14 d 13 0\n13 3 0 9 5 0\n14 0 12"),
     "given": LONG.replace("13 3 0", "12 3 0"),
     "literal": LONG.replace("13 3 0", "13 8 0"),
     "large": LONG.replace("13 3 0", "4294967295 3 0"),
@@ -64,6 +65,26 @@ PROOFS = {
     "junk": "no proof\n",
     "empty": "",
     "cut": LONG[:18],
+    "cut_in_number": LONG[:-4],
+    "without_line_feed": LONG[:-1],
+    "without_0": LONG.replace("11 0", "11"),
+    "long_number": LONG.replace("13 3 0", "1" * 30 + " 3 0"),
+    "long_literal": LONG.replace("13 3 0", "13 " + "1" * 30 + " 0"),
+    "number_0": LONG.replace("13 3 0", "0 3 0"),
+    "two_spaces": LONG.replace("13 3 0", "13  3 0"),
+    "none_deleted": LONG.replace("14 0 12", "13 d 99 0\n14 0 12"),
+    "inverse_deleted": LONG.replace("14 0 12", "13 d -12 0\n14 0 12"),
+    "deletion_without_space": LONG.replace("14 0 12", "13 d12 0\n14 0 12"),
+    "line_behind": LONG + "no proof\n",
+    # Without hints, of opposed.aag: with 6 and 9 true, two inputs 2 and 3 differ and are the same.
+    "split": "2 0\n0\n",
+    "absent_deleted": "d 2 5 0\n2 0\n0\n",
+    "unit_deleted": "2 0\nd 2 0\n0\n",
+    "needed_deleted": "d 3 2 -6 0\n2 0\n0\n",
+    # Of differing.aag at step 0. Clause 5 is `6 2 3`, 6 `-7 -2`, 7 `-7 -6`, 9 `-3` and 10 `7`; with raw, 2 is `-4 2`, 6 `-5 3`,
+    # 10 `6 4 5`, 11 `-7 -2`, 12 `-7 -6`, 14 `-3` and 15 `7`.
+    "optimized": "11 0 10 6 7 9 5 0\n",
+    "raw": "16 0 15 11 12 14 2 6 10 0\n",
 }
 
 # Solvers' answers about step 1 of a latch that takes the input of the step before: 2 and 4 are the inputs, 3 is the latch's start.
@@ -150,6 +171,7 @@ def query(*words):
 def rows(folder):
     """The words of each row, and what is wanted."""
     stuck, waiting, toggle, no_bads = (os.path.join(FILES, name + ".aag") for name in ["stuck", "waiting", "toggle", "no_bads"])
+    differing, opposed = (os.path.join(FILES, name + ".aag") for name in ["differing", "opposed"])
     of_stuck, of_waiting = (os.path.join(FILES, name + ".lrat") for name in ["stuck", "waiting"])
     made = {name: os.path.join(folder, name) for name in PROOFS}
     missing = os.path.join(folder, "missing")
@@ -172,6 +194,19 @@ def rows(folder):
     # The plain window has a run to a bad state, which no proof can exclude, and no clause of this number.
     yield ["inductive", waiting, "0", of_waiting], refused(UNNAMED)
     yield ["inductive", waiting, "0", made["empty_clause"]], refused(STEP)
+    # Numbers are of the clauses of one setting, and of one step.
+    yield ["refuted", differing, "0", made["optimized"]], step(0)
+    yield ["refuted", differing, "0", made["optimized"], "raw"], refused(STEP)
+    yield ["refuted", differing, "0", made["raw"], "raw"], step(0)
+    yield ["refuted", differing, "0", made["raw"]], refused(UNNAMED)
+    yield ["refuted", differing, "1", made["optimized"]], refused(STEP)
+    # A proof is read up to the empty clause. To delete a clause that isn't there does nothing, and one of one literal stays.
+    yield distinct(made["line_behind"]), window(0)
+    for name in ["split", "absent_deleted", "unit_deleted"]:
+        yield ["refuted", opposed, "0", made[name]], step(0)
+    for name in ["empty_clause", "needed_deleted"]:
+        yield ["refuted", opposed, "0", made[name]], refused(STEP)
+    yield ["inductive", waiting, "0", made["split"]], refused(STEP)
     # Another file, step, form of window or command.
     yield ["refuted", toggle, "1", of_stuck], refused(STEP)
     yield ["refuted", waiting, "0", of_waiting], refused(UNNAMED)
@@ -181,6 +216,7 @@ def rows(folder):
         ("turned", STEP),
         ("no_hint", STEP),
         ("twice", TWICE),
+        ("deleted_twice", TWICE),
         ("given", TWICE),
         ("literal", LITERAL),
         ("large", LARGE),
@@ -190,6 +226,16 @@ def rows(folder):
         ("mixed", LINE),
         ("empty", UNFINISHED),
         ("cut", UNFINISHED),
+        ("cut_in_number", UNFINISHED),
+        ("without_line_feed", UNFINISHED),
+        ("without_0", LINE),
+        ("long_number", LINE),
+        ("long_literal", LINE),
+        ("number_0", LINE),
+        ("two_spaces", LINE),
+        ("none_deleted", UNNAMED),
+        ("inverse_deleted", LINE),
+        ("deletion_without_space", LINE),
     ]:
         yield distinct(made[name]), refused(why)
     # The clauses of a query, and which literals stand for inputs, latches and bads. Variable 1 is false.

@@ -12,8 +12,9 @@ use aig_encode::query;
 use aig_refutation::{RefutationError, check_refutation};
 use std::alloc::Global;
 
-/// Reads a circuit from the bytes of an AIGER file, and checks a proof, in the LRAT format, that the clauses of its query for
-/// step `k` can't be satisfied: then no run from an initial state reaches a bad state at that step. Requires `1 <= limit <= 2^31`.
+/// Reads a circuit from the bytes of an AIGER file, and checks a proof, in the LRAT or the DRAT format, that the clauses of its
+/// query for step `k` can't be satisfied: then no run from an initial state reaches a bad state at that step. Requires
+/// `1 <= limit <= 2^31`.
 ///
 /// The clauses have the order and the variables of the DIMACS form: those of each node's variable, and the further ones
 /// after them. A file without bad state properties is refused, as nothing is asked of it, before the proof is read.

@@ -169,8 +169,8 @@ pub fn window<R: Source>(
     ask_window(alloc, circuit, limit, k, optimize, form)
 }
 
-/// Reads a circuit from the bytes of an AIGER file, and checks a proof, in the LRAT format, that the clauses of `window` can't be
-/// satisfied: then no window of `k + 2` steps, from any state, reaches a bad state first at its end.
+/// Reads a circuit from the bytes of an AIGER file, and checks a proof, in the LRAT or the DRAT format, that the clauses of
+/// `window` can't be satisfied: then no window of `k + 2` steps, from any state, reaches a bad state first at its end.
 ///
 /// With `check_step` for the steps 0 to `k` it follows that no bad state is ever reached (`inductive_windows_are_safe`).
 pub fn check_window<R: Source, P: Source>(

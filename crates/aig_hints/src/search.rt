@@ -179,10 +179,11 @@ impl Search {
         Ok(None)
     }
 
-    /// Makes the inverses of a clause's literals true. Where one of them follows from the clauses,
-    /// the number of the clause that has it alone is answered.
+    /// Makes the inverses of a clause's literals true, the last one's first: solvers put the
+    /// literals first that they assumed last. Where one of them follows from the clauses, the
+    /// number of the clause that has it alone is answered.
     fn assume_false(&mut self, clause: &[Lit]) -> Result<Option<u32>, MemoryError> {
-        for lit in clause {
+        for lit in clause.iter().rev() {
             match self.trail.value(*lit) {
                 Lbool::TRUE => {
                     let unit = self.unit(*lit);
