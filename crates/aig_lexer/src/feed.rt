@@ -1,6 +1,6 @@
 //! Bytes one by one, and a source that gives them through a window.
 
-ghost use Rattle.std.specs.Prelude.{◌≡◌, ℕ, ◌+◌, ◌-◌, ◌*◌, ◌<◌, ◌≤◌, List, Option, None, Bool, true, false, length, IfOk, OnErr, OnSome, option_to_list};
+ghost use Rattle.std.specs.Prelude.{◌≡◌, ℕ, ◌+◌, ◌-◌, ◌*◌, ◌<◌, ◌≤◌, List, Option, None, Bool, true, false, length, IfOk, OnOk, OnErr, OnSome, [], option_to_list};
 ghost use Rattle.std.specs.Io.KnownBytes.{Consumes, IsAtEnd};
 ghost use Rattle.aig_lexer.specs.Bytes.{coming_of};
 
@@ -63,6 +63,29 @@ impl<'a, R: Source> Buffered<'a, R> {
             end: 0,
         }
     }
+
+    /// Fills the window, in which no byte is left. At the end of the source none is in it after that.
+    #[cold]
+    fn fill(&mut self) -> Result<(), StreamFault>
+        requires { self.old.at ≡ self.old.end }
+        ensures bytes { OnOk result (Consumes
+            (coming_of self.old.window.now self.old.at self.old.end (R.left self.old.source.now))
+            (coming_of self.new.window.now self.new.at self.new.end (R.left self.new.source.now))
+            []) }
+        ensures end { OnOk result (self.new.at ≡ self.new.end → IsAtEnd
+            (coming_of self.new.window.now self.new.at self.new.end (R.left self.new.source.now))
+            × (R.failed self.new.source.now ≡ false)) }
+        ensures err { OnErr result (R.failed self.new.source.now ≡ true) }
+        ensures fewer { OnOk result (self.new.at < self.new.end
+            → 4096 * R.pulls self.new.source.now + (self.new.end - self.new.at)
+            ≤ 4096 * R.pulls self.old.source.now) }
+        ensures same { self.new.source.ghost_name ≡ self.old.source.ghost_name }
+    {
+        let n = self.source.pull(self.window)?;
+        self.at = 0;
+        self.end = n;
+        Ok(())
+    }
 }
 
 impl<'a, R: Source> ByteFeed for Buffered<'a, R> {
@@ -76,10 +99,8 @@ impl<'a, R: Source> ByteFeed for Buffered<'a, R> {
 
     fn next(&mut self) -> Result<Option<u8>, StreamFault> {
         if self.at == self.end {
-            let n = self.source.pull(self.window)?;
-            self.at = 0;
-            self.end = n;
-            if n == 0 {
+            self.fill()?;
+            if self.at == self.end {
                 return Ok(None);
             }
         }
