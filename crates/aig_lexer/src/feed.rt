@@ -1,12 +1,12 @@
-//! Bytes one by one, and a source that gives them through a window.
+//! Bytes one by one or some at once, and a source that gives them through a window.
 
-ghost use Rattle.std.specs.Prelude.{◌≡◌, ℕ, ◌+◌, ◌-◌, ◌*◌, ◌<◌, ◌≤◌, List, Option, None, Bool, true, false, length, IfOk, OnOk, OnErr, OnSome, [], option_to_list};
+ghost use Rattle.std.specs.Prelude.{◌≡◌, ℕ, ◌+◌, ◌-◌, ◌*◌, ◌<◌, ◌≤◌, List, Option, None, Bool, true, false, length, take, slice_range, IfOk, OnOk, OnErr, OnSome, [], option_to_list};
 ghost use Rattle.std.specs.Io.KnownBytes.{Consumes, IsAtEnd};
 ghost use Rattle.aig_lexer.specs.Bytes.{coming_of};
 
 use aig_base::{Source, StreamFault};
 
-/// Gives bytes one by one.
+/// Gives bytes one by one, or those at hand at once.
 pub trait ByteFeed {
     /// The bytes to come, where they are known.
     ghost coming: { Self → Option (List ℕ) };
@@ -16,6 +16,9 @@ pub trait ByteFeed {
 
     /// How many bytes at most will still come.
     ghost turns: { Self → ℕ };
+
+    /// The bytes at hand, which come next.
+    ghost at_hand: { Self → List ℕ };
 
     /// The reference that it reads through, if any: 0 where there is none.
     ghost behind: { Self → ℕ };
@@ -28,6 +31,18 @@ pub trait ByteFeed {
             (λ o. o ≡ None → IsAtEnd (coming self.new) × (failed self.new ≡ false)) }
         ensures err { OnErr result (failed self.new ≡ true) }
         ensures fewer { IfOk result (λ o. OnSome o (turns self.new < turns self.old)) }
+        ensures same { behind self.new ≡ behind self.old };
+
+    /// Returns the bytes at hand, and takes none of them.
+    fn window(&self) -> &[u8]
+        ensures { result.now ≡ at_hand self.now };
+
+    /// Takes the first `count` of the bytes at hand. Requires that there are so many.
+    fn consume(&mut self, count: usize)
+        requires { count ≤ length (at_hand self.old) }
+        ensures bytes { Consumes (coming self.old) (coming self.new)
+            (take count (at_hand self.old)) }
+        ensures fewer { turns self.new ≤ turns self.old }
         ensures same { behind self.new ≡ behind self.old };
 }
 
@@ -95,6 +110,8 @@ impl<'a, R: Source> ByteFeed for Buffered<'a, R> {
 
     ghost turns = { λ b. 4096 * R.pulls b.source.now + (b.end - b.at) };
 
+    ghost at_hand = { λ b. slice_range b.window.now b.at b.end };
+
     ghost behind = { λ b. b.source.ghost_name };
 
     fn next(&mut self) -> Result<Option<u8>, StreamFault> {
@@ -107,5 +124,13 @@ impl<'a, R: Source> ByteFeed for Buffered<'a, R> {
         let b = self.window[self.at];
         self.at += 1;
         Ok(Some(b))
+    }
+
+    fn window(&self) -> &[u8] {
+        &self.window[self.at..self.end]
+    }
+
+    fn consume(&mut self, count: usize) {
+        self.at += count;
     }
 }
