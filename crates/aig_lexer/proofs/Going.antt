@@ -26,14 +26,24 @@ module _ {Y : Type 0} (p : List ℕ → Option (Y × List ℕ)) where
   pub goes_start : (before : Option (List ℕ)) → GoesOn p before p before
   goes_start before = record { taken = []; goes = λ rest. refl; consumed = Consumes-nil before }
 
-  -- one byte came
-  pub goes_byte : (q r : List ℕ → Option (Y × List ℕ)) (before now after : Option (List ℕ)) (o : Option ℕ) (b : ℕ)
-      → GoesOn p before q now → Consumes now after (option_to_list o) → o ≡ Some b → ((bs : List ℕ) → q (b ∷ bs) ≡ r bs) → GoesOn p before r after
-  goes_byte q r before now after o b h c is e = record {
-    taken = h.taken ++ b ∷ [];
-    goes = λ rest. ap p (append_assoc h.taken (b ∷ []) rest) ∙ h.goes (b ∷ rest) ∙ e rest;
-    consumed = Consumes-trans before now after h.taken (b ∷ []) h.consumed (subst (λ (m : Option ℕ). Consumes now after (option_to_list m)) is c);
+  -- some bytes came
+  pub goes_taken : (q r : List ℕ → Option (Y × List ℕ)) (before now after : Option (List ℕ))
+      (bytes : List ℕ) → GoesOn p before q now → Consumes now after bytes
+      → ((rest : List ℕ) → q (bytes ++ rest) ≡ r rest) → GoesOn p before r after
+  goes_taken q r before now after bytes h c e = record {
+    taken = h.taken ++ bytes;
+    goes = λ rest.
+        ap p (append_assoc h.taken bytes rest) ∙ h.goes (bytes ++ rest) ∙ e rest;
+    consumed = Consumes-trans before now after h.taken bytes h.consumed c;
   }
+
+  -- one byte came
+  pub goes_byte : (q r : List ℕ → Option (Y × List ℕ)) (before now after : Option (List ℕ))
+      (o : Option ℕ) (b : ℕ) → GoesOn p before q now → Consumes now after (option_to_list o)
+      → o ≡ Some b → ((bs : List ℕ) → q (b ∷ bs) ≡ r bs) → GoesOn p before r after
+  goes_byte q r before now after o b h c is e =
+      goes_taken q r before now after (b ∷ []) h
+      (subst (λ (m : Option ℕ). Consumes now after (option_to_list m)) is c) e
 
   -- no byte came
   pub goes_end : (q : List ℕ → Option (Y × List ℕ)) (before now after : Option (List ℕ)) (o : Option ℕ)

@@ -1,6 +1,6 @@
--- The next byte of a buffered source.
-use Rattle.std.proofs.Common.{◌≡◌, ℕ, suc, ◌+◌, ◌-◌, ◌≤◌, ◌<◌, List, [], ◌∷◌, ◌++◌, Option, Some, None, take, drop, length, get_or, refl, sym, ap, ◌∙◌, arith}
-use Rattle.std.proofs.lemmas.List.{drop_more}
+-- The next bytes of a buffered source.
+use Rattle.std.proofs.Common.{◌≡◌, ℕ, suc, ◌+◌, ◌-◌, ◌≤◌, ◌<◌, List, [], ◌∷◌, ◌++◌, Option, Some, None, take, drop, length, get_or, refl, sym, ap, ◌∙◌, append_assoc, slice_range, arith}
+use Rattle.std.proofs.lemmas.List.{drop-drop, drop-take, drop_more, take-append-drop}
 use Rattle.std.specs.Io.KnownBytes.{Consumes}
 use Rattle.aig_lexer.specs.Bytes.{coming_of}
 
@@ -16,12 +16,17 @@ pub takes_next : (window : List ℕ) (at end : ℕ) (left : Option (List ℕ)) �
 takes_next window at end None lt le = tt
 takes_next window at end (Some xs) lt le = ap (λ (ys : List ℕ). ys ++ xs) (front_of window at end lt le)
 
--- an empty window, filled from the source
-pub takes_first : (old : List ℕ) (i j : ℕ) (before : Option (List ℕ)) (window : List ℕ) (n : ℕ) (left : Option (List ℕ)) → i ≡ j → 0 < n → n ≤ length window → Consumes before left (take n window)
-    → Consumes (coming_of old i j before) (coming_of window (0 + 1) n left) (get_or window 0 0 ∷ [])
-takes_first old i j None window n left e some fits h = tt
-takes_first old i j (Some xs) window n None e some fits h = absurd h
-takes_first old i j (Some xs) window n (Some ys) e some fits h =
-    let whole : n - 0 ≡ n = omega arith in
-    let none : take (j - i) (drop i old) ≡ [] = let k : j - i ≡ 0 = omega arith in rw k refl in
-    ap (λ (zs : List ℕ). zs ++ xs) none ∙ h ∙ ap (λ (k : ℕ). take k window ++ ys) (sym whole) ∙ ap (λ (zs : List ℕ). zs ++ ys) (front_of window 0 n some fits)
+-- the first of the bytes in the window
+pub takes_some : (window : List ℕ) (at end count : ℕ) (left : Option (List ℕ))
+    → at + count ≤ end → Consumes (coming_of window at end left)
+    (coming_of window (at + count) end left) (take count (slice_range window at end))
+takes_some window at end count None le = tt
+takes_some window at end count (Some xs) le =
+    let hand = slice_range window at end in
+    let n = end - (at + count) in
+    let k : count + n ≡ end - at = omega arith in
+    let rest : drop count hand ≡ slice_range window (at + count) end =
+    rw (← k) (drop-take count n (drop at window) ∙ ap (take n) (drop-drop count at window)) in
+    ap (λ (ys : List ℕ). ys ++ xs)
+    (sym (take-append-drop count hand) ∙ ap (λ (ys : List ℕ). take count hand ++ ys) rest)
+    ∙ append_assoc (take count hand) (slice_range window (at + count) end) xs

@@ -1,12 +1,12 @@
-//! Bytes one by one, and a source that gives them through a window.
+//! Bytes one by one or some at once, and a source that gives them through a window.
 
-ghost use Rattle.std.specs.Prelude.{◌≡◌, ℕ, ◌+◌, ◌-◌, ◌*◌, ◌<◌, ◌≤◌, List, Option, None, Bool, true, false, length, IfOk, OnErr, OnSome, option_to_list};
+ghost use Rattle.std.specs.Prelude.{◌≡◌, ℕ, ◌+◌, ◌-◌, ◌*◌, ◌<◌, ◌≤◌, List, Option, None, Bool, true, false, length, take, slice_range, IfOk, OnOk, OnErr, OnSome, [], option_to_list};
 ghost use Rattle.std.specs.Io.KnownBytes.{Consumes, IsAtEnd};
 ghost use Rattle.aig_lexer.specs.Bytes.{coming_of};
 
 use aig_base::{Source, StreamFault};
 
-/// Gives bytes one by one.
+/// Gives bytes one by one, or those at hand at once.
 pub trait ByteFeed {
     /// The bytes to come, where they are known.
     ghost coming: { Self → Option (List ℕ) };
@@ -16,6 +16,9 @@ pub trait ByteFeed {
 
     /// How many bytes at most will still come.
     ghost turns: { Self → ℕ };
+
+    /// The bytes at hand, which come next.
+    ghost at_hand: { Self → List ℕ };
 
     /// The reference that it reads through, if any: 0 where there is none.
     ghost behind: { Self → ℕ };
@@ -28,6 +31,18 @@ pub trait ByteFeed {
             (λ o. o ≡ None → IsAtEnd (coming self.new) × (failed self.new ≡ false)) }
         ensures err { OnErr result (failed self.new ≡ true) }
         ensures fewer { IfOk result (λ o. OnSome o (turns self.new < turns self.old)) }
+        ensures same { behind self.new ≡ behind self.old };
+
+    /// Returns the bytes at hand, and takes none of them.
+    fn window(&self) -> &[u8]
+        ensures { result.now ≡ at_hand self.now };
+
+    /// Takes the first `count` of the bytes at hand. Requires that there are so many.
+    fn consume(&mut self, count: usize)
+        requires { count ≤ length (at_hand self.old) }
+        ensures bytes { Consumes (coming self.old) (coming self.new)
+            (take count (at_hand self.old)) }
+        ensures fewer { turns self.new ≤ turns self.old }
         ensures same { behind self.new ≡ behind self.old };
 }
 
@@ -63,6 +78,29 @@ impl<'a, R: Source> Buffered<'a, R> {
             end: 0,
         }
     }
+
+    /// Fills the window, in which no byte is left. At the end of the source none is in it after that.
+    #[cold]
+    fn fill(&mut self) -> Result<(), StreamFault>
+        requires { self.old.at ≡ self.old.end }
+        ensures bytes { OnOk result (Consumes
+            (coming_of self.old.window.now self.old.at self.old.end (R.left self.old.source.now))
+            (coming_of self.new.window.now self.new.at self.new.end (R.left self.new.source.now))
+            []) }
+        ensures end { OnOk result (self.new.at ≡ self.new.end → IsAtEnd
+            (coming_of self.new.window.now self.new.at self.new.end (R.left self.new.source.now))
+            × (R.failed self.new.source.now ≡ false)) }
+        ensures err { OnErr result (R.failed self.new.source.now ≡ true) }
+        ensures fewer { OnOk result (self.new.at < self.new.end
+            → 4096 * R.pulls self.new.source.now + (self.new.end - self.new.at)
+            ≤ 4096 * R.pulls self.old.source.now) }
+        ensures same { self.new.source.ghost_name ≡ self.old.source.ghost_name }
+    {
+        let n = self.source.pull(self.window)?;
+        self.at = 0;
+        self.end = n;
+        Ok(())
+    }
 }
 
 impl<'a, R: Source> ByteFeed for Buffered<'a, R> {
@@ -72,19 +110,27 @@ impl<'a, R: Source> ByteFeed for Buffered<'a, R> {
 
     ghost turns = { λ b. 4096 * R.pulls b.source.now + (b.end - b.at) };
 
+    ghost at_hand = { λ b. slice_range b.window.now b.at b.end };
+
     ghost behind = { λ b. b.source.ghost_name };
 
     fn next(&mut self) -> Result<Option<u8>, StreamFault> {
         if self.at == self.end {
-            let n = self.source.pull(self.window)?;
-            self.at = 0;
-            self.end = n;
-            if n == 0 {
+            self.fill()?;
+            if self.at == self.end {
                 return Ok(None);
             }
         }
         let b = self.window[self.at];
         self.at += 1;
         Ok(Some(b))
+    }
+
+    fn window(&self) -> &[u8] {
+        &self.window[self.at..self.end]
+    }
+
+    fn consume(&mut self, count: usize) {
+        self.at += count;
     }
 }

@@ -1,7 +1,7 @@
 //! Words of the format: bytes, numbers, lines of numbers, and differences.
 
-ghost use Rattle.std.specs.Prelude.{◌≡◌, ◌+◌, ◌<◌, ◌≤◌, length, IsErrOf, OnOk, true};
-ghost use Rattle.aig_parsing.specs.Parse.{parse_delta, parse_ended, parse_number};
+ghost use Rattle.std.specs.Prelude.{◌≡◌, ◌+◌, ◌^◌, ◌++◌, ◌<◌, ◌≤◌, ℕ, List, length, take, IsErrOf, OnOk, true};
+ghost use Rattle.aig_parsing.specs.Parse.{parse_delta, parse_digits, parse_ended, parse_number};
 ghost use Rattle.aig_parsing.specs.ParseTested.{parse_next_and_reset, parse_pair};
 ghost use Rattle.aig_lexer.specs.Faults.{LexUnlessTransient};
 ghost use Rattle.aig_lexer.specs.Takes.{Gives};
@@ -24,6 +24,30 @@ pub(crate) fn expect<F: ByteFeed>(f: &mut F, byte: u8) -> Result<(), LexError>
     }
 }
 
+/// Reads on in a number whose value so far is `first`, over the digits at the front of `bytes`: its value with them, and how
+/// many they are. It stops before a digit that would take the value to 2^32.
+fn digits_in(bytes: &[u8], first: u64) -> (u64, usize)
+    requires { first < 2 ^ 32 }
+    ensures small { result.0 < 2 ^ 32 }
+    ensures count { result.1 ≤ length bytes.now }
+    ensures digits { (rest : List ℕ) → parse_digits first (take result.1 bytes.now ++ rest)
+        ≡ parse_digits result.0 rest }
+{
+    let mut value = first;
+    for i in 0..bytes.len() {
+        let b = bytes[i];
+        if !b.is_ascii_digit() {
+            return (value, i);
+        }
+        let longer = 10 * value + (b - b'0') as u64;
+        if longer > u32::MAX as u64 {
+            return (value, i);
+        }
+        value = longer;
+    }
+    (value, bytes.len())
+}
+
 /// Reads on in a number whose first byte, which was read before, is `first`: its value, and the byte that ends it.
 ///
 /// A number is one or more decimal digits (AIGER format 20071012, "Header"); zeros may lead, and its value is below 2^32.
@@ -38,7 +62,8 @@ pub fn number_from<F: ByteFeed>(f: &mut F, first: u8) -> Result<(u32, u8), LexEr
     if !first.is_ascii_digit() {
         return Err(LexError::Shape);
     }
-    let mut value = (first - b'0') as u64;
+    let (mut value, count) = digits_in(f.window(), (first - b'0') as u64);
+    f.consume(count);
     while let Some(b) = f.next()? {
         if !b.is_ascii_digit() {
             return Ok((value as u32, b));

@@ -42,6 +42,16 @@ impl LitVvec {
         }
     }
 
+    /// Returns a list of no clauses, with room for so many and for so many literals.
+    fn with_room(alloc: Global, clauses: usize, literals: usize) -> Result<LitVvec, MemoryError>
+        ensures { IfOk result (λ list. list ≡ []) }
+    {
+        Ok(LitVvec {
+            literals: Vec::with_capacity(alloc, literals)?,
+            ends: Vec::with_capacity(alloc, clauses)?,
+        })
+    }
+
     /// Appends one clause, which may be empty.
     ///
     /// # Errors
@@ -77,12 +87,16 @@ impl LitVvec {
         &self.literals[start(&self.ends, i)..self.ends[i]]
     }
 
-    /// Appends the clauses of another list.
+    /// Appends the clauses of another list. An empty list takes just the memory that these need.
     pub(crate) fn append(&mut self, other: &LitVvec) -> Result<(), MemoryError>
         ensures ok { OnOk result (self.new ≡ self.old ++ other.now) }
         ensures err { OnErr result (self.new ≡ self.old) }
     {
-        self.ends.reserve(other.ends.len())?;
+        if self.ends.is_empty() {
+            self.ends.reserve_exact(other.ends.len())?;
+        } else {
+            self.ends.reserve(other.ends.len())?;
+        }
         let before = self.literals.len();
         self.literals.extend_from_slice(&other.literals)?;
         append_shifted(&mut self.ends, &other.ends, before);
@@ -114,7 +128,7 @@ impl LitVvec {
         ensures relation { IfOk result (λ rel. (v : ℕ → Bool) → IsTrue (are_true v rel)
             ↔ (literal_value v n ≡ list_all (literal_value v) lits.now)) }
     {
-        let mut rel = LitVvec::new(alloc);
+        let mut rel = LitVvec::with_room(alloc, lits.len() + 1, 3 * lits.len() + 1)?;
         for lit in lits {
             rel.push(&[!n, *lit])?;
         }
@@ -133,7 +147,7 @@ impl LitVvec {
             ↔ (literal_value v n
             ≡ (if literal_value v x then not (literal_value v y) else literal_value v y))) }
     {
-        let mut rel = LitVvec::new(alloc);
+        let mut rel = LitVvec::with_room(alloc, 4, 12)?;
         rel.push(&[!n, x, y])?;
         rel.push(&[!n, !x, !y])?;
         rel.push(&[n, !x, y])?;
@@ -152,7 +166,7 @@ impl LitVvec {
             ↔ (literal_value v n
             ≡ (if literal_value v c then literal_value v t else literal_value v e))) }
     {
-        let mut rel = LitVvec::new(alloc);
+        let mut rel = LitVvec::with_room(alloc, 4, 12)?;
         rel.push(&[!c, !t, n])?;
         rel.push(&[!c, t, !n])?;
         rel.push(&[c, !e, n])?;

@@ -1,9 +1,9 @@
-use Rattle.std.proofs.Common.{◌∙◌, ◌+◌, ◌*◌, ◌-◌, ℕ, None, refl, arith}
+use Rattle.std.proofs.Common.{◌∙◌, ◌+◌, ◌*◌, ◌-◌, ℕ, None, arith}
 use Rattle.std.specs.Char.{IsNotAsciiDigit}
 use Rattle.aig_parsing.specs.Parse.{parse_digits}
 use Rattle.aig_parsing.proofs.Numbers.{OtherThanDigit, number_goes, number_stops, digits_go, digits_overflow, digits_stop, digits_end}
 use Rattle.aig_lexer.specs.Words.{parse_number_from}
-use Rattle.aig_lexer.proofs.Going.{goes_start, goes_same, goes_byte, goes_end, goes_done, goes_nowhere}
+use Rattle.aig_lexer.proofs.Going.{goes_start, goes_same, goes_taken, goes_byte, goes_end, goes_done, goes_nowhere}
 use Rattle.aig_lexer.proofs.lexer.number_from.Goals as goal
 
 other : (b : ℕ) → IsNotAsciiDigit b → OtherThanDigit b
@@ -18,12 +18,18 @@ returns-then-not-is_ascii_digit-clause-exact g c =
 pub loop-b-init : goal.loop-b-init
 loop-b-init g c =
     let read = parse_number_from c.args.first in
+    let digits = parse_digits (c.args.first - 48) in
     let digit = c.if-not-is_ascii_digit.ensures.cases in
+    let first =
+    goes_same read read digits _ _ (goes_start read (g.F.ByteFeed.coming c.args.f.now))
+    (number_goes c.args.first digit.0 digit.1) in
     record {
-      goes_on = goes_same read read (parse_digits (c.args.first - 48)) _ _ (goes_start read (g.F.ByteFeed.coming c.args.f.now)) (number_goes c.args.first digit.0 digit.1);
-      small = omega arith;
-      fewer = omega arith;
-      same = refl;
+      goes_on =
+          goes_taken read digits (parse_digits c.digits_in-value.result.0) _ _ _ _ first
+          c.consume.ensures.bytes (rw c.window.ensures at c.digits_in-value.ensures.digits);
+      small = c.digits_in-value.ensures.small;
+      fewer = c.consume.ensures.fewer;
+      same = c.consume.ensures.same;
     }
 
 pub returns-then-not-is_ascii_digit-2-clause-exact :
