@@ -11,7 +11,7 @@ use Rattle.aig_parsing.proofs.TooManyAt.{too_many_exact}
 use Rattle.aig_parsing.specs.Parse.{◌>>=◌, Parts, file_from, too_many_at}
 use Rattle.aig_parsing.specs.ParseTested.{parse_fitting, parse_fitting_body, parse_fitting_header, parse_fitting_sections}
 use Rattle.aig_circuit.specs.declared.view.CircuitLists.{CircuitLists}
-use Rattle.aig_reader.specs.Names.{tail_of}
+use Rattle.aig_symbols.specs.Names.{tail_of}
 use Rattle.aig_reader.specs.declared.error.ReadError.{ReadError}
 use Rattle.aig_reader.specs.declared.error.ReadError.TheVariants as errors
 use Rattle.aig_reader.specs.Faults.{IsSectionFault, ReadUnlessTransient}

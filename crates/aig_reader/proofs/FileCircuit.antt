@@ -26,7 +26,7 @@ use Rattle.aig_format.proofs.Numbers.{node_of_variable-compact, node_of_variable
 use Rattle.aig_format.proofs.Compact.{compact-told}
 use Rattle.aig_format.proofs.Searches.{find_some}
 use Rattle.aig_ordering.specs.Lists.{edge_from, kind_of_line, kind_among, latch_of_line, nodes_in_row, nodes_of_variables, variable_of_literal}
-use Rattle.aig_reader.specs.Names.{kept_name, kept_names}
+use Rattle.aig_symbols.specs.Names.{kept_name, kept_names}
 use Rattle.aig_reader.specs.declared.sections.Sections.{Sections}
 use Rattle.aig_reader.specs.Numbered.{IsCircuitOf}
 use Rattle.aig_reader.specs.Sections.{AreListsByVariable, HasGoodLines, circuit_with}

@@ -18,15 +18,5 @@ pub mod FileCircuit
 pub mod Steps
 pub mod ReadNames
 pub mod ReadLeaves
-pub mod Texts
-pub mod Positions
-pub mod NamedSections
-pub mod Starts
-pub mod Kept
-pub mod NameLines
-pub mod Tails
-pub mod KeptNames
-pub mod NameFaults
-pub mod SoFar
 pub mod Reading
 mod Refuted

@@ -3,10 +3,10 @@ use Rattle.std.proofs.Common.{◌≡◌, ◌≢◌, ℕ, List, [], Option, Some,
 use Rattle.std.specs.Io.KnownBytes.{Consumes}
 use Rattle.aig_format.specs.File.{HeaderNumbers}
 use Rattle.aig_parsing.specs.ParseTested.{parse_fitting_tail}
-use Rattle.aig_reader.specs.declared.names.error.NameError.{NameError}
-use Rattle.aig_reader.specs.declared.names.error.NameError.TheVariants as name
-use Rattle.aig_reader.specs.NameFaults.{NameUnlessTransient}
-use Rattle.aig_reader.specs.Names.{EndsWith, tail_of}
+use Rattle.aig_symbols.specs.declared.names.error.NameError.{NameError}
+use Rattle.aig_symbols.specs.declared.names.error.NameError.TheVariants as name
+use Rattle.aig_symbols.specs.NameFaults.{NameUnlessTransient}
+use Rattle.aig_symbols.specs.Names.{EndsWith, tail_of}
 use Rattle.aig_reader.specs.declared.error.ReadError.{ReadError}
 use Rattle.aig_reader.specs.declared.error.ReadError.TheVariants as errors
 use Rattle.aig_reader.specs.Faults.{ReadUnlessTransient, name_error_of, result_by}

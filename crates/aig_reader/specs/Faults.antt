@@ -5,8 +5,8 @@ use Rattle.aig_format.specs.declared.FileKind.{FileKind}
 use Rattle.aig_format.specs.declared.FileKind.TheVariants.{Text, Binary}
 use Rattle.aig_ordering.specs.declared.error.OrderError.{OrderError}
 use Rattle.aig_ordering.specs.declared.error.OrderError.TheVariants as order
-use Rattle.aig_reader.specs.declared.names.error.NameError.{NameError}
-use Rattle.aig_reader.specs.declared.names.error.NameError.TheVariants as name
+use Rattle.aig_symbols.specs.declared.names.error.NameError.{NameError}
+use Rattle.aig_symbols.specs.declared.names.error.NameError.TheVariants as name
 use Rattle.aig_reader.specs.declared.error.Section.{Section}
 use Rattle.aig_reader.specs.declared.error.Section.TheVariants as sections
 use Rattle.aig_lexer.specs.declared.error.LexError.{LexError}

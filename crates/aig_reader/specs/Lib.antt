@@ -7,7 +7,3 @@ pub mod Gates
 pub mod Properties
 pub mod Sections
 pub mod Numbered
-pub mod NameFaults
-pub mod Names
-pub mod NamedSections
-pub mod NameSteps

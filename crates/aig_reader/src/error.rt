@@ -5,10 +5,10 @@ ghost use Rattle.aig_reader.specs.Faults.{error_in, gate_error_in, header_error_
 ghost use Rattle.aig_reader.specs.declared.error.LineError.TheVariants as line;
 ghost use Rattle.aig_reader.specs.declared.error.ReadError.TheVariants as errors;
 
-use crate::names::NameError;
 use aig_base::StreamFault;
 use aig_lexer::{FileKind, LexError};
 use aig_ordering::OrderError;
+use aig_symbols::NameError;
 use std::alloc::{AllocError, AllocFailed};
 use std::fmt;
 use thiserror::Error;

@@ -11,7 +11,6 @@ mod inputs;
 mod justice;
 mod latches;
 mod lines;
-mod names;
 mod nodes;
 mod numbering;
 mod properties;

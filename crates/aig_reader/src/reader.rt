@@ -15,11 +15,11 @@ ghost use Rattle.aig_reader.specs.Sections.{file_by};
 use crate::error::{ReadError, names_result};
 use crate::header::read_header;
 use crate::lines::read_lines;
-use crate::names::read_names;
 use crate::sections::Sections;
 use aig_base::Source;
 use aig_circuit::CircuitLists;
 use aig_lexer::{Buffered, ByteFeed, Header, WINDOW_SIZE};
+use aig_symbols::read_names;
 use std::alloc::Global;
 
 /// Reads a file in the AIGER format, text or binary (AIGER format 20071012, with the resets and properties of AIGER 1.9).

@@ -1,0 +1,163 @@
+-- The names that are kept, and the places that are taken, name by name.
+use Rattle.std.proofs.Common.{◌≡◌, ◌≢◌, ℕ, ◌+◌, ◌<◌, ◌⊎◌, inl, inr, Bool, true, false, ◌&&◌, ◌||◌, cond, eqb, List, [], ◌∷◌, ◌++◌, length, get_or, AllPairs, Option, Some, None, nat_cmp, nat_eq, refl, sym, ap, subst, ◌∙◌, append-nil, arith}
+use Rattle.std.specs.Prelude.{is_some, option_map, filter_map, slice_index}
+use Rattle.std.specs.List.{AllByRecursion, cons_option}
+use Rattle.std.specs.FinMap.{find, from_entries, from_entries_push, nat_cmp-IsAntisymmetric}
+use Rattle.std.proofs.lemmas.Cmp.{nat_cmp_total}
+use Rattle.std.proofs.lemmas.Bool.{eqb-true, ne_eqb, or_parts}
+use Rattle.std.proofs.lemmas.Bool.Decides.{nat_tests}
+use Rattle.std.proofs.lemmas.List.{length-append, get_or_append_left, get_or-append-add}
+use Rattle.std.proofs.lemmas.List.Elements.{filter_map-append}
+use Rattle.std.proofs.lemmas.List.Folds.{list_any-append}
+use denote.Enum.Bare.{sameb}
+use Rattle.aig_base.proofs.Mapping.{same_test}
+use Rattle.aig_format.specs.File.{NameLine, HeaderNumbers}
+use Rattle.aig_format.specs.Fits.{same_place}
+use Rattle.aig_format.specs.Letters.{count_of, is_kept}
+use Rattle.aig_symbols.specs.contracts.names.section.NamedSection.{the_type}
+use Rattle.aig_symbols.specs.declared.names.place.Place.{Place}
+use Rattle.aig_symbols.specs.Names.{kept_name, kept_names}
+use Rattle.aig_symbols.specs.NamedSections.{letter_of_section}
+use Rattle.aig_symbols.specs.NameSteps.{node_at, with_name}
+use Rattle.aig_symbols.proofs.NameLines.{name_line, is_taken}
+use Rattle.aig_symbols.proofs.NamedSections.{same_letters}
+
+-- ---- places
+
+-- whether two places are one
+abbrev pub same_spot : Place → Place → Bool
+same_spot a b = sameb the_type a.section b.section && nat_eq a.position b.position
+
+or_last : (x y : Bool) → cond x true y ≡ (y || (x || false))
+or_last true true = refl
+or_last true false = refl
+or_last false true = refl
+or_last false false = refl
+
+-- one more place is taken
+pub taken_more : (names : List NameLine) (place q : Place) (name : List ℕ) → cond (same_spot place q) true (is_taken names (letter_of_section q.section) q.position) ≡ is_taken (names ++ name_line (letter_of_section place.section) place.position name ∷ []) (letter_of_section q.section) q.position
+taken_more names place q name =
+    let line = name_line (letter_of_section place.section) place.position name in
+    let wanted = name_line (letter_of_section q.section) q.position [] in
+    let taken = is_taken names (letter_of_section q.section) q.position in
+    ap (λ t. cond (t && nat_eq place.position q.position) true taken) (same_letters place.section q.section) ∙ or_last (same_place line wanted) taken
+    ∙ sym (list_any-append (λ m. same_place m wanted) names (line ∷ []))
+
+-- ---- positions
+
+-- the name stands within its section
+abbrev pub IsWithin : HeaderNumbers → NameLine → Type 0
+IsWithin ns n = n.position < count_of ns n.letter
+
+pub within_more : (ns : HeaderNumbers) (names : List NameLine) (n : NameLine) → AllByRecursion (IsWithin ns) names → IsWithin ns n → AllByRecursion (IsWithin ns) (names ++ n ∷ [])
+within_more ns [] n h k = (k, tt)
+within_more ns (m ∷ names) n h k = (h.0, within_more ns names n h.1 k)
+
+-- ---- nodes
+
+-- only names of inputs and latches have nodes
+pub node_is_kept : (inputs leaves : List ℕ) (l n : ℕ) → is_some (node_at inputs leaves l n) ≡ is_kept l
+node_is_kept inputs leaves l n = go (eqb l 105) (eqb l 108)
+  where
+    go : (i j : Bool) → is_some (cond i (Some (slice_index inputs n)) (cond j (Some (slice_index leaves n)) None)) ≡ (i || j)
+    go true j = refl
+    go false true = refl
+    go false false = refl
+
+abbrev entry : List ℕ → ℕ → ℕ × List ℕ
+entry name node = (node, name)
+
+-- a name is kept under its node
+kept_by_node : (inputs leaves : List ℕ) (l n : ℕ) (name : List ℕ) → kept_name inputs leaves (name_line l n name) ≡ option_map (entry name) (node_at inputs leaves l n)
+kept_by_node inputs leaves l n name = go (eqb l 105) (eqb l 108)
+  where
+    go : (i j : Bool) → cond i (Some (entry name (slice_index inputs n))) (cond j (Some (entry name (slice_index leaves n))) None)
+        ≡ option_map (entry name) (cond i (Some (slice_index inputs n)) (cond j (Some (slice_index leaves n)) None))
+    go true j = refl
+    go false true = refl
+    go false false = refl
+
+module _ (ns : HeaderNumbers) (inputs leaves : List ℕ) (all_inputs : length inputs ≡ ns.inputs) (all_leaves : length leaves ≡ ns.latches) (distinct : AllPairs (λ m n. m ≢ n) (inputs ++ leaves)) where
+  -- where the node of a place stands among all nodes of inputs and latches
+  record Stands (l n node : ℕ) : Type 0 where
+    at : ℕ
+    inside : at < length (inputs ++ leaves)
+    is : get_or (inputs ++ leaves) at 0 ≡ node
+    place : ((l ≡ 105) × (at ≡ n) × (n < length inputs)) ⊎ ((l ≡ 108) × (at ≡ length inputs + n))
+
+  stands : (l n node : ℕ) → node_at inputs leaves l n ≡ Some node → n < count_of ns l → Stands l n node
+  stands l n node e lt = go (eqb l 105) (eqb l 108) refl refl e
+    where
+      within : (m : ℕ) → l ≡ m → n < count_of ns m
+      within m is = subst (λ k. n < count_of ns k) is lt
+
+      go : (i j : Bool) → eqb l 105 ≡ i → eqb l 108 ≡ j → cond i (Some (slice_index inputs n)) (cond j (Some (slice_index leaves n)) None) ≡ Some node → Stands l n node
+      go true j is _ e =
+          let small : n < ns.inputs = within 105 (eqb-true l 105 is) in
+          let inside : n < length inputs = omega arith in
+          record {
+            at = n;
+            inside = omega (arith, length-append inputs leaves);
+            is = get_or_append_left inputs leaves 0 n inside ∙ cc;
+            place = inl (eqb-true l 105 is, refl, inside);
+          }
+      go false true _ is e =
+          let small : n < ns.latches = within 108 (eqb-true l 108 is) in
+          record {
+            at = length inputs + n;
+            inside = omega (arith, length-append inputs leaves);
+            is = get_or-append-add inputs leaves n 0 ∙ cc;
+            place = inr (eqb-true l 108 is, refl);
+          }
+      go false false _ _ e = absurd cc
+
+  one_place : (l m i j s t : ℕ) → ((l ≡ 105) × (s ≡ i) × (i < length inputs)) ⊎ ((l ≡ 108) × (s ≡ length inputs + i)) → ((m ≡ 105) × (t ≡ j) × (j < length inputs)) ⊎ ((m ≡ 108) × (t ≡ length inputs + j)) → s ≡ t
+      → (l ≡ m) × (i ≡ j)
+  one_place l m i j s t (inl p) (inl q) e = (omega arith, omega arith)
+  one_place l m i j s t (inl p) (inr q) e = absurd (omega arith)
+  one_place l m i j s t (inr p) (inl q) e = absurd (omega arith)
+  one_place l m i j s t (inr p) (inr q) e = (omega arith, omega arith)
+
+  differ : (s t : ℕ) → s < length (inputs ++ leaves) → t < length (inputs ++ leaves) → get_or (inputs ++ leaves) s 0 ≡ get_or (inputs ++ leaves) t 0 → (s ≡ t → ⊥) → ⊥
+  differ s t a b e ne = elim (apart s t ne) [ inl lt ↦ distinct s t 0 lt b e | inr gt ↦ distinct t s 0 gt a (sym e) ]
+    where
+      apart : (s t : ℕ) → (s ≡ t → ⊥) → (s < t) ⊎ (t < s)
+      apart s t ne = grind arith
+
+  same_place_true : (l m i j : ℕ) (name other : List ℕ) → (l ≡ m) × (i ≡ j) → same_place (name_line l i name) (name_line m j other) ≡ true
+  same_place_true l m i j name other e = grind (arith, nat_tests)
+
+  -- different places have different nodes
+  nodes_apart : (l m i j a b : ℕ) → node_at inputs leaves l i ≡ Some a → node_at inputs leaves m j ≡ Some b → i < count_of ns l → j < count_of ns m → same_place (name_line l i []) (name_line m j []) ≡ false → b ≡ a → ⊥
+  nodes_apart l m i j a b e f lt gt ne same =
+      let s = stands l i a e lt in
+      let t = stands m j b f gt in
+      differ s.at t.at s.inside t.inside (s.is ∙ sym same ∙ sym t.is) (λ k. let yes = same_place_true l m i j [] [] (one_place l m i j s.at t.at s.place t.place k) in absurd cc)
+
+  no_entry : (node : ℕ) (o : Option ℕ) (name : List ℕ) (es : List (ℕ × List ℕ)) → ((k : ℕ) → o ≡ Some k → node ≡ k → ⊥) → find nat_cmp node es ≡ None → find nat_cmp node (cons_option (option_map (entry name) o) es) ≡ None
+  no_entry node None name es ne h = h
+  no_entry node (Some k) name es ne h = ap (λ t. cond t (Some name) (find nat_cmp node es)) (same_test node k ∙ ne_eqb node k (ne k refl)) ∙ h
+
+  -- a node whose place is not taken has no name yet
+  fresh : (names : List NameLine) (l n node : ℕ) → AllByRecursion (IsWithin ns) names → node_at inputs leaves l n ≡ Some node → n < count_of ns l → is_taken names l n ≡ false → find nat_cmp node (filter_map (kept_name inputs leaves) names) ≡ None
+  fresh [] l n node all e lt free = refl
+  fresh (m ∷ names) l n node all e lt free =
+      let parts = or_parts (same_place m (name_line l n [])) (is_taken names l n) free in
+      ap (λ o. find nat_cmp node (cons_option o (filter_map (kept_name inputs leaves) names))) (kept_by_node inputs leaves m.letter m.position m.name)
+      ∙ no_entry node (node_at inputs leaves m.letter m.position) m.name (filter_map (kept_name inputs leaves) names)
+      (λ k f. nodes_apart m.letter l m.position n k node f e all.0 lt parts.0)
+      (fresh names l n node all.1 e lt parts.1)
+
+  pushed : (o : Option ℕ) (name : List ℕ) (es : List (ℕ × List ℕ)) → ((k : ℕ) → o ≡ Some k → find nat_cmp k es ≡ None)
+      → with_name o name (from_entries {R = nat_cmp} es) ≡ from_entries (es ++ cons_option (option_map (entry name) o) [])
+  pushed None name es h = ap (λ (fs : List (ℕ × List ℕ)). from_entries {R = nat_cmp} fs) (sym (append-nil es))
+  pushed (Some k) name es h = sym (from_entries_push nat_cmp_total nat_cmp-IsAntisymmetric es k name (h k refl))
+
+  -- one more name
+  pub kept_more : (names : List NameLine) (l n : ℕ) (name : List ℕ) → AllByRecursion (IsWithin ns) names → n < count_of ns l → is_taken names l n ≡ false
+      → with_name (node_at inputs leaves l n) name (kept_names inputs leaves names) ≡ kept_names inputs leaves (names ++ name_line l n name ∷ [])
+  kept_more names l n name all lt free =
+      let es = filter_map (kept_name inputs leaves) names in
+      pushed (node_at inputs leaves l n) name es (λ k e. fresh names l n k all e lt free)
+      ∙ ap (λ o. from_entries {R = nat_cmp} (es ++ cons_option o [])) (sym (kept_by_node inputs leaves l n name))
+      ∙ ap (λ (fs : List (ℕ × List ℕ)). from_entries {R = nat_cmp} fs) (sym (filter_map-append (kept_name inputs leaves) names (name_line l n name ∷ [])))

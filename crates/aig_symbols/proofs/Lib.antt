@@ -1,0 +1,10 @@
+pub mod Texts
+pub mod Positions
+pub mod NamedSections
+pub mod Starts
+pub mod Kept
+pub mod NameLines
+pub mod Tails
+pub mod KeptNames
+pub mod NameFaults
+pub mod SoFar

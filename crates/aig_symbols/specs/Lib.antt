@@ -1,0 +1,4 @@
+pub mod NameFaults
+pub mod Names
+pub mod NamedSections
+pub mod NameSteps

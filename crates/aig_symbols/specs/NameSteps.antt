@@ -1,0 +1,44 @@
+-- Serves private clauses alone.
+-- The steps of reading names.
+use Rattle.std.specs.Prelude.{◌≡◌, ℕ, ◌==◌, if◌then◌else◌, true, false, List, [], ◌∷◌, slice_index, Option, Some, None, IfSome, Result, Ok, Err}
+use Rattle.std.specs.Io.KnownBytes.{Consumes}
+use Rattle.std.specs.Ordering.{nat_cmp}
+use Rattle.std.specs.FinMap.{FinMap, insert}
+use Rattle.aig_format.specs.Letters.{letter_of_inputs, letter_of_latches}
+use Rattle.aig_parsing.specs.Parse.{is_comment, parse_name, parse_ended}
+use Rattle.aig_lexer.specs.declared.error.LexError.{LexError}
+use Rattle.aig_lexer.specs.Faults.{LexUnlessTransient}
+use Rattle.aig_symbols.specs.declared.names.section.NamedSection.{NamedSection}
+use Rattle.aig_symbols.specs.NamedSections.{letter_of_section}
+
+-- neither a comment nor a name
+pub record IsNoTail (bytes : List ℕ) : Type 0 where
+  pub no_comment : is_comment bytes ≡ false
+  pub no_name : parse_name bytes ≡ None
+
+-- a comment that went to the end was taken, or of what is none a section's letter and the byte
+-- after it, or the bytes are neither comment nor name
+abbrev pub NameStarts : Option (List ℕ) → Option (List ℕ)
+    → Result (Option (NamedSection × ℕ)) LexError → Type 0
+NameStarts before after (Ok None) =
+    (taken : List ℕ) × (is_comment taken ≡ true) × Consumes before after taken
+NameStarts before after (Ok (Some x)) =
+    let start = letter_of_section x.0 ∷ x.1 ∷ [] in
+    (is_comment start ≡ false) × Consumes before after start
+NameStarts before after (Err e) = LexUnlessTransient e (IfSome before IsNoTail)
+
+-- a number that a space ends, whose first byte came before
+abbrev pub parse_position : ℕ → List ℕ → Option (ℕ × List ℕ)
+parse_position first bytes = parse_ended 32 (first ∷ bytes)
+
+-- the node at a position of inputs or latches
+abbrev pub node_at : List ℕ → List ℕ → ℕ → ℕ → Option ℕ
+node_at inputs leaves letter position =
+    if letter == letter_of_inputs then Some (slice_index inputs position)
+    else if letter == letter_of_latches then Some (slice_index leaves position)
+    else None
+
+-- the names, with this one for the node if there is one
+abbrev pub with_name : Option ℕ → List ℕ → FinMap nat_cmp (List ℕ) → FinMap nat_cmp (List ℕ)
+with_name None name names = names
+with_name (Some node) name names = insert names node name
