@@ -29,16 +29,17 @@ and_of a i b j = And (edge_to a i) (edge_to b j)
 -- a circuit of these nodes, inputs, latches, bads and constraints
 abbrev circuit_with : List AigNode → List ℕ → List AigLatch → List AigEdge → List AigEdge → Circuit
 circuit_with nodes inputs latchs bads constraints =
-    record
-      { nodes = nodes;
-        inputs = inputs;
-        latchs = latchs;
-        outputs = [];
-        bads = bads;
-        constraints = constraints;
-        justice = [];
-        fairness = [];
-        names = empty }
+    record {
+      nodes = nodes;
+      inputs = inputs;
+      latchs = latchs;
+      outputs = [];
+      bads = bads;
+      constraints = constraints;
+      justice = [];
+      fairness = [];
+      names = empty;
+    }
 
 -- ---- merging
 
@@ -46,15 +47,15 @@ circuit_with nodes inputs latchs bads constraints =
 abbrev started_by_input : Circuit
 started_by_input =
     circuit_with (node 0 False ∷ node 1 Leaf ∷ node 2 Leaf ∷ []) (1 ∷ [])
-      (record { input = 2; next = edge_to 2 false; init = Some (edge_to 1 false) } ∷ []) [] []
+    (record { input = 2; next = edge_to 2 false; init = Some (edge_to 1 false) } ∷ []) [] []
 
 -- the second copy's latch starts by the first copy's input
 abbrev not_mapped : Circuit
 not_mapped =
     circuit_with (node 0 False ∷ node 1 Leaf ∷ node 2 Leaf ∷ node 3 Leaf ∷ node 4 Leaf ∷ [])
-      (1 ∷ 3 ∷ [])
-      (record { input = 2; next = edge_to 2 false; init = Some (edge_to 1 false) }
-        ∷ record { input = 4; next = edge_to 4 false; init = Some (edge_to 1 false) } ∷ []) [] []
+    (1 ∷ 3 ∷ [])
+    (record { input = 2; next = edge_to 2 false; init = Some (edge_to 1 false) }
+    ∷ record { input = 4; next = edge_to 4 false; init = Some (edge_to 1 false) } ∷ []) [] []
 
 -- the node of the second latch's initial edge
 abbrev second_start : Circuit → ℕ
@@ -76,7 +77,7 @@ one_leaf = node 0 False ∷ node 1 Leaf ∷ []
 abbrev with_properties : Circuit
 with_properties =
     record (circuit_with one_leaf (1 ∷ []) [] [] [])
-      { outputs = edge_to 1 false ∷ []; justice = (edge_to 1 false ∷ []) ∷ [] }
+    { outputs = edge_to 1 false ∷ []; justice = (edge_to 1 false ∷ []) ∷ [] }
 
 not_without_justice : (new : Circuit) → new.justice ≡ [] → ¬ FoldsConstraints with_properties new
 not_without_justice new none m =
@@ -110,11 +111,11 @@ not_unfolded new count m =
     let first = m.rule.2 in
     let second = m.rule.3.2 in
     let one =
-      folded one_leaf m.rule.0 (edge_to 0 true) (edge_to 1 true) m.rule.1 (edge_to 1 true)
-      (true_first refl refl) first in
+    folded one_leaf m.rule.0 (edge_to 0 true) (edge_to 1 true) m.rule.1 (edge_to 1 true)
+    (true_first refl refl) first in
     let two =
-      folded m.rule.0 m.rule.3.0 m.rule.1 (edge_to 0 false) m.rule.3.1 (edge_to 0 false)
-      (false_second refl refl) second in
+    folded m.rule.0 m.rule.3.0 m.rule.1 (edge_to 0 false) m.rule.3.1 (edge_to 0 false)
+    (false_second refl refl) second in
     let all : new.nodes ≡ one_leaf = m.rule.3.3.0 ∙ two.1 ∙ one.1 in
     let n : ◌≡◌ {A = ℕ} 3 2 = sym count ∙ ap length all in absurd (omega arith)
 
@@ -127,10 +128,10 @@ not_unfolded_next : (new : Circuit) → length new.nodes ≡ 4 → ¬ FoldsConst
 not_unfolded_next new count m =
     let s = m.steps.4 in
     let next =
-      folded m.steps.0 m.steps.1 (edge_to 2 false) m.steps.3 m.next (edge_to 2 false)
-      (true_second s.joins_rule.1 refl) s.rule in
+    folded m.steps.0 m.steps.1 (edge_to 2 false) m.steps.3 m.next (edge_to 2 false)
+    (true_second s.joins_rule.1 refl) s.rule in
     let all : new.nodes ≡ with_node one_leaf Leaf =
-      s.joins_outputs.none refl ∙ s.joins_bads.none refl ∙ next.1 ∙ s.joins_rule.0 in
+    s.joins_outputs.none refl ∙ s.joins_bads.none refl ∙ next.1 ∙ s.joins_rule.0 in
     let n : ◌≡◌ {A = ℕ} 4 3 = sym count ∙ ap length all in absurd (omega arith)
 
 -- latch 1 with itself as its initial edge: their equality folds to true, and so does what it
@@ -138,7 +139,7 @@ not_unfolded_next new count m =
 abbrev started_by_itself : Circuit
 started_by_itself =
     circuit_with one_leaf []
-      (record { input = 1; next = edge_to 1 false; init = Some (edge_to 1 false) } ∷ []) [] []
+    (record { input = 1; next = edge_to 1 false; init = Some (edge_to 1 false) } ∷ []) [] []
 
 and_of_same : (i : Bool) (e : AigEdge) → Folds (edge_to 1 i) (edge_to 1 i) e → e ≡ edge_to 1 i
 and_of_same i e (true_first a is) = is
@@ -170,20 +171,20 @@ equal_to_itself : (old new : List AigNode) (e : AigEdge)
     → (inverse e ≡ edge_to 0 false) × (new ≡ old)
 equal_to_itself old new e q =
     let both =
-      folded old q.one (edge_to 1 false) (edge_to 1 false) q.both (edge_to 1 false) (same refl refl)
-      q.is_both in
+    folded old q.one (edge_to 1 false) (edge_to 1 false) q.both (edge_to 1 false) (same refl refl)
+    q.is_both in
     let neither =
-      folded q.one q.two (edge_to 1 true) (edge_to 1 true) q.neither (edge_to 1 true)
-      (same refl refl) q.is_neither in
+    folded q.one q.two (edge_to 1 true) (edge_to 1 true) q.neither (edge_to 1 true)
+    (same refl refl) q.is_neither in
     let first : inverse q.both ≡ edge_to 1 true = ap inverse (and_of_same false q.both both.0) in
     let second : inverse q.neither ≡ edge_to 1 false =
-      ap inverse (and_of_same true q.neither neither.0) in
+    ap inverse (and_of_same true q.neither neither.0) in
     let step =
-      subst (λ b. FoldsOrAdds q.two new (edge_to 1 true) b (inverse e)) second
-      (subst (λ a. FoldsOrAdds q.two new a (inverse q.neither) (inverse e)) first q.is_either) in
+    subst (λ b. FoldsOrAdds q.two new (edge_to 1 true) b (inverse e)) second
+    (subst (λ a. FoldsOrAdds q.two new a (inverse q.neither) (inverse e)) first q.is_either) in
     let either =
-      folded q.two new (edge_to 1 true) (edge_to 1 false) (inverse e) (edge_to 0 false)
-      (opposite refl refl) step in
+    folded q.two new (edge_to 1 true) (edge_to 1 false) (inverse e) (edge_to 0 false)
+    (opposite refl refl) step in
     (and_of_opposite (inverse e) either.0, either.1 ∙ neither.1 ∙ both.1)
 
 not_unfolded_start : (new : Circuit) → length new.nodes ≡ 4
@@ -193,23 +194,23 @@ not_unfolded_start new count m = by m.constrained (m.steps variable)
     variable : ¬ All HasConstantInit started_by_itself.latchs
     variable all =
         let e : ◌≡◌ {A = ℕ} 1 0 =
-          all 0 (record { input = 0; next = edge_to 0 false; init = None }) (omega arith) in
+        all 0 (record { input = 0; next = edge_to 0 false; init = None }) (omega arith) in
         absurd (omega arith)
 
     by : (constrained : List AigEdge)
         → SayInSteps (with_node one_leaf Leaf) (edge_to 2 false) constrained
-          started_by_itself.latchs new.nodes → ⊥
+        started_by_itself.latchs new.nodes → ⊥
     by [] steps = steps
     by (e ∷ []) steps =
         let s = steps.1 in
         let start : ◌≡◌ {A = AigEdge} (edge_to 1 false) s.start = cc in
         let equal =
-          equal_to_itself (with_node one_leaf Leaf) s.mid s.equal
-          (subst (λ b. FoldsOrAddsEq (with_node one_leaf Leaf) s.mid (edge_to 1 false) b s.equal)
-            (sym start) s.compares) in
+        equal_to_itself (with_node one_leaf Leaf) s.mid s.equal
+        (subst (λ b. FoldsOrAddsEq (with_node one_leaf Leaf) s.mid (edge_to 1 false) b s.equal)
+        (sym start) s.compares) in
         let implied =
-          folded s.mid steps.0 (edge_to 2 false) (inverse s.equal) (inverse e) (edge_to 0 false)
-          (false_second equal.0 refl) s.implies in
+        folded s.mid steps.0 (edge_to 2 false) (inverse s.equal) (inverse e) (edge_to 0 false)
+        (false_second equal.0 refl) s.implies in
         let all : new.nodes ≡ with_node one_leaf Leaf = steps.2 ∙ implied.1 ∙ equal.1 in
         let n : ◌≡◌ {A = ℕ} 4 3 = sym count ∙ ap length all in absurd (omega arith)
     by (e ∷ f ∷ more) steps = steps.2
@@ -224,7 +225,7 @@ always_bad = circuit_with one_leaf (1 ∷ []) [] (edge_to 0 true ∷ []) (edge_t
 abbrev present_alone : Circuit
 present_alone =
     circuit_with (node 0 False ∷ node 1 Leaf ∷ node 2 Leaf ∷ node 3 (and_of 1 false 2 false) ∷ [])
-      (1 ∷ []) (constraints_held_latch 2 (edge_to 3 false) ∷ []) (edge_to 1 false ∷ []) []
+    (1 ∷ []) (constraints_held_latch 2 (edge_to 3 false) ∷ []) (edge_to 1 false ∷ []) []
 
 -- input 1 from step 1 on, and the latch at step 0
 abbrev fails_once : ℕ → ℕ → Bool
@@ -234,8 +235,8 @@ not_present_alone : ¬ FoldsConstraints always_bad present_alone
 unfolding node_value tree_of
 not_present_alone m =
     let says =
-      m.bads.first 1 fails_once from_start 1 (edge_to 0 true) (edge_to 1 false) (omega arith) refl
-      refl in
+    m.bads.first 1 fails_once from_start 1 (edge_to 0 true) (edge_to 1 false) (omega arith) refl
+    refl in
     let held = (says.0 refl).1 0 (omega arith) 0 (edge_to 1 false) (omega arith) in false≢true held
   where
     from_start : IsRunFromInitial present_alone 1 fails_once
@@ -257,11 +258,11 @@ not_present_alone m =
 abbrev always_equal : Circuit
 always_equal =
     circuit_with
-      (node 0 False ∷ node 1 Leaf ∷ node 2 Leaf ∷ node 3 Leaf ∷ node 4 (and_of 1 false 2 false)
-        ∷ node 5 (and_of 1 true 2 true) ∷ node 6 (and_of 4 true 5 true) ∷ []) (1 ∷ [])
-      (record { input = 2; next = edge_to 2 false; init = None }
-        ∷ record { input = 3; next = edge_to 0 false; init = Some (edge_to 0 true) } ∷ []) []
-      (edge_to 6 true ∷ [])
+    (node 0 False ∷ node 1 Leaf ∷ node 2 Leaf ∷ node 3 Leaf ∷ node 4 (and_of 1 false 2 false)
+    ∷ node 5 (and_of 1 true 2 true) ∷ node 6 (and_of 4 true 5 true) ∷ []) (1 ∷ [])
+    (record { input = 2; next = edge_to 2 false; init = None }
+    ∷ record { input = 3; next = edge_to 0 false; init = Some (edge_to 0 true) } ∷ []) []
+    (edge_to 6 true ∷ [])
 
 -- input 1 alone
 abbrev one_alone : ℕ → Bool
@@ -271,16 +272,16 @@ not_always_equal : ¬ ConstrainsInits started_by_input always_equal
 unfolding node_value tree_of
 not_always_equal m =
     let each =
-      subst
-      (λ constrained. AllZip
-        (ImpliesInit (with_node started_by_input.nodes Leaf) always_equal.nodes (edge_to 3 false))
-        constrained started_by_input.latchs) (sym m.constraints) (m.each variable) in
+    subst
+    (λ constrained. AllZip
+    (ImpliesInit (with_node started_by_input.nodes Leaf) always_equal.nodes (edge_to 3 false))
+    constrained started_by_input.latchs) (sym m.constraints) (m.each variable) in
     let says : false ≡ true =
-      (each.0 one_alone).1 (λ (not_first : false ≡ true). absurd (false≢true not_first)) in
+    (each.0 one_alone).1 (λ (not_first : false ≡ true). absurd (false≢true not_first)) in
     false≢true says
   where
     variable : ¬ All HasConstantInit started_by_input.latchs
     variable all =
         let e : ◌≡◌ {A = ℕ} 1 0 =
-          all 0 (record { input = 0; next = edge_to 0 false; init = None }) (omega arith) in
+        all 0 (record { input = 0; next = edge_to 0 false; init = None }) (omega arith) in
         absurd (omega arith)

@@ -12,18 +12,19 @@ use Rattle.aig_encode.specs.Encoding.{AnswersExactly}
 -- a text file of these sections alone
 abbrev file_with : ℕ → List ℕ → List LatchLine → List ℕ → List GateLine → File
 file_with greatest inputs latches outputs gates =
-    record
-      { kind = Text;
-        greatest = greatest;
-        inputs = inputs;
-        latches = latches;
-        outputs = outputs;
-        gates = gates;
-        bads = [];
-        constraints = [];
-        justice = [];
-        fairness = [];
-        names = [] }
+    record {
+      kind = Text;
+      greatest = greatest;
+      inputs = inputs;
+      latches = latches;
+      outputs = outputs;
+      gates = gates;
+      bads = [];
+      constraints = [];
+      justice = [];
+      fairness = [];
+      names = [];
+    }
 
 -- a latch that toggles: its steps add no node
 abbrev toggle : File
@@ -44,7 +45,7 @@ no_refusal_above_0 Means k bytes accepts answers =
 abbrev folding : File
 folding =
     file_with 3 (2 ∷ []) (record { literal = 4; next = 1; reset = None } ∷ []) (6 ∷ [])
-      (record { lhs = 6; rhs0 = 4; rhs1 = 2 } ∷ [])
+    (record { lhs = 6; rhs0 = 4; rhs1 = 2 } ∷ [])
 
 folding-size : unrolled_size (circuit_of folding) 1 ≡ 6
 unfolding node_of_variable variables_in_order

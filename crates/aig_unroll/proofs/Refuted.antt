@@ -21,16 +21,17 @@ node n kind = record { node_id = n; typ = kind }
 
 abbrev circuit_with : List AigNode → List ℕ → List AigLatch → List AigEdge → Circuit
 circuit_with nodes inputs latchs outputs =
-    record
-      { nodes = nodes;
-        inputs = inputs;
-        latchs = latchs;
-        outputs = outputs;
-        bads = [];
-        constraints = [];
-        justice = [];
-        fairness = [];
-        names = empty }
+    record {
+      nodes = nodes;
+      inputs = inputs;
+      latchs = latchs;
+      outputs = outputs;
+      bads = [];
+      constraints = [];
+      justice = [];
+      fairness = [];
+      names = empty;
+    }
 
 abbrev latch_to : ℕ → AigEdge → AigLatch
 latch_to leaf next = record { input = leaf; next = next; init = None }
@@ -39,14 +40,14 @@ latch_to leaf next = record { input = leaf; next = next; init = None }
 abbrev swap : Circuit
 swap =
     circuit_with (node 0 False ∷ node 1 Leaf ∷ node 2 Leaf ∷ []) []
-      (latch_to 1 (edge_to 2 false) ∷ latch_to 2 (edge_to 1 false) ∷ []) (edge_to 1 false ∷ [])
+    (latch_to 1 (edge_to 2 false) ∷ latch_to 2 (edge_to 1 false) ∷ []) (edge_to 1 false ∷ [])
 
 -- the second next edge is mapped through the first, which is replaced already
 abbrev swap_in_turn : Circuit
 swap_in_turn =
     circuit_with (node 0 False ∷ node 1 Leaf ∷ node 2 Leaf ∷ []) []
-      (latch_to 1 (edge_to 1 false) ∷ latch_to 2 (edge_to 1 false) ∷ [])
-      (edge_to 1 false ∷ edge_to 2 false ∷ [])
+    (latch_to 1 (edge_to 1 false) ∷ latch_to 2 (edge_to 1 false) ∷ [])
+    (edge_to 1 false ∷ edge_to 2 false ∷ [])
 
 abbrev first_alone : ℕ → Bool
 first_alone n = n == 1
@@ -72,7 +73,7 @@ no_swap_in_turn-to u =
     let state = s.state in
     let one : true ≡ r.0 1 1 = state.1.0 in
     let run : r.0 1 1 ≡ r.0 0 2 =
-      r.1 0 (omega arith) 0 (latch_to 1 (edge_to 0 false)) (omega arith) in
+    r.1 0 (omega arith) 0 (latch_to 1 (edge_to 0 false)) (omega arith) in
     let start : r.0 0 2 ≡ false = r.2.state 1 0 (omega arith) in
     false≢true (sym (one ∙ run ∙ start))
 
@@ -108,8 +109,8 @@ no_half_step same =
 abbrev folds_away : Circuit
 folds_away =
     circuit_with
-      (node 0 False ∷ node 1 Leaf ∷ node 2 (And (edge_to 0 false) (edge_to 1 false)) ∷ []) (1 ∷ [])
-      [] (edge_to 2 false ∷ [])
+    (node 0 False ∷ node 1 Leaf ∷ node 2 (And (edge_to 0 false) (edge_to 1 false)) ∷ []) (1 ∷ [])
+    [] (edge_to 2 false ∷ [])
 
 size_of_folded : unrolled_size folds_away 1 ≢ 4
 size_of_folded e = absurd (omega arith)
