@@ -6,6 +6,9 @@ window of k + 2 steps (`aigcheck window`). What the solver answers goes to `aigc
 the next question is asked: a proof that there is no solution, or a solution for a step, which is a run to a bad state. That run's
 first state and inputs are printed by their names. Once the steps 0 to k and a window are checked, no bad state is ever reached.
 
+No solver is asked about a step of which `aigcheck` takes the proof that is the empty clause alone, as it does where unit
+propagation finds that there is no solution. That is tried where k is 0 or a power of two, and after a step at which it did.
+
 SOLVER is given the names of a file in DIMACS form and of a file for its proof, in the text of LRAT or DRAT. It has to end with
 status 10 and print lines `s ..` and `v ..`, or with status 20.
 
@@ -29,6 +32,8 @@ import tempfile
 CRATES = os.path.join(os.path.dirname(os.path.dirname(os.path.realpath(__file__))), "crates")
 # How many proofs are checked at once, beside the next question.
 CHECKS = 2
+# What aigcheck says of a proof that doesn't follow.
+STEP = "aigcheck: proof step does not follow\n"
 PLAIN = re.compile(r"(?![ilb][0-9]+(:|$))[!#-<>-\[\]-~]+")
 
 
@@ -109,13 +114,17 @@ class Prover:
 
     def __init__(self, words, folder, checker):
         self.words, self.solver = words, words.solver or cadical()
-        self.checker, self.checking = checker, collections.deque()
-        self.file, self.clauses, self.solution = (os.path.join(folder, name) for name in ["file", "clauses.cnf", "solution"])
+        # Steps that unit propagation is tried on, and proofs that are being checked.
+        self.checker, self.tried, self.checking = checker, {}, collections.deque()
+        names = ["file", "clauses.cnf", "solution", "empty_clause"]
+        self.file, self.clauses, self.solution, self.empty_clause = (os.path.join(folder, name) for name in names)
         # The first is the solver's, and the others may be being checked.
         self.proofs = collections.deque(os.path.join(folder, f"proof{i}") for i in range(CHECKS + 1))
         # Every answer is about the same bytes.
         with open(words.file, "rb") as given, open(self.file, "wb") as out:
             shutil.copyfileobj(given, out)
+        with open(self.empty_clause, "w", encoding="ascii") as out:
+            out.write("0\n")
 
     def has_solution(self, program, command, k, *form):
         """Whether the clauses that a program prints have a solution, as the solver says."""
@@ -129,6 +138,25 @@ class Prover:
         """What aigcheck prints of a proof or of a solution."""
         return run([self.words.aigcheck, command, self.file, str(k), given, *form], [0])[0]
 
+    def refuted(self, k):
+        """What aigcheck prints of step k where unit propagation finds that no bad state is reached, and else nothing."""
+        words = [self.words.aigcheck, "refuted", self.file, str(k), self.empty_clause]
+        done = subprocess.run(words, capture_output=True, encoding="ascii")
+        if done.returncode != 0 and done.stderr != STEP:
+            raise Fault(f"{words[0]} ended with status {done.returncode}: {done.stderr.strip()}")
+        return done.stdout
+
+    def propagates(self, k, ahead):
+        """Whether unit propagation finds that no bad state is reached at step k, while so many steps further on are tried."""
+        for step in range(k, min(k + ahead, self.words.bound) + 1):
+            if step not in self.tried:
+                self.tried[step] = self.checker.submit(self.refuted, step)
+        printed = self.tried.pop(k).result()
+        if printed:
+            self.finish()
+            print(printed, end="", flush=True)
+        return printed != ""
+
     def check(self, command, k, *form):
         """Begins to check the proof, once there is room beside those that are being checked."""
         self.finish(CHECKS - 1)
@@ -140,17 +168,26 @@ class Prover:
         while len(self.checking) > left:
             print(self.checking.popleft().result(), end="", flush=True)
 
+    def reaches(self, k):
+        """Whether a bad state is reached at step k, which is shown then; else the check of the solver's proof begins."""
+        if not self.has_solution(self.words.aigtool, "query", k):
+            self.check("refuted", k)
+            return False
+        self.finish()
+        self.show(k, self.checked("witness", k, self.solution))
+        return True
+
     def prove(self):
         """Asks step by step, and gives the exit status."""
         form = ["distinct"] if self.words.distinct else []
+        propagates = False
         for k in range(self.words.bound + 1):
-            if self.has_solution(self.words.aigtool, "query", k):
-                self.finish()
-                self.show(k, self.checked("witness", k, self.solution))
+            is_power = k & (k - 1) == 0
+            propagates = (propagates or is_power) and self.propagates(k, CHECKS if propagates else 0)
+            if not propagates and self.reaches(k):
                 return 10
-            self.check("refuted", k)
             # Where windows of one length can't end badly, longer ones can't either.
-            if k & (k - 1) == 0 and not self.has_solution(self.words.aigcheck, "window", k, *form):
+            if is_power and not self.has_solution(self.words.aigcheck, "window", k, *form):
                 self.check("inductive", k, *form)
                 self.finish()
                 print("no bad state at any step")
