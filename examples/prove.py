@@ -152,10 +152,18 @@ class Prover:
             if step not in self.tried:
                 self.tried[step] = self.checker.submit(self.refuted, step)
         printed = self.tried.pop(k).result()
-        if printed:
-            self.finish()
-            print(printed, end="", flush=True)
-        return printed != ""
+        if not printed:
+            self.forget()
+            return False
+        self.finish()
+        print(printed, end="", flush=True)
+        return True
+
+    def forget(self):
+        """Gives up tries of further steps that didn't begin."""
+        for further in self.tried.values():
+            further.cancel()
+        self.tried.clear()
 
     def check(self, command, k, *form):
         """Begins to check the proof, once there is room beside those that are being checked."""
