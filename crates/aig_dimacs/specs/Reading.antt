@@ -47,9 +47,9 @@ clauses_from variables clause [] = none_behind clause
 clauses_from variables clause (word ∷ words) = do
   n ← signed_in word
   if n.1 == 0 then (clauses_from variables [] words >>= λ clauses. Some (clause ∷ clauses))
-  else if nat_le n.1 variables
+      else if nat_le n.1 variables
       then clauses_from variables (clause ++ lit_to (n.1 - 1) n.0 ∷ []) words
-  else None
+      else None
 
 -- the count of variables and the clauses of words: two counts come first, and there are as many
 -- clauses as the second says

@@ -77,8 +77,8 @@ parse_line zero bytes = None
 parse_line (suc k) bytes = do
   n ← parse_number bytes
   if n.0.1 == 10 then Some (n.0.0 ∷ [], n.1)
-  else if n.0.1 == 32 then (parse_line k n.1 >>= λ ns. Some (n.0.0 ∷ ns.0, ns.1))
-  else None
+      else if n.0.1 == 32 then (parse_line k n.1 >>= λ ns. Some (n.0.0 ∷ ns.0, ns.1))
+      else None
 
 -- what follows a text, if the bytes begin with it
 abbrev pub strip : List ℕ → List ℕ → Option (List ℕ)

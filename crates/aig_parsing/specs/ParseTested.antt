@@ -75,8 +75,8 @@ unfoldable pub parse_next_and_reset : List ℕ → Option ((ℕ × Option ℕ) �
 parse_next_and_reset bytes = do
   n ← parse_number bytes
   if n.0.1 == 10 then Some ((n.0.0, None), n.1)
-  else if n.0.1 == 32 then (parse_ended 10 n.1 >>= λ r. Some ((n.0.0, Some r.0), r.1))
-  else None
+      else if n.0.1 == 32 then (parse_ended 10 n.1 >>= λ r. Some ((n.0.0, Some r.0), r.1))
+      else None
 
 -- a latch of this literal
 abbrev pub latch_line_from : ℕ → ℕ × Option ℕ → LatchLine
