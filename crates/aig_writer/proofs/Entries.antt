@@ -16,7 +16,7 @@ use Rattle.aig_writer.specs.Parts.{text_of_name}
 
 -- ---- the lines of names
 
-pub name_pieces : (letter position : ℕ) (name : List ℕ) → name_text (record { letter = letter; position = position; name = name }) ≡ (letter ∷ (decimal position ++ 32 ∷ [])) ++ name ++ 10 ∷ []
+pub name_pieces : (letter position : ℕ) (name : List ℕ) → name_text (record { letter = letter; position = position; name = name }) ≡ (letter ∷ []) ++ decimal position ++ (32 ∷ []) ++ name ++ (10 ∷ [])
 name_pieces letter position name = simp append_assoc
 
 -- the text of a place and its node

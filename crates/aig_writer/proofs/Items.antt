@@ -13,7 +13,7 @@ use Rattle.aig_format.specs.declared.FileKind.{FileKind}
 use Rattle.aig_format.specs.Written.{line_text, lines_text, latch_text, gate_text}
 use Rattle.aig_format.specs.Circuit.{latch_line, gate_line}
 use Rattle.aig_writer.specs.Literals.{IsSmallEdge}
-use Rattle.aig_writer.specs.Parts.{edges_of_sets, literal_sets}
+use Rattle.aig_writer.specs.Parts.{edges_of_sets}
 use Rattle.aig_writer.specs.Numbering.{renumbered_node}
 use Rattle.aig_circuit.specs.Renumber.{renumbered_edge, renumbered_latch}
 
@@ -29,9 +29,6 @@ text_of_latch kind latch = latch_text kind (latch_line latch)
 abbrev pub size_line : Vec AigEdge Global → List ℕ
 size_line set = line_text (length set.items ∷ [])
 
-abbrev pub set_lines : Vec AigEdge Global → List ℕ
-set_lines set = lines_text (map literal_of set.items)
-
 abbrev pub text_of_gate : FileKind → AigNode → List ℕ
 text_of_gate kind node = flat_map (gate_text kind) (option_to_list (gate_line node))
 
@@ -46,14 +43,6 @@ latch_texts kind latchs = flat_map-map (latch_text kind) latch_line latchs
 
 pub len_is : (set : Vec AigEdge Global) → vec_len set ≡ length set.items
 len_is set = set.ok.0
-
-pub size_lines : (sets : List (Vec AigEdge Global)) → lines_text (map length (literal_sets sets)) ≡ flat_map size_line sets
-size_lines [] = refl
-size_lines (set ∷ sets) = ap (λ n. line_text (n ∷ []) ++ lines_text (map length (literal_sets sets))) (length-map set.items literal_of) ∙ ap (λ l. size_line set ++ l) (size_lines sets)
-
-pub sets_lines : (sets : List (Vec AigEdge Global)) → flat_map lines_text (literal_sets sets) ≡ flat_map set_lines sets
-sets_lines [] = refl
-sets_lines (set ∷ sets) = ap (λ l. set_lines set ++ l) (sets_lines sets)
 
 flat_map-filter_map : {X Y : Type 0} (f : Y → List ℕ) (h : X → Option Y) (xs : List X) → flat_map f (filter_map h xs) ≡ flat_map (λ x. flat_map f (option_to_list (h x))) xs
 flat_map-filter_map f h [] = refl

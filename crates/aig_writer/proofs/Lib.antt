@@ -1,4 +1,5 @@
 pub mod Putting
+pub mod Writing
 pub mod Lines
 pub mod Items
 pub mod Counts

@@ -4,7 +4,7 @@ use Rattle.std.specs.List.{flat_map}
 use Rattle.aig_format.specs.File.{File}
 use Rattle.aig_format.specs.Written.{gate_text, header_line_of, inputs_text, latch_text, lines_text, name_text, file_text}
 use Rattle.aig_writer.specs.Parts.{properties_of}
-use Rattle.aig_writer.proofs.Putting.{then_texts}
+use Rattle.aig_writer.proofs.Writing.{then_texts}
 
 -- the sections between the latches and the gates
 abbrev pub property_texts : File → List (List ℕ)

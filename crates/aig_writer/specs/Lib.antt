@@ -1,4 +1,5 @@
 pub mod Literals
 pub mod Sinks
+pub mod Writing
 pub mod Numbering
 pub mod Parts

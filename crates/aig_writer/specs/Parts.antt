@@ -4,17 +4,12 @@ use Rattle.std.specs.Prelude.{ℕ, List, [], ◌++◌, map, length, Option, Some
 use Rattle.std.specs.declared.alloc.Global.{Global}
 use Rattle.std.specs.List.{flat_map}
 use Rattle.aig_circuit.specs.declared.edge.AigEdge.{AigEdge}
-use Rattle.aig_circuit.specs.Edge.{literal_of}
 use Rattle.aig_format.specs.File.{File}
 use Rattle.aig_format.specs.Written.{lines_text, name_text}
 
 -- the edges of each set
 abbrev pub edges_of_sets : List (Vec AigEdge Global) → List (List AigEdge)
 edges_of_sets sets = map (λ set. set.items) sets
-
--- the literals of each set of edges
-abbrev pub literal_sets : List (Vec AigEdge Global) → List (List ℕ)
-literal_sets sets = map (map literal_of) (edges_of_sets sets)
 
 -- the line of a name, where there is one
 abbrev pub text_of_name : ℕ → ℕ → Option (List ℕ) → List ℕ

@@ -1,7 +1,6 @@
 //! A buffer of bytes in front of a sink.
 
-ghost use Rattle.std.specs.Prelude.{◌≡◌, ◌+◌, ◌^◌, ◌<◌, ◌≤◌, ◌++◌, ◌∷◌, [], List, ℕ, length, take, decimal, OnOk};
-ghost use Rattle.aig_format.specs.Written.{delta_of, line_text};
+ghost use Rattle.std.specs.Prelude.{◌≡◌, ◌+◌, ◌≤◌, ◌++◌, ◌∷◌, [], List, ℕ, length, take, decimal, OnOk};
 ghost use Rattle.aig_writer.specs.Sinks.{BuffersOrStops, WritesOrStops};
 
 use crate::put::put_all;
@@ -14,12 +13,6 @@ const SIZE: usize = 4096;
 
 /// How many digits a number has at most.
 const DIGITS: usize = 20;
-
-/// Room for the longest line, of nine numbers with a byte after each.
-const LINE: usize = 192;
-
-/// How many groups of seven bits a difference has at most.
-const GROUPS: usize = 5;
 
 /// Bytes that wait for a sink, in order, until 4,096 are there. A text that is written waits here, or goes to the sink
 /// after what waited.
@@ -100,40 +93,5 @@ impl OutputBuffer {
         let mut digits = [end; DIGITS + 1];
         let start = write_digits(n as u64, &mut digits, DIGITS);
         self.write_bytes(w, &digits[start..])
-    }
-
-    /// Writes a line of numbers, one at least and nine at most, apart by one space each.
-    pub fn write_line<W: Sink>(&mut self, w: &mut W, numbers: &[usize]) -> Result<(), StreamFault>
-        requires some { 0 < length numbers.now }
-        requires few { length numbers.now ≤ 9 }
-        ensures { let text = line_text numbers.now in
-            BuffersOrStops W.held W.failed self.old w.old result text self.new w.new }
-    {
-        let mut text = [b' '; LINE];
-        text[LINE - 1] = b'\n';
-        let mut start = LINE;
-        for n in numbers.iter().rev() {
-            start = write_digits(*n as u64, &mut text, start - 1);
-        }
-        self.write_bytes(w, &text[start..])
-    }
-
-    /// Writes a binary difference, in groups of seven bits, the lowest first, in its shortest spelling (AIGER format
-    /// 20071012, "Binary encoding").
-    pub fn write_difference<W: Sink>(&mut self, w: &mut W, d: usize) -> Result<(), StreamFault>
-        requires { d < 2 ^ 32 }
-        ensures { let text = delta_of d in
-            BuffersOrStops W.held W.failed self.old w.old result text self.new w.new }
-    {
-        let mut groups = [0; GROUPS];
-        let mut count = 0;
-        let mut rest = d;
-        while rest >= 128 {
-            groups[count] = (rest % 128) as u8 + 128;
-            count += 1;
-            rest /= 128;
-        }
-        groups[count] = rest as u8;
-        self.write_bytes(w, &groups[..count + 1])
     }
 }

@@ -1,38 +1,33 @@
-//! The text form, written to a formatter piece by piece.
+//! The text form, written to a formatter.
 
-ghost use Rattle.std.specs.Prelude.{◌^◌, ◌≤◌, length};
-ghost use Rattle.std.specs.Fmt.{WritesStyledOnOk};
-ghost use Rattle.aig_format.specs.declared.FileKind.TheVariants.{Text};
-ghost use Rattle.aig_format.specs.Circuit.{file_of, text_of};
-ghost use Rattle.aig_writer.specs.Literals.{HasSmallNumbers};
-ghost use Rattle.aig_writer.specs.Parts.{properties_of};
+ghost use Rattle.std.specs.Prelude.{◌^◌, ◌≤◌, ⊤, length};
+ghost use Rattle.std.specs.Fmt.{HasWrittenStyled, IsFlush, WritesStyledOnOk};
+ghost use Rattle.aig_format.specs.Circuit.{text_of};
 
-mod header;
-mod line;
-mod names;
-mod sections;
-
+use crate::form::write_sections;
+use crate::out::TextOut;
 use aig_circuit::CircuitView;
-use header::write_header;
-use names::write_names;
-use sections::{
-    write_edges, write_gates, write_inputs, write_latches, write_set_sizes, write_sets,
-};
+use aig_format::FileKind;
 use std::fmt;
 use std::fmt::{Formatter, Write};
+use std::str::from_utf8;
 
-/// Writes the outputs and the properties.
-fn write_properties<W: Write>(circuit: &CircuitView<'_>, f: &mut Formatter<W>) -> fmt::Result
-    requires { HasSmallNumbers circuit.now }
-    ensures { let text = properties_of (file_of Text circuit.now) in
-        WritesStyledOnOk W.write_str_gives f.old result text f.new }
-{
-    write_edges(circuit.outputs(), f)?;
-    write_edges(circuit.bads(), f)?;
-    write_edges(circuit.constraints(), f)?;
-    write_set_sizes(circuit.justice(), f)?;
-    write_sets(circuit.justice(), f)?;
-    write_edges(circuit.fairness(), f)
+/// It takes UTF-8 alone, which each piece of a text form is, and passes over the options of a placeholder.
+impl<W: Write> TextOut for Formatter<W> {
+    type Error = fmt::Error;
+
+    // If it indents nothing, the text was written.
+    ghost wrote = { λ f text g. IsFlush f → HasWrittenStyled W.write_str_gives f text g };
+
+    // Of a failed write nothing is known.
+    ghost stopped = { λ _ _ _. ⊤ };
+
+    fn write_bytes(&mut self, piece: &[u8]) -> fmt::Result {
+        match from_utf8(piece) {
+            Ok(text) => self.write_str(text),
+            Err(_) => Err(fmt::Error),
+        }
+    }
 }
 
 /// Writes the text form of a circuit to a formatter (AIGER format 20071012 and AIGER 1.9), piece by piece and with no
@@ -42,10 +37,5 @@ pub fn fmt_text<W: Write>(circuit: &CircuitView<'_>, f: &mut Formatter<W>) -> fm
     // All of the text was written, whatever options the formatter has.
     ensures { WritesStyledOnOk W.write_str_gives f.old result (text_of circuit.now) f.new }
 {
-    write_header(circuit, f)?;
-    write_inputs(circuit.inputs(), f)?;
-    write_latches(circuit.latchs(), f)?;
-    write_properties(circuit, f)?;
-    write_gates(circuit.nodes(), f)?;
-    write_names(circuit, f)
+    write_sections(f, FileKind::Text, &[], circuit)
 }

@@ -7,62 +7,62 @@ ghost use Rattle.aig_format.specs.Written.{file_text};
 ghost use Rattle.aig_format.specs.Circuit.{binary_of, text_of};
 ghost use Rattle.aig_writer.specs.Literals.{HasSmallNumbers, HasLiteral};
 ghost use Rattle.aig_writer.specs.Numbering.{FitsBinary, IsBinaryNumbering, written_number, numbered_file};
-ghost use Rattle.aig_writer.specs.Sinks.{BuffersOrStops, WritesOrStops};
+ghost use Rattle.aig_writer.specs.Sinks.{WritesOrStops};
+ghost use Rattle.aig_writer.specs.Writing.{WritesPieces};
 ghost use Rattle.aig_writer.specs.Parts.{properties_of};
 
-use crate::buffer::OutputBuffer;
 use crate::header::write_header;
 use crate::names::write_names;
+use crate::out::TextOut;
 use crate::sections::{
     write_edges, write_gates, write_inputs, write_latches, write_set_sizes, write_sets,
 };
+use crate::sink::BufferedSink;
 use aig_base::{Sink, StreamFault};
 use aig_circuit::CircuitView;
 use aig_format::FileKind;
 
 /// Writes the outputs and the properties.
-fn write_properties<W: Sink>(
-    buffer: &mut OutputBuffer,
-    w: &mut W,
+fn write_properties<O: TextOut>(
+    out: &mut O,
     numbers: &[usize],
     circuit: &CircuitView<'_>,
-) -> Result<(), StreamFault>
+) -> Result<(), O::Error>
     requires table { All HasLiteral numbers.now }
     requires small { HasSmallNumbers circuit.now }
     ensures { let text = properties_of
         (numbered_file (written_number numbers.now) Text circuit.now) in
-        BuffersOrStops W.held W.failed buffer.old w.old result text buffer.new w.new }
+        WritesPieces O.wrote O.stopped out.old result text out.new }
 {
-    write_edges(buffer, w, numbers, circuit.outputs())?;
-    write_edges(buffer, w, numbers, circuit.bads())?;
-    write_edges(buffer, w, numbers, circuit.constraints())?;
-    write_set_sizes(buffer, w, circuit.justice())?;
-    write_sets(buffer, w, numbers, circuit.justice())?;
-    write_edges(buffer, w, numbers, circuit.fairness())
+    write_edges(out, numbers, circuit.outputs())?;
+    write_edges(out, numbers, circuit.bads())?;
+    write_edges(out, numbers, circuit.constraints())?;
+    write_set_sizes(out, circuit.justice())?;
+    write_sets(out, numbers, circuit.justice())?;
+    write_edges(out, numbers, circuit.fairness())
 }
 
 /// Writes the header and the sections of the form of this kind.
-fn write_sections<W: Sink>(
-    buffer: &mut OutputBuffer,
-    w: &mut W,
+pub(crate) fn write_sections<O: TextOut>(
+    out: &mut O,
     kind: FileKind,
     numbers: &[usize],
     circuit: &CircuitView<'_>,
-) -> Result<(), StreamFault>
+) -> Result<(), O::Error>
     requires table { All HasLiteral numbers.now }
     requires few { length circuit.now.nodes ≤ 2 ^ 63 }
     requires binary { kind ≡ FileKind.Binary → FitsBinary circuit.now numbers.now }
     ensures writes { let text = file_text
         (numbered_file (written_number numbers.now) kind circuit.now) in
-        BuffersOrStops W.held W.failed buffer.old w.old result text buffer.new w.new }
+        WritesPieces O.wrote O.stopped out.old result text out.new }
     ensures circuit { IsCircuit circuit.now }
 {
-    write_header(buffer, w, kind, circuit)?;
-    write_inputs(buffer, w, kind, numbers, circuit.inputs())?;
-    write_latches(buffer, w, kind, numbers, circuit.latchs())?;
-    write_properties(buffer, w, numbers, circuit)?;
-    write_gates(buffer, w, kind, numbers, circuit.nodes())?;
-    write_names(buffer, w, circuit)
+    write_header(out, kind, circuit)?;
+    write_inputs(out, kind, numbers, circuit.inputs())?;
+    write_latches(out, kind, numbers, circuit.latchs())?;
+    write_properties(out, numbers, circuit)?;
+    write_gates(out, kind, numbers, circuit.nodes())?;
+    write_names(out, circuit)
 }
 
 /// Writes the form of this kind to a sink, through a buffer of 4,096 bytes and with no allocation.
@@ -80,9 +80,9 @@ fn write_form<W: Sink>(
         WritesOrStops W.held W.failed w.old result text w.new }
     ensures circuit { IsCircuit circuit.now }
 {
-    let mut buffer = OutputBuffer::new();
-    write_sections(&mut buffer, w, kind, numbers, circuit)?;
-    buffer.flush(w)
+    let mut out = BufferedSink::new(w);
+    write_sections(&mut out, kind, numbers, circuit)?;
+    out.flush()
 }
 
 /// Writes the text form of a circuit to a sink (AIGER format 20071012 and AIGER 1.9), through a buffer of 4,096 bytes and

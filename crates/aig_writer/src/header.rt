@@ -6,15 +6,15 @@ ghost use Rattle.aig_format.specs.File.{header_of};
 ghost use Rattle.aig_format.specs.Spells.{magic, numbers_in};
 ghost use Rattle.aig_format.specs.Written.{shortened, header_line_of};
 ghost use Rattle.aig_format.specs.Circuit.{file_of, gate_line};
-ghost use Rattle.aig_writer.specs.Sinks.{BuffersOrStops};
+ghost use Rattle.aig_writer.specs.Writing.{WritesPieces};
 
-use crate::buffer::OutputBuffer;
-use aig_base::{Sink, StreamFault};
+use crate::line::write_line;
+use crate::out::TextOut;
 use aig_circuit::{AigNode, CircuitView};
 use aig_format::FileKind;
 
 /// How many numbers a header has at least: M I L O A.
-pub(crate) const FEWEST_NUMBERS: usize = 5;
+const FEWEST_NUMBERS: usize = 5;
 
 /// How many of the nodes are gates.
 fn gate_count(nodes: &[AigNode]) -> usize
@@ -30,7 +30,7 @@ fn gate_count(nodes: &[AigNode]) -> usize
 }
 
 /// The numbers of the header: M I L O A B C J F.
-pub(crate) fn header_numbers(circuit: &CircuitView<'_>) -> [usize; 9]
+fn header_numbers(circuit: &CircuitView<'_>) -> [usize; 9]
     ensures value { (kind : FileKind) → result ≡ numbers_in (header_of (file_of kind circuit.now)) }
     ensures circuit { IsCircuit circuit.now }
 {
@@ -48,7 +48,7 @@ pub(crate) fn header_numbers(circuit: &CircuitView<'_>) -> [usize; 9]
 }
 
 /// How many of the numbers stand up to the last that is not 0.
-pub(crate) fn written_count(numbers: &[usize]) -> usize
+fn written_count(numbers: &[usize]) -> usize
     ensures within { result ≤ length numbers.now }
     ensures value { take result numbers.now ≡ shortened numbers.now }
 {
@@ -70,18 +70,17 @@ fn magic_word(kind: FileKind) -> &'static [u8]
 }
 
 /// Writes the header line.
-pub(crate) fn write_header<W: Sink>(
-    buffer: &mut OutputBuffer,
-    w: &mut W,
+pub(crate) fn write_header<O: TextOut>(
+    out: &mut O,
     kind: FileKind,
     circuit: &CircuitView<'_>,
-) -> Result<(), StreamFault>
+) -> Result<(), O::Error>
     ensures writes { let text = header_line_of (file_of kind circuit.now) in
-        BuffersOrStops W.held W.failed buffer.old w.old result text buffer.new w.new }
+        WritesPieces O.wrote O.stopped out.old result text out.new }
     ensures circuit { IsCircuit circuit.now }
 {
     let numbers = header_numbers(circuit);
     let written = FEWEST_NUMBERS + written_count(&numbers[FEWEST_NUMBERS..]);
-    buffer.write_bytes(w, magic_word(kind))?;
-    buffer.write_line(w, &numbers[..written])
+    out.write_bytes(magic_word(kind))?;
+    write_line(out, &numbers[..written])
 }

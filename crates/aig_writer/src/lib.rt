@@ -5,11 +5,14 @@ mod buffer;
 mod display;
 mod form;
 mod header;
+mod line;
 mod literal;
 mod names;
 mod numbering;
+mod out;
 mod put;
 mod sections;
+mod sink;
 
 pub use buffer::OutputBuffer;
 pub use display::fmt_text;

@@ -7,13 +7,13 @@ ghost use Rattle.aig_circuit.specs.Circuit.{latch_leaves};
 ghost use Rattle.aig_format.specs.Written.{name_text};
 ghost use Rattle.aig_format.specs.declared.FileKind.TheVariants.{Text};
 ghost use Rattle.aig_format.specs.Circuit.{file_of, name_lines};
-ghost use Rattle.aig_writer.specs.Sinks.{BuffersOrStops};
+ghost use Rattle.aig_writer.specs.Writing.{WritesPieces};
 ghost use Rattle.aig_circuit.specs.View.{names_of};
 ghost use Rattle.aig_writer.specs.Parts.{text_of_name};
 
-use crate::buffer::OutputBuffer;
-use aig_base::{Sink, StreamFault};
+use crate::out::TextOut;
 use aig_circuit::{AigLatch, CircuitView};
+use itoa::Buffer;
 use std::collections::HashMap;
 
 /// The letter of an input's name.
@@ -23,85 +23,81 @@ const INPUT: u8 = b'i';
 const LATCH: u8 = b'l';
 
 /// Writes a name line: the letter, the position, the name.
-fn write_name_line<W: Sink>(
-    buffer: &mut OutputBuffer,
-    w: &mut W,
+fn write_name_line<O: TextOut>(
+    out: &mut O,
     letter: u8,
     position: usize,
     name: &[u8],
-) -> Result<(), StreamFault>
+) -> Result<(), O::Error>
     ensures { let text = name_text
         (record { letter = letter; position = position; name = name.now }) in
-        BuffersOrStops W.held W.failed buffer.old w.old result text buffer.new w.new }
+        WritesPieces O.wrote O.stopped out.old result text out.new }
 {
-    buffer.write_bytes(w, &[letter])?;
-    buffer.write_number(w, position, b' ')?;
-    buffer.write_bytes(w, name)?;
-    buffer.write_bytes(w, b"\n")
+    out.write_bytes(&[letter])?;
+    out.write_bytes(Buffer::new().format(position).as_bytes())?;
+    out.write_bytes(b" ")?;
+    out.write_bytes(name)?;
+    out.write_bytes(b"\n")
 }
 
 /// Writes the name line of a node, if the node has a name.
-fn write_node_name<W: Sink>(
-    buffer: &mut OutputBuffer,
-    w: &mut W,
+fn write_node_name<O: TextOut>(
+    out: &mut O,
     names: &HashMap<usize, String>,
     letter: u8,
     position: usize,
     node: usize,
-) -> Result<(), StreamFault>
+) -> Result<(), O::Error>
     ensures { let text = text_of_name letter position (get (names_of names.now.entries) node) in
-        BuffersOrStops W.held W.failed buffer.old w.old result text buffer.new w.new }
+        WritesPieces O.wrote O.stopped out.old result text out.new }
 {
     match names.get(&node) {
-        Some(name) => write_name_line(buffer, w, letter, position, name.as_bytes()),
+        Some(name) => write_name_line(out, letter, position, name.as_bytes()),
         None => Ok(()),
     }
 }
 
 /// Writes the names of inputs, by position.
-fn write_input_names<W: Sink>(
-    buffer: &mut OutputBuffer,
-    w: &mut W,
+fn write_input_names<O: TextOut>(
+    out: &mut O,
     names: &HashMap<usize, String>,
     inputs: &[usize],
-) -> Result<(), StreamFault>
+) -> Result<(), O::Error>
     ensures { let lines = name_lines INPUT 0 inputs.now (get (names_of names.now.entries)) in
         let text = flat_map name_text lines in
-        BuffersOrStops W.held W.failed buffer.old w.old result text buffer.new w.new }
+        WritesPieces O.wrote O.stopped out.old result text out.new }
 {
     for (i, n) in inputs.iter().enumerate() {
-        write_node_name(buffer, w, names, INPUT, i, *n)?;
+        write_node_name(out, names, INPUT, i, *n)?;
     }
     Ok(())
 }
 
 /// Writes the names of latches, by position.
-fn write_latch_names<W: Sink>(
-    buffer: &mut OutputBuffer,
-    w: &mut W,
+fn write_latch_names<O: TextOut>(
+    out: &mut O,
     names: &HashMap<usize, String>,
     latchs: &[AigLatch],
-) -> Result<(), StreamFault>
+) -> Result<(), O::Error>
     ensures { let leaves = latch_leaves latchs.now in
         let text = flat_map name_text
         (name_lines LATCH 0 leaves (get (names_of names.now.entries))) in
-        BuffersOrStops W.held W.failed buffer.old w.old result text buffer.new w.new }
+        WritesPieces O.wrote O.stopped out.old result text out.new }
 {
     for (i, latch) in latchs.iter().enumerate() {
-        write_node_name(buffer, w, names, LATCH, i, latch.input())?;
+        write_node_name(out, names, LATCH, i, latch.input())?;
     }
     Ok(())
 }
 
 /// Writes the names of inputs and latches.
-pub(crate) fn write_names<W: Sink>(
-    buffer: &mut OutputBuffer,
-    w: &mut W,
+pub(crate) fn write_names<O: TextOut>(
+    out: &mut O,
     circuit: &CircuitView<'_>,
-) -> Result<(), StreamFault>
+) -> Result<(), O::Error>
     ensures { let text = flat_map name_text (file_of Text circuit.now).names in
-        BuffersOrStops W.held W.failed buffer.old w.old result text buffer.new w.new }
+        WritesPieces O.wrote O.stopped out.old result text out.new }
 {
-    write_input_names(buffer, w, circuit.names(), circuit.inputs())?;
-    write_latch_names(buffer, w, circuit.names(), circuit.latchs())
+    write_input_names(out, circuit.names(), circuit.inputs())?;
+    write_latch_names(out, circuit.names(), circuit.latchs())
 }

@@ -6,238 +6,219 @@ ghost use Rattle.aig_circuit.specs.Edge.{literal_of};
 ghost use Rattle.aig_circuit.specs.Renumber.{renumbered_edge, renumbered_latch};
 ghost use Rattle.aig_format.specs.Written.{delta_of, gate_text, inputs_text, latch_text, lines_text};
 ghost use Rattle.aig_format.specs.Circuit.{latch_line, gate_line};
-ghost use Rattle.aig_writer.specs.Sinks.{BuffersOrStops};
+ghost use Rattle.aig_writer.specs.Writing.{WritesPieces};
 ghost use Rattle.aig_writer.specs.Parts.{edges_of_sets};
 ghost use Rattle.aig_writer.specs.Numbering.{written_number, renumbered_node};
 ghost use Rattle.aig_writer.specs.Literals.{HasLiteral, IsSmallEdge, IsSmallLatch, IsSmallNode, FallsBelow};
 
-use crate::buffer::OutputBuffer;
+use crate::line::{write_difference, write_line};
 use crate::literal::{literal, reset_literal};
 use crate::numbering::{renumber_edge, renumber_latch, written_number};
-use aig_base::{Sink, StreamFault};
+use crate::out::TextOut;
 use aig_circuit::{AigEdge, AigLatch, AigNode, AigNodeType, gate_node};
 use aig_format::FileKind;
 
 /// Writes a line for each input, its literal.
-fn write_input_lines<W: Sink>(
-    buffer: &mut OutputBuffer,
-    w: &mut W,
+fn write_input_lines<O: TextOut>(
+    out: &mut O,
     numbers: &[usize],
     inputs: &[usize],
-) -> Result<(), StreamFault>
+) -> Result<(), O::Error>
     requires table { All HasLiteral numbers.now }
     requires inputs { All HasLiteral inputs.now }
     ensures { let text = lines_text
         (map (λ n. 2 * n) (map (written_number numbers.now) inputs.now)) in
-        BuffersOrStops W.held W.failed buffer.old w.old result text buffer.new w.new }
+        WritesPieces O.wrote O.stopped out.old result text out.new }
 {
     for n in inputs {
-        buffer.write_line(w, &[2 * written_number(numbers, *n)])?;
+        write_line(out, &[2 * written_number(numbers, *n)])?;
     }
     Ok(())
 }
 
 /// Writes the inputs: in a text file a line each, and in a binary file nothing.
-pub(crate) fn write_inputs<W: Sink>(
-    buffer: &mut OutputBuffer,
-    w: &mut W,
+pub(crate) fn write_inputs<O: TextOut>(
+    out: &mut O,
     kind: FileKind,
     numbers: &[usize],
     inputs: &[usize],
-) -> Result<(), StreamFault>
+) -> Result<(), O::Error>
     requires table { All HasLiteral numbers.now }
     requires inputs { All HasLiteral inputs.now }
     ensures { let literals = map (λ n. 2 * n) (map (written_number numbers.now) inputs.now) in
         let text = inputs_text kind literals in
-        BuffersOrStops W.held W.failed buffer.old w.old result text buffer.new w.new }
+        WritesPieces O.wrote O.stopped out.old result text out.new }
 {
     match kind {
-        FileKind::Text => write_input_lines(buffer, w, numbers, inputs),
+        FileKind::Text => write_input_lines(out, numbers, inputs),
         FileKind::Binary => Ok(()),
     }
 }
 
 /// Writes a line for a latch: its literal, which a binary file leaves out, its next literal, and its reset if it is not 0.
-fn write_latch<W: Sink>(
-    buffer: &mut OutputBuffer,
-    w: &mut W,
-    kind: FileKind,
-    latch: &AigLatch,
-) -> Result<(), StreamFault>
+fn write_latch<O: TextOut>(out: &mut O, kind: FileKind, latch: &AigLatch) -> Result<(), O::Error>
     requires { IsSmallLatch latch.now }
     ensures { let text = latch_text kind (latch_line latch.now) in
-        BuffersOrStops W.held W.failed buffer.old w.old result text buffer.new w.new }
+        WritesPieces O.wrote O.stopped out.old result text out.new }
 {
     let own = 2 * latch.input();
     let next = literal(latch.next());
     match (kind, reset_literal(latch)) {
-        (FileKind::Text, None) => buffer.write_line(w, &[own, next]),
-        (FileKind::Text, Some(reset)) => buffer.write_line(w, &[own, next, reset]),
-        (FileKind::Binary, None) => buffer.write_line(w, &[next]),
-        (FileKind::Binary, Some(reset)) => buffer.write_line(w, &[next, reset]),
+        (FileKind::Text, None) => write_line(out, &[own, next]),
+        (FileKind::Text, Some(reset)) => write_line(out, &[own, next, reset]),
+        (FileKind::Binary, None) => write_line(out, &[next]),
+        (FileKind::Binary, Some(reset)) => write_line(out, &[next, reset]),
     }
 }
 
 /// Writes a line for each latch.
-pub(crate) fn write_latches<W: Sink>(
-    buffer: &mut OutputBuffer,
-    w: &mut W,
+pub(crate) fn write_latches<O: TextOut>(
+    out: &mut O,
     kind: FileKind,
     numbers: &[usize],
     latchs: &[AigLatch],
-) -> Result<(), StreamFault>
+) -> Result<(), O::Error>
     requires table { All HasLiteral numbers.now }
     requires latches { All IsSmallLatch latchs.now }
     ensures { let latches = map (renumbered_latch (written_number numbers.now)) latchs.now in
         let text = flat_map (latch_text kind) (map latch_line latches) in
-        BuffersOrStops W.held W.failed buffer.old w.old result text buffer.new w.new }
+        WritesPieces O.wrote O.stopped out.old result text out.new }
 {
     for latch in latchs {
-        write_latch(buffer, w, kind, &renumber_latch(numbers, latch))?;
+        write_latch(out, kind, &renumber_latch(numbers, latch))?;
     }
     Ok(())
 }
 
 /// Writes a line for each edge, its literal.
-pub(crate) fn write_edges<W: Sink>(
-    buffer: &mut OutputBuffer,
-    w: &mut W,
+pub(crate) fn write_edges<O: TextOut>(
+    out: &mut O,
     numbers: &[usize],
     edges: &[AigEdge],
-) -> Result<(), StreamFault>
+) -> Result<(), O::Error>
     requires table { All HasLiteral numbers.now }
     requires edges { All IsSmallEdge edges.now }
     ensures { let written = map (renumbered_edge (written_number numbers.now)) edges.now in
         let text = lines_text (map literal_of written) in
-        BuffersOrStops W.held W.failed buffer.old w.old result text buffer.new w.new }
+        WritesPieces O.wrote O.stopped out.old result text out.new }
 {
     for e in edges {
-        buffer.write_line(w, &[literal(renumber_edge(numbers, *e))])?;
+        write_line(out, &[literal(renumber_edge(numbers, *e))])?;
     }
     Ok(())
 }
 
 /// Writes a line for each set, how many edges it has.
-pub(crate) fn write_set_sizes<W: Sink>(
-    buffer: &mut OutputBuffer,
-    w: &mut W,
+pub(crate) fn write_set_sizes<O: TextOut>(
+    out: &mut O,
     sets: &[Vec<AigEdge>],
-) -> Result<(), StreamFault>
+) -> Result<(), O::Error>
     ensures { let text = lines_text (map length (edges_of_sets sets.now)) in
-        BuffersOrStops W.held W.failed buffer.old w.old result text buffer.new w.new }
+        WritesPieces O.wrote O.stopped out.old result text out.new }
 {
     for set in sets {
-        buffer.write_line(w, &[set.len()])?;
+        write_line(out, &[set.len()])?;
     }
     Ok(())
 }
 
 /// Writes the lines of each set of edges.
-pub(crate) fn write_sets<W: Sink>(
-    buffer: &mut OutputBuffer,
-    w: &mut W,
+pub(crate) fn write_sets<O: TextOut>(
+    out: &mut O,
     numbers: &[usize],
     sets: &[Vec<AigEdge>],
-) -> Result<(), StreamFault>
+) -> Result<(), O::Error>
     requires table { All HasLiteral numbers.now }
     requires sets { All (λ set. All IsSmallEdge set.items) sets.now }
     ensures { let written = map (map (renumbered_edge (written_number numbers.now)))
         (edges_of_sets sets.now) in
         let text = flat_map lines_text (map (map literal_of) written) in
-        BuffersOrStops W.held W.failed buffer.old w.old result text buffer.new w.new }
+        WritesPieces O.wrote O.stopped out.old result text out.new }
 {
     for set in sets {
-        write_edges(buffer, w, numbers, set)?;
+        write_edges(out, numbers, set)?;
     }
     Ok(())
 }
 
 /// Writes the two differences of a gate of a binary file.
-fn write_differences<W: Sink>(
-    buffer: &mut OutputBuffer,
-    w: &mut W,
+fn write_differences<O: TextOut>(
+    out: &mut O,
     lhs: usize,
     rhs0: usize,
     rhs1: usize,
-) -> Result<(), StreamFault>
+) -> Result<(), O::Error>
     requires small { lhs < 2 ^ 32 }
     requires first { rhs0 ≤ lhs }
     requires second { rhs1 ≤ rhs0 }
     ensures { let text = delta_of (lhs - rhs0) ++ delta_of (rhs0 - rhs1) in
-        BuffersOrStops W.held W.failed buffer.old w.old result text buffer.new w.new }
+        WritesPieces O.wrote O.stopped out.old result text out.new }
 {
-    buffer.write_difference(w, lhs - rhs0)?;
-    buffer.write_difference(w, rhs0 - rhs1)
+    write_difference(out, lhs - rhs0)?;
+    write_difference(out, rhs0 - rhs1)
 }
 
 /// Writes a gate: in a text file a line of its literal, its greater operand and its lesser, and in a binary file the
 /// differences between these.
-fn write_gate<W: Sink>(
-    buffer: &mut OutputBuffer,
-    w: &mut W,
-    kind: FileKind,
-    gate: &AigNode,
-) -> Result<(), StreamFault>
+fn write_gate<O: TextOut>(out: &mut O, kind: FileKind, gate: &AigNode) -> Result<(), O::Error>
     requires small { IsSmallNode gate.now }
     requires falls { kind ≡ FileKind.Binary → FallsBelow gate.now }
     ensures { let text = flat_map (gate_text kind) (option_to_list (gate_line gate.now)) in
-        BuffersOrStops W.held W.failed buffer.old w.old result text buffer.new w.new }
+        WritesPieces O.wrote O.stopped out.old result text out.new }
 {
     let AigNodeType::And(first, second) = *gate.typ() else {
         return Ok(());
     };
     let (lhs, rhs0, rhs1) = (2 * gate.node_id(), literal(second), literal(first));
     match kind {
-        FileKind::Text => buffer.write_line(w, &[lhs, rhs0, rhs1]),
-        FileKind::Binary => write_differences(buffer, w, lhs, rhs0, rhs1),
+        FileKind::Text => write_line(out, &[lhs, rhs0, rhs1]),
+        FileKind::Binary => write_differences(out, lhs, rhs0, rhs1),
     }
 }
 
 /// Writes a node if it is a gate.
-fn write_node<W: Sink>(
-    buffer: &mut OutputBuffer,
-    w: &mut W,
+fn write_node<O: TextOut>(
+    out: &mut O,
     kind: FileKind,
     numbers: &[usize],
     node: &AigNode,
-) -> Result<(), StreamFault>
+) -> Result<(), O::Error>
     requires table { All HasLiteral numbers.now }
     requires small { IsSmallNode node.now }
     requires falls { kind ≡ FileKind.Binary
         → FallsBelow (renumbered_node (written_number numbers.now) node.now) }
     ensures { let written = renumbered_node (written_number numbers.now) node.now in
         let text = flat_map (gate_text kind) (option_to_list (gate_line written)) in
-        BuffersOrStops W.held W.failed buffer.old w.old result text buffer.new w.new }
+        WritesPieces O.wrote O.stopped out.old result text out.new }
 {
     match *node.typ() {
         AigNodeType::And(first, second) => {
             let own = written_number(numbers, node.node_id());
             let first = renumber_edge(numbers, first);
             let second = renumber_edge(numbers, second);
-            write_gate(buffer, w, kind, &gate_node(own, first, second))
+            write_gate(out, kind, &gate_node(own, first, second))
         }
         _ => Ok(()),
     }
 }
 
 /// Writes each node that is a gate.
-pub(crate) fn write_gates<W: Sink>(
-    buffer: &mut OutputBuffer,
-    w: &mut W,
+pub(crate) fn write_gates<O: TextOut>(
+    out: &mut O,
     kind: FileKind,
     numbers: &[usize],
     nodes: &[AigNode],
-) -> Result<(), StreamFault>
+) -> Result<(), O::Error>
     requires table { All HasLiteral numbers.now }
     requires nodes { All IsSmallNode nodes.now }
     requires falls { kind ≡ FileKind.Binary →
         All (λ node. FallsBelow (renumbered_node (written_number numbers.now) node)) nodes.now }
     ensures { let written = map (renumbered_node (written_number numbers.now)) nodes.now in
         let text = flat_map (gate_text kind) (filter_map gate_line written) in
-        BuffersOrStops W.held W.failed buffer.old w.old result text buffer.new w.new }
+        WritesPieces O.wrote O.stopped out.old result text out.new }
 {
     for node in nodes {
-        write_node(buffer, w, kind, numbers, node)?;
+        write_node(out, kind, numbers, node)?;
     }
     Ok(())
 }

@@ -1,9 +1,17 @@
-use Rattle.std.proofs.Common.{rules}
-use Rattle.aig_writer.proofs.Putting.{failed_put, written_through}
+use Rattle.std.proofs.Common.{◌∙◌, sym, subst, arith, rules}
+use Rattle.aig_writer.specs.Sinks.{WritesOrStops}
+use Rattle.aig_writer.proofs.Putting.{failed_put, sink_laws, written_through}
+use Rattle.aig_writer.proofs.Writing.{all_written, some_written}
 use Rattle.aig_writer.proofs.form.write_form.Goals as goal
 
 pub returns-in_err-write_sections-clause-writes : goal.returns-in_err-write_sections-clause-writes
-returns-in_err-write_sections-clause-writes g c = failed_put (rw c.new-buffer.ensures at c.in_err-write_sections.ensures.writes.err) (search rules)
+returns-in_err-write_sections-clause-writes g c =
+    let stopped = some_written (sink_laws g.W.Sink.held g.W.Sink.failed) c.in_err-write_sections.ensures.writes.err in
+    let name = sym (stopped.0 ∙ c.new-out.ensures.same) in
+    subst (WritesOrStops _ _ _ _ _) (grind arith) (failed_put {b = c.write_sections.new.out.sink.now} (rw (c.new-out.ensures.sink, c.new-out.ensures.empty) at stopped.1) (search rules))
 
 pub returns-clause-writes : goal.returns-clause-writes
-returns-clause-writes g c = written_through c.new-buffer.ensures c.in_ok-write_sections.ensures.writes.ok c.flush.ensures.writes
+returns-clause-writes g c =
+    let wrote = all_written (sink_laws g.W.Sink.held g.W.Sink.failed) c.in_ok-write_sections.ensures.writes.ok in
+    let name = sym (c.flush.ensures.same ∙ wrote.0 ∙ c.new-out.ensures.same) in
+    subst (WritesOrStops _ _ _ _ _) (grind arith) (written_through c.new-out.ensures.empty (rw c.new-out.ensures.sink at wrote.1) c.flush.ensures.writes)

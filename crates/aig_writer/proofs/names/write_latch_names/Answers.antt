@@ -4,7 +4,7 @@ use Rattle.std.specs.FinMap.{get}
 use Rattle.std.proofs.lemmas.List.FromFn.{length-enumerate_from}
 use Rattle.aig_circuit.specs.Circuit.{latch_leaves}
 use Rattle.aig_circuit.specs.View.{names_of}
-use Rattle.aig_writer.proofs.Putting.{Buffers-turn, all_done, failed_turn}
+use Rattle.aig_writer.proofs.Writing.{all_done, calls_laws, failed_turn, then_turn}
 use Rattle.aig_circuit.proofs.Circuits.{leaf-read}
 use Rattle.aig_writer.proofs.Entries.{length-leaves, name_entry, name_entry-at, name_lines-places}
 use Rattle.aig_writer.proofs.names.write_latch_names.Goals as goal
@@ -15,7 +15,7 @@ returns-in_err-write_node_name g c =
     let ns = latch_leaves c.args.latchs.now in
     let places = enumerate_from 0 ns in
     let turn = rw (c.input.ensures, ← leaf-read c.args.latchs.now c.loop-i.i _ c.loop-i-test.true, ← name_entry-at 108 name ns c.loop-i.i (omega (arith, length-leaves c.args.latchs.now))) at c.in_err-write_node_name.ensures in
-    rw (name_lines-places 108 0 ns name) (failed_turn (name_entry 108 name) places c.loop-i.i (0, 0) (omega (arith, length-enumerate_from 0 ns, length-leaves c.args.latchs.now)) c.loop-i.invariant turn (search rules))
+    rw (name_lines-places 108 0 ns name) (failed_turn calls_laws (name_entry 108 name) places c.loop-i.i (0, 0) (omega (arith, length-enumerate_from 0 ns, length-leaves c.args.latchs.now)) c.loop-i.invariant turn (search rules))
 
 pub loop-i-preserved : goal.loop-i-preserved
 loop-i-preserved g c =
@@ -23,7 +23,7 @@ loop-i-preserved g c =
     let ns = latch_leaves c.args.latchs.now in
     let places = enumerate_from 0 ns in
     let turn = rw (c.input.ensures, ← leaf-read c.args.latchs.now c.loop-i.i _ c.loop-i-test.true, ← name_entry-at 108 name ns c.loop-i.i (omega (arith, length-leaves c.args.latchs.now))) at c.in_ok-write_node_name.ensures.ok in
-    Buffers-turn (name_entry 108 name) places c.loop-i.i (0, 0) (omega (arith, length-enumerate_from 0 ns, length-leaves c.args.latchs.now)) c.loop-i.invariant turn
+    then_turn (name_entry 108 name) places c.loop-i.i (0, 0) (omega (arith, length-enumerate_from 0 ns, length-leaves c.args.latchs.now)) c.loop-i.invariant turn
 
 pub returns : goal.returns
 returns g c =

@@ -1,4 +1,4 @@
-use Rattle.aig_writer.proofs.Putting.{nothing_done}
+use Rattle.aig_writer.proofs.Writing.{calls_laws, nothing_done}
 use Rattle.aig_circuit.proofs.Names.{get_names}
 use Rattle.aig_writer.proofs.names.write_node_name.Goals as goal
 
@@ -7,4 +7,4 @@ returns-in-Some g c =
     rw (get_names c.args.names.now.entries c.args.node, ← c.get.ensures.value, c.in-Some.is) (rw c.as_bytes.ensures.value at c.write_name_line.ensures)
 
 pub returns-in-None : goal.returns-in-None
-returns-in-None g c = rw (get_names c.args.names.now.entries c.args.node, ← c.get.ensures.value, c.in-None.is) nothing_done
+returns-in-None g c = rw (get_names c.args.names.now.entries c.args.node, ← c.get.ensures.value, c.in-None.is) (nothing_done calls_laws)

@@ -1,9 +1,9 @@
 use Rattle.std.proofs.Common.{take}
+use Rattle.std.specs.Fmt.{WritesInCalls}
 use Rattle.std.specs.List.{flat_map}
-use Rattle.aig_writer.specs.Sinks.{Buffers}
 use Rattle.aig_writer.specs.Numbering.{written_number}
 use Rattle.aig_writer.proofs.Items.{numbered_set}
 use Rattle.aig_writer.proofs.sections.write_sets.Given as goal
 
 abbrev pub invariant-loop-set : goal.invariant-loop-set
-invariant-loop-set g l = Buffers l.fn.buffer (g.W.Sink.held l.fn.w) l.buffer (g.W.Sink.held l.w) (flat_map (numbered_set (written_number l.numbers)) (take l.set-index l.sets))
+invariant-loop-set g l = WritesInCalls g.O.TextOut.wrote l.fn.out (flat_map (numbered_set (written_number l.numbers)) (take l.set-index l.sets)) l.out

@@ -1,0 +1,20 @@
+//! What a text is written to.
+
+ghost use Rattle.std.specs.Prelude.{List, ℕ};
+ghost use Rattle.aig_writer.specs.Writing.{WritesPieces};
+
+/// Takes a text piece by piece.
+pub(crate) trait TextOut {
+    /// What a failed write returns.
+    type Error;
+
+    /// The piece was written, from the first state to the second.
+    ghost wrote: { Self → List ℕ → Self → Type 0 };
+
+    /// A beginning of the piece was written at most, and then the write failed.
+    ghost stopped: { Self → List ℕ → Self → Type 0 };
+
+    /// Writes a piece of text.
+    fn write_bytes(&mut self, piece: &[u8]) -> Result<(), Self::Error>
+        ensures { WritesPieces wrote stopped self.old result piece.now self.new };
+}
