@@ -1,10 +1,9 @@
--- Lists of clauses to which those of one node after another are added.
-use Rattle.std.proofs.Common.{◌≡◌, ◌≢◌, ℕ, ◌+◌, ◌<◌, Bool, true, false, not, Some, List, [], ◌∷◌, ◌++◌, length, get_or, set, refl, sym, ap, subst, ◌∙◌, arith, inl, inr, length-append}
+-- Lists of clauses to which those of one node after another are added, from the last on.
+use Rattle.std.proofs.Common.{◌≡◌, ◌≢◌, ℕ, zero, suc, ◌+◌, ◌-◌, ◌<◌, ◌≤◌, Bool, true, false, not, Some, List, [], ◌∷◌, ◌++◌, length, get_or, set, replicate, IsTrue, refl, sym, ap, subst, ◌∙◌, arith, inl, inr}
 use Rattle.std.specs.Prelude.{All, slice_get}
-use Rattle.std.proofs.Math.Seq.{set-append_seam, get_or-append_seam}
-use Rattle.std.proofs.Math.ListN.{get_or-append}
+use Rattle.std.proofs.lemmas.List.{append-nil, get_or-replicate, get_or-set_other, get_or-set_same, length-replicate, length-set, set-get_or}
 use Rattle.std.proofs.lemmas.Bool.{cases_lt}
-use Rattle.std.proofs.lemmas.Option.{slice_get-get_or, slice_get_read, slice_get_within, get_or_from_slice_get, same_Some}
+use Rattle.std.proofs.lemmas.Option.{slice_get-get_or, slice_get_within, same_Some}
 use Rattle.std.proofs.lemmas.List.Elements.{All-nil, All-cons}
 use Rattle.aig_base.specs.declared.logic.literal.Lit.{Lit}
 use Rattle.aig_base.specs.Clauses.{lit_to, inverse_lit, variable_of, is_positive, AreBelow}
@@ -13,7 +12,7 @@ use Rattle.aig_circuit.specs.declared.edge.AigEdge.{AigEdge}
 use Rattle.aig_circuit.specs.declared.node.AigNodeType.TheVariants.{False, And}
 use Rattle.aig_circuit.specs.declared.node.AigNode.{AigNode}
 use Rattle.aig_circuit.specs.Edge.{lit_of}
-use Rattle.aig_circuit.specs.Node.{kind_at}
+use Rattle.aig_circuit.specs.Node.{IsOrdered, kind_at}
 use Rattle.aig_circuit.specs.Circuit.{Circuit, AreNodes}
 use Rattle.aig_circuit.proofs.Trees.{kind_at-within}
 use Rattle.aig_cnf.specs.declared.form.Form.{Form}
@@ -21,9 +20,9 @@ use Rattle.aig_cnf.specs.declared.form.Form.TheVariants.{AndOf, XorOf, IteOf}
 use Rattle.aig_cnf.specs.Cnf.{HasForm, NeedsClauses, HasClauses, clauses_of, edges_of_form}
 use Rattle.aig_circuit.specs.Edges.{roots_of}
 use Rattle.aig_circuit.specs.Marks.{IsMarked}
-use Rattle.aig_cnf.specs.Marks.{AreClausesOf}
+use Rattle.aig_cnf.specs.Marks.{AddsNeededMarks, AreClausesOf}
 use Rattle.aig_cnf.proofs.Unique.{form_unique}
-use Rattle.aig_cnf.proofs.Needing.{has_gate}
+use Rattle.aig_cnf.proofs.Needing.{has_gate, named_below}
 
 -- the literal's variable is below n
 abbrev IsLitBelow : ℕ → Lit → Type 0
@@ -45,43 +44,50 @@ four : {X : Type 0} (P : X → Type 0) (w x y z : X) → P w → P x → P y →
 four P w x y z o p q r = All-cons P w (x ∷ y ∷ z ∷ []) o (three P x y z p q r)
 
 -- a node's clauses speak of it and of nodes below it
-pub clauses_below : (n : ℕ) (form : Form) → All (λ e. e.node_id < n) (edges_of_form form) → AreBelow (n + 1) (clauses_of n form)
-clauses_below n (AndOf a b) below =
-    let P = IsLitBelow (n + 1) in
+pub clauses_below : (m n : ℕ) (form : Form) → n < m → All (λ e. e.node_id < n) (edges_of_form form)
+    → AreBelow m (clauses_of n form)
+clauses_below m n (AndOf a b) lt below =
+    let P = IsLitBelow m in
     let Q = λ (clause : List Lit). All P clause in
-    let own : P (lit_to n true) = lit_to_below (n + 1) n true (omega arith) in
-    let first : P (lit_of a) = lit_to_below (n + 1) a.node_id (not a.compl) (omega (arith, below 0 a (omega arith))) in
-    let second : P (lit_of b) = lit_to_below (n + 1) b.node_id (not b.compl) (omega (arith, below 1 a (omega arith))) in
+    let own : P (lit_to n true) = lit_to_below m n true lt in
+    let first : P (lit_of a) = lit_to_below m a.node_id (not a.compl) (omega (arith, lt, below 0 a (omega arith))) in
+    let second : P (lit_of b) = lit_to_below m b.node_id (not b.compl) (omega (arith, lt, below 1 a (omega arith))) in
     three Q _ _ _
-    (two P _ _ (inverse_below (n + 1) (lit_to n true) own) first)
-    (two P _ _ (inverse_below (n + 1) (lit_to n true) own) second)
-    (three P _ _ _ own (inverse_below (n + 1) (lit_of a) first) (inverse_below (n + 1) (lit_of b) second))
-clauses_below n (XorOf x y) below =
-    let P = IsLitBelow (n + 1) in
+    (two P _ _ (inverse_below m (lit_to n true) own) first)
+    (two P _ _ (inverse_below m (lit_to n true) own) second)
+    (three P _ _ _ own (inverse_below m (lit_of a) first) (inverse_below m (lit_of b) second))
+clauses_below m n (XorOf x y) lt below =
+    let P = IsLitBelow m in
     let Q = λ (clause : List Lit). All P clause in
-    let own : P (lit_to n true) = lit_to_below (n + 1) n true (omega arith) in
-    let first : P (lit_of x) = lit_to_below (n + 1) x.node_id (not x.compl) (omega (arith, below 0 x (omega arith))) in
-    let second : P (lit_of y) = lit_to_below (n + 1) y.node_id (not y.compl) (omega (arith, below 1 x (omega arith))) in
-    let not_own = inverse_below (n + 1) (lit_to n true) own in
-    let not_first = inverse_below (n + 1) (lit_of x) first in
-    let not_second = inverse_below (n + 1) (lit_of y) second in
+    let own : P (lit_to n true) = lit_to_below m n true lt in
+    let first : P (lit_of x) = lit_to_below m x.node_id (not x.compl) (omega (arith, lt, below 0 x (omega arith))) in
+    let second : P (lit_of y) = lit_to_below m y.node_id (not y.compl) (omega (arith, lt, below 1 x (omega arith))) in
+    let not_own = inverse_below m (lit_to n true) own in
+    let not_first = inverse_below m (lit_of x) first in
+    let not_second = inverse_below m (lit_of y) second in
     four Q _ _ _ _ (three P _ _ _ not_own first second) (three P _ _ _ not_own not_first not_second) (three P _ _ _ own not_first second) (three P _ _ _ own first not_second)
-clauses_below n (IteOf c t e) below =
-    let P = IsLitBelow (n + 1) in
+clauses_below m n (IteOf c t e) lt below =
+    let P = IsLitBelow m in
     let Q = λ (clause : List Lit). All P clause in
-    let own : P (lit_to n true) = lit_to_below (n + 1) n true (omega arith) in
-    let first : P (lit_of c) = lit_to_below (n + 1) c.node_id (not c.compl) (omega (arith, below 0 c (omega arith))) in
-    let second : P (lit_of t) = lit_to_below (n + 1) t.node_id (not t.compl) (omega (arith, below 1 c (omega arith))) in
-    let third : P (lit_of e) = lit_to_below (n + 1) e.node_id (not e.compl) (omega (arith, below 2 c (omega arith))) in
-    let not_own = inverse_below (n + 1) (lit_to n true) own in
-    let not_first = inverse_below (n + 1) (lit_of c) first in
-    let not_second = inverse_below (n + 1) (lit_of t) second in
-    let not_third = inverse_below (n + 1) (lit_of e) third in
+    let own : P (lit_to n true) = lit_to_below m n true lt in
+    let first : P (lit_of c) = lit_to_below m c.node_id (not c.compl) (omega (arith, lt, below 0 c (omega arith))) in
+    let second : P (lit_of t) = lit_to_below m t.node_id (not t.compl) (omega (arith, lt, below 1 c (omega arith))) in
+    let third : P (lit_of e) = lit_to_below m e.node_id (not e.compl) (omega (arith, lt, below 2 c (omega arith))) in
+    let not_own = inverse_below m (lit_to n true) own in
+    let not_first = inverse_below m (lit_of c) first in
+    let not_second = inverse_below m (lit_of t) second in
+    let not_third = inverse_below m (lit_of e) third in
     four Q _ _ _ _ (three P _ _ _ not_first not_second own) (three P _ _ _ not_first second not_own) (three P _ _ _ first not_third own) (three P _ _ _ first third not_own)
 
--- clauses that are added to the list of the last variable, which had none
-pub set_last : (lists new : List (List (List Lit))) (n : ℕ) (rel clauses : List (List Lit)) → new ≡ lists ++ [] ∷ [] → n ≡ length lists → rel ≡ clauses → set new n (get_or new n [] ++ rel) ≡ lists ++ clauses ∷ []
-set_last lists new n rel clauses grown last same = rw (grown, last, same, get_or-append_seam lists [] [] [], set-append_seam lists [] [] clauses)
+-- clauses that are added to those of a node, in other words
+pub added_to : (lists : List (List (List Lit))) (n m : ℕ) (clauses rel : List (List Lit)) → m ≡ n
+    → rel ≡ clauses → set lists m (get_or lists m [] ++ rel) ≡ set lists n (get_or lists n [] ++ clauses)
+added_to lists n m clauses rel at same = rw (at, same) refl
+
+-- no clauses are added
+pub nothing_added : (lists : List (List (List Lit))) (n : ℕ)
+    → lists ≡ set lists n (get_or lists n [] ++ [])
+nothing_added lists n = sym (ap (set lists n) (append-nil (get_or lists n [])) ∙ set-get_or lists n [])
 
 pub AreClausesOf-form : (nodes : List AigNode) (optimize : Bool) (n : ℕ) (form : Form) → HasForm nodes optimize n form → AreClausesOf nodes optimize true n (clauses_of n form)
 AreClausesOf-form nodes optimize n form has = record {
@@ -89,37 +95,89 @@ AreClausesOf-form nodes optimize n form has = record {
   none = λ no_form. absurd (no_form form (refl, has));
 }
 
--- the lists of the first i nodes
-pub record AddedUpTo (nodes : List AigNode) (optimize : Bool) (needed : List Bool) (lists : List (List (List Lit))) (i : ℕ) : Type 0 where
-  pub count : length lists ≡ i
+-- the lists of the nodes from i on, by their marks; of those below, variable 0 alone has a clause
+pub record AddedDownTo (nodes : List AigNode) (optimize : Bool) (marks : List Bool)
+    (lists : List (List (List Lit))) (i : ℕ) : Type 0 where
+  pub count : length lists ≡ length nodes
   pub zero_list : slice_get lists 0 ≡ Some ((lit_to 0 false ∷ []) ∷ [])
-  pub each : (n : ℕ) → n ≢ 0 → n < i → AreClausesOf nodes optimize (get_or needed n false) n (get_or lists n [])
+  pub empty : (n : ℕ) → n ≢ 0 → n < i → get_or lists n [] ≡ []
+  pub each : (n : ℕ) → n ≢ 0 → i ≤ n → n < length nodes
+      → AreClausesOf nodes optimize (get_or marks n false) n (get_or lists n [])
 
-get_kept : (lists : List (List (List Lit))) (x clauses : List (List Lit)) → slice_get lists 0 ≡ Some x → slice_get (lists ++ clauses ∷ []) 0 ≡ Some x
-get_kept [] x clauses is = cc
-get_kept (y ∷ ys) x clauses is = is
-
-pub AddedUpTo-more : (nodes : List AigNode) (optimize : Bool) (needed : List Bool) (lists new : List (List (List Lit))) (i : ℕ) (mark : Bool) (clauses : List (List Lit)) → AddedUpTo nodes optimize needed lists i → i < length needed → mark ≡ get_or needed i mark → new ≡ lists ++ clauses ∷ [] → AreClausesOf nodes optimize mark i clauses → AddedUpTo nodes optimize needed new (i + 1)
-AddedUpTo-more nodes optimize needed lists new i mark clauses before there read is here = record {
-  count = rw is (omega (arith, length-append lists (clauses ∷ []), before.count));
-  zero_list = rw is (get_kept lists _ clauses before.zero_list);
-  each = λ n ne h. elim (cases_lt n i) [
-    | inl below ↦ (
-        let within : n < length lists = omega (arith, before.count) in
-        let same : get_or new n [] ≡ get_or lists n [] = rw is (get_or-append lists (clauses ∷ []) [] n within) in
-        rw same (before.each n ne below))
-    | inr last ↦ (
-        let at : n ≡ length lists = omega (arith, before.count) in
-        let number : n ≡ i = omega arith in
-        let same : get_or new n [] ≡ clauses = rw (is, at) (get_or-append_seam lists clauses [] []) in
-        let marked : get_or needed i false ≡ mark = get_or_from_slice_get needed i mark false (slice_get_read needed (length needed) i mark refl there read) in
-        rw (same, number, marked) here)
-  ];
+pub AddedDownTo-start : (nodes : List AigNode) (optimize : Bool) (marks : List Bool)
+    (lists : List (List (List Lit))) (count : ℕ) → count ≡ length nodes → 0 < count
+    → lists ≡ ((lit_to 0 false ∷ []) ∷ []) ∷ replicate (count - 1) []
+    → AddedDownTo nodes optimize marks lists count
+AddedDownTo-start nodes optimize marks lists count is some made = record {
+  count = rw made (omega (arith, length-replicate {A = List (List Lit)} (count - 1) [], is, some));
+  zero_list = rw made refl;
+  empty = λ n ne below. rw made (none n ne below);
+  each = λ n ne above within. absurd (omega arith);
 }
+  where
+    none : (n : ℕ) → n ≢ 0 → n < count
+        → get_or (((lit_to 0 false ∷ []) ∷ []) ∷ replicate (count - 1) []) n [] ≡ []
+    none zero ne below = absurd (ne refl)
+    none (suc n) ne below = get_or-replicate (count - 1) n [] [] (omega arith)
+
+-- another list in a place that isn't the first
+first_kept : (lists : List (List (List Lit))) (i : ℕ) (x clauses : List (List Lit)) → i ≢ 0
+    → slice_get lists 0 ≡ Some x → slice_get (set lists i clauses) 0 ≡ Some x
+first_kept [] i x clauses ne is = cc
+first_kept (y ∷ ys) zero x clauses ne is = absurd (ne refl)
+first_kept (y ∷ ys) (suc i) x clauses ne is = is
+
+same_truth : (a b : Bool) → (IsTrue a → IsTrue b) → (IsTrue b → IsTrue a) → a ≡ b
+same_truth true b f g = sym (f refl)
+same_truth false true f g = g refl
+same_truth false false f g = refl
+
+-- what node i names is below it, so that from i on marks stay
+marks_kept : (nodes : List AigNode) (optimize : Bool) (old new : List Bool) (i : ℕ)
+    → IsOrdered nodes → AddsNeededMarks nodes optimize old new i → (n : ℕ) → i ≤ n
+    → get_or new n false ≡ get_or old n false
+marks_kept nodes optimize old new i ordered more n above =
+    same_truth (get_or new n false) (get_or old n false)
+    (λ h. elim ((more n).0 h) [
+      | inl was ↦ was
+      | inr p ↦ absurd (omega (arith, named_below nodes ordered optimize i n p.1))
+    ])
+    (λ was. (more n).1 (inl was))
+
+pub AddedDownTo-step : (nodes : List AigNode) (optimize : Bool) (old new : List Bool)
+    (lists after : List (List (List Lit))) (i : ℕ) (clauses : List (List Lit)) → IsOrdered nodes
+    → AddedDownTo nodes optimize old lists (i + 1) → i ≢ 0 → i < length nodes
+    → AddsNeededMarks nodes optimize old new i
+    → after ≡ set lists i (get_or lists i [] ++ clauses)
+    → AreClausesOf nodes optimize (get_or old i false) i clauses
+    → AddedDownTo nodes optimize new after i
+AddedDownTo-step nodes optimize old new lists after i clauses ordered before ne lt more is here =
+    let own = get_or lists i [] ++ clauses in
+    let mark : (n : ℕ) → i ≤ n → get_or new n false ≡ get_or old n false =
+    marks_kept nodes optimize old new i ordered more in
+    record {
+      count = rw is (length-set lists i own ∙ before.count);
+      zero_list = rw is (first_kept lists i _ own ne before.zero_list);
+      empty = λ n some below.
+          let other : n ≢ i = λ e. absurd (omega (arith, e)) in
+          rw is (get_or-set_other lists i n own [] other ∙ before.empty n some (omega arith));
+      each = λ n some above within. elim (cases_lt i n) [
+        | inl higher ↦ (
+            let other : n ≢ i = λ e. absurd (omega (arith, e)) in
+            let kept : get_or after n [] ≡ get_or lists n [] = rw is (get_or-set_other lists i n own [] other) in
+            rw (kept, mark n above) (before.each n some (omega arith) within))
+        | inr not_higher ↦ (
+            let same : n ≡ i = omega arith in
+            let within_lists : i < length lists = omega (arith, before.count) in
+            let added : get_or after i [] ≡ clauses =
+            rw is (get_or-set_same lists i own [] within_lists ∙ ap (λ xs. xs ++ clauses) (before.empty i ne (omega arith))) in
+            rw (same, added, mark i (omega arith)) here)
+      ];
+    }
 
 -- the lists of all nodes, where exactly what needs clauses is marked
-pub AddedUpTo-all : (c : Circuit) (optimize : Bool) (needed : List Bool) (lists : List (List (List Lit))) → AreNodes c.nodes → ((n : ℕ) → (IsMarked needed n → NeedsClauses c.nodes optimize (roots_of c) n) × (NeedsClauses c.nodes optimize (roots_of c) n → IsMarked needed n)) → AddedUpTo c.nodes optimize needed lists (length c.nodes) → HasClauses c optimize lists
-AddedUpTo-all c optimize needed lists sound exactly all = record {
+pub AddedDownTo-all : (c : Circuit) (optimize : Bool) (needed : List Bool) (lists : List (List (List Lit))) → AreNodes c.nodes → ((n : ℕ) → (IsMarked needed n → NeedsClauses c.nodes optimize (roots_of c) n) × (NeedsClauses c.nodes optimize (roots_of c) n → IsMarked needed n)) → AddedDownTo c.nodes optimize needed lists 1 → HasClauses c optimize lists
+AddedDownTo-all c optimize needed lists sound exactly all = record {
   count = all.count;
   zero = all.zero_list;
   needed = λ n form is has.
@@ -127,12 +185,12 @@ AddedUpTo-all c optimize needed lists sound exactly all = record {
       let within : n < length c.nodes = kind_at-within c.nodes n (And gate.0 gate.1) gate.2 in
       let in_lists : n < length lists = omega (arith, all.count) in
       let not_zero : n ≢ 0 = λ e. not_false gate.0 gate.1 (sym (subst (λ m. kind_at c.nodes m ≡ Some (And gate.0 gate.1)) e gate.2) ∙ sound.false_first) in
-      slice_get-get_or lists n [] in_lists ∙ ap Some ((all.each n not_zero within).gate form ((exactly n).1 is) has);
+      slice_get-get_or lists n [] in_lists ∙ ap Some ((all.each n not_zero (omega arith) within).gate form ((exactly n).1 is) has);
   none = λ n clauses ne no_form is.
       let within : n < length lists = slice_get_within lists n clauses is in
       let in_nodes : n < length c.nodes = omega (arith, all.count) in
       let same : get_or lists n [] ≡ clauses = same_Some _ _ (sym (slice_get-get_or lists n [] within) ∙ is) in
-      sym same ∙ (all.each n ne in_nodes).none (λ form p. no_form form ((exactly n).0 p.0, p.1));
+      sym same ∙ (all.each n ne (omega arith) in_nodes).none (λ form p. no_form form ((exactly n).0 p.0, p.1));
 }
   where
     not_false : (a b : AigEdge) → ¬ (Some (And a b) ≡ Some False)

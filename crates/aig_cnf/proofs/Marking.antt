@@ -1,11 +1,12 @@
 -- Marks of the nodes that need clauses.
-use Rattle.std.proofs.Common.{◌≡◌, ℕ, ◌+◌, ◌<◌, ◌≤◌, Bool, List, length, subst, ◌∙◌, arith, inl, inr}
+use Rattle.std.proofs.Common.{◌≡◌, ℕ, zero, suc, ◌+◌, ◌<◌, ◌≤◌, Bool, Some, List, length, sym, subst, ◌∙◌, arith, inl, inr}
 use Rattle.std.specs.Prelude.{All}
 use Rattle.std.proofs.lemmas.Bool.{cases_lt}
 use Rattle.aig_circuit.specs.declared.edge.AigEdge.{AigEdge}
 use Rattle.aig_circuit.specs.declared.node.AigNode.{AigNode}
 use Rattle.aig_circuit.specs.Node.{IsOrdered}
-use Rattle.aig_circuit.specs.Circuit.{IsInRange}
+use Rattle.aig_circuit.specs.declared.node.AigNodeType.TheVariants.{And, False}
+use Rattle.aig_circuit.specs.Circuit.{AreNodes, IsInRange}
 use Rattle.aig_cnf.specs.declared.form.Form.{Form}
 use Rattle.aig_cnf.specs.Cnf.{HasForm, FormNames, NeedsClauses, edges_of_form}
 use Rattle.aig_circuit.specs.Edges.{ReferTo}
@@ -13,7 +14,7 @@ use Rattle.aig_circuit.specs.Marks.{IsMarked, AddsEdgeMarks}
 use Rattle.aig_circuit.specs.Reach.{root, step}
 use Rattle.aig_cnf.specs.Marks.{AddsNeededMarks}
 use Rattle.aig_cnf.proofs.Unique.{form_unique}
-use Rattle.aig_cnf.proofs.Needing.{named_below, needed_within}
+use Rattle.aig_cnf.proofs.Needing.{has_gate, named_below, needed_within}
 
 -- roots are marked, and from node i on what the forms of marked nodes name; nothing else is
 pub record MarkedDownTo (nodes : List AigNode) (optimize : Bool) (roots : List AigEdge) (marks : List Bool) (i : ℕ) : Type 0 where
@@ -22,11 +23,14 @@ pub record MarkedDownTo (nodes : List AigNode) (optimize : Bool) (roots : List A
   pub roots_marked : (n : ℕ) → ReferTo roots n → IsMarked marks n
   pub closed : (n m : ℕ) → i ≤ n → n < length nodes → IsMarked marks n → FormNames nodes optimize n m → IsMarked marks m
 
-pub MarkedDownTo-start : (nodes : List AigNode) (optimize : Bool) (roots : List AigEdge) (old new : List Bool) → length new ≡ length nodes → ((n : ℕ) → ¬ IsMarked old n) → AddsEdgeMarks old new roots → MarkedDownTo nodes optimize roots new (length nodes)
-MarkedDownTo-start nodes optimize roots old new count none marked = record {
+pub MarkedDownTo-start : (nodes : List AigNode) (optimize : Bool) (roots : List AigEdge)
+    (marks : List Bool) → length marks ≡ length nodes
+    → ((n : ℕ) → (IsMarked marks n → ReferTo roots n) × (ReferTo roots n → IsMarked marks n))
+    → MarkedDownTo nodes optimize roots marks (length nodes)
+MarkedDownTo-start nodes optimize roots marks count exactly = record {
   count = count;
-  only = λ n m. elim ((marked n).0 m) [ inl was ↦ absurd (none n was) | inr h ↦ root h ];
-  roots_marked = λ n h. (marked n).1 (inr h);
+  only = λ n m. root ((exactly n).0 m);
+  roots_marked = λ n h. (exactly n).1 h;
   closed = λ n m h within is calls. absurd (omega arith);
 }
 
@@ -50,6 +54,27 @@ MarkedDownTo-step nodes optimize roots old new i o d len more = record {
         ])
   ];
 }
+
+-- node 0 has no form
+pub MarkedDownTo-all : (nodes : List AigNode) (optimize : Bool) (roots : List AigEdge)
+    (marks : List Bool) → AreNodes nodes → MarkedDownTo nodes optimize roots marks 1
+    → MarkedDownTo nodes optimize roots marks 0
+MarkedDownTo-all nodes optimize roots marks sound d = record {
+  count = d.count;
+  only = d.only;
+  roots_marked = d.roots_marked;
+  closed = closed;
+}
+  where
+    not_false : (a b : AigEdge) → ¬ (Some (And a b) ≡ Some False)
+    not_false a b e = cc
+
+    closed : (n m : ℕ) → 0 ≤ n → n < length nodes → IsMarked marks n
+        → FormNames nodes optimize n m → IsMarked marks m
+    closed zero m h within marked names =
+        let gate = has_gate nodes optimize 0 names.0 names.1 in
+        absurd (not_false gate.0 gate.1 (sym gate.2 ∙ sound.false_first))
+    closed (suc n) m h within marked names = d.closed (suc n) m (omega arith) within marked names
 
 -- all that needs clauses is marked in the end
 pub needed_is_marked : (nodes : List AigNode) (optimize : Bool) (roots : List AigEdge) (marks : List Bool) → IsOrdered nodes → All (IsInRange nodes) roots → MarkedDownTo nodes optimize roots marks 0 → (n : ℕ) → NeedsClauses nodes optimize roots n → IsMarked marks n

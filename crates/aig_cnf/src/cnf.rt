@@ -1,14 +1,15 @@
 //! The clauses of a circuit (Tseitin encoding).
 
-ghost use Rattle.std.specs.Prelude.{◌≡◌, ◌+◌, ◌<◌, ◌≤◌, ◌^◌, ◌++◌, ◌∷◌, [], All, IfOk, OnOk, List, length};
+ghost use Rattle.std.specs.Prelude.{◌≡◌, ◌-◌, ◌<◌, ◌≤◌, ◌^◌, ◌++◌, ◌∷◌, [], All, IfOk, OnOk, List, false, length, replicate, slice_index_or, slice_set};
 ghost use Rattle.aig_base.specs.declared.logic.literal.Lit.{Lit};
+ghost use Rattle.aig_base.specs.Clauses.{lit_to};
 ghost use Rattle.aig_circuit.specs.Circuit.{AreNodes};
 ghost use Rattle.aig_cnf.specs.Cnf.{clauses_of, edges_of_form, FixesRoots, HasClauses, NodeValuesSatisfy};
-ghost use Rattle.aig_cnf.specs.Marks.{AreClausesOf};
+ghost use Rattle.aig_cnf.specs.Marks.{AddsNeededMarks, AreClausesOf};
 
 use crate::form::{Form, find_form};
-use crate::marks::find_needed;
-use aig_base::{DagCnf, LitVvec, MemoryError};
+use crate::marks::{find_roots, mark_form};
+use aig_base::{DagCnf, LitVvec, MemoryError, Var};
 use aig_circuit::{AigEdge, AigNode, CircuitView};
 use std::alloc::Global;
 
@@ -26,27 +27,45 @@ fn encode_form(alloc: Global, id: usize, form: Form) -> Result<LitVvec, MemoryEr
     }
 }
 
-/// Adds the variable of node `id`, with the clauses of its form where it needs clauses.
-fn add_node(
+/// Returns so many variables: variable 0 with the one clause that it is false, and others without clauses.
+fn variables(alloc: Global, count: usize) -> Result<DagCnf, MemoryError>
+    requires some { 1 ≤ count }
+    requires few { count ≤ 2 ^ 31 }
+    ensures { IfOk result
+        (λ dag. dag ≡ ((lit_to 0 false ∷ []) ∷ []) ∷ replicate (count - 1) []) }
+{
+    let mut dag = DagCnf::new(alloc)?;
+    for _ in 1..count {
+        dag.new_var()?;
+    }
+    Ok(dag)
+}
+
+/// Marks what the form of node `id` names, and adds the clauses of the form, where the node is marked and a gate.
+fn add_gate(
     alloc: Global,
     lists: &mut DagCnf,
+    marks: &mut [bool],
     nodes: &[AigNode],
     id: usize,
-    needed: bool,
     optimize: bool,
 ) -> Result<(), MemoryError>
     requires sound { AreNodes nodes.now }
     requires there { id < length nodes.now }
     requires few { length nodes.now ≤ 2 ^ 31 }
-    requires next { length lists.old ≡ id }
-    ensures { OnOk result ((clauses : List (List Lit))
-        × (lists.new ≡ lists.old ++ clauses ∷ [])
-        × AreClausesOf nodes.now optimize needed id clauses) }
+    requires lists { length lists.old ≡ length nodes.now }
+    requires marks { length marks.old ≡ length nodes.now }
+    ensures marks { OnOk result (AddsNeededMarks nodes.now optimize marks.old marks.new id) }
+    ensures clauses { OnOk result ((clauses : List (List Lit))
+        × (lists.new ≡ slice_set lists.old id (slice_index_or lists.old id [] ++ clauses))
+        × AreClausesOf nodes.now optimize (slice_index_or marks.old id false) id clauses) }
 {
-    let var = lists.new_var()?;
-    if needed && let Some(form) = find_form(nodes, id, optimize) {
+    if marks[id]
+        && let Some(form) = find_form(nodes, id, optimize)
+    {
+        mark_form(marks, form);
         let rel = encode_form(alloc, id, form)?;
-        lists.add_rel(var, &rel)?;
+        lists.add_rel(Var::new(id), &rel)?;
     }
     Ok(())
 }
@@ -66,11 +85,10 @@ pub fn encode(
     ensures satisfied { IfOk result (λ lists. NodeValuesSatisfy circuit.now lists) }
 {
     let nodes = circuit.nodes();
-    let needed = find_needed(alloc, circuit, optimize)?;
-    let mut lists = DagCnf::new(alloc)?;
-    for id in 1..nodes.len() {
-        let is_needed = needed[id];
-        add_node(alloc, &mut lists, nodes, id, is_needed, optimize)?;
+    let mut marks = find_roots(alloc, circuit)?;
+    let mut lists = variables(alloc, nodes.len())?;
+    for id in (1..nodes.len()).rev() {
+        add_gate(alloc, &mut lists, &mut marks, nodes, id, optimize)?;
     }
     Ok(lists)
 }

@@ -1,17 +1,16 @@
-//! Marks of the nodes that need clauses.
+//! Marks of the nodes that roots and forms of gates name.
 
-ghost use Rattle.std.specs.Prelude.{◌≡◌, ◌<◌, ◌↔◌, ℕ, false, All, IfOk, length};
+ghost use Rattle.std.specs.Prelude.{◌≡◌, ◌↔◌, ℕ, All, IfOk, length};
 ghost use Rattle.std.specs.List.{flat_map};
-ghost use Rattle.aig_circuit.specs.Circuit.{AreNodes, IsCircuit};
-ghost use Rattle.aig_cnf.specs.Cnf.{edges_of_form, NeedsClauses};
-ghost use Rattle.aig_circuit.specs.Edges.{latch_edges, roots_of};
+ghost use Rattle.aig_circuit.specs.Circuit.{IsCircuit};
+ghost use Rattle.aig_cnf.specs.Cnf.{edges_of_form};
+ghost use Rattle.aig_circuit.specs.Edges.{ReferTo, latch_edges, roots_of};
 ghost use Rattle.aig_circuit.specs.Marks.{HasMarks, IsMarked, AddsEdgeMarks};
-ghost use Rattle.aig_cnf.specs.Marks.{AddsNeededMarks};
 
-use crate::form::{Form, find_form};
+use crate::form::Form;
 use aig_base::MemoryError;
 use aig_circuit::marks::mark_edges;
-use aig_circuit::{AigEdge, AigLatch, AigNode, CircuitView};
+use aig_circuit::{AigEdge, AigLatch, CircuitView};
 use std::alloc::Global;
 
 /// Marks the nodes of the edges of sets.
@@ -60,7 +59,7 @@ fn mark_roots(marks: &mut [bool], circuit: &CircuitView<'_>)
 }
 
 /// Marks the nodes of the edges of a form.
-fn mark_form(marks: &mut [bool], form: Form)
+pub fn mark_form(marks: &mut [bool], form: Form)
     requires { HasMarks marks.old (edges_of_form form) }
     ensures { AddsEdgeMarks marks.old marks.new (edges_of_form form) }
 {
@@ -71,47 +70,14 @@ fn mark_form(marks: &mut [bool], form: Form)
     }
 }
 
-/// Marks the nodes that the form of node `id` names, if it is marked.
-fn mark_needed(marks: &mut [bool], nodes: &[AigNode], id: usize, optimize: bool)
-    requires sound { AreNodes nodes.now }
-    requires lengths { length marks.old ≡ length nodes.now }
-    requires there { id < length nodes.now }
-    ensures { AddsNeededMarks nodes.now optimize marks.old marks.new id }
-{
-    if marks[id]
-        && let Some(form) = find_form(nodes, id, optimize)
-    {
-        mark_form(marks, form);
-    }
-}
-
-/// Marks exactly the nodes that need clauses.
-fn mark_all(marks: &mut [bool], circuit: &CircuitView<'_>, optimize: bool)
-    requires circuit { IsCircuit circuit.now }
-    requires lengths { length marks.old ≡ length circuit.now.nodes }
-    requires unmarked { (n : ℕ) → ¬ IsMarked marks.old n }
-    ensures { (n : ℕ) → IsMarked marks.new n
-        ↔ NeedsClauses circuit.now.nodes optimize (roots_of circuit.now) n }
-{
-    mark_roots(marks, circuit);
-    let nodes = circuit.nodes();
-    for id in (0..nodes.len()).rev() {
-        mark_needed(marks, nodes, id, optimize);
-    }
-}
-
-/// For each node a mark that says whether it needs clauses.
-pub fn find_needed(
-    alloc: Global,
-    circuit: &CircuitView<'_>,
-    optimize: bool,
-) -> Result<Vec<bool>, MemoryError>
+/// For each node a mark that says whether it is the node of a root.
+pub fn find_roots(alloc: Global, circuit: &CircuitView<'_>) -> Result<Vec<bool>, MemoryError>
     requires { IsCircuit circuit.now }
     ensures count { IfOk result (λ marks. length marks.items ≡ length circuit.now.nodes) }
     ensures exactly { IfOk result (λ marks. (n : ℕ) → IsMarked marks.items n
-        ↔ NeedsClauses circuit.now.nodes optimize (roots_of circuit.now) n) }
+        ↔ ReferTo (roots_of circuit.now) n) }
 {
     let mut marks = vec![in alloc; false; circuit.nodes().len()]?;
-    mark_all(&mut marks, circuit, optimize);
+    mark_roots(&mut marks, circuit);
     Ok(marks)
 }
