@@ -1,11 +1,10 @@
 #!/usr/bin/env python3
 """Refuses each request for memory in turn, and counts requests.
 
-Every call that takes memory is made by the program aig_memory, or on circuits by a step of aig_script, once for each of its own
-requests for memory, with that request refused, upwards until a run ends without a refusal. A refused call answers that memory ran
-out and nothing else, and leaves its receiver as it was; the last run answers what ample memory answers. The same of each command of
-aigtool and aigcheck, which says `out of memory` after its program's name, ends with status 1, prints at most a beginning, and leaves
-an old OUT as it was.
+Every call that takes memory is made by a step of aig_script, once for each of its own requests for memory, with that request refused,
+upwards until a run ends without a refusal. A refused call answers that memory ran out and nothing else, and leaves its receiver as
+it was; the last run answers what ample memory answers. The same of each command of aigtool and aigcheck, which says `out of memory`
+after its program's name, ends with status 1, prints at most a beginning, and leaves an old OUT as it was.
 
 Requests are counted as well: long lines and comments make none, ands that fold and changes of entries make none, and no number of a
 file makes a large one, but for the room for nodes, which is reserved within the limit.
@@ -14,6 +13,7 @@ The shim memory/refuse.c is built with the C compiler and loaded by LD_PRELOAD.
 """
 import argparse
 import concurrent.futures
+import dataclasses
 import itertools
 import os
 import pathlib
@@ -24,16 +24,6 @@ import tempfile
 
 HERE = pathlib.Path(__file__).resolve().parent
 CRATES = HERE.parent / "crates"
-
-# Calls that ask for no memory, though they answer a result.
-ASK_NOTHING = {"write_text", "to_file"}
-# Calls that read a file first, and the call that reads the same file alone.
-READ_FIRST = {
-    "encode": "from_aiger",
-    "query": "from_aiger",
-    "encode shuffled": "from_aiger shuffled",
-    "query shuffled": "from_aiger shuffled",
-}
 
 AND = b"aag 3 2 0 1 1\n2\n4\n6\n6 4 2\n"
 # Two latches, an exclusive or, all kinds of properties, names, a comment, and gates in falling order with a gap.
@@ -115,68 +105,6 @@ class Shim:
         return Ended(run, counts)
 
 
-def parts(out):
-    """The receiver before the call, the answer, and the receiver after it."""
-    before, rest = out.decode().split("call\n", 1)
-    answer, after = rest.split("answer\n", 1)[1].split("after\n", 1)
-    return before, answer, after
-
-
-class Calls:
-    """The calls of the library, one by one."""
-
-    def __init__(self, shim, program, folder):
-        self.shim, self.program, self.folder = shim, program, folder
-
-    def names(self):
-        """The names of all calls."""
-        run = subprocess.run([self.program], stdout=subprocess.PIPE, check=True, encoding="utf-8")
-        return run.stdout.splitlines()
-
-    def run(self, name, room, refused=0):
-        return self.shim.run([self.program, name], room, refused, ("call", "answer"))
-
-    def room(self, name):
-        """A folder of the call's own."""
-        room = self.folder / name.replace(":", "-").replace(" ", "_")
-        room.mkdir(exist_ok=True)
-        return room
-
-    def reading(self, name):
-        """How many requests a call makes while it reads."""
-        if name not in READ_FIRST:
-            return 0
-        return self.run(READ_FIRST[name], self.room("reads " + name)).requests
-
-    def refusal(self, name, refused, reading):
-        """What the call answers where this request is refused."""
-        if name in READ_FIRST and refused <= reading:
-            return "Err(Read(Memory))\n"
-        return "Err(Memory)\n"
-
-    def check(self, name):
-        """Failures of a call, one line each, and the count of checks."""
-        room, reading, wrong = self.room(name), self.reading(name), []
-        ample = subprocess.run([self.program, name], cwd=room, capture_output=True)
-        if ample.returncode or ample.stderr:
-            return 1, [f"{name}: status {ample.returncode}, {ample.stderr}"]
-        receiver, refusals = parts(ample.stdout)[0], 0
-        for refused in itertools.count(1):
-            ended = self.run(name, room, refused)
-            if ended.requests < refused:
-                break
-            wanted = (receiver, self.refusal(name, refused, reading), receiver)
-            if not ended.status and not ended.err and parts(ended.out) == wanted:
-                refusals += 1
-            else:
-                wrong.append(f"{name}, request {refused}: status {ended.status}, {ended.out[-300:]}, {ended.err}")
-        if ended.whole() != (0, ample.stdout, b""):
-            wrong.append(f"{name}: another answer without a refusal")
-        if (refusals == 0) != (name in ASK_NOTHING):
-            wrong.append(f"{name}: {refused - 1} requests, {refusals} answered as refused")
-        return refused + 1, wrong
-
-
 # A file with an entry in every list: two inputs in falling order, three latches with all resets, a justice set of two edges and one
 # of none, gates with equal trees, an exclusive or, a choice.
 FULL = (
@@ -184,8 +112,23 @@ FULL = (
     b"12 6 2\n14 9 4\n16 6 2\n18 16 14\n20 4 2\n22 5 3\n24 23 21\n26 8 2\n28 10 3\n30 29 27\n"
     b"i0 a\ni1 b\nl2 state\no0 dropped\nccomment\n"
 )
-# Its circuit with a free leaf, an initial edge that isn't constant, and the names of that leaf and of a gate. The lists of a copy are
-# full: each grows at the next entry.
+# The same, but for variables that are left out and for gates in falling order.
+SHUFFLED = (
+    b"aag 40 2 3 2 10 2 2 2 1\n4\n2\n6 12\n8 15 1\n10 4 10\n24\n31\n12\n19\n14\n11\n2\n0\n18\n7\n13\n"
+    b"30 29 27\n28 10 3\n26 8 2\n24 23 21\n22 5 3\n20 4 2\n18 16 14\n16 6 2\n14 9 4\n12 6 2\n"
+    b"i0 a\ni1 b\nl2 state\no0 dropped\nccomment\n"
+)
+# A binary file with the same nodes.
+BINARY = (
+    b"aig 15 2 3 2 10 2 2 2 1\n12\n15 1\n4 10\n24\n31\n12\n19\n14\n11\n2\n0\n18\n7\n13\n"
+    b"\x06\x04\x05\x05\n\x04\x02\x02\x10\x02\x11\x02\x01\x02\x12\x06\x12\x07\x01\x02"
+    b"i0 a\ni1 b\nl2 state\n"
+)
+FILES = {"full": FULL, "shuffled": SHUFFLED, "binary": BINARY, "gate": b"gate", "free": b"free", "another": b"another", "out": b"old"}
+
+# The circuit of the file. The lists of a copy are full: each grows at the next entry.
+CLOSED = ["read full 7 1000", "keep", "swap"]
+# It with a free leaf, an initial edge that isn't constant, and the names of that leaf and of a gate.
 FILLED = ["read full 7 1000", "leaf", "init 0 3", "name 7 gate", "name 16 free", "keep", "swap"]
 # The calls that steps make on that circuit.
 STEPS = [
@@ -218,12 +161,51 @@ STEPS = [
     "compress_property",
     "gate_init_to_constraint",
     "ternary_simulate =11 =xxx",
+    "get_symbol 1",
 ]
 # Those that ask for none: ands that fold, a simulation of no step, and what changes entries that are there.
 QUIET = [
     *("and 24 24", "and 24 25", "and 0 24", "and 24 1", "simulate_all 24 =xxx"),
     *("set bads 0 24", "clear outputs", "clear_justice", "next 0 24", "init 0 24", "init 0"),
 ]
+# Calls that read a file first, each with the call that reads the same file alone.
+READ_FIRST = {
+    "encode full 2 7 1000": "read full 7 1000",
+    "encode_raw shuffled 1 7 1000": "read shuffled 7 1000",
+    "query full 2": "read full 7 1000",
+    "query_raw shuffled 0": "read shuffled 7 1000",
+}
+# All calls that ask for no memory, though they answer a result: those, and the writing of a text.
+ASK_NOTHING = {*QUIET, "put_text 7 1000", "to_file out"}
+
+
+@dataclasses.dataclass
+class Case:
+    """A step behind others, the step that shows its receiver, and what the refused step prints behind `Memory`."""
+
+    before: list
+    step: str
+    show: str = "show"
+    after: list = dataclasses.field(default_factory=list)
+
+
+def cases():
+    """A case for each call."""
+    yield from (Case(FILLED, step) for step in STEPS + QUIET)
+    on_the_file = ["reencode", "read full 7 1000", "read binary 7 1000", "read shuffled 7 1000", "from_file full 1000", *READ_FIRST]
+    yield from (Case(CLOSED, step) for step in on_the_file)
+    yield from (Case(CLOSED, step, after=["[]"]) for step in ("put_text 7 1000", "put_binary 7 1000"))
+    yield from (Case(CLOSED, step, "contents out") for step in ("to_file out", "to_file_binary out"))
+    yield Case([], "taker 7 100")
+    # What a simulation that isn't refused prints is what the refused one prints behind its answer.
+    yield Case(CLOSED, "simulate =000 =00", after=["simulate =000"])
+    yield Case(CLOSED, "simulate_rest 24 =000 =xx =00 =xx", after=["simulate =000 =xx"])
+    for step in ("clause 5 6 9", "cnf_and 2 5 6 9", "cnf_xor 2 5 6", "cnf_ite 2 5 6 9"):
+        yield Case(["cnf_xor 2 5 6"], step, "clauses")
+    yield Case([], "new_relations", "relations")
+    yield Case(["new_var"] * 3, "new_var", "relations")
+    yield Case(["add_rel 0 0 0"] * 3, "add_rel 0 0 0", "relations")
+    yield Case([], "insert 1 2", "mapped")
 
 
 class Steps:
@@ -235,30 +217,43 @@ class Steps:
     def run(self, steps, room, refused=0):
         """Takes steps, and counts the requests of their calls."""
         (room / "steps").write_text("".join(step + "\n" for step in steps))
+        (room / "out").write_bytes(FILES["out"])
         return self.shim.run([self.program, "steps"], room, refused, ("call", "answer"))
 
-    def room(self, step):
-        """A folder of the step's own, with what steps read."""
-        room = self.folder / step.replace(" ", "_")
+    def room(self, case):
+        """A folder of the case's own, with what steps read."""
+        room = self.folder / " ".join([str(len(case.before)), case.step]).replace(" ", "_")
         room.mkdir()
-        (room / "full").write_bytes(FULL)
-        for name in ("gate", "free", "another"):
-            (room / name).write_text(name)
+        for name, data in FILES.items():
+            (room / name).write_bytes(data)
         return room
 
-    def check(self, step):
-        """Failures of a step, one line each, and the count of checks."""
-        room, wrong = self.room(step), []
-        before = self.run([*FILLED, "show"], room)
-        wanted = before.out.decode() + f"> {step.split()[0]}\ncall\nanswer\nMemory\n> show\n" + before.out.decode().split("> show\n")[1]
-        ample = self.run([*FILLED, "show", step, "show"], room)
+    def printed(self, steps, room):
+        """What the last of some steps prints, with no request refused."""
+        return self.run(steps, room).out.decode().rpartition("> ")[2].partition("\n")[2]
+
+    def tail(self, case, room):
+        """What the refused step prints behind `Memory`: a line as it stands, or the state that a step prints behind its answers."""
+        if not case.after or not case.after[0].startswith("simulate"):
+            return "".join(line + "\n" for line in case.after)
+        return self.printed([*case.before, *case.after], room).rpartition("()\n")[2]
+
+    def check(self, case):
+        """Failures of a case, one line each, and the count of checks."""
+        room, wrong, step = self.room(case), [], case.step
+        shown, tail = self.printed([*case.before, case.show], room), self.tail(case, room)
+        before = self.run([*case.before, case.show], room)
+        reading = self.run([*case.before, READ_FIRST[step]], room).requests if step in READ_FIRST else 0
+        ample = self.run([*case.before, case.show, step, case.show], room)
         for refused in range(before.requests + 1, ample.requests + 1):
-            ended = self.run([*FILLED, "show", step, "show"], room, refused)
-            if (ended.status, ended.out.decode(), ended.err) != (0, wanted, b""):
+            ended = self.run([*case.before, case.show, step, case.show], room, refused)
+            answer = "Read(Memory)" if refused <= reading else "Memory"
+            told = f"> {step.split()[0]}\ncall\nanswer\n{answer}\n{tail}> {case.show.split()[0]}\n{shown}"
+            if (ended.status, ended.out.decode(), ended.err) != (0, before.out.decode() + told, b""):
                 wrong.append(f"{step}, request {refused}: status {ended.status}, {ended.out[-300:]}, {ended.err}")
         ended_well = (ample.status, ample.err) == (0, b"") and b"Memory" not in ample.out
-        if not ended_well or (ample.requests == before.requests) != (step in QUIET):
-            wrong.append(f"{step}: status {ample.status}, {ample.requests} requests, {ample.err}")
+        if not ended_well or (ample.requests == before.requests) != (step in ASK_NOTHING):
+            wrong.append(f"{step}: status {ample.status}, {ample.requests - before.requests} requests, {ample.err}")
         return ample.requests - before.requests + 1, wrong
 
 
@@ -359,27 +354,23 @@ def c_compiler():
 
 def main():
     parser = argparse.ArgumentParser(description=__doc__, formatter_class=argparse.RawDescriptionHelpFormatter)
-    program = CRATES / "aig_memory" / "out" / "aig_memory"
-    parser.add_argument("--program", type=pathlib.Path, default=program, help="the program aig_memory")
     script = CRATES / "aig_script" / "out" / "aig_script"
     parser.add_argument("--script", type=pathlib.Path, default=script, help="the program aig_script")
     parser.add_argument("--tool", type=pathlib.Path, default=CRATES / "aigtool" / "out" / "aigtool", help="the program aigtool")
     parser.add_argument("--checker", type=pathlib.Path, default=CRATES / "aigcheck" / "out" / "aigcheck", help="the program aigcheck")
     parser.add_argument("--compiler", default=c_compiler(), help="the C compiler (%(default)s)")
-    parser.add_argument("names", nargs="*", help="the calls to make (all, and the commands)")
+    parser.add_argument("names", nargs="*", help="the steps to take (all, and the commands)")
     given = parser.parse_args()
     failures = Failures()
     with tempfile.TemporaryDirectory() as name:
         folder = pathlib.Path(name)
         shim = Shim(given.compiler, folder)
-        calls = Calls(shim, given.program.resolve(), folder)
         steps = Steps(shim, given.script.resolve(), folder)
         tool = Program(shim, "aigtool", given.tool.resolve(), folder)
         checker = Program(shim, "aigcheck", given.checker.resolve(), folder)
         with concurrent.futures.ThreadPoolExecutor(os.cpu_count()) as pool:
-            running = [pool.submit(calls.check, call) for call in given.names or calls.names()]
+            running = [pool.submit(steps.check, case) for case in cases() if not given.names or case.step.split()[0] in given.names]
             if not given.names:
-                running += [pool.submit(steps.check, step) for step in STEPS + QUIET]
                 files = both_forms(tool.path, folder)
                 running += [pool.submit(tool.check, i, *case) for i, case in enumerate(tool_cases(files))]
                 running += [pool.submit(checker.check, i, words, files | CHECKED) for i, words in enumerate(CHECKS)]

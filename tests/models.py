@@ -4,7 +4,8 @@
 Clauses against runs of a file: for all values of the leaves, what the clauses fix is what the file's own lines say, step by step, and
 the further clauses of a query hold exactly on the runs to a bad state. The simulator knows the lines alone, and the solver the clauses.
 Hashing against trees: the nodes of a hashed circuit are the trees of the old one that differ, up to exchange. And circuits of a
-hundred thousand gates, each on the one before, which no call may take for a deep stack.
+hundred thousand gates, each on the one before, which no call may take for a deep stack. And sinks and formatters with room for a part
+of what is written.
 """
 import argparse
 import dataclasses
@@ -305,6 +306,48 @@ def reads_falling(program):
     return len(circuit["nodes"]) == DEEP + 2 and circuit["outputs"] == [str(DEEP + 1)]
 
 
+# ---- what is written where there is no room for all of it
+
+AND = b"aag 3 2 0 1 1\n2\n4\n6\n6 4 2\n"
+BINARY_AND = b"aig 3 2 0 1 1\n6\n\x02\x02"
+# A file that doesn't fit into a buffer: three hundred inputs, the last of which has a long name.
+LONG = b"aag 300 300 0 0 0\n" + b"".join(b"%d\n" % (2 * i) for i in range(1, 301)) + b"i299 " + b"a" * 5000 + b"\n"
+# Two nodes with names: what is printed has 32 bytes.
+NAMED = b"aag 2 1 1 0 0\n2\n4 2 4\ni0 x\nl0 s\n"
+PIECES = (1, 7, 4096)
+
+
+def put(program, text, steps):
+    """What the program prints for each step on the circuit of a text."""
+    return answers(program, ["read file 4096 16777216", *steps], {"file": text.decode()})[1:]
+
+
+def held(data):
+    """How bytes are printed."""
+    return " ".join(map(str, data))
+
+
+def leaves_beginnings(program):
+    """Whether a sink without room for all of a file holds the beginning for which it has room, and the answer is that it failed."""
+    for name, data in (("put_text", AND), ("put_binary", BINARY_AND)):
+        rooms = [(most, room) for most in PIECES for room in range(len(data) + 1)]
+        found = put(program, AND, [f"{name} {most} {room}" for most, room in rooms])
+        if found != [["Stream"] * (room < len(data)) + [held(data[:room])] for _, room in rooms]:
+            return False
+    return True
+
+
+def writes_long(program):
+    """Whether more than a buffer is written whole, in pieces of each length."""
+    return put(program, LONG, [f"put_text {most} {len(LONG)}" for most in PIECES]) == [[held(LONG)]] * len(PIECES)
+
+
+def displays_whole(program):
+    """Whether a circuit is printed where there is room for all of it, and only there."""
+    *cut, whole = put(program, NAMED, [f"display {room}" for room in range(len(NAMED) + 1)])
+    return all(line.startswith("refused after ") for (line,) in cut) and whole == ['"' + NAMED.decode().replace("\n", "\\n") + '"']
+
+
 def main():
     parser = argparse.ArgumentParser(description=__doc__)
     parser.add_argument("--program", type=pathlib.Path, default=scripts.PROGRAM)
@@ -320,7 +363,7 @@ def main():
         count += 1
         if not hashes(program, seed, 14):
             faults.append(f"hashing the circuit of {seed}")
-    for holds_so in (refines_deep, reads_falling):
+    for holds_so in (refines_deep, reads_falling, leaves_beginnings, writes_long, displays_whole):
         count += 1
         if not holds_so(program):
             faults.append(holds_so.__doc__)

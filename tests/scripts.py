@@ -2,10 +2,11 @@
 """Runs the steps of tests/scripts/*.steps on the program aig_script, and compares what it prints with the lines behind `=`.
 
 A line is a step with its words; a word in quotes, as Rust writes texts and bytes, is put into a file, and the step gets the file's
-name. Lines behind `=` are what the step above them prints, a line each: a text or bytes in quotes, or as it stands. A step with no such
-line prints nothing; but the edge that a connective answers may be left out. Below a line `@ WORD ..` the steps are taken once for each
-of these words, which stands in the place of `$`, up to the next title, a line that begins with `##`, below which the circuit is a new
-one. `{PIECE}*N` is the piece N times. Other lines that begin with `#` say something.
+name. Other files are made in a folder that is empty at first. Lines behind `=` are what the step above them prints, a line each: a
+text or bytes in quotes, or as it stands. A step with no such line prints nothing; but the edge that a connective answers may be left
+out. Below a line `@ WORD ..` the steps are taken once for each of these words, which stands in the place of `$`, up to the next title,
+a line that begins with `##`, below which the circuit is a new one. `{PIECE}*N` is the piece N times. Other lines that begin with `#`
+say something.
 """
 import argparse
 import ast
@@ -21,7 +22,7 @@ EDGE = re.compile(r"AigEdge \{ node_id: (\d+), compl: (true|false) \}")
 GATE = re.compile(r"AigNode \{ node_id: \d+, typ: And\(([^,]*), ([^)]*)\) \}")
 NODE = re.compile(r"AigNode \{ node_id: \d+, typ: ([FL])\w+ \}")
 LATCH = re.compile(r"AigLatch \{ input: (\d+), next: ([^,]*), init: (?:Some\((.*?)\)|None) \}")
-LITERAL = re.compile(r"Lit \{ code: (\d+) \}")
+LITERAL = re.compile(r"(?:Lit \{ code|Var \{ number): (\d+) \}")
 LIST = re.compile(r"(?:(\w+) )?[\[{](.*)[\]}]")
 THREE = {"FALSE": "0", "TRUE": "1", "NONE": "x"}
 QUOTED = re.compile(r'b?"(?:[^"\\]|\\.)*"')
@@ -43,7 +44,7 @@ def listed(title, inner):
 
 def plain(line):
     """What a printed line says: an edge as its node's number behind a mark where it is inverted, a gate as its operands, a latch as its
-    leaf, its next edge, and its initial edge or a line, a literal as its number, and lists without commas."""
+    leaf, its next edge, and its initial edge or a line, a literal or a variable as its number, and lists without commas."""
     if line.startswith(('"', "names")):
         return line.rstrip()
     line = EDGE.sub(lambda edge: "!" * (edge[2] == "true") + edge[1], line)
@@ -121,7 +122,7 @@ def printed(steps, program, folder):
     """What the program prints for each step."""
     script = folder / "steps"
     script.write_text(script_of(steps, folder))
-    run = subprocess.run([program, script], capture_output=True, timeout=100)
+    run = subprocess.run([program, script], cwd=folder, capture_output=True, timeout=100)
     return answers(run.stdout.decode()), run.returncode, run.stderr.decode()
 
 

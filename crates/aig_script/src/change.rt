@@ -1,10 +1,9 @@
 //! Steps that make another circuit, or change one as a whole.
 
 use crate::script::{Fault, Script, call, take_circuit};
-use crate::show::print_answer;
+use crate::show::{print_answer, print_map};
 use crate::words::number;
 use aig::Aig;
-use aig_base::{Var, VarVMap};
 use aig_testing::closed_reencoded;
 use std::alloc::AllocError;
 use std::io::Print;
@@ -41,19 +40,6 @@ fn reencode<R: Print>(rt: &R, script: &mut Script) {
             let _ = println!(rt; "{error:?}");
         }
     }
-}
-
-/// The nodes of a map are looked for among so many.
-const MOST_MAPPED: usize = 100;
-
-/// Prints which old numbers a map gives the nodes of a circuit, and how many it maps.
-fn print_map<R: Print>(rt: &R, map: &VarVMap) {
-    for number in 0..MOST_MAPPED {
-        if let Some(image) = map.get(Var::new(number)) {
-            let _ = println!(rt; "{number} was {}", usize::from(image));
-        }
-    }
-    let _ = println!(rt; "{} mapped", map.len());
 }
 
 /// Refines the circuit to what its lists need.

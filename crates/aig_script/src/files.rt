@@ -10,6 +10,7 @@ use aig_base::Parts;
 use aig_encode::{Query, encode, query};
 use std::fs;
 use std::io::Print;
+use std::path::Path;
 use std::rt::Files;
 
 /// The limits on nodes are from 1 to this.
@@ -61,19 +62,36 @@ fn read<R: Print + Files + AllocGlobal>(
     Ok(())
 }
 
+/// Reads the file of a path, with a limit on nodes.
+fn from_file<R: Print + Files>(
+    rt: &R,
+    script: &mut Script,
+    path: &str,
+    limit: usize,
+) -> Result<(), Fault> {
+    if limit < 1 || limit > MOST {
+        return Err(Fault::Step);
+    }
+    let path = Path::new(path);
+    let made = call!(rt, Aig::from_file(rt, script.alloc, path, limit));
+    take_circuit(rt, script, made);
+    Ok(())
+}
+
 /// Takes the circuit of a file with further steps, and keeps the file's own.
 fn encode_file<R: Print + Files + AllocGlobal>(
     rt: &R,
     script: &mut Script,
     path: &str,
     k: usize,
+    optimize: bool,
     words: &[&str],
 ) -> Result<(), Fault> {
     let reading = reading_of(words)?;
     let mut source = Parts::new(fs::read(rt, path)?, reading.piece, reading.fails);
     match call!(
         rt,
-        encode(script.alloc, &mut source, reading.limit, k, true)
+        encode(script.alloc, &mut source, reading.limit, k, optimize)
     ) {
         Ok(encoded) => {
             script.kept = encoded.circuit;
@@ -123,8 +141,12 @@ pub(crate) fn take<R: Print + Files + AllocGlobal>(
         [path, k] if name == "query" => query_file(rt, script, path, number(k)?, true)?,
         [path, k] if name == "query_raw" => query_file(rt, script, path, number(k)?, false)?,
         [path, k, rest @ ..] if name == "encode" => {
-            encode_file(rt, script, path, number(k)?, rest)?
+            encode_file(rt, script, path, number(k)?, true, rest)?
         }
+        [path, k, rest @ ..] if name == "encode_raw" => {
+            encode_file(rt, script, path, number(k)?, false, rest)?
+        }
+        [path, limit] if name == "from_file" => from_file(rt, script, path, number(limit)?)?,
         [path, rest @ ..] if name == "read" => read(rt, script, path, rest)?,
         _ => return Ok(false),
     }

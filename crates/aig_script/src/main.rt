@@ -1,4 +1,4 @@
-//! Takes the steps of a file, one a line, on a circuit, and prints the name and the answer of each.
+//! Takes the steps of a file, one a line, on a circuit, on clauses and on a map, and prints the name and the answer of each.
 //!
 //! A line is the name of a step and its words. Edges are literals. A step that makes a circuit puts it
 //! in place of the one before, and one that is refused leaves that as it was. Where a step makes a
@@ -9,10 +9,14 @@ mod ask;
 mod build;
 mod change;
 mod files;
+mod lists;
 mod script;
 mod show;
+mod simulation;
 mod words;
+mod writing;
 
+use crate::lists::Lists;
 use crate::script::{Fault, Script};
 use std::io::Print;
 use std::process::ExitCode;
@@ -23,6 +27,7 @@ use std::{env, fs};
 fn take<R: Print + Files + AllocGlobal>(
     rt: &R,
     script: &mut Script,
+    lists: &mut Lists,
     name: &str,
     words: &[&str],
 ) -> Result<bool, Fault> {
@@ -30,7 +35,10 @@ fn take<R: Print + Files + AllocGlobal>(
         build::take(rt, script, name, words)?
             || change::take(rt, script, name, words)?
             || ask::take(rt, script, name, words)?
-            || files::take(rt, script, name, words)?,
+            || simulation::take(rt, script, name, words)?
+            || writing::take(rt, script, name, words)?
+            || files::take(rt, script, name, words)?
+            || lists::take(rt, lists, name, words)?,
     )
 }
 
@@ -38,6 +46,7 @@ fn take<R: Print + Files + AllocGlobal>(
 fn take_line<R: Print + Files + AllocGlobal>(
     rt: &R,
     script: &mut Script,
+    lists: &mut Lists,
     line: &str,
 ) -> Result<(), Fault> {
     let words = words::words(script.alloc, line)?;
@@ -45,7 +54,7 @@ fn take_line<R: Print + Files + AllocGlobal>(
         return Ok(());
     };
     let _ = println!(rt; "> {name}");
-    if take(rt, script, name, rest)? {
+    if take(rt, script, lists, name, rest)? {
         Ok(())
     } else {
         Err(Fault::Step)
@@ -55,8 +64,9 @@ fn take_line<R: Print + Files + AllocGlobal>(
 /// Takes the steps of a text.
 fn take_all<R: Print + Files + AllocGlobal>(rt: &R, text: &str) -> Result<(), Fault> {
     let mut script = Script::new(rt.alloc())?;
+    let mut lists = Lists::new(rt.alloc())?;
     for line in text.lines() {
-        take_line(rt, &mut script, line)?;
+        take_line(rt, &mut script, &mut lists, line)?;
     }
     Ok(())
 }

@@ -3,7 +3,7 @@
 //! An output that fails lacks lines, and is told so from what is wanted.
 
 use aig::Aig;
-use aig_base::{DagCnf, LitVvec, Var};
+use aig_base::{DagCnf, LitVvec, Var, VarVMap};
 use std::fmt::Debug;
 use std::io::Print;
 
@@ -57,4 +57,17 @@ pub(crate) fn print_dag<R: Print>(rt: &R, clauses: &DagCnf) {
         print_clauses(rt, clauses.clauses_of(Var::new(number)));
     }
     let _ = println!(rt; "{} clauses", clauses.num_clauses());
+}
+
+/// The nodes of a map are looked for among so many.
+const MOST_MAPPED: usize = 100;
+
+/// Prints which old numbers a map gives the nodes of a circuit, and how many it maps.
+pub(crate) fn print_map<R: Print>(rt: &R, map: &VarVMap) {
+    for number in 0..MOST_MAPPED {
+        if let Some(image) = map.get(Var::new(number)) {
+            let _ = println!(rt; "{number} was {}", usize::from(image));
+        }
+    }
+    let _ = println!(rt; "{} mapped", map.len());
 }

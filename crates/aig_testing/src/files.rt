@@ -1,7 +1,7 @@
-//! Circuits that are read and written.
+//! Circuits that are read.
 
 use aig::Aig;
-use aig_base::{Parts, ToWrite};
+use aig_base::Parts;
 use std::alloc::Global;
 use std::test::Fail;
 
@@ -18,20 +18,4 @@ pub const BINARY_AND: &[u8] = b"aig 3 2 0 1 1\n6\n\x02\x02";
 pub fn read(alloc: Global, text: &str) -> Result<Aig, Fail> {
     let mut source = Parts::new(text.as_bytes().to_vec(alloc)?, 4096, None);
     Ok(Aig::from_aiger(alloc, &mut source, LIMIT)?)
-}
-
-/// The text form of a circuit.
-fn text_of(alloc: Global, circuit: &Aig) -> Result<String, Fail> {
-    let mut sink = ToWrite::new(Vec::new(alloc));
-    circuit.write_text(&mut sink)?;
-    Ok(String::from_utf8(sink.into_inner())?)
-}
-
-/// Fails where a circuit isn't written as this text, and shows what it is written as.
-pub fn is_written(alloc: Global, circuit: &Aig, text: &str) -> Result<(), Fail> {
-    let written = text_of(alloc, circuit)?;
-    if written.as_str() != text {
-        return Err(Fail::from(written));
-    }
-    Ok(())
 }

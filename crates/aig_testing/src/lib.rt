@@ -1,10 +1,8 @@
-//! What the crates of tests share: circuits that are built of steps, and circuits that are read and written.
+//! What the crates of tests share: steps on circuits, and circuits that are read.
 #![tactic(auto)]
 
 mod files;
 mod steps;
 
-pub use files::{AND, BINARY_AND, LIMIT, is_written, read};
-pub use steps::{
-    Many, Pair, Step, StepError, built, closed_reencoded, edge, has_edges, is_latch, take,
-};
+pub use files::{AND, BINARY_AND, LIMIT, read};
+pub use steps::{Many, Pair, Step, StepError, closed_reencoded, edge, has_edges, is_latch, take};

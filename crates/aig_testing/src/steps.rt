@@ -261,15 +261,6 @@ pub fn take(alloc: Global, aig: &mut Aig, step: Step<'_>) -> Result<Option<AigEd
     Ok(Some(added?))
 }
 
-/// The circuit of these steps.
-pub fn built(alloc: Global, steps: &[Step<'_>]) -> Result<Aig, Fail> {
-    let mut aig = Aig::new(alloc)?;
-    for step in steps {
-        take(alloc, &mut aig, *step)?;
-    }
-    Ok(aig)
-}
-
 /// The re-encoded circuit, if no leaf is free.
 pub fn closed_reencoded(aig: &Aig) -> Result<Option<Aig>, MemoryError> {
     if aig.is_closed() {

@@ -1,13 +1,9 @@
-//! What steps of tests/scripts can't say: literals, three values and clauses, single calls, streams that fail, and refusals in words.
+//! What steps of tests/scripts can't say: literals and three values, single calls, streams that fail, and refusals in words.
 
 mod display;
-mod encoding;
 mod examples;
 mod fields;
 mod lexing;
 mod logic;
-mod reading;
-mod refusing;
-mod simulating;
+mod refusals;
 mod streams;
-mod writing;

@@ -1,7 +1,7 @@
 //! Edges, nodes, and the calls that read a circuit.
 
 use aig::{Aig, AigEdge, AigNode, AigNodeType};
-use aig_testing::{AND, Step, built, is_latch, read};
+use aig_testing::{AND, is_latch, read};
 use std::test::Fail;
 
 #[test]
@@ -85,23 +85,5 @@ fn nodes_are_replaced_where_they_fit(rt: HostRuntime) -> Result<(), Fail> {
     assert!(rt; is_gate(&aig[3], b, b));
     let mapped = aig[3].map(&|id| id ^ 3);
     assert!(rt; is_gate(&mapped, AigEdge::from(1), AigEdge::from(1)));
-    Ok(())
-}
-
-#[test]
-fn names_are_copied(rt: HostRuntime) -> Result<(), Fail> {
-    let steps = [Step::Input, Step::Name(1, "y")];
-    let aig = built(rt.alloc(), &steps)?;
-    let copy = aig.clone()?;
-    assert_eq!(rt; copy.symbols().len(), 1);
-    let name = copy.get_symbol(1)?;
-    assert_eq!(rt; name.as_ref().map(|s| s.as_str()), Some("y"));
-    assert!(rt; copy.get_symbol(0)?.is_none());
-    let latched = built(
-        rt.alloc(),
-        &[Step::Input, Step::Name(1, "y"), Step::Latch(2, None)],
-    )?;
-    assert!(rt; copy.begins_with(&aig) && !copy.begins_with(&latched));
-    assert!(rt; !latched.begins_with(&copy));
     Ok(())
 }
