@@ -1,7 +1,7 @@
 //! Reads an AIGER file, makes a property of its first output, and prints two steps of the refined and hashed circuit.
 #![tactic(auto)]
 
-ghost use Rattle.std.specs.Prelude.{◌≡◌, ◌<◌, ◌≤◌, ◌^◌, ◌&&◌, ◌||◌, ℕ, Bool, IfOk, length, not, slice_index_or};
+ghost use Rattle.std.specs.Prelude.{◌≡◌, ◌<◌, ◌&&◌, ◌||◌, ℕ, Bool, IfOk, length, not, slice_index_or};
 ghost use Rattle.aig_circuit.specs.Circuit.{IsInRange};
 ghost use Rattle.aig_circuit.specs.Tree.{edge_value};
 
@@ -56,25 +56,11 @@ fn add_bad_state(aig: &mut Aig) -> Result<(), MemoryError> {
     aig.push_edge(PropList::Bads, !holds)
 }
 
-/// Reads a circuit.
-fn read<R: Source>(alloc: Global, r: &mut R) -> Result<Aig, ReadError>
-    ensures { IfOk result (λ circuit. length circuit.nodes ≤ 2 ^ 31) }
-{
-    Aig::from_aiger(alloc, r, 1 << 24)
-}
-
-/// The circuit of two steps, in which each tree of gates stands once.
-fn two_steps(circuit: &Aig) -> Result<Aig, MemoryError> {
-    let hashed = circuit.strash()?;
-    hashed.unroll_to(1)
-}
-
 /// Reads a circuit from `r`, and writes two steps of its cone of influence to `w`.
 fn show<R: Source, W: Sink>(alloc: Global, r: &mut R, w: &mut W) -> Result<(), SampleError> {
-    let circuit = read(alloc, r)?;
-    let (mut refined, _) = circuit.coi_refine()?;
-    add_bad_state(&mut refined)?;
-    let steps = two_steps(&refined)?;
+    let (mut circuit, _) = Aig::from_aiger(alloc, r, 1 << 24)?.coi_refine()?;
+    add_bad_state(&mut circuit)?;
+    let steps = circuit.strash()?.unroll_to(1)?;
     Ok(steps.write_text(w)?)
 }
 

@@ -77,9 +77,11 @@ Stops-before t h =
       has_failed = h.has_failed;
     }
 
+-- what waits, and the sink, after a text
 abbrev pub BuffersOn : {W : Type 0} → (W → Option (List ℕ)) → List ℕ × W → List ℕ → List ℕ × W → Type 0
 BuffersOn held old text new = Buffers old.0 (held old.1) new.0 (held new.1) text
 
+-- the same after a beginning of it
 abbrev pub StopsOn : {W : Type 0} → (W → Option (List ℕ)) → (W → Bool) → List ℕ × W → List ℕ → List ℕ × W → Type 0
 StopsOn held failed old text new = Stops (held old.1) (held new.1) (failed new.1) (old.0 ++ text)
 
@@ -112,6 +114,7 @@ Stops-flush {a} {b} {c} {failed} {p} {q} {s} none first second =
 
 -- ---- texts through a buffer, one after another
 
+-- the same clause by the laws' words, and back
 buffered : {W T E : Type 0} {held : W → Option (List ℕ)} {failed : W → Bool} {a b : W} {p q s : List ℕ} {result : Result T E}
     → WroteOrStopped (BuffersOn held) (StopsOn held failed) (p, a) result s (q, b) → BuffersOrStops held failed p a result s q b
 buffered w = record { ok = w.ok; err = w.err }

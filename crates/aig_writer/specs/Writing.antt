@@ -21,6 +21,6 @@ pub record WroteOrStopped {S T E : Type 0} (wrote stopped : S → List ℕ → S
   pub err : OnErr result (stopped old text new)
 
 -- after Ok the pieces of the text were written, and after Err those of a beginning, and one failed
-abbrev pub WritesPieces : {S T E : Type 0} → (S → List ℕ → S → Type 0) → (S → List ℕ → S → Type 0) → S
-    → Result T E → List ℕ → S → Type 0
+abbrev pub WritesPieces : {S T E : Type 0} → (S → List ℕ → S → Type 0)
+    → (S → List ℕ → S → Type 0) → S → Result T E → List ℕ → S → Type 0
 WritesPieces wrote stopped = WroteOrStopped (WritesInCalls wrote) (StopsInCalls wrote stopped)
