@@ -1,15 +1,23 @@
 //! Small callers of the library, as a crate above it writes them: their proofs cite public clauses and laws alone.
 #![tactic(auto)]
 
-ghost use Rattle.std.specs.Prelude.{◌≡◌, ◌&&◌, ◌||◌, ℕ, Bool, IfOk, IfSome, length, not};
+ghost use Rattle.std.specs.Prelude.{◌≡◌, ◌&&◌, ◌||◌, ◌<◌, ◌≤◌, ◌^◌, ℕ, Bool, IfOk, IfSome, length, not, true};
 ghost use Rattle.aig.specs.Build.{AddsOnlyGates};
-ghost use Rattle.aig.specs.Circuit.{IsInRange};
+ghost use Rattle.aig.specs.Circuit.{IsClosed, IsInRange};
+ghost use Rattle.aig.specs.Clauses.{literal_value};
+ghost use Rattle.aig.specs.Cnf.{edge_in, HasClauses};
+ghost use Rattle.aig.specs.Others.{IsRefined};
+ghost use Rattle.aig.specs.Reencode.{reencoded};
+ghost use Rattle.aig.specs.Strash.{strashed};
 ghost use Rattle.aig.specs.Tree.{edge_value};
 ghost use Rattle.aig.specs.Ternary.{simulation_of, stepped, value_in};
+ghost use Rattle.aig.specs.Unroll.{UnrollsTo};
+ghost use Rattle.aig_callers.specs.Leaves.{LeavesFixValues};
 
 use aig::{Aig, AigEdge, TernarySimulate};
-use aig_base::{Lbool, MemoryError};
-use aig_circuit::{further_gates_are_gates, inverses_have_other_values};
+use aig_base::{DagCnf, Lbool, Lit, MemoryError, VarVMap};
+use aig_circuit::{further_gates_are_gates, inverses_have_other_values, leaves_fix_values};
+use aig_cnf::literals_have_edge_values;
 
 #[cfg(test)]
 mod tests;
@@ -54,4 +62,61 @@ pub fn second_value(
         return Ok(None);
     }
     Ok(Some(simulation.value(e)))
+}
+
+/// The literal of an edge, which has the edge's value.
+pub fn literal(e: AigEdge) -> Lit
+    requires { e.node_id < 2 ^ 31 }
+    ensures { (v : ℕ → Bool) → literal_value v result ≡ edge_in v e }
+{
+    literals_have_edge_values();
+    e.to_lit()
+}
+
+/// A hashed circuit, and that leaves fix the values of the old one.
+pub fn hashed(aig: &Aig) -> Result<Aig, MemoryError>
+    ensures exact { IfOk result (λ made. made ≡ strashed aig.now) }
+    ensures leaves { LeavesFixValues aig.now }
+{
+    leaves_fix_values();
+    aig.strash()
+}
+
+/// The clauses of a circuit, and that leaves fix its values.
+pub fn clauses(aig: &Aig) -> Result<DagCnf, MemoryError>
+    requires { length aig.now.nodes ≤ 2 ^ 31 }
+    ensures exact { IfOk result (λ lists. HasClauses aig.now true lists) }
+    ensures leaves { LeavesFixValues aig.now }
+{
+    leaves_fix_values();
+    aig.cnf(true)
+}
+
+/// A circuit with one step more, and that leaves fix the values of the old one.
+pub fn with_step(aig: &Aig) -> Result<Aig, MemoryError>
+    ensures exact { IfOk result (λ made. UnrollsTo aig.now 1 made) }
+    ensures leaves { LeavesFixValues aig.now }
+{
+    leaves_fix_values();
+    aig.unroll_to(1)
+}
+
+/// What of a circuit is reached, and that leaves fix the values of the old one.
+pub fn reached(aig: &Aig) -> Result<(Aig, VarVMap), MemoryError>
+    requires { length aig.now.nodes ≤ 2 ^ 31 }
+    ensures exact { IfOk result (λ made. IsRefined aig.now made.0 made.1) }
+    ensures leaves { LeavesFixValues aig.now }
+{
+    leaves_fix_values();
+    aig.coi_refine()
+}
+
+/// A circuit under the numbers of its file, and that leaves fix the values of the old one.
+pub fn renumbered(aig: &Aig) -> Result<Aig, MemoryError>
+    requires { IsClosed aig.now }
+    ensures exact { IfOk result (λ made. made ≡ reencoded aig.now) }
+    ensures leaves { LeavesFixValues aig.now }
+{
+    leaves_fix_values();
+    aig.reencode()
 }
