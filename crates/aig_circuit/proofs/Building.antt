@@ -8,7 +8,7 @@ use Rattle.aig_circuit.specs.declared.edge.AigEdge.{AigEdge}
 use Rattle.aig_circuit.specs.declared.node.AigNodeType.{AigNodeType}
 use Rattle.aig_circuit.specs.declared.node.AigNodeType.TheVariants.{False, Leaf, And}
 use Rattle.aig_circuit.specs.declared.node.AigNode.{AigNode}
-use Rattle.aig_circuit.specs.Edge.{edge_to, inverted_if, literal_of}
+use Rattle.aig_circuit.specs.Edge.{inverted_if, literal_of}
 use Rattle.aig_circuit.specs.Node.{kind_at, FitsBelow, IsOrdered, and_of}
 use Rattle.aig_circuit.specs.Tree.{node_value, edge_value}
 use Rattle.aig_circuit.specs.Circuit.{AreNodes}
@@ -176,10 +176,6 @@ AddsGates-with_node nodes a b s i j = record {
         | inr p ↦ (a, b, rw here (kind_at-last nodes _ ∙ ap Some p.0))
       ];
 }
-
--- old nodes keep their values
-pub node_value-Grows : (xs ys : List AigNode) → Grows xs ys → (x : ℕ → Bool) (n : ℕ) → n < length xs → node_value ys x n ≡ node_value xs x n
-node_value-Grows xs ys p x n h = p.values x (edge_to n false) h
 
 -- edges to old nodes keep their values
 pub edge_value-Grows : (xs ys : List AigNode) → AreNodes xs → Grows xs ys → (x : ℕ → Bool) (e : AigEdge) → e.node_id < length xs → edge_value ys x e ≡ edge_value xs x e

@@ -36,16 +36,6 @@ Visits-set marks stack stacked i h was put = record {
       omega (arith, less, one, long);
 }
 
--- a node that was marked
-pub Visits-marked : (marks : List Bool) (stack : List ℕ) (i : ℕ) → IsMarked marks i → Visits marks marks stack stack (λ n. n ≡ i)
-Visits-marked marks stack i is = record {
-  marks = λ n. (λ m. inl m, λ m. elim m [ inl old ↦ old | inr e ↦ rw e is ]);
-  kept = λ n had. had;
-  put = λ n m. inl m;
-  only = λ n has. inl has;
-  once = refl;
-}
-
 pub Visits-none : (P : ℕ → Type 0) (marks : List Bool) (stack : List ℕ) → ((n : ℕ) → ¬ P n) → Visits marks marks stack stack P
 Visits-none P marks stack none = record {
   marks = AddsMarks-none P marks none;

@@ -88,13 +88,6 @@ any_within greatest v (e ∷ es) all there = by_test (e / 2 == v) refl there (an
 pub defined_within : (f : File) (limit : ℕ) → Fits f limit → (v : ℕ) → is_defined f v ≡ true → (1 ≤ v) × (v ≤ f.greatest)
 defined_within f limit fits v there = any_within f.greatest v (defined f) fits.definable there
 
--- and so is what is 0 or defined
-pub known_within : (f : File) (limit : ℕ) → Fits f limit → (v : ℕ) → is_known f v ≡ true → v ≤ f.greatest
-known_within f limit fits zero known = omega arith
-known_within f limit fits (suc v) known =
-    let same : eqb (suc v) 0 ≡ false = ne_eqb (suc v) 0 (λ e. omega (arith, e)) in
-    (defined_within f limit fits (suc v) (ap (λ b. b || is_defined f (suc v)) (sym same) ∙ known)).1
-
 -- ---- as many distinct variables as there are from 1 on are all of them
 
 abbrev halves : List ℕ → List ℕ

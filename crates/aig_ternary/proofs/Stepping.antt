@@ -1,11 +1,11 @@
 -- What the parts of a step write is the step.
-use Rattle.std.proofs.Common.{◌≡◌, ◌≢◌, ℕ, zero, suc, ◌+◌, ◌<◌, ◌≤◌, Bool, true, false, cond, Some, List, [], ◌∷◌, ◌++◌, length, map, get_or, set, drop, replicate, take, refl, sym, ap, ap₂, subst, ◌∙◌, arith, add-one, get_or-set_other, get_or-set_same, below_more}
+use Rattle.std.proofs.Common.{◌≡◌, ◌≢◌, ℕ, zero, suc, ◌+◌, ◌<◌, ◌≤◌, Bool, true, false, cond, Some, List, [], ◌∷◌, ◌++◌, length, map, get_or, set, drop, replicate, refl, sym, ap, ap₂, subst, ◌∙◌, arith, add-one, get_or-set_other, get_or-set_same, below_more}
 use Rattle.std.specs.Prelude.{All, AllPairs, ◌==◌}
 use Rattle.std.proofs.Math.Path.{fun_ext}
-use Rattle.std.proofs.Math.ListN.{length-set, drop_of_length-le}
+use Rattle.std.proofs.Math.ListN.{length-set}
 use Rattle.std.proofs.Math.Seq.{drop-cons}
 use Rattle.std.proofs.lemmas.Bool.{eqb-true, eqb-false}
-use Rattle.std.proofs.lemmas.List.{ext_get_or, append_assoc, get_or-map, get_or_default, length-map, length-replicate, map-append, take_more, take_more_set}
+use Rattle.std.proofs.lemmas.List.{ext_get_or, get_or-map, get_or_default, length-map, length-replicate}
 use Rattle.std.proofs.lemmas.Option.{slice_get-get_or}
 use Rattle.aig_base.specs.declared.logic.three.Lbool.{Lbool}
 use Rattle.aig_base.specs.declared.logic.three.Lbool.TheVariants.{FALSE, NONE}
@@ -20,7 +20,7 @@ use Rattle.aig_circuit.proofs.Circuits.{AreLeaves-of_circuit}
 use Rattle.aig_circuit.proofs.Trees.{kind_at-within, tree_of-and, tree_of-false, tree_of-leaf}
 use Rattle.aig_ternary.specs.Step.{simulation_at, value_by, with_given}
 use Rattle.aig_ternary.proofs.Known.{value_is}
-use Rattle.aig_ternary.specs.Ternary.{Simulation, given_values, next_state, stepped, stepped_all, value_in, values_in, three_edge_value, three_node_value, three_value_of_tree, three_values, value_for}
+use Rattle.aig_ternary.specs.Ternary.{Simulation, given_values, next_state, stepped_all, values_in, three_edge_value, three_node_value, three_value_of_tree, three_values, value_for}
 
 -- ---- values that are written at leaves
 
@@ -28,15 +28,6 @@ use Rattle.aig_ternary.specs.Ternary.{Simulation, given_values, next_state, step
 pub with_given-next : (values : List Lbool) (ns : List ℕ) (given : List Lbool) (i : ℕ) → i < length ns → i < length given
     → with_given values (drop i ns) (drop i given) ≡ with_given (set values (get_or ns i 0) (get_or given i FALSE)) (drop (i + 1) ns) (drop (i + 1) given)
 with_given-next values ns given i h k = rw (add-one, drop-cons ns i 0, drop-cons given i FALSE)
-
--- nothing is left to be written
-pub with_given-done : (values : List Lbool) (ns : List ℕ) (given : List Lbool) (i : ℕ) → length ns ≤ i → with_given values (drop i ns) given ≡ values
-with_given-done values ns given i h = ap (λ ms. with_given values ms given) (drop_of_length-le ns h)
-
-pub length-with_given : (values : List Lbool) (ns : List ℕ) (given : List Lbool) → length (with_given values ns given) ≡ length values
-length-with_given values [] given = refl
-length-with_given values (n ∷ ns) [] = refl
-length-with_given values (n ∷ ns) (v ∷ given) = length-with_given (set values n v) ns given ∙ length-set values n v
 
 -- what is written in two parts
 pub with_given-append : (values : List Lbool) (ns ms : List ℕ) (given more : List Lbool) → length given ≡ length ns
@@ -150,14 +141,6 @@ three_values-by_number c sound x y values count same each =
 
 -- ---- the state that follows
 
--- one more latch has its next edge's value
-pub moved-more : (f : AigLatch → Lbool) (latchs : List AigLatch) (state : List Lbool) (i : ℕ) (d : AigLatch) → i < length latchs → length state ≡ length latchs
-    → take i state ≡ map f (take i latchs) → take (i + 1) (set state i (f (get_or latchs i d))) ≡ map f (take (i + 1) latchs)
-moved-more f latchs state i d h same so_far =
-    let v = f (get_or latchs i d) in
-    take_more_set state i v (omega arith) ∙ ap (λ vs. vs ++ v ∷ []) so_far
-    ∙ sym (map-append f (take i latchs) (get_or latchs i d ∷ [])) ∙ ap (map f) (sym (take_more latchs i d h))
-
 -- read off the values of nodes, the next edges have the next state
 pub next_state-read : (c : Circuit) → IsCircuit c → (x : ℕ → Lbool) (latchs : List AigLatch) → All (IsLatch c.nodes) latchs
     → map (λ (latch : AigLatch). value_by (three_values c x) latch.next) latchs ≡ map (λ (latch : AigLatch). three_edge_value c.nodes x latch.next) latchs
@@ -172,13 +155,6 @@ next_state-read c is x (latch ∷ latchs) all =
 pub record StepsTo (e : AigEdge) (steps : List (List Lbool)) (from : Simulation) (before : List Lbool) (now : Simulation) (answers : List Lbool) (left : List (List Lbool)) : Type 0 where
   pub moved : stepped_all now left ≡ stepped_all from steps
   pub answered : answers ++ values_in e now left ≡ before ++ values_in e from steps
-
-pub StepsTo-more : (e : AigEdge) (steps : List (List Lbool)) (from : Simulation) (before : List Lbool) (now : Simulation) (answers given : List Lbool) (left : List (List Lbool))
-    → StepsTo e steps from before now answers (given ∷ left) → StepsTo e steps from before (stepped now given) (answers ++ value_in (stepped now given) e ∷ []) left
-StepsTo-more e steps from before now answers given left so_far = record {
-  moved = so_far.moved;
-  answered = append_assoc answers (value_in (stepped now given) e ∷ []) (values_in e (stepped now given) left) ∙ so_far.answered;
-}
 
 -- the values of an earlier step don't matter
 pub stepped_all-anew : (c : Circuit) (state values others : List Lbool) (steps : List (List Lbool)) → 0 < length steps → stepped_all (record { circuit = c; state = state; values = values }) steps ≡ stepped_all (record { circuit = c; state = state; values = others }) steps

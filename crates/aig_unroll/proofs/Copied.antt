@@ -1,5 +1,5 @@
 -- The images of nodes, one node after another.
-use Rattle.std.proofs.Common.{◌≡◌, ◌≢◌, ℕ, suc, ◌+◌, ◌<◌, ◌≤◌, Bool, true, false, not, cond, ◌&&◌, Some, List, [], ◌∷◌, ◌++◌, length, map, get_or, set, take, drop, get_or-set_other, get_or-set_same, below_more, refl, sym, ap, subst, ◌∙◌, arith, inl, inr, length-append}
+use Rattle.std.proofs.Common.{◌≡◌, ◌≢◌, ℕ, suc, ◌+◌, ◌<◌, ◌≤◌, Bool, true, false, not, cond, ◌&&◌, Some, List, [], ◌∷◌, ◌++◌, length, map, get_or, set, take, get_or-set_other, get_or-set_same, below_more, refl, sym, ap, subst, ◌∙◌, arith, inl, inr, length-append}
 use Rattle.std.specs.Prelude.{All, Contains, filter, option_map, ◌==◌}
 use Rattle.std.specs.List.{list_any}
 use Rattle.std.proofs.Math.ListN.{length-set}
@@ -17,7 +17,7 @@ use Rattle.aig_circuit.specs.Tree.{edge_value, node_value}
 use Rattle.aig_circuit.specs.Circuit.{AreNodes, Circuit, IsCircuit, IsInRange, IsLeaf, latch_leaves}
 use Rattle.aig_circuit.specs.Build.{AddsGates, FoldsOrAdds, Grows, with_node}
 use Rattle.aig_circuit.specs.Runs.{is_leaf}
-use Rattle.aig_circuit.proofs.Building.{Grows-itself, Grows-leaf, Grows-longer, Grows-then, edge_value-Grows}
+use Rattle.aig_circuit.proofs.Building.{Grows-leaf, Grows-longer, Grows-then, edge_value-Grows}
 use Rattle.aig_circuit.proofs.Circuits.{latch_leaves-leaves}
 use Rattle.aig_circuit.proofs.Trees.{kind_at-within, node_value-and, node_value-false, node_value-leaf}
 use Rattle.aig_renumber.proofs.Kept.{is_in-back, is_in-there}
@@ -76,22 +76,6 @@ leaves_after-leaf count old h are =
     leaves_after-more count old (with_node old Leaf) h (Grows-leaf old are) ∙ ap (λ ns. leaves_after count old ++ ns) last
 
 -- ---- one node more
-
--- no image yet
-pub CopiesBelow-none : (from : Circuit) (old : List AigNode) (images : List AigEdge) → AreNodes old → length images ≡ length from.nodes → CopiesBelow from old old images images 0
-CopiesBelow-none from old images sound count = record {
-  grows = Grows-itself old sound;
-  count = count;
-  there = λ n h. absurd (omega arith);
-  latches = λ n h. refl;
-  rest = λ n h. refl;
-  others = ap (λ l. map (λ n. edge_to n false) (map (λ (node : AigNode). node.node_id) (filter (λ (node : AigNode). is_leaf node.typ) l))) (sym (drop_none old));
-  value = λ y x leaves n h. absurd (omega arith);
-  size = omega arith;
-}
-  where
-    drop_none : (xs : List AigNode) → drop (length xs) xs ≡ []
-    drop_none xs = ap (drop (length xs)) (sym (append-nil xs)) ∙ drop_at xs [] (length xs) refl
 
 module _ (from : Circuit) (circuit : IsCircuit from) (old mid new : List AigNode) (before images : List AigEdge) (i : ℕ) (e : AigEdge) (within : i < length from.nodes) (inside : i < length images)
     (so_far : CopiesBelow from old mid before images i) (grows : Grows mid new) (there : IsInRange new e) where

@@ -142,9 +142,6 @@ rows_more lists list = map-append (λ (l : Vec Lbool Global). l.items) lists (li
 pub property_begins : (b : ℕ) → b ≡ 98 → (bs : List ℕ) → parse_property (b ∷ bs) ≡ parse_ended 10 bs
 property_begins b is bs = subst (λ k. parse_property (k ∷ bs) ≡ parse_ended 10 bs) (sym is) refl
 
-pub property_wrong : (b : ℕ) → b ≢ 98 → (bs : List ℕ) → parse_property (b ∷ bs) ≡ None
-property_wrong b ne bs = rw (other 98 b ne) refl
-
 -- ---- the status line
 
 pub status_wrong : (first : ℕ) → first ≢ 49 → (bs : List ℕ) → parse_witness (first ∷ bs) ≡ None

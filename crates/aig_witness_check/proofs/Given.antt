@@ -100,12 +100,6 @@ known_map : (x : ℕ → Bool) (latchs : List AigLatch) → AreKnown x (latch_le
 known_map x [] = tt
 known_map x (latch ∷ latchs) = (refl, known_map x latchs)
 
-known_list : (x : ℕ → Bool) (latchs : List AigLatch) (values : List Lbool) → AreKnown x (latch_leaves latchs) values → values ≡ map (λ (latch : AigLatch). known_of (x latch.input)) latchs
-known_list x [] [] zip = refl
-known_list x [] (v ∷ values) zip = absurd zip
-known_list x (latch ∷ latchs) [] zip = absurd zip
-known_list x (latch ∷ latchs) (v ∷ values) zip = ap₂ (λ u us. u ∷ us) zip.0 (known_list x latchs values zip.1)
-
 known_append : (x : ℕ → Bool) (ms ns : List ℕ) (us vs : List Lbool) → AreKnown x ms us → AreKnown x ns vs → AreKnown x (ms ++ ns) (us ++ vs)
 known_append x [] ns [] vs h k = k
 known_append x [] ns (u ∷ us) vs h k = absurd h

@@ -2,14 +2,14 @@
 use Rattle.std.proofs.Common.{◌≡◌, ℕ, zero, suc, ◌+◌, ◌<◌, List, [], ◌∷◌, ◌++◌, length, map, get_or, take, slice_get, Some, refl, sym, ap, ap₂, subst, ◌-◌, ◌∙◌, arith}
 use Rattle.std.specs.Prelude.{All, Vec}
 use Rattle.std.specs.declared.alloc.Global.{Global}
-use Rattle.std.proofs.lemmas.List.{get_or-map, length-map, take_all, take_more}
+use Rattle.std.proofs.lemmas.List.{get_or-map, length-map, take_more}
 use Rattle.aig_base.specs.declared.logic.three.Lbool.{Lbool}
 use Rattle.aig_circuit.specs.declared.edge.AigEdge.{AigEdge}
 use Rattle.aig_circuit.specs.declared.node.AigNode.{AigNode}
 use Rattle.aig_circuit.specs.Circuit.{Circuit, IsInRange}
 use Rattle.aig_ternary.specs.Ternary.{HasValue, Simulation, given_values, simulation_of, stepped, stepped_all, three_node_value, value_in, values_in}
-use Rattle.aig_witness.specs.Witness.{Witness, rows_of}
-use Rattle.aig_witness_check.specs.Shown.{AreTrueIn, simulated}
+use Rattle.aig_witness.specs.Witness.{rows_of}
+use Rattle.aig_witness_check.specs.Shown.{AreTrueIn}
 
 stepped_all-append : (s : Simulation) (xs ys : List (List Lbool)) → stepped_all s (xs ++ ys) ≡ stepped_all (stepped_all s xs) ys
 stepped_all-append s [] ys = refl
@@ -69,7 +69,3 @@ pub values-all : (s : Simulation) (rows : List (List Lbool)) → 0 < length rows
 values-all s [] h = absurd (omega arith)
 values-all s (row ∷ []) h = length-map s.circuit.nodes (λ (node : AigNode). three_node_value s.circuit.nodes (given_values s.circuit row s.state) node.node_id)
 values-all s (row ∷ next ∷ more) h = values-all (stepped s row) (next ∷ more) (omega arith)
-
--- the simulation after the last step
-pub simulated-last : (c : Circuit) (w : Witness) → 0 < length w.steps → simulated c w (length w.steps - 1) ≡ stepped_all (simulation_of c w.state) w.steps
-simulated-last c w some = ap (stepped_all (simulation_of c w.state)) (take_all (length w.steps - 1 + 1) w.steps (omega arith))

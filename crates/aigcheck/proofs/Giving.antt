@@ -208,17 +208,6 @@ run_told words name file witness are told one other = (
   λ g. other (three name file witness [] (codes "run") g.0 g.1 [] (sym are ∙ g.2)).0,
 )
 
-only_run : (words : List (List ℕ)) → Give words commands.Run → (d : Command) → Give words d → commands.Run ≡ d
-only_run words r (commands.Clauses k o) g = let is = sym r.2 ∙ g.3 in cc
-only_run words r (commands.Window k form o) g = let is = sym r.2 ∙ g.3 in cc
-only_run words r (commands.Refuted k o) g = let is = sym r.2 ∙ g.3 in cc
-only_run words r (commands.Inductive k form o) g = let is = sym r.2 ∙ g.3 in cc
-only_run words r (commands.Witness k o) g = let is = sym r.2 ∙ g.3 in cc
-only_run words r commands.Run g = refl
-
-pub run_exactly : (words : List (List ℕ)) → Give words commands.Run → (d : Command) → (Some commands.Run ≡ Some d) ↔ Give words d
-run_exactly words r d = (λ is. subst (Give words) (same_Some _ _ is) r, λ g. ap (λ y. Some y) (only_run words r d g))
-
 -- words that don't give run give what names a step
 pub steps_exactly : (words : List (List ℕ)) (told : Option Command) → ((c : Command) → (told ≡ Some c) ↔ GiveSteps words c) → ¬ Give words commands.Run → (d : Command) → (told ≡ Some d) ↔ Give words d
 steps_exactly words told exact not (commands.Clauses k o) = exact (commands.Clauses k o)

@@ -1,5 +1,5 @@
 -- Memory that ran out after a file was read.
-use Rattle.std.proofs.Common.{ℕ, Bool, List, Option, Some, None, Result, Ok, Err}
+use Rattle.std.proofs.Common.{ℕ, Bool, List, Option, Some, None, Err}
 use Rattle.aig_encode.specs.declared.error.EncodeError.TheVariants as encode
 use Rattle.aig_encode.specs.Encoding.{IsWithin, ConsumedFile}
 use Rattle.aig_encode.proofs.Exactly.{Tells}

@@ -17,7 +17,6 @@ use Rattle.aig.specs.Writing.{IsRefusal, IsVerdictOf}
 use Rattle.aig_encode.specs.declared.error.EncodeError.{EncodeError}
 use Rattle.aig_encode.specs.declared.error.EncodeError.TheVariants as encode
 use Rattle.aig_encode.specs.Encoding as encoding
-use Rattle.aig_encode.specs.Encoding.{IsBeyond, IsWithin}
 use Rattle.aigtool.specs.Running.{Answered, AnswersExactly, IsInterrupted, Outcome, Passes, Refused}
 
 -- an error that is this one
