@@ -1,6 +1,6 @@
 -- What the answers of the calls tell of the file, from what reading and encoding tell.
 use Rattle.std.proofs.Common.{◌≡◌, ◌≢◌, ◌↔◌, ℕ, ◌+◌, ◌<◌, ◌≤◌, Bool, IsTrue, Option, Some, None, Result, Ok, Err, List, [], ◌∷◌, length, map, true, false, refl, sym, ap, subst, ◌∙◌, inl, inr}
-use Rattle.std.specs.Prelude.{◌==◌, IfSome, IfErr, IsErrOf}
+use Rattle.std.specs.Prelude.{◌==◌, IfSome, IfErr, IsErrOf, IsOk}
 use Rattle.std.proofs.lemmas.List.{nil_from_length}
 use Rattle.std.proofs.lemmas.Bool.{cases_lt, eqb-true, false≢true}
 use Rattle.aig_circuit.specs.Circuit.{Circuit}
@@ -11,7 +11,7 @@ use Rattle.aig_format.specs.Fits.{Accepts}
 use Rattle.aig_reader.specs.declared.error.ReadError.{ReadError}
 use Rattle.aig_reader.specs.declared.error.ReadError.TheVariants as read
 use Rattle.aig_reader.specs.Reading as reading
-use Rattle.aig_reader.specs.Reading.{IsReadAs}
+use Rattle.aig_reader.specs.Reading.{IsReadAs, ReadsWhere}
 use Rattle.aig_unroll.specs.Places.{unrolled_size}
 use Rattle.aig.specs.Reading.{IsFileCircuit}
 use Rattle.aig_certify.specs.declared.window.Window.{Window}
@@ -21,7 +21,7 @@ use Rattle.aig_encode.specs.Encoding.{IsBeyond, IsWithin, ConsumedFile, EncodeUn
 use Rattle.aig_encode.proofs.Exactly.{Reads, Tells, answered, answered_again, no_refusal, refused_again, refused_as_large, refused_in_reading}
 use Rattle.aig_answers.specs.declared.error.AnswerError.{AnswerError}
 use Rattle.aig_answers.specs.declared.error.AnswerError.TheVariants as errors
-use Rattle.aig_answers.specs.Answers.{AsksNothing, IsCrowded, IsOfCircuit, TellsOfFile, TellsOfRoom, of_file, window_size}
+use Rattle.aig_answers.specs.Answers.{AsksNothing, IsCrowded, IsExactly, IsOfCircuit, TellsOfFile, TellsOfRoom, of_file, window_size}
 
 -- an error that is this one
 pub err_of : {T E : Type 0} (e x : E) → e ≡ x → IsErrOf {T = T} (Err e) x
@@ -47,6 +47,13 @@ some_told f c bads empty of same told not_empty none =
 -- what is meant, where only the file matters
 abbrev pub OfFile : File → Unit {0} → Type 0
 OfFile f u = Unit {0}
+
+-- what isn't refused as too large is within the limit
+within_limit : {T : Type 0} (limit size : ℕ) (result : Result T AnswerError) → IsErrOf result (errors.Encode encode.TooLarge) ↔ (limit < size) → (IsErrOf result (errors.Encode encode.TooLarge) → ⊥) → size ≤ limit
+within_limit limit size result large not = elim (cases_lt limit size) [
+  | inl high ↦ absurd (not (large.1 high))
+  | inr low ↦ low
+]
 
 module _ {R : Type 0} (left : R → Option (List ℕ)) (failed : R → Bool) (limit k : ℕ) (r rest : R) (T : Type 0) where
   -- the file is refused, as another call refuses it
@@ -137,26 +144,19 @@ module _ {R : Type 0} (left : R → Option (List ℕ)) (failed : R → Bool) (li
     took_nothing low none =
         (file.file, file.bytes, ((file.holds, low_of low file.file file.means), no_bads file.file file.file.bads (subst (λ (d : Circuit). d.bads ≡ []) file.means none)), file.taken)
 
-    -- what isn't refused as too large is within the limit
-    within_limit : (result : Result T AnswerError) → IsErrOf result (errors.Encode encode.TooLarge) ↔ (limit < unrolled_size c k) → (IsErrOf result (errors.Encode encode.TooLarge) → ⊥) → unrolled_size c k ≤ limit
-    within_limit result large not = elim (cases_lt limit (unrolled_size c k)) [
-      | inl high ↦ absurd (not (large.1 high))
-      | inr low ↦ low
-    ]
-
     pub window_told : (result : Result T AnswerError) → IsErrOf result (errors.Encode encode.TooLarge) ↔ (limit < unrolled_size c k) → (IsErrOf result errors.NoBads → c.bads ≡ []) → IfErr result IsOfCircuit → TellsOfFile left failed limit k result r rest
     window_told (Ok x) large none err =
-        let low = within_limit (Ok x) large (λ is. cc) in
+        let low = within_limit limit (unrolled_size c k) (Ok x) large (λ is. cc) in
         file_good (Ok x) refl (λ e is. cc) (λ is. cc) (within_told low)
     window_told (Err errors.NoBads) large none err =
-        let low = within_limit (Err errors.NoBads) large (λ is. cc) in
+        let low = within_limit limit (unrolled_size c k) (Err errors.NoBads) large (λ is. cc) in
         file_good (Err errors.NoBads) refl (λ e is. cc) (λ is. took_nothing low (none refl)) (within_told low)
     window_told (Err errors.TooLarge) large none err =
-        let low = within_limit (Err errors.TooLarge) large (λ is. cc) in
+        let low = within_limit limit (unrolled_size c k) (Err errors.TooLarge) large (λ is. cc) in
         file_good (Err errors.TooLarge) refl (λ e is. cc) (λ is. cc) (within_told low)
     window_told (Err (errors.Refutation e)) large none err = absurd err
     window_told (Err (errors.Encode encode.Memory)) large none err =
-        let low = within_limit (Err (errors.Encode encode.Memory)) large (λ is. cc) in
+        let low = within_limit limit (unrolled_size c k) (Err (errors.Encode encode.Memory)) large (λ is. cc) in
         record { exact = told (left r); memory = λ is. took_within low; large = λ is. cc; no_bads = λ is. cc; stream = λ is. cc; never_open = λ is. cc }
       where
         told : (known : Option (List ℕ)) → Tells OfFile limit k (Err encode.Memory) known
@@ -187,7 +187,7 @@ told_again left failed limit k r rest A B e told = record {
     same : {x : AnswerError} → IsErrOf {T = B} (Err e) x → IsErrOf {T = A} (Err e) x
     same {x} is = let this : e ≡ x = cc in err_of e x this
 
--- ---- room
+-- ---- an error, exactly
 
 -- what holds is told
 pub unless_holds : {T : Type 0} (r : Result T EncodeError) (P : Type 0) → P → EncodeUnlessTransient r P
@@ -231,18 +231,86 @@ unless_read X T read.Delta P Q so told = so told
 unless_read X T read.Name P Q so told = so told
 unless_read X T read.Open P Q so told = so told
 
+module _ {R : Type 0} (left : R → Option (List ℕ)) (error : AnswerError) (IsSuch : List ℕ → File → Type 0) (r : R) where
+  -- what is told of bytes that are known, or not
+  abbrev Known : {T : Type 0} → Result T AnswerError → Option (List ℕ) → Type 0
+  Known result known = IfSome known (λ bytes. EncodeUnlessTransient (of_file result) (IsErrOf result error ↔ ((f : File) × IsSuch bytes f)))
+
+  -- where the clauses were made, a proof of them doesn't change what was told
+  pub made_exactly : {X T : Type 0} (x : X) (result : Result T AnswerError) → (IsErrOf result error → ⊥) → IsExactly left error IsSuch (Ok x) r → IsExactly left error IsSuch result r
+  made_exactly {X} {T} x result other told = by (left r) told
+    where
+      by : (known : Option (List ℕ)) → Known {T = X} (Ok x) known → Known result known
+      by None h = tt
+      by (Some bytes) h = unless_holds (of_file result) _ (λ is. absurd (other is), λ such. absurd (no_refusal X AnswerError x error (h.1 such)))
+
+  -- a refusal tells the same, whatever would have been answered
+  pub refused_exactly : (A B : Type 0) (e : AnswerError) → IsExactly {T = A} left error IsSuch (Err e) r → IsExactly {T = B} left error IsSuch (Err e) r
+  refused_exactly A B e told = by (left r) told
+    where
+      back : IsErrOf {T = B} (Err e) error → IsErrOf {T = A} (Err e) error
+      back is = let this : e ≡ error = cc in err_of e error this
+
+      forth : IsErrOf {T = A} (Err e) error → IsErrOf {T = B} (Err e) error
+      forth is = let this : e ≡ error = cc in err_of e error this
+
+      by : (known : Option (List ℕ)) → Known {T = A} (Err e) known → Known {T = B} (Err e) known
+      by None h = tt
+      by (Some bytes) h = subst (λ of. EncodeUnlessTransient of (IsErrOf {T = B} (Err e) error ↔ ((f : File) × IsSuch bytes f))) (same_part A B e) (unless_so (of_file {T = A} (Err e)) _ _ (λ told. (λ is. told.0 (back is), λ such. forth (told.1 such))) h)
+
+  -- a file that reading refused is no such file
+  pub unread_exactly : (T : Type 0) (limit k : ℕ) (e : ReadError) → ((bytes : List ℕ) (f : File) → IsSuch bytes f → Accepts bytes limit f) → (IsErrOf {T = T} (Err (errors.Encode (encode.Read e))) error → ⊥)
+      → Reads Circuit (Unit {0}) IsFileCircuit OfFile limit k (Err e) (left r) → IsExactly {T = T} left error IsSuch (Err (errors.Encode (encode.Read e))) r
+  unread_exactly T limit k e accepts other exact = by (left r) exact
+    where
+      by : (known : Option (List ℕ)) → Reads Circuit (Unit {0}) IsFileCircuit OfFile limit k (Err e) known → Known {T = T} (Err (errors.Encode (encode.Read e))) known
+      by None h = tt
+      by (Some bytes) h = unless_read Circuit (Unit {0}) e _ _ (λ told. (λ is. absurd (other is), λ such. absurd (told.accepted.each such.0 (accepts bytes such.0 such.1)))) h
+
+  -- the bytes were taken
+  taken_exactly : {X T E : Type 0} (result : Result T AnswerError) (bytes : List ℕ) (Good : File → Type 0) (Means : File → X → Type 0) (x : X)
+      → ((f : File) → IsSuch bytes f → Good f) → ((f : File) → Good f → Means f x → IsErrOf result error ↔ IsSuch bytes f)
+      → ReadsWhere {E = E} Good Means (Ok x) → EncodeUnlessTransient (of_file result) (IsErrOf result error ↔ ((f : File) × IsSuch bytes f))
+  taken_exactly result bytes Good Means x good told h = unless_holds (of_file result) _ (
+    λ is. let f = h.only refl in (f.0, (told f.0 f.1 (h.each f.0 f.1)).0 is),
+    λ such. let f = good such.0 such.1 in (told such.0 f (h.each such.0 f)).1 such.1,
+  )
+
+  -- a circuit was read
+  pub read_exactly : {T : Type 0} (result : Result T AnswerError) (limit k : ℕ) (c : Circuit) → ((bytes : List ℕ) (f : File) → IsSuch bytes f → Accepts bytes limit f)
+      → ((bytes : List ℕ) (f : File) → Accepts bytes limit f → c ≡ circuit_of f → IsErrOf result error ↔ IsSuch bytes f)
+      → Reads Circuit (Unit {0}) IsFileCircuit OfFile limit k (Ok c) (left r) → IsExactly left error IsSuch result r
+  read_exactly result limit k c good told exact = by (left r) exact
+    where
+      by : (known : Option (List ℕ)) → Reads Circuit (Unit {0}) IsFileCircuit OfFile limit k (Ok c) known → Known result known
+      by None h = tt
+      by (Some bytes) h = taken_exactly result bytes (Accepts bytes limit) IsFileCircuit c (good bytes) (told bytes) h.accepted
+
+  -- a file was answered
+  pub answered_exactly : {X T : Type 0} (result : Result T AnswerError) (limit k : ℕ) (Means : File → X → Type 0) (x : X) → ((bytes : List ℕ) (f : File) → IsSuch bytes f → IsWithin limit k bytes f)
+      → ((bytes : List ℕ) (f : File) → IsWithin limit k bytes f → Means f x → IsErrOf result error ↔ IsSuch bytes f)
+      → Tells Means limit k (Ok x) (left r) → IsExactly left error IsSuch result r
+  answered_exactly result limit k Means x good told exact = by (left r) exact
+    where
+      by : (known : Option (List ℕ)) → Tells Means limit k (Ok x) known → Known result known
+      by None h = tt
+      by (Some bytes) h = taken_exactly result bytes (IsWithin limit k bytes) Means x (good bytes) (told bytes) h.accepted
+
+-- ---- room
+
+crowded_is_read : (form : Window) (limit k : ℕ) (bytes : List ℕ) (f : File) → IsCrowded form limit k bytes f → Accepts bytes limit f
+crowded_is_read form limit k bytes f crowded = crowded.0.0.0
+
 module _ {R : Type 0} (left : R → Option (List ℕ)) (form : Window) (limit k : ℕ) (r rest : R) (T : Type 0) where
   -- the file was refused
   pub refused_room : (e : ReadError) → Reads Circuit (Unit {0}) IsFileCircuit OfFile limit (k + 1) (Err e) (left r) → TellsOfRoom {T = T} left form limit k (Err (errors.Encode (encode.Read e))) r rest
-  refused_room e exact = record { exact = by (left r) exact; only = λ is. absurd (apart is) }
+  refused_room e exact = record {
+    exact = unread_exactly left errors.TooLarge (IsCrowded form limit k) r T limit (k + 1) e (crowded_is_read form limit k) apart exact;
+    only = λ is. absurd (apart is);
+  }
     where
       apart : IsErrOf {T = T} (Err (errors.Encode (encode.Read e))) errors.TooLarge → ⊥
       apart is = cc
-
-      by : (known : Option (List ℕ)) → Reads Circuit (Unit {0}) IsFileCircuit OfFile limit (k + 1) (Err e) known
-          → IfSome known (λ bytes. EncodeUnlessTransient {T = Unit {0}} (Err (encode.Read e)) (IsErrOf {T = T} (Err (errors.Encode (encode.Read e))) errors.TooLarge ↔ ((f : File) × IsCrowded form limit k bytes f)))
-      by None h = tt
-      by (Some bytes) h = unless_read Circuit (Unit {0}) e _ _ (λ told. (λ is. absurd (apart is), λ crowded. absurd (told.accepted.each crowded.0 crowded.1.0.0.0))) h
 
   -- a circuit was read
   module _ (c : Circuit) (result : Result T AnswerError) (room : IsErrOf result errors.TooLarge ↔ ((unrolled_size c (k + 1) ≤ limit) × (c.bads ≢ []) × (limit < window_size form c k))) where
@@ -264,36 +332,85 @@ module _ {R : Type 0} (left : R → Option (List ℕ)) (form : Window) (limit k 
     )
 
     pub window_room : IsReadAs (λ bytes. Accepts bytes limit) IsFileCircuit (left r) (left rest) c → Reads Circuit (Unit {0}) IsFileCircuit OfFile limit (k + 1) (Ok c) (left r) → TellsOfRoom left form limit k result r rest
-    window_room file exact = record { exact = by (left r) exact; only = λ is. (file.file, file.bytes, crowded_file file.bytes file.file file.holds file.means is, file.taken) }
-      where
-        by : (known : Option (List ℕ)) → Reads Circuit (Unit {0}) IsFileCircuit OfFile limit (k + 1) (Ok c) known
-            → IfSome known (λ bytes. EncodeUnlessTransient (of_file result) (IsErrOf result errors.TooLarge ↔ ((f : File) × IsCrowded form limit k bytes f)))
-        by None h = tt
-        by (Some bytes) h = unless_holds (of_file result) _ (
-          λ is. let f = h.accepted.only refl in (f.0, crowded_file bytes f.0 f.1 (h.accepted.each f.0 f.1) is),
-          λ crowded. crowded_told bytes crowded.0 (h.accepted.each crowded.0 crowded.1.0.0.0) crowded.1,
-        )
+    window_room file exact = record {
+      exact = read_exactly left errors.TooLarge (IsCrowded form limit k) r result limit (k + 1) c (crowded_is_read form limit k) (λ bytes f accepts is. (crowded_file bytes f accepts is, crowded_told bytes f is)) exact;
+      only = λ is. (file.file, file.bytes, crowded_file file.bytes file.file file.holds file.means is, file.taken);
+    }
 
   -- where the clauses were made, a proof of them doesn't change what was told
-  pub room_again : {X : Type 0} (x : X) (result : Result T AnswerError) → of_file result ≡ Ok tt → (IsErrOf result errors.TooLarge → ⊥) → TellsOfRoom left form limit k (Ok x) r rest → TellsOfRoom left form limit k result r rest
-  room_again {X} x result good other told = record { exact = by (left r) told.exact; only = λ is. absurd (other is) }
-    where
-      by : (known : Option (List ℕ)) → IfSome known (λ bytes. IsErrOf {T = X} (Ok x) errors.TooLarge ↔ ((f : File) × IsCrowded form limit k bytes f))
-          → IfSome known (λ bytes. EncodeUnlessTransient (of_file result) (IsErrOf result errors.TooLarge ↔ ((f : File) × IsCrowded form limit k bytes f)))
-      by None h = tt
-      by (Some bytes) h = subst (λ of. EncodeUnlessTransient of (IsErrOf result errors.TooLarge ↔ ((f : File) × IsCrowded form limit k bytes f))) (sym good) (λ is. absurd (other is), λ crowded. absurd (no_refusal X AnswerError x errors.TooLarge (h.1 crowded)))
+  pub room_again : {X : Type 0} (x : X) (result : Result T AnswerError) → (IsErrOf result errors.TooLarge → ⊥) → TellsOfRoom left form limit k (Ok x) r rest → TellsOfRoom left form limit k result r rest
+  room_again x result other told = record { exact = made_exactly left errors.TooLarge (IsCrowded form limit k) r x result other told.exact; only = λ is. absurd (other is) }
 
 -- a refusal tells the same, whatever would have been answered
 pub room_told_again : {R : Type 0} (left : R → Option (List ℕ)) (form : Window) (limit k : ℕ) (r rest : R) (A B : Type 0) (e : AnswerError) → TellsOfRoom {T = A} left form limit k (Err e) r rest → TellsOfRoom {T = B} left form limit k (Err e) r rest
-room_told_again left form limit k r rest A B e told = record { exact = by (left r) told.exact; only = λ is. told.only (back is) }
+room_told_again left form limit k r rest A B e told = record {
+  exact = refused_exactly left errors.TooLarge (IsCrowded form limit k) r A B e told.exact;
+  only = λ is. told.only (back is);
+}
   where
     back : IsErrOf {T = B} (Err e) errors.TooLarge → IsErrOf {T = A} (Err e) errors.TooLarge
     back is = let this : e ≡ errors.TooLarge = cc in err_of e errors.TooLarge this
 
-    forth : IsErrOf {T = A} (Err e) errors.TooLarge → IsErrOf {T = B} (Err e) errors.TooLarge
-    forth is = let this : e ≡ errors.TooLarge = cc in err_of e errors.TooLarge this
+-- ---- nothing asked
 
-    by : (known : Option (List ℕ)) → IfSome known (λ bytes. EncodeUnlessTransient (of_file {T = A} (Err e)) (IsErrOf {T = A} (Err e) errors.TooLarge ↔ ((f : File) × IsCrowded form limit k bytes f)))
-        → IfSome known (λ bytes. EncodeUnlessTransient (of_file {T = B} (Err e)) (IsErrOf {T = B} (Err e) errors.TooLarge ↔ ((f : File) × IsCrowded form limit k bytes f)))
-    by None h = tt
-    by (Some bytes) h = subst (λ of. EncodeUnlessTransient of (IsErrOf {T = B} (Err e) errors.TooLarge ↔ ((f : File) × IsCrowded form limit k bytes f))) (same_part A B e) (unless_so (of_file {T = A} (Err e)) _ _ (λ told. (λ is. told.0 (back is), λ crowded. forth (told.1 crowded))) h)
+nothing_is_within : (limit k : ℕ) (bytes : List ℕ) (f : File) → AsksNothing limit k bytes f → IsWithin limit k bytes f
+nothing_is_within limit k bytes f nothing = nothing.0
+
+nothing_is_read : (limit k : ℕ) (bytes : List ℕ) (f : File) → AsksNothing limit k bytes f → Accepts bytes limit f
+nothing_is_read limit k bytes f nothing = nothing.0.0
+
+module _ {R : Type 0} (left : R → Option (List ℕ)) (limit k : ℕ) (r : R) (T : Type 0) where
+  -- the file was refused, as it is read or as its further steps pass the limit
+  pub refused_nothing : {X : Type 0} (Means : File → X → Type 0) (e : EncodeError) → Tells Means limit k (Err e) (left r) → IsExactly {T = T} left errors.NoBads (AsksNothing limit k) (Err (errors.Encode e)) r
+  refused_nothing {X} Means e exact = by (left r) (refused_again X (Unit {0}) Means OfFile limit k e (left r) exact)
+    where
+      apart : IsErrOf {T = T} (Err (errors.Encode e)) errors.NoBads → ⊥
+      apart is = cc
+
+      by : (known : Option (List ℕ)) → Tells OfFile limit k (Err e) known
+          → IfSome known (λ bytes. EncodeUnlessTransient {T = Unit {0}} (Err e) (IsErrOf {T = T} (Err (errors.Encode e)) errors.NoBads ↔ ((f : File) × AsksNothing limit k bytes f)))
+      by None h = tt
+      by (Some bytes) h = unless_so (Err e) _ _ (λ told. (λ is. absurd (apart is), λ nothing. absurd (told.accepted.each nothing.0 nothing.1.0))) h
+
+  -- the file was answered
+  pub answered_nothing : {X : Type 0} (Means : File → X → Type 0) (x : X) (result : Result T AnswerError) → ((f : File) → Means f x → IsErrOf result errors.NoBads ↔ (f.bads ≡ []))
+      → Tells Means limit k (Ok x) (left r) → IsExactly left errors.NoBads (AsksNothing limit k) result r
+  answered_nothing Means x result told exact = answered_exactly left errors.NoBads (AsksNothing limit k) r result limit k Means x (nothing_is_within limit k)
+      (λ bytes f within means. (λ is. (within, (told f means).0 is), λ nothing. (told f means).1 nothing.1)) exact
+
+  -- a file was read whose circuit is asked for its window
+  module _ (c : Circuit) (exact : Reads Circuit (Unit {0}) IsFileCircuit OfFile limit k (Ok c) (left r)) where
+    bads_told : (f : File) → c ≡ circuit_of f → (c.bads ≡ []) ↔ (f.bads ≡ [])
+    bads_told f is = (
+      λ none. no_bads f f.bads (sym (ap (λ (d : Circuit). d.bads) is) ∙ none),
+      λ none. ap (λ (d : Circuit). d.bads) is ∙ ap (map (edge_of f)) none,
+    )
+
+    by_bads : (result : Result T AnswerError) → unrolled_size c k ≤ limit → IsErrOf result errors.NoBads ↔ (c.bads ≡ []) → IsExactly left errors.NoBads (AsksNothing limit k) result r
+    by_bads result low told = read_exactly left errors.NoBads (AsksNothing limit k) r result limit k c (nothing_is_read limit k) (λ bytes f accepts is. (
+      λ error. ((accepts, subst (λ d. unrolled_size d k ≤ limit) is low), (bads_told f is).0 (told.0 error)),
+      λ nothing. told.1 ((bads_told f is).1 nothing.1),
+    )) exact
+
+    too_large : limit < unrolled_size c k → IsExactly {T = T} left errors.NoBads (AsksNothing limit k) (Err (errors.Encode encode.TooLarge)) r
+    too_large high = read_exactly left errors.NoBads (AsksNothing limit k) r (Err (errors.Encode encode.TooLarge)) limit k c (nothing_is_read limit k) (λ bytes f accepts is. (
+      λ error. cc,
+      λ nothing. let low : unrolled_size c k ≤ limit = subst (λ d. unrolled_size d k ≤ limit) (sym is) nothing.0.1 in absurd (omega (arith, low, high)),
+    )) exact
+
+    no_memory : IsExactly {T = T} left errors.NoBads (AsksNothing limit k) (Err (errors.Encode encode.Memory)) r
+    no_memory = by (left r)
+      where
+        by : (known : Option (List ℕ)) → IfSome known (λ bytes. EncodeUnlessTransient {T = Unit {0}} (Err encode.Memory) (IsErrOf {T = T} (Err (errors.Encode encode.Memory)) errors.NoBads ↔ ((f : File) × AsksNothing limit k bytes f)))
+        by None = tt
+        by (Some bytes) = tt
+
+    pub window_nothing : (result : Result T AnswerError) → IsErrOf result (errors.Encode encode.TooLarge) ↔ (limit < unrolled_size c k) → (IsErrOf result errors.NoBads → c.bads ≡ []) → (IsOk result → c.bads ≢ []) → (IsErrOf result errors.TooLarge → c.bads ≢ [])
+        → IfErr result IsOfCircuit → IsExactly left errors.NoBads (AsksNothing limit k) result r
+    window_nothing (Ok x) large none some crowded err = by_bads (Ok x) (within_limit limit (unrolled_size c k) (Ok x) large (λ is. cc)) (λ is. cc, λ empty. absurd (some refl empty))
+    window_nothing (Err errors.NoBads) large none some crowded err = by_bads (Err errors.NoBads) (within_limit limit (unrolled_size c k) (Err errors.NoBads) large (λ is. cc)) (none, λ empty. refl)
+    window_nothing (Err errors.TooLarge) large none some crowded err = by_bads (Err errors.TooLarge) (within_limit limit (unrolled_size c k) (Err errors.TooLarge) large (λ is. cc)) (λ is. cc, λ empty. absurd (crowded refl empty))
+    window_nothing (Err (errors.Refutation e)) large none some crowded err = absurd err
+    window_nothing (Err (errors.Encode encode.Memory)) large none some crowded err = no_memory
+    window_nothing (Err (errors.Encode encode.TooLarge)) large none some crowded err = too_large (large.0 refl)
+    window_nothing (Err (errors.Encode (encode.Read e))) large none some crowded err = absurd err

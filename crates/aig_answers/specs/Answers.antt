@@ -66,14 +66,19 @@ pub record TellsOfFile {R T : Type 0} (left : R → Option (List ℕ)) (failed :
   pub stream : IsErrOf result (errors.Encode (encode.Read read.Stream)) → IsTrue (failed rest)
   pub never_open : IsErrOf result (errors.Encode (encode.Read read.Open)) → ⊥
 
+-- of known bytes, memory and the stream aside: the answer is this error exactly where the bytes are
+-- such a file
+abbrev pub IsExactly : {R T : Type 0} → (R → Option (List ℕ)) → AnswerError
+    → (List ℕ → File → Type 0) → Result T AnswerError → R → Type 0
+IsExactly left error IsSuch result r = IfSome (left r)
+    (λ bytes. EncodeUnlessTransient (of_file result)
+    (IsErrOf result error ↔ ((f : File) × IsSuch bytes f)))
+
 -- What the answer for a window tells of the bytes, as TooLarge.
 pub record TellsOfRoom {R T : Type 0} (left : R → Option (List ℕ)) (form : Window) (limit k : ℕ)
     (result : Result T AnswerError) (r rest : R) : Type 0 where
-  -- of known bytes, memory and the stream aside: exactly where the bound of the variables passes
-  -- the limit
-  pub exact : IfSome (left r)
-      (λ bytes. EncodeUnlessTransient (of_file result)
-      (IsErrOf result errors.TooLarge ↔ ((f : File) × IsCrowded form limit k bytes f)))
+  -- exactly where the bound of the variables passes the limit
+  pub exact : IsExactly left errors.TooLarge (IsCrowded form limit k) result r
   -- only after such a file was read
   pub only : IsErrOf result errors.TooLarge
       → ConsumedFile (IsCrowded form limit k) (left r) (left rest)

@@ -1,25 +1,15 @@
 //! The window clauses of an induction step.
 
-ghost use Rattle.std.specs.Prelude.{◌≡◌, ◌+◌, ◌*◌, ◌<◌, ◌≤◌, ◌^◌, ◌++◌, ◌∷◌, [], All, IfOk, OnOk, length, map};
+ghost use Rattle.std.specs.Prelude.{◌≡◌, ◌+◌, ◌*◌, ◌<◌, ◌≤◌, ◌^◌, ◌++◌, All, IfOk, OnOk, length, map};
 ghost use Rattle.aig_circuit.specs.Circuit.{IsCircuit};
-ghost use Rattle.aig_circuit.specs.Edge.{inverse, lit_of};
+ghost use Rattle.aig_circuit.specs.Edge.{inverse};
 ghost use Rattle.aig_certify.specs.WindowClauses.{induction_clauses};
 ghost use Rattle.aig_runs.specs.Queries.{unit_clauses};
 
 use aig::{Aig, AigEdge};
 use aig_base::{LitVvec, MemoryError};
+use aig_query::{push_any, push_units};
 use std::alloc::Global;
-
-/// Appends for each edge the clause that it is true.
-fn push_units(further: &mut LitVvec, edges: &[AigEdge]) -> Result<(), MemoryError>
-    requires { All (λ e. e.node_id < 2 ^ 31) edges.now }
-    ensures { OnOk result (further.new ≡ further.old ++ unit_clauses edges.now) }
-{
-    for edge in edges {
-        further.push(&[edge.to_lit()])?;
-    }
-    Ok(())
-}
 
 /// Appends for each edge the clause that it is false.
 fn push_inverses(further: &mut LitVvec, edges: &[AigEdge]) -> Result<(), MemoryError>
@@ -31,18 +21,6 @@ fn push_inverses(further: &mut LitVvec, edges: &[AigEdge]) -> Result<(), MemoryE
         further.push(&[other.to_lit()])?;
     }
     Ok(())
-}
-
-/// Appends the one clause that some edge is true, which is empty where there is none.
-fn push_any(alloc: Global, further: &mut LitVvec, edges: &[AigEdge]) -> Result<(), MemoryError>
-    requires { All (λ e. e.node_id < 2 ^ 31) edges.now }
-    ensures { OnOk result (further.new ≡ further.old ++ map lit_of edges.now ∷ []) }
-{
-    let mut clause = Vec::with_capacity(alloc, edges.len())?;
-    for edge in edges {
-        clause.push(edge.to_lit())?;
-    }
-    further.push(&clause)
 }
 
 /// The window clauses of an induction step, over the nodes of the circuit unrolled by `k + 1` steps.

@@ -1,7 +1,7 @@
 //! No bad state at a step.
 
 ghost use Rattle.std.specs.Prelude.{◌≡◌, ◌^◌, ◌≤◌, IfOk, IsErrOf, IsTrue};
-ghost use Rattle.aig_answers.specs.Answers.{IsAsked, IsOfFileAlone, TellsOfFile};
+ghost use Rattle.aig_answers.specs.Answers.{AsksNothing, IsAsked, IsExactly, IsOfFileAlone, TellsOfFile};
 ghost use Rattle.aig_certify.specs.Safety.{IsSafeAt};
 ghost use Rattle.aig_reader.specs.Reading.{IsReadAs};
 
@@ -33,6 +33,8 @@ pub fn check_step<R: Source, P: Source>(
     ensures answer { IfOk result (IsReadAs (IsAsked limit k) (λ f _. IsSafeAt f k)
         (R.left r.old) (R.left r.new)) }
     ensures file { TellsOfFile R.left R.failed limit k result r.old r.new }
+    // Memory and the stream aside, NoBads exactly where the bytes are a file within the limit without bad literals.
+    ensures bads { IsExactly R.left AnswerError.NoBads (AsksNothing limit k) result r.old }
     ensures unread { IsOfFileAlone result → proof.new ≡ proof.old }
     // Stream only where a read failed in this call.
     ensures proof_stream { IsErrOf result (AnswerError.Refutation RefutationError.Stream)

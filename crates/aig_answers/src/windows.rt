@@ -2,7 +2,7 @@
 
 ghost use Rattle.std.specs.Prelude.{◌≡◌, ◌≢◌, ◌+◌, ◌*◌, ◌<◌, ◌≤◌, ◌^◌, ◌↔◌, ◌++◌, [], false, IfErr, IfOk, IsErrOf, IsOk, IsTrue, OnOk, length, replicate};
 ghost use Rattle.std.specs.Io.KnownBytes.{IsAtEnd};
-ghost use Rattle.aig_answers.specs.Answers.{IsAsked, IsOfCircuit, IsOfFileAlone, IsOfWindow, TellsOfFile, TellsOfRoom, window_size};
+ghost use Rattle.aig_answers.specs.Answers.{AsksNothing, IsAsked, IsExactly, IsOfCircuit, IsOfFileAlone, IsOfWindow, TellsOfFile, TellsOfRoom, window_size};
 ghost use Rattle.aig_base.specs.Clauses.{AreBelow};
 ghost use Rattle.aig_certify.specs.Induction.{IsKInductive};
 ghost use Rattle.aig_certify.specs.WindowClauses.{AsksWindow, count_free, states_clauses, watched};
@@ -160,6 +160,8 @@ pub fn window<R: Source>(
     // The window clauses are of variables that are there.
     ensures below { IfOk result (λ made. AreBelow (length made.clauses) made.further) }
     ensures file { TellsOfFile R.left R.failed limit (k + 1) result r.old r.new }
+    // Memory and the stream aside, NoBads exactly where the bytes are a file within the limit without bad literals.
+    ensures bads { IsExactly R.left AnswerError.NoBads (AsksNothing limit (k + 1)) result r.old }
     ensures room { TellsOfRoom R.left form limit k result r.old r.new }
     // No read failed, and the stream was read to its end.
     ensures whole { OnOk result ((R.failed r.new ≡ false) × IsAtEnd (R.left r.new)) }
@@ -188,6 +190,8 @@ pub fn check_window<R: Source, P: Source>(
     ensures answer { IfOk result (IsReadAs (IsAsked limit (k + 1)) (λ f _. IsKInductive form f k)
         (R.left r.old) (R.left r.new)) }
     ensures file { TellsOfFile R.left R.failed limit (k + 1) result r.old r.new }
+    // Memory and the stream aside, NoBads exactly where the bytes are a file within the limit without bad literals.
+    ensures bads { IsExactly R.left AnswerError.NoBads (AsksNothing limit (k + 1)) result r.old }
     ensures room { TellsOfRoom R.left form limit k result r.old r.new }
     ensures unread { IsOfFileAlone result → proof.new ≡ proof.old }
     // Stream only where a read failed in this call.

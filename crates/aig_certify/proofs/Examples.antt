@@ -91,8 +91,8 @@ leaves : watched Distinct (record (showing (edge_to 5 false ∷ [])) { latchs = 
 leaves = refl
 
 -- the clauses of states stand after those of induction
-behind : codes_of (window_clauses Distinct 4 (record only_false { latchs = keeping 1 ∷ [] }) 0 (showing (edge_to 1 false ∷ edge_to 2 false ∷ []))) ≡ [] ∷ (9 ∷ 2 ∷ 4 ∷ []) ∷ (9 ∷ 3 ∷ 5 ∷ []) ∷ (8 ∷ []) ∷ []
-behind = refl
+following : codes_of (window_clauses Distinct 4 (record only_false { latchs = keeping 1 ∷ [] }) 0 (showing (edge_to 1 false ∷ edge_to 2 false ∷ []))) ≡ [] ∷ (9 ∷ 2 ∷ 4 ∷ []) ∷ (9 ∷ 3 ∷ 5 ∷ []) ∷ (8 ∷ []) ∷ []
+following = refl
 
 -- ---- certificates
 

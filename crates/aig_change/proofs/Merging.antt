@@ -39,10 +39,10 @@ shifted-suc count m =
     ap (λ b. cond b 0 (suc m + count - 1)) other ∙ e
 
 -- the shift keeps the order of numbers
-pub shifted-rises : (count m n : ℕ) → 0 < count → m < n → shifted count m < shifted count n
-shifted-rises count m zero low h = absurd (omega arith)
-shifted-rises count zero (suc n) low h = omega (arith, shifted-suc count n)
-shifted-rises count (suc m) (suc n) low h = omega (arith, shifted-suc count m, shifted-suc count n)
+pub shifted-is_increasing : (count m n : ℕ) → 0 < count → m < n → shifted count m < shifted count n
+shifted-is_increasing count m zero low h = absurd (omega arith)
+shifted-is_increasing count zero (suc n) low h = omega (arith, shifted-suc count n)
+shifted-is_increasing count (suc m) (suc n) low h = omega (arith, shifted-suc count m, shifted-suc count n)
 
 module _ (xs ys : List AigNode) (p : AreNodes xs) (q : AreNodes ys) where
   abbrev pub number : ℕ → ℕ
@@ -100,8 +100,8 @@ module _ (xs ys : List AigNode) (p : AreNodes xs) (q : AreNodes ys) where
   fits m Leaf is = record { first = λ a b e. cc; second = λ a b e. cc; in_order = λ a b e. cc }
   fits m (And a b) is =
       FitsBelow-and_of (number (suc m)) (renumbered_edge number a) (renumbered_edge number b)
-      (shifted-rises (length xs) a.node_id (suc m) some_first (q.ordered.first_before (suc m) a b is))
-      (shifted-rises (length xs) b.node_id (suc m) some_first (q.ordered.second_before (suc m) a b is))
+      (shifted-is_increasing (length xs) a.node_id (suc m) some_first (q.ordered.first_before (suc m) a b is))
+      (shifted-is_increasing (length xs) b.node_id (suc m) some_first (q.ordered.second_before (suc m) a b is))
 
   kept : (n : ℕ) (l : AigNodeType) → kind_at xs n ≡ Some l → FitsBelow n l
   kept n l is = record {
@@ -205,12 +205,12 @@ next_node ys are number v k h =
     ∙ nodes_in_order-push ys number v (take k ns) (suc k)
     ∙ ap (λ i. nodes_in_order ys number v (take k ns) ++ node_in_order ys number (v + i) (suc k) ∷ []) (length-take-le k ns (omega arith))
 
-pub nodes-behind_turn : (first ys : List AigNode) → AreNodes ys → (i count : ℕ) (all new : List AigNode) (made d : AigNode) → 1 ≤ i → i < length ys → count ≡ length first
+pub nodes-following_turn : (first ys : List AigNode) → AreNodes ys → (i count : ℕ) (all new : List AigNode) (made d : AigNode) → 1 ≤ i → i < length ys → count ≡ length first
     → all ≡ first ++ nodes_in_order ys (shifted (length first)) (length first) (take (i - 1) (numbers_but_0 ys))
     → made ≡ record { node_id = count + i - 1; typ = renumbered_kind (shifted count) (Some (get_or ys i d).typ) } → new ≡ all ++ made ∷ []
     → new ≡ first ++ nodes_in_order ys (shifted (length first)) (length first) (take (i + 1 - 1) (numbers_but_0 ys))
-nodes-behind_turn first ys are zero count all new made d low h long so_far is pushed = absurd (omega arith)
-nodes-behind_turn first ys are (suc k) count all new made d low h long so_far is pushed =
+nodes-following_turn first ys are zero count all new made d low h long so_far is pushed = absurd (omega arith)
+nodes-following_turn first ys are (suc k) count all new made d low h long so_far is pushed =
     let ns = numbers_but_0 ys in
     let number = shifted (length first) in
     let before : suc k - 1 ≡ k = omega arith in

@@ -7,7 +7,7 @@ use Rattle.aig_circuit.specs.declared.node.AigNodeType.{AigNodeType}
 use Rattle.aig_circuit.specs.declared.node.AigNodeType.TheVariants.{False, Leaf, And}
 use Rattle.aig_circuit.specs.declared.node.AigNode.{AigNode}
 use Rattle.aig_circuit.specs.Circuit.{Circuit, latch_leaves}
-use Rattle.aig_circuit.specs.Renumber.{place_of, renumbered_circuit}
+use Rattle.aig_circuit.specs.Renumber.{position_of, renumbered_circuit}
 
 -- the number of a gate
 abbrev pub gate_number : AigNode → Option ℕ
@@ -24,7 +24,7 @@ order_of c = 0 ∷ c.inputs ++ latch_leaves c.latchs ++ filter_map gate_number c
 
 -- the new number of a node
 abbrev pub new_number : Circuit → ℕ → ℕ
-new_number c = place_of (order_of c)
+new_number c = position_of (order_of c)
 
 -- the circuit with its nodes in the new order; lists and names follow
 abbrev pub reencoded : Circuit → Circuit

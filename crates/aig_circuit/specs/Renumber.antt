@@ -14,9 +14,9 @@ use Rattle.aig_circuit.specs.Node.{kind_at, and_of}
 use Rattle.aig_circuit.specs.Circuit.{Circuit}
 
 -- the place of a number in a list
-abbrev pub place_of : List ℕ → ℕ → ℕ
-place_of [] n = 0
-place_of (m ∷ ms) n = if m == n then 0 else place_of ms n + 1
+abbrev pub position_of : List ℕ → ℕ → ℕ
+position_of [] n = 0
+position_of (m ∷ ms) n = if m == n then 0 else position_of ms n + 1
 
 -- the edge to the node's new number
 abbrev pub renumbered_edge : (ℕ → ℕ) → AigEdge → AigEdge

@@ -116,13 +116,13 @@ started_by_input-cone = reached_within (λ n. n ≡ 2) (only_one 2) (λ n m is b
 
 -- 0 and the output's node are what is kept of two inputs
 one_of_two-kept : AreKept one_of_two (0 ∷ 2 ∷ [])
-one_of_two-kept = record { rising = rises; exactly = λ n. (forth n, back n) }
+one_of_two-kept = record { rising = is_increasing; exactly = λ n. (forth n, back n) }
   where
-    rises : AllPairs (λ m n. m < n) (0 ∷ 2 ∷ [])
-    rises zero (suc zero) d lt h = omega arith
-    rises i zero d lt h = absurd (omega arith)
-    rises zero (suc (suc j)) d lt h = absurd (omega arith)
-    rises (suc i) (suc j) d lt h = absurd (omega arith)
+    is_increasing : AllPairs (λ m n. m < n) (0 ∷ 2 ∷ [])
+    is_increasing zero (suc zero) d lt h = omega arith
+    is_increasing i zero d lt h = absurd (omega arith)
+    is_increasing zero (suc (suc j)) d lt h = absurd (omega arith)
+    is_increasing (suc i) (suc j) d lt h = absurd (omega arith)
 
     forth : (n : ℕ) → Contains (0 ∷ 2 ∷ []) n → IsInCone one_of_two (2 ∷ []) n
     forth n (zero, h, is) = inl (sym is)

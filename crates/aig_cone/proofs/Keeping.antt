@@ -11,11 +11,11 @@ use Rattle.aig_circuit.specs.declared.node.AigNodeType.TheVariants.{False, Leaf,
 use Rattle.aig_circuit.specs.declared.node.AigLatch.{AigLatch}
 use Rattle.aig_circuit.specs.Node.{kind_at}
 use Rattle.aig_circuit.specs.Circuit.{Circuit, IsCircuit, IsInRange, IsLatch, latch_leaves}
-use Rattle.aig_circuit.specs.Renumber.{place_of}
+use Rattle.aig_circuit.specs.Renumber.{position_of}
 use Rattle.aig_circuit.proofs.Trees.{kind_at-within}
 use Rattle.aig_renumber.specs.Numbers.{IsEdgeIn, IsLatchIn}
 use Rattle.aig_renumber.proofs.Numbering.{Numbers}
-use Rattle.aig_renumber.proofs.Places.{Contains-map, get_or-place_of, place_of-within, places-rise, rising-place, rising_from}
+use Rattle.aig_renumber.proofs.Places.{Contains-map, get_or-position_of, position_of-within, places-rise, rising-place, rising_from}
 use Rattle.aig_circuit.specs.Reach.{DependsOn, IsInCone, IsReached, root, step}
 use Rattle.aig_circuit.specs.Marks.{IsMarked}
 use Rattle.aig_cone.specs.Marks.{AreMarked}
@@ -161,28 +161,28 @@ module _ (c : Circuit) (kept : List ℕ) (is : IsCircuit c) (are : AreKept c kep
 
   -- ---- the numbering by places
 
-  back : (n : ℕ) → S n → get_or kept (place_of kept n) 0 ≡ n
-  back n s = get_or-place_of kept n s
+  back : (n : ℕ) → S n → get_or kept (position_of kept n) 0 ≡ n
+  back n s = get_or-position_of kept n s
 
-  pub Numbers-kept : Numbers c.nodes S kept (place_of kept)
+  pub Numbers-kept : Numbers c.nodes S kept (position_of kept)
   Numbers-kept = record {
-    within = λ n s. place_of-within kept n s;
+    within = λ n s. position_of-within kept n s;
     back = back;
     in_S = λ i h. Contains-get_or kept i 0 h;
     place = rising-place kept are.rising;
     false_in_S = S-0;
-    false_first = zero_first (place_of kept 0) refl;
+    false_first = zero_first (position_of kept 0) refl;
     there = S-there;
     operands = S-operands;
     first_before = λ n a b s kind. let in_S = S-operands n a b s kind in places-rise kept are.rising a.node_id n in_S.0 s (is.nodes.ordered.first_before n a b kind);
     second_before = λ n a b s kind. let in_S = S-operands n a b s kind in places-rise kept are.rising b.node_id n in_S.1 s (is.nodes.ordered.second_before n a b kind);
   }
     where
-      zero_first : (p : ℕ) → place_of kept 0 ≡ p → p ≡ 0
+      zero_first : (p : ℕ) → position_of kept 0 ≡ p → p ≡ 0
       zero_first zero e = refl
       zero_first (suc p) e =
-          let low : 0 < place_of kept 0 = omega arith in
-          let less = are.rising 0 (place_of kept 0) 0 low (place_of-within kept 0 S-0) in
+          let low : 0 < position_of kept 0 = omega arith in
+          let less = are.rising 0 (position_of kept 0) 0 low (position_of-within kept 0 S-0) in
           absurd (omega (arith, back 0 S-0))
 
 -- list after list the roots are appended
@@ -206,8 +206,8 @@ pub kept-first : (c : Circuit) (kept : List ℕ) → IsCircuit c → AreKept c k
 kept-first c kept is are =
     let numbers = Numbers-kept c kept is are in
     let has = (are.exactly 0).1 (inl refl) in
-    let place : place_of kept 0 ≡ 0 = numbers.false_first in
-    (omega (arith, place_of-within kept 0 has), subst (λ i. get_or kept i 0 ≡ 0) place (get_or-place_of kept 0 has))
+    let place : position_of kept 0 ≡ 0 = numbers.false_first in
+    (omega (arith, position_of-within kept 0 has), subst (λ i. get_or kept i 0 ≡ 0) place (get_or-position_of kept 0 has))
 
 pub kept-there : (c : Circuit) (kept : List ℕ) → IsCircuit c → AreKept c kept → All (λ n. n < length c.nodes) kept
 kept-there c kept is are k d h = S-there c kept is are (get_or kept k d) (Contains-get_or kept k d h)

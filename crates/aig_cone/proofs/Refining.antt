@@ -14,7 +14,7 @@ use Rattle.aig_circuit.specs.declared.node.AigLatch.{AigLatch}
 use Rattle.aig_circuit.specs.Tree.{edge_value}
 use Rattle.aig_circuit.specs.Circuit.{Circuit, IsCircuit, IsLeaf, latch_leaves}
 use Rattle.aig_circuit.specs.Runs.{HaveSameValues, next_edges}
-use Rattle.aig_circuit.specs.Renumber.{nodes_in_order, place_of, renumbered_edge, renumbered_latch}
+use Rattle.aig_circuit.specs.Renumber.{nodes_in_order, position_of, renumbered_edge, renumbered_latch}
 use Rattle.aig_circuit.proofs.Lists.{All-first, All-second}
 use Rattle.aig_circuit.proofs.Trees.{kind_at-within}
 use Rattle.aig_renumber.specs.Numbers.{IsEdgeIn, IsLatchIn, SpeaksOf}
@@ -33,7 +33,7 @@ module _ (c : Circuit) (kept : List ℕ) (is : IsCircuit c) (are : AreKept c kep
   In = S c kept is are
 
   abbrev number : ℕ → ℕ
-  number = place_of kept
+  number = position_of kept
 
   abbrev pub cut : Circuit
   cut = only_kept kept c

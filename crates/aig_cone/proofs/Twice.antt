@@ -15,13 +15,13 @@ use Rattle.aig_circuit.specs.Node.{and_of, kind_at}
 use Rattle.aig_circuit.specs.Circuit.{Circuit, IsCircuit, latch_leaves}
 use Rattle.aig_circuit.specs.Edges.{initial_edges, property_edges}
 use Rattle.aig_circuit.specs.Reach.{DependsOn, IsInCone, IsFanin, IsReached, root, step}
-use Rattle.aig_circuit.specs.Renumber.{is_in, only_kept, place_of, renumbered_circuit, renumbered_edge, renumbered_kind, renumbered_latch}
+use Rattle.aig_circuit.specs.Renumber.{is_in, only_kept, position_of, renumbered_circuit, renumbered_edge, renumbered_kind, renumbered_latch}
 use Rattle.aig_circuit.proofs.Building.{and_of-cases}
 use Rattle.aig_circuit.proofs.Trees.{kind_at-within}
 use Rattle.aig_renumber.proofs.Numbering.{kind_at-nodes_in_order, length-nodes_in_order}
 use Rattle.aig_renumber.proofs.Circuits.{initial_edges-map}
 use Rattle.aig_renumber.proofs.Kept.{is_in-there}
-use Rattle.aig_renumber.proofs.Places.{Contains-map, Contains-map_back, filter_all, place_of-get_or, place_of-within, rising-distinct, rising_from}
+use Rattle.aig_renumber.proofs.Places.{Contains-map, Contains-map_back, filter_all, position_of-get_or, position_of-within, rising-distinct, rising_from}
 use Rattle.aig_renumber.proofs.Same.{renumbered-same, retained-all}
 use Rattle.aig_cone.specs.Refine.{AreKept, all_numbers, refined, refining_roots, variable_nodes}
 use Rattle.aig_cone.proofs.Keeping.{Numbers-kept, Within, along, kept-there, reached_within, roots_within}
@@ -34,8 +34,8 @@ sets-map f [] = refl
 sets-map f (es ∷ sets) = ap (λ rest. map f es ++ rest) (sets-map f sets) ∙ sym (map-append f es (flat_map (λ (set : List AigEdge). set) sets))
 
 -- the edges of all properties follow
-property_edges-refined : (kept : List ℕ) (c : Circuit) → property_edges (refined kept c) ≡ map (renumbered_edge (place_of kept)) (property_edges c)
-property_edges-refined kept c = rw (sets-map (renumbered_edge (place_of kept)) c.justice) (simp map-append)
+property_edges-refined : (kept : List ℕ) (c : Circuit) → property_edges (refined kept c) ≡ map (renumbered_edge (position_of kept)) (property_edges c)
+property_edges-refined kept c = rw (sets-map (renumbered_edge (position_of kept)) c.justice) (simp map-append)
 
 -- the node of an edge that isn't constant follows
 variable_nodes-map : (number : ℕ → ℕ) (es : List AigEdge) (n : ℕ) → (n ≢ 0 → number n ≢ 0) → Contains (variable_nodes es) n → Contains (variable_nodes (map (renumbered_edge number) es)) (number n)
@@ -59,10 +59,10 @@ variable_nodes-map number (e ∷ es) n keeps has = by_test (λ h. variable_nodes
 
 -- a rising list of all numbers below a bound has each at its own place
 rising-whole : (ns : List ℕ) (bound : ℕ) → AllPairs (λ m n. m < n) ns → All (λ n. n < bound) ns → ((n : ℕ) → n < bound → Contains ns n) → (length ns ≡ bound) × ((k : ℕ) → k < length ns → get_or ns k 0 ≡ k)
-rising-whole ns bound rises below all = (long, λ k h. (at k (omega (arith, long))).1)
+rising-whole ns bound is_increasing below all = (long, λ k h. (at k (omega (arith, long))).1)
   where
     above : (k : ℕ) → k < length ns → k ≤ get_or ns k 0
-    above k h = let from = rising_from 0 ns rises (λ j d l. omega arith) k h in omega (arith, from)
+    above k h = let from = rising_from 0 ns is_increasing (λ j d l. omega arith) k h in omega (arith, from)
 
     at : (k : ℕ) → k < bound → (k < length ns) × (get_or ns k 0 ≡ k)
     at zero h =
@@ -78,7 +78,7 @@ rising-whole ns bound rises below all = (long, λ k h. (at k (omega (arith, long
         let same : r.0 ≡ suc k = (elim (cases_lt k r.0) [
           | inl more ↦ omega arith
           | inr low ↦ elim (cases_lt r.0 k) [
-            | inl less ↦ absurd (let rise = rises r.0 k 0 less before.0 in omega (arith, rise, value, before.1))
+            | inl less ↦ absurd (let rise = is_increasing r.0 k 0 less before.0 in omega (arith, rise, value, before.1))
             | inr equal ↦ absurd (let here : r.0 ≡ k = omega arith in omega (arith, ap (λ p. get_or ns p 0) here, value, before.1))
           ]
         ]) in
@@ -97,7 +97,7 @@ rising-whole ns bound rises below all = (long, λ k h. (at k (omega (arith, long
 
 module _ (c : Circuit) (kept : List ℕ) (is : IsCircuit c) (are : AreKept c kept) where
   abbrev number : ℕ → ℕ
-  number = place_of kept
+  number = position_of kept
 
   abbrev new : Circuit
   new = refined kept c
@@ -150,7 +150,7 @@ module _ (c : Circuit) (kept : List ℕ) (is : IsCircuit c) (are : AreKept c kep
   step_follows n m s (inl (a, b, kind, which)) = inl (operand (and_of-cases first second))
     where
       there : number n < length kept
-      there = place_of-within kept n s
+      there = position_of-within kept n s
 
       made : kind_at new.nodes (number n) ≡ Some (renumbered_kind number (Some (And a b)))
       made = kind_at-nodes_in_order c.nodes number kept (number n) there ∙ ap (λ k. Some (renumbered_kind number (kind_at c.nodes k))) (back n s) ∙ ap (λ o. Some (renumbered_kind number o)) kind
@@ -228,10 +228,10 @@ module _ (c : Circuit) (kept : List ℕ) (is : IsCircuit c) (are : AreKept c kep
         let node = slice_get-get_or new.nodes k default low in
         get_or_default again k d 0 h ∙ whole.1 k h ∙ sym (get_or-map (λ (n : AigNode). n.node_id) new.nodes k default d low ∙ is_new.nodes.numbered k (get_or new.nodes k default) node))
 
-    places_same : (n : ℕ) → n < length new.nodes → place_of again n ≡ n
+    places_same : (n : ℕ) → n < length new.nodes → position_of again n ≡ n
     places_same n h =
         let low : n < length again = omega (arith, whole.0) in
-        ap (place_of again) (sym (whole.1 n low)) ∙ place_of-get_or again n (rising-distinct again kept_again.rising) low
+        ap (position_of again) (sym (whole.1 n low)) ∙ position_of-get_or again n (rising-distinct again kept_again.rising) low
 
     passes : (n : ℕ) → n < length new.nodes → is_in again n ≡ true
     passes n h = is_in-there again n (has n h)
@@ -243,4 +243,4 @@ module _ (c : Circuit) (kept : List ℕ) (is : IsCircuit c) (are : AreKept c kep
         λ i. record new { inputs = inputs i; names = names i }
 
     pub refined-again : refined again new ≡ new
-    refined-again = ap (renumbered_circuit (place_of again) again) nothing_dropped ∙ renumbered-same new is_new (place_of again) places_same again whole.1 whole.0
+    refined-again = ap (renumbered_circuit (position_of again) again) nothing_dropped ∙ renumbered-same new is_new (position_of again) places_same again whole.1 whole.0

@@ -9,7 +9,7 @@ use Rattle.aig_circuit.specs.declared.edge.AigEdge.{AigEdge}
 use Rattle.aig_circuit.specs.Circuit.{Circuit, IsLeaf, latch_leaves}
 use Rattle.aig_circuit.specs.Edges.{property_edges, initial_edges}
 use Rattle.aig_circuit.specs.Runs.{HaveSameProperties, HaveSameValues, IsRun, IsInitial, next_edges}
-use Rattle.aig_circuit.specs.Renumber.{place_of, kept_circuit}
+use Rattle.aig_circuit.specs.Renumber.{position_of, kept_circuit}
 use Rattle.aig_circuit.specs.Reach.{IsInCone}
 
 -- the nodes of the edges that aren't constant
@@ -37,7 +37,7 @@ pub record ArePlaces (kept : List ℕ) (n : ℕ) (numbers : List ℕ) : Type 0 w
 
 -- the circuit of the kept nodes, in their order; operands, lists and names follow
 abbrev pub refined : List ℕ → Circuit → Circuit
-refined kept c = kept_circuit (place_of kept) kept c
+refined kept c = kept_circuit (position_of kept) kept c
 
 -- the numbers of all nodes, in a row
 abbrev pub all_numbers : Circuit → List ℕ

@@ -36,14 +36,14 @@ signed_in (b ∷ bs) =
     else option_map (λ n. (true, n)) (number_in (b ∷ bs))
 
 -- no clauses, where no literal is left without its 0
-abbrev pub none_behind : List Lit → Option (List (List Lit))
-none_behind [] = Some []
-none_behind (lit ∷ lits) = None
+abbrev pub none_following : List Lit → Option (List (List Lit))
+none_following [] = Some []
+none_following (lit ∷ lits) = None
 
 -- the clauses of words over so many variables, after the first literals of a clause; each is ended
 -- by a 0
 unfoldable pub clauses_from : ℕ → List Lit → List (List ℕ) → Option (List (List Lit))
-clauses_from variables clause [] = none_behind clause
+clauses_from variables clause [] = none_following clause
 clauses_from variables clause (word ∷ words) = do
   n ← signed_in word
   if n.1 == 0 then (clauses_from variables [] words >>= λ clauses. Some (clause ∷ clauses))

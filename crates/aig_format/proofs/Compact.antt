@@ -4,18 +4,18 @@ use Rattle.std.specs.Prelude.{◌==◌, nat_lt}
 use Rattle.std.specs.List.{AllByRecursion, list_all}
 use Rattle.std.proofs.lemmas.Bool.{and_from, and_parts, eqb-true, eq-eqb, ltb-true, lt-ltb, false≢true}
 use Rattle.aig_format.specs.File.{GateLine, File, defined}
-use Rattle.aig_format.specs.Numbering.{rises, is_above_operands, are_in_order, is_compact}
-use Rattle.aig_format.specs.Fits.{IsAboveOperands, Rises, IsCompact, IsWellFounded}
+use Rattle.aig_format.specs.Numbering.{is_increasing, is_above_operands, are_in_order, is_compact}
+use Rattle.aig_format.specs.Fits.{IsAboveOperands, IsIncreasing, IsCompact, IsWellFounded}
 
-rises-tested : (xs : List ℕ) → Rises xs → rises xs ≡ true
-rises-tested [] h = refl
-rises-tested (a ∷ []) h = refl
-rises-tested (a ∷ b ∷ xs) h = and_from (nat_lt a b) (rises (b ∷ xs)) (lt-ltb a b h.0) (rises-tested (b ∷ xs) h.1)
+is_increasing-tested : (xs : List ℕ) → IsIncreasing xs → is_increasing xs ≡ true
+is_increasing-tested [] h = refl
+is_increasing-tested (a ∷ []) h = refl
+is_increasing-tested (a ∷ b ∷ xs) h = and_from (nat_lt a b) (is_increasing (b ∷ xs)) (lt-ltb a b h.0) (is_increasing-tested (b ∷ xs) h.1)
 
-rises-told : (xs : List ℕ) → rises xs ≡ true → Rises xs
-rises-told [] h = tt
-rises-told (a ∷ []) h = tt
-rises-told (a ∷ b ∷ xs) h = let p = and_parts (nat_lt a b) (rises (b ∷ xs)) h in (ltb-true a b p.0, rises-told (b ∷ xs) p.1)
+is_increasing-told : (xs : List ℕ) → is_increasing xs ≡ true → IsIncreasing xs
+is_increasing-told [] h = tt
+is_increasing-told (a ∷ []) h = tt
+is_increasing-told (a ∷ b ∷ xs) h = let p = and_parts (nat_lt a b) (is_increasing (b ∷ xs)) h in (ltb-true a b p.0, is_increasing-told (b ∷ xs) p.1)
 
 one_tested : (g : GateLine) → IsAboveOperands g → is_above_operands g ≡ true
 one_tested g h =
@@ -41,15 +41,15 @@ pub compact-tested : (f : File) → IsCompact f → is_compact f ≡ true
 compact-tested f compact =
     let lefts = map (λ (g : GateLine). g.lhs) f.gates in
     and_from (f.greatest == length (defined f)) (are_in_order f.gates) (eq-eqb f.greatest (length (defined f)) compact.exact)
-    (and_from (rises lefts) (list_all is_above_operands f.gates) (rises-tested lefts compact.rising) (ordered-tested f.gates compact.ordered))
+    (and_from (is_increasing lefts) (list_all is_above_operands f.gates) (is_increasing-tested lefts compact.rising) (ordered-tested f.gates compact.ordered))
 
 -- and there alone
 pub compact-told : (f : File) → is_compact f ≡ true → IsCompact f
 compact-told f h =
     let lefts = map (λ (g : GateLine). g.lhs) f.gates in
     let p = and_parts (f.greatest == length (defined f)) (are_in_order f.gates) h in
-    let q = and_parts (rises lefts) (list_all is_above_operands f.gates) p.1 in
-    record { exact = eqb-true f.greatest (length (defined f)) p.0; rising = rises-told lefts q.0; ordered = ordered-told f.gates q.1 }
+    let q = and_parts (is_increasing lefts) (list_all is_above_operands f.gates) p.1 in
+    record { exact = eqb-true f.greatest (length (defined f)) p.0; rising = is_increasing-told lefts q.0; ordered = ordered-told f.gates q.1 }
 
 -- what isn't compact is well-founded
 pub well_founded_only : (f : File) → is_compact f ≡ false → IsCompact f ⊎ IsWellFounded f → IsWellFounded f

@@ -3,7 +3,7 @@ use Rattle.std.proofs.Common.{◌≡◌, ℕ, zero, suc, ◌+◌, ◌<◌, ◌�
 use Rattle.std.specs.Prelude.{nat_eq, ◌==◌, slice_index, filter}
 use Rattle.std.specs.List.{AllByRecursion, IsDistinct, list_any, flat_map}
 use Rattle.std.proofs.lemmas.Bool.{eqb-true, eqb-false, eq-eqb, ne_eqb, false≢true}
-use Rattle.aig_circuit.specs.Renumber.{place_of}
+use Rattle.aig_circuit.specs.Renumber.{position_of}
 use Rattle.aig_format.specs.Numbering.{numbers_from}
 use Rattle.aig_format.proofs.Entries.{rec_append, rec_weaker}
 
@@ -25,11 +25,11 @@ has-numbers (suc n) w v low high = by_test (eqb w v) refl (has-numbers n (w + 1)
     by_test true is rest = refl
     by_test false is rest = let differs = eqb-false w v is in rest (omega (arith, differs)) (omega arith)
 
-pub place_of-numbers : (n w v : ℕ) → w ≤ v → v < w + n → place_of (numbers_from n w) v + w ≡ v
-place_of-numbers zero w v low high = absurd (omega arith)
-place_of-numbers (suc n) w v low high = by_test (eqb w v) refl (place_of-numbers n (w + 1) v)
+pub position_of-numbers : (n w v : ℕ) → w ≤ v → v < w + n → position_of (numbers_from n w) v + w ≡ v
+position_of-numbers zero w v low high = absurd (omega arith)
+position_of-numbers (suc n) w v low high = by_test (eqb w v) refl (position_of-numbers n (w + 1) v)
   where
-    by_test : (b : Bool) → eqb w v ≡ b → (w + 1 ≤ v → v < w + 1 + n → place_of (numbers_from n (w + 1)) v + (w + 1) ≡ v) → cond b 0 (place_of (numbers_from n (w + 1)) v + 1) + w ≡ v
+    by_test : (b : Bool) → eqb w v ≡ b → (w + 1 ≤ v → v < w + 1 + n → position_of (numbers_from n (w + 1)) v + (w + 1) ≡ v) → cond b 0 (position_of (numbers_from n (w + 1)) v + 1) + w ≡ v
     by_test true is rest = let same = eqb-true w v is in omega arith
     by_test false is rest = let differs = eqb-false w v is in let found = rest (omega (arith, differs)) (omega arith) in omega arith
 
@@ -82,58 +82,58 @@ has-flat_map h (j ∷ ks) k v there is = by_test (eqb j k) refl there (λ t. has
 
 -- ---- first places
 
-pub place_of-within : (xs : List ℕ) (v : ℕ) → has xs v ≡ true → place_of xs v < length xs
-place_of-within [] v is = absurd (false≢true is)
-place_of-within (x ∷ xs) v is = by_test (eqb x v) is (place_of-within xs v)
+pub position_of-within : (xs : List ℕ) (v : ℕ) → has xs v ≡ true → position_of xs v < length xs
+position_of-within [] v is = absurd (false≢true is)
+position_of-within (x ∷ xs) v is = by_test (eqb x v) is (position_of-within xs v)
   where
-    by_test : (b : Bool) → (b || has xs v) ≡ true → (has xs v ≡ true → place_of xs v < length xs) → cond b 0 (place_of xs v + 1) < suc (length xs)
+    by_test : (b : Bool) → (b || has xs v) ≡ true → (has xs v ≡ true → position_of xs v < length xs) → cond b 0 (position_of xs v + 1) < suc (length xs)
     by_test true is rest = omega arith
     by_test false is rest = omega (arith, rest is)
 
 -- a number that is there has a place of its own
-pub place_of-one : (xs : List ℕ) (u v : ℕ) → has xs u ≡ true → place_of xs u ≡ place_of xs v → u ≡ v
-place_of-one [] u v is same = absurd (false≢true is)
-place_of-one (x ∷ xs) u v is same = by_tests (eqb x u) (eqb x v) refl refl is same (place_of-one xs u v)
+pub position_of-one : (xs : List ℕ) (u v : ℕ) → has xs u ≡ true → position_of xs u ≡ position_of xs v → u ≡ v
+position_of-one [] u v is same = absurd (false≢true is)
+position_of-one (x ∷ xs) u v is same = by_tests (eqb x u) (eqb x v) refl refl is same (position_of-one xs u v)
   where
-    by_tests : (b c : Bool) → eqb x u ≡ b → eqb x v ≡ c → (b || has xs u) ≡ true → cond b 0 (place_of xs u + 1) ≡ cond c 0 (place_of xs v + 1) → (has xs u ≡ true → place_of xs u ≡ place_of xs v → u ≡ v) → u ≡ v
+    by_tests : (b c : Bool) → eqb x u ≡ b → eqb x v ≡ c → (b || has xs u) ≡ true → cond b 0 (position_of xs u + 1) ≡ cond c 0 (position_of xs v + 1) → (has xs u ≡ true → position_of xs u ≡ position_of xs v → u ≡ v) → u ≡ v
     by_tests true true first second is same rest = sym (eqb-true x u first) ∙ eqb-true x v second
     by_tests true false first second is same rest = absurd (omega arith)
     by_tests false true first second is same rest = absurd (omega arith)
     by_tests false false first second is same rest = rest is (omega arith)
 
-pub place_of-left : (xs ys : List ℕ) (v : ℕ) → has xs v ≡ true → place_of (xs ++ ys) v < length xs
-place_of-left [] ys v is = absurd (false≢true is)
-place_of-left (x ∷ xs) ys v is = by_test (eqb x v) is (place_of-left xs ys v)
+pub position_of-left : (xs ys : List ℕ) (v : ℕ) → has xs v ≡ true → position_of (xs ++ ys) v < length xs
+position_of-left [] ys v is = absurd (false≢true is)
+position_of-left (x ∷ xs) ys v is = by_test (eqb x v) is (position_of-left xs ys v)
   where
-    by_test : (b : Bool) → (b || has xs v) ≡ true → (has xs v ≡ true → place_of (xs ++ ys) v < length xs) → cond b 0 (place_of (xs ++ ys) v + 1) < suc (length xs)
+    by_test : (b : Bool) → (b || has xs v) ≡ true → (has xs v ≡ true → position_of (xs ++ ys) v < length xs) → cond b 0 (position_of (xs ++ ys) v + 1) < suc (length xs)
     by_test true is rest = omega arith
     by_test false is rest = omega (arith, rest is)
 
-pub place_of-right : (xs ys : List ℕ) (v : ℕ) → has xs v ≡ false → place_of (xs ++ ys) v ≡ length xs + place_of ys v
-place_of-right [] ys v is = omega arith
-place_of-right (x ∷ xs) ys v is = by_test (eqb x v) is (place_of-right xs ys v)
+pub position_of-right : (xs ys : List ℕ) (v : ℕ) → has xs v ≡ false → position_of (xs ++ ys) v ≡ length xs + position_of ys v
+position_of-right [] ys v is = omega arith
+position_of-right (x ∷ xs) ys v is = by_test (eqb x v) is (position_of-right xs ys v)
   where
-    by_test : (b : Bool) → (b || has xs v) ≡ false → (has xs v ≡ false → place_of (xs ++ ys) v ≡ length xs + place_of ys v) → cond b 0 (place_of (xs ++ ys) v + 1) ≡ suc (length xs) + place_of ys v
+    by_test : (b : Bool) → (b || has xs v) ≡ false → (has xs v ≡ false → position_of (xs ++ ys) v ≡ length xs + position_of ys v) → cond b 0 (position_of (xs ++ ys) v + 1) ≡ suc (length xs) + position_of ys v
     by_test true is rest = absurd (false≢true (sym is))
     by_test false is rest = omega (arith, rest is)
 
 -- a number of the first list has its place there
-pub place_of-front : (xs ys : List ℕ) (v : ℕ) → has xs v ≡ true → place_of (xs ++ ys) v ≡ place_of xs v
-place_of-front [] ys v is = absurd (false≢true is)
-place_of-front (x ∷ xs) ys v is = by_test (eqb x v) is (place_of-front xs ys v)
+pub position_of-front : (xs ys : List ℕ) (v : ℕ) → has xs v ≡ true → position_of (xs ++ ys) v ≡ position_of xs v
+position_of-front [] ys v is = absurd (false≢true is)
+position_of-front (x ∷ xs) ys v is = by_test (eqb x v) is (position_of-front xs ys v)
   where
-    by_test : (b : Bool) → (b || has xs v) ≡ true → (has xs v ≡ true → place_of (xs ++ ys) v ≡ place_of xs v) → cond b 0 (place_of (xs ++ ys) v + 1) ≡ cond b 0 (place_of xs v + 1)
+    by_test : (b : Bool) → (b || has xs v) ≡ true → (has xs v ≡ true → position_of (xs ++ ys) v ≡ position_of xs v) → cond b 0 (position_of (xs ++ ys) v + 1) ≡ cond b 0 (position_of xs v + 1)
     by_test true is rest = refl
     by_test false is rest = ap (λ n. n + 1) (rest is)
 
 -- the number at a number's place is that number
-pub index-place_of : (xs : List ℕ) (v : ℕ) → has xs v ≡ true → slice_index xs (place_of xs v) ≡ v
-index-place_of [] v is = absurd (false≢true is)
-index-place_of (x ∷ xs) v is = by_test (eqb x v) refl is (index-place_of xs v)
+pub index-position_of : (xs : List ℕ) (v : ℕ) → has xs v ≡ true → slice_index xs (position_of xs v) ≡ v
+index-position_of [] v is = absurd (false≢true is)
+index-position_of (x ∷ xs) v is = by_test (eqb x v) refl is (index-position_of xs v)
   where
-    by_test : (b : Bool) → eqb x v ≡ b → (b || has xs v) ≡ true → (has xs v ≡ true → slice_index xs (place_of xs v) ≡ v) → slice_index (x ∷ xs) (cond b 0 (place_of xs v + 1)) ≡ v
+    by_test : (b : Bool) → eqb x v ≡ b → (b || has xs v) ≡ true → (has xs v ≡ true → slice_index xs (position_of xs v) ≡ v) → slice_index (x ∷ xs) (cond b 0 (position_of xs v + 1)) ≡ v
     by_test true same there rest = eqb-true x v same
-    by_test false differs there rest = let e : place_of xs v + 1 ≡ suc (place_of xs v) = omega arith in ap (slice_index (x ∷ xs)) e ∙ rest there
+    by_test false differs there rest = let e : position_of xs v + 1 ≡ suc (position_of xs v) = omega arith in ap (slice_index (x ∷ xs)) e ∙ rest there
 
 -- ---- facts on each entry
 
@@ -200,14 +200,14 @@ distinct_append eq [] ys d e apart = e
 distinct_append eq (x ∷ xs) ys d e apart = ((rec_append (λ y. eq x y ≡ false) xs ys).1 (d.0, apart.0), distinct_append eq xs ys d.1 e apart.1)
 
 -- the number at a place has this place, where no number is there twice
-pub place_of-index : (xs : List ℕ) (n : ℕ) → IsDistinct nat_eq xs → n < length xs → place_of xs (slice_index xs n) ≡ n
+pub position_of-index : (xs : List ℕ) (n : ℕ) → IsDistinct nat_eq xs → n < length xs → position_of xs (slice_index xs n) ≡ n
 unfolding IsDistinct
-place_of-index [] n d h = absurd (omega arith)
-place_of-index (x ∷ xs) zero d h = ap (λ b. cond b 0 (place_of xs x + 1)) (eq-eqb x x refl)
-place_of-index (x ∷ xs) (suc n) d h =
+position_of-index [] n d h = absurd (omega arith)
+position_of-index (x ∷ xs) zero d h = ap (λ b. cond b 0 (position_of xs x + 1)) (eq-eqb x x refl)
+position_of-index (x ∷ xs) (suc n) d h =
     let differs : eqb x (slice_index xs n) ≡ false = rec_at (λ y. nat_eq x y ≡ false) xs n (omega arith) d.0 in
-    let rest = place_of-index xs n d.1 (omega arith) in
-    ap (λ b. cond b 0 (place_of xs (slice_index xs n) + 1)) differs ∙ (omega (arith, rest))
+    let rest = position_of-index xs n d.1 (omega arith) in
+    ap (λ b. cond b 0 (position_of xs (slice_index xs n) + 1)) differs ∙ (omega (arith, rest))
 
 pub index-has : (xs : List ℕ) (n : ℕ) → n < length xs → has xs (slice_index xs n) ≡ true
 index-has [] n h = absurd (omega arith)
@@ -219,27 +219,27 @@ index-has (x ∷ xs) (suc n) h = either (eqb x (slice_index xs n)) (index-has xs
     either false there = there
 
 -- of two numbers that a filter leaves of numbers in a row the smaller comes first
-pub place_of-filtered : (p : ℕ → Bool) (n w u v : ℕ) → has (filter p (numbers_from n w)) u ≡ true → u < v → place_of (filter p (numbers_from n w)) u < place_of (filter p (numbers_from n w)) v
-place_of-filtered p zero w u v there less = absurd (false≢true there)
-place_of-filtered p (suc n) w u v there less = by_test (p w) there (λ h. place_of-filtered p n (w + 1) u v h less)
+pub position_of-filtered : (p : ℕ → Bool) (n w u v : ℕ) → has (filter p (numbers_from n w)) u ≡ true → u < v → position_of (filter p (numbers_from n w)) u < position_of (filter p (numbers_from n w)) v
+position_of-filtered p zero w u v there less = absurd (false≢true there)
+position_of-filtered p (suc n) w u v there less = by_test (p w) there (λ h. position_of-filtered p n (w + 1) u v h less)
   where
     rest : List ℕ
     rest = filter p (numbers_from n (w + 1))
 
     -- the smaller comes first among the rest
     Before : Type 0
-    Before = has rest u ≡ true → place_of rest u < place_of rest v
+    Before = has rest u ≡ true → position_of rest u < position_of rest v
 
-    by_first : (b : Bool) → eqb w u ≡ b → (b || has rest u) ≡ true → Before → cond b 0 (place_of rest u + 1) < cond (eqb w v) 0 (place_of rest v + 1)
+    by_first : (b : Bool) → eqb w u ≡ b → (b || has rest u) ≡ true → Before → cond b 0 (position_of rest u + 1) < cond (eqb w v) 0 (position_of rest v + 1)
     by_first true same there again =
         let own = eqb-true w u same in let differs = ne_eqb w v (λ e. omega (arith, e)) in
-        subst (λ b. 0 < cond b 0 (place_of rest v + 1)) (sym differs) (omega arith)
+        subst (λ b. 0 < cond b 0 (position_of rest v + 1)) (sym differs) (omega arith)
     by_first false differs there again =
         let low = rec_has (λ x. w + 1 ≤ x) rest u there (rec_filter (λ x. w + 1 ≤ x) p (numbers_from n (w + 1)) (rec_numbers n (w + 1) (w + 1) (omega arith))) in
         let other = ne_eqb w v (λ e. omega (arith, e)) in
         let before = again there in
-        subst (λ b. place_of rest u + 1 < cond b 0 (place_of rest v + 1)) (sym other) (omega arith)
+        subst (λ b. position_of rest u + 1 < cond b 0 (position_of rest v + 1)) (sym other) (omega arith)
 
-    by_test : (b : Bool) → has (cond b (w ∷ rest) rest) u ≡ true → Before → place_of (cond b (w ∷ rest) rest) u < place_of (cond b (w ∷ rest) rest) v
+    by_test : (b : Bool) → has (cond b (w ∷ rest) rest) u ≡ true → Before → position_of (cond b (w ∷ rest) rest) u < position_of (cond b (w ∷ rest) rest) v
     by_test true there again = by_first (eqb w u) refl there again
     by_test false there again = again there

@@ -12,7 +12,7 @@ use Rattle.aig_circuit.specs.declared.node.AigNode.{AigNode}
 use Rattle.aig_circuit.specs.Edge.{literal_of}
 use Rattle.aig_circuit.specs.Node.{kind_at, and_of, IsOrdered as AreOrdered}
 use Rattle.aig_circuit.specs.Circuit.{AreNodes}
-use Rattle.aig_circuit.specs.Renumber.{place_of}
+use Rattle.aig_circuit.specs.Renumber.{position_of}
 use Rattle.aig_circuit.proofs.Trees.{kind_at-within}
 use Rattle.aig_format.specs.File.{GateLine, File, used}
 use Rattle.aig_format.specs.Variables.{is_known, IsKnown, gate_of_variable}
@@ -37,7 +37,7 @@ pub length-nodes : (f : File) → length (nodes_of f) ≡ length (variables_in_o
 length-nodes f = let e = length-nodes_from f 0 (0 ∷ variables_in_order f) in omega (arith, e)
 
 -- the node at a variable's place is what the variable is
-kind_at-place : (f : File) (i : ℕ) (vs : List ℕ) (v : ℕ) → has vs v ≡ true → kind_at (nodes_from f i vs) (place_of vs v) ≡ Some (kind_of f v)
+kind_at-place : (f : File) (i : ℕ) (vs : List ℕ) (v : ℕ) → has vs v ≡ true → kind_at (nodes_from f i vs) (position_of vs v) ≡ Some (kind_of f v)
 kind_at-place f i [] v there = absurd (false≢true there)
 kind_at-place f i (u ∷ vs) v there = by_test (eqb u v) refl there (kind_at-place f (i + 1) vs v)
   where
@@ -47,9 +47,9 @@ kind_at-place f i (u ∷ vs) v there = by_test (eqb u v) refl there (kind_at-pla
     further : (k : ℕ) → kind_at nodes (k + 1) ≡ kind_at (nodes_from f (i + 1) vs) k
     further k = let e : k + 1 ≡ suc k = omega arith in ap (kind_at nodes) e
 
-    by_test : (b : Bool) → eqb u v ≡ b → (b || has vs v) ≡ true → (has vs v ≡ true → kind_at (nodes_from f (i + 1) vs) (place_of vs v) ≡ Some (kind_of f v)) → kind_at nodes (cond b 0 (place_of vs v + 1)) ≡ Some (kind_of f v)
+    by_test : (b : Bool) → eqb u v ≡ b → (b || has vs v) ≡ true → (has vs v ≡ true → kind_at (nodes_from f (i + 1) vs) (position_of vs v) ≡ Some (kind_of f v)) → kind_at nodes (cond b 0 (position_of vs v + 1)) ≡ Some (kind_of f v)
     by_test true same there rest = ap (λ v. Some (kind_of f v)) (eqb-true u v same)
-    by_test false differs there rest = further (place_of vs v) ∙ rest there
+    by_test false differs there rest = further (position_of vs v) ∙ rest there
 
 numbered_from : (f : File) (i : ℕ) (vs : List ℕ) (n : ℕ) (node : AigNode) → slice_get (nodes_from f i vs) n ≡ Some node → node.node_id ≡ i + n
 numbered_from f i [] n node is = cc

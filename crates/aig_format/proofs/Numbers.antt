@@ -6,7 +6,7 @@ use Rattle.std.proofs.lemmas.Bool.{cond-true, cond-false, eqb-true, eqb-false, n
 use Rattle.std.proofs.lemmas.List.{length-map}
 use Rattle.std.proofs.lemmas.Map.Keys.{IsDistinct-cons}
 use Rattle.std.proofs.lemmas.Map.Steps.{length-le_from_distinct_below}
-use Rattle.aig_circuit.specs.Renumber.{place_of}
+use Rattle.aig_circuit.specs.Renumber.{position_of}
 use Rattle.aig_format.specs.File.{LatchLine, GateLine, File, defined, used}
 use Rattle.aig_format.specs.Variables.{is_defined, is_known, IsKnown, gate_of_variable}
 use Rattle.aig_format.specs.Levels.{level_of}
@@ -15,14 +15,14 @@ use Rattle.aig_format.specs.declared.FileKind.TheVariants.{Text, Binary}
 use Rattle.aig_format.specs.Fits.{IsDefinable, IsAboveOperands, Fits, IsWellFounded, IsCompact}
 use Rattle.aig_format.proofs.Entries.{rec_both, rec_map, rec_parts, rec_weaker}
 use Rattle.aig_format.proofs.Searches.{find_some}
-use Rattle.aig_format.proofs.Members.{has, has-numbers, index-place_of, place_of-index, place_of-numbers, place_of-one, place_of-within, distinct-numbers, rec_at, rec_numbers}
+use Rattle.aig_format.proofs.Members.{has, has-numbers, index-position_of, position_of-index, position_of-numbers, position_of-one, position_of-within, distinct-numbers, rec_at, rec_numbers}
 use Rattle.aig_format.proofs.Compact.{well_founded_only, compact-told}
 use Rattle.aig_format.proofs.Levels.{level_of-gate, levelled, levels-ordered}
-use Rattle.aig_format.proofs.Orders.{defined-by_level, distinct-by_level, has-by_level, place_of-by_level, place_of-in_level, some-by_level}
+use Rattle.aig_format.proofs.Orders.{defined-by_level, distinct-by_level, has-by_level, position_of-by_level, position_of-in_level, some-by_level}
 
 -- ---- the order
 
-pub node_of_variable-place : (f : File) (v : ℕ) → node_of_variable f v ≡ place_of (0 ∷ variables_in_order f) v
+pub node_of_variable-place : (f : File) (v : ℕ) → node_of_variable f v ≡ position_of (0 ∷ variables_in_order f) v
 unfolding node_of_variable
 node_of_variable-place f v = refl
 
@@ -41,10 +41,10 @@ unfolding variables_in_order
 order-well_founded f well_founded = cond-false (is_compact f) (numbers_from (length (defined f)) 1) (variables_by_level f) well_founded
 
 -- a variable other than 0 has its place among the others, and one more
-past_zero : (xs : List ℕ) (v : ℕ) → 1 ≤ v → place_of (0 ∷ xs) v ≡ place_of xs v + 1
-past_zero xs v h = let differs : eqb 0 v ≡ false = ne_eqb 0 v (λ e. omega (arith, e)) in ap (λ b. cond b 0 (place_of xs v + 1)) differs
+past_zero : (xs : List ℕ) (v : ℕ) → 1 ≤ v → position_of (0 ∷ xs) v ≡ position_of xs v + 1
+past_zero xs v h = let differs : eqb 0 v ≡ false = ne_eqb 0 v (λ e. omega (arith, e)) in ap (λ b. cond b 0 (position_of xs v + 1)) differs
 
-node_of_variable-some : (f : File) (v : ℕ) → 1 ≤ v → node_of_variable f v ≡ place_of (variables_in_order f) v + 1
+node_of_variable-some : (f : File) (v : ℕ) → 1 ≤ v → node_of_variable f v ≡ position_of (variables_in_order f) v + 1
 node_of_variable-some f v h = node_of_variable-place f v ∙ past_zero (variables_in_order f) v h
 
 -- in a compact file a variable is its own number
@@ -52,7 +52,7 @@ pub node_of_variable-compact : (f : File) → is_compact f ≡ true → (v : ℕ
 node_of_variable-compact f compact zero h = node_of_variable-zero f
 node_of_variable-compact f compact (suc v) h =
     let m = (compact-told f compact).exact in
-    node_of_variable-some f (suc v) (omega arith) ∙ ap (λ xs. place_of xs (suc v) + 1) (order-compact f compact) ∙ place_of-numbers (length (defined f)) 1 (suc v) (omega arith) (omega arith)
+    node_of_variable-some f (suc v) (omega arith) ∙ ap (λ xs. position_of xs (suc v) + 1) (order-compact f compact) ∙ position_of-numbers (length (defined f)) 1 (suc v) (omega arith) (omega arith)
 
 -- each variable in the order is from 1 on
 order-some : (f : File) → AllByRecursion (λ v. 1 ≤ v) (variables_in_order f)
@@ -204,12 +204,12 @@ known_numbered f limit fits (suc v) known =
 
 -- the number of what is 0 or defined is within the count of nodes
 pub node_of_variable-within : (f : File) (limit : ℕ) → Fits f limit → (v : ℕ) → is_known f v ≡ true → node_of_variable f v < length (variables_in_order f) + 1
-node_of_variable-within f limit fits v known = omega (arith, node_of_variable-place f v, place_of-within (0 ∷ variables_in_order f) v (known_numbered f limit fits v known))
+node_of_variable-within f limit fits v known = omega (arith, node_of_variable-place f v, position_of-within (0 ∷ variables_in_order f) v (known_numbered f limit fits v known))
 
 -- what is 0 or defined has a number of its own
 pub node_of_variable-one : (f : File) (limit : ℕ) → Fits f limit → (u v : ℕ) → is_known f u ≡ true → node_of_variable f u ≡ node_of_variable f v → u ≡ v
 node_of_variable-one f limit fits u v known same =
-    place_of-one (0 ∷ variables_in_order f) u v (known_numbered f limit fits u known) (sym (node_of_variable-place f u) ∙ same ∙ node_of_variable-place f v)
+    position_of-one (0 ∷ variables_in_order f) u v (known_numbered f limit fits u known) (sym (node_of_variable-place f u) ∙ same ∙ node_of_variable-place f v)
 
 -- the variable of a number
 pub record NumberOf (f : File) (n : ℕ) : Type 0 where
@@ -225,7 +225,7 @@ variable_of f limit fits (suc n) h =
     record {
       variable = v;
       known = or_right (v == 0) (is_defined f v) (rec_at (λ v. is_defined f v ≡ true) (variables_in_order f) n (omega arith) (order_defined f limit fits));
-      is = node_of_variable-place f v ∙ place_of-index (0 ∷ variables_in_order f) (suc n) (order-distinct f) (omega arith);
+      is = node_of_variable-place f v ∙ position_of-index (0 ∷ variables_in_order f) (suc n) (order-distinct f) (omega arith);
     }
 
 -- no more variables are numbered than the greatest
@@ -245,7 +245,7 @@ variable_at f n = slice_index (0 ∷ variables_in_order f) n
 pub variable_at-number : (f : File) (limit : ℕ) → Fits f limit → (v : ℕ) → is_known f v ≡ true → variable_at f (node_of_variable f v) ≡ v
 unfolding variable_at
 variable_at-number f limit fits v known =
-    ap (slice_index (0 ∷ variables_in_order f)) (node_of_variable-place f v) ∙ index-place_of (0 ∷ variables_in_order f) v (known_numbered f limit fits v known)
+    ap (slice_index (0 ∷ variables_in_order f)) (node_of_variable-place f v) ∙ index-position_of (0 ∷ variables_in_order f) v (known_numbered f limit fits v known)
 
 -- ---- gates
 
@@ -294,8 +294,8 @@ node_of_variable-by_level f limit fits is (suc u) v j k known one ju kv less =
     let same : eqb (suc u) 0 ≡ false = ne_eqb (suc u) 0 (λ e. omega (arith, e)) in
     let there : is_defined f (suc u) ≡ true = ap (λ b. b || is_defined f (suc u)) (sym same) ∙ known in
     let bounds = defined_within f limit fits (suc u) there in
-    let before = place_of-by_level f (suc u) v j k there bounds.0 bounds.1 ju kv less in
-    let in_order = subst (λ xs. place_of xs (suc u) < place_of xs v) (sym (order-well_founded f is)) before in
+    let before = position_of-by_level f (suc u) v j k there bounds.0 bounds.1 ju kv less in
+    let in_order = subst (λ xs. position_of xs (suc u) < position_of xs v) (sym (order-well_founded f is)) before in
     omega (arith, node_of_variable-some f (suc u) (omega arith), node_of_variable-some f v one, in_order)
 
 -- an operand's number is smaller than its gate's
@@ -329,8 +329,8 @@ pub node_of_variable-in_level : (f : File) (limit : ℕ) → Fits f limit → is
 node_of_variable-in_level f limit fits is u v k first second ku kv less =
     let low = (defined_within f limit fits u first).0 in
     let high = (defined_within f limit fits v second).1 in
-    let before = place_of-in_level f u v k first second low less high ku kv in
-    let in_order = subst (λ xs. place_of xs u < place_of xs v) (sym (order-well_founded f is)) before in
+    let before = position_of-in_level f u v k first second low less high ku kv in
+    let in_order = subst (λ xs. position_of xs u < position_of xs v) (sym (order-well_founded f is)) before in
     omega (arith, node_of_variable-some f u low, node_of_variable-some f v (omega arith), in_order)
 
 -- ---- the rules by kind

@@ -25,10 +25,10 @@ abbrev pub IsAboveOperands : GateLine → Type 0
 IsAboveOperands g = (g.rhs0 / 2 < g.lhs / 2) × (g.rhs1 / 2 < g.lhs / 2)
 
 -- each number is smaller than the next
-abbrev pub Rises : List ℕ → Type 0
-Rises [] = Unit {0}
-Rises (a ∷ []) = Unit {0}
-Rises (a ∷ b ∷ rest) = (a < b) × Rises (b ∷ rest)
+abbrev pub IsIncreasing : List ℕ → Type 0
+IsIncreasing [] = Unit {0}
+IsIncreasing (a ∷ []) = Unit {0}
+IsIncreasing (a ∷ b ∷ rest) = (a < b) × IsIncreasing (b ∷ rest)
 
 -- the name stands below its section's count; names of inputs and latches are UTF-8
 abbrev pub IsNameOf : File → NameLine → Type 0
@@ -43,7 +43,7 @@ same_place a b = (a.letter == b.letter) && (a.position == b.position)
 -- a compact file: no variable is missing, and the gates rise, each above its operands
 pub record IsCompact (f : File) : Type 0 where
   pub exact : f.greatest ≡ length (defined f)
-  pub rising : Rises (map (λ g. g.lhs) f.gates)
+  pub rising : IsIncreasing (map (λ g. g.lhs) f.gates)
   pub ordered : AllByRecursion IsAboveOperands f.gates
 
 -- a well-founded text file: variables may be missing and gates stand in any order, but what is used

@@ -2,7 +2,7 @@
 -- The order in which a file's variables become nodes.
 use Rattle.std.specs.Prelude.{ℕ, zero, suc, ◌+◌, ◌/◌, Bool, true, ◌&&◌, nat_lt, ◌==◌, if◌then◌else◌, List, [], ◌∷◌, length, map, filter}
 use Rattle.std.specs.List.{list_all, flat_map}
-use Rattle.aig_circuit.specs.Renumber.{place_of}
+use Rattle.aig_circuit.specs.Renumber.{position_of}
 use Rattle.aig_format.specs.File.{GateLine, File, defined}
 use Rattle.aig_format.specs.Variables.{is_defined}
 use Rattle.aig_format.specs.Levels.{is_level, level_of}
@@ -10,10 +10,10 @@ use Rattle.aig_format.specs.Levels.{is_level, level_of}
 -- ---- whether a file is compact
 
 -- whether each number is smaller than the next
-abbrev pub rises : List ℕ → Bool
-rises [] = true
-rises (a ∷ []) = true
-rises (a ∷ b ∷ rest) = nat_lt a b && rises (b ∷ rest)
+abbrev pub is_increasing : List ℕ → Bool
+is_increasing [] = true
+is_increasing (a ∷ []) = true
+is_increasing (a ∷ b ∷ rest) = nat_lt a b && is_increasing (b ∷ rest)
 
 -- whether an operand's variable is smaller than the gate's
 abbrev pub is_above_operands : GateLine → Bool
@@ -21,7 +21,7 @@ is_above_operands g = nat_lt (g.rhs0 / 2) (g.lhs / 2) && nat_lt (g.rhs1 / 2) (g.
 
 -- whether gates rise, each above its operands
 abbrev pub are_in_order : List GateLine → Bool
-are_in_order gates = rises (map (λ g. g.lhs) gates) && list_all is_above_operands gates
+are_in_order gates = is_increasing (map (λ g. g.lhs) gates) && list_all is_above_operands gates
 
 -- whether no variable is missing, and the gates are in order
 abbrev pub is_compact : File → Bool
@@ -50,4 +50,4 @@ variables_in_order f =
 
 -- the node of a variable: 0 is 0, and the others are numbered from 1 on
 unfoldable pub node_of_variable : File → ℕ → ℕ
-node_of_variable f v = place_of (0 ∷ variables_in_order f) v
+node_of_variable f v = position_of (0 ∷ variables_in_order f) v

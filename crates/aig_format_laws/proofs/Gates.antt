@@ -13,7 +13,7 @@ use Rattle.aig_circuit.specs.Edge.{literal_of}
 use Rattle.aig_circuit.specs.Node.{kind_at}
 use Rattle.aig_circuit.specs.Runs.{is_leaf}
 use Rattle.aig_format.specs.File.{GateLine}
-use Rattle.aig_format.specs.Fits.{Rises}
+use Rattle.aig_format.specs.Fits.{IsIncreasing}
 use Rattle.aig_format.specs.Circuit.{gate_line}
 
 -- the line of a gate
@@ -93,19 +93,19 @@ lefts gates = map (λ (g : GateLine). g.lhs) gates
 lefts_above : (v : ℕ) (nodes : List AigNode) → AreNumbered v nodes → AllByRecursion (λ (g : GateLine). 2 * v ≤ g.lhs) (lines_for nodes)
 lefts_above v nodes are = lines_all (λ (g : GateLine). 2 * v ≤ g.lhs) v nodes are (λ i a b h. omega arith)
 
-rises_behind : (e v : ℕ) (gates : List GateLine) → e < 2 * v → AllByRecursion (λ (g : GateLine). 2 * v ≤ g.lhs) gates → Rises (lefts gates) → Rises (e ∷ lefts gates)
-rises_behind e v [] h all rest = tt
-rises_behind e v (g ∷ gates) h all rest = (omega (arith, all.0), rest)
+is_increasing_following : (e v : ℕ) (gates : List GateLine) → e < 2 * v → AllByRecursion (λ (g : GateLine). 2 * v ≤ g.lhs) gates → IsIncreasing (lefts gates) → IsIncreasing (e ∷ lefts gates)
+is_increasing_following e v [] h all rest = tt
+is_increasing_following e v (g ∷ gates) h all rest = (omega (arith, all.0), rest)
 
-pub lefts_rise : (v : ℕ) (nodes : List AigNode) → AreNumbered v nodes → Rises (lefts (lines_for nodes))
+pub lefts_rise : (v : ℕ) (nodes : List AigNode) → AreNumbered v nodes → IsIncreasing (lefts (lines_for nodes))
 lefts_rise v [] are = tt
 lefts_rise v (x ∷ xs) are = by_case (line_case v x (first_number v x xs are)) (lefts_rise (suc v) xs next)
   where
     next : AreNumbered (suc v) xs
     next = numbered_next v x xs are
 
-    by_case : LineCase v x → Rises (lefts (lines_for xs)) → Rises (lefts (cons_option (gate_line x) (lines_for xs)))
-    by_case (has_line a b is line) rest = rw line (rises_behind (2 * v) (suc v) (lines_for xs) (omega arith) (lefts_above (suc v) xs next) rest)
+    by_case : LineCase v x → IsIncreasing (lefts (lines_for xs)) → IsIncreasing (lefts (cons_option (gate_line x) (lines_for xs)))
+    by_case (has_line a b is line) rest = rw line (is_increasing_following (2 * v) (suc v) (lines_for xs) (omega arith) (lefts_above (suc v) xs next) rest)
     by_case (no_line none line) rest = rw line rest
 
 -- ---- how many there are

@@ -43,18 +43,18 @@ gates_places v (x ∷ xs) are each =
     by_case (no_line none line) rest = let gate = each 0 (omega arith) in absurd (none gate.0 gate.1 (same_Some _ _ gate.2))
 
 -- so many nodes that are no gates, and then a row of gates
-gates_behind : (d v : ℕ) (nodes : List AigNode) → AreNumbered v nodes → ((i : ℕ) (a b : AigEdge) → kind_at nodes i ≡ Some (And a b) → d ≤ i)
+gates_following : (d v : ℕ) (nodes : List AigNode) → AreNumbered v nodes → ((i : ℕ) (a b : AigEdge) → kind_at nodes i ≡ Some (And a b) → d ≤ i)
     → ((i : ℕ) → i < length nodes → d ≤ i → (a : AigEdge) × (b : AigEdge) × (kind_at nodes i ≡ Some (And a b))) → lefts (lines_for nodes) ≡ places (length nodes - d) (v + d)
-gates_behind zero v nodes are none each =
+gates_following zero v nodes are none each =
     let e : v ≡ v + 0 = omega arith in let f : length nodes ≡ length nodes - 0 = omega arith in
     subst (λ k. lefts (lines_for nodes) ≡ places (length nodes - 0) k) e (subst (λ k. lefts (lines_for nodes) ≡ places k v) f (gates_places v nodes are (λ i h. each i h (omega arith))))
-gates_behind (suc d) v [] are none each = let e : 0 - suc d ≡ 0 = omega arith in rw e refl
-gates_behind (suc d) v (x ∷ xs) are none each =
+gates_following (suc d) v [] are none each = let e : 0 - suc d ≡ 0 = omega arith in rw e refl
+gates_following (suc d) v (x ∷ xs) are none each =
     let place : suc v + d ≡ v + suc d = omega arith in
     let count : length xs - d ≡ suc (length xs) - suc d = omega arith in
     by_case (line_case v x (omega (arith, are zero x refl)))
     (subst (λ k. lefts (lines_for xs) ≡ places (suc (length xs) - suc d) k) place (subst (λ k. lefts (lines_for xs) ≡ places k (suc v + d)) count
-    (gates_behind d (suc v) xs (numbered_next v x xs are) (λ i a b h. omega (arith, none (suc i) a b h)) (λ i h low. each (suc i) (omega arith) (omega arith)))))
+    (gates_following d (suc v) xs (numbered_next v x xs are) (λ i a b h. omega (arith, none (suc i) a b h)) (λ i h low. each (suc i) (omega arith) (omega arith)))))
   where
     by_case : LineCase v x → lefts (lines_for xs) ≡ places (suc (length xs) - suc d) (v + suc d) → lefts (lines_for (x ∷ xs)) ≡ places (suc (length xs) - suc d) (v + suc d)
     by_case (has_line a b is line) rest = let low = none 0 a b (ap Some is) in absurd (omega arith)
@@ -100,7 +100,7 @@ module _ (c : Circuit) (is : IsCircuit c) (w : IsWritable c) (placed : IsReencod
   Placed-circuit =
       let gates = lefts (lines_for c.nodes) in
       let first : map (λ n. 2 * n) leaves ≡ places (length leaves) 1 = doubled_places 1 leaves (λ i h. omega (arith, placed i h)) in
-      let rest = gates_behind (length leaves + 1) 0 c.nodes (numbered c.nodes is.nodes) gate_above gate_there in
+      let rest = gates_following (length leaves + 1) 0 c.nodes (numbered c.nodes is.nodes) gate_above gate_there in
       let from : 0 + (length leaves + 1) ≡ 1 + length leaves = omega arith in
       let whole : defined (file_of Binary c) ≡ places (length leaves) 1 ++ places (length c.nodes - (length leaves + 1)) (1 + length leaves) =
       ap (λ (ns : List ℕ). ns ++ gates) (defined_leaves c) ∙ ap (λ (ns : List ℕ). ns ++ gates) first ∙ ap (λ (ns : List ℕ). places (length leaves) 1 ++ ns) (rest ∙ ap (places (length c.nodes - (length leaves + 1))) from) in

@@ -105,7 +105,7 @@ impl Clauses {
     }
 
     /// The place of the clause after a clause, whether removed or not, if there is one.
-    pub(crate) fn behind(&self, place: u32) -> Option<u32> {
+    pub(crate) fn following(&self, place: u32) -> Option<u32> {
         self.place_at(place as usize + HEADER + self.len(place) as usize)
     }
 
@@ -161,7 +161,7 @@ impl Clauses {
             let Some(place) = next else {
                 break;
             };
-            next = self.behind(place);
+            next = self.following(place);
             if self.number(place) != 0 {
                 let size = HEADER + self.len(place) as usize;
                 self.move_words(place as usize, end, size);

@@ -104,7 +104,7 @@ impl Index {
                 let hash = hash_at(clauses, place);
                 self.link(clauses, place, hash);
             }
-            next = clauses.behind(place);
+            next = clauses.following(place);
         }
     }
 

@@ -327,7 +327,7 @@ impl Search {
             if self.clauses.len(place) >= 2 {
                 self.watch(place)?;
             }
-            next = self.clauses.behind(place);
+            next = self.clauses.following(place);
         }
         Ok(())
     }

@@ -12,10 +12,10 @@ abbrev small : ℕ × List ℕ → Option (ℕ × List ℕ)
 small x = cond (ltb x.0 (2 ^ 32)) (Some x) None
 
 -- at most k groups after those that make this value; the next one counts `place` times
-abbrev pub groups_behind : ℕ → ℕ → ℕ → List ℕ → Option (ℕ × List ℕ)
-groups_behind value place k = parse_if (parse_map (λ d. value + place * d) (parse_groups k)) (λ d. ltb d (2 ^ 32))
+abbrev pub groups_following : ℕ → ℕ → ℕ → List ℕ → Option (ℕ × List ℕ)
+groups_following value place k = parse_if (parse_map (λ d. value + place * d) (parse_groups k)) (λ d. ltb d (2 ^ 32))
 
-pub delta_starts : (bs : List ℕ) → parse_delta bs ≡ groups_behind 0 1 5 bs
+pub delta_starts : (bs : List ℕ) → parse_delta bs ≡ groups_following 0 1 5 bs
 delta_starts bs = go (parse_groups 5 bs)
   where
     go : (o : Option (ℕ × List ℕ)) → (o >>= small) ≡ ((o >>= λ x. read (0 + 1 * x.0) x.1) >>= small)
@@ -28,25 +28,25 @@ delta_starts bs = go (parse_groups 5 bs)
 one_left : (i : ℕ) → i < 5 → 5 - i ≡ suc (5 - (i + 1))
 one_left i lt = omega arith
 
-pub delta_ends : (value place i : ℕ) → i < 5 → groups_behind value place (5 - i) [] ≡ None
+pub delta_ends : (value place i : ℕ) → i < 5 → groups_following value place (5 - i) [] ≡ None
 unfolding parse_groups
 delta_ends value place i lt = rw (one_left i lt) refl
 
 module _ (value place i b : ℕ) (bs : List ℕ) (lt : i < 5) where
-  delta_stops : b < 128 → groups_behind value place (5 - i) (b ∷ bs) ≡ small (value + place * (b % 128), bs)
+  delta_stops : b < 128 → groups_following value place (5 - i) (b ∷ bs) ≡ small (value + place * (b % 128), bs)
   unfolding parse_groups
   delta_stops low = let r : b % 128 ≡ b = omega arith in rw (one_left i lt, lt-ltb b 128 low, r) refl
 
   -- the last group
-  pub delta_gives : b < 128 → value + place * (b % 128) < 2 ^ 32 → groups_behind value place (5 - i) (b ∷ bs) ≡ Some (value + place * (b % 128), bs)
+  pub delta_gives : b < 128 → value + place * (b % 128) < 2 ^ 32 → groups_following value place (5 - i) (b ∷ bs) ≡ Some (value + place * (b % 128), bs)
   delta_gives low fits = delta_stops low ∙ rw (lt-ltb _ _ fits) refl
 
   -- the last group, past the largest value
-  pub delta_overflows : b < 128 → 2 ^ 32 ≤ value + place * (b % 128) → groups_behind value place (5 - i) (b ∷ bs) ≡ None
+  pub delta_overflows : b < 128 → 2 ^ 32 ≤ value + place * (b % 128) → groups_following value place (5 - i) (b ∷ bs) ≡ None
   delta_overflows low over = delta_stops low ∙ rw (le-ltb _ _ over) refl
 
   -- a group with others after it
-  pub delta_goes : 128 ≤ b → b < 256 → groups_behind value place (5 - i) (b ∷ bs) ≡ groups_behind (value + place * (b % 128)) (place * 128) (5 - (i + 1)) bs
+  pub delta_goes : 128 ≤ b → b < 256 → groups_following value place (5 - i) (b ∷ bs) ≡ groups_following (value + place * (b % 128)) (place * 128) (5 - (i + 1)) bs
   unfolding parse_groups
   delta_goes high byte = let r : b % 128 ≡ b - 128 = omega arith in rw (one_left i lt, le-ltb b 128 high, r) (go (parse_groups (5 - (i + 1)) bs))
     where
@@ -57,7 +57,7 @@ module _ (value place i b : ℕ) (bs : List ℕ) (lt : i < 5) where
           let e : value + place * ((b - 128) + 128 * x.0) ≡ (value + place * (b - 128)) + place * 128 * x.0 = omega arith in
           ap (λ (d : ℕ). small (d, x.1)) e
 
-pub delta_too_long : (value place i : ℕ) → 5 ≤ i → (bs : List ℕ) → groups_behind value place (5 - i) bs ≡ None
+pub delta_too_long : (value place i : ℕ) → 5 ≤ i → (bs : List ℕ) → groups_following value place (5 - i) bs ≡ None
 unfolding parse_groups
 delta_too_long value place i le bs = let k : 5 - i ≡ 0 = omega arith in rw k refl
 

@@ -16,16 +16,16 @@ on_shape-weaker Stream P Q f h = tt
 on_shape-weaker Shape P Q f h = f h
 
 -- a call after a byte that came
-pub gives_behind : {X Y : Type 0} (view : X → Y) (p : List ℕ → Option (Y × List ℕ)) (before mid after : Option (List ℕ)) (o : Option ℕ) (b : ℕ) (r : Result X LexError)
+pub gives_following : {X Y : Type 0} (view : X → Y) (p : List ℕ → Option (Y × List ℕ)) (before mid after : Option (List ℕ)) (o : Option ℕ) (b : ℕ) (r : Result X LexError)
     → Consumes before mid (option_to_list o) → o ≡ Some b → Gives LexUnlessTransient view mid after r (λ bs. p (b ∷ bs)) → Gives LexUnlessTransient view before after r p
-gives_behind {X} view p before mid after o b r c is h = go r h
+gives_following {X} view p before mid after o b r c is h = go r h
   where
-    behind : GoesOn p before (λ bs. p (b ∷ bs)) mid
-    behind = goes_byte p p (λ bs. p (b ∷ bs)) before before mid o b (goes_start p before) c is (λ bs. refl)
+    following : GoesOn p before (λ bs. p (b ∷ bs)) mid
+    following = goes_byte p p (λ bs. p (b ∷ bs)) before before mid o b (goes_start p before) c is (λ bs. refl)
 
     go : (r : Result X LexError) → Gives LexUnlessTransient view mid after r (λ bs. p (b ∷ bs)) → Gives LexUnlessTransient view before after r p
-    go (Ok x) h = goes_done p (view x) before after (goes_call p (λ bs. p (b ∷ bs)) (λ bs. p (b ∷ bs)) (λ bs. Some (view x, bs)) before mid after (view x) behind h (λ bs rest e. e))
-    go (Err e) h = on_shape-weaker e _ _ (goes_wrong p (λ bs. p (b ∷ bs)) before mid behind) h
+    go (Ok x) h = goes_done p (view x) before after (goes_call p (λ bs. p (b ∷ bs)) (λ bs. p (b ∷ bs)) (λ bs. Some (view x, bs)) before mid after (view x) following h (λ bs rest e. e))
+    go (Err e) h = on_shape-weaker e _ _ (goes_wrong p (λ bs. p (b ∷ bs)) before mid following) h
 
 abbrev pub with_end : ℕ → (ℕ × ℕ) × List ℕ → Option (ℕ × List ℕ)
 with_end end n = cond (eqb n.0.1 end) (Some (n.0.0, n.1)) None

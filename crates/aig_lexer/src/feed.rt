@@ -21,7 +21,7 @@ pub trait ByteFeed {
     ghost at_hand: { Self → List ℕ };
 
     /// The reference that it reads through, if any: 0 where there is none.
-    ghost behind: { Self → ℕ };
+    ghost source_name: { Self → ℕ };
 
     /// The next byte, or none at the end.
     fn next(&mut self) -> Result<Option<u8>, StreamFault>
@@ -31,7 +31,7 @@ pub trait ByteFeed {
             (λ o. o ≡ None → IsAtEnd (coming self.new) × (failed self.new ≡ false)) }
         ensures err { OnErr result (failed self.new ≡ true) }
         ensures fewer { IfOk result (λ o. OnSome o (turns self.new < turns self.old)) }
-        ensures same { behind self.new ≡ behind self.old };
+        ensures same { source_name self.new ≡ source_name self.old };
 
     /// Returns the bytes at hand, and takes none of them.
     fn window(&self) -> &[u8]
@@ -43,7 +43,7 @@ pub trait ByteFeed {
         ensures bytes { Consumes (coming self.old) (coming self.new)
             (take count (at_hand self.old)) }
         ensures fewer { turns self.new ≤ turns self.old }
-        ensures same { behind self.new ≡ behind self.old };
+        ensures same { source_name self.new ≡ source_name self.old };
 }
 
 /// How many bytes the window of a `Buffered` has.
@@ -112,7 +112,7 @@ impl<'a, R: Source> ByteFeed for Buffered<'a, R> {
 
     ghost at_hand = { λ b. slice_range b.window.now b.at b.end };
 
-    ghost behind = { λ b. b.source.ghost_name };
+    ghost source_name = { λ b. b.source.ghost_name };
 
     fn next(&mut self) -> Result<Option<u8>, StreamFault> {
         if self.at == self.end {

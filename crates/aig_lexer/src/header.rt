@@ -46,7 +46,7 @@ pub fn header_line<F: ByteFeed>(f: &mut F) -> Result<Header, LexError>
     ensures exact { Gives LexUnlessTransient (λ h. (h.kind, numbers_of h))
         (F.coming f.old) (F.coming f.new) result parse_header }
     ensures stream { IsErrOf result LexError.Stream → F.failed f.new ≡ true }
-    ensures same { F.behind f.new ≡ F.behind f.old }
+    ensures same { F.source_name f.new ≡ F.source_name f.old }
     ensures fewer { OnOk result (F.turns f.new < F.turns f.old) }
 {
     let kind = kind_word(f)?;
@@ -80,7 +80,7 @@ fn kind_word<F: ByteFeed>(f: &mut F) -> Result<FileKind, LexError>
     ensures exact { Gives LexUnlessTransient (λ kind. kind) (F.coming f.old) (F.coming f.new) result
         parse_kind }
     ensures stream { IsErrOf result LexError.Stream → F.failed f.new ≡ true }
-    ensures same { F.behind f.new ≡ F.behind f.old }
+    ensures same { F.source_name f.new ≡ F.source_name f.old }
     ensures fewer { OnOk result (F.turns f.new < F.turns f.old) }
 {
     expect(f, b'a')?;
@@ -94,7 +94,7 @@ fn kind_byte<F: ByteFeed>(f: &mut F) -> Result<FileKind, LexError>
     ensures exact { Gives LexUnlessTransient (λ kind. kind)
         (F.coming f.old) (F.coming f.new) result parse_kind_byte }
     ensures stream { IsErrOf result LexError.Stream → F.failed f.new ≡ true }
-    ensures same { F.behind f.new ≡ F.behind f.old }
+    ensures same { F.source_name f.new ≡ F.source_name f.old }
     ensures fewer { OnOk result (F.turns f.new < F.turns f.old) }
 {
     match f.next()? {
@@ -115,7 +115,7 @@ fn header_numbers<F: ByteFeed>(f: &mut F) -> Result<[u32; MOST], LexError>
     ensures exact { Gives LexUnlessTransient header_from
         (F.coming f.old) (F.coming f.new) result parse_header_numbers }
     ensures stream { IsErrOf result LexError.Stream → F.failed f.new ≡ true }
-    ensures same { F.behind f.new ≡ F.behind f.old }
+    ensures same { F.source_name f.new ≡ F.source_name f.old }
     ensures fewer { OnOk result (F.turns f.new < F.turns f.old) }
 {
     let mut numbers = [0; MOST];

@@ -15,7 +15,7 @@ pub(crate) fn expect<F: ByteFeed>(f: &mut F, byte: u8) -> Result<(), LexError>
     ensures exact { Gives LexUnlessTransient (λ _. byte)
         (F.coming f.old) (F.coming f.new) result (parse_expected byte) }
     ensures stream { IsErrOf result LexError.Stream → F.failed f.new ≡ true }
-    ensures same { F.behind f.new ≡ F.behind f.old }
+    ensures same { F.source_name f.new ≡ F.source_name f.old }
     ensures fewer { OnOk result (F.turns f.new < F.turns f.old) }
 {
     match f.next()? {
@@ -56,7 +56,7 @@ pub fn number_from<F: ByteFeed>(f: &mut F, first: u8) -> Result<(u32, u8), LexEr
     ensures exact { Gives LexUnlessTransient (λ x. (x.0, x.1))
         (F.coming f.old) (F.coming f.new) result (parse_number_from first) }
     ensures stream { IsErrOf result LexError.Stream → F.failed f.new ≡ true }
-    ensures same { F.behind f.new ≡ F.behind f.old }
+    ensures same { F.source_name f.new ≡ F.source_name f.old }
     ensures fewer { OnOk result (F.turns f.new < F.turns f.old) }
 {
     if !first.is_ascii_digit() {
@@ -81,7 +81,7 @@ pub(crate) fn number<F: ByteFeed>(f: &mut F) -> Result<(u32, u8), LexError>
     ensures exact { Gives LexUnlessTransient (λ x. (x.0, x.1))
         (F.coming f.old) (F.coming f.new) result parse_number }
     ensures stream { IsErrOf result LexError.Stream → F.failed f.new ≡ true }
-    ensures same { F.behind f.new ≡ F.behind f.old }
+    ensures same { F.source_name f.new ≡ F.source_name f.old }
     ensures fewer { OnOk result (F.turns f.new < F.turns f.old) }
 {
     match f.next()? {
@@ -97,7 +97,7 @@ pub fn ended<F: ByteFeed>(f: &mut F, end: u8) -> Result<u32, LexError>
     ensures exact { Gives LexUnlessTransient (λ x. x) (F.coming f.old) (F.coming f.new) result
         (parse_ended end) }
     ensures stream { IsErrOf result LexError.Stream → F.failed f.new ≡ true }
-    ensures same { F.behind f.new ≡ F.behind f.old }
+    ensures same { F.source_name f.new ≡ F.source_name f.old }
     ensures fewer { OnOk result (F.turns f.new < F.turns f.old) }
 {
     let (value, found) = number(f)?;
@@ -115,7 +115,7 @@ pub fn pair<F: ByteFeed>(f: &mut F) -> Result<(u32, u32), LexError>
     ensures exact { Gives LexUnlessTransient (λ x. (x.0, x.1))
         (F.coming f.old) (F.coming f.new) result parse_pair }
     ensures stream { IsErrOf result LexError.Stream → F.failed f.new ≡ true }
-    ensures same { F.behind f.new ≡ F.behind f.old }
+    ensures same { F.source_name f.new ≡ F.source_name f.old }
     ensures fewer { OnOk result (F.turns f.new < F.turns f.old) }
 {
     let first = ended(f, b' ')?;
@@ -132,7 +132,7 @@ pub fn next_line<F: ByteFeed>(f: &mut F) -> Result<(u32, Option<u32>), LexError>
     ensures exact { Gives LexUnlessTransient (λ x. (x.0, x.1))
         (F.coming f.old) (F.coming f.new) result parse_next_and_reset }
     ensures stream { IsErrOf result LexError.Stream → F.failed f.new ≡ true }
-    ensures same { F.behind f.new ≡ F.behind f.old }
+    ensures same { F.source_name f.new ≡ F.source_name f.old }
     ensures fewer { OnOk result (F.turns f.new < F.turns f.old) }
 {
     let (next, end) = number(f)?;
@@ -158,7 +158,7 @@ pub fn delta<F: ByteFeed>(f: &mut F) -> Result<u32, LexError>
     ensures exact { Gives LexUnlessTransient (λ d. d) (F.coming f.old) (F.coming f.new) result
         parse_delta }
     ensures stream { IsErrOf result LexError.Stream → F.failed f.new ≡ true }
-    ensures same { F.behind f.new ≡ F.behind f.old }
+    ensures same { F.source_name f.new ≡ F.source_name f.old }
     ensures fewer { OnOk result (F.turns f.new < F.turns f.old) }
 {
     let mut difference = 0u64;
@@ -184,7 +184,7 @@ pub(crate) fn word<F: ByteFeed>(f: &mut F, text: &[u8]) -> Result<(), LexError>
     ensures exact { Gives LexUnlessTransient (λ _. tt {0})
         (F.coming f.old) (F.coming f.new) result (parse_word text.now) }
     ensures stream { IsErrOf result LexError.Stream → F.failed f.new ≡ true }
-    ensures same { F.behind f.new ≡ F.behind f.old }
+    ensures same { F.source_name f.new ≡ F.source_name f.old }
     ensures fewer { OnOk result (F.turns f.new + length text.now ≤ F.turns f.old) }
 {
     for byte in text {

@@ -9,13 +9,13 @@ use Rattle.aig_circuit.specs.declared.node.AigNode.{AigNode}
 use Rattle.aig_circuit.specs.declared.node.AigLatch.{AigLatch}
 use Rattle.aig_circuit.specs.Edge.{edge_to}
 use Rattle.aig_circuit.specs.Node.{and_of}
-use Rattle.aig_circuit.specs.Renumber.{place_of}
+use Rattle.aig_circuit.specs.Renumber.{position_of}
 use Rattle.aig_ordering.specs.declared.error.OrderError.{OrderError}
 use Rattle.aig_ordering.specs.Tables.{OrderUnlessTransient, entry_value}
 
 -- the place of a variable in an order, if it is there
 abbrev pub place_in : List ℕ → ℕ → Option ℕ
-place_in order v = if list_any (λ u. u == v) order then Some (place_of order v) else None
+place_in order v = if list_any (λ u. u == v) order then Some (position_of order v) else None
 
 -- the number of a variable, if the table records one
 abbrev pub number_at : List ℕ → ℕ → Option ℕ

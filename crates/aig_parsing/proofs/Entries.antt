@@ -3,7 +3,7 @@ use Rattle.std.proofs.Common.{◌≡◌, ◌↔◌, ℕ, ◌<◌, List, [], ◌�
 use Rattle.std.specs.List.{AllByRecursion}
 use Rattle.std.proofs.lemmas.List.{map-append}
 use Rattle.aig_format.specs.Text.{Each}
-use Rattle.aig_format.specs.Fits.{Rises}
+use Rattle.aig_format.specs.Fits.{IsIncreasing}
 use Rattle.aig_format.proofs.Entries.{rec_weaker, rec_append}
 use Rattle.aig_parsing.specs.Parse.{AllAfter}
 
@@ -69,21 +69,21 @@ section_keys F key front xs =
 abbrev pub IsAbove : List ℕ → ℕ → Type 0
 IsAbove before x = AllByRecursion (λ y. y < x) before
 
-rises_from_above : (xs before : List ℕ) → AllAfter IsAbove before xs → Rises xs
-rises_from_above [] before all = tt
-rises_from_above (x ∷ []) before all = tt
-rises_from_above (x ∷ y ∷ xs) before all =
+is_increasing_from_above : (xs before : List ℕ) → AllAfter IsAbove before xs → IsIncreasing xs
+is_increasing_from_above [] before all = tt
+is_increasing_from_above (x ∷ []) before all = tt
+is_increasing_from_above (x ∷ y ∷ xs) before all =
     let s = (rec_append (λ z. z < y) before (x ∷ [])).0 all.1.0 in
-    (s.1.0, rises_from_above (y ∷ xs) (before ++ x ∷ []) all.1)
+    (s.1.0, is_increasing_from_above (y ∷ xs) (before ++ x ∷ []) all.1)
 
-above_from_rises : (x : ℕ) (xs before : List ℕ) → IsAbove before x → Rises (x ∷ xs) → AllAfter IsAbove before (x ∷ xs)
-above_from_rises x [] before above r = (above, tt)
-above_from_rises x (y ∷ xs) before above r =
+above_from_is_increasing : (x : ℕ) (xs before : List ℕ) → IsAbove before x → IsIncreasing (x ∷ xs) → AllAfter IsAbove before (x ∷ xs)
+above_from_is_increasing x [] before above r = (above, tt)
+above_from_is_increasing x (y ∷ xs) before above r =
     let lt : x < y = r.0 in
     let lower = rec_weaker (λ z. z < x) (λ z. z < y) (λ z h. omega arith) before above in
-    (above, above_from_rises y xs (before ++ x ∷ []) ((rec_append (λ z. z < y) before (x ∷ [])).1 (lower, (lt, tt))) r.1)
+    (above, above_from_is_increasing y xs (before ++ x ∷ []) ((rec_append (λ z. z < y) before (x ∷ [])).1 (lower, (lt, tt))) r.1)
 
 -- numbers rise exactly if each is above those before it
-pub rises_after : (xs : List ℕ) → AllAfter IsAbove [] xs ↔ Rises xs
-rises_after [] = (λ all. tt, λ r. tt)
-rises_after (x ∷ xs) = (rises_from_above (x ∷ xs) [], above_from_rises x xs [] tt)
+pub is_increasing_after : (xs : List ℕ) → AllAfter IsAbove [] xs ↔ IsIncreasing xs
+is_increasing_after [] = (λ all. tt, λ r. tt)
+is_increasing_after (x ∷ xs) = (is_increasing_from_above (x ∷ xs) [], above_from_is_increasing x xs [] tt)

@@ -163,15 +163,15 @@ body_to b names bytes h =
     let kind = b.0.0 in
     let ns = b.0.1 in
     let x = b.1 in
-    let inputs = h.4 in let latches = inputs.4 in let behind = latches.4 in
-    let outputs = behind.3 in let bads = outputs.4 in let constraints = bads.4 in let justice = constraints.4 in
+    let inputs = h.4 in let latches = inputs.4 in let following = latches.4 in
+    let outputs = following.3 in let bads = outputs.4 in let constraints = bads.4 in let justice = constraints.4 in
     let i = inputs_text kind ns.inputs x.inputs inputs.0 inputs.3 in
     let l = latches_text kind ns.inputs ns.latches x.latches latches.0 latches.3 in
-    let g = gates_text kind ns.inputs ns.latches ns.gates x.gates behind.1 behind.4 in
+    let g = gates_text kind ns.inputs ns.latches ns.gates x.gates following.1 following.4 in
     let header : IsHeader kind (header_of (file_from b names)) h.0 = rw (i.0, l.0, outputs.3.0, g.0, bads.3.0, constraints.3.0, justice.3.0, justice.4.0) h.3 in
-    let properties = properties_text ns x.properties (Each (Gate kind) x.gates) latches.1 (behind.0, behind.1, behind.2, behind.3, g.1) in (
+    let properties = properties_text ns x.properties (Each (Gate kind) x.gates) latches.1 (following.0, following.1, following.2, following.3, g.1) in (
       (h.0, h.1, h.2, header, (inputs.0, inputs.1, inputs.2, i.1, (latches.0, latches.1, latches.2, l.1, properties))),
-      placed_all kind ns.inputs ns.latches ns.gates x.inputs x.latches x.gates inputs.0 latches.0 behind.1 inputs.3 latches.3 behind.4,
+      placed_all kind ns.inputs ns.latches ns.gates x.inputs x.latches x.gates inputs.0 latches.0 following.1 inputs.3 latches.3 following.4,
     )
 
 inputs_back : (kind : FileKind) (xs : List ℕ) (ls : List LatchLine) (gs : List GateLine) (bytes : List ℕ) → Placed kind (xs ++ map latch_key ls ++ map gate_key gs) → Inputs kind xs bytes → InputsPart kind (length xs) xs bytes
@@ -200,8 +200,8 @@ parts_of f = ((f.kind, header_of f), record { inputs = f.inputs; latches = f.lat
 pub body_from : (f : File) (bytes : List ℕ) → Body f bytes → Placed f.kind (defined f) → IsBody (parts_of f) bytes
 body_from f bytes h p =
     let inputs = h.4 in let latches = inputs.4 in
-    let behind = properties_part f (Each (Gate f.kind) f.gates) latches.1 latches.4 in
-    let gates = gates_back f.kind f.inputs f.latches f.gates behind.1 p behind.4 in (
+    let following = properties_part f (Each (Gate f.kind) f.gates) latches.1 latches.4 in
+    let gates = gates_back f.kind f.inputs f.latches f.gates following.1 p following.4 in (
       h.0,
       h.1,
       h.2,
@@ -211,7 +211,7 @@ body_from f bytes h p =
         inputs.1,
         inputs.2,
         inputs_back f.kind f.inputs f.latches f.gates inputs.0 p inputs.3,
-        (latches.0, latches.1, latches.2, latches_back f.kind f.inputs f.latches f.gates latches.0 p latches.3, (behind.0, behind.1, behind.2, behind.3, gates)),
+        (latches.0, latches.1, latches.2, latches_back f.kind f.inputs f.latches f.gates latches.0 p latches.3, (following.0, following.1, following.2, following.3, gates)),
       ),
     )
 

@@ -10,7 +10,7 @@ use Rattle.aig_format.specs.declared.FileKind.{FileKind}
 use Rattle.aig_format.specs.declared.FileKind.TheVariants.{Text, Binary}
 use Rattle.aig_format.specs.File.{LatchLine, GateLine, NameLine, File, HeaderNumbers, header_of, defined}
 use Rattle.aig_format.specs.Spells.{Latch, Gate, Placed, places, Spells}
-use Rattle.aig_format.specs.Fits.{IsDefinable, HasReset, IsAboveOperands, Rises, IsCompact, IsWellFounded, Fits, HasEnough, Accepts}
+use Rattle.aig_format.specs.Fits.{IsDefinable, HasReset, IsAboveOperands, IsIncreasing, IsCompact, IsWellFounded, Fits, HasEnough, Accepts}
 use Rattle.aig_parsing.specs.Parse.{◌>>=◌, parse_header, is_good, parse_ended, parse_if, parse_numbers, parse_placed_gate, Parts, PropertyParts, property_parts, parse_body, file_from, AllAfter}
 use Rattle.aig_parsing.specs.ParseTested.{is_within, is_accepted_order, parse_section_lines, parse_fitting_header, defines, has_next, tests_latch, tests_gate, parse_latch_line, parse_binary_latch, parse_gate_line, parse_fitting_inputs, parse_fitting_latches, parse_fitting_gates, parse_literal_justice, parse_literal_sets, parse_literals, parse_fitting_properties, parse_fitting_sections, parse_fitting_body, parse_fitting_tail, parse_fitting}
 use Rattle.aig_format.proofs.Entries.{rec_weaker, rec_both, rec_append}
@@ -23,7 +23,7 @@ use Rattle.aig_parsing.proofs.Names.{tail_sound, tail_complete}
 use Rattle.aig_parsing.proofs.Files.{InputsPart, LatchesPart, GatesPart, JusticePart, PropertiesPart, SectionsPart, IsBody, Reads-inputs, Reads-body, parts_of, body_from, spelled, body_read, split_places}
 use Rattle.aig_parsing.proofs.InARow.{PropertiesBy, SectionsBy, Reads-part, Reads-properties_by, Reads-sections_by}
 use Rattle.aig_parsing.proofs.Checked.{Reads-checked, IsNew, distinct_after}
-use Rattle.aig_parsing.proofs.Entries.{after_weaker, IsAbove, rises_after}
+use Rattle.aig_parsing.proofs.Entries.{after_weaker, IsAbove, is_increasing_after}
 use Rattle.aig_parsing.proofs.Guards.{Defines, Decides-defines, IsLiteral, HasNext, Decides-next, LatchAfter, Decides-latch, GateAfter, Decides-gate, NameAfter, IsWithin, HasOperands, KeepsRules, Decides-rules, Decides-good_within, defined_anew, defined_by_section, on_used, latches_by_line, gates_by_line, gates_in_range, names_by_line, length-defined}
 use Rattle.aig_parsing.proofs.FittingLines.{Reads-both_with, Reads-any, Reads-placed_with, Reads-latch_line, Reads-binary_latch, Reads-gate_line, is_below, Reads-binary_gate, AreLiterals, Reads-literals, AreSets, Reads-literal_sets}
 use Rattle.aig_parsing.proofs.FittingTail.{fitting_tail_sound, fitting_tail_complete}
@@ -161,17 +161,17 @@ places_definable : (greatest n v : ℕ) → 1 ≤ v → n + v ≤ greatest + 1 �
 places_definable greatest zero v low high = tt
 places_definable greatest (suc n) v low high = ((omega arith, omega arith, omega arith), places_definable greatest n (v + 1) (omega arith) (omega arith))
 
-places_rise : (n v : ℕ) → Rises (places n v)
+places_rise : (n v : ℕ) → IsIncreasing (places n v)
 places_rise zero v = tt
 places_rise (suc zero) v = tt
 places_rise (suc (suc n)) v = (omega arith, places_rise (suc n) (v + 1))
 
 -- numbers that rise differ
-pub rising_distinct : (xs : List ℕ) → Rises xs → IsDistinct nat_eq xs
-rising_distinct xs rises =
+pub rising_distinct : (xs : List ℕ) → IsIncreasing xs → IsDistinct nat_eq xs
+rising_distinct xs is_increasing =
     (distinct_after nat_eq xs).0 (after_weaker IsAbove (IsNew nat_eq)
     (λ before x above. rec_weaker (λ y. y < x) (λ y. nat_eq y x ≡ false) (λ y lt. ne_eqb y x (λ e. omega arith)) before above)
-    xs [] ((rises_after xs).1 rises))
+    xs [] ((is_increasing_after xs).1 is_increasing))
 
 -- ---- from the facts on lines to those on the file, and back
 
@@ -212,7 +212,7 @@ variables_fit Binary f placed enough i l g =
     let definable = subst (AllByRecursion (IsDefinable f.greatest)) (sym placed) (places_definable f.greatest n 1 (omega arith) (omega arith)) in
     record {
       definable = definable;
-      distinct = rising_distinct (defined f) (subst Rises (sym placed) (places_rise n 1));
+      distinct = rising_distinct (defined f) (subst IsIncreasing (sym placed) (places_rise n 1));
       nexts = l;
       operands = gates_in_range f.greatest f.gates ((rec_append (IsDefinable f.greatest) (f.inputs ++ map latch_key f.latches) (map gate_key f.gates)).0 definable).1 g;
     }
@@ -224,8 +224,8 @@ rules_fit Text f is placed enough g (inl compact) = inl compact
 rules_fit Text f is placed enough g (inr well_founded) = inr (record { text = is; enough = omega (arith, enough, length-defined f); known = well_founded.0; levels = well_founded.1 })
 rules_fit Binary f is placed enough g rules =
     let leaves = f.inputs ++ map latch_key f.latches in
-    let behind = split_places leaves (map gate_key f.gates) (length (defined f)) 1 placed in
-    inl (record { exact = exact_from f enough; rising = subst Rises (sym behind.1) (places_rise (length (map gate_key f.gates)) (1 + length leaves)); ordered = g })
+    let following = split_places leaves (map gate_key f.gates) (length (defined f)) 1 placed in
+    inl (record { exact = exact_from f enough; rising = subst IsIncreasing (sym following.1) (places_rise (length (map gate_key f.gates)) (1 + length leaves)); ordered = g })
 
 -- what the tests say of a file's inputs, latches and gates
 abbrev pub VariablesPass : FileKind → File → Type 0

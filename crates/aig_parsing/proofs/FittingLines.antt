@@ -66,13 +66,13 @@ Reads-space_end : Reads (Ended 32) (parse_ended 32)
 Reads-space_end = Reads-ended 32 not_32
 
 -- what follows the first number
-abbrev behind : (ℕ × ℕ) × List ℕ → Option ((ℕ × Option ℕ) × List ℕ)
-behind n = cond (eqb n.0.1 10) (Some ((n.0.0, None), n.1)) (cond (eqb n.0.1 32) (parse_ended 10 n.1 >>= λ r. Some ((n.0.0, Some r.0), r.1)) None)
+abbrev following : (ℕ × ℕ) × List ℕ → Option ((ℕ × Option ℕ) × List ℕ)
+following n = cond (eqb n.0.1 10) (Some ((n.0.0, None), n.1)) (cond (eqb n.0.1 32) (parse_ended 10 n.1 >>= λ r. Some ((n.0.0, Some r.0), r.1)) None)
 
 next_sound : (bytes : List ℕ) (x : (ℕ × Option ℕ) × List ℕ) → parse_next_and_reset bytes ≡ Some x → Begins IsNext bytes x
 unfolding parse_next_and_reset
 next_sound bytes x h =
-    let b = bind_some (parse_number bytes) behind x h in
+    let b = bind_some (parse_number bytes) following x h in
     let n = b.0.0.0 in
     let end = b.0.0.1 in
     let rest = b.0.1 in

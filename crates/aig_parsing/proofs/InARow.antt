@@ -86,15 +86,15 @@ module _ (Inputs : List ℕ → List ℕ → Type 0) (Latches : List ℕ → Lis
       → ((inputs : List ℕ) (latches : List LatchLine) → Reads (Gates inputs latches) (gates_by inputs latches)) → Reads (SectionsBy Inputs Latches Properties Gates) (sections_by inputs_by latches_by properties gates_by)
   Reads-sections_by hi hl hp hg =
       let Nothing : Parts → Type 0 = λ _. Unit {0} in
-      let behind_latches : List ℕ → List LatchLine → Parts → List ℕ → Type 0 = λ inputs latches x. Properties x.properties then Gates inputs latches x.gates in
-      let behind_inputs : List ℕ → Parts → List ℕ → Type 0 = λ inputs x. Latches inputs x.latches then behind_latches inputs x.latches x in
+      let following_latches : List ℕ → List LatchLine → Parts → List ℕ → Type 0 = λ inputs latches x. Properties x.properties then Gates inputs latches x.gates in
+      let following_inputs : List ℕ → Parts → List ℕ → Type 0 = λ inputs x. Latches inputs x.latches then following_latches inputs x.latches x in
       Reads-first (SectionsBy Inputs Latches Properties Gates) (sections_by inputs_by latches_by properties gates_by)
-      (Reads-part (λ x. x.inputs) Nothing Inputs (λ x. behind_inputs x.inputs x) inputs_by _ hi (λ inputs.
+      (Reads-part (λ x. x.inputs) Nothing Inputs (λ x. following_inputs x.inputs x) inputs_by _ hi (λ inputs.
       let Begun : Parts → Type 0 = λ x. Nothing x × (x.inputs ≡ inputs) in
-      Reads-known (λ x. x.inputs) Begun inputs behind_inputs _ (λ x k. k.1)
-      (Reads-part (λ x. x.latches) Begun (Latches inputs) (λ x. behind_latches inputs x.latches x) (latches_by inputs) _ (hl inputs) (λ latches.
+      Reads-known (λ x. x.inputs) Begun inputs following_inputs _ (λ x k. k.1)
+      (Reads-part (λ x. x.latches) Begun (Latches inputs) (λ x. following_latches inputs x.latches x) (latches_by inputs) _ (hl inputs) (λ latches.
       let Leaves : Parts → Type 0 = λ x. Begun x × (x.latches ≡ latches) in
-      Reads-known (λ x. x.latches) Leaves latches (behind_latches inputs) _ (λ x k. k.1)
+      Reads-known (λ x. x.latches) Leaves latches (following_latches inputs) _ (λ x k. k.1)
       (Reads-part (λ x. x.properties) Leaves Properties (λ x. Gates inputs latches x.gates) properties _ hp (λ p.
       let Behind : Parts → Type 0 = λ x. Leaves x × (x.properties ≡ p) in
       Reads-last (λ x. x.gates) Behind (Gates inputs latches) (gates_by inputs latches) (λ gates. record { inputs = inputs; latches = latches; properties = p; gates = gates })

@@ -42,14 +42,14 @@ header_written : (kind : FileKind) (n : HeaderNumbers) → AllByRecursion IsFile
     → IsHeader kind n (magic kind ++ line_text (n.greatest ∷ n.inputs ∷ n.latches ∷ n.outputs ∷ n.gates ∷ shortened (n.bads ∷ n.constraints ∷ n.justice ∷ n.fairness ∷ [])))
 header_written kind n h =
     let four = n.bads ∷ n.constraints ∷ n.justice ∷ n.fairness ∷ [] in
-    let behind = n.inputs ∷ n.latches ∷ n.outputs ∷ n.gates ∷ shortened four in
+    let following = n.inputs ∷ n.latches ∷ n.outputs ∷ n.gates ∷ shortened four in
     let s = shortened_is four in
     let t = h.1.1.1.1 in (
-      n.greatest ∷ behind,
+      n.greatest ∷ following,
       s.0,
       ap (λ (zs : List ℕ). n.greatest ∷ n.inputs ∷ n.latches ∷ n.outputs ∷ n.gates ∷ zs) s.1,
       omega arith,
-      (magic kind, line_text (n.greatest ∷ behind), refl, refl, line_written n.greatest behind h.0 (h.1.0, (h.1.1.0, (h.1.1.1.0, (t.0, shortened_small four t.1))))),
+      (magic kind, line_text (n.greatest ∷ following), refl, refl, line_written n.greatest following h.0 (h.1.0, (h.1.1.0, (h.1.1.1.0, (t.0, shortened_small four t.1))))),
     )
 
 lines_written : (ns : List ℕ) → AllByRecursion IsFileNumber ns → Lines ns (lines_text ns)

@@ -30,12 +30,12 @@ pub record HasCounts (kind : FileKind) (ns : HeaderNumbers) (x : Parts) : Type 0
 has_counts : (kind : FileKind) (ns : HeaderNumbers) (x : Parts) (bytes : List ℕ) → SectionsPart kind ns x bytes → HasCounts kind ns x
 has_counts kind ns x bytes inputs =
     let latches = inputs.4 in
-    let behind = latches.4 in
+    let following = latches.4 in
     record {
       inputs = (inputs_text kind ns.inputs x.inputs inputs.0 inputs.3).0;
       latches = (latches_text kind ns.inputs ns.latches x.latches latches.0 latches.3).0;
-      gates = (gates_text kind ns.inputs ns.latches ns.gates x.gates behind.1 behind.4).0;
-      placed = placed_all kind ns.inputs ns.latches ns.gates x.inputs x.latches x.gates inputs.0 latches.0 behind.1 inputs.3 latches.3 behind.4;
+      gates = (gates_text kind ns.inputs ns.latches ns.gates x.gates following.1 following.4).0;
+      placed = placed_all kind ns.inputs ns.latches ns.gates x.inputs x.latches x.gates inputs.0 latches.0 following.1 inputs.3 latches.3 following.4;
     }
 
 -- what the lines of sections tell

@@ -37,8 +37,8 @@ strip_complete [] rest = refl
 strip_complete (a ∷ front) rest = rw (eq-eqb a a refl) (strip_complete front rest)
 
 -- after a text that stands there word by word
-pub Reads-behind : {A : Type 0} (text : List ℕ) (P : A → List ℕ → Type 0) (p : List ℕ → Option (A × List ℕ)) → Reads P p → Reads (λ x. Just text then P x) (λ bytes. strip text bytes >>= p)
-Reads-behind text P p hp = record {
+pub Reads-following : {A : Type 0} (text : List ℕ) (P : A → List ℕ → Type 0) (p : List ℕ → Option (A × List ℕ)) → Reads P p → Reads (λ x. Just text then P x) (λ bytes. strip text bytes >>= p)
+Reads-following text P p hp = record {
   sound = λ bytes x h.
       let b = bind_some (strip text bytes) p x h in
       let s = hp.sound b.0 x b.2 in

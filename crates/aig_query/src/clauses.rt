@@ -39,8 +39,9 @@ fn push_starts(extra: &mut LitVvec, latchs: &[AigLatch]) -> Result<(), MemoryErr
     Ok(())
 }
 
-/// Appends for each edge the clause that it is true.
-fn push_units(extra: &mut LitVvec, edges: &[AigEdge]) -> Result<(), MemoryError>
+/// Appends for each edge the clause that it is true, in order. The one error is refused memory, and then a beginning may have
+/// been appended. Requires that each node's number is below 2^31, as `fits_lits` of a circuit says of its edges.
+pub fn push_units(extra: &mut LitVvec, edges: &[AigEdge]) -> Result<(), MemoryError>
     requires { All (λ e. e.node_id < 2 ^ 31) edges.now }
     ensures { OnOk result (extra.new ≡ extra.old ++ unit_clauses edges.now) }
 {
@@ -50,8 +51,9 @@ fn push_units(extra: &mut LitVvec, edges: &[AigEdge]) -> Result<(), MemoryError>
     Ok(())
 }
 
-/// Appends the one clause that some edge is true, which is empty where there is none.
-fn push_any(alloc: Global, extra: &mut LitVvec, edges: &[AigEdge]) -> Result<(), MemoryError>
+/// Appends the one clause that some edge is true, which is empty where there is none. The one error is refused memory. Requires
+/// that each node's number is below 2^31, as `fits_lits` of a circuit says of its edges.
+pub fn push_any(alloc: Global, extra: &mut LitVvec, edges: &[AigEdge]) -> Result<(), MemoryError>
     requires { All (λ e. e.node_id < 2 ^ 31) edges.now }
     ensures { OnOk result (extra.new ≡ extra.old ++ map lit_of edges.now ∷ []) }
 {

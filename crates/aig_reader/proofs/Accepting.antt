@@ -105,10 +105,10 @@ pub section_fault : (e : ReadError) → IsSectionFault e → e ≢ errors.TooMan
 section_fault e h is = subst IsSectionFault is h
 
 -- where a header was taken and no file is read, a fault that isn't TooMany is told
-refused_behind : (T : Type 0) (header : T) (limit : ℕ) (before : Option (List ℕ)) (e : ReadError) → ReadUnlessTransient e (IfSome before (λ bytes. parse_fitting limit bytes ≡ None)) → e ≢ errors.TooMany
+refused_following : (T : Type 0) (header : T) (limit : ℕ) (before : Option (List ℕ)) (e : ReadError) → ReadUnlessTransient e (IfSome before (λ bytes. parse_fitting limit bytes ≡ None)) → e ≢ errors.TooMany
     → IfSome before (λ bytes. ◌≡◌ {A = Result T ReadError} (Ok header) (Err errors.TooMany) ↔ (too_many_at limit bytes ≡ true)) → ReadsKnown (fault CircuitLists e) limit before
-refused_behind T header limit None e h other k = tt
-refused_behind T header limit (Some bytes) e h other k =
+refused_following T header limit None e h other k = tt
+refused_following T header limit (Some bytes) e h other k =
     refusal CircuitLists CircuitLists e (parse_fitting limit bytes ≡ None) (Unit {0}) (ReadsExactly AreListsOf limit (fault CircuitLists e) bytes)
     (λ none t. refuses limit bytes e none (λ is. absurd (other is), λ p. absurd (not_too_many T header _ k p))) h (always CircuitLists e)
 
@@ -120,14 +120,14 @@ no_files limit (Some bytes) h = no_file limit bytes h
 pub refused_section : (T : Type 0) (header : T) (limit : ℕ) (before m : Option (List ℕ)) (h : FileKind × HeaderNumbers) (e : ReadError) → Takes (parse_fitting_header limit) before m h → ReadUnlessTransient e (Misses (sections_of h) m) → e ≢ errors.TooMany
     → IfSome before (λ bytes. ◌≡◌ {A = Result T ReadError} (Ok header) (Err errors.TooMany) ↔ (too_many_at limit bytes ≡ true)) → ReadsKnown (fault CircuitLists e) limit before
 refused_section T header limit before m h e taken missed other k =
-    refused_behind T header limit before e
+    refused_following T header limit before e
     (on_refusal-weaker e _ _ (λ (none : Misses (sections_of h) m). no_files limit before (misses_both (parse_fitting_header limit) sections_of before m h taken none)) missed) other k
 
 -- the names are refused
 pub refused_names : (T : Type 0) (header : T) (limit : ℕ) (before m : Option (List ℕ)) (body : Body) (e : ReadError) → Takes (parse_fitting_body limit) before m body → ReadUnlessTransient e (IfSome m (λ bytes. tail_of body.0.1 bytes ≡ None)) → e ≢ errors.TooMany
     → IfSome before (λ bytes. ◌≡◌ {A = Result T ReadError} (Ok header) (Err errors.TooMany) ↔ (too_many_at limit bytes ≡ true)) → ReadsKnown (fault CircuitLists e) limit before
 refused_names T header limit before m body e taken missed other k =
-    refused_behind T header limit before e
+    refused_following T header limit before e
     (on_refusal-weaker e _ _
     (λ (none : IfSome m (λ bytes. tail_of body.0.1 bytes ≡ None)).
     known_rest before m taken.taken (λ bytes. parse_fitting limit bytes ≡ None) (λ bytes. tail_of body.0.1 bytes ≡ None) taken.consumed none

@@ -70,41 +70,41 @@ module _ (ns : HeaderNumbers) where
   abbrev sets_of : List ℕ → List ℕ → Option (List (List ℕ) × List ℕ)
   sets_of = parse_literal_sets ns.greatest
 
-  abbrev behind_justice : List ℕ → List ℕ → List ℕ → List (List ℕ) → List ℕ → Option (PropertyParts × List ℕ)
-  behind_justice outputs bads constraints justice = parse_map (λ fairness. record { outputs = outputs; bads = bads; constraints = constraints; justice = justice; fairness = fairness }) (literals ns.fairness)
+  abbrev following_justice : List ℕ → List ℕ → List ℕ → List (List ℕ) → List ℕ → Option (PropertyParts × List ℕ)
+  following_justice outputs bads constraints justice = parse_map (λ fairness. record { outputs = outputs; bads = bads; constraints = constraints; justice = justice; fairness = fairness }) (literals ns.fairness)
 
-  abbrev behind_constraints : List ℕ → List ℕ → List ℕ → List ℕ → Option (PropertyParts × List ℕ)
-  behind_constraints outputs bads constraints bytes = parse_literal_justice ns.greatest ns.justice bytes >>= λ j. behind_justice outputs bads constraints j.0 j.1
+  abbrev following_constraints : List ℕ → List ℕ → List ℕ → List ℕ → Option (PropertyParts × List ℕ)
+  following_constraints outputs bads constraints bytes = parse_literal_justice ns.greatest ns.justice bytes >>= λ j. following_justice outputs bads constraints j.0 j.1
 
-  abbrev behind_bads : List ℕ → List ℕ → List ℕ → Option (PropertyParts × List ℕ)
-  behind_bads outputs bads bytes = literals ns.constraints bytes >>= λ c. behind_constraints outputs bads c.0 c.1
+  abbrev following_bads : List ℕ → List ℕ → List ℕ → Option (PropertyParts × List ℕ)
+  following_bads outputs bads bytes = literals ns.constraints bytes >>= λ c. following_constraints outputs bads c.0 c.1
 
-  abbrev behind_outputs : List ℕ → List ℕ → Option (PropertyParts × List ℕ)
-  behind_outputs outputs bytes = literals ns.bads bytes >>= λ d. behind_bads outputs d.0 d.1
+  abbrev following_outputs : List ℕ → List ℕ → Option (PropertyParts × List ℕ)
+  following_outputs outputs bytes = literals ns.bads bytes >>= λ d. following_bads outputs d.0 d.1
 
   pub misses_outputs : (b : Option (List ℕ)) → Misses (literals ns.outputs) b → Misses (parse_fitting_properties ns) b
-  misses_outputs b h = misses_first (literals ns.outputs) (λ x. behind_outputs x.0 x.1) b h
+  misses_outputs b h = misses_first (literals ns.outputs) (λ x. following_outputs x.0 x.1) b h
 
   module _ (b o : Option (List ℕ)) (outputs : List ℕ) (ho : Takes (literals ns.outputs) b o outputs) where
-    after_outputs : Misses (behind_outputs outputs) o → Misses (parse_fitting_properties ns) b
-    after_outputs h = misses_next (literals ns.outputs) (λ x. behind_outputs x.0 x.1) b o outputs ho h
+    after_outputs : Misses (following_outputs outputs) o → Misses (parse_fitting_properties ns) b
+    after_outputs h = misses_next (literals ns.outputs) (λ x. following_outputs x.0 x.1) b o outputs ho h
 
     pub misses_bads : Misses (literals ns.bads) o → Misses (parse_fitting_properties ns) b
-    misses_bads h = after_outputs (misses_first (literals ns.bads) (λ d. behind_bads outputs d.0 d.1) o h)
+    misses_bads h = after_outputs (misses_first (literals ns.bads) (λ d. following_bads outputs d.0 d.1) o h)
 
     module _ (d : Option (List ℕ)) (bads : List ℕ) (hd : Takes (literals ns.bads) o d bads) where
-      after_bads : Misses (behind_bads outputs bads) d → Misses (parse_fitting_properties ns) b
-      after_bads h = after_outputs (misses_next (literals ns.bads) (λ d. behind_bads outputs d.0 d.1) o d bads hd h)
+      after_bads : Misses (following_bads outputs bads) d → Misses (parse_fitting_properties ns) b
+      after_bads h = after_outputs (misses_next (literals ns.bads) (λ d. following_bads outputs d.0 d.1) o d bads hd h)
 
       pub misses_constraints : Misses (literals ns.constraints) d → Misses (parse_fitting_properties ns) b
-      misses_constraints h = after_bads (misses_first (literals ns.constraints) (λ c. behind_constraints outputs bads c.0 c.1) d h)
+      misses_constraints h = after_bads (misses_first (literals ns.constraints) (λ c. following_constraints outputs bads c.0 c.1) d h)
 
       module _ (c : Option (List ℕ)) (constraints : List ℕ) (hc : Takes (literals ns.constraints) d c constraints) where
         abbrev next_sets : List (List ℕ) × List ℕ → Option (PropertyParts × List ℕ)
-        next_sets j = behind_justice outputs bads constraints j.0 j.1
+        next_sets j = following_justice outputs bads constraints j.0 j.1
 
-        after_constraints : Misses (behind_constraints outputs bads constraints) c → Misses (parse_fitting_properties ns) b
-        after_constraints h = after_bads (misses_next (literals ns.constraints) (λ c. behind_constraints outputs bads c.0 c.1) d c constraints hc h)
+        after_constraints : Misses (following_constraints outputs bads constraints) c → Misses (parse_fitting_properties ns) b
+        after_constraints h = after_bads (misses_next (literals ns.constraints) (λ c. following_constraints outputs bads c.0 c.1) d c constraints hc h)
 
         without_justice : Misses (parse_literal_justice ns.greatest ns.justice) c → Misses (parse_fitting_properties ns) b
         without_justice h = after_constraints (misses_first (parse_literal_justice ns.greatest ns.justice) next_sets c h)
@@ -126,9 +126,9 @@ module _ (ns : HeaderNumbers) where
             pub takes_properties : (a : Option (List ℕ)) (fairness : List ℕ) → Takes (literals ns.fairness) j a fairness
                 → Takes (parse_fitting_properties ns) b a (record { outputs = outputs; bads = bads; constraints = constraints; justice = sets; fairness = fairness })
             takes_properties a fairness h =
-                takes_bind (literals ns.outputs) (λ x. behind_outputs x.0 x.1) b o a outputs _ ho
-                (takes_bind (literals ns.bads) (λ d. behind_bads outputs d.0 d.1) o d a bads _ hd
-                (takes_bind (literals ns.constraints) (λ c. behind_constraints outputs bads c.0 c.1) d c a constraints _ hc
+                takes_bind (literals ns.outputs) (λ x. following_outputs x.0 x.1) b o a outputs _ ho
+                (takes_bind (literals ns.bads) (λ d. following_bads outputs d.0 d.1) o d a bads _ hd
+                (takes_bind (literals ns.constraints) (λ c. following_constraints outputs bads c.0 c.1) d c a constraints _ hc
                 (takes_bind (parse_literal_justice ns.greatest ns.justice) next_sets c j a sets _ takes_justice
                 (takes_mapped _ (literals ns.fairness) j a fairness h))))
 
@@ -138,40 +138,40 @@ module _ (kind : FileKind) (ns : HeaderNumbers) where
   abbrev gates : List ℕ → List LatchLine → List ℕ → Option (List GateLine × List ℕ)
   gates inputs latches = parse_fitting_gates kind ns (inputs ++ map (λ l. l.literal) latches)
 
-  abbrev behind_properties : List ℕ → List LatchLine → PropertyParts → List ℕ → Option (Parts × List ℕ)
-  behind_properties inputs latches properties = parse_map (λ gs. record { inputs = inputs; latches = latches; properties = properties; gates = gs }) (gates inputs latches)
+  abbrev following_properties : List ℕ → List LatchLine → PropertyParts → List ℕ → Option (Parts × List ℕ)
+  following_properties inputs latches properties = parse_map (λ gs. record { inputs = inputs; latches = latches; properties = properties; gates = gs }) (gates inputs latches)
 
-  abbrev behind_latches : List ℕ → List LatchLine → List ℕ → Option (Parts × List ℕ)
-  behind_latches inputs latches bytes = parse_fitting_properties ns bytes >>= λ x. behind_properties inputs latches x.0 x.1
+  abbrev following_latches : List ℕ → List LatchLine → List ℕ → Option (Parts × List ℕ)
+  following_latches inputs latches bytes = parse_fitting_properties ns bytes >>= λ x. following_properties inputs latches x.0 x.1
 
-  abbrev behind_inputs : List ℕ → List ℕ → Option (Parts × List ℕ)
-  behind_inputs inputs bytes = parse_fitting_latches kind ns inputs bytes >>= λ l. behind_latches inputs l.0 l.1
+  abbrev following_inputs : List ℕ → List ℕ → Option (Parts × List ℕ)
+  following_inputs inputs bytes = parse_fitting_latches kind ns inputs bytes >>= λ l. following_latches inputs l.0 l.1
 
   pub misses_inputs : (b : Option (List ℕ)) → Misses (parse_fitting_inputs kind ns) b → Misses (parse_section_lines kind ns) b
-  misses_inputs b h = misses_first (parse_fitting_inputs kind ns) (λ i. behind_inputs i.0 i.1) b h
+  misses_inputs b h = misses_first (parse_fitting_inputs kind ns) (λ i. following_inputs i.0 i.1) b h
 
   module _ (b i : Option (List ℕ)) (inputs : List ℕ) (hi : Takes (parse_fitting_inputs kind ns) b i inputs) where
-    after_inputs : Misses (behind_inputs inputs) i → Misses (parse_section_lines kind ns) b
-    after_inputs h = misses_next (parse_fitting_inputs kind ns) (λ i. behind_inputs i.0 i.1) b i inputs hi h
+    after_inputs : Misses (following_inputs inputs) i → Misses (parse_section_lines kind ns) b
+    after_inputs h = misses_next (parse_fitting_inputs kind ns) (λ i. following_inputs i.0 i.1) b i inputs hi h
 
     pub misses_latches : Misses (parse_fitting_latches kind ns inputs) i → Misses (parse_section_lines kind ns) b
-    misses_latches h = after_inputs (misses_first (parse_fitting_latches kind ns inputs) (λ l. behind_latches inputs l.0 l.1) i h)
+    misses_latches h = after_inputs (misses_first (parse_fitting_latches kind ns inputs) (λ l. following_latches inputs l.0 l.1) i h)
 
     module _ (l : Option (List ℕ)) (latches : List LatchLine) (hl : Takes (parse_fitting_latches kind ns inputs) i l latches) where
-      after_latches : Misses (behind_latches inputs latches) l → Misses (parse_section_lines kind ns) b
-      after_latches h = after_inputs (misses_next (parse_fitting_latches kind ns inputs) (λ l. behind_latches inputs l.0 l.1) i l latches hl h)
+      after_latches : Misses (following_latches inputs latches) l → Misses (parse_section_lines kind ns) b
+      after_latches h = after_inputs (misses_next (parse_fitting_latches kind ns inputs) (λ l. following_latches inputs l.0 l.1) i l latches hl h)
 
       pub misses_properties : Misses (parse_fitting_properties ns) l → Misses (parse_section_lines kind ns) b
-      misses_properties h = after_latches (misses_first (parse_fitting_properties ns) (λ x. behind_properties inputs latches x.0 x.1) l h)
+      misses_properties h = after_latches (misses_first (parse_fitting_properties ns) (λ x. following_properties inputs latches x.0 x.1) l h)
 
       module _ (p : Option (List ℕ)) (x : PropertyParts) (hp : Takes (parse_fitting_properties ns) l p x) where
         pub misses_gates : Misses (gates inputs latches) p → Misses (parse_section_lines kind ns) b
-        misses_gates h = after_latches (misses_next (parse_fitting_properties ns) (λ x. behind_properties inputs latches x.0 x.1) l p x hp (misses_mapped _ (gates inputs latches) p h))
+        misses_gates h = after_latches (misses_next (parse_fitting_properties ns) (λ x. following_properties inputs latches x.0 x.1) l p x hp (misses_mapped _ (gates inputs latches) p h))
 
         pub takes_sections : (a : Option (List ℕ)) (gs : List GateLine) → Takes (gates inputs latches) p a gs
             → Takes (parse_section_lines kind ns) b a (record { inputs = inputs; latches = latches; properties = x; gates = gs })
         takes_sections a gs h =
-            takes_bind (parse_fitting_inputs kind ns) (λ i. behind_inputs i.0 i.1) b i a inputs _ hi
-            (takes_bind (parse_fitting_latches kind ns inputs) (λ l. behind_latches inputs l.0 l.1) i l a latches _ hl
-            (takes_bind (parse_fitting_properties ns) (λ x. behind_properties inputs latches x.0 x.1) l p a x _ hp
+            takes_bind (parse_fitting_inputs kind ns) (λ i. following_inputs i.0 i.1) b i a inputs _ hi
+            (takes_bind (parse_fitting_latches kind ns inputs) (λ l. following_latches inputs l.0 l.1) i l a latches _ hl
+            (takes_bind (parse_fitting_properties ns) (λ x. following_properties inputs latches x.0 x.1) l p a x _ hp
             (takes_mapped _ (gates inputs latches) p a gs h)))

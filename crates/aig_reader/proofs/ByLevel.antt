@@ -13,7 +13,7 @@ use Rattle.aig_circuit.specs.declared.node.AigNodeType.TheVariants.{False, Leaf,
 use Rattle.aig_circuit.specs.declared.node.AigLatch.{AigLatch}
 use Rattle.aig_circuit.specs.Edge.{edge_to}
 use Rattle.aig_circuit.specs.Node.{and_of, kind_at}
-use Rattle.aig_circuit.specs.Renumber.{place_of}
+use Rattle.aig_circuit.specs.Renumber.{position_of}
 use Rattle.aig_circuit.proofs.Building.{and_of-cases, and_of-not_false, and_of-turned}
 use Rattle.aig_format.specs.File.{LatchLine, GateLine, File, defined}
 use Rattle.aig_format.specs.Variables.{is_defined, is_known, IsKnown, gate_of_variable}
@@ -113,8 +113,8 @@ module _ (f : File) (good : HasGoodLines f) (well_founded : is_compact f ≡ fal
 
       by_bound : (b : Bool) → ltb v (f.greatest + 1) ≡ b → number_at numbers v ≡ cond (is_known f v) (Some (node_of_variable f v)) None
       by_bound true low =
-          table v (ltb-true v (f.greatest + 1) low) ∙ ap (λ b. cond b (Some (place_of order v)) None) (is_there v)
-          ∙ ap (λ n. cond (is_known f v) (Some n) None) (ap (λ vs. place_of vs v) order_is ∙ sym (node_of_variable-place f v))
+          table v (ltb-true v (f.greatest + 1) low) ∙ ap (λ b. cond b (Some (position_of order v)) None) (is_there v)
+          ∙ ap (λ n. cond (is_known f v) (Some n) None) (ap (λ vs. position_of vs v) order_is ∙ sym (node_of_variable-place f v))
       by_bound false high = by_known (is_known f v) refl (let le = ltb-false v (f.greatest + 1) high in omega (arith, le))
 
 -- ---- lists under the numbers

@@ -146,14 +146,14 @@ set_at greatest sizes front = parse_literals greatest (get_or sizes (length fron
 middle_is : (xs ys : List ℕ) (y n : ℕ) → length xs ≡ n → get_or (xs ++ y ∷ ys) n 0 ≡ y
 middle_is xs ys y n h = subst (λ (k : ℕ). get_or (xs ++ y ∷ ys) k 0 ≡ y) h (get_or-append_seam xs y ys 0)
 
-sets_behind : (greatest : ℕ) (done sizes : List ℕ) (front : List (List ℕ)) (bs : List ℕ) → length done ≡ length front → entries_at (set_at greatest (done ++ sizes)) front (length sizes) bs ≡ parse_literal_sets greatest sizes bs
+sets_following : (greatest : ℕ) (done sizes : List ℕ) (front : List (List ℕ)) (bs : List ℕ) → length done ≡ length front → entries_at (set_at greatest (done ++ sizes)) front (length sizes) bs ≡ parse_literal_sets greatest sizes bs
 unfolding parse_literal_sets
-sets_behind greatest done [] front bs h = refl
-sets_behind greatest done (n ∷ sizes) front bs h =
+sets_following greatest done [] front bs h = refl
+sets_following greatest done (n ∷ sizes) front bs h =
     ap (λ (k : ℕ). parse_literals greatest k bs >>= lines_after (set_at greatest (done ++ n ∷ sizes)) front (length sizes)) (middle_is done sizes n (length front) h)
     ∙ go (parse_literals greatest n bs)
     (λ x. ap (λ (all : List ℕ). entries_at (set_at greatest all) (front ++ x.0 ∷ []) (length sizes) x.1) (sym (append_assoc done (n ∷ []) sizes))
-    ∙ sets_behind greatest (done ++ n ∷ []) sizes (front ++ x.0 ∷ []) x.1 (length_push done n ∙ ap (λ (k : ℕ). k + 1) h ∙ sym (length_push front x.0)))
+    ∙ sets_following greatest (done ++ n ∷ []) sizes (front ++ x.0 ∷ []) x.1 (length_push done n ∙ ap (λ (k : ℕ). k + 1) h ∙ sym (length_push front x.0)))
   where
     go : (o : Option (List ℕ × List ℕ)) → ((x : List ℕ × List ℕ) → entries_at (set_at greatest (done ++ n ∷ sizes)) (front ++ x.0 ∷ []) (length sizes) x.1 ≡ parse_literal_sets greatest sizes x.1)
         → (o >>= lines_after (set_at greatest (done ++ n ∷ sizes)) front (length sizes)) ≡ (o >>= λ set. parse_literal_sets greatest sizes set.1 >>= λ sets. Some (set.0 ∷ sets.0, sets.1))
@@ -162,7 +162,7 @@ sets_behind greatest done (n ∷ sizes) front bs h =
 
 -- sets of these sizes
 pub sets_is_entries : (greatest : ℕ) (sizes : List ℕ) (bs : List ℕ) → entries_at (set_at greatest sizes) [] (length sizes) bs ≡ parse_literal_sets greatest sizes bs
-sets_is_entries greatest sizes bs = sets_behind greatest [] sizes [] bs refl
+sets_is_entries greatest sizes bs = sets_following greatest [] sizes [] bs refl
 
 -- one more value, made of one more entry
 pub made_push : {A B : Type 0} (f : A → B) (xs : List A) (x : A) (old new : List B) (y : B) → old ≡ map f xs → y ≡ f x → new ≡ old ++ y ∷ [] → new ≡ map f (xs ++ x ∷ [])

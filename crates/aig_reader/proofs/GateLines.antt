@@ -10,7 +10,7 @@ use Rattle.aig_ordering.specs.declared.gates.Operands.{Operands}
 use Rattle.aig_format.specs.declared.FileKind.{FileKind}
 use Rattle.aig_format.specs.declared.FileKind.TheVariants.{Text, Binary}
 use Rattle.aig_format.specs.File.{GateLine}
-use Rattle.aig_format.specs.Numbering.{are_in_order, is_above_operands, rises}
+use Rattle.aig_format.specs.Numbering.{are_in_order, is_above_operands, is_increasing}
 use Rattle.aig_format.proofs.Entries.{rec_append, rec_parts}
 use Rattle.aig_parsing.specs.ParseTested.{defines, is_literal}
 use Rattle.aig_reader.specs.declared.variables.DefinedVariables.{DefinedVariables}
@@ -31,13 +31,13 @@ last_push n x [] = refl
 last_push n x (y ∷ ys) = last_push y x ys
 
 -- numbers rise with one more where it is above the last
-rises_behind : (n x : ℕ) (xs : List ℕ) → rises (n ∷ (xs ++ x ∷ [])) ≡ rises (n ∷ xs) && ltb (last_or n xs) x
-rises_behind n x [] = and-true (ltb n x)
-rises_behind n x (y ∷ ys) = ap (λ (b : Bool). ltb n y && b) (rises_behind y x ys) ∙ sym (and_assoc (ltb n y) (rises (y ∷ ys)) (ltb (last_or y ys) x))
+is_increasing_following : (n x : ℕ) (xs : List ℕ) → is_increasing (n ∷ (xs ++ x ∷ [])) ≡ is_increasing (n ∷ xs) && ltb (last_or n xs) x
+is_increasing_following n x [] = and-true (ltb n x)
+is_increasing_following n x (y ∷ ys) = ap (λ (b : Bool). ltb n y && b) (is_increasing_following y x ys) ∙ sym (and_assoc (ltb n y) (is_increasing (y ∷ ys)) (ltb (last_or y ys) x))
 
-rises_push : (x : ℕ) (xs : List ℕ) → 0 < x → rises (xs ++ x ∷ []) ≡ rises xs && ltb (last_or 0 xs) x
-rises_push x [] some = sym (lt-ltb 0 x some)
-rises_push x (y ∷ ys) some = rises_behind y x ys
+is_increasing_push : (x : ℕ) (xs : List ℕ) → 0 < x → is_increasing (xs ++ x ∷ []) ≡ is_increasing xs && ltb (last_or 0 xs) x
+is_increasing_push x [] some = sym (lt-ltb 0 x some)
+is_increasing_push x (y ∷ ys) some = is_increasing_following y x ys
 
 four : (a b c d : Bool) → ((a && c) && (b && d)) ≡ (a && b) && (c && d)
 four true b true d = refl
@@ -50,10 +50,10 @@ pub order_push : (gates : List GateLine) (g : GateLine) → 0 < g.lhs → are_in
 order_push gates g some =
     let lefts = literals_of gates in
     let all = list_all is_above_operands gates in
-    ap (λ (ls : List ℕ). rises ls && list_all is_above_operands (gates ++ g ∷ [])) (map_push (λ (h : GateLine). h.lhs) gates g)
-    ∙ ap (λ (b : Bool). b && list_all is_above_operands (gates ++ g ∷ [])) (rises_push g.lhs lefts some)
-    ∙ ap (λ (b : Bool). (rises lefts && ltb (last_or 0 lefts) g.lhs) && b) (list_all-append is_above_operands gates (g ∷ []) ∙ ap (λ (b : Bool). all && b) (and-true (is_above_operands g)))
-    ∙ four (rises lefts) all (ltb (last_or 0 lefts) g.lhs) (is_above_operands g)
+    ap (λ (ls : List ℕ). is_increasing ls && list_all is_above_operands (gates ++ g ∷ [])) (map_push (λ (h : GateLine). h.lhs) gates g)
+    ∙ ap (λ (b : Bool). b && list_all is_above_operands (gates ++ g ∷ [])) (is_increasing_push g.lhs lefts some)
+    ∙ ap (λ (b : Bool). (is_increasing lefts && ltb (last_or 0 lefts) g.lhs) && b) (list_all-append is_above_operands gates (g ∷ []) ∙ ap (λ (b : Bool). all && b) (and-true (is_above_operands g)))
+    ∙ four (is_increasing lefts) all (ltb (last_or 0 lefts) g.lhs) (is_above_operands g)
 
 -- ---- a gate in its place
 
@@ -65,9 +65,9 @@ module _ (greatest : ℕ) (leaves : List ℕ) (before : List GateLine) (lhs : �
   order_with old h = order_push before g (omega arith) ∙ rw (h.in_order, sym h.last) refl
 
   -- gates that rise still do with the next one
-  pub rises_still : (old new : InOrder) → ArePlaced greatest leaves before (held.InOrder old) → (ltb old.last lhs && is_above_operands g) ≡ true → AreFirstNodes (before ++ g ∷ []) new.nodes.items → new.last ≡ lhs → HasWords g
+  pub is_increasing_still : (old new : InOrder) → ArePlaced greatest leaves before (held.InOrder old) → (ltb old.last lhs && is_above_operands g) ≡ true → AreFirstNodes (before ++ g ∷ []) new.nodes.items → new.last ≡ lhs → HasWords g
       → ArePlaced greatest leaves (before ++ g ∷ []) (held.InOrder new)
-  rises_still old new h next nodes last words = record {
+  is_increasing_still old new h next nodes last words = record {
     nodes = nodes;
     form = record {
       in_order = order_with old h.form ∙ next;
@@ -77,9 +77,9 @@ module _ (greatest : ℕ) (leaves : List ℕ) (before : List GateLine) (lhs : �
   }
 
   -- and don't with one that isn't above the others and its operands
-  pub rises_no_more : (old : InOrder) (table : Table) → ArePlaced greatest leaves before (held.InOrder old) → (ltb old.last lhs && is_above_operands g) ≡ false → HoldsPending (before ++ g ∷ []) table
+  pub is_increasing_no_more : (old : InOrder) (table : Table) → ArePlaced greatest leaves before (held.InOrder old) → (ltb old.last lhs && is_above_operands g) ≡ false → HoldsPending (before ++ g ∷ []) table
       → ArePlaced greatest leaves (before ++ g ∷ []) (held.Shuffled table)
-  rises_no_more old table h other nodes = record { nodes = nodes; form = well_founded_order greatest leaves (before ++ g ∷ []) (order_with old h.form ∙ other) }
+  is_increasing_no_more old table h other nodes = record { nodes = nodes; form = well_founded_order greatest leaves (before ++ g ∷ []) (order_with old h.form ∙ other) }
 
   -- nor do they in a compact file where one passes over a variable that isn't defined
   pub passes_over : (variables : DefinedVariables) (v : ℕ) (table : Table) → AreDefined greatest variables ((leaves ++ literals_of before) ++ lhs ∷ []) → 1 ≤ v → v < lhs / 2 → is_marked variables v ≡ false

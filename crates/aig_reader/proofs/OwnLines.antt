@@ -19,13 +19,13 @@ module _ {X Y : Type 0} (kind : FileKind) (end : ℕ) (literals : List ℕ) (res
 
   module _ (b m : Option (List ℕ)) (e : ℕ) (own : Takes (parse_own kind end literals) b m e) where
     -- what should stand after it isn't there
-    pub misses_behind : Misses (rest e) m → Misses line b
-    misses_behind h = misses_tested (parse_map make both) test b (misses_mapped make both b (misses_both (parse_own kind end literals) rest b m e own h))
+    pub misses_following : Misses (rest e) m → Misses line b
+    misses_following h = misses_tested (parse_map make both) test b (misses_mapped make both b (misses_both (parse_own kind end literals) rest b m e own h))
 
-    module _ (a : Option (List ℕ)) (x : X) (behind : Takes (rest e) m a x) where
+    module _ (a : Option (List ℕ)) (x : X) (following : Takes (rest e) m a x) where
       -- the test fails
       pub misses_line : test (make (e, x)) ≡ false → Misses line b
-      misses_line h = misses_test (parse_map make both) test b a (make (e, x)) (takes_mapped make both b a (e, x) (takes_both (parse_own kind end literals) rest b m a e x own behind)) h
+      misses_line h = misses_test (parse_map make both) test b a (make (e, x)) (takes_mapped make both b a (e, x) (takes_both (parse_own kind end literals) rest b m a e x own following)) h
 
       pub takes_line : test (make (e, x)) ≡ true → Takes line b a (make (e, x))
-      takes_line h = takes_tested (parse_map make both) test b a (make (e, x)) (takes_mapped make both b a (e, x) (takes_both (parse_own kind end literals) rest b m a e x own behind)) h
+      takes_line h = takes_tested (parse_map make both) test b a (make (e, x)) (takes_mapped make both b a (e, x) (takes_both (parse_own kind end literals) rest b m a e x own following)) h

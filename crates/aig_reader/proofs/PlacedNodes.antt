@@ -53,11 +53,11 @@ module _ (gates : List GateLine) (g : GateLine) where
       rw (same_kind v ne, same_before n (v + 1) (omega arith)) refl
 
   -- nodes after it stay
-  same_behind : (n v : ℕ) → g.lhs / 2 < v → nodes_in_row (gates ++ g ∷ []) n v ≡ nodes_in_row gates n v
-  same_behind zero v lt = refl
-  same_behind (suc n) v lt =
+  same_following : (n v : ℕ) → g.lhs / 2 < v → nodes_in_row (gates ++ g ∷ []) n v ≡ nodes_in_row gates n v
+  same_following zero v lt = refl
+  same_following (suc n) v lt =
       let ne : g.lhs / 2 ≢ v = omega arith in
-      rw (same_kind v ne, same_behind n (v + 1) (omega arith)) refl
+      rw (same_kind v ne, same_following n (v + 1) (omega arith)) refl
 
   -- from a number on, the new gate takes its place
   sets_gate : (n v k : ℕ) → k < n → v + k ≡ g.lhs / 2 → kind_among (gates ++ g ∷ []) (g.lhs / 2) ≡ and_of (edge_from g.rhs0) (edge_from g.rhs1)
@@ -65,7 +65,7 @@ module _ (gates : List GateLine) (g : GateLine) where
   sets_gate zero v k lt at is = absurd (omega arith)
   sets_gate (suc n) v zero lt at is =
       let here : v ≡ g.lhs / 2 = omega arith in
-      rw (here, is, same_behind n (g.lhs / 2 + 1) (omega arith)) refl
+      rw (here, is, same_following n (g.lhs / 2 + 1) (omega arith)) refl
   sets_gate (suc n) v (suc k) lt at is =
       let ne : g.lhs / 2 ≢ v = omega arith in
       rw (same_kind v ne, sets_gate n (v + 1) k (omega arith) (omega arith) is) refl
@@ -111,8 +111,8 @@ module _ (gates : List GateLine) (nodes : List AigNode) (g : GateLine) (h : AreF
       let positive : g.lhs / 2 ≢ 0 = omega arith in
       rw (ne_eqb (g.lhs / 2) 0 positive, found) refl
 
-  pub first_gate_behind : g.lhs / 2 ≡ length nodes → AreFirstNodes (gates ++ g ∷ []) (nodes ++ gate_node_of g ∷ [])
-  first_gate_behind at =
+  pub first_gate_following : g.lhs / 2 ≡ length nodes → AreFirstNodes (gates ++ g ∷ []) (nodes ++ gate_node_of g ∷ [])
+  first_gate_following at =
       let all = nodes ++ gate_node_of g ∷ [] in
       let size : length all ≡ length nodes + 1 = length-append nodes (gate_node_of g ∷ []) in
       let node : gate_node_of g ≡ node_from (gates ++ g ∷ []) (length nodes) = rw (← at, kind_here) refl in

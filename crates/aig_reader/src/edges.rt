@@ -30,7 +30,7 @@ fn edge_line<F: ByteFeed>(f: &mut F, greatest: u32) -> Result<AigEdge, LineError
     ensures exact { Makes LineUnlessTransient (λ edge literal. edge ≡ edge_from literal)
         (F.coming f.old) (F.coming f.new) result (parse_if (parse_ended 10) (is_literal greatest)) }
     ensures stream { IsErrOf result LineError.Stream → F.failed f.new ≡ true }
-    ensures same { F.behind f.new ≡ F.behind f.old }
+    ensures same { F.source_name f.new ≡ F.source_name f.old }
 {
     let literal = ended(f, b'\n')?;
     edge_within(greatest, literal)
@@ -47,7 +47,7 @@ pub fn read_edges<F: ByteFeed>(
         (λ edges literals. edges.items ≡ map edge_from literals)
         (F.coming f.old) (F.coming f.new) result (parse_literals greatest count) }
     ensures stream { IsErrOf result LineError.Stream → F.failed f.new ≡ true }
-    ensures same { F.behind f.new ≡ F.behind f.old }
+    ensures same { F.source_name f.new ≡ F.source_name f.old }
 {
     let mut edges = Vec::new(alloc);
     for _ in 0..count {

@@ -24,7 +24,7 @@ fn differences<F: ByteFeed>(f: &mut F, lhs: u32) -> Result<(u32, u32), LexError>
     ensures exact { Gives LexUnlessTransient (λ x. (x.0, x.1))
         (F.coming f.old) (F.coming f.new) result (parse_operands Binary lhs) }
     ensures stream { IsErrOf result LexError.Stream → F.failed f.new ≡ true }
-    ensures same { F.behind f.new ≡ F.behind f.old }
+    ensures same { F.source_name f.new ≡ F.source_name f.old }
 {
     let first = delta(f)?;
     let second = delta(f)?;
@@ -43,7 +43,7 @@ fn operands<F: ByteFeed>(
     ensures exact { Gives LexUnlessTransient (λ x. (x.0, x.1))
         (F.coming f.old) (F.coming f.new) result (parse_operands (file_kind variables.now) lhs) }
     ensures stream { IsErrOf result LexError.Stream → F.failed f.new ≡ true }
-    ensures same { F.behind f.new ≡ F.behind f.old }
+    ensures same { F.source_name f.new ≡ F.source_name f.old }
 {
     match variables {
         DefinedVariables::Text(_) => pair(f),
@@ -88,7 +88,7 @@ fn gate_line<F: ByteFeed>(
         (λ _. (size k : ℕ) → HasRoom size variables.old (k + 1) → HasRoom size variables.new k) }
     ensures kind { file_kind variables.new ≡ file_kind variables.old }
     ensures stream { IsErrOf result LineError.Stream → F.failed f.new ≡ true }
-    ensures same { F.behind f.new ≡ F.behind f.old }
+    ensures same { F.source_name f.new ≡ F.source_name f.old }
 {
     let lhs = variables.own_literal(f, b' ')?;
     let (rhs0, rhs1) = operands(f, variables, lhs)?;
@@ -120,7 +120,7 @@ pub fn read_gates<F: ByteFeed>(
     ensures space { IfOk result (HasSpace (header.greatest + 1)) }
     ensures kind { file_kind variables.new ≡ file_kind variables.old }
     ensures stream { IsErrOf result LineError.Stream → F.failed f.new ≡ true }
-    ensures same { F.behind f.new ≡ F.behind f.old }
+    ensures same { F.source_name f.new ≡ F.source_name f.old }
 {
     let mut gates = GateStore::new(alloc)?;
     for _ in 0..header.gates {

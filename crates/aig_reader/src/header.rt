@@ -36,7 +36,7 @@ pub fn read_header<F: ByteFeed>(f: &mut F, limit: usize) -> Result<Header, ReadE
     ensures enough { IfOk result (λ h. h.inputs + h.latches + h.gates ≤ h.greatest) }
     ensures stream { IsErrOf result ReadError.Stream → F.failed f.new ≡ true }
     ensures never_open { IsErrOf result ReadError.Open → ⊥ }
-    ensures same { F.behind f.new ≡ F.behind f.old }
+    ensures same { F.source_name f.new ≡ F.source_name f.old }
 {
     let header = header_line(f).map_err(in_header)?;
     if !has_enough(header) {

@@ -26,7 +26,7 @@ fn input_line<F: ByteFeed>(f: &mut F, variables: &mut DefinedVariables) -> Resul
         (λ _. (size k : ℕ) → HasRoom size variables.old (k + 1) → HasRoom size variables.new k) }
     ensures kind { file_kind variables.new ≡ file_kind variables.old }
     ensures stream { IsErrOf result LineError.Stream → F.failed f.new ≡ true }
-    ensures same { F.behind f.new ≡ F.behind f.old }
+    ensures same { F.source_name f.new ≡ F.source_name f.old }
 {
     let literal = variables.own_literal(f, b'\n')?;
     variables.define(literal)
@@ -52,7 +52,7 @@ pub fn read_inputs<F: ByteFeed>(
         → HasRoom size variables.new k) }
     ensures kind { file_kind variables.new ≡ file_kind variables.old }
     ensures stream { IsErrOf result LineError.Stream → F.failed f.new ≡ true }
-    ensures same { F.behind f.new ≡ F.behind f.old }
+    ensures same { F.source_name f.new ≡ F.source_name f.old }
 {
     let unread = match header.kind {
         FileKind::Text => 0,

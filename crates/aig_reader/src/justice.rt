@@ -18,7 +18,7 @@ pub fn read_sizes<F: ByteFeed>(alloc: Global, f: &mut F, count: u32) -> Result<V
     ensures exact { Makes LineUnlessTransient (λ sizes numbers. sizes.items ≡ numbers)
         (F.coming f.old) (F.coming f.new) result (parse_numbers count) }
     ensures stream { IsErrOf result LineError.Stream → F.failed f.new ≡ true }
-    ensures same { F.behind f.new ≡ F.behind f.old }
+    ensures same { F.source_name f.new ≡ F.source_name f.old }
 {
     let mut sizes = Vec::new(alloc);
     for _ in 0..count {
@@ -39,7 +39,7 @@ pub fn read_sets<F: ByteFeed>(
         (λ sets literals. map (λ set. set.items) sets.items ≡ map (map edge_from) literals)
         (F.coming f.old) (F.coming f.new) result (parse_literal_sets greatest sizes.now) }
     ensures stream { IsErrOf result LineError.Stream → F.failed f.new ≡ true }
-    ensures same { F.behind f.new ≡ F.behind f.old }
+    ensures same { F.source_name f.new ≡ F.source_name f.old }
 {
     let mut sets = Vec::new(alloc);
     for size in sizes {

@@ -53,7 +53,7 @@ fn latch_line<F: ByteFeed>(
         (λ _. (size k : ℕ) → HasRoom size variables.old (k + 1) → HasRoom size variables.new k) }
     ensures kind { file_kind variables.new ≡ file_kind variables.old }
     ensures stream { IsErrOf result LineError.Stream → F.failed f.new ≡ true }
-    ensures same { F.behind f.new ≡ F.behind f.old }
+    ensures same { F.source_name f.new ≡ F.source_name f.old }
 {
     let literal = variables.own_literal(f, b' ')?;
     let (next, reset) = next_line(f)?;
@@ -83,7 +83,7 @@ pub fn read_latches<F: ByteFeed>(
         → HasRoom size variables.new k) }
     ensures kind { file_kind variables.new ≡ file_kind variables.old }
     ensures stream { IsErrOf result LineError.Stream → F.failed f.new ≡ true }
-    ensures same { F.behind f.new ≡ F.behind f.old }
+    ensures same { F.source_name f.new ≡ F.source_name f.old }
 {
     let mut latchs = Vec::new(alloc);
     for _ in 0..header.latches {

@@ -52,7 +52,7 @@ pub fn read_lines<F: ByteFeed>(alloc: Global, f: &mut F, header: Header) -> Resu
         (parse_section_lines header.kind (numbers_of header)) }
     ensures fault { IfErr result IsSectionFault }
     ensures stream { IsErrOf result ReadError.Stream → F.failed f.new ≡ true }
-    ensures same { F.behind f.new ≡ F.behind f.old }
+    ensures same { F.source_name f.new ≡ F.source_name f.old }
 {
     let mut variables = DefinedVariables::new(alloc, header.kind, header.greatest);
     let inputs = read_inputs(alloc, f, header, &mut variables);

@@ -39,7 +39,7 @@ pub fn read_properties<F: ByteFeed>(
         (F.coming f.old) (F.coming f.new) result (parse_fitting_properties (numbers_of header)) }
     ensures fault { IfErr result IsSectionFault }
     ensures stream { IsErrOf result ReadError.Stream → F.failed f.new ≡ true }
-    ensures same { F.behind f.new ≡ F.behind f.old }
+    ensures same { F.source_name f.new ≡ F.source_name f.old }
 {
     let greatest = header.greatest;
     let outputs = read_edges(alloc, f, header.outputs, greatest);

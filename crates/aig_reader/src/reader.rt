@@ -56,7 +56,7 @@ fn read_file<F: ByteFeed>(alloc: Global, f: &mut F, limit: usize) -> Result<Circ
     ensures whole { OnOk result ((F.failed f.new ≡ false) × IsAtEnd (F.coming f.new)) }
     ensures stream { IsErrOf result ReadError.Stream → IsTrue (F.failed f.new) }
     ensures never_open { IsErrOf result ReadError.Open → ⊥ }
-    ensures same { F.behind f.new ≡ F.behind f.old }
+    ensures same { F.source_name f.new ≡ F.source_name f.old }
 {
     let header = read_header(f, limit)?;
     let sections = read_sections(alloc, f, header)?;
@@ -83,7 +83,7 @@ fn read_sections<F: ByteFeed>(
     ensures latchs { IfOk result (λ sections. vec_len sections.lists.latchs ≡ header.latches) }
     ensures fault { IfErr result IsSectionFault }
     ensures stream { IsErrOf result ReadError.Stream → F.failed f.new ≡ true }
-    ensures same { F.behind f.new ≡ F.behind f.old }
+    ensures same { F.source_name f.new ≡ F.source_name f.old }
 {
     let lines = read_lines(alloc, f, header)?;
     lines.numbered(alloc)

@@ -114,7 +114,7 @@ impl DefinedVariables {
             (F.coming f.old) (F.coming f.new) result (parse_own (file_kind self.now) end before) }
         ensures next { IfOk result (λ e. IsNext self.now e) }
         ensures stream { IsErrOf result LexError.Stream → F.failed f.new ≡ true }
-        ensures same { F.behind f.new ≡ F.behind f.old }
+        ensures same { F.source_name f.new ≡ F.source_name f.old }
     {
         match self {
             DefinedVariables::Text(_) => ended(f, end),

@@ -9,41 +9,41 @@ use Rattle.aig_reduction.specs.Reduction.{IsReduced, asked_alone}
 
 -- what follows the first is above it
 above : (m : ℕ) (ms : List ℕ) (n k : ℕ) → AllPairs (λ i j. i < j) (m ∷ ms) → k < length ms → get_or ms k n ≡ n → m < n
-above m ms n k rises low is = omega (arith, rises 0 (suc k) n (omega arith) (omega arith), is)
+above m ms n k is_increasing low is = omega (arith, is_increasing 0 (suc k) n (omega arith) (omega arith), is)
 
 after : (m : ℕ) (ms : List ℕ) → AllPairs (λ i j. i < j) (m ∷ ms) → AllPairs (λ i j. i < j) ms
-after m ms rises i j d h l = rises (suc i) (suc j) d (omega arith) (omega arith)
+after m ms is_increasing i j d h l = is_increasing (suc i) (suc j) d (omega arith) (omega arith)
 
 -- where all that one list has the other has, the first of the one isn't below the first of the other
 no_lower : (m n : ℕ) (ms ns : List ℕ) → AllPairs (λ i j. i < j) (n ∷ ns) → Contains (n ∷ ns) m → m < n → ⊥
-no_lower m n ms ns rises (zero, low, is) less = omega (arith, is, less)
-no_lower m n ms ns rises (suc k, low, is) less = omega (arith, above n ns m k rises (omega arith) is, less)
+no_lower m n ms ns is_increasing (zero, low, is) less = omega (arith, is, less)
+no_lower m n ms ns is_increasing (suc k, low, is) less = omega (arith, above n ns m k is_increasing (omega arith) is, less)
 
 -- and what follows the first is after the same first
-behind : (m : ℕ) (ms ns : List ℕ) → AllPairs (λ i j. i < j) (m ∷ ms) → ((x : ℕ) → Contains (m ∷ ms) x → Contains (m ∷ ns) x) → (x : ℕ) → Contains ms x → Contains ns x
-behind m ms ns rises all x (k, low, is) = rest (all x (suc k, omega arith, is))
+following : (m : ℕ) (ms ns : List ℕ) → AllPairs (λ i j. i < j) (m ∷ ms) → ((x : ℕ) → Contains (m ∷ ms) x → Contains (m ∷ ns) x) → (x : ℕ) → Contains ms x → Contains ns x
+following m ms ns is_increasing all x (k, low, is) = rest (all x (suc k, omega arith, is))
   where
     rest : Contains (m ∷ ns) x → Contains ns x
-    rest (zero, l, e) = absurd (let high = above m ms x k rises low is in omega (arith, high, e))
+    rest (zero, l, e) = absurd (let high = above m ms x k is_increasing low is in omega (arith, high, e))
     rest (suc j, l, e) = (j, omega arith, e)
 
 -- rising lists of the same numbers are equal
 rising_alone : (ms ns : List ℕ) → AllPairs (λ i j. i < j) ms → AllPairs (λ i j. i < j) ns → ((x : ℕ) → Contains ms x → Contains ns x) → ((x : ℕ) → Contains ns x → Contains ms x) → ms ≡ ns
-rising_alone [] [] rises also to from = refl
-rising_alone [] (n ∷ ns) rises also to from = absurd (let has = from n (0, omega arith, refl) in omega (arith, has.1))
-rising_alone (m ∷ ms) [] rises also to from = absurd (let has = to m (0, omega arith, refl) in omega (arith, has.1))
-rising_alone (m ∷ ms) (n ∷ ns) rises also to from =
+rising_alone [] [] is_increasing also to from = refl
+rising_alone [] (n ∷ ns) is_increasing also to from = absurd (let has = from n (0, omega arith, refl) in omega (arith, has.1))
+rising_alone (m ∷ ms) [] is_increasing also to from = absurd (let has = to m (0, omega arith, refl) in omega (arith, has.1))
+rising_alone (m ∷ ms) (n ∷ ns) is_increasing also to from =
     let here = to m (0, omega arith, refl) in
     let there = from n (0, omega arith, refl) in
     let same : m ≡ n = elim (cases_lt m n) [
       | inl less ↦ absurd (no_lower m n ms ns also here less)
       | inr high ↦ elim (cases_lt n m) [
-        | inl less ↦ absurd (no_lower n m ns ms rises there less)
+        | inl less ↦ absurd (no_lower n m ns ms is_increasing there less)
         | inr low ↦ omega arith
       ]
     ] in
-    let others = rising_alone ms ns (after m ms rises) (after n ns also) (behind m ms ns rises (λ x has. subst (λ i. Contains (i ∷ ns) x) (sym same) (to x has)))
-    (behind n ns ms also (λ x has. subst (λ i. Contains (i ∷ ms) x) same (from x has))) in
+    let others = rising_alone ms ns (after m ms is_increasing) (after n ns also) (following m ms ns is_increasing (λ x has. subst (λ i. Contains (i ∷ ns) x) (sym same) (to x has)))
+    (following n ns ms also (λ x has. subst (λ i. Contains (i ∷ ms) x) same (from x has))) in
     ap (λ i. i ∷ ms) same ∙ ap (λ is. n ∷ is) others
 
 pub reduced_alone : (c d e : Circuit) → IsReduced c d → IsReduced c e → d ≡ e

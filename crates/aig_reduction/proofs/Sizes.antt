@@ -4,7 +4,7 @@ use Rattle.std.proofs.lemmas.List.{length-map}
 use Rattle.std.proofs.lemmas.List.Filters.{length-filter_both}
 use Rattle.aig_circuit.specs.declared.node.AigNode.{AigNode}
 use Rattle.aig_circuit.specs.Circuit.{Circuit, IsCircuit}
-use Rattle.aig_circuit.specs.Renumber.{place_of, renumbered_edge, renumbered_latch}
+use Rattle.aig_circuit.specs.Renumber.{position_of, renumbered_edge, renumbered_latch}
 use Rattle.aig_renumber.proofs.Numbering.{length-nodes_in_order}
 use Rattle.aig_cone.specs.Refine.{AreKept, refined}
 use Rattle.aig_cone.proofs.Keeping.{kept-few}
@@ -20,10 +20,10 @@ strashed_few c =
 
 pub reduced_few : (c : Circuit) (kept : List ℕ) → IsCircuit (asked_alone c) → AreKept (asked_alone c) kept → length (strashed (refined kept (asked_alone c))).nodes ≤ length c.nodes
 reduced_few c kept is are =
-    omega (arith, strashed_few (refined kept (asked_alone c)), length-nodes_in_order c.nodes (place_of kept) 0 kept, kept-few (asked_alone c) kept is are)
+    omega (arith, strashed_few (refined kept (asked_alone c)), length-nodes_in_order c.nodes (position_of kept) 0 kept, kept-few (asked_alone c) kept is are)
 
 pub reduced_latchs : (c : Circuit) (kept : List ℕ) → length (strashed (refined kept (asked_alone c))).latchs ≡ length c.latchs
-reduced_latchs c kept = let d = refined kept (asked_alone c) in length-map d.latchs (renumbered_latch (image_of d.nodes)) ∙ length-map c.latchs (renumbered_latch (place_of kept))
+reduced_latchs c kept = let d = refined kept (asked_alone c) in length-map d.latchs (renumbered_latch (image_of d.nodes)) ∙ length-map c.latchs (renumbered_latch (position_of kept))
 
 pub reduced_bads : (c : Circuit) (kept : List ℕ) → length (strashed (refined kept (asked_alone c))).bads ≡ length c.bads
-reduced_bads c kept = let d = refined kept (asked_alone c) in length-map d.bads (renumbered_edge (image_of d.nodes)) ∙ length-map c.bads (renumbered_edge (place_of kept))
+reduced_bads c kept = let d = refined kept (asked_alone c) in length-map d.bads (renumbered_edge (image_of d.nodes)) ∙ length-map c.bads (renumbered_edge (position_of kept))

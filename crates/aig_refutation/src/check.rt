@@ -168,7 +168,7 @@ fn check_steps<F: ByteFeed>(
     requires { variables ≤ 2 ^ 31 }
     ensures refuted { OnOk result (¬ IsSatisfiable checker) }
     ensures stream { IsErrOf result RefutationError.Stream → F.failed f.new ≡ true }
-    ensures same { F.behind f.new ≡ F.behind f.old }
+    ensures same { F.source_name f.new ≡ F.source_name f.old }
 {
     let mut step = Step::new(alloc);
     let mut search = None;

@@ -36,7 +36,7 @@ pub(crate) struct Step {
 /// The next byte of a line.
 fn next_byte<F: ByteFeed>(f: &mut F) -> Result<u8, RefutationError>
     ensures stream { IsErrOf result RefutationError.Stream → F.failed f.new ≡ true }
-    ensures same { F.behind f.new ≡ F.behind f.old }
+    ensures same { F.source_name f.new ≡ F.source_name f.old }
     ensures fewer { OnOk result (F.turns f.new < F.turns f.old) }
 {
     match f.next()? {
@@ -49,7 +49,7 @@ fn next_byte<F: ByteFeed>(f: &mut F) -> Result<u8, RefutationError>
 /// byte after them.
 fn read_digits<F: ByteFeed>(f: &mut F, first: u8) -> Result<(u32, u8), RefutationError>
     ensures stream { IsErrOf result RefutationError.Stream → F.failed f.new ≡ true }
-    ensures same { F.behind f.new ≡ F.behind f.old }
+    ensures same { F.source_name f.new ≡ F.source_name f.old }
     ensures fewer { OnOk result (F.turns f.new ≤ F.turns f.old) }
 {
     if !first.is_ascii_digit() {
@@ -70,7 +70,7 @@ fn read_digits<F: ByteFeed>(f: &mut F, first: u8) -> Result<(u32, u8), Refutatio
 /// The number that begins with this byte, and that a space or a line feed ends.
 fn read_word<F: ByteFeed>(f: &mut F, first: u8) -> Result<Word, RefutationError>
     ensures stream { IsErrOf result RefutationError.Stream → F.failed f.new ≡ true }
-    ensures same { F.behind f.new ≡ F.behind f.old }
+    ensures same { F.source_name f.new ≡ F.source_name f.old }
     ensures fewer { OnOk result (F.turns f.new ≤ F.turns f.old) }
 {
     let positive = first != b'-';
@@ -89,7 +89,7 @@ fn read_word<F: ByteFeed>(f: &mut F, first: u8) -> Result<Word, RefutationError>
 /// The next number of a line.
 fn next_word<F: ByteFeed>(f: &mut F) -> Result<Word, RefutationError>
     ensures stream { IsErrOf result RefutationError.Stream → F.failed f.new ≡ true }
-    ensures same { F.behind f.new ≡ F.behind f.old }
+    ensures same { F.source_name f.new ≡ F.source_name f.old }
     ensures fewer { OnOk result (F.turns f.new < F.turns f.old) }
 {
     let first = next_byte(f)?;
@@ -99,7 +99,7 @@ fn next_word<F: ByteFeed>(f: &mut F) -> Result<Word, RefutationError>
 /// The space after a `d`.
 fn expect_space<F: ByteFeed>(f: &mut F) -> Result<(), RefutationError>
     ensures stream { IsErrOf result RefutationError.Stream → F.failed f.new ≡ true }
-    ensures same { F.behind f.new ≡ F.behind f.old }
+    ensures same { F.source_name f.new ≡ F.source_name f.old }
     ensures fewer { OnOk result (F.turns f.new ≤ F.turns f.old) }
 {
     match next_byte(f)? {
@@ -146,7 +146,7 @@ fn read_clause<F: ByteFeed>(
 ) -> Result<bool, RefutationError>
     requires { variables ≤ 2 ^ 31 }
     ensures stream { IsErrOf result RefutationError.Stream → F.failed f.new ≡ true }
-    ensures same { F.behind f.new ≡ F.behind f.old }
+    ensures same { F.source_name f.new ≡ F.source_name f.old }
     ensures fewer { OnOk result (F.turns f.new ≤ F.turns f.old) }
 {
     let mut word = first;
@@ -166,7 +166,7 @@ fn read_numbers<F: ByteFeed>(
 ) -> Result<(), RefutationError>
     requires { negative ≡ RefutationError.Stream → ⊥ }
     ensures stream { IsErrOf result RefutationError.Stream → F.failed f.new ≡ true }
-    ensures same { F.behind f.new ≡ F.behind f.old }
+    ensures same { F.source_name f.new ≡ F.source_name f.old }
     ensures fewer { OnOk result (F.turns f.new ≤ F.turns f.old) }
 {
     loop {
@@ -205,7 +205,7 @@ impl Step {
     ) -> Result<bool, RefutationError>
         requires { variables ≤ 2 ^ 31 }
         ensures stream { IsErrOf result RefutationError.Stream → F.failed f.new ≡ true }
-        ensures same { F.behind f.new ≡ F.behind f.old }
+        ensures same { F.source_name f.new ≡ F.source_name f.old }
         ensures fewer { IfOk result (λ there. IsTrue there → F.turns f.new < F.turns f.old) }
     {
         self.clause.clear();
@@ -229,7 +229,7 @@ impl Step {
     ) -> Result<(), RefutationError>
         requires { variables ≤ 2 ^ 31 }
         ensures stream { IsErrOf result RefutationError.Stream → F.failed f.new ≡ true }
-        ensures same { F.behind f.new ≡ F.behind f.old }
+        ensures same { F.source_name f.new ≡ F.source_name f.old }
         ensures fewer { OnOk result (F.turns f.new ≤ F.turns f.old) }
     {
         self.is_numbered = false;
@@ -251,7 +251,7 @@ impl Step {
     ) -> Result<(), RefutationError>
         requires { variables ≤ 2 ^ 31 }
         ensures stream { IsErrOf result RefutationError.Stream → F.failed f.new ≡ true }
-        ensures same { F.behind f.new ≡ F.behind f.old }
+        ensures same { F.source_name f.new ≡ F.source_name f.old }
         ensures fewer { OnOk result (F.turns f.new ≤ F.turns f.old) }
     {
         self.deletes = false;
@@ -275,7 +275,7 @@ impl Step {
     /// Reads a line of an LRAT file after its number and `d`.
     fn read_deleted<F: ByteFeed>(&mut self, f: &mut F, number: Word) -> Result<(), RefutationError>
         ensures stream { IsErrOf result RefutationError.Stream → F.failed f.new ≡ true }
-        ensures same { F.behind f.new ≡ F.behind f.old }
+        ensures same { F.source_name f.new ≡ F.source_name f.old }
         ensures fewer { OnOk result (F.turns f.new ≤ F.turns f.old) }
     {
         self.is_numbered = true;
@@ -296,7 +296,7 @@ impl Step {
     ) -> Result<(), RefutationError>
         requires { variables ≤ 2 ^ 31 }
         ensures stream { IsErrOf result RefutationError.Stream → F.failed f.new ≡ true }
-        ensures same { F.behind f.new ≡ F.behind f.old }
+        ensures same { F.source_name f.new ≡ F.source_name f.old }
         ensures fewer { OnOk result (F.turns f.new ≤ F.turns f.old) }
     {
         if read_clause(f, second, variables, &mut self.clause)? {

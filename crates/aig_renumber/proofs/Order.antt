@@ -19,7 +19,7 @@ use Rattle.aig_circuit.specs.Circuit.{Circuit, IsCircuit, IsClosed, IsLeaf, latc
 use Rattle.aig_circuit.specs.Reencode.{gate_number, new_number, order_of}
 use Rattle.aig_circuit.proofs.Trees.{kind_at-there, kind_at-within}
 use Rattle.aig_circuit.proofs.Circuits.{AllPairs-append, AreLeaves-of_circuit}
-use Rattle.aig_renumber.proofs.Places.{AllPairs-weaker, place_of-within, get_or-place_of, place_of-get_or}
+use Rattle.aig_renumber.proofs.Places.{AllPairs-weaker, position_of-within, get_or-position_of, position_of-get_or}
 use Rattle.aig_renumber.proofs.Numbering.{Numbers}
 
 -- node n is a gate
@@ -167,20 +167,20 @@ module _ (c : Circuit) (is : IsCircuit c) where
 
     -- false is first alone
     pub order-false : (i : ℕ) → i < length (order_of c) → get_or (order_of c) i 0 ≡ 0 → i ≡ 0
-    order-false i h at = sym (place_of-get_or (order_of c) i order-distinct h) ∙ ap (new_number c) at
+    order-false i h at = sym (position_of-get_or (order_of c) i order-distinct h) ∙ ap (new_number c) at
 
     -- an operand comes before its gate
     operand_before : (m n : ℕ) → m < n → n < length c.nodes → IsGate c.nodes n → new_number c m < new_number c n
     operand_before m n h l gate =
         let first = order-Contains m (omega arith) in
         let second = order-Contains n l in
-        let at_m = get_or-place_of (order_of c) m first in
-        let at_n = get_or-place_of (order_of c) n second in
+        let at_m = get_or-position_of (order_of c) m first in
+        let at_n = get_or-position_of (order_of c) n second in
         elim (cases_lt (new_number c m) (new_number c n)) [
           | inl before ↦ before
           | inr not_before ↦ elim (cases_lt (new_number c n) (new_number c m)) [
             | inl after ↦ (
-                let pair = order-rising (new_number c n) (new_number c m) 0 after (place_of-within (order_of c) m first) (subst (IsGate c.nodes) (sym at_n) gate) in
+                let pair = order-rising (new_number c n) (new_number c m) 0 after (position_of-within (order_of c) m first) (subst (IsGate c.nodes) (sym at_n) gate) in
                 absurd (omega (arith, at_m, at_n, pair)))
             | inr not_after ↦ (
                 let same : new_number c m ≡ new_number c n = omega arith in
@@ -192,10 +192,10 @@ module _ (c : Circuit) (is : IsCircuit c) where
     -- the new numbers are a numbering of all nodes
     pub Numbers-order : Numbers c.nodes (λ n. n < length c.nodes) (order_of c) (new_number c)
     Numbers-order = record {
-      within = λ n h. place_of-within (order_of c) n (order-Contains n h);
-      back = λ n h. get_or-place_of (order_of c) n (order-Contains n h);
+      within = λ n h. position_of-within (order_of c) n (order-Contains n h);
+      back = λ n h. get_or-position_of (order_of c) n (order-Contains n h);
       in_S = λ i h. order-there i 0 h;
-      place = λ i h. place_of-get_or (order_of c) i order-distinct h;
+      place = λ i h. position_of-get_or (order_of c) i order-distinct h;
       false_in_S = kind_at-within c.nodes 0 False is.nodes.false_first;
       false_first = refl;
       there = λ n h. h;

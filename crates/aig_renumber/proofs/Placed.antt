@@ -61,8 +61,8 @@ module _ (c : Circuit) (is : IsCircuit c) (closed : IsClosed c) where
     front_low zero d h = omega arith
     front_low (suc k) d h = omega (arith, leaf_at k d (omega arith))
 
-    front_rises : AllPairs (λ m n. m < n) (0 ∷ leaves)
-    front_rises = AllPairs-cons (λ m n. m < n) 0 leaves (λ k d h. omega (arith, leaf_at k d h)) (λ i j d h l.
+    front_is_increasing : AllPairs (λ m n. m < n) (0 ∷ leaves)
+    front_is_increasing = AllPairs-cons (λ m n. m < n) 0 leaves (λ k d h. omega (arith, leaf_at k d h)) (λ i j d h l.
         let low : i < length leaves = omega arith in
         omega (arith, leaf_at i d low, leaf_at j d l))
 
@@ -80,8 +80,8 @@ module _ (c : Circuit) (is : IsCircuit c) (closed : IsClosed c) where
             let at : get_or leaves n 0 ≡ suc n = leaf_at n 0 l ∙ add-one n in
             no_gates c is (suc n) 0 (omega arith) (subst (IsGate c.nodes) (sym at) gate)
 
-    order-rises : AllPairs (λ m n. m < n) (order_of c)
-    order-rises = AllPairs-append (λ m n. m < n) (0 ∷ leaves) gates front_rises (rising_gates c is)
+    order-is_increasing : AllPairs (λ m n. m < n) (order_of c)
+    order-is_increasing = AllPairs-append (λ m n. m < n) (0 ∷ leaves) gates front_is_increasing (rising_gates c is)
         (λ k d h i e l. omega (arith, front_low k d h, gate_past (get_or gates i e) (are_gates c is i e l)))
 
     -- every node has its own number again
@@ -89,7 +89,7 @@ module _ (c : Circuit) (is : IsCircuit c) (closed : IsClosed c) where
     number-placed = by_smaller (λ n. n < length c.nodes → new_number c n ≡ n) (λ n smaller h.
         let numbers = Numbers-order c is closed in
         let at = numbers.back n h in
-        let low : new_number c n ≤ n = omega (arith, rising_from 0 (order_of c) order-rises (λ k d l. omega arith) (new_number c n) (numbers.within n h)) in
+        let low : new_number c n ≤ n = omega (arith, rising_from 0 (order_of c) order-is_increasing (λ k d l. omega arith) (new_number c n) (numbers.within n h)) in
         elim (cases_lt (new_number c n) n) [
           | inl less ↦ (
               let same = smaller (new_number c n) less (omega arith) in

@@ -5,55 +5,55 @@ use Rattle.std.specs.List.{AllZip}
 use Rattle.std.proofs.lemmas.Bool.{cases_lt, eqb-true, eqb-false, eq-eqb, ne_eqb}
 use Rattle.std.proofs.lemmas.List.{get_or-map, length-map}
 use Rattle.std.proofs.lemmas.List.Elements.{All-contains, All-filter, Contains-get_or, filter_passes}
-use Rattle.aig_circuit.specs.Renumber.{place_of}
+use Rattle.aig_circuit.specs.Renumber.{position_of}
 
 -- ---- the place of an entry
 
 -- the place of an entry is one where it stands
-place_of-there : (ns : List ℕ) (n k : ℕ) → k < length ns → get_or ns k n ≡ n → (place_of ns n < length ns) × (get_or ns (place_of ns n) 0 ≡ n)
-place_of-there [] n k h e = absurd (omega arith)
-place_of-there (m ∷ ms) n k h e = by_test (eqb m n) refl (λ k h e. place_of-there ms n k h e)
+position_of-there : (ns : List ℕ) (n k : ℕ) → k < length ns → get_or ns k n ≡ n → (position_of ns n < length ns) × (get_or ns (position_of ns n) 0 ≡ n)
+position_of-there [] n k h e = absurd (omega arith)
+position_of-there (m ∷ ms) n k h e = by_test (eqb m n) refl (λ k h e. position_of-there ms n k h e)
   where
     Found : ℕ → Type 0
     Found place = (place < suc (length ms)) × (get_or (m ∷ ms) place 0 ≡ n)
 
     Rest : Type 0
-    Rest = (k : ℕ) → k < length ms → get_or ms k n ≡ n → (place_of ms n < length ms) × (get_or ms (place_of ms n) 0 ≡ n)
+    Rest = (k : ℕ) → k < length ms → get_or ms k n ≡ n → (position_of ms n < length ms) × (get_or ms (position_of ms n) 0 ≡ n)
 
-    further : (k : ℕ) → k < suc (length ms) → get_or (m ∷ ms) k n ≡ n → eqb m n ≡ false → Rest → Found (place_of ms n + 1)
+    further : (k : ℕ) → k < suc (length ms) → get_or (m ∷ ms) k n ≡ n → eqb m n ≡ false → Rest → Found (position_of ms n + 1)
     further zero h e differs rest = absurd (eqb-false m n differs e)
     further (suc k) h e differs rest =
         let found = rest k (omega arith) e in
         rw add-one (omega (arith, found.0), found.1)
 
-    by_test : (b : Bool) → eqb m n ≡ b → Rest → Found (cond b 0 (place_of ms n + 1))
+    by_test : (b : Bool) → eqb m n ≡ b → Rest → Found (cond b 0 (position_of ms n + 1))
     by_test true same rest = (omega arith, eqb-true m n same)
     by_test false differs rest = further k h e differs rest
 
-pub place_of-within : (ns : List ℕ) (n : ℕ) → Contains ns n → place_of ns n < length ns
-place_of-within ns n has = (place_of-there ns n has.0 has.1 has.2).0
+pub position_of-within : (ns : List ℕ) (n : ℕ) → Contains ns n → position_of ns n < length ns
+position_of-within ns n has = (position_of-there ns n has.0 has.1 has.2).0
 
-pub get_or-place_of : (ns : List ℕ) (n : ℕ) → Contains ns n → get_or ns (place_of ns n) 0 ≡ n
-get_or-place_of ns n has = (place_of-there ns n has.0 has.1 has.2).1
+pub get_or-position_of : (ns : List ℕ) (n : ℕ) → Contains ns n → get_or ns (position_of ns n) 0 ≡ n
+get_or-position_of ns n has = (position_of-there ns n has.0 has.1 has.2).1
 
 -- of entries that differ, each has its one place
-pub place_of-get_or : (ns : List ℕ) (i : ℕ) → AllPairs (λ m n. m ≢ n) ns → i < length ns → place_of ns (get_or ns i 0) ≡ i
-place_of-get_or [] i differ h = absurd (omega arith)
-place_of-get_or (m ∷ ms) zero differ h = let same : eqb m m ≡ true = eq-eqb m m refl in rw same refl
-place_of-get_or (m ∷ ms) (suc i) differ h =
+pub position_of-get_or : (ns : List ℕ) (i : ℕ) → AllPairs (λ m n. m ≢ n) ns → i < length ns → position_of ns (get_or ns i 0) ≡ i
+position_of-get_or [] i differ h = absurd (omega arith)
+position_of-get_or (m ∷ ms) zero differ h = let same : eqb m m ≡ true = eq-eqb m m refl in rw same refl
+position_of-get_or (m ∷ ms) (suc i) differ h =
     let other : eqb m (get_or ms i 0) ≡ false = ne_eqb m (get_or ms i 0) (differ 0 (suc i) 0 (omega arith) h) in
-    let rest = place_of-get_or ms i (λ i j d h l. differ (suc i) (suc j) d (omega arith) (omega arith)) (omega arith) in
+    let rest = position_of-get_or ms i (λ i j d h l. differ (suc i) (suc j) d (omega arith) (omega arith)) (omega arith) in
     rw other (ap (λ n. n + 1) rest ∙ add-one i)
 
 -- ---- lists in rising order
 
 -- a rising list from v on has at place k at least v + k
 pub rising_from : (v : ℕ) (ns : List ℕ) → AllPairs (λ m n. m < n) ns → All (λ n. v ≤ n) ns → (k : ℕ) → k < length ns → v + k ≤ get_or ns k 0
-rising_from v [] rises above k h = absurd (omega arith)
-rising_from v (m ∷ ms) rises above zero h = omega (arith, above 0 0 h)
-rising_from v (m ∷ ms) rises above (suc k) h =
-    let rest = rising_from (suc v) ms (λ i j d h l. rises (suc i) (suc j) d (omega arith) (omega arith))
-    (λ k d h. omega (arith, above 0 d (omega arith), rises 0 (suc k) d (omega arith) (omega arith))) k (omega arith)
+rising_from v [] is_increasing above k h = absurd (omega arith)
+rising_from v (m ∷ ms) is_increasing above zero h = omega (arith, above 0 0 h)
+rising_from v (m ∷ ms) is_increasing above (suc k) h =
+    let rest = rising_from (suc v) ms (λ i j d h l. is_increasing (suc i) (suc j) d (omega arith) (omega arith))
+    (λ k d h. omega (arith, above 0 d (omega arith), is_increasing 0 (suc k) d (omega arith) (omega arith))) k (omega arith)
     in
     omega (arith, rest)
 
@@ -64,21 +64,21 @@ AllPairs-weaker R S xs w p i j d h l = w (get_or xs i d) (get_or xs j d) (p i j 
 
 -- ---- places in rising lists
 
-module _ (ns : List ℕ) (rises : AllPairs (λ m n. m < n) ns) where
+module _ (ns : List ℕ) (is_increasing : AllPairs (λ m n. m < n) ns) where
   pub rising-distinct : AllPairs (λ m n. m ≢ n) ns
-  rising-distinct = AllPairs-weaker (λ m n. m < n) (λ m n. m ≢ n) ns (λ m n lt same. absurd (omega arith)) rises
+  rising-distinct = AllPairs-weaker (λ m n. m < n) (λ m n. m ≢ n) ns (λ m n lt same. absurd (omega arith)) is_increasing
 
   -- each number has its one place
-  pub rising-place : (i : ℕ) → i < length ns → place_of ns (get_or ns i 0) ≡ i
-  rising-place i h = place_of-get_or ns i rising-distinct h
+  pub rising-place : (i : ℕ) → i < length ns → position_of ns (get_or ns i 0) ≡ i
+  rising-place i h = position_of-get_or ns i rising-distinct h
 
   -- places go as numbers do
-  pub places-rise : (m n : ℕ) → Contains ns m → Contains ns n → m < n → place_of ns m < place_of ns n
-  places-rise m n s t lt = elim (cases_lt (place_of ns m) (place_of ns n)) [
+  pub places-rise : (m n : ℕ) → Contains ns m → Contains ns n → m < n → position_of ns m < position_of ns n
+  places-rise m n s t lt = elim (cases_lt (position_of ns m) (position_of ns n)) [
     | inl low ↦ low
-    | inr high ↦ absurd (elim (cases_lt (place_of ns n) (place_of ns m)) [
-      | inl less ↦ let turned = rises (place_of ns n) (place_of ns m) 0 less (place_of-within ns m s) in omega (arith, get_or-place_of ns m s, get_or-place_of ns n t)
-      | inr more ↦ let same : place_of ns m ≡ place_of ns n = omega arith in omega (arith, get_or-place_of ns m s, get_or-place_of ns n t, ap (λ i. get_or ns i 0) same)
+    | inr high ↦ absurd (elim (cases_lt (position_of ns n) (position_of ns m)) [
+      | inl less ↦ let turned = is_increasing (position_of ns n) (position_of ns m) 0 less (position_of-within ns m s) in omega (arith, get_or-position_of ns m s, get_or-position_of ns n t)
+      | inr more ↦ let same : position_of ns m ≡ position_of ns n = omega arith in omega (arith, get_or-position_of ns m s, get_or-position_of ns n t, ap (λ i. get_or ns i 0) same)
     ])
   ]
 

@@ -179,7 +179,7 @@ fn simulate_all<R: Print>(
     )
 }
 
-/// Prints the values of an edge over the steps behind a first one, and the state then.
+/// Prints the values of an edge over the steps after a first one, and the state then.
 fn simulate_rest<R: Print>(
     rt: &R,
     script: &Script,

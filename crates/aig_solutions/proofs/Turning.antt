@@ -12,8 +12,8 @@ use Rattle.aig_circuit.specs.declared.node.AigNodeType.TheVariants.{Leaf}
 use Rattle.aig_circuit.specs.Runs.{is_leaf}
 use Rattle.aig_circuit.proofs.Counting.{is_leaf-Leaf}
 use Rattle.aig_circuit.proofs.Trees.{kind_at-within}
-use Rattle.aig_circuit.specs.Renumber.{is_in, place_of}
-use Rattle.aig_renumber.proofs.Places.{Contains-map_back, place_of-within}
+use Rattle.aig_circuit.specs.Renumber.{is_in, position_of}
+use Rattle.aig_renumber.proofs.Places.{Contains-map_back, position_of-within}
 use Rattle.aig_unroll.proofs.Others.{others-are}
 use Rattle.aig_unroll.specs.Places.{is_other_leaf, other_leaves, place_at}
 use Rattle.aig_solutions.specs.Turns.{CountsOthers, HasStep, HasTurns, MarksLatchLeaves}
@@ -21,14 +21,14 @@ use Rattle.aig_solutions.specs.Turns.{CountsOthers, HasStep, HasTurns, MarksLatc
 -- ---- turns
 
 -- the place of a number among those of the nodes that pass is how many pass before it
-place_of-passing : (test : AigNode → Bool) (nodes : List AigNode) (first k : ℕ) (d : AigNode) → ((i : ℕ) (e : AigNode) → i < length nodes → (get_or nodes i e).node_id ≡ first + i) → k < length nodes → test (get_or nodes k d) ≡ true
-    → place_of (map (λ (node : AigNode). node.node_id) (filter test nodes)) (first + k) ≡ length (filter test (take k nodes))
-place_of-passing test [] first k d numbered h passes = absurd (omega arith)
-place_of-passing test (x ∷ xs) first zero d numbered h passes =
+position_of-passing : (test : AigNode → Bool) (nodes : List AigNode) (first k : ℕ) (d : AigNode) → ((i : ℕ) (e : AigNode) → i < length nodes → (get_or nodes i e).node_id ≡ first + i) → k < length nodes → test (get_or nodes k d) ≡ true
+    → position_of (map (λ (node : AigNode). node.node_id) (filter test nodes)) (first + k) ≡ length (filter test (take k nodes))
+position_of-passing test [] first k d numbered h passes = absurd (omega arith)
+position_of-passing test (x ∷ xs) first zero d numbered h passes =
     let here : eqb x.node_id (first + zero) ≡ true = eq-eqb x.node_id (first + zero) (numbered zero x (omega arith)) in
     rw (passes, here) refl
-place_of-passing test (x ∷ xs) first (suc k) d numbered h passes =
-    by_test (test x) (place_of-passing test xs (suc first) k d (λ i e lt. let is = numbered (suc i) e (omega arith) in omega (arith, is)) (omega arith) passes)
+position_of-passing test (x ∷ xs) first (suc k) d numbered h passes =
+    by_test (test x) (position_of-passing test xs (suc first) k d (λ i e lt. let is = numbered (suc i) e (omega arith) in omega (arith, is)) (omega arith) passes)
   where
     number : AigNode → ℕ
     number node = node.node_id
@@ -39,13 +39,13 @@ place_of-passing test (x ∷ xs) first (suc k) d numbered h passes =
     next : first + suc k ≡ suc first + k
     next = omega arith
 
-    by_test : (b : Bool) → place_of rest (suc first + k) ≡ length (filter test (take k xs))
-        → place_of (map (λ (node : AigNode). node.node_id) (cond b (x ∷ filter test xs) (filter test xs))) (first + suc k) ≡ length (cond b (x ∷ filter test (take k xs)) (filter test (take k xs)))
+    by_test : (b : Bool) → position_of rest (suc first + k) ≡ length (filter test (take k xs))
+        → position_of (map (λ (node : AigNode). node.node_id) (cond b (x ∷ filter test xs) (filter test xs))) (first + suc k) ≡ length (cond b (x ∷ filter test (take k xs)) (filter test (take k xs)))
     by_test true so_far =
         let is = numbered zero x (omega arith) in
         let other : eqb x.node_id (first + suc k) ≡ false = ne_eqb x.node_id (first + suc k) (λ e. absurd (omega (arith, e, is))) in
-        rw other (ap (λ m. place_of rest m + 1) next ∙ ap (λ m. m + 1) so_far ∙ add-one _)
-    by_test false so_far = ap (place_of rest) next ∙ so_far
+        rw other (ap (λ m. position_of rest m + 1) next ∙ ap (λ m. m + 1) so_far ∙ add-one _)
+    by_test false so_far = ap (position_of rest) next ∙ so_far
 
 -- what is counted are turns
 pub turns_from : (c : Circuit) (turns : List ℕ) (total : ℕ) → AreNodes c.nodes → CountsOthers c turns → total ≡ count_by (is_other_leaf c) c.nodes → HasTurns c turns total
@@ -65,7 +65,7 @@ turns_from c turns total are counts all = record {
     numbered : (i : ℕ) (e : AigNode) → i < length c.nodes → (get_or c.nodes i e).node_id ≡ 0 + i
     numbered i e h = let is = are.numbered i (get_or c.nodes i e) (slice_get-get_or c.nodes i e h) in omega (arith, is)
 
-    turn : (n : ℕ) → Contains (other_leaves c) n → get_or turns n 0 ≡ place_of (other_leaves c) n
+    turn : (n : ℕ) → Contains (other_leaves c) n → get_or turns n 0 ≡ position_of (other_leaves c) n
     turn n has =
         let from = Contains-map_back (λ (node : AigNode). node.node_id) (filter test c.nodes) n has in
         let x = from.0 in
@@ -74,10 +74,10 @@ turns_from c turns total are counts all = record {
         let i = there.0 in
         let number : x.node_id ≡ 0 + i = ap (λ (node : AigNode). node.node_id) (sym there.2) ∙ numbered i x there.1 in
         let same : i ≡ n = omega (arith, number, from.2) in
-        let place = place_of-passing test c.nodes 0 i x numbered there.1 (ap test there.2 ∙ passes) in
+        let place = position_of-passing test c.nodes 0 i x numbered there.1 (ap test there.2 ∙ passes) in
         let zero_more : 0 + i ≡ i = omega arith in
-        subst (λ m. get_or turns m 0 ≡ place_of (other_leaves c) m) same
-        (counts.each i there.1 ∙ sym (length-filter test (take i c.nodes)) ∙ sym place ∙ ap (place_of (other_leaves c)) zero_more)
+        subst (λ m. get_or turns m 0 ≡ position_of (other_leaves c) m) same
+        (counts.each i there.1 ∙ sym (length-filter test (take i c.nodes)) ∙ sym place ∙ ap (position_of (other_leaves c)) zero_more)
 
 -- ---- counting
 
@@ -121,19 +121,19 @@ module _ (c d u : Circuit) (turns : List ℕ) (total t n : ℕ) (same : d ≡ c)
       let within = kind_at-within c.nodes n Leaf other.0 in
       omega (arith, within, has.count, ap (λ (x : Circuit). length x.nodes) same)
 
-  turn_is : get_or turns n 0 ≡ place_of (other_leaves c) n
-  turn_is = has.each n (subst (λ (x : Circuit). Contains (other_leaves x) n) (sym same) leaf) ∙ ap (λ (x : Circuit). place_of (other_leaves x) n) same
+  turn_is : get_or turns n 0 ≡ position_of (other_leaves c) n
+  turn_is = has.each n (subst (λ (x : Circuit). Contains (other_leaves x) n) (sym same) leaf) ∙ ap (λ (x : Circuit). position_of (other_leaves x) n) same
 
   total_is : total ≡ length (other_leaves c)
   total_is = has.all ∙ ap (λ (x : Circuit). length (other_leaves x)) same
 
   pub place_within : (inputs : List ℕ) → inputs ≡ d.inputs → length inputs + (t - 1) * total + get_or turns n 0 < length u.inputs
   place_within inputs are =
-      rw (are, same, total_is, turn_is) (turn_within t (length (other_leaves c)) (place_of (other_leaves c) n) (length c.inputs) (length u.inputs) later step (place_of-within (other_leaves c) n leaf))
+      rw (are, same, total_is, turn_is) (turn_within t (length (other_leaves c)) (position_of (other_leaves c) n) (length c.inputs) (length u.inputs) later step (position_of-within (other_leaves c) n leaf))
 
   pub place_is : (inputs : List ℕ) → inputs ≡ d.inputs → get_or u.inputs (length inputs + (t - 1) * total + get_or turns n 0) 0 ≡ place_at c u t n
   place_is inputs are = rw (are, same, total_is, turn_is) (by_step t later)
     where
-      by_step : (s : ℕ) → s ≢ 0 → get_or u.inputs (length c.inputs + (s - 1) * length (other_leaves c) + place_of (other_leaves c) n) 0 ≡ place_at c u s n
+      by_step : (s : ℕ) → s ≢ 0 → get_or u.inputs (length c.inputs + (s - 1) * length (other_leaves c) + position_of (other_leaves c) n) 0 ≡ place_at c u s n
       by_step zero some = absurd (some refl)
       by_step (suc s) some = let less : suc s - 1 ≡ s = omega arith in rw less refl

@@ -3,7 +3,7 @@
 -- found. (Bounded model checking: time frames.)
 use Rattle.std.specs.Prelude.{◌≡◌, ℕ, ◌+◌, ◌*◌, ◌<◌, ◌≤◌, Bool, List, length, take, Contains, slice_index, slice_index_or, count_by}
 use Rattle.aig_circuit.specs.Circuit.{Circuit, latch_leaves}
-use Rattle.aig_circuit.specs.Renumber.{is_in, place_of}
+use Rattle.aig_circuit.specs.Renumber.{is_in, position_of}
 use Rattle.aig_unroll.specs.Places.{is_other_leaf, other_leaves}
 
 -- a mark for each node, whether it is a latch's leaf
@@ -23,7 +23,7 @@ pub record HasTurns (c : Circuit) (turns : List ℕ) (total : ℕ) : Type 0 wher
   pub all : total ≡ length (other_leaves c)
   pub count : length turns ≡ length c.nodes
   pub each : (n : ℕ) → Contains (other_leaves c) n
-      → slice_index turns n ≡ place_of (other_leaves c) n
+      → slice_index turns n ≡ position_of (other_leaves c) n
 
 -- the unrolled circuit has the inputs of step t
 abbrev pub HasStep : Circuit → Circuit → ℕ → Type 0

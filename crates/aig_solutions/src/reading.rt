@@ -10,7 +10,7 @@ use std::alloc::Global;
 /// The first byte of the next line that is no comment, if there is one.
 fn first_byte<F: ByteFeed>(f: &mut F) -> Result<Option<u8>, SolutionError>
     ensures stream { IsErrOf result SolutionError.Stream → F.failed f.new ≡ true }
-    ensures same { F.behind f.new ≡ F.behind f.old }
+    ensures same { F.source_name f.new ≡ F.source_name f.old }
     ensures fewer { IfOk result (λ o. OnSome o (F.turns f.new < F.turns f.old)) }
 {
     let mut inside = false;
@@ -29,7 +29,7 @@ fn first_byte<F: ByteFeed>(f: &mut F) -> Result<Option<u8>, SolutionError>
 /// The next byte of a line of values.
 fn next_byte<F: ByteFeed>(f: &mut F) -> Result<u8, SolutionError>
     ensures stream { IsErrOf result SolutionError.Stream → F.failed f.new ≡ true }
-    ensures same { F.behind f.new ≡ F.behind f.old }
+    ensures same { F.source_name f.new ≡ F.source_name f.old }
     ensures fewer { OnOk result (F.turns f.new < F.turns f.old) }
 {
     match f.next()? {
@@ -44,7 +44,7 @@ const LONGEST: usize = 16;
 /// What stands in a line after its first byte.
 fn rest_of_line<F: ByteFeed>(alloc: Global, f: &mut F) -> Result<Vec<u8>, SolutionError>
     ensures stream { IsErrOf result SolutionError.Stream → F.failed f.new ≡ true }
-    ensures same { F.behind f.new ≡ F.behind f.old }
+    ensures same { F.source_name f.new ≡ F.source_name f.old }
 {
     let mut rest = Vec::with_capacity(alloc, LONGEST)?;
     while let Some(b) = f.next()? {
@@ -62,7 +62,7 @@ fn rest_of_line<F: ByteFeed>(alloc: Global, f: &mut F) -> Result<Vec<u8>, Soluti
 /// Reads the line of an answer, after comments. Other answers than `SATISFIABLE` are refused.
 fn read_answer<F: ByteFeed>(alloc: Global, f: &mut F) -> Result<(), SolutionError>
     ensures stream { IsErrOf result SolutionError.Stream → F.failed f.new ≡ true }
-    ensures same { F.behind f.new ≡ F.behind f.old }
+    ensures same { F.source_name f.new ≡ F.source_name f.old }
 {
     if first_byte(f)? != Some(b's') {
         return Err(SolutionError::Answer);
@@ -94,7 +94,7 @@ struct Word {
 /// Reads the literal that begins with this byte.
 fn read_word<F: ByteFeed>(f: &mut F, first: u8) -> Result<Word, SolutionError>
     ensures stream { IsErrOf result SolutionError.Stream → F.failed f.new ≡ true }
-    ensures same { F.behind f.new ≡ F.behind f.old }
+    ensures same { F.source_name f.new ≡ F.source_name f.old }
     ensures fewer { OnOk result (F.turns f.new < F.turns f.old) }
 {
     let positive = first != b'-';
@@ -136,7 +136,7 @@ fn set_value(values: &mut [Lbool], word: &Word) -> Result<(), SolutionError>
 /// Reads the literals of a line, after its first byte, and says whether the 0 stands there.
 fn read_values<F: ByteFeed>(f: &mut F, values: &mut [Lbool]) -> Result<bool, SolutionError>
     ensures stream { IsErrOf result SolutionError.Stream → F.failed f.new ≡ true }
-    ensures same { F.behind f.new ≡ F.behind f.old }
+    ensures same { F.source_name f.new ≡ F.source_name f.old }
     ensures fewer { OnOk result (F.turns f.new < F.turns f.old) }
 {
     let mut byte = next_byte(f)?;
@@ -161,7 +161,7 @@ fn read_values<F: ByteFeed>(f: &mut F, values: &mut [Lbool]) -> Result<bool, Sol
 /// Reads lines of values up to the 0.
 fn read_lines<F: ByteFeed>(f: &mut F, values: &mut [Lbool]) -> Result<(), SolutionError>
     ensures stream { IsErrOf result SolutionError.Stream → F.failed f.new ≡ true }
-    ensures same { F.behind f.new ≡ F.behind f.old }
+    ensures same { F.source_name f.new ≡ F.source_name f.old }
 {
     while let Some(first) = first_byte(f)? {
         if first != b'v' {

@@ -12,12 +12,12 @@ use Rattle.aig_circuit.specs.declared.node.AigNode.{AigNode}
 use Rattle.aig_circuit.specs.Node.{kind_at}
 use Rattle.aig_circuit.specs.Tree.{Tree, LeafTree, tree_of}
 use Rattle.aig_circuit.specs.Circuit.{AreNodes, IsLeaf}
-use Rattle.aig_circuit.specs.Renumber.{place_of}
+use Rattle.aig_circuit.specs.Renumber.{position_of}
 use Rattle.aig_circuit.proofs.Trees.{kind_at-there, kind_at-within, tree_of-false, tree_of-leaf, tree_of-and}
-use Rattle.aig_renumber.proofs.Places.{filter-back, get_or-place_of, place_of-within, places-rise, rising-place}
+use Rattle.aig_renumber.proofs.Places.{filter-back, get_or-position_of, position_of-within, places-rise, rising-place}
 use Rattle.aig_strash.specs.Exchange.{HaveEqualTrees, IsRepresentative, equal_up_to_exchange, representative_of, image_of, is_representative, kept_nodes, node_numbers}
 use Rattle.aig_strash.proofs.Equal.{Equal, equal-itself, equal-turned, equal-then}
-use Rattle.aig_strash.proofs.Listing.{Counts, counting-has, counting-rises, counting-within, filter-has, find-counting}
+use Rattle.aig_strash.proofs.Listing.{Counts, counting-has, counting-is_increasing, counting-within, filter-has, find-counting}
 
 -- no tree but a leaf's is equal to a leaf's
 leaf_alone : (m n : ℕ) (t : Tree) → Equal t (LeafTree n) → t ≡ LeafTree m → m ≡ n
@@ -110,8 +110,8 @@ module _ (nodes : List AigNode) (are : AreNodes nodes) where
   pub kept-is : (n : ℕ) → Kept n → representative_of nodes n ≡ n
   kept-is n kept = eqb-true (representative_of nodes n) n (filter-back (is_representative nodes) (node_numbers nodes) n kept).1
 
-  pub kept-rises : AllPairs (λ m n. m < n) (kept_nodes nodes)
-  kept-rises = AllPairs-filter (λ m n. m < n) (is_representative nodes) (node_numbers nodes) (counting-rises (node_numbers nodes) numbers-count)
+  pub kept-is_increasing : AllPairs (λ m n. m < n) (kept_nodes nodes)
+  kept-is_increasing = AllPairs-filter (λ m n. m < n) (is_representative nodes) (node_numbers nodes) (counting-is_increasing (node_numbers nodes) numbers-count)
 
   -- the kept node at place i
   abbrev pub kept_at : ℕ → ℕ
@@ -123,23 +123,23 @@ module _ (nodes : List AigNode) (are : AreNodes nodes) where
   -- ---- images
 
   pub image-within : (n : ℕ) → n < length nodes → image_of nodes n < length (kept_nodes nodes)
-  image-within n h = place_of-within (kept_nodes nodes) (representative_of nodes n) (kept-first n h)
+  image-within n h = position_of-within (kept_nodes nodes) (representative_of nodes n) (kept-first n h)
 
   pub image-back : (n : ℕ) → n < length nodes → kept_at (image_of nodes n) ≡ representative_of nodes n
-  image-back n h = get_or-place_of (kept_nodes nodes) (representative_of nodes n) (kept-first n h)
+  image-back n h = get_or-position_of (kept_nodes nodes) (representative_of nodes n) (kept-first n h)
 
   pub image-place : (i : ℕ) → i < length (kept_nodes nodes) → image_of nodes (kept_at i) ≡ i
-  image-place i h = ap (place_of (kept_nodes nodes)) (kept-is (kept_at i) (kept_at-kept i h)) ∙ rising-place (kept_nodes nodes) kept-rises i h
+  image-place i h = ap (position_of (kept_nodes nodes)) (kept-is (kept_at i) (kept_at-kept i h)) ∙ rising-place (kept_nodes nodes) kept-is_increasing i h
 
   -- nodes have one image exactly where their trees are equal
   pub image-same : (m n : ℕ) → m < length nodes → n < length nodes → HaveEqualTrees nodes m n → image_of nodes m ≡ image_of nodes n
-  image-same m n h l same = ap (place_of (kept_nodes nodes)) (first-same m n h l same)
+  image-same m n h l same = ap (position_of (kept_nodes nodes)) (first-same m n h l same)
 
   pub image-apart : (m n : ℕ) → m < length nodes → n < length nodes → image_of nodes m ≡ image_of nodes n → HaveEqualTrees nodes m n
   image-apart m n h l same = first-apart m n h l (sym (image-back m h) ∙ ap kept_at same ∙ image-back n l)
 
   pub images-rise : (m n : ℕ) → m < length nodes → n < length nodes → representative_of nodes m < representative_of nodes n → image_of nodes m < image_of nodes n
-  images-rise m n h l low = places-rise (kept_nodes nodes) kept-rises (representative_of nodes m) (representative_of nodes n) (kept-first m h) (kept-first n l) low
+  images-rise m n h l low = places-rise (kept_nodes nodes) kept-is_increasing (representative_of nodes m) (representative_of nodes n) (kept-first m h) (kept-first n l) low
 
   -- what is below a kept node has its image below that place
   pub image-below : (i m : ℕ) → i < length (kept_nodes nodes) → m < kept_at i → image_of nodes m < i
@@ -158,5 +158,5 @@ module _ (nodes : List AigNode) (are : AreNodes nodes) where
       at (suc p) is =
           let h = kind_at-within nodes 0 False are.false_first in
           let low : 0 < image_of nodes 0 = omega arith in
-          let less = kept-rises 0 (image_of nodes 0) 0 low (image-within 0 h) in
+          let less = kept-is_increasing 0 (image_of nodes 0) 0 low (image-within 0 h) in
           absurd (omega (arith, image-back 0 h, first-0))

@@ -10,7 +10,7 @@ use Rattle.aig_circuit.specs.declared.node.AigNode.{AigNode}
 use Rattle.aig_circuit.specs.Node.{kind_at}
 use Rattle.aig_circuit.specs.Circuit.{AreNodes}
 use Rattle.aig_circuit.specs.Runs.{is_leaf}
-use Rattle.aig_circuit.specs.Renumber.{nodes_in_order, place_of, renumbered_edge, renumbered_kind}
+use Rattle.aig_circuit.specs.Renumber.{nodes_in_order, position_of, renumbered_edge, renumbered_kind}
 use Rattle.aig_circuit.proofs.Building.{and_of-cases}
 use Rattle.aig_strash.specs.Exchange.{representative_of, image_of, is_representative, kept_nodes, leaves_before, node_numbers}
 use Rattle.aig_strash.proofs.Firsts.{first-leaf, numbers-count, numbers-length}
@@ -79,10 +79,10 @@ module _ (nodes : List AigNode) (are : AreNodes nodes) where
   leaves-kept n h first =
       let new = nodes_in_order nodes (image_of nodes) 0 (kept_nodes nodes) in
       let count = λ (xs : List AigNode). length-filter (λ (node : AigNode). is_leaf node.typ) xs in
-      let place : place_of (node_numbers nodes) n ≡ n = counting-place (node_numbers nodes) (numbers-count nodes are) n (omega (arith, numbers-length nodes are)) in
+      let place : position_of (node_numbers nodes) n ≡ n = counting-place (node_numbers nodes) (numbers-count nodes are) n (omega (arith, numbers-length nodes are)) in
       sym (count (take (image_of nodes n) new))
       ∙ leaves-in_order nodes (image_of nodes) 0 (image_of nodes n) (kept_nodes nodes)
-      ∙ ap (λ m. length (filter (leaf_at nodes) (take (place_of (kept_nodes nodes) m) (kept_nodes nodes)))) first
+      ∙ ap (λ m. length (filter (leaf_at nodes) (take (position_of (kept_nodes nodes) m) (kept_nodes nodes)))) first
       ∙ filter-places (leaf_at nodes) (is_representative nodes) leaf-kept (node_numbers nodes) n (eq-eqb (representative_of nodes n) n first)
       ∙ ap (λ p. length (filter (leaf_at nodes) (take p (node_numbers nodes)))) place
       ∙ sym (leaves-by_numbers (leaf_at nodes) n nodes leaf_at-number)

@@ -2,7 +2,7 @@
 use Rattle.std.proofs.Common.{◌≡◌, ℕ, zero, suc, ◌+◌, ◌<◌, ◌≤◌, Bool, true, false, cond, eqb, Option, Some, List, [], ◌∷◌, length, get_or, take, refl, sym, ap, ◌∙◌, arith, add-one, inl, inr}
 use Rattle.std.specs.Prelude.{AllPairs, Contains, filter, find}
 use Rattle.std.proofs.lemmas.Bool.{cases_lt, eqb-true, false≢true}
-use Rattle.aig_circuit.specs.Renumber.{place_of}
+use Rattle.aig_circuit.specs.Renumber.{position_of}
 use Rattle.aig_renumber.proofs.Places.{rising-place}
 
 -- ---- filters
@@ -25,7 +25,7 @@ filter-has test (m ∷ ns) n has pass = at has.0 has.1 has.2 (filter-has test ns
 
 -- before an entry that is kept stand as many that pass a narrower test as before
 pub filter-places : (narrow test : ℕ → Bool) → ((n : ℕ) → narrow n ≡ true → test n ≡ true) → (ns : List ℕ) (n : ℕ) → test n ≡ true
-    → length (filter narrow (take (place_of (filter test ns) n) (filter test ns))) ≡ length (filter narrow (take (place_of ns n) ns))
+    → length (filter narrow (take (position_of (filter test ns) n) (filter test ns))) ≡ length (filter narrow (take (position_of ns n) ns))
 filter-places narrow test within [] n pass = refl
 filter-places narrow test within (m ∷ ns) n pass = by_tests (eqb m n) refl (test m) refl (filter-places narrow test within ns n pass)
   where
@@ -33,9 +33,9 @@ filter-places narrow test within (m ∷ ns) n pass = by_tests (eqb m n) refl (te
     kept = filter test ns
 
     Rest : Type 0
-    Rest = length (filter narrow (take (place_of kept n) kept)) ≡ length (filter narrow (take (place_of ns n) ns))
+    Rest = length (filter narrow (take (position_of kept n) kept)) ≡ length (filter narrow (take (position_of ns n) ns))
 
-    front : (b : Bool) → Rest → length (cond b (m ∷ filter narrow (take (place_of kept n) kept)) (filter narrow (take (place_of kept n) kept))) ≡ length (cond b (m ∷ filter narrow (take (place_of ns n) ns)) (filter narrow (take (place_of ns n) ns)))
+    front : (b : Bool) → Rest → length (cond b (m ∷ filter narrow (take (position_of kept n) kept)) (filter narrow (take (position_of kept n) kept))) ≡ length (cond b (m ∷ filter narrow (take (position_of ns n) ns)) (filter narrow (take (position_of ns n) ns)))
     front true rest = ap suc rest
     front false rest = rest
 
@@ -47,10 +47,10 @@ filter-places narrow test within (m ∷ ns) n pass = by_tests (eqb m n) refl (te
         by_narrow false is = refl
 
     by_tests : (b : Bool) → eqb m n ≡ b → (d : Bool) → test m ≡ d → Rest
-        → length (filter narrow (take (place_of (cond d (m ∷ kept) kept) n) (cond d (m ∷ kept) kept))) ≡ length (filter narrow (take (cond b 0 (place_of ns n + 1)) (m ∷ ns)))
+        → length (filter narrow (take (position_of (cond d (m ∷ kept) kept) n) (cond d (m ∷ kept) kept))) ≡ length (filter narrow (take (cond b 0 (position_of ns n + 1)) (m ∷ ns)))
     by_tests true same true passes rest = rw same refl
     by_tests true same false fails rest = absurd (false≢true (sym fails ∙ ap test (eqb-true m n same) ∙ pass))
-    by_tests false other true passes rest = rw (other, add-one (place_of kept n), add-one (place_of ns n)) (front (narrow m) rest)
+    by_tests false other true passes rest = rw (other, add-one (position_of kept n), add-one (position_of ns n)) (front (narrow m) rest)
     by_tests false other false fails rest = let fails = dropped fails in rw (add-one, fails) rest
 
 -- ---- lists that count up by one
@@ -89,8 +89,8 @@ find-counting test v (i ∷ ns) counts n low high pass = by_test (test i) refl (
         let found = rest (past fails n low pass) (omega arith) pass in
         (found.0, found.1, found.2, found.3, λ j le at. found.4 j (past fails j le at) at)
 
-pub counting-rises : (ns : List ℕ) → Counts 0 ns → AllPairs (λ m n. m < n) ns
-counting-rises ns counts i j d h l = omega (arith, counts i d (omega arith), counts j d l)
+pub counting-is_increasing : (ns : List ℕ) → Counts 0 ns → AllPairs (λ m n. m < n) ns
+counting-is_increasing ns counts i j d h l = omega (arith, counts i d (omega arith), counts j d l)
 
 pub counting-has : (ns : List ℕ) → Counts 0 ns → (n : ℕ) → n < length ns → Contains ns n
 counting-has ns counts n h = (n, h, omega (arith, counts n n h))
@@ -99,7 +99,7 @@ pub counting-within : (ns : List ℕ) → Counts 0 ns → (n : ℕ) → Contains
 counting-within ns counts n has = let h = has.1 in let e = has.2 in omega (arith, counts has.0 n h)
 
 -- each number of a counting list is its own place
-pub counting-place : (ns : List ℕ) → Counts 0 ns → (n : ℕ) → n < length ns → place_of ns n ≡ n
+pub counting-place : (ns : List ℕ) → Counts 0 ns → (n : ℕ) → n < length ns → position_of ns n ≡ n
 counting-place ns counts n h =
     let at : get_or ns n 0 ≡ n = omega (arith, counts n 0 h) in
-    ap (place_of ns) (sym at) ∙ rising-place ns (counting-rises ns counts) n h
+    ap (position_of ns) (sym at) ∙ rising-place ns (counting-is_increasing ns counts) n h

@@ -10,7 +10,7 @@ use Rattle.aig_circuit.specs.declared.node.AigNodeType.TheVariants.{And}
 use Rattle.aig_circuit.specs.declared.node.AigNode.{AigNode}
 use Rattle.aig_circuit.specs.Node.{and_of}
 use Rattle.aig_circuit.specs.Circuit.{AreNodes}
-use Rattle.aig_circuit.specs.Renumber.{place_of, renumbered_edge, renumbered_kind}
+use Rattle.aig_circuit.specs.Renumber.{position_of, renumbered_edge, renumbered_kind}
 use Rattle.aig_circuit.specs.Tree.{AndTree, tree_of}
 use Rattle.aig_circuit.proofs.Building.{and_of-cases}
 use Rattle.aig_circuit.proofs.Trees.{tree_of-and}
@@ -52,26 +52,26 @@ abbrev passing : (ℕ → Bool) → List ℕ → ℕ → ℕ
 passing test ns n = length (filter test (take n ns))
 
 -- an entry's place among those that pass is the count of those before it
-place_of-filter : (test : ℕ → Bool) (ns : List ℕ) (n : ℕ) → test n ≡ true → place_of (filter test ns) n ≡ passing test ns (place_of ns n)
-place_of-filter test [] n pass = refl
-place_of-filter test (m ∷ ns) n pass = by_tests (eqb m n) refl (test m) refl (place_of-filter test ns n pass)
+position_of-filter : (test : ℕ → Bool) (ns : List ℕ) (n : ℕ) → test n ≡ true → position_of (filter test ns) n ≡ passing test ns (position_of ns n)
+position_of-filter test [] n pass = refl
+position_of-filter test (m ∷ ns) n pass = by_tests (eqb m n) refl (test m) refl (position_of-filter test ns n pass)
   where
     Rest : Type 0
-    Rest = place_of (filter test ns) n ≡ passing test ns (place_of ns n)
+    Rest = position_of (filter test ns) n ≡ passing test ns (position_of ns n)
 
     by_tests : (b : Bool) → eqb m n ≡ b → (d : Bool) → test m ≡ d → Rest
-        → place_of (cond d (m ∷ filter test ns) (filter test ns)) n ≡ length (filter test (take (cond b 0 (place_of ns n + 1)) (m ∷ ns)))
+        → position_of (cond d (m ∷ filter test ns) (filter test ns)) n ≡ length (filter test (take (cond b 0 (position_of ns n + 1)) (m ∷ ns)))
     by_tests true same true passes rest = rw same refl
     by_tests true same false fails rest = absurd (false≢true (sym fails ∙ ap test (eqb-true m n same) ∙ pass))
-    by_tests false other true passes rest = rw (other, add-one (place_of (filter test ns) n), add-one (place_of ns n), passes) (ap suc rest)
+    by_tests false other true passes rest = rw (other, add-one (position_of (filter test ns) n), add-one (position_of ns n), passes) (ap suc rest)
     by_tests false other false fails rest = rw (add-one, fails) rest
 
 -- more pass where one more does
-passing-rises : (test : ℕ → Bool) (ns : List ℕ) (m n : ℕ) → m < n → n ≤ length ns → test (get_or ns m 0) ≡ true → passing test ns m < passing test ns n
-passing-rises test [] m n h l pass = absurd (omega arith)
-passing-rises test (x ∷ ns) m zero h l pass = absurd (omega arith)
-passing-rises test (x ∷ ns) zero (suc n) h l pass = rw pass (omega arith)
-passing-rises test (x ∷ ns) (suc m) (suc n) h l pass = on_top (test x) (passing-rises test ns m n (omega arith) (omega arith) pass)
+passing-is_increasing : (test : ℕ → Bool) (ns : List ℕ) (m n : ℕ) → m < n → n ≤ length ns → test (get_or ns m 0) ≡ true → passing test ns m < passing test ns n
+passing-is_increasing test [] m n h l pass = absurd (omega arith)
+passing-is_increasing test (x ∷ ns) m zero h l pass = absurd (omega arith)
+passing-is_increasing test (x ∷ ns) zero (suc n) h l pass = rw pass (omega arith)
+passing-is_increasing test (x ∷ ns) (suc m) (suc n) h l pass = on_top (test x) (passing-is_increasing test ns m n (omega arith) (omega arith) pass)
   where
     on_top : (b : Bool) → passing test ns m < passing test ns n → length (cond b (x ∷ filter test (take m ns)) (filter test (take m ns))) < length (cond b (x ∷ filter test (take n ns)) (filter test (take n ns)))
     on_top true less = omega arith
@@ -110,7 +110,7 @@ module _ (nodes : List AigNode) (are : AreNodes nodes) where
   pub image-count : (n : ℕ) → n < length nodes → image_of nodes n ≡ kept_before nodes (representative_of nodes n)
   image-count n h =
       let within = first-within nodes are n h in
-      place_of-filter (is_representative nodes) (node_numbers nodes) (representative_of nodes n) (eq-eqb (representative_of nodes (representative_of nodes n)) (representative_of nodes n) (first-twice nodes are n h))
+      position_of-filter (is_representative nodes) (node_numbers nodes) (representative_of nodes n) (eq-eqb (representative_of nodes (representative_of nodes n)) (representative_of nodes n) (first-twice nodes are n h))
       ∙ ap (kept_before nodes) (counting-place (node_numbers nodes) (numbers-count nodes are) (representative_of nodes n) (omega (arith, numbers-length nodes are)))
 
   -- a kept node's number is the count of the kept nodes before it
@@ -133,7 +133,7 @@ module _ (nodes : List AigNode) (are : AreNodes nodes) where
       let at : get_or (node_numbers nodes) (representative_of nodes m) 0 ≡ representative_of nodes m = omega (arith, numbers-count nodes are (representative_of nodes m) 0 (omega (arith, numbers-length nodes are))) in
       let kept : is_representative nodes (get_or (node_numbers nodes) (representative_of nodes m) 0) ≡ true = ap (is_representative nodes) at ∙ eq-eqb (representative_of nodes (representative_of nodes m)) (representative_of nodes m) (first-twice nodes are m here) in
       subst (λ k. k < kept_before nodes n) (sym (image-count m here))
-      (passing-rises (is_representative nodes) (node_numbers nodes) (representative_of nodes m) n low (omega (arith, numbers-length nodes are)) kept)
+      (passing-is_increasing (is_representative nodes) (node_numbers nodes) (representative_of nodes m) n low (omega (arith, numbers-length nodes are)) kept)
 
   -- a node is kept exactly where its number is the count of the kept nodes before it
   pub kept-from_number : (n : ℕ) → n < length nodes → image_of nodes n ≡ kept_before nodes n → is_representative nodes n ≡ true

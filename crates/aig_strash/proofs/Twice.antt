@@ -5,7 +5,7 @@ use Rattle.std.proofs.lemmas.Bool.{eq-eqb}
 use Rattle.aig_circuit.specs.Circuit.{AreNodes, Circuit, IsCircuit}
 use Rattle.aig_circuit.specs.declared.node.AigNode.{AigNode}
 use Rattle.aig_circuit.specs.declared.node.AigNodeType.TheVariants.{Leaf}
-use Rattle.aig_circuit.specs.Renumber.{is_in, only_kept, place_of, renumbered_circuit}
+use Rattle.aig_circuit.specs.Renumber.{is_in, only_kept, position_of, renumbered_circuit}
 use Rattle.aig_circuit.proofs.Trees.{kind_at-within}
 use Rattle.aig_renumber.proofs.Kept.{is_in-there}
 use Rattle.aig_renumber.proofs.Places.{filter_all}
@@ -38,7 +38,7 @@ module _ (nodes : List AigNode) (are : AreNodes nodes) (distinct : AreDistinct n
   -- and is its own image
   pub image-own : (n : ℕ) → n < length nodes → image_of nodes n ≡ n
   image-own n h =
-      ap (place_of (kept_nodes nodes)) (first-own n h) ∙ ap (λ ns. place_of ns n) kept-all
+      ap (position_of (kept_nodes nodes)) (first-own n h) ∙ ap (λ ns. position_of ns n) kept-all
       ∙ counting-place (node_numbers nodes) (numbers-count nodes are) n (omega (arith, numbers-length nodes are))
 
 pub strashed-own : (c : Circuit) → IsCircuit c → AreDistinct c.nodes → strashed c ≡ c

@@ -8,7 +8,7 @@ use Rattle.aig_circuit.specs.declared.node.AigNode.{AigNode}
 use Rattle.aig_circuit.specs.Node.{kind_at}
 use Rattle.aig_circuit.specs.Tree.{Tree, FalseTree, LeafTree, AndTree, tree_of}
 use Rattle.aig_circuit.specs.Runs.{is_leaf}
-use Rattle.aig_circuit.specs.Renumber.{place_of}
+use Rattle.aig_circuit.specs.Renumber.{position_of}
 
 -- both are inverted, or none is
 abbrev pub same_inversion : Bool → Bool → Bool
@@ -75,7 +75,7 @@ kept_nodes nodes = filter (is_representative nodes) (node_numbers nodes)
 
 -- the new number of node n: the place of its representative among the kept nodes
 abbrev pub image_of : List AigNode → ℕ → ℕ
-image_of nodes n = place_of (kept_nodes nodes) (representative_of nodes n)
+image_of nodes n = position_of (kept_nodes nodes) (representative_of nodes n)
 
 -- how many of the first n nodes are kept
 abbrev pub kept_before : List AigNode → ℕ → ℕ

@@ -35,8 +35,8 @@ abbrev pub with_place : ℕ → ℕ → List ℕ × List ℕ → Option (NameLin
 with_place letter position t = Some (name_line letter position t.0, t.1)
 
 -- the name after its place, if no name before it has this place
-abbrev pub behind_place : List NameLine → ℕ → ℕ × List ℕ → Option (NameLine × List ℕ)
-behind_place names letter p = cond (is_taken names letter p.0) None (name_text_at (is_kept letter) p.1 >>= with_place letter p.0)
+abbrev pub following_place : List NameLine → ℕ → ℕ × List ℕ → Option (NameLine × List ℕ)
+following_place names letter p = cond (is_taken names letter p.0) None (name_text_at (is_kept letter) p.1 >>= with_place letter p.0)
 
 -- ---- a name line without its tests
 
@@ -103,44 +103,44 @@ module _ (ns : HeaderNumbers) (names : List NameLine) where
   same_place_within true l p f = refl
   same_place_within false l p f = refl
 
-  tests_place : (l : ℕ) (o : Option (ℕ × List ℕ)) → (o >>= untested l >>= tested) ≡ (o >>= within l >>= behind_place names l)
+  tests_place : (l : ℕ) (o : Option (ℕ × List ℕ)) → (o >>= untested l >>= tested) ≡ (o >>= within l >>= following_place names l)
   tests_place l None = refl
-  tests_place l (Some p) = tests_part l p (parse_text p.1) ∙ same_place_within (ltb p.0 (count_of ns l)) l p (behind_place names l)
+  tests_place l (Some p) = tests_part l p (parse_text p.1) ∙ same_place_within (ltb p.0 (count_of ns l)) l p (following_place names l)
 
   -- a name line is read in its parts
-  line_parts : (l b : ℕ) (bs : List ℕ) → is_letter l ≡ true → line_at (l ∷ b ∷ bs) ≡ (place_at ns l b bs >>= behind_place names l)
+  line_parts : (l b : ℕ) (bs : List ℕ) → is_letter l ≡ true → line_at (l ∷ b ∷ bs) ≡ (place_at ns l b bs >>= following_place names l)
   line_parts l b bs is = ap (λ o. o >>= tested) (with_letter l b bs is) ∙ tests_place l (parse_position b bs)
 
   -- what follows the place, where no name before has it
-  new_place : (l n : ℕ) → is_taken names l n ≡ false → (bs : List ℕ) → behind_place names l (n, bs) ≡ (name_text_at (is_kept l) bs >>= with_place l n)
+  new_place : (l n : ℕ) → is_taken names l n ≡ false → (bs : List ℕ) → following_place names l (n, bs) ≡ (name_text_at (is_kept l) bs >>= with_place l n)
   new_place l n is bs = ap (λ t. cond t None (name_text_at (is_kept l) bs >>= with_place l n)) is
 
   -- ---- step by step
 
   module _ (now mid : Option (List ℕ)) (l b : ℕ) (is : is_letter l ≡ true) (c : Consumes now mid (l ∷ b ∷ [])) where
-    line_begins : GoesOn line_at now (λ bs. place_at ns l b bs >>= behind_place names l) mid
+    line_begins : GoesOn line_at now (λ bs. place_at ns l b bs >>= following_place names l) mid
     line_begins = record { taken = l ∷ b ∷ []; goes = λ rest. line_parts l b rest is; consumed = c }
 
     pub line_without_place : Misses (place_at ns l b) mid → Misses line_at now
-    line_without_place k = goes_wrong line_at (λ bs. place_at ns l b bs >>= behind_place names l) now mid line_begins (misses_first (place_at ns l b) (behind_place names l) mid k)
+    line_without_place k = goes_wrong line_at (λ bs. place_at ns l b bs >>= following_place names l) now mid line_begins (misses_first (place_at ns l b) (following_place names l) mid k)
 
-    pub line_with_place : (after : Option (List ℕ)) (n : ℕ) → Takes (place_at ns l b) mid after n → GoesOn line_at now (λ bs. behind_place names l (n, bs)) after
+    pub line_with_place : (after : Option (List ℕ)) (n : ℕ) → Takes (place_at ns l b) mid after n → GoesOn line_at now (λ bs. following_place names l (n, bs)) after
     line_with_place after n k =
-        goes_call line_at (place_at ns l b) (λ bs. place_at ns l b bs >>= behind_place names l) (λ bs. behind_place names l (n, bs)) now mid after n line_begins k
-        (λ bs rest e. ap (λ o. o >>= behind_place names l) e)
+        goes_call line_at (place_at ns l b) (λ bs. place_at ns l b bs >>= following_place names l) (λ bs. following_place names l (n, bs)) now mid after n line_begins k
+        (λ bs rest e. ap (λ o. o >>= following_place names l) e)
 
-  pub line_of_taken : (now mid : Option (List ℕ)) (l n : ℕ) → GoesOn line_at now (λ bs. behind_place names l (n, bs)) mid → is_taken names l n ≡ true → Misses line_at now
+  pub line_of_taken : (now mid : Option (List ℕ)) (l n : ℕ) → GoesOn line_at now (λ bs. following_place names l (n, bs)) mid → is_taken names l n ≡ true → Misses line_at now
   line_of_taken now mid l n h is =
-      goes_nowhere line_at now mid (goes_same line_at (λ bs. behind_place names l (n, bs)) (λ bs. None) now mid h (λ bs. ap (λ t. cond t None (name_text_at (is_kept l) bs >>= with_place l n)) is))
+      goes_nowhere line_at now mid (goes_same line_at (λ bs. following_place names l (n, bs)) (λ bs. None) now mid h (λ bs. ap (λ t. cond t None (name_text_at (is_kept l) bs >>= with_place l n)) is))
 
-  pub line_without_name : (now mid : Option (List ℕ)) (l n : ℕ) → GoesOn line_at now (λ bs. behind_place names l (n, bs)) mid → is_taken names l n ≡ false → Misses (name_text_at (is_kept l)) mid → Misses line_at now
+  pub line_without_name : (now mid : Option (List ℕ)) (l n : ℕ) → GoesOn line_at now (λ bs. following_place names l (n, bs)) mid → is_taken names l n ≡ false → Misses (name_text_at (is_kept l)) mid → Misses line_at now
   line_without_name now mid l n h is k =
-      goes_wrong line_at (λ bs. name_text_at (is_kept l) bs >>= with_place l n) now mid (goes_same line_at (λ bs. behind_place names l (n, bs)) (λ bs. name_text_at (is_kept l) bs >>= with_place l n) now mid h (new_place l n is))
+      goes_wrong line_at (λ bs. name_text_at (is_kept l) bs >>= with_place l n) now mid (goes_same line_at (λ bs. following_place names l (n, bs)) (λ bs. name_text_at (is_kept l) bs >>= with_place l n) now mid h (new_place l n is))
       (misses_first (name_text_at (is_kept l)) (with_place l n) mid k)
 
-  pub line_with_name : (now mid after : Option (List ℕ)) (l n : ℕ) (name : List ℕ) → GoesOn line_at now (λ bs. behind_place names l (n, bs)) mid → is_taken names l n ≡ false → Takes (name_text_at (is_kept l)) mid after name
+  pub line_with_name : (now mid after : Option (List ℕ)) (l n : ℕ) (name : List ℕ) → GoesOn line_at now (λ bs. following_place names l (n, bs)) mid → is_taken names l n ≡ false → Takes (name_text_at (is_kept l)) mid after name
       → Takes line_at now after (name_line l n name)
   line_with_name now mid after l n name h is k =
       goes_done line_at (name_line l n name) now after
       (goes_call line_at (name_text_at (is_kept l)) (λ bs. name_text_at (is_kept l) bs >>= with_place l n) (λ bs. Some (name_line l n name, bs)) now mid after name
-      (goes_same line_at (λ bs. behind_place names l (n, bs)) (λ bs. name_text_at (is_kept l) bs >>= with_place l n) now mid h (new_place l n is)) k (λ bs rest e. ap (λ o. o >>= with_place l n) e))
+      (goes_same line_at (λ bs. following_place names l (n, bs)) (λ bs. name_text_at (is_kept l) bs >>= with_place l n) now mid h (new_place l n is)) k (λ bs rest e. ap (λ o. o >>= with_place l n) e))

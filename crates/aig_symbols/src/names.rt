@@ -35,7 +35,7 @@ fn name_start<F: ByteFeed>(f: &mut F) -> Result<Option<(NamedSection, u8)>, LexE
     ensures whole { IfOk result
         (λ x. x ≡ None → (F.failed f.new ≡ false) × IsAtEnd (F.coming f.new)) }
     ensures stream { IsErrOf result LexError.Stream → F.failed f.new ≡ true }
-    ensures same { F.behind f.new ≡ F.behind f.old }
+    ensures same { F.source_name f.new ≡ F.source_name f.old }
     ensures fewer { IfOk result (λ x. OnSome x (F.turns f.new < F.turns f.old)) }
 {
     let Some(letter) = f.next()? else {
@@ -69,7 +69,7 @@ fn read_name<F: ByteFeed>(
         (F.coming f.old) (F.coming f.new) result
         (parse_if parse_text (λ name. not (is_some node) || is_utf8 name)) }
     ensures stream { IsErrOf result NameError.Stream → F.failed f.new ≡ true }
-    ensures same { F.behind f.new ≡ F.behind f.old }
+    ensures same { F.source_name f.new ≡ F.source_name f.old }
     ensures fewer { OnOk result (F.turns f.new < F.turns f.old) }
 {
     let Some(node) = node else {
@@ -105,7 +105,7 @@ pub fn read_names<F: ByteFeed>(
         (F.coming f.old) (F.coming f.new) result (tail_of (numbers_of header.now)) }
     ensures whole { OnOk result ((F.failed f.new ≡ false) × IsAtEnd (F.coming f.new)) }
     ensures stream { IsErrOf result NameError.Stream → F.failed f.new ≡ true }
-    ensures same { F.behind f.new ≡ F.behind f.old }
+    ensures same { F.source_name f.new ≡ F.source_name f.old }
 {
     let mut places = HashSet::new(alloc);
     let mut names = HashMap::new(alloc);

@@ -36,8 +36,8 @@ leaves-append : (xs ys : List AigNode) → map number_of (filter leaf_test (xs +
 leaves-append xs ys = ap (map number_of) (filter-append leaf_test xs ys) ∙ map-append number_of (filter leaf_test xs) (filter leaf_test ys)
 
 -- the added nodes are those after the old ones
-added-behind : (old new : List AigNode) (grows : Grows old new) → drop (length old) new ≡ grows.added
-added-behind old new grows = ap (drop (length old)) grows.appended ∙ drop_at old grows.added (length old) refl
+added-following : (old new : List AigNode) (grows : Grows old new) → drop (length old) new ≡ grows.added
+added-following old new grows = ap (drop (length old)) grows.appended ∙ drop_at old grows.added (length old) refl
 
 -- the leaves after the first so many are those of the old nodes, and then those of the added ones
 pub leaves_after-more : (count : ℕ) (old new : List AigNode) → count ≤ length old → Grows old new → leaves_after count new ≡ leaves_after count old ++ leaves_after (length old) new
@@ -45,7 +45,7 @@ leaves_after-more count old new h grows =
     ap (leaves_after count) grows.appended
     ∙ ap (λ l. map number_of (filter leaf_test l)) (drop-append-le count old grows.added h)
     ∙ leaves-append (drop count old) grows.added
-    ∙ ap (λ l. leaves_after count old ++ map number_of (filter leaf_test l)) (sym (added-behind old new grows))
+    ∙ ap (λ l. leaves_after count old ++ map number_of (filter leaf_test l)) (sym (added-following old new grows))
 
 -- as many as leaves are counted
 pub count-leaves_after : (count : ℕ) (nodes : List AigNode) → length (leaves_after count nodes) ≡ count_by leaf_test (drop count nodes)
@@ -71,16 +71,16 @@ module _ (nodes : List AigNode) (are : AreNodes nodes) where
       (AllPairs-filter (λ m n. number_of m ≢ number_of n) test (drop count nodes) (AllPairs-drop (λ m n. number_of m ≢ number_of n) count nodes numbers-distinct))
 
   -- no added leaf stands twice
-  pub behind-distinct : (count : ℕ) → AllPairs (λ m n. m ≢ n) (leaves_after count nodes)
-  behind-distinct count = kept-distinct leaf_test count
+  pub following-distinct : (count : ℕ) → AllPairs (λ m n. m ≢ n) (leaves_after count nodes)
+  following-distinct count = kept-distinct leaf_test count
 
   -- the node is one after the first so many
   abbrev pub IsBehind : ℕ → ℕ → Type 0
   IsBehind count n = IsLeaf nodes n × (count ≤ n)
 
   -- a leaf at a place of what is left
-  behind_there : (count k : ℕ) (d : AigNode) → k < length (drop count nodes) → leaf_test (get_or (drop count nodes) k d) ≡ true → IsBehind count (get_or (drop count nodes) k d).node_id
-  behind_there count k d h passes =
+  following_there : (count k : ℕ) (d : AigNode) → k < length (drop count nodes) → leaf_test (get_or (drop count nodes) k d) ≡ true → IsBehind count (get_or (drop count nodes) k d).node_id
+  following_there count k d h passes =
       let within : count + k < length nodes = omega (arith, length-drop count nodes) in
       let at = get_or-drop count nodes k d in
       let number : (get_or (drop count nodes) k d).node_id ≡ count + k = ap number_of at ∙ number_there (count + k) d within in
@@ -89,16 +89,16 @@ module _ (nodes : List AigNode) (are : AreNodes nodes) where
       (subst (IsLeaf nodes) (sym number) leaf, omega arith)
 
   -- they are leaves, and not among the first so many
-  pub behind-are : (count : ℕ) → All (IsBehind count) (leaves_after count nodes)
-  behind-are count =
+  pub following-are : (count : ℕ) → All (IsBehind count) (leaves_after count nodes)
+  following-are count =
       let Q = λ (node : AigNode). leaf_test node ≡ true → IsBehind count node.node_id in
-      let all : All Q (filter leaf_test (drop count nodes)) = All-filter leaf_test Q (drop count nodes) (λ k d h. behind_there count k d h) in
+      let all : All Q (filter leaf_test (drop count nodes)) = All-filter leaf_test Q (drop count nodes) (λ k d h. following_there count k d h) in
       let passes = filter_passes leaf_test (drop count nodes) in
       All-map (IsBehind count) number_of (filter leaf_test (drop count nodes)) (λ k d h. all k d h (passes k d h))
 
   -- and all such leaves are among them
-  pub behind-have : (count n : ℕ) → IsLeaf nodes n → count ≤ n → Contains (leaves_after count nodes) n
-  behind-have count n leaf past =
+  pub following-have : (count n : ℕ) → IsLeaf nodes n → count ≤ n → Contains (leaves_after count nodes) n
+  following-have count n leaf past =
       let within = kind_at-within nodes n Leaf leaf in
       let node = get_or nodes n no_node in
       let there = slice_get-get_or nodes n no_node within in

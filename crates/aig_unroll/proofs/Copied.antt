@@ -24,7 +24,7 @@ use Rattle.aig_renumber.proofs.Kept.{is_in-back, is_in-there}
 use Rattle.aig_unroll.specs.Places.{is_other_leaf, leaves_after}
 use Rattle.aig_unroll.specs.Step.{Copies, CopiesBelow, MarksLatches, image_at, image_in, others_among, takes_no_node}
 use Rattle.aig_unroll.specs.Step.Copies.{false_node, latch_leaf, other_leaf, gate}
-use Rattle.aig_unroll.proofs.Added.{behind-are, leaves_after-more, no_node, number_there}
+use Rattle.aig_unroll.proofs.Added.{following-are, leaves_after-more, no_node, number_there}
 
 -- ---- values of images
 
@@ -57,7 +57,7 @@ none_stands (x ∷ xs) all = absurd (all 0 x (omega arith))
 -- added gates are no leaves
 pub leaves_after-gates : (count : ℕ) (old new : List AigNode) → count ≤ length old → AddsGates old new → leaves_after count new ≡ leaves_after count old
 leaves_after-gates count old new h adds =
-    let none : leaves_after (length old) new ≡ [] = none_stands (leaves_after (length old) new) (λ k d l. no_gate (get_or (leaves_after (length old) new) k d) (behind-are new adds.grows.sound (length old) k d l)) in
+    let none : leaves_after (length old) new ≡ [] = none_stands (leaves_after (length old) new) (λ k d l. no_gate (get_or (leaves_after (length old) new) k d) (following-are new adds.grows.sound (length old) k d l)) in
     leaves_after-more count old new h adds.grows ∙ ap (λ ns. leaves_after count old ++ ns) none ∙ append-nil (leaves_after count old)
   where
     no_gate : (n : ℕ) → IsLeaf new n × (length old ≤ n) → ⊥

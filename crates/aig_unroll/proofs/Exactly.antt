@@ -15,7 +15,7 @@ use Rattle.aig_circuit.specs.Runs.{HaveSameValues}
 use Rattle.aig_circuit.proofs.Trees.{kind_at-there, kind_at-within}
 use Rattle.aig_unroll.specs.Places.{leaves_after}
 use Rattle.aig_unroll.specs.Unroll.{AddsExactly, ReadsNext, UnrollsOnce}
-use Rattle.aig_unroll.proofs.Added.{behind-have}
+use Rattle.aig_unroll.proofs.Added.{following-have}
 
 -- sets with the same values, set for set, have the same lengths
 set_lengths : (xs : List AigNode) (y : ℕ → Bool) (zs : List AigNode) (x : ℕ → Bool) (sets others : List (List AigEdge)) → AllZip (λ es fs. HaveSameValues xs y es zs x fs) sets others → AllZip (λ set other. length set ≡ length other) sets others
@@ -77,6 +77,6 @@ module _ (from old new : Circuit) (is_old : IsCircuit old) (once : UnrollsOnce f
       node : (n : ℕ) → length old.nodes ≤ n → n < length new.nodes → (k : AigNodeType) → kind_at new.nodes n ≡ Some k → (IsLeaf new.nodes n × Contains new.inputs n) ⊎ ((a b : AigEdge) × (kind_at new.nodes n ≡ Some (And a b)))
       node n h l (And a b) is = inr (a, b, is)
       node n h l Leaf is =
-          let has = behind-have new.nodes once.keeps.nodes.sound (length old.nodes) n is h in
+          let has = following-have new.nodes once.keeps.nodes.sound (length old.nodes) n is h in
           inl (is, subst (λ inputs. Contains inputs n) (sym once.keeps.inputs) (Contains-append_right old.inputs (leaves_after (length old.nodes) new.nodes) n has))
       node n h l False is = absurd (omega (arith, once.keeps.nodes.sound.false_once n is, kind_at-within old.nodes 0 False is_old.nodes.false_first))

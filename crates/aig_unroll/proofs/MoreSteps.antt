@@ -9,15 +9,15 @@ use Rattle.aig_circuit.specs.declared.node.AigLatch.{AigLatch}
 use Rattle.aig_circuit.specs.declared.node.AigNode.{AigNode}
 use Rattle.aig_circuit.specs.declared.node.AigNodeType.TheVariants.{Leaf}
 use Rattle.aig_circuit.specs.Tree.{edge_value}
-use Rattle.aig_circuit.specs.Renumber.{place_of}
+use Rattle.aig_circuit.specs.Renumber.{position_of}
 use Rattle.aig_circuit.specs.Circuit.{Circuit, IsCircuit, IsInRange, IsLeaf, latch_leaves}
 use Rattle.aig_circuit.specs.Runs.{AgreeOnLeaves, IsRun, IsInitial}
 use Rattle.aig_circuit.proofs.Building.{Grows-kept, Grows-longer, Grows-then, edge_value-Grows}
 use Rattle.aig_circuit.proofs.Trees.{kind_at-within}
-use Rattle.aig_renumber.proofs.Places.{place_of-get_or, place_of-within}
+use Rattle.aig_renumber.proofs.Places.{position_of-get_or, position_of-within}
 use Rattle.aig_unroll.specs.Places.{Reads, leaves_after, other_leaves, place_at, unrolled_size}
 use Rattle.aig_unroll.specs.Unroll.{KeepsCircuit, SetsStandAtSteps, HasStepValues, HasValuesAtSteps, UnrollsOnce, UnrollsTo, starts_of}
-use Rattle.aig_unroll.proofs.Added.{behind-are, behind-distinct, behind-have, leaves_after-more}
+use Rattle.aig_unroll.proofs.Added.{following-are, following-distinct, following-have, leaves_after-more}
 use Rattle.aig_unroll.proofs.Lists.{zip_turned, zip_unmapped}
 use Rattle.aig_unroll.proofs.MoreShown.{sets_stand_more, stand_more}
 use Rattle.aig_unroll.proofs.NextStep.{next_values, next_values-other, reads_added, reads_kept, reads_more, reads_next, reads_next_values, reads_same, run_kept, run_more, then_values, then_values-new, then_values-old, within_old}
@@ -90,26 +90,26 @@ module _ (c old new : Circuit) (k : ℕ) (is : IsCircuit c) (is_old : IsCircuit 
   place_low : (t n : ℕ) → t ≤ k → Contains others n → place_at c old t n < length old.nodes
   place_low zero n h has = leaf_low n (All-contains (λ n. IsLeaf c.nodes n × ¬ Contains (latch_leaves c.latchs) n) others n (others-are c is.nodes) has).0
   place_low (suc t) n h has =
-      let place = length c.inputs + t * length others + place_of others n in
-      let within = within_old c old new k is to once t (place_of others n) (omega arith) (place_of-within others n has) in
+      let place = length c.inputs + t * length others + position_of others n in
+      let within = within_old c old new k is to once t (position_of others n) (omega arith) (position_of-within others n has) in
       kind_at-within old.nodes (get_or old.inputs place 0) Leaf (is_old.inputs place 0 within)
 
   -- old nodes have the values y, and the added inputs those of the leaves at step k + 1
   abbrev then_inputs : (ℕ → Bool) → (ℕ → ℕ → Bool) → ℕ → Bool
-  then_inputs y x n = cond (ltb n (length old.nodes)) (y n) (x (k + 1) (get_or others (place_of new_inputs n) 0))
+  then_inputs y x n = cond (ltb n (length old.nodes)) (y n) (x (k + 1) (get_or others (position_of new_inputs n) 0))
 
   -- below the old length they are y
   then_inputs-old : (y : ℕ → Bool) (x : ℕ → ℕ → Bool) (n : ℕ) → n < length old.nodes → then_inputs y x n ≡ y n
-  then_inputs-old y x n h = ap (λ b. cond b (y n) (x (k + 1) (get_or others (place_of new_inputs n) 0))) (lt-ltb n (length old.nodes) h)
+  then_inputs-old y x n h = ap (λ b. cond b (y n) (x (k + 1) (get_or others (position_of new_inputs n) 0))) (lt-ltb n (length old.nodes) h)
 
   -- and at the added inputs the leaves at step k + 1
   then_inputs-new : (y : ℕ → Bool) (x : ℕ → ℕ → Bool) (i : ℕ) → i < length others → then_inputs y x (get_or new_inputs i 0) ≡ x (k + 1) (get_or others i 0)
   then_inputs-new y x i h =
       let n = get_or new_inputs i 0 in
       let there : i < length new_inputs = omega (arith, once.count) in
-      let past = (behind-are new.nodes once.keeps.nodes.sound (length old.nodes) i 0 there).1 in
-      ap (λ b. cond b (y n) (x (k + 1) (get_or others (place_of new_inputs n) 0))) (le-ltb n (length old.nodes) past)
-      ∙ ap (λ j. x (k + 1) (get_or others j 0)) (place_of-get_or new_inputs i (behind-distinct new.nodes once.keeps.nodes.sound (length old.nodes)) there)
+      let past = (following-are new.nodes once.keeps.nodes.sound (length old.nodes) i 0 there).1 in
+      ap (λ b. cond b (y n) (x (k + 1) (get_or others (position_of new_inputs n) 0))) (le-ltb n (length old.nodes) past)
+      ∙ ap (λ j. x (k + 1) (get_or others j 0)) (position_of-get_or new_inputs i (following-distinct new.nodes once.keeps.nodes.sound (length old.nodes)) there)
 
   -- the leaf values of the run to step k, and at the added inputs those of step k + 1
   pub values_of_more : (x : ℕ → ℕ → Bool) → IsRun c (k + 1) x → (y : ℕ → Bool) × Reads c new (k + 1) y x
@@ -141,7 +141,7 @@ module _ (c old new : Circuit) (k : ℕ) (is : IsCircuit c) (is_old : IsCircuit 
   pub one_value_more : (x : ℕ → ℕ → Bool) (y z : ℕ → Bool) → Reads c new (k + 1) y x → Reads c new (k + 1) z x → (n : ℕ) → IsLeaf new.nodes n → y n ≡ z n
   one_value_more x y z reads reads' n leaf = elim (cases_lt n (length old.nodes)) [
     | inl low ↦ to.one_value x y z (reads_kept c old new k is to once y x reads) (reads_kept c old new k is to once z x reads') n (sym (Grows-kept old.nodes new.nodes once.keeps.nodes n low) ∙ leaf)
-    | inr past ↦ All-contains (λ n. y n ≡ z n) new_inputs n all_same (behind-have new.nodes once.keeps.nodes.sound (length old.nodes) n leaf past)
+    | inr past ↦ All-contains (λ n. y n ≡ z n) new_inputs n all_same (following-have new.nodes once.keeps.nodes.sound (length old.nodes) n leaf past)
   ]
     where
       all_same : All (λ n. y n ≡ z n) new_inputs

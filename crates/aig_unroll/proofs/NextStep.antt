@@ -12,9 +12,9 @@ use Rattle.aig_circuit.specs.Edge.{edge_to}
 use Rattle.aig_circuit.specs.Tree.{edge_value}
 use Rattle.aig_circuit.specs.Circuit.{Circuit, IsCircuit, IsLeaf, latch_leaves}
 use Rattle.aig_circuit.specs.Runs.{IsRun, next_edges}
-use Rattle.aig_renumber.proofs.Places.{place_of-get_or, place_of-within}
+use Rattle.aig_renumber.proofs.Places.{position_of-get_or, position_of-within}
 use Rattle.aig_renumber.proofs.Kept.{is_in-back, is_in-there}
-use Rattle.aig_circuit.specs.Renumber.{place_of}
+use Rattle.aig_circuit.specs.Renumber.{position_of}
 use Rattle.aig_unroll.specs.Places.{Reads, leaves_after, other_leaves, place_at}
 use Rattle.aig_unroll.specs.Unroll.{ReadsNext, UnrollsOnce, UnrollsTo}
 use Rattle.aig_unroll.proofs.Added.{others-distinct}
@@ -73,14 +73,14 @@ module _ (c old new : Circuit) (k : ℕ) (is : IsCircuit c) (to : UnrollsTo c k 
   pub place_kept : (t n : ℕ) → t ≤ k → Contains others n → place_at c new t n ≡ place_at c old t n
   place_kept zero n h has = refl
   place_kept (suc t) n h has =
-      let i = place_of others n in
+      let i = position_of others n in
       let place = length c.inputs + t * length others + i in
-      ap (λ l. get_or l place 0) once.keeps.inputs ∙ get_or_append_left old.inputs added 0 place (within_old t i (omega arith) (place_of-within others n has))
+      ap (λ l. get_or l place 0) once.keeps.inputs ∙ get_or_append_left old.inputs added 0 place (within_old t i (omega arith) (position_of-within others n has))
 
   -- the places of step k + 1 are the added inputs
-  pub place_new : (n : ℕ) → place_at c new (k + 1) n ≡ get_or added (place_of others n) 0
+  pub place_new : (n : ℕ) → place_at c new (k + 1) n ≡ get_or added (position_of others n) 0
   place_new n =
-      let i = place_of others n in
+      let i = position_of others n in
       let place = length c.inputs + k * length others + i in
       let same : place ≡ length old.inputs + i = omega (arith, to.inputs) in
       ap (λ t. place_at c new t n) (add-one k)
@@ -92,8 +92,8 @@ module _ (c old new : Circuit) (k : ℕ) (is : IsCircuit c) (to : UnrollsTo c k 
   pub place_new-at : (i d : ℕ) → i < length others → place_at c new (k + 1) (get_or others i d) ≡ get_or added i 0
   place_new-at i d h =
       place_new (get_or others i d)
-      ∙ ap (λ n. get_or added (place_of others n) 0) (get_or_default others i d 0 h)
-      ∙ ap (λ j. get_or added j 0) (place_of-get_or others i (others-distinct c is.nodes) h)
+      ∙ ap (λ n. get_or added (position_of others n) 0) (get_or_default others i d 0 h)
+      ∙ ap (λ j. get_or added j 0) (position_of-get_or others i (others-distinct c is.nodes) h)
 
   -- ---- what is read
 
@@ -180,7 +180,7 @@ module _ (c old new : Circuit) (k : ℕ) (is : IsCircuit c) (to : UnrollsTo c k 
 
   -- the values of the new step
   abbrev pub next_values : (ℕ → Bool) → ℕ → Bool
-  next_values y n = cond (list_any (λ m. m == n) leaves) (edge_value old.nodes y (get_or nexts (place_of leaves n) no_edge)) (y (get_or added (place_of others n) 0))
+  next_values y n = cond (list_any (λ m. m == n) leaves) (edge_value old.nodes y (get_or nexts (position_of leaves n) no_edge)) (y (get_or added (position_of others n) 0))
 
   -- each latch's leaf has its next edge
   length-nexts : length leaves ≡ length nexts
@@ -192,8 +192,8 @@ module _ (c old new : Circuit) (k : ℕ) (is : IsCircuit c) (to : UnrollsTo c k 
       let n = get_or others i 0 in
       let no_latch = (others-are c is.nodes i 0 h).1 in
       let test : list_any (λ m. m == n) leaves ≡ false = false_from_ne_true (list_any (λ m. m == n) leaves) (λ e. no_latch (is_in-back leaves n e)) in
-      ap (λ b. cond b (edge_value old.nodes y (get_or nexts (place_of leaves n) no_edge)) (y (get_or added (place_of others n) 0))) test
-      ∙ ap (λ j. y (get_or added j 0)) (place_of-get_or others i (others-distinct c is.nodes) h)
+      ap (λ b. cond b (edge_value old.nodes y (get_or nexts (position_of leaves n) no_edge)) (y (get_or added (position_of others n) 0))) test
+      ∙ ap (λ j. y (get_or added j 0)) (position_of-get_or others i (others-distinct c is.nodes) h)
 
   -- they are read off the old next edges and the added inputs
   pub reads_next_values : (y : ℕ → Bool) → ReadsNext c old added y (next_values y)
@@ -205,8 +205,8 @@ module _ (c old new : Circuit) (k : ℕ) (is : IsCircuit c) (to : UnrollsTo c k 
       at_latch : (i : ℕ) → i < length leaves → next_values y (get_or leaves i 0) ≡ edge_value old.nodes y (get_or nexts i no_edge)
       at_latch i h =
           let n = get_or leaves i 0 in
-          ap (λ b. cond b (edge_value old.nodes y (get_or nexts (place_of leaves n) no_edge)) (y (get_or added (place_of others n) 0))) (is_in-there leaves n (Contains-get_or leaves i 0 h))
-          ∙ ap (λ j. edge_value old.nodes y (get_or nexts j no_edge)) (place_of-get_or leaves i is.latchs_distinct h)
+          ap (λ b. cond b (edge_value old.nodes y (get_or nexts (position_of leaves n) no_edge)) (y (get_or added (position_of others n) 0))) (is_in-there leaves n (Contains-get_or leaves i 0 h))
+          ∙ ap (λ j. edge_value old.nodes y (get_or nexts j no_edge)) (position_of-get_or leaves i is.latchs_distinct h)
 
   -- what reads the same values agrees at each leaf
   pub reads_same : (y x z : ℕ → Bool) → ReadsNext c old added y x → ReadsNext c old added y z → (n : ℕ) → IsLeaf c.nodes n → x n ≡ z n

@@ -19,7 +19,7 @@ use Rattle.aig_renumber.proofs.Places.{All-from_map}
 use Rattle.aig_unroll.specs.Places.{leaves_after, other_leaves}
 use Rattle.aig_unroll.specs.Step.{AppendsImages, CopiesAll, HaveNextImages, image_at, image_in}
 use Rattle.aig_unroll.specs.Unroll.{ReadsNext, UnrollsOnce, UnrollsTo, starts_of}
-use Rattle.aig_unroll.proofs.Added.{behind-are, behind-distinct, IsBehind}
+use Rattle.aig_unroll.proofs.Added.{following-are, following-distinct, IsBehind}
 use Rattle.aig_unroll.proofs.Copied.{edge_value-image_in}
 use Rattle.aig_unroll.proofs.Lists.{all_from_zips, zip_weaker}
 use Rattle.aig_unroll.proofs.NextStep.{leaf_cases}
@@ -73,7 +73,7 @@ module _ (from old new : Circuit) (images : List AigEdge) (is_from : IsCircuit f
       (All-map P (map (image_in images)) from.justice (All-weaker (All (IsInRange from.nodes)) (λ es. P (map (image_in images) es)) images_there from.justice is_from.justice)))
 
   added_are : All (IsBehind new.nodes copies.grows.sound (length old.nodes)) added
-  added_are = behind-are new.nodes copies.grows.sound (length old.nodes)
+  added_are = following-are new.nodes copies.grows.sound (length old.nodes)
 
   inputs_are : All (IsLeaf new.nodes) (old.inputs ++ added)
   inputs_are =
@@ -81,7 +81,7 @@ module _ (from old new : Circuit) (images : List AigEdge) (is_from : IsCircuit f
 
   inputs_differ : AllPairs (λ m n. m ≢ n) (old.inputs ++ added)
   inputs_differ =
-      AllPairs-append (λ m n. m ≢ n) old.inputs added is_old.inputs_distinct (behind-distinct new.nodes copies.grows.sound (length old.nodes))
+      AllPairs-append (λ m n. m ≢ n) old.inputs added is_old.inputs_distinct (following-distinct new.nodes copies.grows.sound (length old.nodes))
       (λ k d h j e l q. absurd (omega (arith, kind_at-within old.nodes (get_or old.inputs k d) Leaf (is_old.inputs k d h), (added_are j e l).1)))
 
   latch_leaf_there : All (IsLeaf new.nodes) (latch_leaves new.latchs)
@@ -147,7 +147,7 @@ module _ (from old new : Circuit) (images : List AigEdge) (is_from : IsCircuit f
   other_values : (y : ℕ → Bool) → AllZip (λ n input. edge_value new.nodes y (image_at images n) ≡ y input) (other_leaves from) added
   other_values y =
       zip_weaker (λ n input. image_at images n ≡ edge_to input false) (λ n input. edge_value new.nodes y (image_at images n) ≡ y input) (IsBehind new.nodes copies.grows.sound (length old.nodes)) (other_leaves from) added
-      (λ n input behind same. ap (edge_value new.nodes y) same ∙ node_value-leaf new.nodes y input behind.0)
+      (λ n input following same. ap (edge_value new.nodes y) same ∙ node_value-leaf new.nodes y input following.0)
       added_are
       (zip_of_map (image_at images) (λ n. edge_to n false) (other_leaves from) added copies.others)
 

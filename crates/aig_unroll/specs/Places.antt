@@ -5,7 +5,7 @@ use Rattle.std.specs.List.{list_any}
 use Rattle.aig_circuit.specs.declared.node.AigNode.{AigNode}
 use Rattle.aig_circuit.specs.Circuit.{Circuit, latch_leaves}
 use Rattle.aig_circuit.specs.Runs.{is_leaf}
-use Rattle.aig_circuit.specs.Renumber.{place_of}
+use Rattle.aig_circuit.specs.Renumber.{position_of}
 
 -- the node is a leaf that is no latch's
 abbrev pub is_other_leaf : Circuit → AigNode → Bool
@@ -27,7 +27,7 @@ abbrev pub place_at : Circuit → Circuit → ℕ → ℕ → ℕ
 place_at c unrolled zero n = n
 place_at c unrolled (suc t) n =
     let m = length (other_leaves c) in
-    slice_index unrolled.inputs (length c.inputs + t * m + place_of (other_leaves c) n)
+    slice_index unrolled.inputs (length c.inputs + t * m + position_of (other_leaves c) n)
 
 -- x reads the steps 0 to k off the leaf values y of the unrolled circuit: the first state at the
 -- latches' leaves, and all else at its places

@@ -12,7 +12,7 @@ use Rattle.aig_format.proofs.Entries.{chosen}
 use Rattle.aig_parsing.specs.Parse.{◌>>=◌, parse_both, parse_ended, parse_map, strip}
 use Rattle.aig_parsing.proofs.Numbers.{bind_some}
 use Rattle.aig_parsing.proofs.Joined.{Reads, Reads-both, Reads-ended, Reads-mapped}
-use Rattle.aig_parsing.proofs.Sections.{Reads-behind}
+use Rattle.aig_parsing.proofs.Sections.{Reads-following}
 use Rattle.aig_parsing.proofs.Printed.{number_written}
 use Rattle.aig_witness.specs.Reading.{after_comments, parse_first, parse_next, parse_parts, parse_point_after, parse_property, parse_row_after, parse_steps_after, value_of_letter, parse_witness, witness_from}
 use Rattle.aig_witness.specs.Witness.{SpellsWitness, Witness, letter_of, row_text, witness_text}
@@ -183,7 +183,7 @@ no_digit h = omega arith
 Reads-parts : Reads PartsText parse_parts
 Reads-parts =
     Reads-both (λ n. Just (98 ∷ []) then Ended 10 n) (λ _ y. Just (row_text y.0) then Lines y.1 then Just (46 ∷ 10 ∷ [])) parse_property (λ _. parse_both (parse_row_after []) (λ _. parse_steps_after [] []))
-    (Reads-behind (98 ∷ []) (Ended 10) (parse_ended 10) (Reads-ended 10 no_digit))
+    (Reads-following (98 ∷ []) (Ended 10) (parse_ended 10) (Reads-ended 10 no_digit))
     (λ _. Reads-both (λ row. Just (row_text row)) (λ _ steps. Lines steps then Just (46 ∷ 10 ∷ [])) (parse_row_after []) (λ _. parse_steps_after [] []) Reads-row (λ _. Reads-steps))
 
 abbrev parts : Witness → ℕ × (List Lbool × List (List Lbool))
@@ -191,7 +191,7 @@ parts w = (w.bad, (w.state, w.steps))
 
 pub Reads-witness : Reads SpellsWitness parse_witness
 Reads-witness =
-    Reads-behind (49 ∷ 10 ∷ []) (λ w. PartsText (parts w)) (parse_map witness_from parse_parts)
+    Reads-following (49 ∷ 10 ∷ []) (λ w. PartsText (parts w)) (parse_map witness_from parse_parts)
     (Reads-mapped PartsText (λ w. PartsText (parts w)) parse_parts witness_from parts Reads-parts (λ x bytes h. h) (λ w bytes h. h) (λ w. refl))
 
 -- where a witness is read, no comment stands
@@ -219,15 +219,15 @@ unfolding witness_text
 written_spelled w lt =
     let number = decimal w.bad ++ 10 ∷ [] in
     let lines = flat_map row_text w.steps in
-    let behind = row_text w.state ++ (lines ++ 46 ∷ 10 ∷ []) in
-    let regroup : witness_text w ≡ (49 ∷ 10 ∷ []) ++ ((98 ∷ number) ++ behind) = simp append_assoc in (
+    let following = row_text w.state ++ (lines ++ 46 ∷ 10 ∷ []) in
+    let regroup : witness_text w ≡ (49 ∷ 10 ∷ []) ++ ((98 ∷ number) ++ following) = simp append_assoc in (
       49 ∷ 10 ∷ [],
-      (98 ∷ number) ++ behind,
+      (98 ∷ number) ++ following,
       regroup,
       refl,
       (
         98 ∷ number,
-        behind,
+        following,
         refl,
         (98 ∷ [], number, refl, refl, (decimal w.bad, 10 ∷ [], refl, number_written w.bad lt, refl)),
         (row_text w.state, lines ++ 46 ∷ 10 ∷ [], refl, refl, (lines, 46 ∷ 10 ∷ [], refl, lines_spelled w.steps, refl)),

@@ -30,7 +30,7 @@ fn read_row<F: ByteFeed>(alloc: Global, f: &mut F, first: u8) -> Result<Vec<Lboo
     ensures exact { Gives OnWitness (λ row. row.items)
         (F.coming f.old) (F.coming f.new) result (λ bs. parse_row_after [] (first ∷ bs)) }
     ensures stream { IsErrOf result WitnessError.Stream → F.failed f.new ≡ true }
-    ensures same { F.behind f.new ≡ F.behind f.old }
+    ensures same { F.source_name f.new ≡ F.source_name f.old }
     ensures fewer { OnOk result (F.turns f.new ≤ F.turns f.old) }
 {
     let mut row = Vec::new(alloc);
@@ -53,7 +53,7 @@ fn read_state<F: ByteFeed>(alloc: Global, f: &mut F) -> Result<Vec<Lbool>, Witne
     ensures exact { Gives OnWitness (λ row. row.items)
         (F.coming f.old) (F.coming f.new) result (parse_row_after []) }
     ensures stream { IsErrOf result WitnessError.Stream → F.failed f.new ≡ true }
-    ensures same { F.behind f.new ≡ F.behind f.old }
+    ensures same { F.source_name f.new ≡ F.source_name f.old }
 {
     let Some(first) = f.next()? else {
         return Err(WitnessError::Values);
@@ -68,7 +68,7 @@ fn ends_line<F: ByteFeed>(f: &mut F) -> Result<bool, StreamFault>
     ensures misses { IfOk result
         (λ yes. yes ≡ false → Misses (parse_expected 10) (F.coming f.old)) }
     ensures stream { OnErr result (F.failed f.new ≡ true) }
-    ensures same { F.behind f.new ≡ F.behind f.old }
+    ensures same { F.source_name f.new ≡ F.source_name f.old }
 {
     match f.next()? {
         Some(b'\n') => Ok(true),
@@ -81,7 +81,7 @@ fn read_steps<F: ByteFeed>(alloc: Global, f: &mut F) -> Result<Vec<Vec<Lbool>>, 
     ensures exact { Gives OnWitness (λ steps. rows_of steps.items)
         (F.coming f.old) (F.coming f.new) result (parse_steps_after [] []) }
     ensures stream { IsErrOf result WitnessError.Stream → F.failed f.new ≡ true }
-    ensures same { F.behind f.new ≡ F.behind f.old }
+    ensures same { F.source_name f.new ≡ F.source_name f.old }
 {
     let mut steps = Vec::new(alloc);
     while let Some(first) = f.next()? {
@@ -102,7 +102,7 @@ fn read_property<F: ByteFeed>(f: &mut F) -> Result<u32, WitnessError>
     ensures exact { Gives OnWitness (λ bad. bad)
         (F.coming f.old) (F.coming f.new) result parse_property }
     ensures stream { IsErrOf result WitnessError.Stream → F.failed f.new ≡ true }
-    ensures same { F.behind f.new ≡ F.behind f.old }
+    ensures same { F.source_name f.new ≡ F.source_name f.old }
 {
     let Some(b'b') = f.next()? else {
         return Err(WitnessError::Property);
@@ -119,7 +119,7 @@ fn read_parts<F: ByteFeed>(alloc: Global, f: &mut F) -> Result<Witness, WitnessE
     ensures exact { Gives OnWitness parts_of
         (F.coming f.old) (F.coming f.new) result parse_parts }
     ensures stream { IsErrOf result WitnessError.Stream → F.failed f.new ≡ true }
-    ensures same { F.behind f.new ≡ F.behind f.old }
+    ensures same { F.source_name f.new ≡ F.source_name f.old }
 {
     let bad = read_property(f)?;
     let state = read_state(alloc, f)?;
@@ -132,7 +132,7 @@ fn read_after<F: ByteFeed>(alloc: Global, f: &mut F, first: u8) -> Result<Witnes
     ensures exact { Gives OnWitness said_by
         (F.coming f.old) (F.coming f.new) result (λ bs. parse_witness (first ∷ bs)) }
     ensures stream { IsErrOf result WitnessError.Stream → F.failed f.new ≡ true }
-    ensures same { F.behind f.new ≡ F.behind f.old }
+    ensures same { F.source_name f.new ≡ F.source_name f.old }
 {
     if first != b'1' {
         return Err(WitnessError::Status);
@@ -159,7 +159,7 @@ pub fn read_witness<F: ByteFeed>(alloc: Global, f: &mut F) -> Result<Option<Witn
     // nothing follows; or known bytes are neither.
     ensures exact { GivesNext (F.coming f.old) (F.coming f.new) result }
     ensures stream { IsErrOf result WitnessError.Stream → F.failed f.new ≡ true }
-    ensures same { F.behind f.new ≡ F.behind f.old }
+    ensures same { F.source_name f.new ≡ F.source_name f.old }
 {
     let mut inside = false;
     while let Some(b) = f.next()? {

@@ -5,18 +5,18 @@ use Rattle.std.proofs.lemmas.List.{drop_more, get_or-replicate, get_or-take, tak
 use Rattle.aig_format.specs.Written.{line_text}
 
 -- what stands after a number of a line
-abbrev pub behind : List ℕ → List ℕ
-behind [] = 10 ∷ []
-behind (n ∷ ns) = 32 ∷ line_text (n ∷ ns)
+abbrev pub following : List ℕ → List ℕ
+following [] = 10 ∷ []
+following (n ∷ ns) = 32 ∷ line_text (n ∷ ns)
 
-line_text-cons : (n : ℕ) (ns : List ℕ) → line_text (n ∷ ns) ≡ decimal n ++ behind ns
+line_text-cons : (n : ℕ) (ns : List ℕ) → line_text (n ∷ ns) ≡ decimal n ++ following ns
 unfolding line_text
 line_text-cons n [] = refl
 line_text-cons n (m ∷ ns) = refl
 
 -- from the place before `start` on, the text is what stands after a number, and blanks are before that
 pub record Built (text : List ℕ) (start : ℕ) (ns : List ℕ) : Type 0 where
-  pub written : drop (start - 1) text ≡ behind ns
+  pub written : drop (start - 1) text ≡ following ns
   pub blank : take (start - 1) text ≡ replicate (start - 1) 32
 
 -- one more number, which begins at `at`

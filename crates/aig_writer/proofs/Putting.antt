@@ -94,7 +94,7 @@ buffering_laws held failed = record {
   before = λ a b s t h. rw (← append_assoc a.0 s t) (Stops-before t h);
 }
 
--- the same of a sink behind a buffer, which is held by one reference throughout
+-- the same of a sink with a buffer before it, which is held by one reference throughout
 pub sink_laws : {W : Type 0} (held : W → Option (List ℕ)) (failed : W → Bool) → WritingLaws
     (λ (a : BufferedSink W) (text : List ℕ) (b : BufferedSink W). (b.sink.ghost_name ≡ a.sink.ghost_name) × Buffers a.buffer (held a.sink.now) b.buffer (held b.sink.now) text)
     (λ (a : BufferedSink W) (text : List ℕ) (b : BufferedSink W). (b.sink.ghost_name ≡ a.sink.ghost_name) × Stops (held a.sink.now) (held b.sink.now) (failed b.sink.now) (a.buffer ++ text))

@@ -1,4 +1,4 @@
-//! A sink behind a buffer, as what a text is written to.
+//! A sink with a buffer before it, as what a text is written to.
 
 ghost use Rattle.std.specs.Prelude.{◌≡◌, ◌++◌, []};
 ghost use Rattle.aig_writer.specs.Sinks.{Buffers, Stops, WritesOrStops};

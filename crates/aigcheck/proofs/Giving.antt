@@ -19,20 +19,20 @@ word_alone (w ∷ []) first low high at = ap (λ x. string_bytes x ∷ []) (sym 
 word_alone (w ∷ x ∷ ws) first low high at = absurd (omega arith)
 
 -- the words after so many
-abbrev pub behind : ℕ → List (String Global) → List (String Global)
-behind n words = take (length words - n) (drop n words)
+abbrev pub following : ℕ → List (String Global) → List (String Global)
+following n words = take (length words - n) (drop n words)
 
-pub with_first : (words : List (String Global)) (first : String Global) → 1 ≤ length words → first ≡ get_or words 0 first → map string_bytes words ≡ string_bytes first ∷ map string_bytes (behind 1 words)
+pub with_first : (words : List (String Global)) (first : String Global) → 1 ≤ length words → first ≡ get_or words 0 first → map string_bytes words ≡ string_bytes first ∷ map string_bytes (following 1 words)
 with_first [] first low at = absurd (omega arith)
 with_first (w ∷ ws) first low at =
     ap (λ x. string_bytes x ∷ map string_bytes ws) (sym at) ∙ ap (λ l. string_bytes first ∷ map string_bytes l) (sym (take_all (length (w ∷ ws) - 1) ws (omega arith)))
 
-pub with_some : (words : List (String Global)) → 1 ≤ length words → (first : List ℕ) × (map string_bytes words ≡ first ∷ map string_bytes (behind 1 words))
+pub with_some : (words : List (String Global)) → 1 ≤ length words → (first : List ℕ) × (map string_bytes words ≡ first ∷ map string_bytes (following 1 words))
 with_some [] low = absurd (omega arith)
 with_some (w ∷ ws) low = (string_bytes w, with_first (w ∷ ws) w low refl)
 
 pub with_steps : (words : List (String Global)) (name steps : String Global) → 3 ≤ length words → name ≡ get_or words 0 name → steps ≡ get_or words 2 steps
-    → (file : List ℕ) × (map string_bytes words ≡ string_bytes name ∷ file ∷ string_bytes steps ∷ map string_bytes (behind 3 words))
+    → (file : List ℕ) × (map string_bytes words ≡ string_bytes name ∷ file ∷ string_bytes steps ∷ map string_bytes (following 3 words))
 with_steps [] name steps low at third = absurd (omega arith)
 with_steps (w ∷ []) name steps low at third = absurd (omega arith)
 with_steps (w ∷ x ∷ []) name steps low at third = absurd (omega arith)
@@ -63,7 +63,7 @@ distinct_exactly words rest x is told Distinct o = (
       let same : x ≡ o = ap (λ (p : Window × Bool). p.1) (same_Some _ _ h) in
       is ∙ ap (λ l. codes "distinct" ∷ l) ((told o).0 (ap (λ y. Some y) same)),
   λ h.
-      let behind : codes "distinct" ∷ rest ≡ codes "distinct" ∷ clause_words o = sym is ∙ h in
+      let following : codes "distinct" ∷ rest ≡ codes "distinct" ∷ clause_words o = sym is ∙ h in
       let these : rest ≡ clause_words o = cc in
       let same : x ≡ o = same_Some _ _ ((told o).1 these) in
       ap (λ y. Some (Distinct, y)) same,
@@ -91,10 +91,10 @@ abbrev pub TellsLast : Option Command → List ℕ → ℕ → List (List ℕ) �
 TellsLast r name k words = (c : Command) → (r ≡ Some c) ↔ GiveLast name k words c
 
 -- a command is given by its settings after one word
-behind_word : {X : Type 0} (words_of : X → List (List ℕ)) (make : X → Command) (name : List ℕ) (k : ℕ) (words : List (List ℕ)) (given : List ℕ) (last : List (List ℕ)) → words ≡ given ∷ last
+following_word : {X : Type 0} (words_of : X → List (List ℕ)) (make : X → Command) (name : List ℕ) (k : ℕ) (words : List (List ℕ)) (given : List ℕ) (last : List (List ℕ)) → words ≡ given ∷ last
     → ((c : Command) → GiveLast name k words c → (x : X) × (c ≡ make x) × (word : List ℕ) × (words ≡ word ∷ words_of x)) → ((x : X) → (word : List ℕ) × (words ≡ word ∷ words_of x) → GiveLast name k words (make x))
     → (told : Option X) → ((x : X) → (told ≡ Some x) ↔ (last ≡ words_of x)) → (x : X) → told ≡ Some x → TellsLast (Some (make x)) name k words
-behind_word words_of make name k words given last are only so told tells x has c = (
+following_word words_of make name k words given last are only so told tells x has c = (
   λ is. subst (GiveLast name k words) (same_Some _ _ is) (so x (given, are ∙ ap (λ l. given ∷ l) ((tells x).0 has))),
   λ g.
       let h = only c g in
@@ -146,14 +146,14 @@ witness_alone commands.Run k words g = absurd g.2
 -- what the settings after a word tell
 module _ (name : List ℕ) (k : ℕ) (words : List (List ℕ)) (given : List ℕ) (last : List (List ℕ)) (are : words ≡ given ∷ last) where
   pub some_refuted : name ≡ codes "refuted" → (told : Option Bool) → TellsClauses told last → (o : Bool) → told ≡ Some o → TellsLast (Some (commands.Refuted k o)) name k words
-  some_refuted is = behind_word clause_words (λ o. commands.Refuted k o) name k words given last are (λ c g. refuted_alone c k words (sym is ∙ g.0, g.1, g.2)) (λ o w. (is, refl, w))
+  some_refuted is = following_word clause_words (λ o. commands.Refuted k o) name k words given last are (λ c g. refuted_alone c k words (sym is ∙ g.0, g.1, g.2)) (λ o w. (is, refl, w))
 
   pub some_inductive : name ≡ codes "inductive" → (told : Option (Window × Bool)) → TellsSettings told last → (p : Window × Bool) → told ≡ Some p → TellsLast (Some (commands.Inductive k p.0 p.1)) name k words
   some_inductive is told tells =
-      behind_word (λ (p : Window × Bool). setting_words p.0 p.1) (λ p. commands.Inductive k p.0 p.1) name k words given last are (λ c g. inductive_alone c k words (sym is ∙ g.0, g.1, g.2)) (λ p w. (is, refl, w)) told (λ p. tells p.0 p.1)
+      following_word (λ (p : Window × Bool). setting_words p.0 p.1) (λ p. commands.Inductive k p.0 p.1) name k words given last are (λ c g. inductive_alone c k words (sym is ∙ g.0, g.1, g.2)) (λ p w. (is, refl, w)) told (λ p. tells p.0 p.1)
 
   pub some_witness : name ≡ codes "witness" → (told : Option Bool) → TellsClauses told last → (o : Bool) → told ≡ Some o → TellsLast (Some (commands.Witness k o)) name k words
-  some_witness is = behind_word clause_words (λ o. commands.Witness k o) name k words given last are (λ c g. witness_alone c k words (sym is ∙ g.0, g.1, g.2)) (λ o w. (is, refl, w))
+  some_witness is = following_word clause_words (λ o. commands.Witness k o) name k words given last are (λ c g. witness_alone c k words (sym is ∙ g.0, g.1, g.2)) (λ o w. (is, refl, w))
 
 -- ---- steps
 

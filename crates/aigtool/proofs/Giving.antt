@@ -86,36 +86,36 @@ words_of_one [] first low high at = absurd (omega arith)
 words_of_one (w ∷ []) first low high at = ap (λ x. string_bytes x ∷ []) (sym at)
 words_of_one (w ∷ x ∷ ws) first low high at = absurd (omega arith)
 
-abbrev pub behind : List (String Global) → List (String Global)
-behind words = take (length words - 2) (drop 2 words)
+abbrev pub following : List (String Global) → List (String Global)
+following words = take (length words - 2) (drop 2 words)
 
 pub with_rest : (words : List (String Global)) (first : String Global) (name : List ℕ) → 2 ≤ length words → first ≡ get_or words 0 first → string_bytes first ≡ name
-    → (file : List ℕ) × (map string_bytes words ≡ name ∷ file ∷ map string_bytes (behind words))
+    → (file : List ℕ) × (map string_bytes words ≡ name ∷ file ∷ map string_bytes (following words))
 with_rest [] first name low at is = absurd (omega arith)
 with_rest (w ∷ []) first name low at is = absurd (omega arith)
 with_rest (w ∷ x ∷ ws) first name low at is =
     (string_bytes x, ap (λ y. string_bytes y ∷ string_bytes x ∷ map string_bytes ws) (sym at) ∙ ap (λ n. n ∷ string_bytes x ∷ map string_bytes ws) is ∙ ap (λ l. name ∷ string_bytes x ∷ map string_bytes l) (sym (take_all (length (w ∷ x ∷ ws) - 2) ws (omega arith))))
 
-none_behind : (ws : List (String Global)) → length ws < 1 → map string_bytes ws ≡ []
-none_behind [] low = refl
-none_behind (w ∷ ws) low = absurd (omega arith)
+none_following : (ws : List (String Global)) → length ws < 1 → map string_bytes ws ≡ []
+none_following [] low = refl
+none_following (w ∷ ws) low = absurd (omega arith)
 
-one_behind : (ws : List (String Global)) → 1 ≤ length ws → length ws < 2 → (out : List ℕ) × (map string_bytes ws ≡ out ∷ [])
-one_behind [] low high = absurd (omega arith)
-one_behind (w ∷ []) low high = (string_bytes w, refl)
-one_behind (w ∷ x ∷ ws) low high = absurd (omega arith)
+one_following : (ws : List (String Global)) → 1 ≤ length ws → length ws < 2 → (out : List ℕ) × (map string_bytes ws ≡ out ∷ [])
+one_following [] low high = absurd (omega arith)
+one_following (w ∷ []) low high = (string_bytes w, refl)
+one_following (w ∷ x ∷ ws) low high = absurd (omega arith)
 
-pub with_nothing : (words : List (String Global)) (first : String Global) (name : List ℕ) → 2 ≤ length words → first ≡ get_or words 0 first → string_bytes first ≡ name → length (behind words) < 1
+pub with_nothing : (words : List (String Global)) (first : String Global) (name : List ℕ) → 2 ≤ length words → first ≡ get_or words 0 first → string_bytes first ≡ name → length (following words) < 1
     → (file : List ℕ) × (map string_bytes words ≡ name ∷ file ∷ [])
 with_nothing words first name low at is none =
     let all = with_rest words first name low at is in
-    (all.0, all.1 ∙ ap (λ l. name ∷ all.0 ∷ l) (none_behind (behind words) none))
+    (all.0, all.1 ∙ ap (λ l. name ∷ all.0 ∷ l) (none_following (following words) none))
 
-pub with_one : (words : List (String Global)) (first : String Global) (name : List ℕ) → 2 ≤ length words → first ≡ get_or words 0 first → string_bytes first ≡ name → 1 ≤ length (behind words) → length (behind words) < 2
+pub with_one : (words : List (String Global)) (first : String Global) (name : List ℕ) → 2 ≤ length words → first ≡ get_or words 0 first → string_bytes first ≡ name → 1 ≤ length (following words) → length (following words) < 2
     → (file out : List ℕ) × (map string_bytes words ≡ name ∷ file ∷ out ∷ [])
 with_one words first name low at is some few =
     let all = with_rest words first name low at is in
-    let one = one_behind (behind words) some few in
+    let one = one_following (following words) some few in
     (all.0, one.0, all.1 ∙ ap (λ l. name ∷ all.0 ∷ l) one.1)
 
 pub words_of_pair : (words : List (String Global)) (first second : String Global) → 2 ≤ length words → length words < 3 → first ≡ get_or words 0 first → second ≡ get_or words 1 second

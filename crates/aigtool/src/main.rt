@@ -3,8 +3,6 @@
 
 mod command;
 mod output;
-#[cfg(test)]
-mod tests;
 mod tool;
 
 use crate::output::Output;

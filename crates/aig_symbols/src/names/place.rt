@@ -29,7 +29,7 @@ fn position<F: ByteFeed>(f: &mut F, first: u8) -> Result<u32, LexError>
     ensures exact { Gives LexUnlessTransient (λ x. x)
         (F.coming f.old) (F.coming f.new) result (parse_position first) }
     ensures stream { IsErrOf result LexError.Stream → F.failed f.new ≡ true }
-    ensures same { F.behind f.new ≡ F.behind f.old }
+    ensures same { F.source_name f.new ≡ F.source_name f.old }
     ensures fewer { OnOk result (F.turns f.new < F.turns f.old) }
 {
     let (position, end) = number_from(f, first)?;
@@ -53,7 +53,7 @@ pub fn read_place<F: ByteFeed>(
         (λ n. nat_lt n (count_of (numbers_of header.now) (letter_of_section section)))) }
     ensures section { IfOk result (λ place. place.section ≡ section) }
     ensures stream { IsErrOf result LexError.Stream → F.failed f.new ≡ true }
-    ensures same { F.behind f.new ≡ F.behind f.old }
+    ensures same { F.source_name f.new ≡ F.source_name f.old }
     ensures fewer { OnOk result (F.turns f.new < F.turns f.old) }
 {
     let position = position(f, first)?;

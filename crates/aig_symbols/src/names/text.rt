@@ -18,7 +18,7 @@ fn name_bytes<F: ByteFeed>(alloc: Global, f: &mut F) -> Result<Vec<u8>, NameErro
     ensures exact { Gives NameUnlessTransient (λ text. text.items)
         (F.coming f.old) (F.coming f.new) result parse_text }
     ensures stream { IsErrOf result NameError.Stream → F.failed f.new ≡ true }
-    ensures same { F.behind f.new ≡ F.behind f.old }
+    ensures same { F.source_name f.new ≡ F.source_name f.old }
     ensures fewer { OnOk result (F.turns f.new < F.turns f.old) }
 {
     let mut text = Vec::new(alloc);
@@ -36,7 +36,7 @@ pub fn kept_text<F: ByteFeed>(alloc: Global, f: &mut F) -> Result<String, NameEr
     ensures exact { Gives NameUnlessTransient (λ text. string_bytes text)
         (F.coming f.old) (F.coming f.new) result (parse_if parse_text is_utf8) }
     ensures stream { IsErrOf result NameError.Stream → F.failed f.new ≡ true }
-    ensures same { F.behind f.new ≡ F.behind f.old }
+    ensures same { F.source_name f.new ≡ F.source_name f.old }
     ensures fewer { OnOk result (F.turns f.new < F.turns f.old) }
 {
     let bytes = name_bytes(alloc, f)?;
@@ -48,7 +48,7 @@ pub fn skip_text<F: ByteFeed>(f: &mut F) -> Result<(), LexError>
     ensures exact { Makes LexUnlessTransient (λ _ _. Unit {0})
         (F.coming f.old) (F.coming f.new) result parse_text }
     ensures stream { IsErrOf result LexError.Stream → F.failed f.new ≡ true }
-    ensures same { F.behind f.new ≡ F.behind f.old }
+    ensures same { F.source_name f.new ≡ F.source_name f.old }
     ensures fewer { OnOk result (F.turns f.new < F.turns f.old) }
 {
     while let Some(b) = f.next()? {
@@ -65,7 +65,7 @@ pub fn skip_rest<F: ByteFeed>(f: &mut F) -> Result<(), StreamFault>
         ((taken : List ℕ) × Consumes (F.coming f.old) (F.coming f.new) taken) }
     ensures whole { OnOk result ((F.failed f.new ≡ false) × IsAtEnd (F.coming f.new)) }
     ensures stream { OnErr result (F.failed f.new ≡ true) }
-    ensures same { F.behind f.new ≡ F.behind f.old }
+    ensures same { F.source_name f.new ≡ F.source_name f.old }
 {
     while let Some(_) = f.next()? {}
     Ok(())

@@ -3,7 +3,7 @@ use Rattle.std.proofs.lemmas.Result.{err_from_is_err_and}
 use Rattle.aig_encode.specs.declared.query_clauses.Query.{Query}
 use Rattle.aig_encode.specs.Encoding.{IsQuery}
 use Rattle.aig_answers.specs.declared.error.AnswerError.TheVariants as errors
-use Rattle.aig_answers.proofs.Files.{answered_alike, none_told, refused_alike, some_told}
+use Rattle.aig_answers.proofs.Files.{answered_alike, answered_nothing, none_told, refused_alike, refused_nothing, some_told}
 use Rattle.aig_answers.proofs.step.check_step.Goals as goal
 
 pub returns-in_err-asked-clause-file : goal.returns-in_err-asked-clause-file
@@ -39,3 +39,24 @@ returns-clause-answer g c =
       means = c.refuted_queries_have_no_witness.ensures o.file c.args.k _ _ _ _ o.means.1 none;
       taken = o.taken;
     }
+
+pub returns-in_err-asked-clause-bads : goal.returns-in_err-asked-clause-bads
+returns-in_err-asked-clause-bads g c =
+    let p = err_from_is_err_and c.from_residual.result c.from_residual.ensures.1 in
+    rw (p.1, p.2) (refused_nothing g.R.Source.left c.args.limit c.args.k c.args.r.now _ (IsQuery c.args.k c.args.optimize) c.in_err-asked.field-0.0 c.in_err-asked.ensures.exact)
+
+pub returns-then-is_empty-clause-bads : goal.returns-then-is_empty-clause-bads
+returns-then-is_empty-clause-bads g c =
+    answered_nothing g.R.Source.left c.args.limit c.args.k c.args.r.now Unit (IsQuery c.args.k c.args.optimize) c.in_ok-asked.asked (Err errors.NoBads)
+    (λ f means. (λ is. none_told f c.in_ok-asked.asked.encoded.circuit _ _ means.0.of_file c.bads.ensures.value c.is_empty.ensures c.if-is_empty.true, λ none. refl)) c.in_ok-asked.ensures.exact
+
+pub returns-in_err-check_refutation-clause-bads : goal.returns-in_err-check_refutation-clause-bads
+returns-in_err-check_refutation-clause-bads g c =
+    let p = err_from_is_err_and c.from_residual-in_err-check_refutation.result c.from_residual-in_err-check_refutation.ensures.1 in
+    rw (p.1, p.2) (answered_nothing g.R.Source.left c.args.limit c.args.k c.args.r.now Unit (IsQuery c.args.k c.args.optimize) c.in_ok-asked.asked (Err (errors.Refutation c.in_err-check_refutation.field-0.0))
+    (λ f means. (λ is. cc, λ none. absurd (some_told f c.in_ok-asked.asked.encoded.circuit _ _ means.0.of_file c.bads.ensures.value c.is_empty.ensures c.if-is_empty.false none))) c.in_ok-asked.ensures.exact)
+
+pub returns-clause-bads : goal.returns-clause-bads
+returns-clause-bads g c =
+    answered_nothing g.R.Source.left c.args.limit c.args.k c.args.r.now Unit (IsQuery c.args.k c.args.optimize) c.in_ok-asked.asked (Ok tt)
+    (λ f means. (λ is. cc, λ none. absurd (some_told f c.in_ok-asked.asked.encoded.circuit _ _ means.0.of_file c.bads.ensures.value c.is_empty.ensures c.if-is_empty.false none))) c.in_ok-asked.ensures.exact

@@ -1,7 +1,11 @@
 use Rattle.std.proofs.Common.{◌+◌}
 use Rattle.std.proofs.lemmas.Result.{err_from_is_err_and}
+use Rattle.aig_circuit.specs.Circuit.{Circuit}
+use Rattle.aig.specs.Reading.{IsFileCircuit}
+use Rattle.aig_encode.specs.declared.error.EncodeError.TheVariants as encode
+use Rattle.aig_encode.proofs.Exactly.{refused_in_reading}
 use Rattle.aig_answers.proofs.Asking.{below_told}
-use Rattle.aig_answers.proofs.Files.{refused_reading, refused_room, window_room, window_told}
+use Rattle.aig_answers.proofs.Files.{OfFile, refused_nothing, refused_reading, refused_room, window_nothing, window_room, window_told}
 use Rattle.aig_answers.proofs.windows.window.Goals as goal
 
 pub returns-in_err-circuit-clause-file : goal.returns-in_err-circuit-clause-file
@@ -28,3 +32,14 @@ pub returns-clause-room : goal.returns-clause-room
 returns-clause-room g c =
     let read = c.in_ok-circuit.ensures in
     window_room g.R.Source.left c.args.form c.args.limit c.args.k c.args.r.now _ _ c.in_ok-circuit.circuit c.ask_window.result c.ask_window.ensures.room read.circuit read.exact
+
+pub returns-in_err-circuit-clause-bads : goal.returns-in_err-circuit-clause-bads
+returns-in_err-circuit-clause-bads g c =
+    let p = err_from_is_err_and c.from_residual.result c.from_residual.ensures.1 in
+    let e = c.in_err-circuit.field-0.0 in
+    rw (p.1, p.2) (refused_nothing g.R.Source.left c.args.limit (c.args.k + 1) c.args.r.now _ OfFile (encode.Read e) (refused_in_reading Circuit Unit IsFileCircuit OfFile c.args.limit (c.args.k + 1) e _ c.in_err-circuit.ensures.exact))
+
+pub returns-clause-bads : goal.returns-clause-bads
+returns-clause-bads g c =
+    let told = c.ask_window.ensures in
+    window_nothing g.R.Source.left c.args.limit (c.args.k + 1) c.args.r.now _ c.in_ok-circuit.circuit c.in_ok-circuit.ensures.exact c.ask_window.result told.large told.none told.some (λ crowded. (told.room.0 crowded).1) told.err

@@ -1,12 +1,12 @@
 use Rattle.aig_parsing.specs.Parse.{parse_number}
 use Rattle.aig_parsing.proofs.Numbers.{number_ends}
 use Rattle.aig_lexer.proofs.Going.{goes_start, goes_end}
-use Rattle.aig_lexer.proofs.Words.{gives_behind}
+use Rattle.aig_lexer.proofs.Words.{gives_following}
 use Rattle.aig_lexer.proofs.lexer.number.Goals as goal
 
 pub returns-in-Some-clause-exact : goal.returns-in-Some-clause-exact
 returns-in-Some-clause-exact g c =
-    gives_behind (λ x. (x.0, x.1)) parse_number _ _ (g.F.ByteFeed.coming c.number_from.new.f) c.in_ok-first.field-0 c.in-Some.first c.number_from.result c.in_ok-first.ensures.byte c.in-Some.is c.number_from.ensures.exact
+    gives_following (λ x. (x.0, x.1)) parse_number _ _ (g.F.ByteFeed.coming c.number_from.new.f) c.in_ok-first.field-0 c.in-Some.first c.number_from.result c.in_ok-first.ensures.byte c.in-Some.is c.number_from.ensures.exact
 
 pub returns-in-None-clause-exact : goal.returns-in-None-clause-exact
 returns-in-None-clause-exact g c =

@@ -9,7 +9,7 @@ invariant-loop-b g l = record {
   goes_on : GoesOn (parse_number_from l.fn.first) (g.F.ByteFeed.coming l.fn.f) (parse_digits l.value) (g.F.ByteFeed.coming l.f);
   small : l.value < 2 ^ 32;
   fewer : g.F.ByteFeed.turns l.f ≤ g.F.ByteFeed.turns l.fn.f;
-  same : g.F.ByteFeed.behind l.f ≡ g.F.ByteFeed.behind l.fn.f;
+  same : g.F.ByteFeed.source_name l.f ≡ g.F.ByteFeed.source_name l.fn.f;
 }
 
 abbrev pub decreases-loop-b : goal.decreases-loop-b

@@ -14,8 +14,8 @@ use Rattle.aig_ordering.proofs.gate_nodes.nodes.Goals as goal
 use Rattle.aig_ordering.proofs.gate_nodes.nodes.Goals.{After-push_node}
 
 -- what a kind adds
-abbrev behind : (c : After-push_node) → AigNodeType → List AigNode
-behind c kind = c.loop-gate.new.items ++ node_of (vec_len c.loop-gate.new) kind ∷ []
+abbrev following : (c : After-push_node) → AigNodeType → List AigNode
+following c kind = c.loop-gate.new.items ++ node_of (vec_len c.loop-gate.new) kind ∷ []
 
 module _ (c : After-push_node) where
   -- the node of the next gate
@@ -39,7 +39,7 @@ loop-gate-preserved c =
     let inv = c.loop-gate.invariant in
     let old = c.loop-gate.new in
     let new = c.push_node.new.new in
-    let made = mapped_some (behind here) _ _ c.in_ok-push_node.ensures in
+    let made = mapped_some (following here) _ _ c.in_ok-push_node.ensures in
     record {
       count = omega (arith, inv.count, old.ok.0, new.ok.0, ap length made.2, length_push old.items (node_of (vec_len old) made.0));
       kinds = inv.kinds ++ made.0 ∷ [];
@@ -54,7 +54,7 @@ returns-in_err-push_node c =
     let p = err_from_is_err_and c.from_residual-in_err-push_node.result c.from_residual-in_err-push_node.ensures.1 in
     rw (p.1, p.2)
     (on_order c.in_err-push_node.field-0.0 _ _
-    (λ none. ap (option_map (nodes_numbered_from 0)) (all_by-missed (node_under c.args.numbers.now) (nodes_in c.args.gates.now) i (next here) (within here) (next_is here ∙ mapped_none (behind here) _ none))) c.in_err-push_node.ensures)
+    (λ none. ap (option_map (nodes_numbered_from 0)) (all_by-missed (node_under c.args.numbers.now) (nodes_in c.args.gates.now) i (next here) (within here) (next_is here ∙ mapped_none (following here) _ none))) c.in_err-push_node.ensures)
 
 pub returns : goal.returns
 returns c =

@@ -9,5 +9,5 @@ use Rattle.aig_reader.proofs.edges.read_edges.Given as goal
 abbrev pub invariant-loop : goal.invariant-loop
 invariant-loop g l = record {
   made : Made (λ edges literals. edges.items ≡ map edge_from literals) (g.F.ByteFeed.coming l.fn.f) (g.F.ByteFeed.coming l.f) l.edges (entries_at (λ _. parse_if (parse_ended 10) (is_literal l.greatest)) [] l.counter);
-  same : g.F.ByteFeed.behind l.f ≡ g.F.ByteFeed.behind l.fn.f;
+  same : g.F.ByteFeed.source_name l.f ≡ g.F.ByteFeed.source_name l.fn.f;
 }

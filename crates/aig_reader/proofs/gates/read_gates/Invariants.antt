@@ -13,5 +13,5 @@ invariant-loop g l = record {
   space : HasSpace (l.fn.header.greatest + 1) l.gates;
   room : (size k : ℕ) → HasRoom size l.fn.variables (k + l.counter) → HasRoom size l.variables k;
   kind : file_kind l.variables ≡ file_kind l.fn.variables;
-  same : g.F.ByteFeed.behind l.f ≡ g.F.ByteFeed.behind l.fn.f;
+  same : g.F.ByteFeed.source_name l.f ≡ g.F.ByteFeed.source_name l.fn.f;
 }

@@ -7,5 +7,5 @@ use Rattle.aig_reader.proofs.justice.read_sets.Given as goal
 abbrev pub invariant-loop-size : goal.invariant-loop-size
 invariant-loop-size g l = record {
   made : Made (λ sets literals. map (λ set. set.items) sets.items ≡ map (map edge_from) literals) (g.F.ByteFeed.coming l.fn.f) (g.F.ByteFeed.coming l.f) l.sets (entries_at (set_at l.greatest l.sizes) [] l.size-index);
-  same : g.F.ByteFeed.behind l.f ≡ g.F.ByteFeed.behind l.fn.f;
+  same : g.F.ByteFeed.source_name l.f ≡ g.F.ByteFeed.source_name l.fn.f;
 }

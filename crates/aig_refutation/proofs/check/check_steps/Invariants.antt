@@ -5,7 +5,7 @@ use Rattle.aig_refutation.proofs.check.check_steps.Given as goal
 abbrev pub invariant-steps : goal.invariant-steps
 invariant-steps g l = record {
   implied : ImpliesAll l.fn.checker l.checker;
-  same : g.F.ByteFeed.behind l.f ≡ g.F.ByteFeed.behind l.fn.f;
+  same : g.F.ByteFeed.source_name l.f ≡ g.F.ByteFeed.source_name l.fn.f;
 }
 
 abbrev pub decreases-steps : goal.decreases-steps

@@ -4,7 +4,7 @@ use Rattle.aig_refutation.proofs.step.read_digits.Given as goal
 abbrev pub invariant-loop-value : goal.invariant-loop-value
 invariant-loop-value g l = record {
   small : l.value < 2 ^ 32;
-  same : g.F.ByteFeed.behind l.f ≡ g.F.ByteFeed.behind l.fn.f;
+  same : g.F.ByteFeed.source_name l.f ≡ g.F.ByteFeed.source_name l.fn.f;
   fewer : g.F.ByteFeed.turns l.f ≤ g.F.ByteFeed.turns l.fn.f;
 }
 

@@ -3,7 +3,7 @@ use Rattle.aig_solutions.proofs.reading.read_values.Given as goal
 
 abbrev pub invariant-loop-byte : goal.invariant-loop-byte
 invariant-loop-byte g l = record {
-  same : g.F.ByteFeed.behind l.f ≡ g.F.ByteFeed.behind l.fn.f;
+  same : g.F.ByteFeed.source_name l.f ≡ g.F.ByteFeed.source_name l.fn.f;
   fewer : g.F.ByteFeed.turns l.f < g.F.ByteFeed.turns l.fn.f;
 }
 

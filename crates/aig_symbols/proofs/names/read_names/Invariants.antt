@@ -10,7 +10,7 @@ use Rattle.aig_symbols.proofs.names.read_names.Given as goal
 abbrev pub invariant-loop-names : goal.invariant-loop-names
 invariant-loop-names g l = record {
   so_far : SoFar (numbers_of l.header) l.inputs (latch_leaves l.latchs) (g.F.ByteFeed.coming l.fn.f) (g.F.ByteFeed.coming l.f) (contains same_spot l.places) (names_of l.names.entries);
-  same : g.F.ByteFeed.behind l.f ≡ g.F.ByteFeed.behind l.fn.f;
+  same : g.F.ByteFeed.source_name l.f ≡ g.F.ByteFeed.source_name l.fn.f;
 }
 
 abbrev pub decreases-loop-names : goal.decreases-loop-names

@@ -7,7 +7,7 @@ use Rattle.aig_witness.proofs.reading.read_steps.Given as goal
 abbrev pub invariant-loop-steps : goal.invariant-loop-steps
 invariant-loop-steps g l = record {
   goes_on : GoesOn (parse_steps_after [] []) (g.F.ByteFeed.coming l.fn.f) (parse_steps_after (rows_of l.steps.items) []) (g.F.ByteFeed.coming l.f);
-  same : g.F.ByteFeed.behind l.f ≡ g.F.ByteFeed.behind l.fn.f;
+  same : g.F.ByteFeed.source_name l.f ≡ g.F.ByteFeed.source_name l.fn.f;
 }
 
 abbrev pub decreases-loop-steps : goal.decreases-loop-steps

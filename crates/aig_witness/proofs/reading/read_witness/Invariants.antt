@@ -7,7 +7,7 @@ use Rattle.aig_witness.proofs.reading.read_witness.Given as goal
 abbrev pub invariant-loop-b : goal.invariant-loop-b
 invariant-loop-b g l = record {
   goes_on : GoesOn parse_next (g.F.ByteFeed.coming l.fn.f) (next_from l.inside) (g.F.ByteFeed.coming l.f);
-  same : g.F.ByteFeed.behind l.f ≡ g.F.ByteFeed.behind l.fn.f;
+  same : g.F.ByteFeed.source_name l.f ≡ g.F.ByteFeed.source_name l.fn.f;
 }
 
 abbrev pub decreases-loop-b : goal.decreases-loop-b

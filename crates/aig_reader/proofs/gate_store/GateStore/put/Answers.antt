@@ -7,7 +7,7 @@ use Rattle.aig_circuit.specs.declared.node.AigNode.{AigNode}
 use Rattle.aig_reader.specs.declared.gate_store.GateStore.TheVariants as held
 use Rattle.aig_reader.specs.declared.table.PendingGate.{PendingGate}
 use Rattle.aig_reader.specs.Gates.{HasSpace, gate_in}
-use Rattle.aig_reader.proofs.GateLines.{passes_over, rises_no_more, rises_still, still_in_table}
+use Rattle.aig_reader.proofs.GateLines.{passes_over, is_increasing_no_more, is_increasing_still, still_in_table}
 use Rattle.aig_reader.proofs.TableEntries.{HasSmall, small_nodes}
 use Rattle.aig_reader.proofs.Waiting.{none_waits}
 use Rattle.aig_reader.proofs.gate_store.GateStore.put.Goals as goal
@@ -21,7 +21,7 @@ pub returns-in_ok-put-in-InOrder-clause-placed : goal.returns-in_ok-put-in-InOrd
 returns-in_ok-put-in-InOrder-clause-placed c = λ greatest leaves before h defined new own.
     let rising = c.in-InOrder.rising in
     let placed = rw c.in-InOrder.is at h in
-    rises_still greatest leaves before c.args.lhs c.args.operands own rising c.put.new.self placed (c.is_next.ensures.next c.if-is_next.true) (c.in_ok-put-in-InOrder.ensures.exact before placed.nodes new own) c.in_ok-put-in-InOrder.ensures.last (omega arith, omega arith)
+    is_increasing_still greatest leaves before c.args.lhs c.args.operands own rising c.put.new.self placed (c.is_next.ensures.next c.if-is_next.true) (c.in_ok-put-in-InOrder.ensures.exact before placed.nodes new own) c.in_ok-put-in-InOrder.ensures.last (omega arith, omega arith)
 
 pub returns-in_ok-push-in-InOrder-clause-placed : goal.returns-in_ok-push-in-InOrder-clause-placed
 returns-in_ok-push-in-InOrder-clause-placed c = λ greatest leaves before h defined new own.
@@ -34,7 +34,7 @@ returns-in_ok-push-in-InOrder-clause-placed c = λ greatest leaves before h defi
     let all = c.in_ok-push-in-InOrder.ensures.waiting before waiting new own in
     let some = placed.nodes.some in
     elim (c.is_next.ensures.other c.if-is_next.false) [
-      | inl other ↦ rises_no_more greatest leaves before c.args.lhs c.args.operands own rising now placed other all
+      | inl other ↦ is_increasing_no_more greatest leaves before c.args.lhs c.args.operands own rising now placed other all
       | inr p ↦ passes_over greatest leaves before c.args.lhs c.args.operands own c.args.variables.now p.0 now defined (omega (arith, p.1, some, rising.nodes.ok)) p.2 p.3 all
     ]
 

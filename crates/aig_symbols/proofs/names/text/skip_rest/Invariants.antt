@@ -5,7 +5,7 @@ use Rattle.aig_symbols.proofs.names.text.skip_rest.Given as goal
 abbrev pub invariant-loop : goal.invariant-loop
 invariant-loop g l = record {
   taken : (taken : List ℕ) × Consumes (g.F.ByteFeed.coming l.fn.f) (g.F.ByteFeed.coming l.f) taken;
-  same : g.F.ByteFeed.behind l.f ≡ g.F.ByteFeed.behind l.fn.f;
+  same : g.F.ByteFeed.source_name l.f ≡ g.F.ByteFeed.source_name l.fn.f;
 }
 
 abbrev pub decreases-loop : goal.decreases-loop

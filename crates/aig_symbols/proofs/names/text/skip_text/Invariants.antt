@@ -8,7 +8,7 @@ abbrev pub invariant-loop-b : goal.invariant-loop-b
 invariant-loop-b g l = record {
   goes_on : (front : List ℕ) × GoesOn parse_text (g.F.ByteFeed.coming l.fn.f) (text_from front) (g.F.ByteFeed.coming l.f);
   fewer : g.F.ByteFeed.turns l.f ≤ g.F.ByteFeed.turns l.fn.f;
-  same : g.F.ByteFeed.behind l.f ≡ g.F.ByteFeed.behind l.fn.f;
+  same : g.F.ByteFeed.source_name l.f ≡ g.F.ByteFeed.source_name l.fn.f;
 }
 
 abbrev pub decreases-loop-b : goal.decreases-loop-b

@@ -1,6 +1,0 @@
-use Rattle.std.proofs.Common.{◌≡◌, map, take}
-use Rattle.aig_circuit.specs.Edge.{lit_of}
-use Rattle.aig_answers.proofs.clauses.push_any.Given as goal
-
-abbrev pub invariant-loop-edge : goal.invariant-loop-edge
-invariant-loop-edge l = l.clause.items ≡ map lit_of (take l.edge-index l.edges)

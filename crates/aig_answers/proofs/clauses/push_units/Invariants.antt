@@ -1,6 +1,0 @@
-use Rattle.std.proofs.Common.{◌≡◌, ◌++◌, take}
-use Rattle.aig_runs.specs.Queries.{unit_clauses}
-use Rattle.aig_answers.proofs.clauses.push_units.Given as goal
-
-abbrev pub invariant-loop-edge : goal.invariant-loop-edge
-invariant-loop-edge l = l.further ≡ l.initial.further ++ unit_clauses (take l.edge-index l.edges)
