@@ -20,7 +20,7 @@ plain_init latch closed = by_init latch.init closed
         by_test true is = eqb-true e.node_id 0 is
         by_test false is = absurd (none (eqb-false e.node_id 0 is))
 
-not_both : (o : Option AigEdge) → IfSome o (λ e. e.node_id ≡ 0) → IsSomeAnd o (λ e. e.node_id ≢ 0) → ⊥
+pub not_both : (o : Option AigEdge) → IfSome o (λ e. e.node_id ≡ 0) → IsSomeAnd o (λ e. e.node_id ≢ 0) → ⊥
 not_both (Some e) plain variable = variable plain
 not_both None plain variable = variable
 

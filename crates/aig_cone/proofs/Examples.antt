@@ -74,7 +74,7 @@ only_latch-latchs = refl
 -- ---- what is reached
 
 -- the one number of a list
-only_one : (m n : ℕ) → Contains (m ∷ []) n → n ≡ m
+pub only_one : (m n : ℕ) → Contains (m ∷ []) n → n ≡ m
 only_one m n (zero, h, is) = sym is
 only_one m n (suc k, h, is) = absurd (omega arith)
 

@@ -12,6 +12,7 @@ use Rattle.aig_circuit.specs.Circuit.{Circuit}
 use Rattle.aig_circuit.specs.Reach.{DependsOn, IsInCone, IsReached, root}
 use Rattle.aig_cone.specs.Refine.{AreKept}
 use Rattle.aig_cone.proofs.Keeping.{reached_within}
+use Rattle.aig_cone.proofs.Examples.{only_one}
 
 abbrev node : ℕ → AigNodeType → AigNode
 node n kind = record { node_id = n; typ = kind }
@@ -20,11 +21,6 @@ node n kind = record { node_id = n; typ = kind }
 abbrev over_two : List ℕ → List AigLatch → List AigEdge → Circuit
 over_two inputs latchs outputs =
     record { nodes = node 0 False ∷ node 1 Leaf ∷ node 2 Leaf ∷ []; inputs = inputs; latchs = latchs; outputs = outputs; bads = []; constraints = []; justice = []; fairness = []; names = empty }
-
--- the one number of a list
-only_one : (m n : ℕ) → Contains (m ∷ []) n → n ≡ m
-only_one m n (zero, h, is) = sym is
-only_one m n (suc k, h, is) = absurd (omega arith)
 
 -- inputs 1 and 2, and the output 2, which reaches 2 alone
 abbrev one_of_two : Circuit

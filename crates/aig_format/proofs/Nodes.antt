@@ -10,7 +10,7 @@ use Rattle.aig_circuit.specs.declared.node.AigNodeType.{AigNodeType}
 use Rattle.aig_circuit.specs.declared.node.AigNodeType.TheVariants.{False, Leaf, And}
 use Rattle.aig_circuit.specs.declared.node.AigNode.{AigNode}
 use Rattle.aig_circuit.specs.Edge.{literal_of}
-use Rattle.aig_circuit.specs.Node.{kind_at, and_of, IsOrdered as AreOrdered}
+use Rattle.aig_circuit.specs.Node.{kind_at, and_of}
 use Rattle.aig_circuit.specs.Circuit.{AreNodes}
 use Rattle.aig_circuit.specs.Renumber.{position_of}
 use Rattle.aig_circuit.proofs.Trees.{kind_at-within}
@@ -22,6 +22,7 @@ use Rattle.aig_format.specs.Circuit.{edge_of, kind_by, kind_of, nodes_from, circ
 use Rattle.aig_format.proofs.Entries.{rec_weaker}
 use Rattle.aig_format.proofs.Members.{has}
 use Rattle.aig_format.proofs.Numbers.{few_numbered, known_numbered, node_of_variable-place, node_of_variable-within, node_of_variable-zero, operands_before, used_known, variable_of}
+use Rattle.aig_circuit.proofs.Building.{and_of-not_false}
 
 -- the nodes of the file's circuit
 abbrev pub nodes_of : File → List AigNode
@@ -118,13 +119,10 @@ nodes-ordered f limit fits = record {
 
 -- ---- false is once
 
-no_gate_false : (a b : AigEdge) → and_of a b ≡ False → ⊥
-no_gate_false a b h = grind (arith, nat_tests)
-
 false_at_zero : (f : File) (v : ℕ) → kind_of f v ≡ False → VariableCase f v → v ≡ 0
 false_at_zero f v is (at_zero z k) = z
 false_at_zero f v is (at_leaf none k) = cc
-false_at_zero f v is (at_gate g found k) = absurd (no_gate_false (edge_of f g.rhs0) (edge_of f g.rhs1) (sym k ∙ is))
+false_at_zero f v is (at_gate g found k) = absurd (and_of-not_false (edge_of f g.rhs0) (edge_of f g.rhs1) (sym k ∙ is))
 
 false_first : (f : File) (limit : ℕ) → Fits f limit → (n : ℕ) → kind_at (nodes_of f) n ≡ Some False → n ≡ 0
 false_first f limit fits n is =

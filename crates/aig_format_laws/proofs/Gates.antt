@@ -15,6 +15,7 @@ use Rattle.aig_circuit.specs.Runs.{is_leaf}
 use Rattle.aig_format.specs.File.{GateLine}
 use Rattle.aig_format.specs.Fits.{IsIncreasing}
 use Rattle.aig_format.specs.Circuit.{gate_line}
+use Rattle.aig_renumber.proofs.Order.{head_numbered, tail_numbered}
 
 -- the line of a gate
 abbrev pub line_for : ℕ → AigEdge → AigEdge → GateLine
@@ -27,12 +28,6 @@ lines_for nodes = filter_map gate_line nodes
 -- the first node's number is v, and each further one's is one more
 abbrev pub AreNumbered : ℕ → List AigNode → Type 0
 AreNumbered v nodes = (i : ℕ) (node : AigNode) → slice_get nodes i ≡ Some node → node.node_id ≡ v + i
-
-pub numbered_next : (v : ℕ) (x : AigNode) (xs : List AigNode) → AreNumbered v (x ∷ xs) → AreNumbered (suc v) xs
-numbered_next v x xs are = λ i node h. omega (arith, are (suc i) node h)
-
-first_number : (v : ℕ) (x : AigNode) (xs : List AigNode) → AreNumbered v (x ∷ xs) → x.node_id ≡ v
-first_number v x xs are = omega (arith, are zero x refl)
 
 gate_line-kind : (x : AigNode) (kind : AigNodeType) → x.typ ≡ kind → gate_line x ≡ gate_line (record { node_id = x.node_id; typ = kind })
 gate_line-kind x kind is = ap (λ (t : AigNodeType). gate_line (record { node_id = x.node_id; typ = t })) is
@@ -55,7 +50,7 @@ line_case v x is = by_kind x.typ refl
 -- each line has what the gates' lines have
 pub lines_all : (P : GateLine → Type 0) (v : ℕ) (nodes : List AigNode) → AreNumbered v nodes → ((i : ℕ) (a b : AigEdge) → kind_at nodes i ≡ Some (And a b) → P (line_for (v + i) a b)) → AllByRecursion P (lines_for nodes)
 lines_all P v [] are each = tt
-lines_all P v (x ∷ xs) are each = by_case (line_case v x (first_number v x xs are)) (lines_all P (suc v) xs (numbered_next v x xs are) (λ i a b h. let e : v + suc i ≡ suc v + i = omega arith in subst (λ n. P (line_for n a b)) e (each (suc i) a b h)))
+lines_all P v (x ∷ xs) are each = by_case (line_case v x (head_numbered v x xs are)) (lines_all P (suc v) xs (tail_numbered v x xs are) (λ i a b h. let e : v + suc i ≡ suc v + i = omega arith in subst (λ n. P (line_for n a b)) e (each (suc i) a b h)))
   where
     by_case : LineCase v x → AllByRecursion P (lines_for xs) → AllByRecursion P (cons_option (gate_line x) (lines_for xs))
     by_case (has_line a b is line) rest = let e : v + 0 ≡ v = omega arith in rw line (subst (λ n. P (line_for n a b)) e (each 0 a b (ap Some is)), rest)
@@ -64,7 +59,7 @@ lines_all P v (x ∷ xs) are each = by_case (line_case v x (first_number v x xs 
 -- the line of each gate is found by its number
 pub find_line : (v : ℕ) (nodes : List AigNode) → AreNumbered v nodes → (i : ℕ) (a b : AigEdge) → kind_at nodes i ≡ Some (And a b) → find (λ (g : GateLine). g.lhs / 2 == v + i) (lines_for nodes) ≡ Some (line_for (v + i) a b)
 find_line v [] are i a b h = absurd cc
-find_line v (x ∷ xs) are zero a b h = by_case (line_case v x (first_number v x xs are))
+find_line v (x ∷ xs) are zero a b h = by_case (line_case v x (head_numbered v x xs are))
   where
     by_case : LineCase v x → find (λ (g : GateLine). g.lhs / 2 == v + 0) (cons_option (gate_line x) (lines_for xs)) ≡ Some (line_for (v + 0) a b)
     by_case (has_line c d is line) =
@@ -75,7 +70,7 @@ find_line v (x ∷ xs) are zero a b h = by_case (line_case v x (first_number v x
     by_case (no_line none line) = absurd (none a b (same_Some _ _ h))
 find_line v (x ∷ xs) are (suc i) a b h =
     let e : suc v + i ≡ v + suc i = omega arith in
-    by_case (line_case v x (first_number v x xs are)) (subst (λ n. find (λ (g : GateLine). g.lhs / 2 == n) (lines_for xs) ≡ Some (line_for n a b)) e (find_line (suc v) xs (numbered_next v x xs are) i a b h))
+    by_case (line_case v x (head_numbered v x xs are)) (subst (λ n. find (λ (g : GateLine). g.lhs / 2 == n) (lines_for xs) ≡ Some (line_for n a b)) e (find_line (suc v) xs (tail_numbered v x xs are) i a b h))
   where
     by_case : LineCase v x → find (λ (g : GateLine). g.lhs / 2 == v + suc i) (lines_for xs) ≡ Some (line_for (v + suc i) a b)
         → find (λ (g : GateLine). g.lhs / 2 == v + suc i) (cons_option (gate_line x) (lines_for xs)) ≡ Some (line_for (v + suc i) a b)
@@ -99,10 +94,10 @@ is_increasing_following e v (g ∷ gates) h all rest = (omega (arith, all.0), re
 
 pub lefts_rise : (v : ℕ) (nodes : List AigNode) → AreNumbered v nodes → IsIncreasing (lefts (lines_for nodes))
 lefts_rise v [] are = tt
-lefts_rise v (x ∷ xs) are = by_case (line_case v x (first_number v x xs are)) (lefts_rise (suc v) xs next)
+lefts_rise v (x ∷ xs) are = by_case (line_case v x (head_numbered v x xs are)) (lefts_rise (suc v) xs next)
   where
     next : AreNumbered (suc v) xs
-    next = numbered_next v x xs are
+    next = tail_numbered v x xs are
 
     by_case : LineCase v x → IsIncreasing (lefts (lines_for xs)) → IsIncreasing (lefts (cons_option (gate_line x) (lines_for xs)))
     by_case (has_line a b is line) rest = rw line (is_increasing_following (2 * v) (suc v) (lines_for xs) (omega arith) (lefts_above (suc v) xs next) rest)

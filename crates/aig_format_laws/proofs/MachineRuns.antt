@@ -27,7 +27,7 @@ use Rattle.aig_format_laws.proofs.Joining.{back_run, input_values, inputs_defina
 use Rattle.aig_format_laws.proofs.Leaves.{leaf_is}
 
 -- a literal has the same value where its variable has
-literal_same : (values other : ℕ → Bool) (e : ℕ) → values (e / 2) ≡ other (e / 2) → value_of_literal values e ≡ value_of_literal other e
+pub literal_same : (values other : ℕ → Bool) (e : ℕ) → values (e / 2) ≡ other (e / 2) → value_of_literal values e ≡ value_of_literal other e
 literal_same values other e h = ap (λ b. if e % 2 == 0 then b else not b) h
 
 -- ---- one step

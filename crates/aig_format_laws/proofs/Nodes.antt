@@ -21,7 +21,8 @@ use Rattle.aig_format.proofs.Searches.{find_none}
 use Rattle.aig_format.proofs.Compact.{compact-told}
 use Rattle.aig_format.proofs.Numbers.{order-compact}
 use Rattle.aig_format_laws.proofs.Edges.{edge_again}
-use Rattle.aig_format_laws.proofs.Gates.{AreNumbered, find_line, line_for, lines_all, lines_for, numbered_next}
+use Rattle.aig_format_laws.proofs.Gates.{AreNumbered, find_line, line_for, lines_all, lines_for}
+use Rattle.aig_renumber.proofs.Order.{tail_numbered}
 
 pub numbered : (nodes : List AigNode) → AreNodes nodes → AreNumbered 0 nodes
 numbered nodes are = λ i node h. omega (arith, are.numbered i node h)
@@ -64,7 +65,7 @@ module _ (kind : FileKind) (c : Circuit) (are : AreNodes c.nodes) (compact : is_
       let here : kind_of (file_of kind c) v ≡ x.typ = let e : v + 0 ≡ v = omega arith in subst (λ n. kind_of (file_of kind c) n ≡ x.typ) e (each 0 x.typ refl) in
       let own : v ≡ x.node_id = omega (arith, num 0 x refl) in
       let next : v + 1 ≡ suc v = omega arith in
-      let rest = nodes_in_row (suc v) xs (numbered_next v x xs num) (λ i k h. let e : v + suc i ≡ suc v + i = omega arith in subst (λ n. kind_of (file_of kind c) n ≡ k) e (each (suc i) k h)) in
+      let rest = nodes_in_row (suc v) xs (tail_numbered v x xs num) (λ i k h. let e : v + suc i ≡ suc v + i = omega arith in subst (λ n. kind_of (file_of kind c) n ≡ k) e (each (suc i) k h)) in
       let first : record { node_id = v; typ = kind_of (file_of kind c) v } ≡ x = ap (λ t. let y : AigNode = record { node_id = v; typ = t } in y) here ∙ ap (λ n. let y : AigNode = record { node_id = n; typ = x.typ } in y) own in
       rw (next, rest) (ap (λ y. y ∷ xs) first)
 

@@ -20,9 +20,10 @@ use Rattle.aig_format.specs.Spells.{Placed, places}
 use Rattle.aig_format.specs.Circuit.{file_of}
 use Rattle.aig_format.specs.Writable.{IsWritable}
 use Rattle.aig_parsing.proofs.Files.{length-places, places-append}
-use Rattle.aig_format_laws.proofs.Gates.{AreNumbered, LineCase, has_line, lefts, line_case, lines_for, no_line, numbered_next}
+use Rattle.aig_format_laws.proofs.Gates.{AreNumbered, LineCase, has_line, lefts, line_case, lines_for, no_line}
 use Rattle.aig_format_laws.proofs.Nodes.{numbered}
 use Rattle.aig_format_laws.proofs.Written.{defined_leaves}
+use Rattle.aig_renumber.proofs.Order.{tail_numbered}
 
 -- numbers in a row, doubled
 doubled_places : (v : ℕ) (ns : List ℕ) → EachIndex ns (λ i. slice_index ns i ≡ v + i) → map (λ n. 2 * n) ns ≡ places (length ns) v
@@ -36,7 +37,7 @@ gates_places : (v : ℕ) (nodes : List AigNode) → AreNumbered v nodes → ((i 
 gates_places v [] are each = refl
 gates_places v (x ∷ xs) are each =
     let next : suc v ≡ v + 1 = omega arith in
-    by_case (line_case v x (omega (arith, are zero x refl))) (subst (λ k. lefts (lines_for xs) ≡ places (length xs) k) next (gates_places (suc v) xs (numbered_next v x xs are) (λ i h. each (suc i) (omega arith))))
+    by_case (line_case v x (omega (arith, are zero x refl))) (subst (λ k. lefts (lines_for xs) ≡ places (length xs) k) next (gates_places (suc v) xs (tail_numbered v x xs are) (λ i h. each (suc i) (omega arith))))
   where
     by_case : LineCase v x → lefts (lines_for xs) ≡ places (length xs) (v + 1) → lefts (lines_for (x ∷ xs)) ≡ 2 * v ∷ places (length xs) (v + 1)
     by_case (has_line a b is line) rest = rw line (ap (λ (l : List ℕ). 2 * v ∷ l) rest)
@@ -54,7 +55,7 @@ gates_following (suc d) v (x ∷ xs) are none each =
     let count : length xs - d ≡ suc (length xs) - suc d = omega arith in
     by_case (line_case v x (omega (arith, are zero x refl)))
     (subst (λ k. lefts (lines_for xs) ≡ places (suc (length xs) - suc d) k) place (subst (λ k. lefts (lines_for xs) ≡ places k (suc v + d)) count
-    (gates_following d (suc v) xs (numbered_next v x xs are) (λ i a b h. omega (arith, none (suc i) a b h)) (λ i h low. each (suc i) (omega arith) (omega arith)))))
+    (gates_following d (suc v) xs (tail_numbered v x xs are) (λ i a b h. omega (arith, none (suc i) a b h)) (λ i h low. each (suc i) (omega arith) (omega arith)))))
   where
     by_case : LineCase v x → lefts (lines_for xs) ≡ places (suc (length xs) - suc d) (v + suc d) → lefts (lines_for (x ∷ xs)) ≡ places (suc (length xs) - suc d) (v + suc d)
     by_case (has_line a b is line) rest = let low = none 0 a b (ap Some is) in absurd (omega arith)

@@ -54,10 +54,10 @@ gates_pass x xs other = let e = gate_number-other x other in rw e refl
 abbrev AreNumbered : ℕ → List AigNode → Type 0
 AreNumbered v nodes = (n : ℕ) (node : AigNode) → slice_get nodes n ≡ Some node → node.node_id ≡ v + n
 
-tail_numbered : (v : ℕ) (x : AigNode) (xs : List AigNode) → AreNumbered v (x ∷ xs) → AreNumbered (suc v) xs
+pub tail_numbered : (v : ℕ) (x : AigNode) (xs : List AigNode) → AreNumbered v (x ∷ xs) → AreNumbered (suc v) xs
 tail_numbered v x xs numbered n node is = omega (arith, numbered (suc n) node is)
 
-head_numbered : (v : ℕ) (x : AigNode) (xs : List AigNode) → AreNumbered v (x ∷ xs) → x.node_id ≡ v
+pub head_numbered : (v : ℕ) (x : AigNode) (xs : List AigNode) → AreNumbered v (x ∷ xs) → x.node_id ≡ v
 head_numbered v x xs numbered = omega (arith, numbered 0 x refl)
 
 -- the number is that of a gate, the place of the first node being v

@@ -2,10 +2,9 @@
 use Rattle.std.proofs.Common.{ℕ, zero, suc, ◌+◌, ◌*◌, ◌<◌, ◌≤◌, Bool, ◌++◌, length, sym, ◌∙◌, arith}
 use Rattle.std.specs.Prelude.{All, Contains}
 use Rattle.std.proofs.lemmas.Nat.{mul-add-lt}
-use Rattle.std.proofs.lemmas.List.Elements.{All-append, All-contains, All-map, All-same, All-weaker, Contains-get_or}
-use Rattle.aig_circuit.specs.declared.node.AigLatch.{AigLatch}
+use Rattle.std.proofs.lemmas.List.Elements.{All-append, All-contains, All-same, All-weaker, Contains-get_or}
 use Rattle.aig_circuit.specs.declared.node.AigNodeType.TheVariants.{Leaf}
-use Rattle.aig_circuit.specs.Circuit.{Circuit, IsCircuit, IsLatch, IsLeaf, latch_leaves}
+use Rattle.aig_circuit.specs.Circuit.{Circuit, IsCircuit, IsLeaf, latch_leaves}
 use Rattle.aig_circuit.specs.Tree.{node_value}
 use Rattle.aig_circuit.proofs.Building.{Grows-kept}
 use Rattle.aig_circuit.proofs.Trees.{kind_at-within, node_value-leaf}
@@ -17,10 +16,7 @@ use Rattle.aig_unroll.proofs.Added.{following-are}
 use Rattle.aig_unroll.proofs.Others.{others-are}
 use Rattle.aig_unroll.proofs.Values.{same_values}
 use Rattle.aig_runs.specs.Circuits.{AreNodeValues}
-
--- the leaves of latches are leaves
-latches-are : (c : Circuit) → IsCircuit c → All (IsLeaf c.nodes) (latch_leaves c.latchs)
-latches-are c is = All-map (IsLeaf c.nodes) (λ (latch : AigLatch). latch.input) c.latchs (All-weaker (IsLatch c.nodes) (λ (latch : AigLatch). IsLeaf c.nodes latch.input) (λ latch h. h.leaf) c.latchs is.latchs)
+use Rattle.aig_circuit.proofs.Circuits.{latch_leaves-leaves}
 
 module _ (c u : Circuit) (k : ℕ) (is : IsCircuit c) (unrolls : UnrollsTo c k u) where
   -- a leaf stays one
@@ -45,7 +41,7 @@ module _ (c u : Circuit) (k : ℕ) (is : IsCircuit c) (unrolls : UnrollsTo c k u
   -- so what the leaf values read the node values under them read too
   pub values_read : (y : ℕ → Bool) (x : ℕ → ℕ → Bool) → Reads c u k y x → Reads c u k (node_value u.nodes y) x
   values_read y x reads = record {
-    state = λ i d h. reads.state i d h ∙ sym (node_value-leaf u.nodes y _ (stays _ (latches-are c is i d h)));
+    state = λ i d h. reads.state i d h ∙ sym (node_value-leaf u.nodes y _ (stays _ (latch_leaves-leaves c is i d h)));
     others = λ t h i d l. reads.others t h i d l ∙ sym (node_value-leaf u.nodes y _ (place-leaf t _ h (Contains-get_or (other_leaves c) i d l)));
   }
 

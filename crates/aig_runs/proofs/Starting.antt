@@ -16,7 +16,7 @@ use Rattle.aig_circuit.specs.Edges.{initial_edges}
 use Rattle.aig_circuit.specs.Runs.{IsInitial}
 use Rattle.aig_circuit.specs.Tree.{edge_value, node_value}
 use Rattle.aig_cnf.specs.Cnf.{edge_in}
-use Rattle.aig_cnf.proofs.Forms.{literal_value-lit_of}
+use Rattle.aig_cnf.proofs.Forms.{edge_in-inverse, literal_value-lit_of}
 use Rattle.aig_format.proofs.Entries.{rec_append, rec_flat_map}
 use Rattle.aig_unroll.specs.Unroll.{starts_of}
 use Rattle.aig_runs.specs.Queries.{start_clauses}
@@ -36,15 +36,6 @@ starts_same (l ∷ ls) (m ∷ ms) leaves starts =
     let init : m.init ≡ l.init = cc in
     let first : start_clauses m ≡ start_clauses l = ap (λ n. starting n m.init) input ∙ ap (starting l.input) init in
     ap (λ some. some ++ flat_map start_clauses ms) first ∙ ap (λ others. start_clauses l ++ others) (starts_same ls ms (cc) (cc))
-
--- an inverse edge has the other value
-inverse_in : (v : ℕ → Bool) (e : AigEdge) → edge_in v (inverse e) ≡ not (edge_in v e)
-inverse_in v e = by e.compl (v e.node_id)
-  where
-    by : (i b : Bool) → inverted_if (not i) b ≡ not (inverted_if i b)
-    by true true = refl
-    by true false = refl
-    by false b = refl
 
 module _ (nodes : List AigNode) (v : ℕ → Bool) (zero : node_value nodes v 0 ≡ false) where
   -- the edge has its value
@@ -73,7 +64,7 @@ module _ (nodes : List AigNode) (v : ℕ → Bool) (zero : node_value nodes v 0 
 
   two_say : (n : ℕ) (e : AigEdge) → IsSame e → AllByRecursion (Holds v) (two_clauses n e) ↔ (edge_value nodes v e ≡ v n)
   two_say n e same =
-      rw (literal_value-lit_to v n false, literal_value-lit_to v n true, literal_value-lit_of v e, literal_value-lit_of v (inverse e), inverse_in v e, same) (by (v n) (edge_value nodes v e))
+      rw (literal_value-lit_to v n false, literal_value-lit_to v n true, literal_value-lit_of v e, literal_value-lit_of v (inverse e), edge_in-inverse v e, same) (by (v n) (edge_value nodes v e))
     where
       by : (b w : Bool) → (IsTrue (with_polarity false b || (w || false)) × (IsTrue (with_polarity true b || (not w || false)) × Unit {0})) ↔ (w ≡ b)
       by true true = (λ h. refl, λ h. (refl, (refl, tt)))

@@ -1,5 +1,5 @@
 -- The witness of a solution shows a bad state.
-use Rattle.std.proofs.Common.{◌≡◌, ℕ, zero, suc, ◌+◌, ◌-◌, ◌*◌, ◌/◌, ◌%◌, ◌<◌, ◌≤◌, ◌==◌, Bool, true, false, not, cond, Some, IsTrue, List, [], ◌∷◌, length, map, get_or, slice_get, refl, sym, ap, subst, ◌∙◌, arith}
+use Rattle.std.proofs.Common.{◌≡◌, ℕ, zero, suc, ◌+◌, ◌-◌, ◌*◌, ◌/◌, ◌<◌, ◌≤◌, Bool, true, false, Some, IsTrue, List, [], ◌∷◌, length, map, get_or, slice_get, refl, sym, ap, subst, ◌∙◌, arith}
 use Rattle.std.specs.Prelude.{All}
 use Rattle.std.specs.List.{AllZip}
 use Rattle.std.proofs.lemmas.List.{get_or-drop, length-drop, length-map}
@@ -11,7 +11,7 @@ use Rattle.aig_base.specs.declared.logic.three.Lbool.TheVariants.{TRUE}
 use Rattle.aig_base.specs.Three.{Agrees, lbool_not_if}
 use Rattle.aig_circuit.specs.declared.node.AigLatch.{AigLatch}
 use Rattle.aig_circuit.specs.declared.node.AigNodeType.TheVariants.{False, Leaf}
-use Rattle.aig_circuit.specs.Edge.{edge_to, inverted_if}
+use Rattle.aig_circuit.specs.Edge.{edge_to}
 use Rattle.aig_circuit.specs.Circuit.{Circuit, IsCircuit, IsInRange, IsLatch, IsLeaf}
 use Rattle.aig_circuit.proofs.Trees.{kind_at-within}
 use Rattle.aig_cnf.specs.Cnf.{edge_in}
@@ -31,22 +31,15 @@ use Rattle.aig_witness.specs.Witness.{Witness}
 use Rattle.aig_witness_check.specs.Machine.{HasGiven, ShowsBad}
 use Rattle.aig_witness_check.specs.Shown.{known_of}
 use Rattle.aig_solutions.specs.Solutions.{AreValuesOf, IsWitnessIn, edge_at, inputs_in, value_at}
+use Rattle.aig_format_laws.proofs.MachineRuns.{literal_same}
+use Rattle.aig_witness_check.proofs.Started.{known_is}
+use Rattle.aig_witness_check.proofs.Given.{known_not}
 
 -- ---- values
-
-agrees_with : (b x : Bool) → Agrees (known_of b) x → x ≡ b
-agrees_with true x h = h
-agrees_with false x h = h
 
 known_agrees : (b x : Bool) → x ≡ b → Agrees (known_of b) x
 known_agrees true x h = h
 known_agrees false x h = h
-
-known_inverted : (i p : Bool) → lbool_not_if i (known_of p) ≡ known_of (inverted_if i p)
-known_inverted true true = refl
-known_inverted true false = refl
-known_inverted false true = refl
-known_inverted false false = refl
 
 known_true : (b : Bool) → known_of b ≡ TRUE → b ≡ true
 known_true true h = refl
@@ -55,7 +48,7 @@ known_true false h = cc
 -- ---- lists
 
 -- an entry of numbers below m, or 0, is below m
-get_below : (ns : List ℕ) (i m : ℕ) → All (λ n. n < m) ns → 0 < m → get_or ns i 0 < m
+pub get_below : (ns : List ℕ) (i m : ℕ) → All (λ n. n < m) ns → 0 < m → get_or ns i 0 < m
 get_below [] i m all some = some
 get_below (n ∷ ns) zero m all some = all 0 0 (omega arith)
 get_below (n ∷ ns) (suc i) m all some = get_below ns i m (λ k d h. all (suc k) d (omega arith)) some
@@ -72,10 +65,6 @@ zip_unright g R [] [] zip = tt
 zip_unright g R [] (y ∷ ys) zip = absurd zip
 zip_unright g R (x ∷ xs) [] zip = absurd zip
 zip_unright g R (x ∷ xs) (y ∷ ys) zip = (zip.0, zip_unright g R xs ys zip.1)
-
--- values of a literal whose variable has the same value
-same_literal : (one other : ℕ → Bool) (e : ℕ) → one (e / 2) ≡ other (e / 2) → value_of_literal one e ≡ value_of_literal other e
-same_literal one other e is = ap (λ b. cond (e % 2 == 0) b (not b)) is
 
 module _ (f : File) (limit k : ℕ) (optimize : Bool) (c u : Circuit) (clauses : List (List (List Lit))) (further : List (List Lit)) (v : ℕ → Bool) (values : List Lbool) (w : Witness)
     (fits : Fits f limit) (is : IsCircuit u) (encodes : Encodes f k optimize c u clauses) (asks : IsQueryOf f k c u clauses further) (holds : SatisfiesBoth v clauses further)
@@ -131,14 +120,14 @@ module _ (f : File) (limit k : ℕ) (optimize : Bool) (c u : Circuit) (clauses :
         let Has = λ (e n : ℕ). run t (e / 2) ≡ v (place_at c u t n) in
         let read = λ (n : ℕ). value_at values (place_at c u t n) in
         zip_weaker (λ e n. Gives e (read n)) Has (IsLeaf c.nodes) f.inputs c.inputs
-        (λ e n leaf gives. agrees_with (v (place_at c u t n)) (run t (e / 2)) (subst (λ (known : Lbool). Gives e known) (of (place_at c u t n) (place_below t n leaf)) gives)) circuit.inputs
+        (λ e n leaf gives. known_is (v (place_at c u t n)) (run t (e / 2)) (subst (λ (known : Lbool). Gives e known) (of (place_at c u t n) (place_below t n leaf)) gives)) circuit.inputs
         (zip_unright read Gives f.inputs c.inputs (given.inputs t (inputs_in c u values t) (says.steps.each t low)));
     latches =
         let Gives = λ (l : LatchLine) (known : Lbool). Agrees known (run 0 (l.literal / 2)) in
         let Has = λ (l : LatchLine) (latch : AigLatch). run 0 (l.literal / 2) ≡ v latch.input in
         let read = λ (latch : AigLatch). value_at values latch.input in
         zip_weaker (λ l latch. Gives l (read latch)) Has (IsLatch c.nodes) f.latches c.latchs
-        (λ l latch there gives. agrees_with (v latch.input) (run 0 (l.literal / 2)) (subst (λ (known : Lbool). Gives l known) (of latch.input (leaf_below latch.input there.leaf)) gives)) circuit.latchs
+        (λ l latch there gives. known_is (v latch.input) (run 0 (l.literal / 2)) (subst (λ (known : Lbool). Gives l known) (of latch.input (leaf_below latch.input there.leaf)) gives)) circuit.latchs
         (zip_unright read Gives f.latches c.latchs (subst (AllZip Gives f.latches) says.state given.state));
   }
 
@@ -169,14 +158,14 @@ module _ (f : File) (limit k : ℕ) (optimize : Bool) (c u : Circuit) (clauses :
       let named : get_or (last_bads c k u) w.bad (edge_to 0 false) ≡ edge =
       get_or-drop (k * length c.bads) u.bads w.bad (edge_to 0 false) ∙ ap (λ i. get_or u.bads i (edge_to 0 false)) (sym at) ∙ get_or_from_slice_get u.bads (k * length f.bads + w.bad) edge (edge_to 0 false) found.1 in
       let range : IsInRange u.nodes edge = at_place (IsInRange u.nodes) u.bads (k * length f.bads + w.bad) edge is.bads found.1 in
-      let known : edge_at values edge ≡ known_of (edge_in v edge) = ap (lbool_not_if edge.compl) (of edge.node_id range) ∙ known_inverted edge.compl (v edge.node_id) in
+      let known : edge_at values edge ≡ known_of (edge_in v edge) = ap (lbool_not_if edge.compl) (of edge.node_id range) ∙ known_not edge.compl (v edge.node_id) in
       sym found.2 ∙ known_true (edge_in v edge) (sym known ∙ ap (edge_at values) (sym named) ∙ says.bad.here)
 
   -- and on each run with the given values
   true_always : (run : ℕ → ℕ → Bool) → IsMachineRun f k run → HasLeafValues f c u k v run → value_of_literal (run k) e ≡ true
   true_always run is_run leaves =
       let known : IsKnown f e = All-from_recursion (IsKnown f) f.bads (used_by_section (IsKnown f) f (used_known f limit fits)).bads w.bad 0 bad_below in
-      sym (same_literal (one.run k) (run k) e (one.only run is_run leaves k (e / 2) (omega arith) known)) ∙ true_once
+      sym (literal_same (one.run k) (run k) e (one.only run is_run leaves k (e / 2) (omega arith) known)) ∙ true_once
 
   pub solution_shows : ShowsBad f w
   solution_shows = record {

@@ -36,7 +36,7 @@ known_and true false = refl
 known_and false true = refl
 known_and false false = refl
 
-known_not : (i p : Bool) → lbool_not_if i (known_of p) ≡ known_of (inverted_if i p)
+pub known_not : (i p : Bool) → lbool_not_if i (known_of p) ≡ known_of (inverted_if i p)
 known_not true true = refl
 known_not true false = refl
 known_not false true = refl

@@ -16,7 +16,7 @@ use Rattle.aig_unroll.proofs.Lists.{zip_at}
 use Rattle.aig_witness_check.specs.Shown.{AreStarts, known_of}
 use Rattle.aig_witness_check.proofs.Zips.{zip_unmade}
 
-known_is : (b value : Bool) → Agrees (known_of b) value → value ≡ b
+pub known_is : (b value : Bool) → Agrees (known_of b) value → value ≡ b
 known_is true value h = h
 known_is false value h = h
 

@@ -1,17 +1,11 @@
 -- The places of leaves are nodes of the unrolled circuit.
-use Rattle.std.proofs.Common.{ℕ, zero, suc, ◌<◌, List, [], ◌∷◌, length, get_or, arith}
-use Rattle.std.specs.Prelude.{All}
+use Rattle.std.proofs.Common.{ℕ, zero, suc, ◌<◌, length, arith}
 use Rattle.aig_circuit.specs.declared.node.AigNodeType.TheVariants.{False, Leaf}
 use Rattle.aig_circuit.specs.Circuit.{Circuit, IsCircuit, IsLeaf}
 use Rattle.aig_circuit.proofs.Trees.{kind_at-within}
 use Rattle.aig_unroll.specs.Places.{place_at}
 use Rattle.aig_unroll.specs.Unroll.{UnrollsTo}
-
--- an entry of numbers below m, or 0, is below m
-get_below : (ns : List ℕ) (i m : ℕ) → All (λ n. n < m) ns → 0 < m → get_or ns i 0 < m
-get_below [] i m all some = some
-get_below (n ∷ ns) zero m all some = all 0 0 (omega arith)
-get_below (n ∷ ns) (suc i) m all some = get_below ns i m (λ k d h. all (suc k) d (omega arith)) some
+use Rattle.aig_solutions.proofs.Showing.{get_below}
 
 module _ (c u : Circuit) (k : ℕ) (steps : UnrollsTo c k u) where
   pub leaf_below : (n : ℕ) → IsLeaf c.nodes n → n < length u.nodes
