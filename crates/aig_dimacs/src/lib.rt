@@ -2,8 +2,6 @@
 #![tactic(auto)]
 
 mod laws;
-#[cfg(test)]
-mod tests;
 mod writing;
 
 pub use laws::{formulas_are_read, texts_tell_formulas};
