@@ -19,9 +19,6 @@ use aig_base::{DagCnf, Lbool, Lit, MemoryError, VarVMap};
 use aig_circuit::{further_gates_are_gates, inverses_have_other_values, leaves_fix_values};
 use aig_cnf::literals_have_edge_values;
 
-#[cfg(test)]
-mod tests;
-
 /// Adds gates for: one of both edges is true, and the other isn't.
 pub fn exclusive_or(aig: &mut Aig, one: AigEdge, other: AigEdge) -> Result<AigEdge, MemoryError>
     requires one { IsInRange aig.old.nodes one }
