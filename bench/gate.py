@@ -1,10 +1,12 @@
 #!/usr/bin/env python3
-"""Measures the gate: gate.py run LOG [--jobs N] [NAME ..], and then gate.py table LOG ..
+"""Measures the gate: gate.py run LOG [--jobs N] [NAME ..], and then gate.py table LOG ..; or gate.py watch LOG, beside tests/run
 
 `run` copies this tree, and proves each crate (or those that are named, and what they stand on) from nothing in the copy, callees
 first, N at once (1): the crate, its tests, and its edits that must fail. LOG gets a line for each of these with its processor time
 and peak memory, and a line for each function with the processor time between the end of the function before and its own, which the
-check tells as it goes. `table` prints logs as the tables of docs/GATE.md, where a later line stands for an earlier one.
+check tells as it goes. `table` prints logs as the tables of docs/GATE.md, where a later line stands for an earlier one. `watch` looks
+every second at the toolchain's processes, until there have been none for a minute, and logs what each crate's took in a run of the
+gate that goes on beside it: its proof, its tests, and its edits with the check that they begin with.
 """
 import argparse
 import concurrent.futures
@@ -137,6 +139,44 @@ def run(path, jobs, names):
     return True
 
 
+# ---- watching
+
+
+def processes():
+    """The checks and builds that run: for each its number and start, the words it was given, and its processor seconds."""
+    for path in pathlib.Path("/proc").glob("[0-9]*"):
+        try:
+            words = (path / "cmdline").read_bytes().decode(errors="replace").split("\0")
+            fields = (path / "stat").read_text().rpartition(")")[2].split()
+        except OSError:
+            continue
+        if words[0].endswith("/rattle") and "--crate-name" in words:
+            yield (path.name, fields[19]), words, sum(map(int, fields[11:13])) / TICK
+
+
+def share(words):
+    """Which crate a process works on, and whether on its proof, its tests or its edits. A library is built and a program is checked, so
+    that a check of a library is one of its edits; the build of a program comes after its check, and counts as its proof."""
+    name = words[words.index("--crate-name") + 1]
+    is_library = (ROOT / "crates" / name / "src" / "lib.rt").exists()
+    return name, " tests" if "--test" in words else " edits" if words[1] == "check" and is_library else ""
+
+
+def watch(path):
+    """Logs what each crate takes in a run beside this one."""
+    took, shares, seen = {}, {}, time.time()
+    while time.time() - seen < 60:
+        for key, words, seconds in processes():
+            took[key], shares[key], seen = seconds, share(words), time.time()
+        time.sleep(1)
+    sums = {}
+    for key, seconds in took.items():
+        sums[shares[key]] = sums.get(shares[key], 0) + seconds
+    log = Log(path)
+    for (name, part), seconds in sums.items():
+        log.say(f"{name}{part} rc=0 0s cpu={seconds:.0f}s")
+
+
 # ---- tables
 
 
@@ -183,10 +223,13 @@ def main():
     runs.add_argument("log")
     runs.add_argument("names", nargs="*")
     runs.add_argument("--jobs", type=int, default=1)
+    verbs.add_parser("watch").add_argument("log")
     verbs.add_parser("table").add_argument("logs", nargs="+")
     given = parser.parse_args()
     if given.verb == "table":
         return table(given.logs)
+    if given.verb == "watch":
+        return watch(given.log)
     return 0 if run(given.log, given.jobs, given.names) else 1
 
 

@@ -10,7 +10,7 @@ use Rattle.aig_circuit.specs.declared.node.AigNodeType.{AigNodeType}
 use Rattle.aig_circuit.specs.declared.node.AigNodeType.TheVariants.{False, Leaf, And}
 use Rattle.aig_circuit.specs.declared.node.AigNode.{AigNode}
 use Rattle.aig_circuit.specs.Edge.{literal_of}
-use Rattle.aig_circuit.specs.Node.{kind_at, and_of}
+use Rattle.aig_circuit.specs.Node.{kind_at, and_of, IsOrdered as AreOrdered}
 use Rattle.aig_circuit.specs.Circuit.{AreNodes}
 use Rattle.aig_circuit.specs.Renumber.{position_of}
 use Rattle.aig_circuit.proofs.Trees.{kind_at-within}
