@@ -21,7 +21,7 @@ import threading
 import time
 
 ROOT = pathlib.Path(__file__).resolve().parent.parent
-LINE = re.compile(r"(?:\S+ )?(\w+)( tests| edits)? rc=(-?\d+) (\d+)s(?: cpu=(\d+)s)?(?: rss=(\d+)M)?(?:.*? functions=(\d+))?")
+LINE = re.compile(r"(\w+)( tests| edits)? rc=(-?\d+) (\d+)s(?: cpu=(\d+)s)?(?: rss=(\d+)M)?(?:.*? functions=(\d+))?")
 FUNCTION = re.compile(r"function (\S+) ([\d.]+)s")
 CHECKED = re.compile(r"checked (.+), \d+ of \d+$")
 TICK = os.sysconf("SC_CLK_TCK")
@@ -201,15 +201,14 @@ def table(paths):
     """Prints the tables."""
     crates, functions = rows(paths)
     crates = {name: crates.get(name, {}) for name in needs()}
-    proof = {name: int(cell(took.get("proof"), 0) or 0) for name, took in crates.items()}
-    print("| crate | processor seconds | peak MB | functions | seconds of its tests | edits | seconds of the edits |")
+    seconds = {name: [int(cell(took.get(part), 0) or 0) for part in ("proof", "tests", "edits")] for name, took in crates.items()}
+    print("| crate | its proof | its tests | its edits | how many edits | functions | peak MB |")
     print("|---|---|---|---|---|---|---|")
-    for name in sorted(crates, key=lambda it: -proof[it]):
-        took = crates[name]
-        words = [*(cell(took.get("proof"), i) for i in range(3)), cell(took.get("tests"), 0), edits(name) or "", cell(took.get("edits"), 0)]
-        print(f"| `{name}` | " + " | ".join(map(str, words)) + " |")
-    counts = sum(int(cell(it.get("proof"), 2) or 0) for it in crates.values())
-    print(f"| all that was measured | {sum(proof.values())} | | {counts} | | {sum(map(edits, crates))} | |")
+    for name in sorted(crates, key=lambda it: -sum(seconds[it])):
+        peak, count = (cell(crates[name].get("proof"), i) for i in (1, 2))
+        print(f"| `{name}` | " + " | ".join(str(it or "") for it in [*seconds[name], edits(name), count, peak]) + " |")
+    sums = [sum(parts) for parts in zip(*seconds.values())]
+    print("| all | " + " | ".join(map(str, sums)) + f" | {sum(map(edits, crates))} | | |")
     if functions:
         print("\n| function | processor seconds |\n|---|---|")
         for name in sorted(functions, key=lambda it: -functions[it])[:DEAREST]:
