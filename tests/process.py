@@ -101,8 +101,10 @@ def words_give_commands(room):
 def other_words_are_wrong(room):
     wrong = [[], ["text"], ["TEXT", "and.aag"], ["Binary", "and.aag", "out"], ["text", "and.aag", "more"], [""]]
     wrong += [["binary", "and.aag"], ["binary", "and.aag", "out", "more"], ["text", b"\xff"], [b"\xff", "and.aag"]]
-    wrong += [["cnf", "and.aag", k] for k in ["", "x", "+1", "-1", "1.0", " 1", "4294967296"]]
-    wrong += [["cnf", "and.aag"], ["cnf", "and.aag", "0", "RAW"], ["query", "and.aag", "0", "raw", "more"]]
+    wrong += [["cnf", "and.aag", k] for k in ["", "x", "+1", "-1", "+0", "-0", "0x", "1.0", " 1", "\u0661", "4294967296", "9" * 20]]
+    wrong += [["cnf", "and.aag"], ["cnf", "and.aag", "0", "RAW"], ["cnf", "and.aag", "0", "Raw"], ["cnf", "and.aag", "raw"]]
+    wrong += [["query"], ["query", "and.aag", "0", "raw", "more"], ["query", "and.aag", "raw", "12"], ["query", "and.aag", "4294967296"]]
+    wrong += [["strash", "and.aag", "out.aag"], ["text", "and.aag", "0", "raw"]]
     wrong += [["binary", "and.aag", b"out\xff"]]
     for words in wrong:
         room.ends(*words, status=2, err=USAGE)

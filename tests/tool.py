@@ -14,7 +14,6 @@ import tempfile
 
 HERE = pathlib.Path(__file__).resolve().parent
 TOOL = HERE.parent / "crates" / "aigtool" / "out" / "aigtool"
-USAGE = b"usage: aigtool text FILE, binary FILE OUT, strash FILE, cnf FILE K [raw], query FILE K [raw]\n"
 
 # The and of two inputs, and its binary form.
 AND = b"aag 3 2 0 1 1\n2\n4\n6\n6 4 2\n"
@@ -126,25 +125,6 @@ REFUSALS = [
     ("query", "4294967295", INPUT, b"unrolled circuit may pass the limit"),
 ]
 
-# Words that are no command.
-OTHER_WORDS = [
-    [],
-    ["text"],
-    ["text", "FILE", "more"],
-    ["TEXT", "FILE"],
-    ["binary", "FILE"],
-    ["strash", "FILE", "out.aag"],
-    ["cnf", "FILE"],
-    ["cnf", "FILE", "0", "Raw"],
-    ["cnf", "FILE", "raw"],
-    ["cnf", "FILE", "0", "raw", "more"],
-    ["query"],
-    ["query", "FILE", "raw", "12"],
-    ["query", "FILE", "4294967296"],
-    ["text", "FILE", "0", "raw"],
-    *(["cnf", "FILE", k, "raw"] for k in ["", "+0", "-0", "0x", " 1", "1.0", "\u0661", "9" * 20]),
-]
-
 
 def limited(count):
     """Before a program runs: no file grows beyond so many bytes, and a write that would is refused."""
@@ -190,9 +170,6 @@ def main():
         for name, rest, data, why in REFUSALS:
             rows.file.write_bytes(data)
             rows.wants([name, "FILE", *rest.split()], (1, b"", b"aigtool: " + why + b"\n"))
-        rows.file.write_bytes(AND)
-        for words in OTHER_WORDS:
-            rows.wants(words, (2, b"", USAGE))
     print(f"{rows.passed} passed, {rows.failed} failed")
     return 1 if rows.failed else 0
 
