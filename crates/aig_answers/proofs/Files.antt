@@ -1,5 +1,5 @@
 -- What the answers of the calls tell of the file, from what reading and encoding tell.
-use Rattle.std.proofs.Common.{◌≡◌, ◌≢◌, ◌↔◌, ℕ, ◌+◌, ◌<◌, ◌≤◌, Bool, IsTrue, Option, Some, None, Result, Ok, Err, List, [], ◌∷◌, length, map, true, false, refl, sym, ap, subst, ◌∙◌, inl, inr}
+use Rattle.std.proofs.Common.{◌≡◌, ◌≢◌, ◌↔◌, ℕ, ◌+◌, ◌<◌, ◌≤◌, Bool, IsTrue, Option, Some, None, Result, Ok, Err, List, [], ◌∷◌, length, map, true, false, refl, sym, ap, subst, ◌∙◌, inl, inr, arith}
 use Rattle.std.specs.Prelude.{◌==◌, IfSome, IfErr, IsErrOf, IsOk}
 use Rattle.std.proofs.lemmas.List.{nil_from_length}
 use Rattle.std.proofs.lemmas.Bool.{cases_lt, eqb-true, false≢true}
@@ -15,6 +15,7 @@ use Rattle.aig_reader.specs.Reading.{IsReadAs, ReadsWhere}
 use Rattle.aig_unroll.specs.Places.{unrolled_size}
 use Rattle.aig.specs.Reading.{IsFileCircuit}
 use Rattle.aig_certify.specs.declared.window.Window.{Window}
+use Rattle.aig_refutation.specs.declared.error.RefutationError.{RefutationError}
 use Rattle.aig_encode.specs.declared.error.EncodeError.{EncodeError}
 use Rattle.aig_encode.specs.declared.error.EncodeError.TheVariants as encode
 use Rattle.aig_encode.specs.Encoding.{IsBeyond, IsWithin, ConsumedFile, EncodeUnlessTransient}
@@ -353,6 +354,13 @@ room_told_again left form limit k r rest A B e told = record {
 
 -- ---- nothing asked
 
+-- an answer and a refused proof are no such refusal
+pub answer_asks : (T : Type 0) (x : T) → IsErrOf {T = T} (Ok x) errors.NoBads → ⊥
+answer_asks T x = no_refusal T AnswerError x errors.NoBads
+
+pub proof_asks : (T : Type 0) (e : RefutationError) → IsErrOf {T = T} (Err (errors.Refutation e)) errors.NoBads → ⊥
+proof_asks T e is = cc
+
 nothing_is_within : (limit k : ℕ) (bytes : List ℕ) (f : File) → AsksNothing limit k bytes f → IsWithin limit k bytes f
 nothing_is_within limit k bytes f nothing = nothing.0
 
@@ -370,7 +378,7 @@ module _ {R : Type 0} (left : R → Option (List ℕ)) (limit k : ℕ) (r : R) (
       by : (known : Option (List ℕ)) → Tells OfFile limit k (Err e) known
           → IfSome known (λ bytes. EncodeUnlessTransient {T = Unit {0}} (Err e) (IsErrOf {T = T} (Err (errors.Encode e)) errors.NoBads ↔ ((f : File) × AsksNothing limit k bytes f)))
       by None h = tt
-      by (Some bytes) h = unless_so (Err e) _ _ (λ told. (λ is. absurd (apart is), λ nothing. absurd (told.accepted.each nothing.0 nothing.1.0))) h
+      by (Some bytes) h = unless_so {T = Unit {0}} (Err e) _ _ (λ told. (λ is. absurd (apart is), λ nothing. absurd (told.accepted.each nothing.0 nothing.1.0))) h
 
   -- the file was answered
   pub answered_nothing : {X : Type 0} (Means : File → X → Type 0) (x : X) (result : Result T AnswerError) → ((f : File) → Means f x → IsErrOf result errors.NoBads ↔ (f.bads ≡ []))

@@ -1,3 +1,3 @@
 mod Turning
 mod Steps
-mod Showing
+pub mod Showing

@@ -1,8 +1,8 @@
 mod Simulated
 mod Zips
-mod Started
+pub mod Started
 mod Showing
 mod Nexts
-mod Given
+pub mod Given
 mod Exact
 mod Examples

@@ -3,7 +3,7 @@ use Rattle.std.proofs.lemmas.Result.{err_from_is_err_and}
 use Rattle.aig_encode.specs.declared.query_clauses.Query.{Query}
 use Rattle.aig_encode.specs.Encoding.{IsQuery}
 use Rattle.aig_answers.specs.declared.error.AnswerError.TheVariants as errors
-use Rattle.aig_answers.proofs.Files.{answered_alike, answered_nothing, none_told, refused_alike, refused_nothing, some_told}
+use Rattle.aig_answers.proofs.Files.{answer_asks, answered_alike, answered_nothing, none_told, proof_asks, refused_alike, refused_nothing, some_told}
 use Rattle.aig_answers.proofs.step.check_step.Goals as goal
 
 pub returns-in_err-asked-clause-file : goal.returns-in_err-asked-clause-file
