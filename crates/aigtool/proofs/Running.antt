@@ -1,7 +1,8 @@
 -- What the outcomes of a command tell, from what its calls tell.
-use Rattle.std.proofs.Common.{◌≡◌, ℕ, Option, Some, None, Result, Ok, Err, List, refl, ap, subst, inl, inr, ◌⊎◌}
-use Rattle.std.specs.Prelude.{All, Any, IfSome, IsErrOf}
+use Rattle.std.proofs.Common.{◌≡◌, ◌≢◌, ℕ, Option, Some, None, Result, Ok, Err, List, refl, ap, subst, inl, inr, ◌⊎◌}
+use Rattle.std.specs.Prelude.{All, Any, IfSome, IsErrOf, IsSomeAnd}
 use Rattle.std.proofs.lemmas.List.Elements.{Contains-append_cases}
+use Rattle.aig_circuit.specs.declared.edge.AigEdge.{AigEdge}
 use Rattle.aig_circuit.specs.Circuit.{Circuit, HasFreeLeaf, latch_leaves}
 use Rattle.aig_circuit.specs.Edges.{HasConstantInit, HasNonConstantInit}
 use Rattle.aig_format.specs.File.{File}
@@ -17,7 +18,6 @@ use Rattle.aig_encode.specs.declared.error.EncodeError.{EncodeError}
 use Rattle.aig_encode.specs.declared.error.EncodeError.TheVariants as encode
 use Rattle.aig_encode.specs.Encoding as encoding
 use Rattle.aigtool.specs.Running.{Answered, AnswersExactly, IsInterrupted, Outcome, Passes, Refused}
-use Rattle.aig_circuit.proofs.InitialEdges.{not_both}
 
 -- an error that is this one
 pub err_of : {T E : Type 0} (e x : E) → e ≡ x → IsErrOf {T = T} (Err e) x
@@ -112,6 +112,10 @@ module _ (X : Type 0) (Means : File → X → Type 0) (limit k : ℕ) where
 
 no_any : {X : Type 0} (P Q : X → Type 0) → ((x : X) → P x → Q x → ⊥) → (xs : List X) → All P xs → Any Q xs → ⊥
 no_any P Q not xs all any = not any.1 (subst P any.3 (all any.0 any.1 any.2)) any.4
+
+not_both : (init : Option AigEdge) → IfSome init (λ e. e.node_id ≡ 0) → IsSomeAnd init (λ e. e.node_id ≢ 0) → ⊥
+not_both None plain variable = variable
+not_both (Some e) plain variable = variable plain
 
 no_free_leaf : (c : Circuit) → HasFreeLeaf c.nodes c.inputs c.latchs → IsWritable c → ⊥
 no_free_leaf c (n, leaf, free) w = elim (Contains-append_cases c.inputs (latch_leaves c.latchs) n (w.closed n leaf)) [
