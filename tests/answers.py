@@ -26,6 +26,8 @@ LARGE = "aigcheck: number too large in proof\n"
 LINE = "aigcheck: bad proof line\n"
 UNFINISHED = "aigcheck: proof ends before the empty clause\n"
 OPEN = "aigcheck: cannot open\n"
+READ = "aigcheck: read failed\n"
+WRITE = "aigcheck: write failed\n"
 NO_BADS = "aigcheck: no bad state property\n"
 
 # The clauses of a window of a latch that keeps its value, and of one that waits for an input.
@@ -76,15 +78,38 @@ PROOFS = {
     "inverse_deleted": LONG.replace("14 0 12", "13 d -12 0\n14 0 12"),
     "deletion_without_space": LONG.replace("14 0 12", "13 d12 0\n14 0 12"),
     "line_behind": LONG + "no proof\n",
+    "in_one_line": LONG.replace("\n", " ", 1),
+    "number_alone": "13\n",
+    "negative_number": "-" + LONG,
+    # The last variable is 7, and the hint 12 the clause `7`.
+    "last_variable": LONG.replace("14 0 12", "14 7 0 12 0\n15 0 14"),
+    # Four times the 12 clauses, and 2^16 with them, are 65,584; a number is compared by its fourth.
+    "largest": LONG.replace("13", "65587").replace("14 0", "65588 0"),
+    "larger": LONG.replace("13", "65588").replace("14 0", "65589 0"),
+    # Most literals are of deleted clauses, so that the others move together.
+    "most_deleted": LONG.replace("14 0 12", "13 d 1 2 3 4 5 6 7 8 9 10 0\n14 0 12"),
+    "most_deleted_and_one": LONG.replace("14 0 12", "13 d 1 2 3 4 5 6 7 8 9 10 12 0\n14 0 12"),
+    "most_deleted_and_used": LONG.replace("14 0 12", "13 d 1 2 3 4 5 6 7 8 9 10 0\n5 3 0 13 0\n14 0 12"),
+    "last_deleted": LONG.replace("14 0 12", "13 d 5 12 0\n14 0 12"),
+    # Without hints, of the same clauses.
+    "hints_behind": "3 0\n" + LONG.split("\n", 1)[1],
+    "literal_without_hints": "8 0\n0\n",
+    "two_ends": "d 3 -4 0 0\n",
     # Without hints, of opposed.aag: with 6 and 9 true, two inputs 2 and 3 differ and are the same.
     "split": "2 0\n0\n",
     "absent_deleted": "d 2 5 0\n2 0\n0\n",
     "unit_deleted": "2 0\nd 2 0\n0\n",
     "needed_deleted": "d 3 2 -6 0\n2 0\n0\n",
+    # Without hints, of three.aag: 2 and 3 follow of the clause of both, and that of both of no units.
+    "of_two": "2 3 0\n2 0\n3 0\n0\n",
+    "of_units": "2 0\n3 0\n0\n",
     # Of differing.aag at step 0. Clause 5 is `6 2 3`, 6 `-7 -2`, 7 `-7 -6`, 9 `-3` and 10 `7`; with raw, 2 is `-4 2`, 6 `-5 3`,
     # 10 `6 4 5`, 11 `-7 -2`, 12 `-7 -6`, 14 `-3` and 15 `7`.
     "optimized": "11 0 10 6 7 9 5 0\n",
     "raw": "16 0 15 11 12 14 2 6 10 0\n",
+    # Of its distinct window: `13` says that the states of two steps differ, and is clause 20 of 20, or with raw 30 of 30.
+    "optimized_window": "21 3 0 20 18 0\n22 0 21 20 19 0\n",
+    "raw_window": "31 3 0 30 28 0\n32 0 31 30 29 0\n",
 }
 
 # Solvers' answers about step 1 of a latch that takes the input of the step before: 2 and 4 are the inputs, 3 is the latch's start.
@@ -110,7 +135,21 @@ SOLUTIONS = {
     "clash": SOLVED.replace("-4", "-2"),
     "cut_in_word": SOLVED[:23],
     "without_0": SOLVED.replace(" 0", ""),
+    "line_after_0": SOLVED + "no solution\n",
+    "words_after_0": SOLVED.replace(" 0", " 0 5 2"),
+    "given_twice": SOLVED.replace(" 2", " 2 2"),
+    "empty_lines_of_values": SOLVED.replace("v", "v\nv "),
+    "0_alone": SOLVED.replace(" 0", "\nv 0"),
+    "inverted_0": SOLVED.replace(" 0", " -0"),
+    "without_space": SOLVED.replace("v ", "v"),
+    "empty_line": SOLVED.replace("v", "\nv"),
+    "longer_answer": SOLVED.replace("E\n", "E2\n"),
+    "two_spaces_in_answer": SOLVED.replace("s ", "s  "),
+    "cut_in_answer": SOLVED[:13],
 }
+# A witness of counter.aag: the input is 1 at three steps.
+SHOWN = "1\nb0\n00\n1\n1\n1\n0\n.\n"
+
 # The query of the latch that takes the input of the step before for step 1, and that of the waiting latch.
 DELAYED = """c i0 at step 0 is 2
 c i0 at step 1 is 4
@@ -171,7 +210,7 @@ def query(*words):
 def rows(folder):
     """The words of each row, and what is wanted."""
     stuck, waiting, toggle, no_bads = (os.path.join(FILES, name + ".aag") for name in ["stuck", "waiting", "toggle", "no_bads"])
-    differing, opposed = (os.path.join(FILES, name + ".aag") for name in ["differing", "opposed"])
+    differing, opposed, three = (os.path.join(FILES, name + ".aag") for name in ["differing", "opposed", "three"])
     of_stuck, of_waiting = (os.path.join(FILES, name + ".lrat") for name in ["stuck", "waiting"])
     made = {name: os.path.join(folder, name) for name in PROOFS}
     missing = os.path.join(folder, "missing")
@@ -200,6 +239,11 @@ def rows(folder):
     yield ["refuted", differing, "0", made["raw"], "raw"], step(0)
     yield ["refuted", differing, "0", made["raw"]], refused(UNNAMED)
     yield ["refuted", differing, "1", made["optimized"]], refused(STEP)
+    window_of = lambda name, *last: ["inductive", differing, "0", made[name], "distinct", *last]
+    yield window_of("optimized_window"), window(0)
+    yield window_of("optimized_window", "raw"), refused(STEP)
+    yield window_of("raw_window", "raw"), window(0)
+    yield window_of("raw_window"), refused(UNNAMED)
     # A proof is read up to the empty clause. To delete a clause that isn't there does nothing, and one of one literal stays.
     yield distinct(made["line_behind"]), window(0)
     for name in ["split", "absent_deleted", "unit_deleted"]:
@@ -207,6 +251,11 @@ def rows(folder):
     for name in ["empty_clause", "needed_deleted"]:
         yield ["refuted", opposed, "0", made[name]], refused(STEP)
     yield ["inductive", waiting, "0", made["split"]], refused(STEP)
+    yield ["refuted", three, "0", made["of_two"], "raw"], step(0)
+    yield ["refuted", three, "0", made["of_units"], "raw"], refused(STEP)
+    # After a number is far above the others, and after clauses moved together.
+    for name in ["last_variable", "largest", "most_deleted"]:
+        yield distinct(made[name]), window(0)
     # Another file, step, form of window or command.
     yield ["refuted", toggle, "1", of_stuck], refused(STEP)
     yield ["refuted", waiting, "0", of_waiting], refused(UNNAMED)
@@ -236,6 +285,16 @@ def rows(folder):
         ("none_deleted", UNNAMED),
         ("inverse_deleted", LINE),
         ("deletion_without_space", LINE),
+        ("in_one_line", LINE),
+        ("number_alone", LINE),
+        ("negative_number", LINE),
+        ("larger", LARGE),
+        ("most_deleted_and_one", UNNAMED),
+        ("most_deleted_and_used", TWICE),
+        ("last_deleted", UNNAMED),
+        ("hints_behind", LINE),
+        ("literal_without_hints", LITERAL),
+        ("two_ends", LINE),
     ]:
         yield distinct(made[name]), refused(why)
     # The clauses of a query, and which literals stand for inputs, latches and bads. Variable 1 is false.
@@ -249,7 +308,7 @@ def rows(folder):
     yield ["clauses", credits, "0", "raw"], answered(CREDITS + query(credits, "0", "raw"))
     # The witness of a solution: the first state, the inputs of each step, and x where no value is given.
     witness = lambda name, file=delayed, k="1": ["witness", file, k, os.path.join(folder, name)]
-    for name in ["solved", "in_lines"]:
+    for name in ["solved", "in_lines", "line_after_0", "words_after_0", "given_twice", "empty_lines_of_values", "0_alone"]:
         yield witness(name), answered("1\nb0\n0\n1\n0\n.\n")
     yield [*witness("solved"), "raw"], answered("1\nb0\n0\n1\n0\n.\n")
     yield witness("last_input_missing"), answered("1\nb0\n0\n1\nx\n.\n")
@@ -273,6 +332,12 @@ def rows(folder):
         ("clash", "aigcheck: literal and its inverse in a solution\n"),
         ("cut_in_word", NO_LITERAL),
         ("without_0", "aigcheck: solution ends before its 0\n"),
+        ("inverted_0", NO_LITERAL),
+        ("without_space", "aigcheck: bad line of a solution\n"),
+        ("empty_line", "aigcheck: bad line of a solution\n"),
+        ("longer_answer", NO_ANSWER),
+        ("two_spaces_in_answer", NO_ANSWER),
+        ("cut_in_answer", NO_ANSWER),
     ]:
         yield witness(name), refused(why)
     yield witness("solved", no_bads), refused(NO_BADS)
@@ -286,24 +351,46 @@ def rows(folder):
     wrong += [["inductive", stuck, "0"], ["inductive", stuck, "", of_stuck], ["refute", stuck, "0", of_stuck], ["run", stuck], ["run", stuck, of_stuck, "raw"]]
     wrong += [["clauses", delayed], ["clauses", delayed, "1", "distinct"], ["clauses", delayed, "1", "raw", "raw"]]
     wrong += [["witness", delayed, "1"], [*witness("solved"), "distinct"], [*witness("solved"), "raw", "raw"], ["solve", *witness("solved")[1:]]]
-    for words in wrong:
+    for words in [*wrong, [b"\xff"]]:
         yield words, (2, "", USAGE)
+    # A folder can be opened, and not read.
+    for words in [["clauses", FILES, "0"], ["window", FILES, "0"], ["refuted", FILES, "0", of_stuck], ["refuted", stuck, "0", FILES]]:
+        yield words, refused(READ)
+    for words in [["inductive", stuck, "0", FILES], ["witness", delayed, "1", FILES], ["run", FILES, of_stuck], ["run", stuck, FILES]]:
+        yield words, refused(READ)
+    # Where the file and what is given beside it are both faulty, the file is named.
+    for words in [["refuted", made["junk"], "0", made["junk"]], ["witness", made["junk"], "0", made["junk"]], ["run", made["junk"], made["junk"]]]:
+        yield words, refused("aigcheck: bad header line\n")
+
+
+def unwritten(folder):
+    """The words of each command that prints, whose standard output takes no byte."""
+    stuck, delayed, counter = os.path.join(FILES, "stuck.aag"), os.path.join(FILES, "delayed.aag"), os.path.join(HERE, "witnesses", "counter.aag")
+    of_stuck = os.path.join(FILES, "stuck.lrat")
+    yield from [["clauses", stuck, "0"], ["window", stuck, "0"], ["refuted", stuck, "0", of_stuck], ["inductive", stuck, "0", of_stuck]]
+    yield from [["witness", delayed, "1", os.path.join(folder, "solved")], ["run", counter, os.path.join(folder, "shown")]]
 
 
 def main():
     tool = sys.argv[1] if len(sys.argv) > 1 else os.path.join(HERE, "..", "crates", "aigcheck", "out", "aigcheck")
     failed = count = 0
     with tempfile.TemporaryDirectory() as folder:
-        for name, text in [*PROOFS.items(), *SOLUTIONS.items()]:
+        for name, text in [*PROOFS.items(), *SOLUTIONS.items(), ("shown", SHOWN)]:
             with open(os.path.join(folder, name), "w") as out:
                 out.write(text)
+        tried = []
         for words, wanted in rows(folder):
             done = subprocess.run([tool, *words], stdout=subprocess.PIPE, stderr=subprocess.PIPE, encoding="utf-8")
-            given = done.returncode, done.stdout, done.stderr
+            tried.append((words, wanted, (done.returncode, done.stdout, done.stderr)))
+        with open("/dev/full", "wb") as full:
+            for words in unwritten(folder):
+                done = subprocess.run([tool, *words], stdout=full, stderr=subprocess.PIPE, encoding="utf-8")
+                tried.append((words, (1, WRITE), (done.returncode, done.stderr)))
+        for words, wanted, given in tried:
             count += 1
             if given != wanted:
                 failed += 1
-                print(f"{' '.join(words)}\n  wanted {wanted}\n  given  {given}")
+                print(f"{words}\n  wanted {wanted}\n  given  {given}")
     print(f"{count - failed} passed, {failed} failed")
     sys.exit(1 if failed else 0)
 
