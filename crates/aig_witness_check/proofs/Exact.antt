@@ -120,12 +120,12 @@ module _ (f : File) (limit : ℕ) (w : Witness) (fits : Fits f limit) (given : I
 wrong_not_known : (c : Circuit) (w : Witness) (e : CheckError) → e ≢ errors.Memory → IsWrong c w e → ¬ IsKnownWitness c w
 wrong_not_known c w errors.Memory memory wrong known = memory refl
 wrong_not_known c w errors.Latches memory wrong known = wrong known.latches
-wrong_not_known c w (errors.Inputs t) memory wrong known = wrong.1 (known.steps.inputs t wrong.0)
-wrong_not_known c w errors.NoStep memory wrong known = let some = known.some in omega arith
-wrong_not_known c w errors.NoBad memory wrong known = let named = known.named in omega arith
-wrong_not_known c w errors.Start memory wrong known = wrong known.start
-wrong_not_known c w (errors.Constraint t) memory wrong known = wrong.1 (known.steps.constraints t wrong.0)
-wrong_not_known c w errors.Bad memory wrong known = wrong known.bad
+wrong_not_known c w (errors.Inputs t) memory wrong known = wrong.1.2 (known.steps.inputs t wrong.1.1)
+wrong_not_known c w errors.NoStep memory wrong known = let some = known.some in let none = wrong.1 in omega arith
+wrong_not_known c w errors.NoBad memory wrong known = let named = known.named in let above = wrong.2 in omega arith
+wrong_not_known c w errors.Start memory wrong known = wrong.3 known.start
+wrong_not_known c w (errors.Constraint t) memory wrong known = wrong.1.3 (known.steps.constraints t wrong.1.1)
+wrong_not_known c w errors.Bad memory wrong known = wrong.2 known.bad
 
 -- so a refusal of given values shows that there is nothing to show
 pub wrong_shows_nothing : (f : File) (limit : ℕ) (w : Witness) (e : CheckError) → Fits f limit → IsGiven w → e ≢ errors.Memory → IsWrong (circuit_of f) w e → ¬ ShowsBad f w

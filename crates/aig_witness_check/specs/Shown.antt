@@ -38,10 +38,14 @@ AreTrueIn s edges = All (λ e. value_in s e ≡ TRUE) edges
 abbrev pub named_bad : Circuit → Witness → AigEdge
 named_bad c w = slice_index_or c.bads w.bad (edge_to 0 false)
 
--- each step has a value for each input, and each constraint is known to hold at it
-pub record HoldsSteps (c : Circuit) (w : Witness) : Type 0 where
-  pub inputs : (t : ℕ) → t < length w.steps → length (slice_index_or w.steps t []) ≡ length c.inputs
-  pub constraints : (t : ℕ) → t < length w.steps → AreTrueIn (simulated c w t) c.constraints
+-- each step before step n has a value for each input, and each constraint is known to hold at it
+pub record HoldsBefore (c : Circuit) (w : Witness) (n : ℕ) : Type 0 where
+  pub inputs : (t : ℕ) → t < n → length (slice_index_or w.steps t []) ≡ length c.inputs
+  pub constraints : (t : ℕ) → t < n → AreTrueIn (simulated c w t) c.constraints
+
+-- and so each step
+abbrev pub HoldsSteps : Circuit → Witness → Type 0
+HoldsSteps c w = HoldsBefore c w (length w.steps)
 
 -- There is a value for each latch, and at each step for each input. By these each latch has its
 -- start, each constraint is known to hold at each step, and the named bad edge at the last one.

@@ -30,7 +30,12 @@ returns-then-not-all_true-clause-wrong c =
     let rows = rows_of c.args.witness.now.steps.items in
     let row = item_row c.args.witness.now.steps.items c.deref-inputs-items.result.now c.loop-t.t c.inputs-item.result c.deref-inputs-items.ensures.value c.loop-t-test.true c.inputs-item.is in
     let now = simulated-more (simulation_of circuit c.args.witness.now.state.items) c.loop-t.simulator c.simulate.new.self rows c.loop-t.t c.deref.result.now row.0 (row.1 ∙ sym c.deref.ensures.value) c.loop-t.invariant.so_far c.in_ok-simulate.ensures.ok in
-    (row.0, λ all. c.all_true.ensures.no c.if-not-all_true.true (true_turned _ _ _ _ (sym now) (sym c.deref-in-loop-t.ensures.value) all))
+    let long : length c.inputs-item.result.items ≡ length c.args.lists.now.inputs.items = omega (arith, c.inputs-item.result.ok.0, c.args.lists.now.inputs.ok.0) in (
+      record { inputs = c.loop-t.invariant.inputs; constraints = c.loop-t.invariant.constraints },
+      row.0,
+      ap length row.1 ∙ long,
+      λ all. c.all_true.ensures.no c.if-not-all_true.true (true_turned _ _ _ _ (sym now) (sym c.deref-in-loop-t.ensures.value) all),
+    )
 
 pub loop-t-preserved : goal.loop-t-preserved
 loop-t-preserved c =
