@@ -51,6 +51,14 @@ GivesFirst text (Err (errors.Witness e)) = OnWitness e (Misses parse_next text)
 GivesFirst text (Err errors.NoWitness) = HasNone text
 GivesFirst text (Err (errors.Check e)) = ⊥
 
+-- the answer tells of the file alone: no witness was read
+abbrev pub IsOfFileAlone : Result Shown ShowError → Type 0
+IsOfFileAlone (Ok shown) = ⊥
+IsOfFileAlone (Err (errors.File e)) = Unit {0}
+IsOfFileAlone (Err (errors.Witness e)) = ⊥
+IsOfFileAlone (Err errors.NoWitness) = ⊥
+IsOfFileAlone (Err (errors.Check e)) = ⊥
+
 -- The bytes that were taken are a file, and the next witness shows a bad state of its machine; or,
 -- memory and streams aside: no file is accepted, or the text has no witness, or the file is
 -- accepted and the witness has the fault that is named.

@@ -1,7 +1,7 @@
 //! Checks that a witness shows a bad state of the machine of an AIGER file.
 
 ghost use Rattle.std.specs.Prelude.{◌≡◌, ◌^◌, ◌≤◌, IsErrOf, IsTrue};
-ghost use Rattle.aig_witness_check.specs.Files.{Answers, GivesFirst};
+ghost use Rattle.aig_witness_check.specs.Files.{Answers, GivesFirst, IsOfFileAlone};
 ghost use Rattle.aig_witness_check.specs.declared.file.ShowError.TheVariants as errors;
 ghost use Rattle.aig_witness.specs.declared.error.WitnessError.TheVariants as witness;
 
@@ -108,6 +108,7 @@ pub fn check_witness<R: Source, W: Source>(
     requires some { 1 ≤ limit }
     requires few { limit ≤ 2 ^ 31 }
     ensures answer { Answers limit (R.left r.old) (R.left r.new) (W.left w.old) result }
+    ensures unread { IsOfFileAlone result → w.new ≡ w.old }
     // Stream only where a read failed in this call.
     ensures file_stream { IsErrOf result (ShowError.File ReadError.Stream)
         → IsTrue (R.failed r.new) }
