@@ -1,11 +1,13 @@
 //! Clauses in one piece of memory.
 
+ghost use Rattle.std.specs.Prelude.{◌<◌, IfSome, length};
+
 use crate::trail::Trail;
 use aig_base::{Lbool, Lit, MemoryError};
 use std::alloc::Global;
 
 /// How many words a clause has before its literals.
-const HEADER: usize = 4;
+const HEADER: usize = 5;
 
 /// The word that says how many literals a clause has.
 const LENGTH: usize = 0;
@@ -19,6 +21,45 @@ const NEXT: usize = 2;
 /// The word that says where the look for a literal to watch goes on, after the two that are
 /// watched.
 const TURN: usize = 3;
+
+/// The word that says when a clause was used last, or 0 where it isn't recent.
+const USED: usize = 4;
+
+/// What a look at a clause finds, one of whose watched literals is false now.
+pub(crate) enum Look {
+    /// The clause was removed.
+    Removed,
+    /// This other watched literal is true.
+    True(Lit),
+    /// The clause watches the literal `next` from now on, beside this other one.
+    Moved { other: Lit, next: Lit },
+    /// All literals but this other watched one are false.
+    Last(Lit),
+}
+
+/// The place of the first literal from `from` on that isn't false, if there is one.
+fn open_from(lits: &[u32], from: usize, trail: &Trail) -> Option<usize>
+    ensures { IfSome result (λ i. i < length lits.now) }
+{
+    for i in from..lits.len() {
+        if trail.value(Lit::from(lits[i])) != Lbool::FALSE {
+            return Some(i);
+        }
+    }
+    None
+}
+
+/// The place of a literal that isn't false, if there is one: of the first from `turn` on, and else
+/// of the first.
+fn next_open(lits: &[u32], turn: usize, trail: &Trail) -> Option<usize>
+    ensures { IfSome result (λ i. i < length lits.now) }
+{
+    let found = open_from(lits, turn, trail);
+    if found.is_some() {
+        return found;
+    }
+    open_from(&lits[..turn.min(lits.len())], 0, trail)
+}
 
 /// Clauses, each a header and its literals, by the places of their first words. The first two
 /// literals of a clause are watched.
@@ -99,6 +140,16 @@ impl Clauses {
         self.put(place as usize + NEXT, next);
     }
 
+    /// When a clause was used last, or 0 where it isn't recent.
+    pub(crate) fn used(&self, place: u32) -> u32 {
+        self.word(place as usize + USED)
+    }
+
+    /// Says when a clause was used last.
+    pub(crate) fn set_used(&mut self, place: u32, time: u32) {
+        self.put(place as usize + USED, time);
+    }
+
     /// The place of the first clause, whether removed or not, if there is one.
     pub(crate) fn first(&self) -> Option<u32> {
         self.place_at(1)
@@ -129,7 +180,7 @@ impl Clauses {
         else {
             return Err(MemoryError::Memory);
         };
-        self.words.extend_from_slice(&[len, number, 0, 0])?;
+        self.words.extend_from_slice(&[len, number, 0, 0, 0])?;
         for lit in lits {
             self.words.push(u32::from(*lit))?;
         }
@@ -195,33 +246,40 @@ impl Clauses {
         found
     }
 
-    /// The other watched literal of a clause, which is put first.
-    pub(crate) fn other(&mut self, place: u32, lit: Lit) -> Lit {
-        let first = self.lit(place, 0);
-        if first != lit {
-            return first;
+    /// Looks at a clause one of whose watched literals is this one, which is false now. Where the
+    /// other isn't true, it watches a further literal that isn't false in its place, if there is
+    /// one. The look for that goes on where the last one ended.
+    pub(crate) fn look(&mut self, place: u32, lit: Lit, trail: &Trail) -> Look {
+        let start = (place as usize).min(self.words.len());
+        let words = &mut self.words[start..];
+        if words.len() < HEADER + 2 || words[NUMBER] == 0 {
+            return Look::Removed;
         }
-        self.swap(place, 0, 1);
-        self.lit(place, 0)
-    }
-
-    /// Puts a literal that isn't false second, in place of the one there. The look for it goes on
-    /// where the last one ended.
-    pub(crate) fn replace(&mut self, place: u32, trail: &Trail) -> Option<Lit> {
-        let count = self.len(place).saturating_sub(2);
-        let mut turn = self.word(place as usize + TURN);
-        for _ in 0..count {
-            if turn >= count {
-                turn = 0;
-            }
-            let lit = self.lit(place, turn.saturating_add(2));
-            if trail.value(lit) != Lbool::FALSE {
-                self.swap(place, 1, turn.saturating_add(2));
-                self.put(place as usize + TURN, turn);
-                return Some(lit);
-            }
-            turn = turn.saturating_add(1);
+        let first = Lit::from(words[HEADER]);
+        let other = if first == lit {
+            Lit::from(words[HEADER + 1])
+        } else {
+            first
+        };
+        if trail.value(other) == Lbool::TRUE {
+            return Look::True(other);
         }
-        None
+        let end = HEADER + words[LENGTH] as usize;
+        if end < HEADER + 2 || end > words.len() {
+            return Look::Removed;
+        }
+        let turn = words[TURN] as usize;
+        let Some(i) = next_open(&words[HEADER + 2..end], turn, trail) else {
+            return Look::Last(other);
+        };
+        let next = words[HEADER + 2 + i];
+        words[TURN] = i as u32;
+        words[HEADER] = u32::from(other);
+        words[HEADER + 1] = next;
+        words[HEADER + 2 + i] = u32::from(lit);
+        Look::Moved {
+            other,
+            next: Lit::from(next),
+        }
     }
 }

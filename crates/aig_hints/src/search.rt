@@ -4,30 +4,38 @@ use crate::clauses::Clauses;
 use crate::index::Index;
 use crate::marked::Marked;
 use crate::trail::Trail;
-use crate::watches::{Watch, Watches};
+use crate::watches::Watches;
 use aig_base::{Lbool, Lit, MemoryError};
 use std::alloc::Global;
+use std::mem;
 
-/// What becomes of a clause's watch on a literal that is false now.
-enum Visit {
-    /// It stays, with this blocker.
-    Stays(Lit),
-    /// It ends: the clause watches another literal, or was removed.
-    Ends,
-    /// It stays, and all literals of the clause are false.
-    Conflict,
-}
+/// A clause that isn't used in so many searches is recent no more, which is looked at once in as
+/// many.
+const PERIOD: u32 = 200;
 
 /// Finds hints by unit propagation: of each clause two literals are watched, and literals that
 /// follow from the clauses alone stay true from then on (Moskewicz, Madigan, Zhao, Zhang and Malik:
 /// Chaff, 2001).
+///
+/// What follows along clauses of two literals is made true before any other clause is looked at, and
+/// what follows along recent ones before the rest: those that were added, or became hints, a short
+/// time ago. Most hints of a clause are also hints of the clauses just before it.
 ///
 /// After an error it isn't used any more.
 #[derive(Drop)]
 pub struct Search {
     alloc: Global,
     clauses: Clauses,
-    watches: Watches,
+    /// The clauses of two literals.
+    pairs: Watches,
+    /// Recent clauses of more literals.
+    recent: Watches,
+    /// The others.
+    rest: Watches,
+    /// The places of the recent ones, and of some that were removed.
+    recent_places: Vec<u32>,
+    /// How many searches there were. Clauses of the formula come before the first, and aren't recent.
+    searches: u32,
     index: Index,
     trail: Trail,
     marked: Marked,
@@ -49,7 +57,11 @@ impl Search {
         Ok(Search {
             alloc,
             clauses: Clauses::new(alloc)?,
-            watches: Watches::new(alloc, literals)?,
+            pairs: Watches::new(alloc, literals)?,
+            recent: Watches::new(alloc, literals)?,
+            rest: Watches::new(alloc, literals)?,
+            recent_places: Vec::new(alloc),
+            searches: 0,
             index: Index::new(alloc),
             trail: Trail::new(alloc, variables)?,
             marked: Marked::new(alloc, literals)?,
@@ -97,12 +109,13 @@ impl Search {
         let open = self.clauses.bring_open(place, &self.trail);
         let first = self.clauses.lit(place, 0);
         if open >= 2 {
+            self.clauses.set_used(place, self.searches);
             return self.watch(place);
         }
         if open == 0 {
             self.conflict = Some(place);
         } else if self.trail.value(first) == Lbool::NONE {
-            self.trail.assign(first, Some(place))?;
+            self.trail.assign(first, place);
             if self.clauses.len(place) == 1 {
                 self.set_unit(first, number);
             }
@@ -112,66 +125,101 @@ impl Search {
 
     /// Watches the first two literals of a clause.
     fn watch(&mut self, place: u32) -> Result<(), MemoryError> {
-        let first = self.clauses.lit(place, 0);
-        let second = self.clauses.lit(place, 1);
-        let blocker = second;
-        self.watches.add(first, Watch { place, blocker })?;
-        let blocker = first;
-        self.watches.add(second, Watch { place, blocker })
+        if self.clauses.len(place) == 2 {
+            return self.pairs.add(&self.clauses, place);
+        }
+        if self.clauses.used(place) == 0 {
+            return self.rest.add(&self.clauses, place);
+        }
+        self.recent_places.push(place)?;
+        self.recent.add(&self.clauses, place)
     }
 
-    /// Looks at a clause that watches a literal which is false now.
-    fn visit(&mut self, place: u32, lit: Lit) -> Result<Visit, MemoryError> {
+    /// Takes note that a clause is used now.
+    fn make_recent(&mut self, place: u32) -> Result<(), MemoryError> {
+        if self.searches == 0 || self.clauses.len(place) <= 2 {
+            return Ok(());
+        }
+        let was_recent = self.clauses.used(place) != 0;
+        self.clauses.set_used(place, self.searches);
+        if was_recent {
+            return Ok(());
+        }
+        self.rest.remove(&self.clauses, place);
+        self.watch(place)
+    }
+
+    /// Lets a clause be recent no more that was not used for long, and says whether it still is.
+    fn stays_recent(&mut self, place: u32) -> Result<bool, MemoryError> {
         if self.clauses.number(place) == 0 {
-            return Ok(Visit::Ends);
+            return Ok(false);
         }
-        let other = self.clauses.other(place, lit);
-        let value = self.trail.value(other);
-        if value == Lbool::TRUE {
-            return Ok(Visit::Stays(other));
+        if self.searches.saturating_sub(self.clauses.used(place)) <= PERIOD {
+            return Ok(true);
         }
-        if let Some(next) = self.clauses.replace(place, &self.trail) {
-            let blocker = other;
-            self.watches.add(next, Watch { place, blocker })?;
-            return Ok(Visit::Ends);
-        }
-        if value == Lbool::FALSE {
-            return Ok(Visit::Conflict);
-        }
-        self.trail.assign(other, Some(place))?;
-        Ok(Visit::Stays(other))
+        self.recent.remove(&self.clauses, place);
+        self.clauses.set_used(place, 0);
+        self.watch(place)?;
+        Ok(false)
     }
 
-    /// Looks at the clauses that watch a literal which is false now, up to one whose literals are
-    /// all false.
-    fn visit_all(&mut self, lit: Lit, list: &mut Vec<Watch>) -> Result<Option<u32>, MemoryError> {
-        let mut kept = 0;
-        let mut conflict = None;
-        for i in 0..list.len() {
-            let mut watch = list[i];
-            if conflict.is_none() && self.trail.value(watch.blocker) != Lbool::TRUE {
-                match self.visit(watch.place, lit)? {
-                    Visit::Stays(blocker) => watch.blocker = blocker,
-                    Visit::Ends => continue,
-                    Visit::Conflict => conflict = Some(watch.place),
-                }
+    /// Lets all clauses be recent no more that were not used for long.
+    fn end_recent(&mut self) -> Result<(), MemoryError> {
+        let places = mem::replace(&mut self.recent_places, Vec::new(self.alloc));
+        for place in &places {
+            if self.stays_recent(*place)? {
+                self.recent_places.push(*place)?;
             }
-            list[kept] = watch;
-            kept += 1;
         }
-        list.truncate(kept);
-        Ok(conflict)
+        Ok(())
     }
 
-    /// Makes true what follows, up to a clause whose literals are all false, and returns its place.
-    fn propagate(&mut self) -> Result<Option<u32>, MemoryError> {
+    /// Makes true what follows along clauses of two literals, up to one whose literals are both
+    /// false, and returns its place.
+    fn propagate_pairs(&mut self) -> Option<u32> {
         for _ in 0..self.units.len() {
-            let Some(lit) = self.trail.take() else {
+            let lit = self.pairs.next(&self.trail)?;
+            let conflict = self.pairs.visit_pairs(!lit, &mut self.trail);
+            if conflict.is_some() {
+                return conflict;
+            }
+        }
+        None
+    }
+
+    /// The same along recent clauses too.
+    fn propagate_recent(&mut self) -> Result<Option<u32>, MemoryError> {
+        for _ in 0..self.units.len() {
+            let conflict = self.propagate_pairs();
+            if conflict.is_some() {
+                return Ok(conflict);
+            }
+            let Some(lit) = self.recent.next(&self.trail) else {
                 break;
             };
-            let mut list = self.watches.take(self.alloc, !lit);
-            let conflict = self.visit_all(!lit, &mut list)?;
-            self.watches.put(!lit, list);
+            let conflict = self
+                .recent
+                .visit_all(!lit, &mut self.clauses, &mut self.trail)?;
+            if conflict.is_some() {
+                return Ok(conflict);
+            }
+        }
+        Ok(None)
+    }
+
+    /// The same along all clauses.
+    fn propagate(&mut self) -> Result<Option<u32>, MemoryError> {
+        for _ in 0..self.units.len() {
+            let conflict = self.propagate_recent()?;
+            if conflict.is_some() {
+                return Ok(conflict);
+            }
+            let Some(lit) = self.rest.next(&self.trail) else {
+                break;
+            };
+            let conflict = self
+                .rest
+                .visit_all(!lit, &mut self.clauses, &mut self.trail)?;
             if conflict.is_some() {
                 return Ok(conflict);
             }
@@ -191,7 +239,7 @@ impl Search {
                         return Ok(Some(unit));
                     }
                 }
-                Lbool::NONE => self.trail.assign(!*lit, None)?,
+                Lbool::NONE => self.trail.assign(!*lit, 0),
                 Lbool::FALSE => {}
             }
         }
@@ -200,12 +248,15 @@ impl Search {
 
     /// Collects a clause, and the clauses that have its false literals' inverses alone.
     fn collect(&mut self, place: u32, hints: &mut Vec<u32>) -> Result<(), MemoryError> {
+        self.make_recent(place)?;
         hints.push(self.clauses.number(place))?;
         for i in 0..self.clauses.len(place) {
             let lit = !self.clauses.lit(place, i);
-            let unit = self.unit(lit);
-            if self.marked.add(lit)? && unit != 0 {
-                self.unit_hints.push(unit)?;
+            if self.marked.add(lit)? {
+                let unit = self.unit(lit);
+                if unit != 0 {
+                    self.unit_hints.push(unit)?;
+                }
             }
         }
         Ok(())
@@ -224,10 +275,9 @@ impl Search {
         self.collect(place, hints)?;
         for i in (fixed..self.trail.len()).rev() {
             if let Some(lit) = self.trail.get(i) {
-                if self.marked.has(lit) {
-                    if let Some(reason) = self.trail.reason(lit) {
-                        self.collect(reason, hints)?;
-                    }
+                let reason = self.trail.reason(lit);
+                if reason != 0 && self.marked.has(lit) {
+                    self.collect(reason, hints)?;
                 }
             }
         }
@@ -257,13 +307,25 @@ impl Search {
         }
     }
 
+    /// Keeps the first `len` literals of the trail alone, all of which were propagated.
+    fn undo(&mut self, len: usize) {
+        self.trail.undo(len);
+        self.pairs.rewind(len);
+        self.recent.rewind(len);
+        self.rest.rewind(len);
+    }
+
     /// Looks for hints for a clause, by the numbers of clauses, and says whether there are any.
     /// What was in `hints` is lost.
     pub fn find(&mut self, clause: &[Lit], hints: &mut Vec<u32>) -> Result<bool, MemoryError> {
         hints.clear();
         let fixed = self.trail.len();
+        self.searches = self.searches.saturating_add(1);
         let found = self.refute(clause, hints)?;
-        self.trail.undo(fixed);
+        self.undo(fixed);
+        if self.searches % PERIOD == 0 {
+            self.end_recent()?;
+        }
         Ok(found)
     }
 
@@ -276,7 +338,8 @@ impl Search {
             self.named = i;
             if let Some(lit) = self.trail.get(i) {
                 if self.unit(lit) == 0 {
-                    if let Some(reason) = self.trail.reason(lit) {
+                    let reason = self.trail.reason(lit);
+                    if reason != 0 {
                         self.explain(reason, fixed, hints)?;
                     }
                     return Ok(Some(lit));
@@ -306,7 +369,10 @@ impl Search {
         };
         let number = self.clauses.number(place);
         self.clauses.remove(place);
-        let tables = self.watches.size().saturating_add(self.index.size());
+        if self.clauses.len(place) == 2 {
+            self.pairs.remove(&self.clauses, place);
+        }
+        let tables = self.rest.size().saturating_add(self.index.size());
         if self.clauses.is_sparse(tables) {
             self.compact()?;
         }
@@ -318,7 +384,10 @@ impl Search {
     fn compact(&mut self) -> Result<(), MemoryError> {
         self.clauses.compact();
         self.index.fill(&mut self.clauses);
-        self.watches.clear();
+        self.pairs.clear();
+        self.recent.clear();
+        self.rest.clear();
+        self.recent_places.clear();
         let mut next = self.clauses.first();
         for _ in 0..self.clauses.size() {
             let Some(place) = next else {

@@ -8,42 +8,40 @@ use std::alloc::Global;
 pub(crate) struct Trail {
     /// The value of each literal, by its number.
     values: Vec<Lbool>,
-    /// For each variable the place of the clause that gave its value, if any.
-    reasons: Vec<Option<u32>>,
-    /// The true literals.
+    /// For each variable the place of the clause that gave its value, or 0.
+    reasons: Vec<u32>,
+    /// The true literals, and room for the others.
     lits: Vec<Lit>,
-    /// How many of them were taken for propagation.
-    taken: usize,
+    /// How many literals are true.
+    len: usize,
 }
 
 impl Trail {
     /// No values, of so many variables.
     pub(crate) fn new(alloc: Global, variables: usize) -> Result<Trail, MemoryError> {
         let values = vec![in alloc; Lbool::NONE; variables.saturating_mul(2)]?;
-        let reasons = vec![in alloc; None; variables]?;
+        let reasons = vec![in alloc; 0; variables]?;
+        let lits = vec![in alloc; Lit::from(0); variables]?;
         Ok(Trail {
             values,
             reasons,
-            lits: Vec::new(alloc),
-            taken: 0,
+            lits,
+            len: 0,
         })
     }
 
     /// How many literals are true.
     pub(crate) fn len(&self) -> usize {
-        self.lits.len()
+        self.len
     }
 
     /// The true literal of this place in the order, if there are so many.
     pub(crate) fn get(&self, i: usize) -> Option<Lit> {
-        self.lits.get(i).copied()
-    }
-
-    /// The next literal whose propagation is due, if any.
-    pub(crate) fn take(&mut self) -> Option<Lit> {
-        let lit = self.get(self.taken)?;
-        self.taken = self.taken.saturating_add(1);
-        Some(lit)
+        if i < self.len && i < self.lits.len() {
+            Some(self.lits[i])
+        } else {
+            None
+        }
     }
 
     /// The value of a literal.
@@ -56,13 +54,13 @@ impl Trail {
         }
     }
 
-    /// The place of the clause that gave a true literal its value, if any.
-    pub(crate) fn reason(&self, lit: Lit) -> Option<u32> {
+    /// The place of the clause that gave a true literal its value, or 0.
+    pub(crate) fn reason(&self, lit: Lit) -> u32 {
         let i = usize::from(lit.var());
         if i < self.reasons.len() {
             self.reasons[i]
         } else {
-            None
+            0
         }
     }
 
@@ -76,24 +74,27 @@ impl Trail {
         }
     }
 
-    /// Makes a literal true, for the reason of a clause if there is one.
-    pub(crate) fn assign(&mut self, lit: Lit, reason: Option<u32>) -> Result<(), MemoryError> {
-        self.lits.push(lit)?;
+    /// Makes a literal true that has no value, for the reason of the clause of this place, or of
+    /// none where that is 0.
+    pub(crate) fn assign(&mut self, lit: Lit, reason: u32) {
+        if self.len < self.lits.len() {
+            self.lits[self.len] = lit;
+            self.len += 1;
+        }
         self.put(lit, Lbool::TRUE);
         let i = usize::from(lit.var());
         if i < self.reasons.len() {
             self.reasons[i] = reason;
         }
-        Ok(())
     }
 
-    /// Keeps the first `len` literals alone, whose propagation is done.
+    /// Keeps the first `len` literals alone.
     pub(crate) fn undo(&mut self, len: usize) {
-        for _ in len..self.lits.len() {
-            if let Some(lit) = self.lits.pop() {
+        for i in len..self.len {
+            if let Some(lit) = self.get(i) {
                 self.put(lit, Lbool::NONE);
             }
         }
-        self.taken = len;
+        self.len = self.len.min(len);
     }
 }

@@ -158,6 +158,23 @@ fn take_step(
     }
 }
 
+/// The search that steps of the form of the first one need, if they have no numbers.
+fn search_for(
+    alloc: Global,
+    checker: &mut Checker,
+    step: &Step,
+) -> Result<Option<Search>, RefutationError>
+    ensures implied { OnOk result (ImpliesAll checker.old checker.new) }
+    ensures no_stream { IsErrOf result RefutationError.Stream → ⊥ }
+{
+    if step.is_numbered {
+        return Ok(None);
+    }
+    let hints = &mut Vec::new(alloc);
+    let search = start_search(alloc, checker, hints)?;
+    Ok(Some(search))
+}
+
 /// Checks steps up to the first empty clause.
 fn check_steps<F: ByteFeed>(
     alloc: Global,
@@ -171,19 +188,16 @@ fn check_steps<F: ByteFeed>(
     ensures same { F.source_name f.new ≡ F.source_name f.old }
 {
     let mut step = Step::new(alloc);
-    let mut search = None;
-    let mut started = false;
-    'steps: while step.read(f, variables)? {
-        if !started && !step.is_numbered {
-            let hints = &mut Vec::new(alloc);
-            search = Some(start_search(alloc, &mut checker, hints)?);
-        }
-        started = true;
-        if take_step(&mut checker, &mut search, &mut step)? {
-            return Ok(());
+    if !step.read(f, variables)? {
+        return Err(RefutationError::Unfinished);
+    }
+    let mut search = search_for(alloc, &mut checker, &step)?;
+    'steps: while !take_step(&mut checker, &mut search, &mut step)? {
+        if !step.read(f, variables)? {
+            return Err(RefutationError::Unfinished);
         }
     }
-    Err(RefutationError::Unfinished)
+    Ok(())
 }
 
 /// Checks a proof that clauses can't be satisfied: the text of an LRAT or of a DRAT file, whose
