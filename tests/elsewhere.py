@@ -1,11 +1,12 @@
 #!/usr/bin/env python3
-"""Proves a caller in a repository of its own: elsewhere.py [--proved] [FOLDER]
+"""Proves a caller in a repository of its own: elsewhere.py [--proved] [--jobs N] [FOLDER]
 
 Makes FOLDER, or a new one that goes again, copies the crates that the caller of examples/caller stands on, with their lines of
 crates.txt, and the caller beside them, proves, builds and runs it there with `rt run`, and compares what it prints with its file
 stdout. Says how long that took. With --proved what was proved here is copied too (crates/NAME/out), so that the caller alone is
-proved. Run by hand.
+proved. With --jobs N so many processors work on each crate, where rt takes two. Run by hand.
 """
+import argparse
 import os
 import shutil
 import subprocess
@@ -57,12 +58,12 @@ def copy(folder, proved):
     return lines
 
 
-def try_in(folder, proved):
+def try_in(folder, proved, jobs):
     crates = copy(folder, proved)
     caller = os.path.join(folder, "crates", "caller")
     print("%d crates in %s" % (len(crates), folder), flush=True)
     begin = time.monotonic()
-    ran = subprocess.run(["rt", "run"], cwd=caller, stdin=subprocess.DEVNULL, stdout=subprocess.PIPE, encoding="utf-8")
+    ran = subprocess.run(["rt", "run", *jobs], cwd=caller, stdin=subprocess.DEVNULL, stdout=subprocess.PIPE, encoding="utf-8")
     same = ran.stdout == read(CALLER, "stdout")
     if not same:
         print("printed:\n" + ran.stdout)
@@ -72,15 +73,17 @@ def try_in(folder, proved):
 
 
 def main():
-    words = [word for word in sys.argv[1:] if word != "--proved"]
-    if len(words) > 1 or any(word.startswith("-") for word in words):
-        sys.exit(__doc__)
-    proved = "--proved" in sys.argv
-    if words:
-        os.mkdir(words[0])
-        sys.exit(try_in(os.path.abspath(words[0]), proved))
+    parser = argparse.ArgumentParser(description=__doc__, formatter_class=argparse.RawDescriptionHelpFormatter)
+    parser.add_argument("folder", nargs="?")
+    parser.add_argument("--proved", action="store_true")
+    parser.add_argument("--jobs", type=int)
+    given = parser.parse_args()
+    jobs = ["--jobs", str(given.jobs)] if given.jobs else []
+    if given.folder:
+        os.mkdir(given.folder)
+        sys.exit(try_in(os.path.abspath(given.folder), given.proved, jobs))
     with tempfile.TemporaryDirectory() as folder:
-        sys.exit(try_in(folder, proved))
+        sys.exit(try_in(folder, given.proved, jobs))
 
 
 if __name__ == "__main__":
