@@ -3,3 +3,4 @@ pub mod Results
 pub mod Refusing
 pub mod Texts
 pub mod Strashed
+mod Examples

@@ -42,7 +42,7 @@ Any-latch_leaves P latchs = (
 )
 
 -- the lengths of a circuit's lists, one by one
-pub lists-numbers : (P : ℕ → Type 0) (c : Circuit) (i l o b k j f : ℕ) → i ≡ length c.inputs → l ≡ length c.latchs → o ≡ length c.outputs → b ≡ length c.bads → k ≡ length c.constraints → j ≡ length c.justice → f ≡ length c.fairness
+pub lists-numbers : (P : ℕ → Type 0) (c : Circuit) (i l o b k j f : ℕ) → i ≡ length c.inputs → l ≡ length c.latchs → o ≡ length c.properties.outputs → b ≡ length c.properties.bads → k ≡ length c.properties.constraints → j ≡ length c.properties.justice → f ≡ length c.properties.fairness
     → All P (i ∷ l ∷ o ∷ b ∷ k ∷ j ∷ f ∷ []) ↔ All P (list_lengths c)
 lists-numbers P c i l o b k j f ei el eo eb ek ej ef =
     let same : (i ∷ l ∷ o ∷ b ∷ k ∷ j ∷ f ∷ []) ≡ list_lengths c = cc in

@@ -87,7 +87,7 @@ module _ (c : Circuit) (is : IsCircuit c) (w : IsWritable c) where
   as_long : list_lengths (strashed c) ≡ list_lengths c
   as_long =
       let edge = renumbered_edge (image_of c.nodes) in
-      rw (ap length (inputs-strashed c is) ∙ length-map c.inputs (image_of c.nodes), length-map c.latchs (renumbered_latch (image_of c.nodes)), length-map c.outputs edge, length-map c.bads edge, length-map c.constraints edge, length-map c.justice (map edge), length-map c.fairness edge) refl
+      rw (ap length (inputs-strashed c is) ∙ length-map c.inputs (image_of c.nodes), length-map c.latchs (renumbered_latch (image_of c.nodes)), length-map c.properties.outputs edge, length-map c.properties.bads edge, length-map c.properties.constraints edge, length-map c.properties.justice (map edge), length-map c.properties.fairness edge) refl
 
   pub IsWritable-strashed : IsWritable (strashed c)
   IsWritable-strashed = record {
@@ -102,8 +102,8 @@ module _ (c : Circuit) (is : IsCircuit c) (w : IsWritable c) where
           let all = length-map c.nodes (λ (node : AigNode). node.node_id) in
           omega (arith, w.small.nodes);
       lists = subst (All (λ n. n < 2 ^ 32)) (sym as_long) w.small.lists;
-      sets = All-map (λ (set : List AigEdge). length set < 2 ^ 32) (map (renumbered_edge (image_of c.nodes))) c.justice
+      sets = All-map (λ (set : List AigEdge). length set < 2 ^ 32) (map (renumbered_edge (image_of c.nodes))) c.properties.justice
           (All-weaker (λ (set : List AigEdge). length set < 2 ^ 32) (λ (set : List AigEdge). length (map (renumbered_edge (image_of c.nodes)) set) < 2 ^ 32)
-          (λ set h. omega (arith, length-map set (renumbered_edge (image_of c.nodes)))) c.justice w.small.sets);
+          (λ set h. omega (arith, length-map set (renumbered_edge (image_of c.nodes)))) c.properties.justice w.small.sets);
     };
   }

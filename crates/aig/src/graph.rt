@@ -16,8 +16,8 @@ mod setters;
 
 use aig_base::MemoryError;
 use aig_circuit::{
-    AigEdge, AigLatch, AigNode, AndsIter, CircuitLists, CircuitView, build, checks, false_node,
-    gates_among, leaves,
+    AigEdge, AigLatch, AigNode, AndsIter, CircuitLists, CircuitView, Properties, build, checks,
+    false_node, gates_among, leaves,
 };
 use std::alloc::{AllocError, Global};
 use std::collections::HashMap;
@@ -77,11 +77,7 @@ impl Aig {
                 nodes,
                 inputs: Vec::new(alloc),
                 latchs: Vec::new(alloc),
-                outputs: Vec::new(alloc),
-                bads: Vec::new(alloc),
-                constraints: Vec::new(alloc),
-                justice: Vec::new(alloc),
-                fairness: Vec::new(alloc),
+                properties: Properties::new(alloc),
                 names: HashMap::new(alloc),
             },
         })
@@ -246,42 +242,42 @@ impl Aig {
 
     /// Returns the edges of the outputs, in their order.
     pub fn outputs(&self) -> &[AigEdge]
-        ensures value { result.now ≡ self.now.outputs }
+        ensures value { result.now ≡ self.now.properties.outputs }
         ensures circuit { IsCircuit self.now }
     {
-        &self.lists.outputs
+        &self.lists.properties.outputs
     }
 
     /// Returns the edges of the bad state properties, in their order.
     pub fn bads(&self) -> &[AigEdge]
-        ensures value { result.now ≡ self.now.bads }
+        ensures value { result.now ≡ self.now.properties.bads }
         ensures circuit { IsCircuit self.now }
     {
-        &self.lists.bads
+        &self.lists.properties.bads
     }
 
     /// Returns the edges of the invariant constraints, in their order.
     pub fn constraints(&self) -> &[AigEdge]
-        ensures value { result.now ≡ self.now.constraints }
+        ensures value { result.now ≡ self.now.properties.constraints }
         ensures circuit { IsCircuit self.now }
     {
-        &self.lists.constraints
+        &self.lists.properties.constraints
     }
 
     /// Returns the justice properties, a set of edges each, in their order.
     pub fn justice(&self) -> &[Vec<AigEdge>]
-        ensures value { map (λ set. set.items) result.now ≡ self.now.justice }
+        ensures value { map (λ set. set.items) result.now ≡ self.now.properties.justice }
         ensures circuit { IsCircuit self.now }
     {
-        &self.lists.justice
+        &self.lists.properties.justice
     }
 
     /// Returns the edges of the fairness constraints, in their order.
     pub fn fairness(&self) -> &[AigEdge]
-        ensures value { result.now ≡ self.now.fairness }
+        ensures value { result.now ≡ self.now.properties.fairness }
         ensures circuit { IsCircuit self.now }
     {
-        &self.lists.fairness
+        &self.lists.properties.fairness
     }
 
     /// Returns the names of nodes, by their numbers.

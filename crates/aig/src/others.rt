@@ -134,7 +134,7 @@ impl Aig {
     /// - `Memory`: memory was refused. The circuit stays as it was.
     pub fn compress_property(&mut self) -> Result<Vec<AigEdge>, MemoryError>
         ensures compresses { OnOk result (CompressesBads self.old self.new) }
-        ensures old { IfOk result (λ bads. bads.items ≡ self.old.bads) }
+        ensures old { IfOk result (λ bads. bads.items ≡ self.old.properties.bads) }
         ensures err { OnErr result (self.new ≡ self.old) }
     {
         aig_change::compress_property(&mut self.lists)

@@ -21,7 +21,7 @@ use Rattle.aig_certify.specs.WindowClauses.{AsksWindow, count_free, induction_cl
 
 -- the leaf of one latch more is an output
 pub watch_step : (old now made : Circuit) (i : ℕ) (latchs : List AigLatch) (leaf : ℕ) (e : AigEdge) (d : AigLatch) → leaf ≡ (get_or latchs i d).input → latchs ≡ now.latchs → e ≡ edge_to leaf false → i < length old.latchs
-    → now ≡ record old { outputs = take i (state_edges old) } → made ≡ record now { outputs = now.outputs ++ e ∷ [] } → made ≡ record old { outputs = take (i + 1) (state_edges old) }
+    → now ≡ record old { properties = record old.properties { outputs = take i (state_edges old) } } → made ≡ record now { properties = record now.properties { outputs = now.properties.outputs ++ e ∷ [] } } → made ≡ record old { properties = record old.properties { outputs = take (i + 1) (state_edges old) } }
 watch_step old now made i latchs leaf e d of same is low before step =
     let these : latchs ≡ old.latchs = same ∙ ap (λ (c : Circuit). c.latchs) before in
     let leaf_of = λ (latch : AigLatch). latch.input in
@@ -33,7 +33,7 @@ watch_step old now made i latchs leaf e d of same is low before step =
     let here : get_or (map edge_at leaves) i e ≡ e =
     get_or-map edge_at leaves i (leaf_of d) e within ∙ ap edge_at (get_or-map leaf_of old.latchs i d (leaf_of d) low ∙ sym (of ∙ ap (λ ls. (get_or ls i d).input) these)) ∙ sym is in
     let more = take_more (map edge_at leaves) i e (omega (arith, within, wide)) ∙ ap (λ x. take i (map edge_at leaves) ++ x ∷ []) here in
-    step ∙ ap (λ (c : Circuit). record c { outputs = c.outputs ++ e ∷ [] }) before ∙ ap (λ es. record old { outputs = es }) (sym more)
+    step ∙ ap (λ (c : Circuit). record c { properties = record c.properties { outputs = c.properties.outputs ++ e ∷ [] } }) before ∙ ap (λ es. record old { properties = record old.properties { outputs = es } }) (sym more)
 
 -- the edges of a state, as they are cut out
 pub cut_row : (edges : List AigEdge) (l s : ℕ) → take l (take (length edges - s * l) (drop (s * l) edges)) ≡ state_at l edges s
@@ -61,20 +61,20 @@ same_free Plain c k = refl
 same_free Distinct c k = refl
 
 -- the unrolled circuit has the bad edges of all steps
-pub bads_count : (c u : Circuit) (k : ℕ) → UnrollsTo c k u → length u.bads ≡ (k + 1) * length c.bads
+pub bads_count : (c u : Circuit) (k : ℕ) → UnrollsTo c k u → length u.properties.bads ≡ (k + 1) * length c.properties.bads
 bads_count c u k unrolls =
     let y : ℕ → Bool = λ n. false in
     let r = unrolls.run_of y in
-    (unrolls.same y r.0 r.1 r.2).bads.count
+    (unrolls.same y r.0 r.1 r.2).properties.bads.count
 
 -- and the states
-pub states_count : (form : Window) (c u : Circuit) (k : ℕ) → UnrollsTo (watched form c) k u → form ≡ Distinct → length u.outputs ≡ (k + 1) * length (watched form c).latchs
+pub states_count : (form : Window) (c u : Circuit) (k : ℕ) → UnrollsTo (watched form c) k u → form ≡ Distinct → length u.properties.outputs ≡ (k + 1) * length (watched form c).latchs
 states_count Plain c u k unrolls is = cc
 states_count Distinct c u k unrolls is =
     let y : ℕ → Bool = λ n. false in
     let r = unrolls.run_of y in
     let states : length (state_edges c) ≡ length c.latchs = length-map _ _ ∙ length-map _ _ in
-    (unrolls.same y r.0 r.1 r.2).outputs.count ∙ ap (λ m. (k + 1) * m) states
+    (unrolls.same y r.0 r.1 r.2).properties.outputs.count ∙ ap (λ m. (k + 1) * m) states
 
 module _ (c : Circuit) (k : ℕ) (optimize : Bool) (u : Circuit) (clauses : List (List (List Lit))) (lists : List (List (List Lit))) (further : List (List Lit)) (is : IsCircuit u) (has : HasClauses u optimize clauses)
     (fixes : FixesRoots u clauses) (satisfied : NodeValuesSatisfy u clauses) (relations : AreRelations clauses) where

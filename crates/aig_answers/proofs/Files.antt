@@ -34,14 +34,14 @@ no_bads f [] is = refl
 no_bads f (e ∷ es) is = cc
 
 -- whether there are bad edges tells whether there are bad literals
-pub none_told : (f : File) (c : Circuit) (bads : List AigEdge) (empty : Bool) → c ≡ circuit_of f → bads ≡ c.bads → empty ≡ (length bads == 0) → empty ≡ true → f.bads ≡ []
+pub none_told : (f : File) (c : Circuit) (bads : List AigEdge) (empty : Bool) → c ≡ circuit_of f → bads ≡ c.properties.bads → empty ≡ (length bads == 0) → empty ≡ true → f.properties.bads ≡ []
 none_told f c bads empty of same told is_empty =
     let zero : length bads ≡ 0 = eqb-true (length bads) 0 (sym told ∙ is_empty) in
-    no_bads f f.bads (sym (ap (λ (d : Circuit). d.bads) of) ∙ sym same ∙ nil_from_length bads zero)
+    no_bads f f.properties.bads (sym (ap (λ (d : Circuit). d.properties.bads) of) ∙ sym same ∙ nil_from_length bads zero)
 
-pub some_told : (f : File) (c : Circuit) (bads : List AigEdge) (empty : Bool) → c ≡ circuit_of f → bads ≡ c.bads → empty ≡ (length bads == 0) → empty ≡ false → f.bads ≢ []
+pub some_told : (f : File) (c : Circuit) (bads : List AigEdge) (empty : Bool) → c ≡ circuit_of f → bads ≡ c.properties.bads → empty ≡ (length bads == 0) → empty ≡ false → f.properties.bads ≢ []
 some_told f c bads empty of same told not_empty none =
-    let is_nil : bads ≡ [] = same ∙ ap (λ (d : Circuit). d.bads) of ∙ ap (map (edge_of f)) none in
+    let is_nil : bads ≡ [] = same ∙ ap (λ (d : Circuit). d.properties.bads) of ∙ ap (map (edge_of f)) none in
     let is_empty : empty ≡ true = told ∙ ap (λ (es : List AigEdge). length es == 0) is_nil in
     false≢true (sym not_empty ∙ is_empty)
 
@@ -141,11 +141,11 @@ module _ {R : Type 0} (left : R → Option (List ℕ)) (failed : R → Bool) (li
     took_beyond : limit < unrolled_size c k → ConsumedFile (IsBeyond limit k) (left r) (left rest)
     took_beyond high = (file.file, file.bytes, (file.holds, subst (λ d. limit < unrolled_size d k) file.means high), file.taken)
 
-    took_nothing : unrolled_size c k ≤ limit → c.bads ≡ [] → ConsumedFile (AsksNothing limit k) (left r) (left rest)
+    took_nothing : unrolled_size c k ≤ limit → c.properties.bads ≡ [] → ConsumedFile (AsksNothing limit k) (left r) (left rest)
     took_nothing low none =
-        (file.file, file.bytes, ((file.holds, low_of low file.file file.means), no_bads file.file file.file.bads (subst (λ (d : Circuit). d.bads ≡ []) file.means none)), file.taken)
+        (file.file, file.bytes, ((file.holds, low_of low file.file file.means), no_bads file.file file.file.properties.bads (subst (λ (d : Circuit). d.properties.bads ≡ []) file.means none)), file.taken)
 
-    pub window_told : (result : Result T AnswerError) → IsErrOf result (errors.Encode encode.TooLarge) ↔ (limit < unrolled_size c k) → (IsErrOf result errors.NoBads → c.bads ≡ []) → IfErr result IsOfCircuit → TellsOfFile left failed limit k result r rest
+    pub window_told : (result : Result T AnswerError) → IsErrOf result (errors.Encode encode.TooLarge) ↔ (limit < unrolled_size c k) → (IsErrOf result errors.NoBads → c.properties.bads ≡ []) → IfErr result IsOfCircuit → TellsOfFile left failed limit k result r rest
     window_told (Ok x) large none err =
         let low = within_limit limit (unrolled_size c k) (Ok x) large (λ is. cc) in
         file_good (Ok x) refl (λ e is. cc) (λ is. cc) (within_told low)
@@ -314,13 +314,13 @@ module _ {R : Type 0} (left : R → Option (List ℕ)) (form : Window) (limit k 
       apart is = cc
 
   -- a circuit was read
-  module _ (c : Circuit) (result : Result T AnswerError) (room : IsErrOf result errors.TooLarge ↔ ((unrolled_size c (k + 1) ≤ limit) × (c.bads ≢ []) × (limit < window_size form c k))) where
+  module _ (c : Circuit) (result : Result T AnswerError) (room : IsErrOf result errors.TooLarge ↔ ((unrolled_size c (k + 1) ≤ limit) × (c.properties.bads ≢ []) × (limit < window_size form c k))) where
     crowded_file : (bytes : List ℕ) (f : File) → Accepts bytes limit f → c ≡ circuit_of f → IsErrOf result errors.TooLarge → IsCrowded form limit k bytes f
     crowded_file bytes f accepts is large =
         let told = room.0 large in (
           (
             (accepts, subst (λ d. unrolled_size d (k + 1) ≤ limit) is told.0),
-            λ none. told.1 (ap (λ (d : Circuit). d.bads) is ∙ ap (map (edge_of f)) none),
+            λ none. told.1 (ap (λ (d : Circuit). d.properties.bads) is ∙ ap (map (edge_of f)) none),
           ),
           subst (λ d. limit < window_size form d k) is told.2,
         )
@@ -328,7 +328,7 @@ module _ {R : Type 0} (left : R → Option (List ℕ)) (form : Window) (limit k 
     crowded_told : (bytes : List ℕ) (f : File) → c ≡ circuit_of f → IsCrowded form limit k bytes f → IsErrOf result errors.TooLarge
     crowded_told bytes f is crowded = room.1 (
       subst (λ d. unrolled_size d (k + 1) ≤ limit) (sym is) crowded.0.0.1,
-      λ none. crowded.0.1 (no_bads f f.bads (sym (ap (λ (d : Circuit). d.bads) is) ∙ none)),
+      λ none. crowded.0.1 (no_bads f f.properties.bads (sym (ap (λ (d : Circuit). d.properties.bads) is) ∙ none)),
       subst (λ d. limit < window_size form d k) (sym is) crowded.1,
     )
 
@@ -381,20 +381,20 @@ module _ {R : Type 0} (left : R → Option (List ℕ)) (limit k : ℕ) (r : R) (
       by (Some bytes) h = unless_so {T = Unit {0}} (Err e) _ _ (λ told. (λ is. absurd (apart is), λ nothing. absurd (told.accepted.each nothing.0 nothing.1.0))) h
 
   -- the file was answered
-  pub answered_nothing : {X : Type 0} (Means : File → X → Type 0) (x : X) (result : Result T AnswerError) → ((f : File) → Means f x → IsErrOf result errors.NoBads ↔ (f.bads ≡ []))
+  pub answered_nothing : {X : Type 0} (Means : File → X → Type 0) (x : X) (result : Result T AnswerError) → ((f : File) → Means f x → IsErrOf result errors.NoBads ↔ (f.properties.bads ≡ []))
       → Tells Means limit k (Ok x) (left r) → IsExactly left errors.NoBads (AsksNothing limit k) result r
   answered_nothing Means x result told exact = answered_exactly left errors.NoBads (AsksNothing limit k) r result limit k Means x (nothing_is_within limit k)
       (λ bytes f within means. (λ is. (within, (told f means).0 is), λ nothing. (told f means).1 nothing.1)) exact
 
   -- a file was read whose circuit is asked for its window
   module _ (c : Circuit) (exact : Reads Circuit (Unit {0}) IsFileCircuit OfFile limit k (Ok c) (left r)) where
-    bads_told : (f : File) → c ≡ circuit_of f → (c.bads ≡ []) ↔ (f.bads ≡ [])
+    bads_told : (f : File) → c ≡ circuit_of f → (c.properties.bads ≡ []) ↔ (f.properties.bads ≡ [])
     bads_told f is = (
-      λ none. no_bads f f.bads (sym (ap (λ (d : Circuit). d.bads) is) ∙ none),
-      λ none. ap (λ (d : Circuit). d.bads) is ∙ ap (map (edge_of f)) none,
+      λ none. no_bads f f.properties.bads (sym (ap (λ (d : Circuit). d.properties.bads) is) ∙ none),
+      λ none. ap (λ (d : Circuit). d.properties.bads) is ∙ ap (map (edge_of f)) none,
     )
 
-    by_bads : (result : Result T AnswerError) → unrolled_size c k ≤ limit → IsErrOf result errors.NoBads ↔ (c.bads ≡ []) → IsExactly left errors.NoBads (AsksNothing limit k) result r
+    by_bads : (result : Result T AnswerError) → unrolled_size c k ≤ limit → IsErrOf result errors.NoBads ↔ (c.properties.bads ≡ []) → IsExactly left errors.NoBads (AsksNothing limit k) result r
     by_bads result low told = read_exactly left errors.NoBads (AsksNothing limit k) r result limit k c (nothing_is_read limit k) (λ bytes f accepts is. (
       λ error. ((accepts, subst (λ d. unrolled_size d k ≤ limit) is low), (bads_told f is).0 (told.0 error)),
       λ nothing. told.1 ((bads_told f is).1 nothing.1),
@@ -413,7 +413,7 @@ module _ {R : Type 0} (left : R → Option (List ℕ)) (limit k : ℕ) (r : R) (
         by None = tt
         by (Some bytes) = tt
 
-    pub window_nothing : (result : Result T AnswerError) → IsErrOf result (errors.Encode encode.TooLarge) ↔ (limit < unrolled_size c k) → (IsErrOf result errors.NoBads → c.bads ≡ []) → (IsOk result → c.bads ≢ []) → (IsErrOf result errors.TooLarge → c.bads ≢ [])
+    pub window_nothing : (result : Result T AnswerError) → IsErrOf result (errors.Encode encode.TooLarge) ↔ (limit < unrolled_size c k) → (IsErrOf result errors.NoBads → c.properties.bads ≡ []) → (IsOk result → c.properties.bads ≢ []) → (IsErrOf result errors.TooLarge → c.properties.bads ≢ [])
         → IfErr result IsOfCircuit → IsExactly left errors.NoBads (AsksNothing limit k) result r
     window_nothing (Ok x) large none some crowded err = by_bads (Ok x) (within_limit limit (unrolled_size c k) (Ok x) large (λ is. cc)) (λ is. cc, λ empty. absurd (some refl empty))
     window_nothing (Err errors.NoBads) large none some crowded err = by_bads (Err errors.NoBads) (within_limit limit (unrolled_size c k) (Err errors.NoBads) large (λ is. cc)) (none, λ empty. refl)

@@ -3,3 +3,4 @@ mod Growing
 pub mod Files
 mod Asking
 mod Reduced
+mod Examples

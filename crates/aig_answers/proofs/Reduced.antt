@@ -87,20 +87,20 @@ smaller c d k nodes latchs =
 -- a circuit was read, and reduced
 module _ (c d : Circuit) (reduces : IsReduced c d) (limit k : ℕ) where
   -- the reduced circuit has no bad edge exactly where the file has no bad literal
-  counts : (f : File) → c ≡ circuit_of f → length d.bads ≡ length f.bads
-  counts f is = reduces.bads ∙ ap (λ (x : Circuit). length x.bads) is ∙ length-map f.bads (edge_of f)
+  counts : (f : File) → c ≡ circuit_of f → length d.properties.bads ≡ length f.properties.bads
+  counts f is = reduces.bads ∙ ap (λ (x : Circuit). length x.properties.bads) is ∙ length-map f.properties.bads (edge_of f)
 
-  none_of : (f : File) → c ≡ circuit_of f → d.bads ≡ [] → f.bads ≡ []
-  none_of f is none = nil_from_length f.bads (sym (counts f is) ∙ ap length none)
+  none_of : (f : File) → c ≡ circuit_of f → d.properties.bads ≡ [] → f.properties.bads ≡ []
+  none_of f is none = nil_from_length f.properties.bads (sym (counts f is) ∙ ap length none)
 
-  none_in : (f : File) → c ≡ circuit_of f → f.bads ≡ [] → d.bads ≡ []
-  none_in f is none = nil_from_length d.bads (counts f is ∙ ap length none)
+  none_in : (f : File) → c ≡ circuit_of f → f.properties.bads ≡ [] → d.properties.bads ≡ []
+  none_in f is none = nil_from_length d.properties.bads (counts f is ∙ ap length none)
 
-  beyond_of : (bytes : List ℕ) (f : File) → c ≡ circuit_of f → Accepts bytes limit f → (d.bads ≢ []) × (limit < unrolled_size d k) → IsReducedBeyond limit k bytes f
+  beyond_of : (bytes : List ℕ) (f : File) → c ≡ circuit_of f → Accepts bytes limit f → (d.properties.bads ≢ []) × (limit < unrolled_size d k) → IsReducedBeyond limit k bytes f
   beyond_of bytes f is accepts high = ((accepts, λ none. high.0 (none_in f is none)), d, subst (λ x. IsReduced x d) is reduces, high.1)
 
-  module _ (alone : (e : Circuit) → IsReduced c e → e ≡ d) (result : Result Unit AnswerError) (good : of_reading result ≡ Ok tt) (none : IsErrOf result errors.NoBads ↔ (d.bads ≡ []))
-      (large : IsErrOf result (errors.Encode encode.TooLarge) ↔ ((d.bads ≢ []) × (limit < unrolled_size d k))) where
+  module _ (alone : (e : Circuit) → IsReduced c e → e ≡ d) (result : Result Unit AnswerError) (good : of_reading result ≡ Ok tt) (none : IsErrOf result errors.NoBads ↔ (d.properties.bads ≡ []))
+      (large : IsErrOf result (errors.Encode encode.TooLarge) ↔ ((d.properties.bads ≢ []) × (limit < unrolled_size d k))) where
     beyond_in : (bytes : List ℕ) (f : File) → c ≡ circuit_of f → IsReducedBeyond limit k bytes f → IsErrOf result (errors.Encode encode.TooLarge)
     beyond_in bytes f is beyond =
         let same = alone beyond.1 (subst (λ x. IsReduced x beyond.1) (sym is) beyond.2) in
@@ -186,7 +186,7 @@ module _ {R : Type 0} (left : R → Option (List ℕ)) (failed : R → Bool) (li
 
     -- it was reduced, and the reduced circuit asked
     module _ (exact : ReadAs limit (Ok c) (left r)) (d : Circuit) (reduces : IsReduced c d) (alone : (e : Circuit) → IsReduced c e → e ≡ d) where
-      took_beyond : (d.bads ≢ []) × (limit < unrolled_size d k) → ConsumedFile (IsReducedBeyond limit k) (left r) (left rest)
+      took_beyond : (d.properties.bads ≢ []) × (limit < unrolled_size d k) → ConsumedFile (IsReducedBeyond limit k) (left r) (left rest)
       took_beyond high = (file.file, file.bytes, beyond_of c d reduces limit k file.bytes file.file file.means file.holds high, file.taken)
 
       took_larger : limit < unrolled_size d k → ConsumedFile (IsBeyond limit k) (left r) (left rest)
@@ -194,11 +194,11 @@ module _ {R : Type 0} (left : R → Option (List ℕ)) (failed : R → Bool) (li
           let low = smaller c d k reduces.nodes reduces.latchs in
           (file.file, file.bytes, (file.holds, subst (λ (x : Circuit). limit < unrolled_size x k) file.means (omega (arith, high, low))), file.taken)
 
-      took_nothing : d.bads ≡ [] → ConsumedFile (HasNoBads limit) (left r) (left rest)
+      took_nothing : d.properties.bads ≡ [] → ConsumedFile (HasNoBads limit) (left r) (left rest)
       took_nothing none = (file.file, file.bytes, (file.holds, none_of c d reduces limit k file.file file.means none), file.taken)
 
-      module _ (result : Result Unit AnswerError) (err : IfErr result IsOfCircuitQuery) (none : IsErrOf result errors.NoBads ↔ (d.bads ≡ []))
-          (large : IsErrOf result (errors.Encode encode.TooLarge) ↔ ((d.bads ≢ []) × (limit < unrolled_size d k))) where
+      module _ (result : Result Unit AnswerError) (err : IfErr result IsOfCircuitQuery) (none : IsErrOf result errors.NoBads ↔ (d.properties.bads ≡ []))
+          (large : IsErrOf result (errors.Encode encode.TooLarge) ↔ ((d.properties.bads ≢ []) × (limit < unrolled_size d k))) where
         exactly : (known : Option (List ℕ)) → ReadAs limit (Ok c) known → IfSome known (λ bytes. EncodeUnlessTransient (of_file result) (RefusesReduced limit k result bytes))
         exactly None h = tt
         exactly (Some bytes) h = unless_holds (of_file result) (RefusesReduced limit k result bytes) (answered c d reduces limit k alone result (reading_good result err) none large bytes h)
@@ -217,7 +217,7 @@ module _ {R : Type 0} (left : R → Option (List ℕ)) (failed : R → Bool) (li
 
       -- and where the circuit is safe, so is the machine
       module _ (law : (f : File) → Fits f limit → IsCircuitSafeAt (circuit_of f) k → IsSafeAt f k) where
-        safe_of : (d.bads ≢ []) → unrolled_size d k ≤ limit → IsCircuitSafeAt d k → IsReadAs (IsReducedWithin limit k) (λ f (u : Unit {0}). IsSafeAt f k) (left r) (left rest) tt
+        safe_of : (d.properties.bads ≢ []) → unrolled_size d k ≤ limit → IsCircuitSafeAt d k → IsReadAs (IsReducedWithin limit k) (λ f (u : Unit {0}). IsSafeAt f k) (left r) (left rest) tt
         safe_of some low safe = record {
           file = file.file;
           bytes = file.bytes;
@@ -226,10 +226,10 @@ module _ {R : Type 0} (left : R → Option (List ℕ)) (failed : R → Bool) (li
           taken = file.taken;
         }
 
-        pub answers : (result : Result Unit AnswerError) → OnOk result (IsCircuitSafeAt d k) → (IsErrOf result errors.NoBads ↔ (d.bads ≡ [])) → (IsErrOf result (errors.Encode encode.TooLarge) ↔ ((d.bads ≢ []) × (limit < unrolled_size d k)))
+        pub answers : (result : Result Unit AnswerError) → OnOk result (IsCircuitSafeAt d k) → (IsErrOf result errors.NoBads ↔ (d.properties.bads ≡ [])) → (IsErrOf result (errors.Encode encode.TooLarge) ↔ ((d.properties.bads ≢ []) × (limit < unrolled_size d k)))
             → IfOk result (IsReadAs (IsReducedWithin limit k) (λ f u. IsSafeAt f k) (left r) (left rest))
         answers (Ok u) safe none large =
-            let some : d.bads ≢ [] = λ empty. no_refusal Unit AnswerError u errors.NoBads (none.1 empty) in
+            let some : d.properties.bads ≢ [] = λ empty. no_refusal Unit AnswerError u errors.NoBads (none.1 empty) in
             let low : unrolled_size d k ≤ limit = elim (cases_lt limit (unrolled_size d k)) [
               | inl high ↦ absurd (no_refusal Unit AnswerError u (errors.Encode encode.TooLarge) (large.1 (some, high)))
               | inr few ↦ few

@@ -20,11 +20,11 @@ use Rattle.aig_answers.specs.declared.error.AnswerError.TheVariants as errors
 
 -- the bytes are this file, it and its further steps are within the limit, and it has a bad literal
 abbrev pub IsAsked : ℕ → ℕ → List ℕ → File → Type 0
-IsAsked limit k bytes f = IsWithin limit k bytes f × (f.bads ≢ [])
+IsAsked limit k bytes f = IsWithin limit k bytes f × (f.properties.bads ≢ [])
 
 -- the bytes are this file, it and its further steps are within the limit, and it has no bad literal
 abbrev pub AsksNothing : ℕ → ℕ → List ℕ → File → Type 0
-AsksNothing limit k bytes f = IsWithin limit k bytes f × (f.bads ≡ [])
+AsksNothing limit k bytes f = IsWithin limit k bytes f × (f.properties.bads ≡ [])
 
 -- how many variables the clauses of a window have at most: the bound of the circuit with k + 1
 -- further steps, and the free ones
@@ -121,11 +121,11 @@ IsOfCircuitQuery (errors.Refutation e) = Unit {0}
 
 -- the bytes are this file, it fits, and it has a bad literal
 abbrev pub HasBads : ℕ → List ℕ → File → Type 0
-HasBads limit bytes f = Accepts bytes limit f × (f.bads ≢ [])
+HasBads limit bytes f = Accepts bytes limit f × (f.properties.bads ≢ [])
 
 -- the bytes are this file, it fits, and it has no bad literal
 abbrev pub HasNoBads : ℕ → List ℕ → File → Type 0
-HasNoBads limit bytes f = Accepts bytes limit f × (f.bads ≡ [])
+HasNoBads limit bytes f = Accepts bytes limit f × (f.properties.bads ≡ [])
 
 -- the bytes are this file, it fits and has a bad literal, and the bound of its reduced circuit with
 -- k further steps is within the limit

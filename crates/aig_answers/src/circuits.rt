@@ -90,9 +90,9 @@ pub fn check_query_of<P: Source>(
     // No run from an initial state meets every constraint at the steps 0 to k and some bad edge at step k.
     ensures answer { OnOk result (IsCircuitSafeAt circuit.now k) }
     // Which refusals come before the proof is read, and when.
-    ensures none { IsErrOf result AnswerError.NoBads ↔ (circuit.now.bads ≡ []) }
+    ensures none { IsErrOf result AnswerError.NoBads ↔ (circuit.now.properties.bads ≡ []) }
     ensures large { IsErrOf result (AnswerError.Encode EncodeError.TooLarge)
-        ↔ ((circuit.now.bads ≢ []) × (limit < unrolled_size circuit.now k)) }
+        ↔ ((circuit.now.properties.bads ≢ []) × (limit < unrolled_size circuit.now k)) }
     ensures err { IfErr result IsOfCircuitQuery }
     ensures unread { IsOfFileAlone result → proof.new ≡ proof.old }
     // Stream only where a read failed in this call.

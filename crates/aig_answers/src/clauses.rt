@@ -32,7 +32,8 @@ pub(crate) fn window_clauses(
 ) -> Result<LitVvec, MemoryError>
     requires steps { k < 2 ^ 32 }
     requires few_unrolled { length unrolled.now.nodes ≤ 2 ^ 31 }
-    requires bads { length unrolled.now.bads ≡ (k + 1 + 1) * length circuit.now.bads }
+    requires bads { length unrolled.now.properties.bads
+        ≡ (k + 1 + 1) * length circuit.now.properties.bads }
     ensures exact { IfOk result
         (λ further. further ≡ induction_clauses circuit.now k unrolled.now) }
     ensures circuit { OnOk result (IsCircuit unrolled.now) }

@@ -73,7 +73,7 @@ fn tell_apart(
     requires room { length made.old.clauses + count_free form circuit.now k ≤ 2 ^ 31 }
     requires few_unrolled { length unrolled.now.nodes ≤ 2 ^ 31 }
     requires states { form ≡ Window.Distinct
-        → length unrolled.now.outputs ≡ (k + 1 + 1) * length circuit.now.latchs }
+        → length unrolled.now.properties.outputs ≡ (k + 1 + 1) * length circuit.now.latchs }
     ensures clauses { OnOk result (made.new.clauses
         ≡ made.old.clauses ++ replicate (count_free form circuit.now k) []) }
     ensures further { OnOk result (made.new.further ≡ made.old.further
@@ -104,12 +104,12 @@ fn ask_window(
     requires steps { k < 2 ^ 32 }
     ensures asks { IfOk result
         (λ made. AsksWindow form circuit k optimize made.clauses made.further) }
-    ensures some { IsOk result → circuit.bads ≢ [] }
-    ensures none { IsErrOf result AnswerError.NoBads → circuit.bads ≡ [] }
+    ensures some { IsOk result → circuit.properties.bads ≢ [] }
+    ensures none { IsErrOf result AnswerError.NoBads → circuit.properties.bads ≡ [] }
     ensures large { IsErrOf result (AnswerError.Encode EncodeError.TooLarge)
         ↔ (limit < unrolled_size circuit (k + 1)) }
     ensures room { IsErrOf result AnswerError.TooLarge
-        ↔ ((unrolled_size circuit (k + 1) ≤ limit) × (circuit.bads ≢ [])
+        ↔ ((unrolled_size circuit (k + 1) ≤ limit) × (circuit.properties.bads ≢ [])
         × (limit < window_size form circuit k)) }
     ensures err { IfErr result IsOfCircuit }
 {

@@ -1,5 +1,5 @@
 -- The clauses of a window are of variables that are there.
-use Rattle.std.proofs.Common.{◌≡◌, ℕ, ◌+◌, ◌*◌, ◌<◌, ◌≤◌, Bool, false, not, List, [], ◌∷◌, ◌++◌, length, map, take, drop, sym, ap, subst, ◌∙◌, arith, length-drop, length-append}
+use Rattle.std.proofs.Common.{◌≡◌, ℕ, ◌+◌, ◌*◌, ◌<◌, ◌≤◌, Bool, false, not, List, [], ◌∷◌, ◌++◌, length, map, drop, sym, ap, subst, ◌∙◌, arith, length-drop, length-append}
 use Rattle.std.specs.Prelude.{All, replicate}
 use Rattle.std.proofs.Math.Nat.{add-mul, mul-le-mul_right}
 use Rattle.std.proofs.lemmas.List.{append-nil, length-take-le, length-replicate, length-map}
@@ -16,7 +16,7 @@ use Rattle.aig_unroll.specs.Unroll.{UnrollsTo}
 use Rattle.aig_runs.specs.Queries.{last_bads, unit_clauses}
 use Rattle.aig_certify.specs.declared.window.Window.{Window}
 use Rattle.aig_certify.specs.declared.window.Window.TheVariants.{Plain, Distinct}
-use Rattle.aig_certify.specs.WindowClauses.{AsksWindow, count_free, count_pairs, distinct_clauses, induction_clauses, state_at, state_edges}
+use Rattle.aig_certify.specs.WindowClauses.{AsksWindow, count_free, count_pairs, distinct_clauses, first_bads, induction_clauses, state_at, state_edges, watched}
 use Rattle.aig_certify.proofs.Differing.{AreBelow, AreEdgesBelow, IsBelow, distinct_below}
 
 -- ---- the clauses of edges
@@ -41,12 +41,12 @@ pub induction_below : (c u : Circuit) (k n : ℕ) → n ≡ length u.nodes → I
 induction_below c u k n has is =
     let Below = λ (e : AigEdge). e.node_id < n in
     let range = λ (es : List AigEdge) (all : All (λ e. e.node_id < length u.nodes) es). subst (λ m. All (λ e. e.node_id < m) es) (sym has) all in
-    let early = take ((k + 1) * length c.bads) u.bads in
-    let first = units_below n u.constraints (in_order n u.constraints (range u.constraints is.constraints)) in
-    let second = units_below n (map inverse early) (inverses_below n early (in_order n early (All-take Below ((k + 1) * length c.bads) u.bads (range u.bads is.bads)))) in
-    let third = any_below n (last_bads c (k + 1) u) (in_order n (last_bads c (k + 1) u) (All-drop Below ((k + 1) * length c.bads) u.bads (range u.bads is.bads))) in
-    (rec_append (IsBelow n) (unit_clauses u.constraints ++ unit_clauses (map inverse early)) (map lit_of (last_bads c (k + 1) u) ∷ [])).1
-    ((rec_append (IsBelow n) (unit_clauses u.constraints) (unit_clauses (map inverse early))).1 (first, second), (third, tt))
+    let early = first_bads c k u in
+    let first = units_below n u.properties.constraints (in_order n u.properties.constraints (range u.properties.constraints is.properties.constraints)) in
+    let second = units_below n (map inverse early) (inverses_below n early (in_order n early (All-take Below ((k + 1) * length c.properties.bads) u.properties.bads (range u.properties.bads is.properties.bads)))) in
+    let third = any_below n (last_bads c (k + 1) u) (in_order n (last_bads c (k + 1) u) (All-drop Below ((k + 1) * length c.properties.bads) u.properties.bads (range u.properties.bads is.properties.bads))) in
+    (rec_append (IsBelow n) (unit_clauses u.properties.constraints ++ unit_clauses (map inverse early)) (map lit_of (last_bads c (k + 1) u) ∷ [])).1
+    ((rec_append (IsBelow n) (unit_clauses u.properties.constraints) (unit_clauses (map inverse early))).1 (first, second), (third, tt))
 
 -- ---- states
 
@@ -74,11 +74,11 @@ weaker_below : (n m : ℕ) → n ≤ m → (all : List (List Lit)) → clauses.A
 weaker_below n m h all low = All-weaker (All (λ lit. variable_of lit < n)) (All (λ lit. variable_of lit < m)) (λ clause is. All-weaker (λ lit. variable_of lit < n) (λ lit. variable_of lit < m) (λ lit less. omega arith) clause is) all low
 
 -- the states stand in rows
-outputs_count : (c : Circuit) (k : ℕ) (u : Circuit) → UnrollsTo (record c { outputs = state_edges c }) (k + 1) u → length u.outputs ≡ (k + 2) * length c.latchs
+outputs_count : (c : Circuit) (k : ℕ) (u : Circuit) → UnrollsTo (watched Distinct c) (k + 1) u → length u.properties.outputs ≡ (k + 2) * length c.latchs
 outputs_count c k u unrolls =
     let y : ℕ → Bool = λ n. false in
     let r = unrolls.run_of y in
-    let count = (unrolls.same y r.0 r.1 r.2).outputs.count in
+    let count = (unrolls.same y r.0 r.1 r.2).properties.outputs.count in
     let states : length (state_edges c) ≡ length c.latchs = length-map _ _ ∙ length-map _ _ in
     count ∙ ap (λ m. (k + 1 + 1) * m) states ∙ ap (λ m. m * length c.latchs) (omega arith)
 
@@ -94,7 +94,7 @@ window_below Distinct c k optimize lists further asks =
     let m = n + count_pairs (k + 2) * l in
     let low = induction_below c u k n asks.has_clauses.count asks.is_circuit in
     let first = weaker_below n m (omega arith) (induction_clauses c k u) (below_all n (induction_clauses c k u) low) in
-    let range = subst (λ m. All (λ (e : AigEdge). e.node_id < m) u.outputs) (sym asks.has_clauses.count) asks.is_circuit.outputs in
-    let states = states_below u.outputs l n (k + 2) (outputs_count c k u asks.steps) range in
-    let second = below_all m (distinct_clauses n l u.outputs (k + 2)) (distinct_below n l (k + 2) u.outputs states n (k + 2) m (omega arith) (omega arith) (omega arith)) in
-    rw (asks.further_exact, variables_of_window Distinct c k optimize lists further asks) (All-append (All (λ lit. variable_of lit < m)) (induction_clauses c k u) (distinct_clauses n l u.outputs (k + 2)) first second)
+    let range = subst (λ m. All (λ (e : AigEdge). e.node_id < m) u.properties.outputs) (sym asks.has_clauses.count) asks.is_circuit.properties.outputs in
+    let states = states_below u.properties.outputs l n (k + 2) (outputs_count c k u asks.steps) range in
+    let second = below_all m (distinct_clauses n l u.properties.outputs (k + 2)) (distinct_below n l (k + 2) u.properties.outputs states n (k + 2) m (omega arith) (omega arith) (omega arith)) in
+    rw (asks.further_exact, variables_of_window Distinct c k optimize lists further asks) (All-append (All (λ lit. variable_of lit < m)) (induction_clauses c k u) (distinct_clauses n l u.properties.outputs (k + 2)) first second)

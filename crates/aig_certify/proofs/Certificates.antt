@@ -1,9 +1,10 @@
 -- What holds of a file's certificate holds of the file.
-use Rattle.std.proofs.Common.{◌≡◌, ℕ, zero, suc, ◌+◌, ◌/◌, ◌%◌, ◌≤◌, Bool, true, false, not, ◌&&◌, Option, Some, None, List, ◌++◌, map, refl, sym, ap, subst, ◌∙◌, arith}
+use Rattle.std.proofs.Common.{◌≡◌, ℕ, zero, suc, ◌+◌, ◌/◌, ◌%◌, ◌≤◌, Bool, true, false, not, ◌&&◌, Option, Some, None, List, ◌++◌, get_or, map, refl, sym, ap, subst, ◌∙◌, arith}
 use Rattle.std.specs.Prelude.{All, Contains, IfSome, find, nat_eq, unwrap_or, ◌==◌, if◌then◌else◌}
 use Rattle.std.specs.List.{AllByRecursion}
 use Rattle.std.specs.Option.{option_and_then}
 use Rattle.std.proofs.lemmas.List.Elements.{All-contains, All-from_recursion, All-weaker, recursion_from_All}
+use Rattle.aig_circuit.specs.Properties.{AllProperties}
 use Rattle.aig_format.specs.File.{File, GateLine, LatchLine}
 use Rattle.aig_format.specs.Fits.{Fits, IsDefinable}
 use Rattle.aig_format.specs.Machine.{IsMachineRun, IsMachineInitial, IsStep, value_of_literal, initial_value_of}
@@ -19,6 +20,7 @@ use Rattle.aig_format_laws.proofs.MachineRuns.{agree_on_known, given_run}
 use Rattle.aig_runs.specs.Queries.{IsSafeTo}
 use Rattle.aig_certify.specs.Certificate.{Extends, IsCertificateOf}
 use Rattle.aig_certify.specs.Safety.{IsConstrained, IsGood}
+use Rattle.aig_format.proofs.Rules.{even_literal}
 
 -- what all entries of a list have, those of a list within it have
 carried : {A : Type 0} (P : A → Type 0) (xs ys : List A) → All (Contains ys) xs
@@ -93,7 +95,7 @@ module _ (f : File) (limit : ℕ) (fits : Fits f limit) where
       let leaves = distinct_front leaf_literals gate_literals fits.distinct in
       let definable = latches_definable f limit fits in
       let IsEven = λ (l : LatchLine). l.literal % 2 ≡ 0 in
-      let even = rec_weaker HasDefinable IsEven (λ l d. d.0) f.latches definable in
+      let even = rec_weaker HasDefinable IsEven (λ l d. even_literal f.greatest l.literal d) f.latches definable in
       let differ = (differ_from f.inputs latch_literals leaves).1 in
       found_all (λ (l : LatchLine). l.literal) f.latches even differ
 
@@ -105,7 +107,7 @@ module _ (f : File) (limit : ℕ) (fits : Fits f limit) where
       let differ = rec_unmap (λ y. nat_eq e y ≡ false) literal f.latches p.1 in
       find_none (λ (l : LatchLine). l.literal / 2 == e / 2) f.latches
       (rec_weaker (λ l. HasDefinable l × Differ l) Apart
-      (λ l q. differs_half e l.literal p.0.0 q.0.0 q.1) f.latches
+      (λ l q. differs_half e l.literal (even_literal f.greatest e p.0) (even_literal f.greatest l.literal q.0) q.1) f.latches
       (rec_both HasDefinable Differ f.latches (latches_definable f limit fits) differ))
 
   inputs_missed : AllByRecursion (IsMissed f) f.inputs
@@ -212,21 +214,24 @@ module _ (f : File) (limit : ℕ) (fits : Fits f limit) (last : ℕ) (run other 
   literal_alike : (e : ℕ) → IsKnown f e → value_of_literal (run t) e ≡ value_of_literal (other t) e
   literal_alike e known = ap (λ b. if e % 2 == 0 then b else not b) (agree t (e / 2) low known)
 
+  known : AllProperties (IsKnown f) f.properties
+  known = (used_by_section (IsKnown f) f (used_known f limit fits)).properties
+
   constrained_alike : IsConstrained f (run t) → IsConstrained f (other t)
   constrained_alike holds =
       let Holds = λ (v : ℕ → Bool) (e : ℕ). value_of_literal v e ≡ true in
-      let known = (used_by_section (IsKnown f) f (used_known f limit fits)).constraints in
-      rec_weaker (λ e. IsKnown f e × Holds (run t) e) (Holds (other t))
-      (λ e p. sym (literal_alike e p.0) ∙ p.1) f.constraints
-      (rec_both (IsKnown f) (Holds (run t)) f.constraints known holds)
+      let es = f.properties.constraints in
+      let before = All-from_recursion (Holds (run t)) es holds in
+      recursion_from_All (Holds (other t)) es
+      (λ j d l. sym (literal_alike (get_or es j d) (known.constraints j d l)) ∙ before j d l)
 
   good_alike : IsGood f (other t) → IsGood f (run t)
   good_alike good =
       let Fails = λ (v : ℕ → Bool) (e : ℕ). value_of_literal v e ≡ false in
-      let known = (used_by_section (IsKnown f) f (used_known f limit fits)).bads in
-      rec_weaker (λ e. IsKnown f e × Fails (other t) e) (Fails (run t))
-      (λ e p. literal_alike e p.0 ∙ p.1) f.bads
-      (rec_both (IsKnown f) (Fails (other t)) f.bads known good)
+      let es = f.properties.bads in
+      let before = All-from_recursion (Fails (other t)) es good in
+      recursion_from_All (Fails (run t)) es
+      (λ j d l. literal_alike (get_or es j d) (known.bads j d l) ∙ before j d l)
 
 pub certified_safe : (g f : File) (bound limit n : ℕ) → Fits g bound → Fits f limit
     → IsCertificateOf g f → IsSafeTo g n → IsSafeTo f n
@@ -244,12 +249,13 @@ certified_safe g f bound limit n fits fits_too is safe last t run runs start low
 
 -- ---- certificates by their lists
 
-pub listed_certificate : (g f : File) → Extends g f → All (Contains f.constraints) g.constraints
-    → All (Contains g.bads) f.bads → IsCertificateOf g f
+pub listed_certificate : (g f : File) → Extends g f
+    → All (Contains f.properties.constraints) g.properties.constraints
+    → All (Contains g.properties.bads) f.properties.bads → IsCertificateOf g f
 listed_certificate g f extends constraints bads = record {
   extends = extends;
   constraints = λ values step holds.
-      carried (λ e. value_of_literal values e ≡ true) g.constraints f.constraints constraints holds;
+      carried (λ e. value_of_literal values e ≡ true) g.properties.constraints f.properties.constraints constraints holds;
   good = λ values step holds good.
-      carried (λ e. value_of_literal values e ≡ false) f.bads g.bads bads good;
+      carried (λ e. value_of_literal values e ≡ false) f.properties.bads g.properties.bads bads good;
 }

@@ -1,6 +1,6 @@
 -- The window clauses of small windows, computed, with the numbers of literals worked by hand: twice the variable, and one more where it is inverted.
 -- And a file that a certificate shows safe.
-use Rattle.std.proofs.Common.{◌≡◌, ℕ, zero, suc, ◌+◌, ◌<◌, ◌≤◌, Bool, true, false, eqb, not, ◌&&◌, None, List, [], ◌∷◌, map, refl, sym, ap, subst, ◌∙◌, inl, arith}
+use Rattle.std.proofs.Common.{◌≡◌, ℕ, zero, suc, ◌+◌, ◌<◌, ◌≤◌, Bool, true, false, eqb, not, ◌&&◌, None, List, [], ◌∷◌, map, refl, sym, ap, subst, ◌∙◌, arith}
 use Rattle.std.specs.Prelude.{Contains}
 use Rattle.std.specs.List.{IsDistinct}
 use Rattle.std.proofs.lemmas.Bool.{false≢true}
@@ -10,6 +10,7 @@ use Rattle.aig_circuit.specs.declared.edge.AigEdge.{AigEdge}
 use Rattle.aig_circuit.specs.declared.node.AigLatch.{AigLatch}
 use Rattle.aig_circuit.specs.Circuit.{Circuit, only_false}
 use Rattle.aig_circuit.specs.Edge.{edge_to}
+use Rattle.aig_circuit.specs.Properties.{no_properties}
 use Rattle.aig_format.specs.declared.FileKind.TheVariants.{Text}
 use Rattle.aig_format.specs.File.{File, LatchLine}
 use Rattle.aig_format.specs.Fits.{Fits}
@@ -29,10 +30,10 @@ codes_of = map (map (λ (lit : Lit). lit.code))
 
 -- a circuit with these bad edges and constraints, and one with these outputs
 abbrev asking : List AigEdge → List AigEdge → Circuit
-asking bads constraints = record only_false { bads = bads; constraints = constraints }
+asking bads constraints = record only_false { properties = record no_properties { bads = bads; constraints = constraints } }
 
 abbrev showing : List AigEdge → Circuit
-showing outputs = record only_false { outputs = outputs }
+showing outputs = record only_false { properties = record no_properties { outputs = outputs } }
 
 -- a latch that keeps what it has
 abbrev keeping : ℕ → AigLatch
@@ -108,12 +109,8 @@ shifting = record {
   greatest = 2;
   inputs = [];
   latches = latch_from 2 4 ∷ latch_from 4 4 ∷ [];
-  outputs = [];
+  properties = record no_properties { bads = 2 ∷ [] };
   gates = [];
-  bads = 2 ∷ [];
-  constraints = [];
-  justice = [];
-  fairness = [];
   names = [];
 }
 
@@ -153,7 +150,7 @@ abbrev shown : File
 shown = record shifting {
   greatest = 3;
   gates = record { lhs = 6; rhs0 = 5; rhs1 = 3 } ∷ [];
-  bads = 7 ∷ 2 ∷ [];
+  properties = record no_properties { bads = 7 ∷ 2 ∷ [] };
 }
 
 shown-extends : Extends shown shifting
@@ -165,7 +162,7 @@ shown-extends = record {
 
 shown-is_certificate : IsCertificateOf shown shifting
 shown-is_certificate =
-    let bad_too = All-from_recursion (Contains shown.bads) shifting.bads ((1, omega arith, refl), tt) in
+    let bad_too = All-from_recursion (Contains shown.properties.bads) shifting.properties.bads ((1, omega arith, refl), tt) in
     listed_certificate shown shifting shown-extends (All-nil (Contains [])) bad_too
 
 -- it is safe at step 0, and its windows of two steps show that it is at each
@@ -204,11 +201,12 @@ shifting-fits : Fits shifting 4
 unfolding IsDistinct
 shifting-fits = record {
   within = omega arith;
-  definable = ((refl, omega arith, omega arith), ((refl, omega arith, omega arith), tt));
+  enough = refl;
+  definable = (refl, (refl, tt));
   distinct = ((refl, tt), (tt, tt));
-  in_range = (omega arith, (omega arith, (omega arith, tt)));
-  resets = (tt, (tt, tt));
-  rules = inl (record { exact = refl; rising = tt; ordered = tt });
+  in_range = (refl, (refl, (refl, tt)));
+  resets = (refl, (refl, tt));
+  order = refl;
   named = tt;
   once = tt;
 }
@@ -217,17 +215,12 @@ shown-fits : Fits shown 4
 unfolding IsDistinct
 shown-fits = record {
   within = omega arith;
-  definable = (
-    (refl, omega arith, omega arith),
-    ((refl, omega arith, omega arith), ((refl, omega arith, omega arith), tt)),
-  );
+  enough = refl;
+  definable = (refl, (refl, (refl, tt)));
   distinct = ((refl, (refl, tt)), ((refl, tt), (tt, tt)));
-  in_range = (
-    omega arith,
-    (omega arith, (omega arith, (omega arith, (omega arith, (omega arith, tt))))),
-  );
-  resets = (tt, (tt, tt));
-  rules = inl (record { exact = refl; rising = tt; ordered = ((omega arith, omega arith), tt) });
+  in_range = (refl, (refl, (refl, (refl, (refl, (refl, tt))))));
+  resets = (refl, (refl, tt));
+  order = refl;
   named = tt;
   once = tt;
 }
@@ -288,14 +281,14 @@ only_first : ℕ → Bool
 only_first n = eqb n 1
 
 -- nothing is bad
-silent : ¬ IsCertificateOf (record shown { bads = [] }) shifting
+silent : ¬ IsCertificateOf (record shown { properties = no_properties }) shifting
 unfolding only_first
 silent is =
     let good = is.good only_first (record { zero = refl; gates = (refl, tt) }) tt tt in
     false≢true (sym good.0)
 
 -- the bad state is forbidden
-forbidding : ¬ IsCertificateOf (record shown { constraints = 3 ∷ [] }) shifting
+forbidding : ¬ IsCertificateOf (record shown { properties = record shown.properties { constraints = 3 ∷ [] } }) shifting
 unfolding only_first
 forbidding is =
     let holds = is.constraints only_first (record { zero = refl; gates = (refl, tt) }) tt in

@@ -7,6 +7,7 @@ use Rattle.std.proofs.Math.Nat.{mul-le-mul_right}
 use Rattle.std.proofs.lemmas.List.{append-nil, length-map, length-take-le}
 use Rattle.std.proofs.lemmas.List.Elements.{All-append, All-from_recursion, All-map, All-replicate, All-weaker, recursion_from_All}
 use Rattle.std.proofs.lemmas.Option.{same_Some, slice_get_within}
+use Rattle.std.proofs.lemmas.Simd.{map-map}
 use Rattle.aig_base.specs.declared.logic.literal.Lit.{Lit}
 use Rattle.aig_base.specs.Clauses as clauses
 use Rattle.aig_base.specs.Clauses.{AreRelations, Satisfies, are_true, is_true_clause, variable_of}
@@ -15,7 +16,10 @@ use Rattle.aig_circuit.specs.declared.edge.AigEdge.{AigEdge}
 use Rattle.aig_circuit.specs.declared.node.AigLatch.{AigLatch}
 use Rattle.aig_circuit.specs.Edge.{edge_to, inverse, lit_of}
 use Rattle.aig_circuit.specs.Circuit.{Circuit, IsCircuit, IsInRange, IsLatch, latch_leaves}
+use Rattle.aig_circuit.specs.Properties.{AllProperties}
 use Rattle.aig_circuit.specs.Tree.{edge_value}
+use Rattle.aig_circuit.proofs.Listed.{AllProperties-weaker}
+use Rattle.aig_circuit.proofs.Lists.{AllZip-map}
 use Rattle.aig_circuit.proofs.Trees.{kind_at-within}
 use Rattle.aig_cnf.specs.Cnf.{FixesRoots, IsFixed, NodeValuesSatisfy, edge_in}
 use Rattle.aig_format.specs.File.{File, LatchLine}
@@ -25,7 +29,7 @@ use Rattle.aig_format.specs.Circuit.{circuit_of, edge_of, latch_of}
 use Rattle.aig_format.specs.Numbering.{node_of_variable}
 use Rattle.aig_format.specs.Variables.{IsKnown}
 use Rattle.aig_format.proofs.Circuits.{IsCircuit-of_file, used_by_section}
-use Rattle.aig_format.proofs.Entries.{rec_append, rec_weaker}
+use Rattle.aig_format.proofs.Entries.{rec_append}
 use Rattle.aig_format.proofs.Numbers.{used_known}
 use Rattle.aig_format_laws.specs.Nodes.{HasNodeValues}
 use Rattle.aig_format_laws.proofs.Joining.{forth_run, forth_values, latches_known, leaves_of, literal_is}
@@ -35,12 +39,12 @@ use Rattle.aig_runs.specs.Queries.{last_bads, unit_clauses}
 use Rattle.aig_runs.proofs.CircuitRuns.{runs_are_assignments}
 use Rattle.aig_runs.proofs.Further.{Holds, clause_says, stand_all, stand_any, units_say}
 use Rattle.aig_runs.proofs.Rows.{all_is, any_none, get-drop, get_there, next_row, rec_at, rec_from_get, row_of, zip_from_get}
-use Rattle.aig_runs.proofs.Standing.{Keeps, stand_other, stand_same, stand_unmade}
+use Rattle.aig_runs.proofs.Standing.{AreAlike, stand_alike}
 use Rattle.aig_certify.specs.declared.window.Window.{Window}
 use Rattle.aig_certify.specs.declared.window.Window.TheVariants.{Plain, Distinct}
 use Rattle.aig_certify.specs.Safety.{IsConstrained, IsGood}
 use Rattle.aig_certify.specs.Induction.{HasDistinctStates, IsKInductive, IsWindow}
-use Rattle.aig_certify.specs.WindowClauses.{AsksWindow, count_free, distinct_clauses, induction_clauses, state_at, state_edges, watched}
+use Rattle.aig_certify.specs.WindowClauses.{AsksWindow, count_free, distinct_clauses, first_bads, induction_clauses, state_at, state_edges, watched}
 use Rattle.aig_certify.proofs.Refuted.{both_true}
 use Rattle.aig_certify.proofs.Below.{induction_below, states_below}
 use Rattle.aig_cnf.proofs.Forms.{edge_in-inverse}
@@ -98,41 +102,31 @@ equal_rows old other v (entry ∷ entries) (x ∷ xs) (y ∷ ys) p q equal = (sy
 
 -- ---- a run and its assignment
 
--- The circuit has the file's nodes, latches, bad edges and constraints, and any outputs.
-module _ (f : File) (limit last : ℕ) (outputs : List AigEdge) (u : Circuit) (lists : List (List (List Lit))) (fits : Fits f limit) (unrolls : UnrollsTo (record (circuit_of f) { outputs = outputs }) last u)
-    (v : ℕ → Bool) (x run : ℕ → ℕ → Bool) (values : HasNodeValues f last x run) where
+module _ (f : File) (last : ℕ) (u : Circuit) (v : ℕ → Bool) (x run : ℕ → ℕ → Bool) (values : HasNodeValues f last x run) where
   -- edges with the values of literals, or of latches, at each step
   abbrev at : ℕ → AigEdge → Bool
   at t = edge_value (circuit_of f).nodes (x t)
 
-  fixed_in : (longer : List AigEdge) → All (IsFixed u lists) longer → Satisfies v lists → All (λ e. edge_in v e ≡ edge_value u.nodes v e) longer
-  fixed_in longer fixed holds = All-weaker (IsFixed u lists) (λ e. edge_in v e ≡ edge_value u.nodes v e) (λ e is. is v holds) longer fixed
-
-  literals_stand : (entries : List ℕ) (longer : List AigEdge) → AllByRecursion (IsKnown f) entries → All (λ e. edge_in v e ≡ edge_value u.nodes v e) longer → HasValuesAtSteps last at (map (edge_of f) entries) (edge_value u.nodes v) longer
+  literals_stand : (entries : List ℕ) (longer : List AigEdge) → All (IsKnown f) entries → All (λ e. edge_in v e ≡ edge_value u.nodes v e) longer → HasValuesAtSteps last at (map (edge_of f) entries) (edge_value u.nodes v) longer
       → HasValuesAtSteps last (λ t. value_of_literal (run t)) entries (edge_in v) longer
   literals_stand entries longer known same s =
-      let old = λ (t e : ℕ). at t (edge_of f e) in
       let first = λ (t : ℕ). value_of_literal (run t) in
-      let Keep = Keeps last old first (edge_in v) in
-      stand_same last old first (edge_in v) entries longer (All-from_recursion Keep entries (rec_weaker (IsKnown f) Keep (λ e is t h. literal_is f last x run values t e h is) entries known))
-      (stand_unmade (edge_of f) last at (edge_in v) entries longer (stand_other last at (edge_value u.nodes v) (edge_in v) (map (edge_of f) entries) longer same s))
+      let Alike = AreAlike last at first (edge_value u.nodes v) (edge_in v) in
+      stand_alike last at first (edge_value u.nodes v) (edge_in v) entries (map (edge_of f) entries) longer
+      (AllZip-map (edge_of f) Alike entries (All-weaker (IsKnown f) (λ e. Alike e (edge_of f e)) (λ e is t h. literal_is f last x run values t e h is) entries known)) same s
 
   latches_stand : (longer : List AigEdge) → All (λ e. edge_in v e ≡ edge_value u.nodes v e) longer → HasValuesAtSteps last at (state_edges (circuit_of f)) (edge_value u.nodes v) longer
       → HasValuesAtSteps last (λ t (l : LatchLine). run t (l.literal / 2)) f.latches (edge_in v) longer
   latches_stand longer same s =
       let to_leaf = λ (n : ℕ). edge_to n false in
       let leaf_of = λ (latch : AigLatch). latch.input in
-      let by_node = λ (t n : ℕ). at t (to_leaf n) in
-      let by_latch = λ (t : ℕ) (latch : AigLatch). at t (to_leaf latch.input) in
-      let old = λ (t : ℕ) (l : LatchLine). at t (to_leaf (node_of_variable f (l.literal / 2))) in
-      let first = λ (t : ℕ) (l : LatchLine). run t (l.literal / 2) in
-      let Keep = Keeps last old first (edge_in v) in
+      let leaf = λ (l : LatchLine). to_leaf (node_of_variable f (l.literal / 2)) in
       let Known = λ (l : LatchLine). IsKnown f l.literal in
-      stand_same last old first (edge_in v) f.latches longer (All-from_recursion Keep f.latches (rec_weaker Known Keep (λ l is t h. values t (l.literal / 2) h is) f.latches (latches_known f)))
-      (stand_unmade (latch_of f) last by_latch (edge_in v) f.latches longer
-      (stand_unmade leaf_of last by_node (edge_in v) (circuit_of f).latchs longer
-      (stand_unmade to_leaf last at (edge_in v) (latch_leaves (circuit_of f).latchs) longer
-      (stand_other last at (edge_value u.nodes v) (edge_in v) (state_edges (circuit_of f)) longer same s))))
+      let first = λ (t : ℕ) (l : LatchLine). run t (l.literal / 2) in
+      let Alike = AreAlike last at first (edge_value u.nodes v) (edge_in v) in
+      let are : state_edges (circuit_of f) ≡ map leaf f.latches = ap (map to_leaf) (map-map leaf_of (latch_of f) f.latches) ∙ map-map to_leaf (λ l. leaf_of (latch_of f l)) f.latches in
+      let alike = AllZip-map leaf Alike f.latches (All-weaker Known (λ l. Alike l (leaf l)) (λ l is t h. values t (l.literal / 2) h is) f.latches (All-from_recursion Known f.latches (latches_known f))) in
+      stand_alike last at first (edge_value u.nodes v) (edge_in v) f.latches (state_edges (circuit_of f)) longer (subst (AllZip Alike f.latches) (sym are) alike) same s
 
 -- ---- free variables
 
@@ -168,64 +162,74 @@ watched_circuit Distinct c is = record {
   latchs = is.latchs;
   latchs_distinct = is.latchs_distinct;
   apart = is.apart;
-  outputs = states_in_range c is;
-  bads = is.bads;
-  constraints = is.constraints;
-  justice = is.justice;
-  fairness = is.fairness;
+  properties = record {
+    outputs = states_in_range c is;
+    bads = is.properties.bads;
+    constraints = is.properties.constraints;
+    justice = is.properties.justice;
+    fairness = is.properties.fairness;
+  };
   named = is.named;
 }
 
-module _ (f : File) (limit k : ℕ) (outputs : List AigEdge) (u : Circuit) (lists : List (List (List Lit))) (fits : Fits f limit) (is_circuit : IsCircuit (record (circuit_of f) { outputs = outputs }))
-    (unrolls : UnrollsTo (record (circuit_of f) { outputs = outputs }) (k + 1) u) (fixes : FixesRoots u lists) (satisfied : NodeValuesSatisfy u lists) (run : ℕ → ℕ → Bool) (is : IsMachineRun f (k + 1) run) where
+-- the circuit, with other outputs
+abbrev with_outputs : Circuit → List AigEdge → Circuit
+with_outputs c outputs = record c { properties = record c.properties { outputs = outputs } }
+
+-- The circuit has the file's nodes, latches, bad edges and constraints, and any outputs.
+module _ (f : File) (limit k : ℕ) (outputs : List AigEdge) (u : Circuit) (lists : List (List (List Lit))) (fits : Fits f limit) (is_circuit : IsCircuit (with_outputs (circuit_of f) outputs))
+    (unrolls : UnrollsTo (with_outputs (circuit_of f) outputs) (k + 1) u) (fixes : FixesRoots u lists) (satisfied : NodeValuesSatisfy u lists) (run : ℕ → ℕ → Bool) (is : IsMachineRun f (k + 1) run) where
   abbrev x : ℕ → ℕ → Bool
   x = leaves_of f run
 
-  abbrev one : IsOneCircuitAssignment (record (circuit_of f) { outputs = outputs }) u (k + 1) lists x
-  one = runs_are_assignments (record (circuit_of f) { outputs = outputs }) u (k + 1) lists is_circuit unrolls satisfied x (forth_run f limit (k + 1) run fits is)
+  abbrev one : IsOneCircuitAssignment (with_outputs (circuit_of f) outputs) u (k + 1) lists x
+  one = runs_are_assignments (with_outputs (circuit_of f) outputs) u (k + 1) lists is_circuit unrolls satisfied x (forth_run f limit (k + 1) run fits is)
 
   -- the run's values of all nodes
   abbrev v : ℕ → Bool
   v = one.values
 
-  shows : HasStepValues (record (circuit_of f) { outputs = outputs }) u (k + 1) (edge_value u.nodes v) x
+  shows : HasStepValues (with_outputs (circuit_of f) outputs) u (k + 1) (edge_value u.nodes v) x
   shows = unrolls.same v x (forth_run f limit (k + 1) run fits is) one.reads
 
   values : HasNodeValues f (k + 1) x run
   values = forth_values f limit (k + 1) run fits is
 
-  constraints_stand : HasValuesAtSteps (k + 1) (λ t. value_of_literal (run t)) f.constraints (edge_in v) u.constraints
-  constraints_stand =
-      literals_stand f limit (k + 1) outputs u lists fits unrolls v x run values f.constraints u.constraints (used_by_section (IsKnown f) f (used_known f limit fits)).constraints
-      (fixed_in f limit (k + 1) outputs u lists fits unrolls v x run values u.constraints fixes.constraints one.satisfies) shows.constraints
+  known : AllProperties (IsKnown f) f.properties
+  known = (used_by_section (IsKnown f) f (used_known f limit fits)).properties
 
-  bads_stand : HasValuesAtSteps (k + 1) (λ t. value_of_literal (run t)) f.bads (edge_in v) u.bads
-  bads_stand =
-      literals_stand f limit (k + 1) outputs u lists fits unrolls v x run values f.bads u.bads (used_by_section (IsKnown f) f (used_known f limit fits)).bads
-      (fixed_in f limit (k + 1) outputs u lists fits unrolls v x run values u.bads fixes.bads one.satisfies) shows.bads
+  -- the assignment gives each property its value
+  fixed : AllProperties (λ e. edge_in v e ≡ edge_value u.nodes v e) u.properties
+  fixed = AllProperties-weaker (IsFixed u lists) (λ e. edge_in v e ≡ edge_value u.nodes v e) (λ e is. is v one.satisfies) u.properties fixes.properties
 
-  states_stand : outputs ≡ state_edges (circuit_of f) → HasValuesAtSteps (k + 1) (λ t (l : LatchLine). run t (l.literal / 2)) f.latches (edge_in v) u.outputs
+  constraints_stand : HasValuesAtSteps (k + 1) (λ t. value_of_literal (run t)) f.properties.constraints (edge_in v) u.properties.constraints
+  constraints_stand = literals_stand f (k + 1) u v x run values f.properties.constraints u.properties.constraints known.constraints fixed.constraints shows.properties.constraints
+
+  bads_stand : HasValuesAtSteps (k + 1) (λ t. value_of_literal (run t)) f.properties.bads (edge_in v) u.properties.bads
+  bads_stand = literals_stand f (k + 1) u v x run values f.properties.bads u.properties.bads known.bads fixed.bads shows.properties.bads
+
+  states_stand : outputs ≡ state_edges (circuit_of f) → HasValuesAtSteps (k + 1) (λ t (l : LatchLine). run t (l.literal / 2)) f.latches (edge_in v) u.properties.outputs
   states_stand are =
-      latches_stand f limit (k + 1) outputs u lists fits unrolls v x run values u.outputs (fixed_in f limit (k + 1) outputs u lists fits unrolls v x run values u.outputs fixes.outputs one.satisfies)
-      (subst (λ es. HasValuesAtSteps (k + 1) (λ t. edge_value (circuit_of f).nodes (x t)) es (edge_value u.nodes v) u.outputs) are shows.outputs)
+      latches_stand f (k + 1) u v x run values u.properties.outputs fixed.outputs
+      (subst (λ es. HasValuesAtSteps (k + 1) (λ t. edge_value (circuit_of f).nodes (x t)) es (edge_value u.nodes v) u.properties.outputs) are shows.properties.outputs)
 
   -- the constraints hold, no bad literal does before the last step, and some does at it
-  module _ (constraints : (t : ℕ) → t ≤ k + 1 → IsConstrained f (run t)) (good : (t : ℕ) → t ≤ k → IsGood f (run t)) (bad : IsTrue (list_any (value_of_literal (run (k + 1))) f.bads)) where
+  module _ (constraints : (t : ℕ) → t ≤ k + 1 → IsConstrained f (run t)) (good : (t : ℕ) → t ≤ k → IsGood f (run t)) (bad : IsTrue (list_any (value_of_literal (run (k + 1))) f.properties.bads)) where
     induction_hold : AllByRecursion (Holds v) (induction_clauses (circuit_of f) k u)
     induction_hold =
         let value = λ (t : ℕ). value_of_literal (run t) in
-        let count : length (circuit_of f).bads ≡ length f.bads = length-map f.bads (edge_of f) in
-        let early = take ((k + 1) * length (circuit_of f).bads) u.bads in
-        let units = unit_clauses u.constraints in
+        let count : length (circuit_of f).properties.bads ≡ length f.properties.bads = length-map f.properties.bads (edge_of f) in
+        let early = first_bads (circuit_of f) k u in
+        let units = unit_clauses u.properties.constraints in
         let inverses = unit_clauses (map inverse early) in
-        let first : AllByRecursion (Holds v) units = (units_say v u.constraints).1 ((stand_all (k + 1) value f.constraints (edge_in v) u.constraints constraints_stand).1 constraints) in
+        let first : AllByRecursion (Holds v) units = (units_say v u.properties.constraints).1 ((stand_all (k + 1) value f.properties.constraints (edge_in v) u.properties.constraints constraints_stand).1 constraints) in
         let rows : AllByRecursion (λ e. edge_in v e ≡ false) early =
-        subst (λ n. AllByRecursion (λ e. edge_in v e ≡ false) (take ((k + 1) * n) u.bads)) (sym count) (first_rows (k + 1) value f.bads (edge_in v) u.bads bads_stand false k (omega arith) good) in
+        subst (λ n. AllByRecursion (λ e. edge_in v e ≡ false) (take ((k + 1) * n) u.properties.bads)) (sym count) (first_rows (k + 1) value f.properties.bads (edge_in v) u.properties.bads bads_stand false k (omega arith) good) in
         let second : AllByRecursion (Holds v) inverses = (units_say v (map inverse early)).1 (inverses_hold v early rows) in
         let third =
         clause_says v (last_bads (circuit_of f) (k + 1) u)
-        ∙ ap (λ n. list_any (edge_in v) (drop ((k + 1) * n) u.bads)) count
-        ∙ stand_any (k + 1) value f.bads (edge_in v) u.bads bads_stand in
+        ∙ ap (λ n. list_any (edge_in v) (drop ((k + 1) * n) u.properties.bads)) count
+        ∙ stand_any (k + 1) value f.properties.bads (edge_in v) u.properties.bads bads_stand in
         let front = (rec_append (Holds v) units inverses).1 (first, second) in
         (rec_append (Holds v) (units ++ inverses) (map lit_of (last_bads (circuit_of f) (k + 1) u) ∷ [])).1 (front, (third ∙ bad, tt))
 
@@ -242,39 +246,39 @@ module _ (f : File) (limit k : ℕ) (outputs : List AigEdge) (u : Circuit) (list
       abbrev l : ℕ
       l = length (circuit_of f).latchs
 
-      rows_are : (t : ℕ) → t ≤ k + 1 → AllZip (λ (line : LatchLine) e. edge_in v e ≡ run t (line.literal / 2)) f.latches (state_at l u.outputs t)
+      rows_are : (t : ℕ) → t ≤ k + 1 → AllZip (λ (line : LatchLine) e. edge_in v e ≡ run t (line.literal / 2)) f.latches (state_at l u.properties.outputs t)
       rows_are t low =
-          subst (λ m. AllZip (λ (line : LatchLine) e. edge_in v e ≡ run t (line.literal / 2)) f.latches (state_at m u.outputs t)) (sym (length-map f.latches (latch_of f)))
-          (row_at (k + 1) (λ t (line : LatchLine). run t (line.literal / 2)) f.latches (edge_in v) u.outputs (states_stand are) t low)
+          subst (λ m. AllZip (λ (line : LatchLine) e. edge_in v e ≡ run t (line.literal / 2)) f.latches (state_at m u.properties.outputs t)) (sym (length-map f.latches (latch_of f)))
+          (row_at (k + 1) (λ t (line : LatchLine). run t (line.literal / 2)) f.latches (edge_in v) u.properties.outputs (states_stand are) t low)
 
-      states_are : (t : ℕ) → t < k + 2 → (length (state_at l u.outputs t) ≡ l) × AreEdgesBelow n (state_at l u.outputs t)
-      states_are t low = states_below u.outputs l n (k + 2) (omega (arith, (states_stand are).count, count_again)) (subst (λ m. All (λ e. e.node_id < m) u.outputs) (sym has) in_range.outputs) t low
+      states_are : (t : ℕ) → t < k + 2 → (length (state_at l u.properties.outputs t) ≡ l) × AreEdgesBelow n (state_at l u.properties.outputs t)
+      states_are t low = states_below u.properties.outputs l n (k + 2) (omega (arith, (states_stand are).count, count_again)) (subst (λ m. All (λ e. e.node_id < m) u.properties.outputs) (sym has) in_range.properties.outputs) t low
         where
-          count_again : length u.outputs ≡ (k + 2) * l
+          count_again : length u.properties.outputs ≡ (k + 2) * l
           count_again = (states_stand are).count ∙ ap (λ m. (k + 1 + 1) * m) (sym (length-map f.latches (latch_of f))) ∙ ap (λ m. m * l) (omega arith)
 
-      differ_there : (s t : ℕ) → s < t → t < k + 2 → ¬ AreEqual v (state_at l u.outputs s) (state_at l u.outputs t)
+      differ_there : (s t : ℕ) → s < t → t < k + 2 → ¬ AreEqual v (state_at l u.properties.outputs s) (state_at l u.properties.outputs t)
       differ_there s t less low equal =
-          distinct s t less (omega arith) (equal_rows (λ (line : LatchLine). run s (line.literal / 2)) (λ (line : LatchLine). run t (line.literal / 2)) v f.latches (state_at l u.outputs s) (state_at l u.outputs t) (rows_are s (omega arith)) (rows_are t (omega arith)) equal)
+          distinct s t less (omega arith) (equal_rows (λ (line : LatchLine). run s (line.literal / 2)) (λ (line : LatchLine). run t (line.literal / 2)) v f.latches (state_at l u.properties.outputs s) (state_at l u.properties.outputs t) (rows_are s (omega arith)) (rows_are t (omega arith)) equal)
 
       abbrev further : List (List Lit)
-      further = induction_clauses (circuit_of f) k u ++ distinct_clauses n l u.outputs (k + 2)
+      further = induction_clauses (circuit_of f) k u ++ distinct_clauses n l u.properties.outputs (k + 2)
 
       distinct_satisfiable : (free : ℕ) → IsSatisfiable (clauses_in (lists ++ replicate free []) ++ further)
       distinct_satisfiable free =
-          let more = distinct_extends n l (k + 2) u.outputs states_are v differ_there n (k + 2) (omega arith) (omega arith) in
+          let more = distinct_extends n l (k + 2) u.properties.outputs states_are v differ_there n (k + 2) (omega arith) (omega arith) in
           let w = more.values in
           let kept = hold_alike n v w more.agree (induction_clauses (circuit_of f) k u) (induction_below (circuit_of f) u k n has in_range) induction_hold in
           let holds = satisfies_more w lists free (satisfies_alike n v w more.agree lists relations.below one.satisfies) in
-          (w, both_true w (lists ++ replicate free []) further holds ((all_is (is_true_clause w) further).1 ((rec_append (Holds w) (induction_clauses (circuit_of f) k u) (distinct_clauses n l u.outputs (k + 2))).1 (kept, more.hold))))
+          (w, both_true w (lists ++ replicate free []) further holds ((all_is (is_true_clause w) further).1 ((rec_append (Holds w) (induction_clauses (circuit_of f) k u) (distinct_clauses n l u.properties.outputs (k + 2))).1 (kept, more.hold))))
 
 -- ---- the law
 
 -- a window with a bad literal at its end satisfies its clauses
 pub window_satisfies : (form : Window) (f : File) (limit k : ℕ) (optimize : Bool) (lists : List (List (List Lit))) (further : List (List Lit)) → Fits f limit → AsksWindow form (circuit_of f) k optimize lists further
-    → (run : ℕ → ℕ → Bool) → IsWindow form f k run → IsTrue (list_any (value_of_literal (run (k + 1))) f.bads) → IsSatisfiable (clauses_in lists ++ further)
+    → (run : ℕ → ℕ → Bool) → IsWindow form f k run → IsTrue (list_any (value_of_literal (run (k + 1))) f.properties.bads) → IsSatisfiable (clauses_in lists ++ further)
 window_satisfies Plain f limit k optimize lists further fits asks run w bad =
-    rw (asks.exact, asks.further_exact, append-nil (induction_clauses (circuit_of f) k asks.unrolled)) (plain_satisfiable f limit k (circuit_of f).outputs asks.unrolled asks.clauses fits (IsCircuit-of_file f limit fits) asks.steps asks.fixes asks.satisfied run w.is_run w.constraints w.good bad)
+    rw (asks.exact, asks.further_exact, append-nil (induction_clauses (circuit_of f) k asks.unrolled)) (plain_satisfiable f limit k (circuit_of f).properties.outputs asks.unrolled asks.clauses fits (IsCircuit-of_file f limit fits) asks.steps asks.fixes asks.satisfied run w.is_run w.constraints w.good bad)
 window_satisfies Distinct f limit k optimize lists further fits asks run w bad =
     rw (asks.exact, asks.further_exact)
     (distinct_satisfiable f limit k (state_edges (circuit_of f)) asks.unrolled asks.clauses fits (watched_circuit Distinct (circuit_of f) (IsCircuit-of_file f limit fits)) asks.steps asks.fixes asks.satisfied run w.is_run w.constraints w.good bad
@@ -283,4 +287,4 @@ window_satisfies Distinct f limit k optimize lists further fits asks run w bad =
 pub refuted_window : (form : Window) (f : File) (limit k : ℕ) (optimize : Bool) (lists : List (List (List Lit))) (further : List (List Lit)) → Fits f limit → AsksWindow form (circuit_of f) k optimize lists further
     → ¬ IsSatisfiable (clauses_in lists ++ further) → IsKInductive form f k
 refuted_window form f limit k optimize lists further fits asks none run w =
-    (any_none (value_of_literal (run (k + 1))) f.bads).0 (false_from_ne_true (list_any (value_of_literal (run (k + 1))) f.bads) (λ bad. none (window_satisfies form f limit k optimize lists further fits asks run w bad)))
+    (any_none (value_of_literal (run (k + 1))) f.properties.bads).0 (false_from_ne_true (list_any (value_of_literal (run (k + 1))) f.properties.bads) (λ bad. none (window_satisfies form f limit k optimize lists further fits asks run w bad)))

@@ -10,11 +10,12 @@ use Rattle.aig_runs.specs.Queries.{IsWitness}
 
 -- every constraint holds
 abbrev pub IsConstrained : File → (ℕ → Bool) → Type 0
-IsConstrained f values = AllByRecursion (λ e. IsTrue (value_of_literal values e)) f.constraints
+IsConstrained f values =
+    AllByRecursion (λ e. IsTrue (value_of_literal values e)) f.properties.constraints
 
 -- no bad literal holds
 abbrev pub IsGood : File → (ℕ → Bool) → Type 0
-IsGood f values = AllByRecursion (λ e. value_of_literal values e ≡ false) f.bads
+IsGood f values = AllByRecursion (λ e. value_of_literal values e ≡ false) f.properties.bads
 
 -- no run of k + 1 steps from an initial state meets every constraint and, at step k, some bad
 -- literal

@@ -15,12 +15,16 @@ use Rattle.aig_certify.specs.declared.window.Window.TheVariants.{Plain, Distinct
 
 -- ---- induction
 
+-- the bad edges of the steps 0 to k, which are the first of the unrolled circuit's
+abbrev pub first_bads : Circuit → ℕ → Circuit → List AigEdge
+first_bads c k unrolled = take ((k + 1) * length c.properties.bads) unrolled.properties.bads
+
 -- Each constraint at each step, that each bad edge of the steps 0 to k is false, and one clause of
 -- the bad edges of step k + 1, where the circuit is unrolled by k + 1 steps.
 abbrev pub induction_clauses : Circuit → ℕ → Circuit → List (List Lit)
 induction_clauses c k unrolled =
-    unit_clauses unrolled.constraints
-    ++ unit_clauses (map inverse (take ((k + 1) * length c.bads) unrolled.bads))
+    unit_clauses unrolled.properties.constraints
+    ++ unit_clauses (map inverse (first_bads c k unrolled))
     ++ map lit_of (last_bads c (k + 1) unrolled) ∷ []
 
 -- ---- distinct states
@@ -32,7 +36,7 @@ state_edges c = map (λ n. edge_to n false) (latch_leaves c.latchs)
 -- the circuit that a form unrolls: where states are told apart, the latches' leaves are its outputs
 abbrev pub watched : Window → Circuit → Circuit
 watched Plain c = c
-watched Distinct c = record c { outputs = state_edges c }
+watched Distinct c = record c { properties = record c.properties { outputs = state_edges c } }
 
 -- for each pair of edges, that they differ where variable n is true, n + 1 for the next pair, and
 -- so on
@@ -86,7 +90,7 @@ count_free Distinct c k = count_pairs (k + 2) * length c.latchs
 abbrev pub states_clauses : Window → ℕ → Circuit → ℕ → Circuit → List (List Lit)
 states_clauses Plain n c k unrolled = []
 states_clauses Distinct n c k unrolled =
-    distinct_clauses n (length c.latchs) unrolled.outputs (k + 2)
+    distinct_clauses n (length c.latchs) unrolled.properties.outputs (k + 2)
 
 -- the window clauses of a window, in order
 abbrev pub window_clauses : Window → ℕ → Circuit → ℕ → Circuit → List (List Lit)

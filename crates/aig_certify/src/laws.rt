@@ -113,6 +113,7 @@ pub fn certificates_are_safe()
     ensures inductive { (form : Window) (g f : File) (bound limit k : ℕ)
         → Fits g bound → Fits f limit → IsCertificateOf g f
         → IsSafeTo g k → IsKInductive form g k → (n : ℕ) → IsSafeTo f n }
-    ensures listed { (g f : File) → Extends g f → All (Contains f.constraints) g.constraints
-        → All (Contains g.bads) f.bads → IsCertificateOf g f }
+    ensures listed { (g f : File) → Extends g f
+        → All (Contains f.properties.constraints) g.properties.constraints
+        → All (Contains g.properties.bads) f.properties.bads → IsCertificateOf g f }
 {}

@@ -12,6 +12,7 @@ use Rattle.aig_circuit.specs.declared.node.AigLatch.{AigLatch}
 use Rattle.aig_circuit.specs.Edge.{edge_to, inverse}
 use Rattle.aig_circuit.specs.Tree.{edge_value}
 use Rattle.aig_circuit.specs.Circuit.{AreNodes, Circuit, IsCircuit, IsFree, IsInRange, IsLatch, latch_leaves}
+use Rattle.aig_circuit.specs.Properties.{AllProperties}
 use Rattle.aig_circuit.specs.Build.{AddsGates, FoldsOrAdds, FoldsOrAddsEq, Grows, with_node}
 use Rattle.aig_change.specs.Runs.{IsAllowedRun}
 use Rattle.aig_circuit.proofs.Building.{Grows-itself, Grows-leaf, edge_value-Grows}
@@ -20,12 +21,11 @@ use Rattle.aig_circuit.proofs.Joining.{edge_value-inverse, inverse_twice}
 use Rattle.aig_circuit.proofs.Trees.{kind_at-last, kind_at-within, node_value-leaf}
 use Rattle.aig_circuit.proofs.Writing.{IsCircuit-add_latch, IsCircuit-latchs}
 use Rattle.aig_circuit.specs.Edges.{HasConstantInit}
-use Rattle.aig_renumber.proofs.Places.{map-same}
 use Rattle.aig_change.specs.Changes.{ConstrainsInits, constant_start, first_step_latch, with_constant_start}
 use Rattle.aig_change.specs.Inits.{Constrains, MeetsInit, SayInSteps, ImpliesInit, is_variable, variable_latchs}
 use Rattle.aig_change.proofs.FirstStep.{AddsFirst, AreOldRuns-gated, AreOldRuns-itself}
 use Rattle.aig_change.proofs.Grown.{AddsLeaf-gates}
-use Rattle.aig_circuit.proofs.Lists.{All-first, All-second}
+use Rattle.aig_circuit.proofs.Lists.{All-first, All-second, map-same}
 use Rattle.aig_change.proofs.Lists.{AllZip-append, AllZip-weaker}
 use Rattle.aig_change.proofs.Moving.{All-grown}
 
@@ -160,7 +160,7 @@ constant_there nodes (Some e) h = by_test (eqb e.node_id 0)
     by_test true = h
     by_test false = tt
 
-module _ (old : Circuit) (is : IsCircuit old) (new : List AigNode) (constraints : List AigEdge) (adds : AddsGates (with_node old.nodes Leaf) new) (c : Constrains (with_node old.nodes Leaf) new (edge_to (length old.nodes) false) old.latchs old.constraints constraints) where
+module _ (old : Circuit) (is : IsCircuit old) (new : List AigNode) (constraints : List AigEdge) (adds : AddsGates (with_node old.nodes Leaf) new) (c : Constrains (with_node old.nodes Leaf) new (edge_to (length old.nodes) false) old.latchs old.properties.constraints constraints) where
   abbrev leaf : ℕ
   leaf = length old.nodes
 
@@ -168,7 +168,7 @@ module _ (old : Circuit) (is : IsCircuit old) (new : List AigNode) (constraints 
   mid = with_node old.nodes Leaf
 
   abbrev pub gated : Circuit
-  gated = record old { nodes = new; latchs = map with_constant_start old.latchs ++ first_step_latch leaf ∷ []; constraints = constraints }
+  gated = record old { nodes = new; latchs = map with_constant_start old.latchs ++ first_step_latch leaf ∷ []; properties = record old.properties { constraints = constraints } }
 
   leaf_is : (x : ℕ → Bool) → edge_value mid x (edge_to leaf false) ≡ x leaf
   leaf_is x = node_value-leaf mid x leaf (kind_at-last old.nodes _)
@@ -213,8 +213,9 @@ module _ (old : Circuit) (is : IsCircuit old) (new : List AigNode) (constraints 
       let fresh = IsFree-fresh old is in
       let free : IsFree old.inputs (map with_constant_start old.latchs) leaf = record { no_input = fresh.no_input; no_latch = λ has. fresh.no_latch (subst (λ ns. Contains ns leaf) (leaves_kept old.latchs) has) } in
       let latched = IsCircuit-add_latch (record old { nodes = new; latchs = map with_constant_start old.latchs }) (first_step_latch leaf) plain (record { leaf = adds_first.nodes.there; next = here; init = here }) free in
-      let all : All (IsInRange new) constraints = subst (All (IsInRange new)) (sym c.appended) (All-append (IsInRange new) old.constraints c.constrained (All-grown old.nodes new old.constraints adds_first.nodes.grows is.constraints) c.there) in
-      assumption (latched, all)
+      let all : All (IsInRange new) constraints = subst (All (IsInRange new)) (sym c.appended) (All-append (IsInRange new) old.properties.constraints c.constrained (All-grown old.nodes new old.properties.constraints adds_first.nodes.grows is.properties.constraints) c.there) in
+      let properties : AllProperties (IsInRange new) (record old.properties { constraints = constraints }) = assumption (latched.properties, all) in
+      assumption (latched, properties)
 
 -- a constant initial edge stays
 plain_start : (o : Option AigEdge) → IfSome o (λ e. e.node_id ≡ 0) → constant_start o ≡ o
@@ -227,7 +228,7 @@ ConstrainsInits-plain c is plain = record {
   leaf = None;
   latchs = sym (append-nil (map with_constant_start c.latchs) ∙ map-same with_constant_start c.latchs (λ k d h. ap (λ (o : Option AigEdge). record { input = (get_or c.latchs k d).input; next = (get_or c.latchs k d).next; init = o }) (plain_start (get_or c.latchs k d).init (plain k d h))));
   constrained = [];
-  constraints = sym (append-nil c.constraints);
+  constraints = sym (append-nil c.properties.constraints);
   nodes = Grows-itself c.nodes is.nodes;
   rest = refl;
   some = λ variable. absurd (variable plain);
@@ -239,14 +240,14 @@ ConstrainsInits-plain c is plain = record {
 
 -- what is built
 pub gated_starts : (old : Circuit) → IsCircuit old → (All HasConstantInit old.latchs → ⊥) → (one : List AigNode) (id : ℕ) (latch : AigLatch) (plains latchs : List AigLatch) (constraints : List AigEdge)
-    → id ≡ length old.nodes → AddsGates (with_node old.nodes Leaf) one → Constrains (with_node old.nodes Leaf) one (edge_to id false) old.latchs old.constraints constraints
+    → id ≡ length old.nodes → AddsGates (with_node old.nodes Leaf) one → Constrains (with_node old.nodes Leaf) one (edge_to id false) old.latchs old.properties.constraints constraints
     → plains ≡ map with_constant_start old.latchs → latch ≡ first_step_latch id → latchs ≡ plains ++ latch ∷ []
-    → IsCircuit (record old { nodes = one; latchs = latchs; constraints = constraints }) × ConstrainsInits old (record old { nodes = one; latchs = latchs; constraints = constraints })
+    → IsCircuit (record old { nodes = one; latchs = latchs; properties = record old.properties { constraints = constraints } }) × ConstrainsInits old (record old { nodes = one; latchs = latchs; properties = record old.properties { constraints = constraints } })
 gated_starts old is some_open one id latch plains latchs constraints id_is adds constrains plains_are latch_is latchs_are =
-    let says = subst (λ n. Constrains (with_node old.nodes Leaf) one (edge_to n false) old.latchs old.constraints constraints) id_is constrains in
+    let says = subst (λ n. Constrains (with_node old.nodes Leaf) one (edge_to n false) old.latchs old.properties.constraints constraints) id_is constrains in
     let added : map with_constant_start old.latchs ++ first_step_latch (length old.nodes) ∷ [] ≡ latchs =
     ap (λ n. map with_constant_start old.latchs ++ first_step_latch n ∷ []) (sym id_is)
     ∙ ap (λ ls. ls ++ first_step_latch id ∷ []) (sym plains_are)
     ∙ ap (λ l. plains ++ l ∷ []) (sym latch_is) ∙ sym latchs_are in
-    let result : gated old is one constraints adds says ≡ record old { nodes = one; latchs = latchs; constraints = constraints } = ap (λ ls. record old { nodes = one; latchs = ls; constraints = constraints }) added in
+    let result : gated old is one constraints adds says ≡ record old { nodes = one; latchs = latchs; properties = record old.properties { constraints = constraints } } = ap (λ ls. record old { nodes = one; latchs = ls; properties = record old.properties { constraints = constraints } }) added in
     (subst IsCircuit result (IsCircuit-gated old is one constraints adds says), subst (ConstrainsInits old) result (ConstrainsInits-built old is one constraints adds says some_open))

@@ -95,9 +95,9 @@ module _ (old new : Circuit) (leaf : ℕ) (next : AigEdge) (is : IsCircuit old) 
           let both = and_parts (edge_value new.nodes (z t) next) (edge_value old.nodes (z t) e) (sym (value (z t)) ∙ holds) in
           let held = and_parts (z t leaf) (all_hold old (z t)) (sym (adds.value (z t)) ∙ both.0) in
           let before = held_forth old z t (sym (leaf_held t h) ∙ held.0) in
-          (both.1, λ s le. AllPass-from_list_all (edge_value old.nodes (z s)) old.constraints (up_to (λ s. all_hold old (z s) ≡ true) t before held.1 s le)),
+          (both.1, λ s le. AllPass-from_list_all (edge_value old.nodes (z s)) old.properties.constraints (up_to (λ s. all_hold old (z s) ≡ true) t before held.1 s le)),
       λ p.
-          let all : (s : ℕ) → s ≤ t → all_hold old (z s) ≡ true = λ s le. list_all-from_AllPass (edge_value old.nodes (z s)) old.constraints (p.1 s le) in
+          let all : (s : ℕ) → s ≤ t → all_hold old (z s) ≡ true = λ s le. list_all-from_AllPass (edge_value old.nodes (z s)) old.properties.constraints (p.1 s le) in
           let held : z t leaf ≡ true = leaf_held t h ∙ held_back old z t (λ s lt. all s (omega arith)) in
           value (z t) ∙ and_from (edge_value new.nodes (z t) next) (edge_value old.nodes (z t) e) (adds.value (z t) ∙ and_from (z t leaf) (all_hold old (z t)) held (all t (omega arith))) p.0,
     )

@@ -11,16 +11,18 @@ use Rattle.aig_circuit.specs.declared.node.AigLatch.{AigLatch}
 use Rattle.aig_circuit.specs.Edge.{inverted_if}
 use Rattle.aig_circuit.specs.Tree.{edge_value}
 use Rattle.aig_circuit.specs.Circuit.{Circuit, IsCircuit, IsInRange, IsLatch, IsLeaf, latch_leaves, only_false}
+use Rattle.aig_circuit.specs.Properties.{AllProperties, append_properties, map_properties}
 use Rattle.aig_circuit.specs.Runs.{IsRun, IsInitial}
 use Rattle.aig_circuit.specs.Renumber.{renumbered_edge, renumbered_latch}
 use Rattle.aig_circuit.proofs.Building.{Grows-kept, Grows-longer, edge_value-Grows}
 use Rattle.aig_circuit.proofs.Circuits.{AllPairs-append, init_grown, latch_leaves-leaves}
+use Rattle.aig_circuit.proofs.Listed.{AllProperties-append, AllProperties-map, AllProperties-weaker}
 use Rattle.aig_circuit.proofs.Trees.{kind_at-within}
 use Rattle.aig_renumber.proofs.Circuits.{latch_leaves-map}
-use Rattle.aig_renumber.proofs.Places.{AllPairs-map_numbers, AllZip-map, All-from_map, Contains-map_back}
+use Rattle.aig_renumber.proofs.Places.{AllPairs-map_numbers, Contains-map_back}
 use Rattle.aig_circuit.proofs.Values.{edge_value-renumbered}
 use Rattle.aig_change.specs.Merge.{PairsRuns, merged, shifted}
-use Rattle.aig_circuit.proofs.Lists.{All-first, All-second}
+use Rattle.aig_circuit.proofs.Lists.{All-first, All-second, AllZip-map, All-from_map}
 use Rattle.aig_change.proofs.Lists.{AllZip-itself}
 use Rattle.aig_change.proofs.Merging.{AreNodes-joint, Grows-joint, IsOrdered-joint, Renumbers-joint, joint, kind-number, leaf-past, shifted-apart, shifted-back, shifted-past, shifted-within}
 use Rattle.aig_change.proofs.Values.{node_value-past}
@@ -43,9 +45,6 @@ module _ (first second : Circuit) (is : IsCircuit first) (other : IsCircuit seco
   latch_kept : (latch : AigLatch) → IsLatch first.nodes latch → IsLatch new latch
   latch_kept latch h = record { leaf = leaf_kept latch.input h.leaf; next = let low = h.next in omega (arith, longer); init = init_grown first.nodes new latch.init longer h.init }
 
-  edges_kept : (es : List AigEdge) → All (IsInRange first.nodes) es → All (IsInRange new) es
-  edges_kept es all = All-weaker (IsInRange first.nodes) (IsInRange new) (λ e h. omega (arith, longer)) es all
-
   -- ---- the second circuit's entries
 
   leaf_moved : (n : ℕ) → IsLeaf second.nodes n → IsLeaf new (number n)
@@ -61,13 +60,12 @@ module _ (first second : Circuit) (is : IsCircuit first) (other : IsCircuit seco
   latch_moved : (latch : AigLatch) → IsLatch second.nodes latch → IsLatch new (renumbered_latch number latch)
   latch_moved latch h = record { leaf = leaf_moved latch.input h.leaf; next = edge_moved latch.next h.next; init = init_moved latch.init h.init }
 
-  edges_moved : (es : List AigEdge) → All (IsInRange second.nodes) es → All (IsInRange new) (map (renumbered_edge number) es)
-  edges_moved es all = All-map (IsInRange new) (renumbered_edge number) es (All-weaker (IsInRange second.nodes) (λ e. IsInRange new (renumbered_edge number e)) edge_moved es all)
-
   -- ---- both
 
-  edges_joined : (es fs : List AigEdge) → All (IsInRange first.nodes) es → All (IsInRange second.nodes) fs → All (IsInRange new) (es ++ map (renumbered_edge number) fs)
-  edges_joined es fs p q = All-append (IsInRange new) es (map (renumbered_edge number) fs) (edges_kept es p) (edges_moved fs q)
+  properties_joined : AllProperties (IsInRange new) (append_properties first.properties (map_properties (renumbered_edge number) second.properties))
+  properties_joined = AllProperties-append (IsInRange new) first.properties (map_properties (renumbered_edge number) second.properties)
+      (AllProperties-weaker (IsInRange first.nodes) (IsInRange new) (λ e h. omega (arith, longer)) first.properties is.properties)
+      (AllProperties-map (IsInRange new) (renumbered_edge number) second.properties (AllProperties-weaker (IsInRange second.nodes) (λ e. IsInRange new (renumbered_edge number e)) edge_moved second.properties other.properties))
 
   -- leaves of the two are apart
   leaves_apart : (m n : ℕ) → IsLeaf first.nodes m → IsLeaf second.nodes n → m ≢ number n
@@ -124,13 +122,7 @@ module _ (first second : Circuit) (is : IsCircuit first) (other : IsCircuit seco
     latchs_distinct = subst (AllPairs (λ m n. m ≢ n)) (sym leaves_joined)
         (numbers_apart (latch_leaves first.latchs) (latch_leaves second.latchs) (latch_leaves-leaves first is) (latch_leaves-leaves second other) is.latchs_distinct other.latchs_distinct);
     apart = subst (All (λ n. ¬ Contains inputs n)) (sym leaves_joined) apart_joined;
-    outputs = edges_joined first.outputs second.outputs is.outputs other.outputs;
-    bads = edges_joined first.bads second.bads is.bads other.bads;
-    constraints = edges_joined first.constraints second.constraints is.constraints other.constraints;
-    justice = All-append (All (IsInRange new)) first.justice (map (map (renumbered_edge number)) second.justice)
-        (All-weaker (All (IsInRange first.nodes)) (All (IsInRange new)) edges_kept first.justice is.justice)
-        (All-map (All (IsInRange new)) (map (renumbered_edge number)) second.justice (All-weaker (All (IsInRange second.nodes)) (λ es. All (IsInRange new) (map (renumbered_edge number) es)) edges_moved second.justice other.justice));
-    fairness = edges_joined first.fairness second.fairness is.fairness other.fairness;
+    properties = properties_joined;
     named = λ n h. omega (arith, longer, is.named n h);
   }
 
@@ -239,9 +231,9 @@ merged-only_false c =
     let a = append-nil c.nodes in
     let b = append-nil c.inputs in
     let l = append-nil c.latchs in
-    let o = append-nil c.outputs in
-    let p = append-nil c.bads in
-    let q = append-nil c.constraints in
-    let r = append-nil c.justice in
-    let s = append-nil c.fairness in
-    λ i. record c { nodes = a i; inputs = b i; latchs = l i; outputs = o i; bads = p i; constraints = q i; justice = r i; fairness = s i }
+    let o = append-nil c.properties.outputs in
+    let p = append-nil c.properties.bads in
+    let q = append-nil c.properties.constraints in
+    let r = append-nil c.properties.justice in
+    let s = append-nil c.properties.fairness in
+    λ i. record c { nodes = a i; inputs = b i; latchs = l i; properties = record { outputs = o i; bads = p i; constraints = q i; justice = r i; fairness = s i } }

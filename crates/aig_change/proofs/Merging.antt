@@ -13,7 +13,7 @@ use Rattle.aig_circuit.specs.Build.{Grows}
 use Rattle.aig_circuit.specs.Renumber.{nodes_in_order, renumbered_edge, renumbered_kind}
 use Rattle.aig_circuit.proofs.Building.{FitsBelow-and_of, grows_by_appending}
 use Rattle.aig_circuit.proofs.Trees.{kind_at-append, kind_at-there, kind_at-within}
-use Rattle.aig_renumber.proofs.Numbering.{false_back, get-nodes_in_order, length-nodes_in_order, node_in_order, nodes_in_order-push}
+use Rattle.aig_renumber.proofs.NodesInOrder.{false_back, get-nodes_in_order, length-nodes_in_order, node_in_order, nodes_in_order-push}
 use Rattle.aig_circuit.proofs.Values.{Renumbers}
 use Rattle.aig_change.specs.Merge.{numbers_but_0, shifted}
 use Rattle.aig_change.proofs.Lists.{get-append_left, get-append_right}

@@ -11,6 +11,7 @@ use Rattle.aig_circuit.specs.declared.node.AigLatch.{AigLatch}
 use Rattle.aig_circuit.specs.Edge.{edge_to}
 use Rattle.aig_circuit.specs.Tree.{edge_value}
 use Rattle.aig_circuit.specs.Circuit.{Circuit, IsCircuit, IsInRange}
+use Rattle.aig_circuit.specs.Properties.{AllProperties}
 use Rattle.aig_circuit.specs.Build.{AddsGates, FoldsOrAdds, FoldsOrAddsAll, Grows, JoinsByAnd, with_node}
 use Rattle.std.specs.List.{list_all}
 use Rattle.aig_circuit.proofs.Building.{AddsGates-then, Grows-itself, Grows-leaf, Grows-longer, edge_value-Grows}
@@ -28,7 +29,7 @@ module _ (old : Circuit) (is : IsCircuit old) (one two three four : List AigNode
   leaf = length old.nodes
 
   abbrev pub moved : Circuit
-  moved = record old { nodes = four; latchs = old.latchs ++ constraints_held_latch leaf next ∷ []; outputs = outputs; bads = bads; constraints = [] }
+  moved = record old { nodes = four; latchs = old.latchs ++ constraints_held_latch leaf next ∷ []; properties = record old.properties { outputs = outputs; bads = bads; constraints = [] } }
 
   to_two : AddsGates (with_node old.nodes Leaf) two
   to_two = AddsGates-then (with_node old.nodes Leaf) one two b.first b.second
@@ -45,9 +46,9 @@ module _ (old : Circuit) (is : IsCircuit old) (one two three four : List AigNode
   two_to_four : Grows two four
   two_to_four = (AddsGates-then two three four b.third b.fourth).grows
 
-  constraint_is : (x : ℕ → Bool) → edge_value one x constraint ≡ list_all (edge_value old.nodes x) old.constraints
-  constraint_is x = b.joins.value x ∙ list_all-agrees (edge_value (with_node old.nodes Leaf) x) (edge_value old.nodes x) old.constraints
-      (λ k d h. edge_value-Grows old.nodes (with_node old.nodes Leaf) is.nodes (Grows-leaf old.nodes is.nodes) x (get_or old.constraints k d) (is.constraints k d h))
+  constraint_is : (x : ℕ → Bool) → edge_value one x constraint ≡ list_all (edge_value old.nodes x) old.properties.constraints
+  constraint_is x = b.joins.value x ∙ list_all-agrees (edge_value (with_node old.nodes Leaf) x) (edge_value old.nodes x) old.properties.constraints
+      (λ k d h. edge_value-Grows old.nodes (with_node old.nodes Leaf) is.nodes (Grows-leaf old.nodes is.nodes) x (get_or old.properties.constraints k d) (is.properties.constraints k d h))
 
   leaf_is : (x : ℕ → Bool) → edge_value one x (edge_to leaf false) ≡ x leaf
   leaf_is x = node_value-leaf one x leaf (grown one b.first).there
@@ -82,10 +83,10 @@ module _ (old : Circuit) (is : IsCircuit old) (one two three four : List AigNode
     nodes = to_four;
     steps = (one, two, three, constraint, b);
     constraints = refl;
-    bads = JoinsConstraints-held old moved leaf next is adds_held old.bads bads b.joins_bads.others b.joins_bads.count
-        (joined_value two three old.bads bads is.bads to_two (Grows-itself two to_two.grows.sound) to_three b.fourth.grows b.joins_bads);
-    outputs = JoinsConstraints-held old moved leaf next is adds_held old.outputs outputs b.joins_outputs.others b.joins_outputs.count
-        (joined_value three four old.outputs outputs is.outputs to_three b.third.grows to_four (Grows-itself four to_four.grows.sound) b.joins_outputs);
+    bads = JoinsConstraints-held old moved leaf next is adds_held old.properties.bads bads b.joins_bads.others b.joins_bads.count
+        (joined_value two three old.properties.bads bads is.properties.bads to_two (Grows-itself two to_two.grows.sound) to_three b.fourth.grows b.joins_bads);
+    outputs = JoinsConstraints-held old moved leaf next is adds_held old.properties.outputs outputs b.joins_outputs.others b.joins_outputs.count
+        (joined_value three four old.properties.outputs outputs is.properties.outputs to_three b.third.grows to_four (Grows-itself four to_four.grows.sound) b.joins_outputs);
     rest = refl;
     runs = AreOldRuns-held old moved leaf next is adds_held;
   }
@@ -99,7 +100,8 @@ module _ (old : Circuit) (is : IsCircuit old) (one two three four : List AigNode
       let latched = IsCircuit-add_latch (record old { nodes = four }) (constraints_held_latch leaf next) over (record { leaf = (grown four to_four).there; next = next_there; init = here }) (IsFree-fresh old is) in
       let bads_there : All (IsInRange four) bads = λ k d h. let low = b.joins_bads.there k d h in omega (arith, Grows-longer three four b.fourth.grows) in
       let none = All-nil (IsInRange four) in
-      assumption (latched, bads_there, b.joins_outputs.there, none)
+      let properties : AllProperties (IsInRange four) (record old.properties { outputs = outputs; bads = bads; constraints = [] }) = assumption (latched.properties, b.joins_outputs.there, bads_there, none) in
+      assumption (latched, properties)
 
 -- edges to old nodes are in range of grown ones
 pub All-grown : (xs ys : List AigNode) (es : List AigEdge) → Grows xs ys → All (IsInRange xs) es → All (IsInRange ys) es
@@ -107,18 +109,18 @@ All-grown xs ys es grows all k d h = let low = all k d h in omega (arith, Grows-
 
 -- what is built over a copy of the old circuit's lists
 pub moved_copy : (old lists : Circuit) → lists ≡ old → IsCircuit old → (zero one two three four : List AigNode) (id : ℕ) (leaf_edge constraint next : AigEdge) (latch : AigLatch) (latchs : List AigLatch) (bads outputs constraints : List AigEdge)
-    → id ≡ length lists.nodes → zero ≡ with_node lists.nodes Leaf → AddsGates zero one → FoldsOrAddsAll zero lists.constraints one constraint → JoinsByAnd zero one lists.constraints constraint → leaf_edge ≡ edge_to id false
+    → id ≡ length lists.nodes → zero ≡ with_node lists.nodes Leaf → AddsGates zero one → FoldsOrAddsAll zero lists.properties.constraints one constraint → JoinsByAnd zero one lists.properties.constraints constraint → leaf_edge ≡ edge_to id false
     → AddsGates one two → FoldsOrAdds one two leaf_edge constraint next → IsInRange two next → ((x : ℕ → Bool) → edge_value two x next ≡ (edge_value one x leaf_edge && edge_value one x constraint))
-    → AddsGates two three → JoinsFirst two three next lists.bads bads → AddsGates three four → JoinsFirst three four next lists.outputs outputs
+    → AddsGates two three → JoinsFirst two three next lists.properties.bads bads → AddsGates three four → JoinsFirst three four next lists.properties.outputs outputs
     → latch ≡ constraints_held_latch id next → latchs ≡ lists.latchs ++ latch ∷ [] → constraints ≡ []
-    → IsCircuit (record lists { nodes = four; latchs = latchs; outputs = outputs; bads = bads; constraints = constraints })
-    × FoldsConstraints old (record lists { nodes = four; latchs = latchs; outputs = outputs; bads = bads; constraints = constraints })
+    → IsCircuit (record lists { nodes = four; latchs = latchs; properties = record lists.properties { outputs = outputs; bads = bads; constraints = constraints } })
+    × FoldsConstraints old (record lists { nodes = four; latchs = latchs; properties = record lists.properties { outputs = outputs; bads = bads; constraints = constraints } })
 moved_copy old lists same is zero one two three four id leaf_edge constraint next latch latchs bads outputs constraints leaf_is zero_is first joins_rule joins edge_is second rule there value third joins_bads fourth joins_outputs latch_is latchs_are none =
     let was : IsCircuit lists = subst IsCircuit (sym same) is in
     let builds : JoinsInSteps lists one two three four constraint next bads outputs = record {
       first = subst (λ z. AddsGates z one) zero_is first;
-      joins_rule = subst (λ z. FoldsOrAddsAll z lists.constraints one constraint) zero_is joins_rule;
-      joins = subst (λ z. JoinsByAnd z one lists.constraints constraint) zero_is joins;
+      joins_rule = subst (λ z. FoldsOrAddsAll z lists.properties.constraints one constraint) zero_is joins_rule;
+      joins = subst (λ z. JoinsByAnd z one lists.properties.constraints constraint) zero_is joins;
       second = second;
       rule = subst (λ e. FoldsOrAdds one two e constraint next) (edge_is ∙ ap (λ n. edge_to n false) leaf_is) rule;
       there = there;
@@ -129,10 +131,10 @@ moved_copy old lists same is zero one two three four id leaf_edge constraint nex
       joins_outputs = joins_outputs;
     } in
     let added : latchs ≡ lists.latchs ++ constraints_held_latch (length lists.nodes) next ∷ [] = latchs_are ∙ ap (λ l. lists.latchs ++ l ∷ []) (latch_is ∙ ap (λ n. constraints_held_latch n next) leaf_is) in
-    let result : moved lists was one two three four constraint next bads outputs builds ≡ record lists { nodes = four; latchs = latchs; outputs = outputs; bads = bads; constraints = constraints } =
-    ap (λ ls. record lists { nodes = four; latchs = ls; outputs = outputs; bads = bads; constraints = [] }) (sym added)
-    ∙ ap (λ es. record lists { nodes = four; latchs = latchs; outputs = outputs; bads = bads; constraints = es }) (sym none) in
+    let result : moved lists was one two three four constraint next bads outputs builds ≡ record lists { nodes = four; latchs = latchs; properties = record lists.properties { outputs = outputs; bads = bads; constraints = constraints } } =
+    ap (λ ls. record lists { nodes = four; latchs = ls; properties = record lists.properties { outputs = outputs; bads = bads; constraints = [] } }) (sym added)
+    ∙ ap (λ es. record lists { nodes = four; latchs = latchs; properties = record lists.properties { outputs = outputs; bads = bads; constraints = es } }) (sym none) in
     let moves = FoldsConstraints-built lists was one two three four constraint next bads outputs builds in (
       subst IsCircuit result (IsCircuit-built lists was one two three four constraint next bads outputs builds),
-      subst (λ c. FoldsConstraints c (record lists { nodes = four; latchs = latchs; outputs = outputs; bads = bads; constraints = constraints })) same (subst (FoldsConstraints lists) result moves),
+      subst (λ c. FoldsConstraints c (record lists { nodes = four; latchs = latchs; properties = record lists.properties { outputs = outputs; bads = bads; constraints = constraints } })) same (subst (FoldsConstraints lists) result moves),
     )

@@ -11,6 +11,7 @@ use Rattle.aig_circuit.specs.declared.node.AigNode.{AigNode}
 use Rattle.aig_circuit.specs.declared.node.AigLatch.{AigLatch}
 use Rattle.aig_circuit.specs.Build.{Folds, FoldsOrAdds, FoldsOrAddsEq, true_first, true_second, false_first, false_second, same, opposite, with_node}
 use Rattle.aig_circuit.specs.Circuit.{Circuit}
+use Rattle.aig_circuit.specs.Properties.{no_properties}
 use Rattle.aig_circuit.specs.Edge.{edge_to, inverse}
 use Rattle.aig_circuit.specs.Edges.{HasConstantInit}
 use Rattle.aig_circuit.specs.Runs.{IsRun, IsInitial}
@@ -33,11 +34,7 @@ circuit_with nodes inputs latchs bads constraints =
       nodes = nodes;
       inputs = inputs;
       latchs = latchs;
-      outputs = [];
-      bads = bads;
-      constraints = constraints;
-      justice = [];
-      fairness = [];
+      properties = record no_properties { bads = bads; constraints = constraints };
       names = empty;
     }
 
@@ -77,21 +74,21 @@ one_leaf = node 0 False ∷ node 1 Leaf ∷ []
 abbrev with_properties : Circuit
 with_properties =
     record (circuit_with one_leaf (1 ∷ []) [] [] [])
-    { outputs = edge_to 1 false ∷ []; justice = (edge_to 1 false ∷ []) ∷ [] }
+    { properties = record no_properties { outputs = edge_to 1 false ∷ []; justice = (edge_to 1 false ∷ []) ∷ [] } }
 
-not_without_justice : (new : Circuit) → new.justice ≡ [] → ¬ FoldsConstraints with_properties new
+not_without_justice : (new : Circuit) → new.properties.justice ≡ [] → ¬ FoldsConstraints with_properties new
 not_without_justice new none m =
-    let was = ap (λ (c : Circuit). c.justice) m.rest in
+    let was = ap (λ (c : Circuit). c.properties.justice) m.rest in
     let no : ◌≡◌ {A = List (List AigEdge)} [] ((edge_to 1 false ∷ []) ∷ []) = sym none ∙ was in cc
 
-not_without_outputs : (new : Circuit) → new.outputs ≡ [] → ¬ CompressesBads with_properties new
+not_without_outputs : (new : Circuit) → new.properties.outputs ≡ [] → ¬ CompressesBads with_properties new
 not_without_outputs new none m =
-    let was = ap (λ (c : Circuit). c.outputs) m.rest in
+    let was = ap (λ (c : Circuit). c.properties.outputs) m.rest in
     let no : ◌≡◌ {A = List AigEdge} [] (edge_to 1 false ∷ []) = sym none ∙ was in cc
 
-not_without_properties : (new : Circuit) → new.outputs ≡ [] → ¬ ConstrainsInits with_properties new
+not_without_properties : (new : Circuit) → new.properties.outputs ≡ [] → ¬ ConstrainsInits with_properties new
 not_without_properties new none m =
-    let was = ap (λ (c : Circuit). c.outputs) m.rest in
+    let was = ap (λ (c : Circuit). c.properties.outputs) m.rest in
     let no : ◌≡◌ {A = List AigEdge} [] (edge_to 1 false ∷ []) = sym none ∙ was in cc
 
 -- ---- edges that fold

@@ -38,29 +38,37 @@ pub record FoldsConstraints (old new : Circuit) : Type 0 where
   pub latchs : new.latchs ≡ old.latchs ++ constraints_held_latch (length old.nodes) next ∷ []
   pub nodes : AddsGates (with_node old.nodes Leaf) new.nodes
   pub steps : (one two three : List AigNode) × (constraint : AigEdge)
-      × JoinsInSteps old one two three new.nodes constraint next new.bads new.outputs
-  pub constraints : new.constraints ≡ []
-  pub bads : JoinsConstraints old new old.bads new.bads
-  pub outputs : JoinsConstraints old new old.outputs new.outputs
+      × JoinsInSteps old one two three new.nodes constraint next new.properties.bads
+      new.properties.outputs
+  pub constraints : new.properties.constraints ≡ []
+  pub bads : JoinsConstraints old new old.properties.bads new.properties.bads
+  pub outputs : JoinsConstraints old new old.properties.outputs new.properties.outputs
   -- inputs, names, justice and fairness stay
   pub rest : new
       ≡ record old {
         nodes = new.nodes;
         latchs = new.latchs;
-        outputs = new.outputs;
-        bads = new.bads;
-        constraints = new.constraints;
+        properties =
+            record old.properties {
+              outputs = new.properties.outputs;
+              bads = new.properties.bads;
+              constraints = new.properties.constraints;
+            };
       }
   pub runs : AreOldRuns old new (IsRunFromInitial new) (IsRunFromInitial old)
 
 -- The one bad edge is the or of the old ones, joined by the rule of `new_ors_node`.
 pub record CompressesBads (old new : Circuit) : Type 0 where
   pub bad : AigEdge
-  pub bads : new.bads ≡ bad ∷ []
+  pub bads : new.properties.bads ≡ bad ∷ []
   pub gates : AddsGates old.nodes new.nodes
-  pub rule : FoldsOrAddsAll old.nodes (map inverse old.bads) new.nodes (inverse bad)
-  pub value : JoinsByOr old.nodes new.nodes old.bads bad
-  pub rest : new ≡ record old { nodes = new.nodes; bads = new.bads }
+  pub rule : FoldsOrAddsAll old.nodes (map inverse old.properties.bads) new.nodes (inverse bad)
+  pub value : JoinsByOr old.nodes new.nodes old.properties.bads bad
+  pub rest : new
+      ≡ record old {
+        nodes = new.nodes;
+        properties = record old.properties { bads = new.properties.bads };
+      }
 
 -- the initial edge where it is constant, and else none
 abbrev pub constant_start : Option AigEdge → Option AigEdge
@@ -83,11 +91,15 @@ pub record ConstrainsInits (old new : Circuit) : Type 0 where
   pub latchs : new.latchs
       ≡ map with_constant_start old.latchs ++ map first_step_latch (option_to_list leaf)
   pub constrained : List AigEdge
-  pub constraints : new.constraints ≡ old.constraints ++ constrained
+  pub constraints : new.properties.constraints ≡ old.properties.constraints ++ constrained
   pub nodes : Grows old.nodes new.nodes
   -- inputs, names and all other properties stay
   pub rest : new
-      ≡ record old { nodes = new.nodes; latchs = new.latchs; constraints = new.constraints }
+      ≡ record old {
+        nodes = new.nodes;
+        latchs = new.latchs;
+        properties = record old.properties { constraints = new.properties.constraints };
+      }
   -- the added latch is one on a new leaf, and else gates alone are added
   pub some : ¬ All HasConstantInit old.latchs
       → (leaf ≡ Some (length old.nodes)) × AddsGates (with_node old.nodes Leaf) new.nodes

@@ -27,8 +27,9 @@ pub record JoinsFirst (old new : List AigNode) (next : AigEdge) (edges joined : 
 pub record JoinsInSteps (old : Circuit) (one two three four : List AigNode)
     (constraint next : AigEdge) (bads outputs : List AigEdge) : Type 0 where
   pub first : AddsGates (with_node old.nodes Leaf) one
-  pub joins_rule : FoldsOrAddsAll (with_node old.nodes Leaf) old.constraints one constraint
-  pub joins : JoinsByAnd (with_node old.nodes Leaf) one old.constraints constraint
+  pub joins_rule : FoldsOrAddsAll (with_node old.nodes Leaf) old.properties.constraints one
+      constraint
+  pub joins : JoinsByAnd (with_node old.nodes Leaf) one old.properties.constraints constraint
   pub second : AddsGates one two
   pub rule : FoldsOrAdds one two (edge_to (length old.nodes) false) constraint next
   pub there : IsInRange two next
@@ -36,6 +37,6 @@ pub record JoinsInSteps (old : Circuit) (one two three four : List AigNode)
       → edge_value two x next
       ≡ (edge_value one x (edge_to (length old.nodes) false) && edge_value one x constraint)
   pub third : AddsGates two three
-  pub joins_bads : JoinsFirst two three next old.bads bads
+  pub joins_bads : JoinsFirst two three next old.properties.bads bads
   pub fourth : AddsGates three four
-  pub joins_outputs : JoinsFirst three four next old.outputs outputs
+  pub joins_outputs : JoinsFirst three four next old.properties.outputs outputs

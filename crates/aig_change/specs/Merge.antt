@@ -4,6 +4,7 @@ use Rattle.std.specs.Prelude.{◌≡◌, ℕ, ◌+◌, ◌-◌, ◌==◌, ◌↔
 use Rattle.aig_circuit.specs.declared.edge.AigEdge.{AigEdge}
 use Rattle.aig_circuit.specs.declared.node.AigNode.{AigNode}
 use Rattle.aig_circuit.specs.Circuit.{Circuit, IsInRange, IsLeaf}
+use Rattle.aig_circuit.specs.Properties.{append_properties, map_properties}
 use Rattle.aig_circuit.specs.Runs.{HaveSameValues, IsRun, IsInitial}
 use Rattle.aig_circuit.specs.Renumber.{nodes_in_order, renumbered_edge, renumbered_latch}
 
@@ -20,18 +21,15 @@ numbers_but_0 nodes = map (λ node. node.node_id) (drop 1 nodes)
 abbrev pub merged : Circuit → Circuit → Circuit
 merged first second =
     let number = shifted (length first.nodes) in
-    let edges = map (renumbered_edge number) in
     record {
       nodes =
           first.nodes
           ++ nodes_in_order second.nodes number (length first.nodes) (numbers_but_0 second.nodes);
       inputs = first.inputs ++ map number second.inputs;
       latchs = first.latchs ++ map (renumbered_latch number) second.latchs;
-      outputs = first.outputs ++ edges second.outputs;
-      bads = first.bads ++ edges second.bads;
-      constraints = first.constraints ++ edges second.constraints;
-      justice = first.justice ++ map edges second.justice;
-      fairness = first.fairness ++ edges second.fairness;
+      properties =
+          append_properties first.properties
+          (map_properties (renumbered_edge number) second.properties);
       names = first.names;
     }
 

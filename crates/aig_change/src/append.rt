@@ -1,36 +1,36 @@
 //! The entries of one circuit after those of another.
 
-ghost use Rattle.std.specs.Prelude.{◌≡◌, ◌+◌, ◌<◌, ◌≤◌, ◌^◌, ◌++◌, Some, IfOk, All, length, map, vec_len, vec_capacity};
-ghost use Rattle.aig_circuit.specs.declared.node.AigNodeType.TheVariants.{False};
+ghost use Rattle.std.specs.Prelude.{◌≡◌, ◌+◌, ◌<◌, ◌≤◌, ◌^◌, ◌++◌, IfOk, All, length, map, vec_len, vec_capacity};
 ghost use Rattle.aig_circuit.specs.Circuit.{AreNodes};
-ghost use Rattle.aig_circuit.specs.Node.{IfAnd};
-ghost use Rattle.aig_circuit.specs.Renumber.{nodes_in_order, renumbered_edge, renumbered_kind, renumbered_latch};
+ghost use Rattle.aig_circuit.specs.Renumber.{nodes_in_order, renumbered_edge, renumbered_latch};
 ghost use Rattle.aig_circuit.specs.View.{lists_circuit};
-ghost use Rattle.aig_change.specs.Append.{HasRoomForCircuit, IsEdgeBelow, IsLatchBelow};
+ghost use Rattle.aig_renumber.specs.Numbers.{IsEdgeIn, IsLatchIn};
+ghost use Rattle.aig_change.specs.Append.{HasRoomForCircuit};
 ghost use Rattle.aig_change.specs.Merge.{numbers_but_0, shifted};
 
 use aig_base::MemoryError;
-use aig_circuit::{
-    AigEdge, AigLatch, AigNode, AigNodeType, CircuitLists, CircuitView, false_node, gate_node,
-    leaf_node,
-};
+use aig_circuit::{AigEdge, AigLatch, AigNode, CircuitLists, CircuitView};
+use aig_renumber::{Numbering, renumbered_edge, renumbered_latch, renumbered_node};
 use std::alloc::Global;
 
-/// The number of node `n` after `count` nodes.
-fn number(count: usize, n: usize) -> usize
-    requires { count + n < 2 ^ 64 }
-    ensures { result ≡ shifted count n }
-{
-    if n == 0 { 0 } else { n + count - 1 }
+/// The numbers of a circuit's nodes after those of another: 0 stays 0, and the others follow on.
+#[derive(Drop)]
+pub(crate) struct After {
+    /// How many nodes come before.
+    pub(crate) count: usize,
+    /// How many nodes get numbers.
+    pub(crate) size: usize,
+    ghost fits: { count + size < 2 ^ 64 },
 }
 
-/// The edge to the node's number after `count` nodes.
-fn edge(count: usize, size: usize, e: AigEdge) -> AigEdge
-    requires bound { count + size < 2 ^ 64 }
-    requires below { IsEdgeBelow size e }
-    ensures { result ≡ renumbered_edge (shifted count) e }
-{
-    AigEdge::new(number(count, e.node_id()), e.compl())
+impl Numbering for After {
+    ghost has = { λ after n. n < after.size };
+
+    ghost number_of = { λ after. shifted after.count };
+
+    fn number(&self, n: usize) -> usize {
+        if n == 0 { 0 } else { n + self.count - 1 }
+    }
 }
 
 /// Makes room for the entries of the other circuit, but for its sets and names.
@@ -41,98 +41,63 @@ pub(crate) fn reserve(lists: &mut CircuitLists, other: &CircuitView<'_>) -> Resu
     lists.nodes.reserve(other.nodes().len())?;
     lists.inputs.reserve(other.inputs().len())?;
     lists.latchs.reserve(other.latchs().len())?;
-    lists.outputs.reserve(other.outputs().len())?;
-    lists.bads.reserve(other.bads().len())?;
-    lists.constraints.reserve(other.constraints().len())?;
-    lists.fairness.reserve(other.fairness().len())?;
+    lists.properties.reserve(other.properties())?;
     Ok(())
 }
 
 /// Appends inputs, for which there is room.
-pub(crate) fn inputs(all: &mut Vec<usize>, count: usize, size: usize, added: &[usize])
-    requires bound { count + size < 2 ^ 64 }
-    requires below { All (λ n. n < size) added.now }
+pub(crate) fn inputs(all: &mut Vec<usize>, numbers: &After, added: &[usize])
+    requires below { All (λ n. n < numbers.now.size) added.now }
     requires room { vec_len all.old + length added.now ≤ vec_capacity all.old }
-    ensures { all.new.items ≡ all.old.items ++ map (shifted count) added.now }
+    ensures { all.new.items ≡ all.old.items ++ map (shifted numbers.now.count) added.now }
 {
     for input in added {
-        all.push_reserved(number(count, *input));
+        all.push_reserved(numbers.number(*input));
     }
 }
 
 /// Appends edges, for which there is room.
-pub(crate) fn edges(all: &mut Vec<AigEdge>, count: usize, size: usize, added: &[AigEdge])
-    requires bound { count + size < 2 ^ 64 }
-    requires below { All (IsEdgeBelow size) added.now }
+pub(crate) fn edges(all: &mut Vec<AigEdge>, numbers: &After, added: &[AigEdge])
+    requires below { All (IsEdgeIn (λ n. n < numbers.now.size)) added.now }
     requires room { vec_len all.old + length added.now ≤ vec_capacity all.old }
-    ensures { all.new.items ≡ all.old.items ++ map (renumbered_edge (shifted count)) added.now }
+    ensures { all.new.items
+        ≡ all.old.items ++ map (renumbered_edge (shifted numbers.now.count)) added.now }
 {
     for e in added {
-        all.push_reserved(edge(count, size, *e));
+        all.push_reserved(renumbered_edge(numbers, *e));
     }
 }
 
-/// The sets with the edges to the nodes' numbers after `count` nodes.
+/// The sets with the edges under their new numbers.
 pub(crate) fn sets(
     alloc: Global,
-    count: usize,
-    size: usize,
+    numbers: &After,
     old: &[Vec<AigEdge>],
 ) -> Result<Vec<Vec<AigEdge>>, MemoryError>
-    requires bound { count + size < 2 ^ 64 }
-    requires below { All (All (IsEdgeBelow size)) (map (λ set. set.items) old.now) }
+    requires { All (All (IsEdgeIn (λ n. n < numbers.now.size)))
+        (map (λ set. set.items) old.now) }
     ensures { IfOk result (λ new. map (λ set. set.items) new.items
-        ≡ map (map (renumbered_edge (shifted count))) (map (λ set. set.items) old.now)) }
+        ≡ map (map (renumbered_edge (shifted numbers.now.count)))
+        (map (λ set. set.items) old.now)) }
 {
     let mut new = Vec::with_capacity(alloc, old.len())?;
     for set in old {
         let mut moved = Vec::with_capacity(alloc, set.len())?;
-        edges(&mut moved, count, size, set);
+        edges(&mut moved, numbers, set);
         new.push(moved)?;
     }
     Ok(new)
 }
 
-/// The latch with the numbers of its leaf and its edges after `count` nodes.
-fn latch(count: usize, size: usize, old: AigLatch) -> AigLatch
-    requires bound { count + size < 2 ^ 64 }
-    requires below { IsLatchBelow size old }
-    ensures { result ≡ renumbered_latch (shifted count) old }
-{
-    let init = old.init().map(|e| edge(count, size, e));
-    AigLatch::new(
-        number(count, old.input()),
-        edge(count, size, old.next()),
-        init,
-    )
-}
-
 /// Appends latches, for which there is room.
-pub(crate) fn latchs(all: &mut Vec<AigLatch>, count: usize, size: usize, added: &[AigLatch])
-    requires bound { count + size < 2 ^ 64 }
-    requires below { All (IsLatchBelow size) added.now }
+pub(crate) fn latchs(all: &mut Vec<AigLatch>, numbers: &After, added: &[AigLatch])
+    requires below { All (IsLatchIn (λ n. n < numbers.now.size)) added.now }
     requires room { vec_len all.old + length added.now ≤ vec_capacity all.old }
-    ensures { all.new.items ≡ all.old.items ++ map (renumbered_latch (shifted count)) added.now }
+    ensures { all.new.items
+        ≡ all.old.items ++ map (renumbered_latch (shifted numbers.now.count)) added.now }
 {
     for l in added {
-        all.push_reserved(latch(count, size, *l));
-    }
-}
-
-/// The node under the number `id`, with a gate's operands put in order again.
-fn node(count: usize, size: usize, id: usize, old: &AigNode) -> AigNode
-    requires bound { count + size < 2 ^ 64 }
-    requires operands { IfAnd old.now.typ (λ n. n < size) }
-    requires number { old.now.typ ≡ False → id ≡ 0 }
-    ensures { result
-        ≡ record { node_id = id; typ = renumbered_kind (shifted count) (Some old.now.typ) } }
-{
-    match *old.typ() {
-        AigNodeType::And(fanin0, fanin1) => {
-            gate_node(id, edge(count, size, fanin0), edge(count, size, fanin1))
-        }
-        AigNodeType::Leaf => leaf_node(id),
-        AigNodeType::False => false_node(),
+        all.push_reserved(renumbered_latch(numbers, *l));
     }
 }
 
@@ -145,7 +110,11 @@ pub(crate) fn nodes(all: &mut Vec<AigNode>, added: &[AigNode])
         (shifted (length all.old.items)) (length all.old.items) (numbers_but_0 added.now) }
 {
     let count = all.len();
+    let numbers = After {
+        count,
+        size: added.len(),
+    };
     for i in 1..added.len() {
-        all.push_reserved(node(count, added.len(), count + i - 1, &added[i]));
+        all.push_reserved(renumbered_node(&numbers, count + i - 1, &added[i]));
     }
 }

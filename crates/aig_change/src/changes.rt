@@ -7,7 +7,7 @@ ghost use Rattle.aig_circuit.specs.View.{lists_circuit};
 ghost use Rattle.aig_change.specs.Merge.{merged};
 ghost use Rattle.aig_change.specs.Changes.{CompressesBads, ConstrainsInits, FoldsConstraints};
 
-use crate::append;
+use crate::append::{self, After};
 use crate::inits::{constrain_starts, make_plain};
 use crate::joining::{inverses, join_first};
 use aig_base::MemoryError;
@@ -25,18 +25,24 @@ pub fn merge(first: &mut CircuitLists, other: &CircuitView<'_>) -> Result<(), Me
         (λ _. lists_circuit first.new ≡ merged (lists_circuit first.old) other.now) }
     ensures err { OnErr result (lists_circuit first.new ≡ lists_circuit first.old) }
 {
-    let count = first.nodes.len();
-    let size = other.nodes().len();
-    let mut justice = append::sets(other.allocator(), count, size, other.justice())?;
+    let numbers = After {
+        count: first.nodes.len(),
+        size: other.nodes().len(),
+    };
+    let mut justice = append::sets(other.allocator(), &numbers, other.justice())?;
     append::reserve(first, other)?;
-    first.justice.append(&mut justice)?;
+    first.properties.justice.append(&mut justice)?;
     append::nodes(&mut first.nodes, other.nodes());
-    append::inputs(&mut first.inputs, count, size, other.inputs());
-    append::latchs(&mut first.latchs, count, size, other.latchs());
-    append::edges(&mut first.outputs, count, size, other.outputs());
-    append::edges(&mut first.bads, count, size, other.bads());
-    append::edges(&mut first.constraints, count, size, other.constraints());
-    append::edges(&mut first.fairness, count, size, other.fairness());
+    append::inputs(&mut first.inputs, &numbers, other.inputs());
+    append::latchs(&mut first.latchs, &numbers, other.latchs());
+    append::edges(&mut first.properties.outputs, &numbers, other.outputs());
+    append::edges(&mut first.properties.bads, &numbers, other.bads());
+    append::edges(
+        &mut first.properties.constraints,
+        &numbers,
+        other.constraints(),
+    );
+    append::edges(&mut first.properties.fairness, &numbers, other.fairness());
     Ok(())
 }
 
@@ -55,9 +61,9 @@ pub fn aig_move(circuit: &CircuitView<'_>) -> Result<CircuitLists, MemoryError>
     lists
         .latchs
         .push(AigLatch::new(leaf, next, Some(AigEdge::constant(true))))?;
-    join_first(&mut lists.nodes, &mut lists.bads, next)?;
-    join_first(&mut lists.nodes, &mut lists.outputs, next)?;
-    lists.constraints.clear();
+    join_first(&mut lists.nodes, &mut lists.properties.bads, next)?;
+    join_first(&mut lists.nodes, &mut lists.properties.outputs, next)?;
+    lists.properties.constraints.clear();
     Ok(lists)
 }
 
@@ -68,14 +74,14 @@ pub fn compress_property(lists: &mut CircuitLists) -> Result<Vec<AigEdge>, Memor
     ensures circuit { IsCircuit (lists_circuit lists.new) }
     ensures compresses { IfOk result
         (λ _. CompressesBads (lists_circuit lists.old) (lists_circuit lists.new)) }
-    ensures old { IfOk result (λ bads. bads.items ≡ (lists_circuit lists.old).bads) }
+    ensures old { IfOk result (λ bads. bads.items ≡ (lists_circuit lists.old).properties.bads) }
     ensures err { OnErr result (lists_circuit lists.new ≡ lists_circuit lists.old) }
 {
     let alloc = *lists.nodes.allocator();
-    let inverted = inverses(alloc, &lists.bads)?;
+    let inverted = inverses(alloc, &lists.properties.bads)?;
     let mut bads = vec![in alloc; AigEdge::constant(false); 1]?;
     bads[0] = !new_ands_node(&mut lists.nodes, &inverted)?;
-    Ok(mem::replace(&mut lists.bads, bads))
+    Ok(mem::replace(&mut lists.properties.bads, bads))
 }
 
 /// Replaces initial edges that aren't constant by constraints, with a latch more that is true in an initial state and false from then
@@ -94,7 +100,11 @@ pub fn gate_init_to_constraint(lists: &mut CircuitLists) -> Result<(), MemoryErr
         return Ok(());
     }
     lists.latchs.reserve(1)?;
-    let leaf = constrain_starts(&mut lists.nodes, &mut lists.constraints, &lists.latchs)?;
+    let leaf = constrain_starts(
+        &mut lists.nodes,
+        &mut lists.properties.constraints,
+        &lists.latchs,
+    )?;
     make_plain(&mut lists.latchs);
     lists.latchs.push_reserved(AigLatch::new(
         leaf,

@@ -13,6 +13,7 @@ use Rattle.aig_circuit.specs.declared.node.AigLatch.{AigLatch}
 use Rattle.aig_circuit.specs.Node.{kind_at}
 use Rattle.aig_circuit.specs.Circuit.{Circuit, IsCircuit, AreLeaves, AreNodes, IsLeaf, IsInRange, IsLatch, IsFree, latch_leaves, only_false}
 use Rattle.aig_circuit.specs.Build.{Grows, with_node}
+use Rattle.aig_circuit.proofs.Listed.{AllProperties-weaker, AllProperties-none}
 use Rattle.aig_circuit.proofs.Building.{Grows-leaf, Grows-longer, Grows-kept}
 use Rattle.aig_circuit.proofs.Trees.{kind_at-within, kind_at-last}
 
@@ -31,11 +32,7 @@ IsCircuit-over c ys is sound longer leaf =
       latchs = All-weaker (IsLatch c.nodes) (IsLatch ys) (λ l h. record { leaf = leaf l.input h.leaf; next = edge l.next h.next; init = init_grown c.nodes ys l.init longer h.init }) c.latchs is.latchs;
       latchs_distinct = is.latchs_distinct;
       apart = is.apart;
-      outputs = All-weaker (IsInRange c.nodes) (IsInRange ys) edge c.outputs is.outputs;
-      bads = All-weaker (IsInRange c.nodes) (IsInRange ys) edge c.bads is.bads;
-      constraints = All-weaker (IsInRange c.nodes) (IsInRange ys) edge c.constraints is.constraints;
-      justice = All-weaker (All (IsInRange c.nodes)) (All (IsInRange ys)) (λ es h. All-weaker (IsInRange c.nodes) (IsInRange ys) edge es h) c.justice is.justice;
-      fairness = All-weaker (IsInRange c.nodes) (IsInRange ys) edge c.fairness is.fairness;
+      properties = AllProperties-weaker (IsInRange c.nodes) (IsInRange ys) edge c.properties is.properties;
       named = λ n h. omega (arith, is.named n h);
     }
 
@@ -86,11 +83,7 @@ IsCircuit-only_false = record {
   latchs = All-nil (IsLatch only_false.nodes);
   latchs_distinct = λ i j d h l. absurd (omega arith);
   apart = All-nil (λ n. ¬ Contains [] n);
-  outputs = All-nil (IsInRange only_false.nodes);
-  bads = All-nil (IsInRange only_false.nodes);
-  constraints = All-nil (IsInRange only_false.nodes);
-  justice = All-nil (All (IsInRange only_false.nodes));
-  fairness = All-nil (IsInRange only_false.nodes);
+  properties = AllProperties-none (IsInRange only_false.nodes);
   named = λ n h. absurd (nothing_named n h);
 }
   where

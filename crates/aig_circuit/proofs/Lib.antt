@@ -1,6 +1,7 @@
 pub mod Trees
 pub mod Building
 pub mod Joining
+pub mod Listed
 pub mod Circuits
 pub mod Writing
 pub mod Counting

@@ -10,6 +10,7 @@ use Rattle.aig_circuit.specs.declared.node.AigLatch.{AigLatch}
 use Rattle.aig_circuit.specs.Build.{Folds, FoldsOrAdds, true_first, true_second, false_first, false_second, same, opposite}
 use Rattle.aig_circuit.specs.Circuit.{AreNodes, Circuit}
 use Rattle.aig_circuit.specs.Edge.{edge_to}
+use Rattle.aig_circuit.specs.Properties.{no_properties}
 use Rattle.aig_circuit.specs.Reencode.{reencoded}
 
 abbrev node : ℕ → AigNodeType → AigNode
@@ -51,11 +52,7 @@ latch_first = record {
   nodes = node 0 False ∷ node 1 Leaf ∷ node 2 Leaf ∷ [];
   inputs = 2 ∷ [];
   latchs = record { input = 1; next = edge_to 1 false; init = Some (edge_to 2 false) } ∷ [];
-  outputs = [];
-  bads = [];
-  constraints = [];
-  justice = [];
-  fairness = [];
+  properties = no_properties;
   names = empty;
 }
 

@@ -10,6 +10,7 @@ use Rattle.aig_circuit.specs.declared.node.AigNodeType.TheVariants.{False, Leaf}
 use Rattle.aig_circuit.specs.declared.node.AigNode.{AigNode}
 use Rattle.aig_circuit.specs.declared.node.AigLatch.{AigLatch}
 use Rattle.aig_circuit.specs.Node.{kind_at, IsOrdered}
+use Rattle.aig_circuit.specs.Properties.{Properties, AllProperties, no_properties}
 
 -- an And-Inverter Graph with its lists: nodes, inputs, latches, properties, and the names of nodes
 -- by their bytes
@@ -17,11 +18,7 @@ pub record Circuit : Type 0 where
   pub nodes : List AigNode
   pub inputs : List ℕ
   pub latchs : List AigLatch
-  pub outputs : List AigEdge
-  pub bads : List AigEdge
-  pub constraints : List AigEdge
-  pub justice : List (List AigEdge)
-  pub fairness : List AigEdge
+  pub properties : Properties AigEdge
   pub names : FinMap nat_cmp (List ℕ)
 
 -- node n is a leaf
@@ -72,11 +69,7 @@ pub record IsCircuit (c : Circuit) : Type 0 where
   pub latchs : All (IsLatch c.nodes) c.latchs
   pub latchs_distinct : AllPairs (λ m n. m ≢ n) (latch_leaves c.latchs)
   pub apart : All (λ n. ¬ Contains c.inputs n) (latch_leaves c.latchs)
-  pub outputs : All (IsInRange c.nodes) c.outputs
-  pub bads : All (IsInRange c.nodes) c.bads
-  pub constraints : All (IsInRange c.nodes) c.constraints
-  pub justice : All (All (IsInRange c.nodes)) c.justice
-  pub fairness : All (IsInRange c.nodes) c.fairness
+  pub properties : AllProperties (IsInRange c.nodes) c.properties
   pub named : (n : ℕ) → IsTrue (contains_key c.names n) → n < length c.nodes
 
 -- every leaf is an input or a latch's
@@ -99,10 +92,6 @@ only_false = record {
   nodes = record { node_id = 0; typ = False } ∷ [];
   inputs = [];
   latchs = [];
-  outputs = [];
-  bads = [];
-  constraints = [];
-  justice = [];
-  fairness = [];
+  properties = no_properties;
   names = empty;
 }

@@ -7,6 +7,7 @@ use Rattle.std.specs.List.{flat_map}
 use Rattle.aig_circuit.specs.declared.edge.AigEdge.{AigEdge}
 use Rattle.aig_circuit.specs.declared.node.AigLatch.{AigLatch}
 use Rattle.aig_circuit.specs.Circuit.{Circuit}
+use Rattle.aig_circuit.specs.Properties.{entries_of}
 
 -- the nodes of the edges
 abbrev pub nodes_of : List AigEdge → List ℕ
@@ -18,8 +19,7 @@ ReferTo es n = Contains (nodes_of es) n
 
 -- the edges of all properties
 abbrev pub property_edges : Circuit → List AigEdge
-property_edges c =
-    c.outputs ++ c.bads ++ c.constraints ++ flat_map (λ set. set) c.justice ++ c.fairness
+property_edges c = entries_of c.properties
 
 -- a latch's next edge, and its initial edge if it has one
 abbrev pub latch_edges : AigLatch → List AigEdge
@@ -31,9 +31,7 @@ initial_edges latchs = flat_map (λ latch. option_to_list latch.init) latchs
 
 -- all properties, all next and all initial edges
 abbrev pub roots_of : Circuit → List AigEdge
-roots_of c =
-    c.outputs ++ c.bads ++ c.constraints ++ flat_map (λ set. set) c.justice ++ c.fairness
-    ++ flat_map latch_edges c.latchs
+roots_of c = property_edges c ++ flat_map latch_edges c.latchs
 
 -- the latch has an initial edge that isn't constant
 abbrev pub HasNonConstantInit : AigLatch → Type 0

@@ -1,6 +1,7 @@
 pub mod Edge
 pub mod Node
 pub mod Tree
+pub mod Properties
 pub mod Circuit
 pub mod Build
 pub mod Runs

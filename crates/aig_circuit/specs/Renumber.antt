@@ -12,6 +12,7 @@ use Rattle.aig_circuit.specs.declared.node.AigLatch.{AigLatch}
 use Rattle.aig_circuit.specs.Edge.{edge_to}
 use Rattle.aig_circuit.specs.Node.{kind_at, and_of}
 use Rattle.aig_circuit.specs.Circuit.{Circuit}
+use Rattle.aig_circuit.specs.Properties.{map_properties}
 
 -- the place of a number in a list
 abbrev pub position_of : List ℕ → ℕ → ℕ
@@ -55,16 +56,11 @@ renumbered_names number names =
 -- numbers
 abbrev pub renumbered_circuit : (ℕ → ℕ) → List ℕ → Circuit → Circuit
 renumbered_circuit number ns c =
-    let edges = map (renumbered_edge number) in
     record {
       nodes = nodes_in_order c.nodes number 0 ns;
       inputs = map number c.inputs;
       latchs = map (renumbered_latch number) c.latchs;
-      outputs = edges c.outputs;
-      bads = edges c.bads;
-      constraints = edges c.constraints;
-      justice = map edges c.justice;
-      fairness = edges c.fairness;
+      properties = map_properties (renumbered_edge number) c.properties;
       names = renumbered_names number c.names;
     }
 

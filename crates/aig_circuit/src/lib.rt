@@ -11,6 +11,7 @@ pub mod leaves;
 pub mod marks;
 mod node;
 mod prop_list;
+mod properties;
 mod view;
 
 pub use ands::{AndsIter, gates_among};
@@ -18,4 +19,5 @@ pub use edge::{AigEdge, inverts_back, keeps_edges_by_literal, orders_by_literal}
 pub use laws::{further_gates_are_gates, inverses_have_other_values, leaves_fix_values};
 pub use node::{AigLatch, AigNode, AigNodeType, false_node, gate_node, leaf_node};
 pub use prop_list::PropList;
+pub use properties::Properties;
 pub use view::{CircuitLists, CircuitView};

@@ -3,11 +3,12 @@
 ghost use Rattle.std.specs.Prelude.{◌≡◌, IfOk, map};
 ghost use Rattle.aig_circuit.specs.Circuit.{IsCircuit};
 ghost use Rattle.aig_circuit.specs.PropLists.{edges_of};
-ghost use Rattle.aig_circuit.specs.View.{lists_circuit, names_of};
+ghost use Rattle.aig_circuit.specs.View.{lists_circuit, names_of, properties_of};
 
 use crate::edge::AigEdge;
 use crate::node::{AigLatch, AigNode};
 use crate::prop_list::PropList;
+use crate::properties::Properties;
 use aig_base::MemoryError;
 use std::alloc::{AllocError, Global};
 use std::collections::HashMap;
@@ -22,16 +23,8 @@ pub struct CircuitLists {
     pub inputs: Vec<usize>,
     /// The latches.
     pub latchs: Vec<AigLatch>,
-    /// The outputs.
-    pub outputs: Vec<AigEdge>,
-    /// The bad states.
-    pub bads: Vec<AigEdge>,
-    /// The invariant constraints.
-    pub constraints: Vec<AigEdge>,
-    /// The justice properties, a set of edges each.
-    pub justice: Vec<Vec<AigEdge>>,
-    /// The fairness constraints.
-    pub fairness: Vec<AigEdge>,
+    /// The properties.
+    pub properties: Properties<AigEdge>,
     /// The names of nodes, by their numbers.
     pub names: HashMap<usize, String>,
 }
@@ -94,44 +87,52 @@ impl<'a> CircuitView<'a> {
         &self.lists.latchs
     }
 
-    /// The outputs.
-    pub fn outputs(&self) -> &'a [AigEdge]
-        ensures value { result.now ≡ self.now.outputs }
+    /// The properties.
+    pub fn properties(&self) -> &'a Properties<AigEdge>
+        ensures value { properties_of result.now ≡ self.now.properties }
         ensures circuit { IsCircuit self.now }
     {
-        &self.lists.outputs
+        &self.lists.properties
+    }
+
+    /// The outputs.
+    pub fn outputs(&self) -> &'a [AigEdge]
+        ensures value { result.now ≡ self.now.properties.outputs }
+        ensures circuit { IsCircuit self.now }
+    {
+        &self.lists.properties.outputs
     }
 
     /// The bad states.
     pub fn bads(&self) -> &'a [AigEdge]
-        ensures value { result.now ≡ self.now.bads }
+        ensures value { result.now ≡ self.now.properties.bads }
         ensures circuit { IsCircuit self.now }
     {
-        &self.lists.bads
+        &self.lists.properties.bads
     }
 
     /// The invariant constraints.
     pub fn constraints(&self) -> &'a [AigEdge]
-        ensures value { result.now ≡ self.now.constraints }
+        ensures value { result.now ≡ self.now.properties.constraints }
         ensures circuit { IsCircuit self.now }
     {
-        &self.lists.constraints
+        &self.lists.properties.constraints
     }
 
     /// The justice properties, a set of edges each.
     pub fn justice(&self) -> &'a [Vec<AigEdge>]
-        ensures value { map (λ set. set.items) result.now ≡ self.now.justice }
+        ensures value { map (λ set. set.items) result.now ≡ self.now.properties.justice }
         ensures circuit { IsCircuit self.now }
     {
-        &self.lists.justice
+        &self.lists.properties.justice
     }
 
     /// The fairness constraints.
     pub fn fairness(&self) -> &'a [AigEdge]
-        ensures value { result.now ≡ self.now.fairness }
+        ensures value { result.now ≡ self.now.properties.fairness }
         ensures circuit { IsCircuit self.now }
     {
-        &self.lists.fairness
+        &self.lists.properties.fairness
     }
 
     /// The edges of one of the four lists of property edges.
@@ -169,26 +170,10 @@ impl<'a> CircuitView<'a> {
             nodes: Vec::from_slice(alloc, self.nodes())?,
             inputs: Vec::from_slice(alloc, self.inputs())?,
             latchs: Vec::from_slice(alloc, self.latchs())?,
-            outputs: Vec::from_slice(alloc, self.outputs())?,
-            bads: Vec::from_slice(alloc, self.bads())?,
-            constraints: Vec::from_slice(alloc, self.constraints())?,
-            justice: copied_sets(alloc, self.justice())?,
-            fairness: Vec::from_slice(alloc, self.fairness())?,
+            properties: self.lists.properties.copied(alloc)?,
             names: copied_names(self.names())?,
         })
     }
-}
-
-/// A copy of the sets.
-fn copied_sets(alloc: Global, old: &[Vec<AigEdge>]) -> Result<Vec<Vec<AigEdge>>, MemoryError>
-    ensures { IfOk result (λ new.
-        map (λ set. set.items) new.items ≡ map (λ set. set.items) old.now) }
-{
-    let mut new = Vec::with_capacity(alloc, old.len())?;
-    for set in old {
-        new.push(Vec::from_slice(alloc, set)?)?;
-    }
-    Ok(new)
 }
 
 /// A copy of the names.

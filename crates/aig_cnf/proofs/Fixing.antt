@@ -1,8 +1,8 @@
 -- What the clauses of a circuit say together.
-use Rattle.std.proofs.Common.{◌≡◌, ℕ, ◌<◌, Bool, true, false, not, ◌&&◌, ◌||◌, Some, List, [], ◌∷◌, ◌++◌, get_or, IsTrue, cond, refl, sym, ap, subst, ◌∙◌, arith, inl, inr}
+use Rattle.std.proofs.Common.{◌≡◌, ℕ, ◌<◌, Bool, true, false, not, ◌&&◌, ◌||◌, Some, List, [], ◌∷◌, get_or, IsTrue, cond, refl, sym, ap, subst, ◌∙◌, arith, inl, inr}
 use Rattle.std.specs.Prelude.{All, option_to_list, slice_get}
 use Rattle.std.specs.List.{flat_map}
-use Rattle.std.proofs.lemmas.List.Elements.{All-cons, All-head, All-map, All-nil, All-tail, All-weaker}
+use Rattle.std.proofs.lemmas.List.Elements.{All-head, All-map, All-tail, All-weaker}
 use Rattle.std.proofs.lemmas.Bool.{cases_eq, not-true}
 use Rattle.std.proofs.lemmas.Option.{slice_get-get_or, slice_get_within, get_or_from_slice_get}
 use Rattle.aig_base.specs.declared.logic.literal.Lit.{Lit}
@@ -17,21 +17,17 @@ use Rattle.aig_circuit.specs.Edge.{inverted_if}
 use Rattle.aig_circuit.specs.Node.{kind_at}
 use Rattle.aig_circuit.specs.Tree.{node_value, edge_value}
 use Rattle.aig_circuit.specs.Circuit.{Circuit, IsCircuit}
-use Rattle.aig_circuit.proofs.Lists.{All-first, All-second}
+use Rattle.aig_circuit.proofs.Listed.{AllProperties-entries_of}
+use Rattle.aig_circuit.proofs.Lists.{All-first, All-flat_map, All-from_flat_map, All-second}
 use Rattle.aig_circuit.proofs.Trees.{by_smaller, kind_at-there, node_value-false, node_value-leaf}
 use Rattle.aig_cnf.specs.declared.form.Form.{Form}
 use Rattle.aig_cnf.specs.declared.form.Form.TheVariants.{AndOf, XorOf, IteOf}
 use Rattle.aig_cnf.specs.Cnf.{edge_in, form_value, clauses_of, HasForm, plain, xor, ite, other, IsXor, IsIte, NeedsClauses, edges_of_form, HasClauses, IsFixed, FixesRoots, NodeValuesSatisfy}
-use Rattle.aig_circuit.specs.Edges.{ReferTo, latch_edges, roots_of}
+use Rattle.aig_circuit.specs.Edges.{ReferTo, latch_edges, property_edges, roots_of}
 use Rattle.aig_circuit.specs.Reach.{root, step}
 use Rattle.aig_circuit.proofs.Marking.{each_named}
 use Rattle.aig_cnf.proofs.Forms.{clauses-say, node_value-HasForm}
-use Rattle.aig_cnf.proofs.Needing.{All-flat_map, named_below, needed_within, roots_in_range}
-
--- what holds of all of the lists together holds of all of each
-All-from_flat_map : {X Y : Type 0} (P : Y → Type 0) (f : X → List Y) (xs : List X) → All P (flat_map f xs) → All (λ x. All P (f x)) xs
-All-from_flat_map P f [] h = All-nil (λ x. All P (f x))
-All-from_flat_map P f (x ∷ xs) h = All-cons (λ y. All P (f y)) x xs (All-first P (f x) (flat_map f xs) h) (All-from_flat_map P f xs (All-second P (f x) (flat_map f xs) h))
+use Rattle.aig_cnf.proofs.Needing.{named_below, needed_within, roots_in_range}
 
 -- two truth values are the same where that is not refuted
 stable : (a b : Bool) → ¬ ¬ (a ≡ b) → a ≡ b
@@ -114,20 +110,10 @@ roots_fixed c optimize lists is has k d h v sat =
 FixesRoots-roots : (c : Circuit) (lists : List (List (List Lit))) → All (IsFixed c lists) (roots_of c) → FixesRoots c lists
 FixesRoots-roots c lists all =
     let P = IsFixed c lists in
-    let to_constraints = c.outputs ++ c.bads ++ c.constraints in
-    let sets = flat_map (λ (set : List AigEdge). set) c.justice in
     let latches = flat_map latch_edges c.latchs in
-    let to_fairness : All P (to_constraints ++ sets ++ c.fairness) = All-first P (to_constraints ++ sets ++ c.fairness) latches all in
-    let to_justice : All P (to_constraints ++ sets) = All-first P (to_constraints ++ sets) c.fairness to_fairness in
-    let first : All P to_constraints = All-first P to_constraints sets to_justice in
-    let both : All P (c.outputs ++ c.bads) = All-first P (c.outputs ++ c.bads) c.constraints first in
-    let each : All (λ latch. All P (latch_edges latch)) c.latchs = All-from_flat_map P latch_edges c.latchs (All-second P (to_constraints ++ sets ++ c.fairness) latches all) in
+    let each : All (λ latch. All P (latch_edges latch)) c.latchs = All-from_flat_map P latch_edges c.latchs (All-second P (property_edges c) latches all) in
     record {
-      outputs = All-first P c.outputs c.bads both;
-      bads = All-second P c.outputs c.bads both;
-      constraints = All-second P (c.outputs ++ c.bads) c.constraints first;
-      justice = All-from_flat_map P (λ (set : List AigEdge). set) c.justice (All-second P to_constraints sets to_justice);
-      fairness = All-second P (to_constraints ++ sets) c.fairness to_fairness;
+      properties = AllProperties-entries_of P c.properties (All-first P (property_edges c) latches all);
       next = All-map P (λ (latch : AigLatch). latch.next) c.latchs (All-weaker (λ latch. All P (latch_edges latch)) (λ latch. P latch.next) (λ latch h. All-head P latch.next (option_to_list latch.init) h) c.latchs each);
       initial = All-flat_map P (λ (latch : AigLatch). option_to_list latch.init) c.latchs (All-weaker (λ latch. All P (latch_edges latch)) (λ latch. All P (option_to_list latch.init)) (λ latch h. All-tail P latch.next (option_to_list latch.init) h) c.latchs each);
     }

@@ -1,10 +1,10 @@
 -- What the forms of gates name: nodes below them.
-use Rattle.std.proofs.Common.{◌≡◌, ℕ, ◌<◌, Bool, Some, None, Option, List, [], ◌∷◌, ◌++◌, length, map, subst, arith}
+use Rattle.std.proofs.Common.{◌≡◌, ℕ, ◌<◌, Bool, Some, None, Option, List, [], ◌∷◌, length, map, subst, arith}
 use Rattle.std.specs.Prelude.{All, IfSome, Vec, option_to_list}
 use Rattle.std.specs.declared.alloc.Global.{Global}
 use Rattle.std.specs.List.{flat_map}
 use Rattle.std.proofs.lemmas.List.{get_or-map, length-map}
-use Rattle.std.proofs.lemmas.List.Elements.{All-nil, All-cons, All-head, All-tail, All-append, All-weaker}
+use Rattle.std.proofs.lemmas.List.Elements.{All-nil, All-cons, All-append, All-weaker}
 use Rattle.aig_circuit.specs.declared.edge.AigEdge.{AigEdge}
 use Rattle.aig_circuit.specs.declared.node.AigNodeType.TheVariants.{And}
 use Rattle.aig_circuit.specs.declared.node.AigNode.{AigNode}
@@ -14,8 +14,10 @@ use Rattle.aig_circuit.specs.declared.node.AigLatch.{AigLatch}
 use Rattle.aig_circuit.specs.Circuit.{Circuit, IsCircuit, IsInRange, IsLatch}
 use Rattle.aig_cnf.specs.declared.form.Form.{Form}
 use Rattle.aig_cnf.specs.Cnf.{HasForm, plain, xor, ite, other, Chooses, by_0_0, by_0_1, by_1_0, by_1_1, FormNames, NeedsClauses, edges_of_form}
-use Rattle.aig_circuit.specs.Edges.{latch_edges, roots_of}
+use Rattle.aig_circuit.specs.Edges.{latch_edges, property_edges, roots_of}
 use Rattle.aig_circuit.specs.Reach.{root, step}
+use Rattle.aig_circuit.proofs.Listed.{All-entries_of}
+use Rattle.aig_circuit.proofs.Lists.{All-flat_map}
 use Rattle.aig_circuit.proofs.Marking.{named_has}
 
 -- the edge's node is below n
@@ -71,10 +73,6 @@ needed_within nodes o optimize roots all n (step {n = g} needed calls) =
     let below = named_below nodes o optimize g n calls in
     omega (arith, above, below)
 
-pub All-flat_map : {X Y : Type 0} (P : Y → Type 0) (f : X → List Y) (xs : List X) → All (λ x. All P (f x)) xs → All P (flat_map f xs)
-All-flat_map P f [] h = All-nil P
-All-flat_map P f (x ∷ xs) h = All-append P (f x) (flat_map f xs) (All-head (λ y. All P (f y)) x xs h) (All-flat_map P f xs (All-tail (λ y. All P (f y)) x xs h))
-
 option_in_range : (nodes : List AigNode) (o : Option AigEdge) → IfSome o (IsInRange nodes) → All (IsInRange nodes) (option_to_list o)
 option_in_range nodes (Some e) h = All-cons (IsInRange nodes) e [] h (All-nil (IsInRange nodes))
 option_in_range nodes None h = All-nil (IsInRange nodes)
@@ -95,14 +93,6 @@ latches_in_range nodes latchs all =
 -- every root names a node that is there
 pub roots_in_range : (c : Circuit) → IsCircuit c → All (IsInRange c.nodes) (roots_of c)
 roots_in_range c is =
-    let there = IsInRange c.nodes in
-    let sets = All-flat_map there (λ (set : List AigEdge). set) c.justice is.justice in
-    let latchs = All-flat_map there latch_edges c.latchs (latches_in_range c.nodes c.latchs is.latchs) in
-    let justice = c.outputs ++ c.bads ++ c.constraints in
-    All-append there (justice ++ flat_map (λ set. set) c.justice ++ c.fairness) (flat_map latch_edges c.latchs)
-    (All-append there (justice ++ flat_map (λ set. set) c.justice) c.fairness
-    (All-append there justice (flat_map (λ set. set) c.justice)
-    (All-append there (c.outputs ++ c.bads) c.constraints (All-append there c.outputs c.bads is.outputs is.bads) is.constraints)
-    sets)
-    is.fairness)
-    latchs
+    All-append (IsInRange c.nodes) (property_edges c) (flat_map latch_edges c.latchs)
+    (All-entries_of (IsInRange c.nodes) c.properties is.properties)
+    (All-flat_map (IsInRange c.nodes) latch_edges c.latchs (latches_in_range c.nodes c.latchs is.latchs))

@@ -12,6 +12,7 @@ use Rattle.aig_circuit.specs.declared.node.AigNodeType.TheVariants.{False, Leaf,
 use Rattle.aig_circuit.specs.declared.node.AigNode.{AigNode}
 use Rattle.aig_circuit.specs.declared.node.AigLatch.{AigLatch}
 use Rattle.aig_circuit.specs.Circuit.{Circuit}
+use Rattle.aig_circuit.specs.Properties.{no_properties}
 use Rattle.aig_circuit.specs.Edge.{edge_to}
 use Rattle.aig_circuit.specs.Edges.{nodes_of, roots_of}
 use Rattle.aig_circuit.specs.Reach.{IsReached, root}
@@ -28,7 +29,7 @@ and_of a i b j = And (edge_to a i) (edge_to b j)
 -- false, the leaves 1 and 2, and these nodes, with these latches, outputs and bads
 abbrev over_two : List AigNode → List AigLatch → List AigEdge → List AigEdge → Circuit
 over_two nodes latchs outputs bads =
-    record { nodes = node 0 False ∷ node 1 Leaf ∷ node 2 Leaf ∷ nodes; inputs = []; latchs = latchs; outputs = outputs; bads = bads; constraints = []; justice = []; fairness = []; names = empty }
+    record { nodes = node 0 False ∷ node 1 Leaf ∷ node 2 Leaf ∷ nodes; inputs = []; latchs = latchs; properties = record no_properties { outputs = outputs; bads = bads }; names = empty }
 
 -- node 0 is false
 abbrev zero_false : List (List Lit)
@@ -42,7 +43,7 @@ only_three n = n == 3
 -- the output and(1,2) may be true where 1 and 2 are false
 no_clauses : ¬ FixesRoots (over_two (node 3 (and_of 1 false 2 false) ∷ []) [] (edge_to 3 false ∷ []) []) (zero_false ∷ [] ∷ [] ∷ [] ∷ [])
 unfolding node_value tree_of literal_value
-no_clauses f = false≢true (sym (f.outputs 0 (edge_to 0 false) (omega arith) only_three satisfied))
+no_clauses f = false≢true (sym (f.properties.outputs 0 (edge_to 0 false) (omega arith) only_three satisfied))
   where
     satisfied : Satisfies only_three (zero_false ∷ [] ∷ [] ∷ [] ∷ [])
     satisfied = All-from_recursion (λ clauses. IsTrue (are_true only_three clauses)) (zero_false ∷ [] ∷ [] ∷ [] ∷ []) (refl, (refl, (refl, (refl, tt))))
@@ -53,7 +54,7 @@ all_true n = true
 -- without the unit clause of node 0 the output true may be false
 no_clause_of_zero : ¬ FixesRoots (over_two [] [] (edge_to 0 true ∷ []) []) ([] ∷ [] ∷ [] ∷ [])
 unfolding node_value tree_of
-no_clause_of_zero f = false≢true (f.outputs 0 (edge_to 0 false) (omega arith) all_true satisfied)
+no_clause_of_zero f = false≢true (f.properties.outputs 0 (edge_to 0 false) (omega arith) all_true satisfied)
   where
     satisfied : Satisfies all_true ([] ∷ [] ∷ [] ∷ [])
     satisfied = All-from_recursion (λ clauses. IsTrue (are_true all_true clauses)) ([] ∷ [] ∷ [] ∷ []) (refl, (refl, (refl, tt)))
@@ -85,7 +86,7 @@ one_two_six n = if n == 1 then true else (if n == 2 then true else n == 6)
 -- with its branches exchanged it may be true where 1 and 2 are
 exchanged_branches : ¬ FixesRoots choice exchanged
 unfolding node_value tree_of literal_value
-exchanged_branches f = false≢true (sym (f.outputs 0 (edge_to 0 false) (omega arith) one_two_six satisfied))
+exchanged_branches f = false≢true (sym (f.properties.outputs 0 (edge_to 0 false) (omega arith) one_two_six satisfied))
   where
     satisfied : Satisfies one_two_six exchanged
     satisfied = All-from_recursion (λ clauses. IsTrue (are_true one_two_six clauses)) exchanged (refl, (refl, (refl, (refl, (refl, (refl, (refl, tt)))))))

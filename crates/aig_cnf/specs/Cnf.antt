@@ -11,6 +11,7 @@ use Rattle.aig_circuit.specs.Edge.{inverse, inverted_if, lit_of}
 use Rattle.aig_circuit.specs.Node.{kind_at}
 use Rattle.aig_circuit.specs.Tree.{node_value, edge_value}
 use Rattle.aig_circuit.specs.Circuit.{Circuit}
+use Rattle.aig_circuit.specs.Properties.{AllProperties}
 use Rattle.aig_circuit.specs.Edges.{ReferTo, initial_edges, nodes_of, roots_of}
 use Rattle.aig_circuit.specs.Reach.{IsReached}
 use Rattle.aig_circuit.specs.Runs.{next_edges}
@@ -115,11 +116,7 @@ IsFixed c lists e = (v : ℕ → Bool) → Satisfies v lists → edge_in v e ≡
 
 -- the clauses fix the edges of every list
 pub record FixesRoots (c : Circuit) (lists : List (List (List Lit))) : Type 0 where
-  pub outputs : All (IsFixed c lists) c.outputs
-  pub bads : All (IsFixed c lists) c.bads
-  pub constraints : All (IsFixed c lists) c.constraints
-  pub justice : All (All (IsFixed c lists)) c.justice
-  pub fairness : All (IsFixed c lists) c.fairness
+  pub properties : AllProperties (IsFixed c lists) c.properties
   pub next : All (IsFixed c lists) (next_edges c.latchs)
   pub initial : All (IsFixed c lists) (initial_edges c.latchs)
 

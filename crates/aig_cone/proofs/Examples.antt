@@ -12,7 +12,9 @@ use Rattle.aig_circuit.specs.declared.node.AigLatch.{AigLatch}
 use Rattle.aig_circuit.specs.Edge.{edge_to}
 use Rattle.aig_circuit.specs.Node.{kind_at}
 use Rattle.aig_circuit.specs.Circuit.{AreNodes, Circuit, IsCircuit, IsInRange, IsLeaf}
+use Rattle.aig_circuit.specs.Properties.{no_properties}
 use Rattle.aig_circuit.specs.Reach.{DependsOn, IsInCone, IsFanin, IsReached, root, step}
+use Rattle.aig_circuit.proofs.Listed.{AllProperties-entries_of}
 use Rattle.aig_cone.specs.Refine.{AreKept, refined, refining_roots}
 use Rattle.aig_cone.proofs.Keeping.{reached_within}
 
@@ -22,7 +24,7 @@ node n kind = record { node_id = n; typ = kind }
 -- a circuit of these nodes, inputs, latches and outputs
 abbrev circuit_with : List AigNode → List ℕ → List AigLatch → List AigEdge → Circuit
 circuit_with nodes inputs latchs outputs =
-    record { nodes = nodes; inputs = inputs; latchs = latchs; outputs = outputs; bads = []; constraints = []; justice = []; fairness = []; names = empty }
+    record { nodes = nodes; inputs = inputs; latchs = latchs; properties = record no_properties { outputs = outputs }; names = empty }
 
 abbrev two_leaves : List AigNode
 two_leaves = node 0 False ∷ node 1 Leaf ∷ node 2 Leaf ∷ []
@@ -40,7 +42,7 @@ one_of_two-nodes = refl
 one_of_two-inputs : (refined (0 ∷ 2 ∷ []) one_of_two).inputs ≡ 1 ∷ []
 one_of_two-inputs = refl
 
-one_of_two-outputs : (refined (0 ∷ 2 ∷ []) one_of_two).outputs ≡ edge_to 1 false ∷ []
+one_of_two-outputs : (refined (0 ∷ 2 ∷ []) one_of_two).properties.outputs ≡ edge_to 1 false ∷ []
 one_of_two-outputs = refl
 
 -- input 1, latch 2 with next 2 and initial edge 1: the initial edge's node is a root
@@ -167,11 +169,7 @@ one_of_two-circuit = record {
   latchs = λ k d h. absurd (omega arith);
   latchs_distinct = λ i j d lt h. absurd (omega arith);
   apart = λ k d h. absurd (omega arith);
-  outputs = outputs;
-  bads = λ k d h. absurd (omega arith);
-  constraints = λ k d h. absurd (omega arith);
-  justice = λ k d h. absurd (omega arith);
-  fairness = λ k d h. absurd (omega arith);
+  properties = AllProperties-entries_of (IsInRange two_leaves) one_of_two.properties outputs;
   named = λ n named. absurd (false≢true (sym (ap is_some (get-empty nat_cmp n)) ∙ named));
 }
   where

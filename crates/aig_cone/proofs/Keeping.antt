@@ -12,9 +12,10 @@ use Rattle.aig_circuit.specs.declared.node.AigLatch.{AigLatch}
 use Rattle.aig_circuit.specs.Node.{kind_at}
 use Rattle.aig_circuit.specs.Circuit.{Circuit, IsCircuit, IsInRange, IsLatch, latch_leaves}
 use Rattle.aig_circuit.specs.Renumber.{position_of}
+use Rattle.aig_circuit.proofs.Listed.{All-entries_of}
 use Rattle.aig_circuit.proofs.Trees.{kind_at-within}
 use Rattle.aig_renumber.specs.Numbers.{IsEdgeIn, IsLatchIn}
-use Rattle.aig_renumber.proofs.Numbering.{Numbers}
+use Rattle.aig_renumber.proofs.NodesInOrder.{Numbers}
 use Rattle.aig_renumber.proofs.Places.{Contains-map, get_or-position_of, position_of-within, places-rise, rising-place, rising_from}
 use Rattle.aig_circuit.specs.Reach.{DependsOn, IsInCone, IsReached, root, step}
 use Rattle.aig_circuit.specs.Marks.{IsMarked}
@@ -58,14 +59,6 @@ module _ (c : Circuit) (is : IsCircuit c) where
   along n m h (inl (a, b, kind, inr to)) = let low = is.nodes.ordered.second_before n a b kind in omega arith
   along n m h (inr (latch, has, from, to)) = let there = (latch_at latch has).next in omega arith
 
-  sets_within : (sets : List (List AigEdge)) → All (All (IsInRange c.nodes)) sets → AllByRecursion (IsInRange c.nodes) (flat_map (λ set. set) sets)
-  sets_within [] all = tt
-  sets_within (es ∷ sets) all = both es (flat_map (λ set. set) sets) (recursion_from_All (IsInRange c.nodes) es (all 0 es (omega arith))) (sets_within sets (λ k d h. all (suc k) d (omega arith)))
-    where
-      both : (es fs : List AigEdge) → AllByRecursion (IsInRange c.nodes) es → AllByRecursion (IsInRange c.nodes) fs → AllByRecursion (IsInRange c.nodes) (es ++ fs)
-      both [] fs p q = q
-      both (e ∷ es) fs p q = (p.0, both es fs p.1 q)
-
   starts_within : (ls : List AigLatch) → All (IsLatch c.nodes) ls → AllByRecursion Within (flat_map (λ (e : AigEdge). cond (e.node_id == 0) [] (e.node_id ∷ [])) (initial_edges ls))
   starts_within [] all = tt
   starts_within (l ∷ ls) all = at l.init (all 0 l (omega arith)).init (starts_within ls (λ k d h. all (suc k) d (omega arith)))
@@ -81,11 +74,7 @@ module _ (c : Circuit) (is : IsCircuit c) where
 
   pub roots_within : (n : ℕ) → Contains (refining_roots c) n → Within n
   roots_within n has =
-      let edges : All (IsInRange c.nodes) (property_edges c) =
-      All-append (IsInRange c.nodes) (c.outputs ++ c.bads ++ c.constraints ++ flat_map (λ set. set) c.justice) c.fairness
-      (All-append (IsInRange c.nodes) (c.outputs ++ c.bads ++ c.constraints) (flat_map (λ set. set) c.justice)
-      (All-append (IsInRange c.nodes) (c.outputs ++ c.bads) c.constraints (All-append (IsInRange c.nodes) c.outputs c.bads is.outputs is.bads) is.constraints)
-      (All-from_recursion (IsInRange c.nodes) _ (sets_within c.justice is.justice))) is.fairness in
+      let edges = All-entries_of (IsInRange c.nodes) c.properties is.properties in
       let leaves : All Within (latch_leaves c.latchs) = All-map Within (λ (latch : AigLatch). latch.input) c.latchs (All-weaker (IsLatch c.nodes) (λ latch. Within latch.input) (λ latch h. kind_at-within c.nodes latch.input Leaf h.leaf) c.latchs is.latchs) in
       All-contains Within (refining_roots c) n
       (All-append Within ((properties c) ++ latch_leaves c.latchs) (starts c) (All-append Within (properties c) (latch_leaves c.latchs) (All-map Within (λ (e : AigEdge). e.node_id) (property_edges c) edges) leaves)
@@ -186,8 +175,8 @@ module _ (c : Circuit) (kept : List ℕ) (is : IsCircuit c) (are : AreKept c kep
           absurd (omega (arith, back 0 S-0))
 
 -- list after list the roots are appended
-pub refining_roots-pushed : (c : Circuit) (r0 r1 r2 r3 r4 r5 r6 r7 : List ℕ) → r0 ≡ [] → r1 ≡ r0 ++ map (λ (e : AigEdge). e.node_id) c.outputs → r2 ≡ r1 ++ map (λ (e : AigEdge). e.node_id) c.bads → r3 ≡ r2 ++ map (λ (e : AigEdge). e.node_id) c.constraints
-    → r4 ≡ r3 ++ map (λ (e : AigEdge). e.node_id) (flat_map (λ set. set) c.justice) → r5 ≡ r4 ++ map (λ (e : AigEdge). e.node_id) c.fairness → r6 ≡ r5 ++ latch_leaves c.latchs → r7 ≡ r6 ++ variable_nodes (initial_edges c.latchs) → r7 ≡ refining_roots c
+pub refining_roots-pushed : (c : Circuit) (r0 r1 r2 r3 r4 r5 r6 r7 : List ℕ) → r0 ≡ [] → r1 ≡ r0 ++ map (λ (e : AigEdge). e.node_id) c.properties.outputs → r2 ≡ r1 ++ map (λ (e : AigEdge). e.node_id) c.properties.bads → r3 ≡ r2 ++ map (λ (e : AigEdge). e.node_id) c.properties.constraints
+    → r4 ≡ r3 ++ map (λ (e : AigEdge). e.node_id) (flat_map (λ set. set) c.properties.justice) → r5 ≡ r4 ++ map (λ (e : AigEdge). e.node_id) c.properties.fairness → r6 ≡ r5 ++ latch_leaves c.latchs → r7 ≡ r6 ++ variable_nodes (initial_edges c.latchs) → r7 ≡ refining_roots c
 refining_roots-pushed c r0 r1 r2 r3 r4 r5 r6 r7 e0 e1 e2 e3 e4 e5 e6 e7 = rw (e7, e6, e5, e4, e3, e2, e1, e0) (simp map-append)
 
 -- the marked numbers of the cone are what is kept

@@ -1,7 +1,6 @@
 -- The refined circuit is a circuit, and its runs are the old ones, cut to the kept leaves.
-use Rattle.std.proofs.Common.{◌≡◌, ◌≢◌, ℕ, zero, suc, ◌+◌, ◌<◌, Bool, true, false, cond, Option, Some, None, List, [], ◌∷◌, ◌++◌, length, map, get_or, refl, sym, ap, subst, ◌∙◌, arith, IsTrue}
+use Rattle.std.proofs.Common.{◌≡◌, ◌≢◌, ℕ, ◌+◌, ◌<◌, Bool, true, false, cond, Option, Some, None, List, length, map, get_or, refl, sym, ap, subst, ◌∙◌, IsTrue}
 use Rattle.std.specs.Prelude.{All, Contains, IfSome, is_some, option_map, slice_index}
-use Rattle.std.specs.List.{flat_map}
 use Rattle.std.specs.FinMap.{contains_key, get, get-retain_keys}
 use Rattle.std.proofs.lemmas.Bool.{false≢true}
 use Rattle.std.proofs.lemmas.Map.Lookups.{exact_unsigned}
@@ -15,13 +14,14 @@ use Rattle.aig_circuit.specs.Tree.{edge_value}
 use Rattle.aig_circuit.specs.Circuit.{Circuit, IsCircuit, IsLeaf, latch_leaves}
 use Rattle.aig_circuit.specs.Runs.{HaveSameValues, next_edges}
 use Rattle.aig_circuit.specs.Renumber.{nodes_in_order, position_of, renumbered_edge, renumbered_latch}
-use Rattle.aig_circuit.proofs.Lists.{All-first, All-second}
+use Rattle.aig_circuit.proofs.Listed.{AllProperties-entries_of, AllProperties-weaker, AreProperties-map}
+use Rattle.aig_circuit.proofs.Lists.{All-from_map, AllZip-map}
 use Rattle.aig_circuit.proofs.Trees.{kind_at-within}
 use Rattle.aig_renumber.specs.Numbers.{IsEdgeIn, IsLatchIn, SpeaksOf}
 use Rattle.aig_renumber.proofs.Kept.{is_in-back}
 use Rattle.aig_renumber.proofs.Circuits.{IsCircuit-renumbered, initial_edges-map, next_edges-map, runs-renumbered}
-use Rattle.aig_renumber.proofs.Numbering.{IsOrdered-made, Merges, Merges-numbers, Renumbers-made, length-nodes_in_order}
-use Rattle.aig_renumber.proofs.Places.{All-from_map, AllZip-map, filter-back}
+use Rattle.aig_renumber.proofs.NodesInOrder.{IsOrdered-made, Merges, Merges-numbers, Renumbers-made, length-nodes_in_order}
+use Rattle.aig_renumber.proofs.Places.{filter-back}
 use Rattle.aig_circuit.proofs.Values.{edge_value-renumbered}
 use Rattle.aig_cone.specs.Refine.{AreKept, CutsRuns, cut_to, refined}
 use Rattle.aig_circuit.specs.Renumber.{is_in, only_kept}
@@ -56,37 +56,18 @@ module _ (c : Circuit) (kept : List ℕ) (is : IsCircuit c) (are : AreKept c kep
     latchs = is.latchs;
     latchs_distinct = is.latchs_distinct;
     apart = All-weaker (λ n. ¬ Contains c.inputs n) (λ n. ¬ Contains cut.inputs n) (λ n none has. none (filter-back (is_in kept) c.inputs n has).0) (latch_leaves c.latchs) is.apart;
-    outputs = is.outputs;
-    bads = is.bads;
-    constraints = is.constraints;
-    justice = is.justice;
-    fairness = is.fairness;
+    properties = is.properties;
     named = λ n has. is.named n (keys_kept n has).1;
   }
 
   -- its lists speak of kept nodes alone
   pub speaks : SpeaksOf In cut
-  speaks =
-      let sets = flat_map (λ (set : List AigEdge). set) c.justice in
-      let all = S-properties c kept is are in
-      let to_justice = All-first (IsEdgeIn In) (c.outputs ++ c.bads ++ c.constraints ++ sets) c.fairness all in
-      let to_constraints = All-first (IsEdgeIn In) (c.outputs ++ c.bads ++ c.constraints) sets to_justice in
-      let to_bads = All-first (IsEdgeIn In) (c.outputs ++ c.bads) c.constraints to_constraints in
-      record {
-        inputs = All-weaker (λ n. is_in kept n ≡ true) In (λ n h. is_in-back kept n h) cut.inputs (filter_passes (is_in kept) c.inputs);
-        latchs = S-latchs c kept is are;
-        outputs = All-first (IsEdgeIn In) c.outputs c.bads to_bads;
-        bads = All-second (IsEdgeIn In) c.outputs c.bads to_bads;
-        constraints = All-second (IsEdgeIn In) (c.outputs ++ c.bads) c.constraints to_constraints;
-        justice = split_sets c.justice (All-second (IsEdgeIn In) (c.outputs ++ c.bads ++ c.constraints) sets to_justice);
-        fairness = All-second (IsEdgeIn In) (c.outputs ++ c.bads ++ c.constraints ++ sets) c.fairness all;
-        named = λ n has. is_in-back kept n (keys_kept n has).0;
-      }
-    where
-      split_sets : (sets : List (List AigEdge)) → All (IsEdgeIn In) (flat_map (λ (set : List AigEdge). set) sets) → All (All (IsEdgeIn In)) sets
-      split_sets [] all k d h = absurd (omega arith)
-      split_sets (es ∷ sets) all zero d h = All-first (IsEdgeIn In) es (flat_map (λ (set : List AigEdge). set) sets) all
-      split_sets (es ∷ sets) all (suc k) d h = split_sets sets (All-second (IsEdgeIn In) es (flat_map (λ (set : List AigEdge). set) sets) all) k d (omega arith)
+  speaks = record {
+    inputs = All-weaker (λ n. is_in kept n ≡ true) In (λ n h. is_in-back kept n h) cut.inputs (filter_passes (is_in kept) c.inputs);
+    latchs = S-latchs c kept is are;
+    properties = AllProperties-entries_of (IsEdgeIn In) c.properties (S-properties c kept is are);
+    named = λ n has. is_in-back kept n (keys_kept n has).0;
+  }
 
   merges : Merges c.nodes In kept number
   merges = Merges-numbers c.nodes In kept number (Numbers-kept c kept is are)
@@ -140,13 +121,9 @@ module _ (c : Circuit) (kept : List ℕ) (is : IsCircuit c) (are : AreKept c kep
           let s = speaks.latchs k d l in
           start_back x (get_or c.latchs k d).input (get_or c.latchs k d).init s.leaf s.init (start k d l)),
     );
-    properties = λ x. record {
-      outputs = values x c.outputs speaks.outputs;
-      bads = values x c.bads speaks.bads;
-      constraints = values x c.constraints speaks.constraints;
-      justice = AllZip-map (map (renumbered_edge number)) (λ es fs. HaveSameValues c.nodes x es new (cut_to kept x) fs) c.justice (λ k d h. values x (get_or c.justice k d) (speaks.justice k d h));
-      fairness = values x c.fairness speaks.fairness;
-    };
+    properties = λ x.
+        let R : AigEdge → AigEdge → Type 0 = λ e f. edge_value c.nodes x e ≡ edge_value new (cut_to kept x) f in
+        AreProperties-map (renumbered_edge number) R c.properties (AllProperties-weaker (IsEdgeIn In) (λ e. R e (renumbered_edge number e)) (λ e h. sym (value x e h)) c.properties speaks.properties);
     next = λ x. subst (HaveSameValues c.nodes x (next_edges c.latchs) new (cut_to kept x)) (sym (next_edges-map number c.latchs))
         (values x (next_edges c.latchs) (All-map (IsEdgeIn In) (λ (l : AigLatch). l.next) c.latchs (All-weaker (IsLatchIn In) (λ l. IsEdgeIn In l.next) (λ l h. h.next) c.latchs speaks.latchs)));
     initial = λ x. subst (HaveSameValues c.nodes x (initial_edges c.latchs) new (cut_to kept x)) (sym (initial_edges-map number c.latchs))

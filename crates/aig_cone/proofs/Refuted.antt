@@ -9,6 +9,7 @@ use Rattle.aig_circuit.specs.declared.node.AigNode.{AigNode}
 use Rattle.aig_circuit.specs.declared.node.AigLatch.{AigLatch}
 use Rattle.aig_circuit.specs.Edge.{edge_to}
 use Rattle.aig_circuit.specs.Circuit.{Circuit}
+use Rattle.aig_circuit.specs.Properties.{no_properties}
 use Rattle.aig_circuit.specs.Reach.{DependsOn, IsInCone, IsReached, root}
 use Rattle.aig_cone.specs.Refine.{AreKept}
 use Rattle.aig_cone.proofs.Keeping.{reached_within}
@@ -20,7 +21,7 @@ node n kind = record { node_id = n; typ = kind }
 -- false and the leaves 1 and 2
 abbrev over_two : List ℕ → List AigLatch → List AigEdge → Circuit
 over_two inputs latchs outputs =
-    record { nodes = node 0 False ∷ node 1 Leaf ∷ node 2 Leaf ∷ []; inputs = inputs; latchs = latchs; outputs = outputs; bads = []; constraints = []; justice = []; fairness = []; names = empty }
+    record { nodes = node 0 False ∷ node 1 Leaf ∷ node 2 Leaf ∷ []; inputs = inputs; latchs = latchs; properties = record no_properties { outputs = outputs }; names = empty }
 
 -- inputs 1 and 2, and the output 2, which reaches 2 alone
 abbrev one_of_two : Circuit

@@ -18,7 +18,7 @@ use Rattle.aig_circuit.specs.Reach.{DependsOn, IsInCone, IsFanin, IsReached, roo
 use Rattle.aig_circuit.specs.Renumber.{is_in, only_kept, position_of, renumbered_circuit, renumbered_edge, renumbered_kind, renumbered_latch}
 use Rattle.aig_circuit.proofs.Building.{and_of-cases}
 use Rattle.aig_circuit.proofs.Trees.{kind_at-within}
-use Rattle.aig_renumber.proofs.Numbering.{kind_at-nodes_in_order, length-nodes_in_order}
+use Rattle.aig_renumber.proofs.NodesInOrder.{kind_at-nodes_in_order, length-nodes_in_order}
 use Rattle.aig_renumber.proofs.Circuits.{initial_edges-map}
 use Rattle.aig_renumber.proofs.Kept.{is_in-there}
 use Rattle.aig_renumber.proofs.Places.{Contains-map, Contains-map_back, filter_all, position_of-get_or, position_of-within, rising-distinct, rising_from}
@@ -35,7 +35,7 @@ sets-map f (es ∷ sets) = ap (λ rest. map f es ++ rest) (sets-map f sets) ∙ 
 
 -- the edges of all properties follow
 property_edges-refined : (kept : List ℕ) (c : Circuit) → property_edges (refined kept c) ≡ map (renumbered_edge (position_of kept)) (property_edges c)
-property_edges-refined kept c = rw (sets-map (renumbered_edge (position_of kept)) c.justice) (simp map-append)
+property_edges-refined kept c = rw (sets-map (renumbered_edge (position_of kept)) c.properties.justice) (simp map-append)
 
 -- the node of an edge that isn't constant follows
 variable_nodes-map : (number : ℕ → ℕ) (es : List AigEdge) (n : ℕ) → (n ≢ 0 → number n ≢ 0) → Contains (variable_nodes es) n → Contains (variable_nodes (map (renumbered_edge number) es)) (number n)

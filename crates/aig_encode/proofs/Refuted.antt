@@ -7,6 +7,7 @@ use Rattle.aig_format.specs.Circuit.{circuit_of}
 use Rattle.aig_format.specs.Numbering.{node_of_variable, variables_in_order}
 use Rattle.aig_unroll.specs.Places.{unrolled_size}
 use Rattle.aig_encode.specs.declared.error.EncodeError.TheVariants.{TooLarge}
+use Rattle.aig_circuit.specs.Properties.{no_properties}
 use Rattle.aig_encode.specs.Encoding.{AnswersExactly}
 
 -- a text file of these sections alone
@@ -17,12 +18,8 @@ file_with greatest inputs latches outputs gates =
       greatest = greatest;
       inputs = inputs;
       latches = latches;
-      outputs = outputs;
+      properties = record no_properties { outputs = outputs };
       gates = gates;
-      bads = [];
-      constraints = [];
-      justice = [];
-      fairness = [];
       names = [];
     }
 

@@ -1,28 +1,33 @@
 -- The circuit of a file that fits is a circuit.
-use Rattle.std.proofs.Common.{◌≡◌, ◌≢◌, ℕ, ◌/◌, ◌%◌, ◌<◌, ◌≤◌, Bool, true, false, cond, ◌||◌, List, [], ◌∷◌, ◌++◌, length, map, Option, Some, None, nat_cmp, refl, sym, ap, subst, ◌∙◌, arith}
-use Rattle.std.specs.Prelude.{nat_eq, nat_lt, ◌==◌, All, AllPairs, Contains, IfSome, IsTrue, is_some, slice_index, unwrap_or, filter_map}
+use Rattle.std.proofs.Common.{◌≡◌, ◌≢◌, ℕ, ◌/◌, ◌%◌, ◌<◌, ◌≤◌, Bool, true, false, cond, ◌||◌, List, [], ◌∷◌, ◌++◌, length, map, Option, Some, None, nat_cmp, refl, sym, ap, subst, ◌∙◌, arith, ltb-true}
+use Rattle.std.specs.Prelude.{nat_eq, nat_lt, ◌==◌, All, AllPairs, Contains, IfSome, IsTrue, is_some, slice_index, unwrap_or, filter_map, not}
 use Rattle.std.specs.List.{AllByRecursion, IsDistinct, list_any, flat_map, cons_option}
 use Rattle.std.specs.FinMap.{contains_key, find as find_key, get-from_entries}
 use Rattle.std.specs.Ordering.{eq_by_cmp}
 use Rattle.std.proofs.lemmas.Cmp.{nat_cmp_total}
-use Rattle.std.proofs.lemmas.Bool.{eqb-true, eqb-false, eq-eqb, ne_eqb, false≢true}
+use Rattle.std.proofs.lemmas.Bool.{eqb-true, eqb-false, eq-eqb, ne_eqb, false≢true, and_parts, ltb-true, or_right}
 use Rattle.std.proofs.lemmas.Bool.Decides.{nat_tests, Decides-eqb}
 use Rattle.std.proofs.lemmas.List.{map-append, length-map}
 use Rattle.std.proofs.lemmas.List.Elements.{All-from_recursion, All-map, All-contains, All-contains_itself}
 use Rattle.std.proofs.lemmas.Map.Made.{AllPairs-from_IsDistinct}
 use Rattle.aig_circuit.specs.declared.node.AigNodeType.TheVariants.{False, Leaf}
 use Rattle.aig_circuit.specs.Edge.{edge_to}
+use Rattle.aig_circuit.specs.Properties.{AllProperties, entries_of}
 use Rattle.aig_circuit.specs.Circuit.{IsInRange, IsLeaf, IsLatch, IsCircuit, latch_leaves}
-use Rattle.aig_format.specs.File.{LatchLine, GateLine, NameLine, File, defined, used}
+use Rattle.aig_circuit.proofs.Listed.{AllProperties-map}
+use Rattle.aig_format.specs.File.{LatchLine, GateLine, NameLine, File, defined, used, header_of}
 use Rattle.aig_format.specs.Variables.{is_defined, IsKnown, gate_of_variable}
 use Rattle.aig_format.specs.Numbering.{node_of_variable}
-use Rattle.aig_format.specs.Fits.{Fits, IsDefinable, IsNameOf}
+use Rattle.aig_format.specs.Fits.{Fits, IsDefinable, AllPass, is_name}
+use Rattle.aig_format.proofs.Rules.{definable_told, even_literal}
 use Rattle.aig_format.specs.Circuit.{edge_of, kind_of, kind_by, initial_of, latch_of, named_node, circuit_of}
-use Rattle.aig_format.proofs.Entries.{rec_map, rec_weaker, rec_both, rec_parts, rec_unmap}
+use Rattle.aig_format.proofs.Entries.{rec_entries, rec_map, rec_weaker, rec_both, rec_parts, rec_unmap}
 use Rattle.aig_format.proofs.Searches.{find_none}
 use Rattle.aig_format.proofs.Members.{rec_at}
 use Rattle.aig_format.proofs.Numbers.{half_differs, node_of_variable-one}
 use Rattle.aig_format.proofs.Nodes.{nodes_of, length-nodes, kind_at-number, AreNodes-of_file, HasNode, known_has_node, used_have_nodes}
+use Rattle.aig_format.specs.Letters.{count_of, is_kept}
+use Rattle.std.specs.Str.{is_utf8}
 
 -- ---- lists
 
@@ -50,7 +55,7 @@ leaf_missed f limit fits e even differs =
     let Definable = λ (g : GateLine). IsDefinable f.greatest g.lhs in
     let Differs = λ (g : GateLine). nat_eq e g.lhs ≡ false in
     find_none (λ (g : GateLine). g.lhs / 2 == e / 2) f.gates
-    (rec_weaker (λ g. Definable g × Differs g) (λ (g : GateLine). (g.lhs / 2 == e / 2) ≡ false) (λ g p. differs_half e g.lhs even p.0.0 p.1) f.gates
+    (rec_weaker (λ g. Definable g × Differs g) (λ (g : GateLine). (g.lhs / 2 == e / 2) ≡ false) (λ g p. differs_half e g.lhs even (even_literal f.greatest g.lhs p.0) p.1) f.gates
     (rec_both Definable Differs f.gates (gates_definable f limit fits) (rec_unmap (λ y. nat_eq e y ≡ false) (λ (g : GateLine). g.lhs) f.gates differs)))
 
 -- ---- leaves
@@ -60,12 +65,8 @@ any-member : (es xs : List ℕ) → ((e : ℕ) → list_any (λ d. d == e) xs �
 any-member es [] h = tt
 any-member es (x ∷ xs) h = (
   h x (ap (λ b. b || list_any (λ d. d == x) xs) (eq-eqb x x refl)),
-  any-member es xs (λ e there. h e (or_true (x == e) (list_any (λ d. d == e) xs) there)),
+  any-member es xs (λ e there. h e (or_right (x == e) (list_any (λ d. d == e) xs) there)),
 )
-  where
-    or_true : (b c : Bool) → c ≡ true → (b || c) ≡ true
-    or_true true c there = refl
-    or_true false c there = there
 
 any-halves : (es : List ℕ) (e : ℕ) → list_any (λ d. d == e) es ≡ true → list_any (λ d. d / 2 == e / 2) es ≡ true
 any-halves [] e there = there
@@ -81,13 +82,9 @@ any-halves (d ∷ es) e there = by_test (d == e) refl there (any-halves es e)
         ap (λ b. b || list_any (λ d. d / 2 == e / 2) es) is
     by_test false differs there rest = half (d / 2 == e / 2) (rest there)
 
-or-known : (b c : Bool) → c ≡ true → (b || c) ≡ true
-or-known true c h = refl
-or-known false c h = h
-
 pub defined_known : (f : File) → AllByRecursion (IsKnown f) (defined f)
 defined_known f =
-    rec_weaker (λ e. list_any (λ d. d == e) (defined f) ≡ true) (IsKnown f) (λ e there. or-known (e / 2 == 0) (is_defined f (e / 2)) (any-halves (defined f) e there)) (defined f)
+    rec_weaker (λ e. list_any (λ d. d == e) (defined f) ≡ true) (IsKnown f) (λ e there. or_right (e / 2 == 0) (is_defined f (e / 2)) (any-halves (defined f) e there)) (defined f)
     (any-member (defined f) (defined f) (λ e there. there))
 
 -- a literal that inputs and latches define, and no gate does
@@ -115,8 +112,9 @@ are_leaf_literals f limit fits =
 -- the variable of such a literal is a leaf
 leaf_there : (f : File) (limit : ℕ) → Fits f limit → (e : ℕ) → IsLeafLiteral f e → IsLeaf (nodes_of f) (node_of_variable f (e / 2))
 leaf_there f limit fits e h =
-    let low = h.0.0.1 in
-    kind_at-number f limit fits (e / 2) h.0.1 ∙ ap Some (kind_missed f (e / 2) (omega arith) (leaf_missed f limit fits e h.0.0.0 h.1))
+    let told = definable_told f.greatest e h.0.0 in
+    let low = told.1 in
+    kind_at-number f limit fits (e / 2) h.0.1 ∙ ap Some (kind_missed f (e / 2) (omega arith) (leaf_missed f limit fits e told.0 h.1))
 
 pub distinct_front : (xs ys : List ℕ) → IsDistinct nat_eq (xs ++ ys) → IsDistinct nat_eq xs
 unfolding IsDistinct
@@ -134,7 +132,7 @@ numbers_distinct f limit fits [] all d = tt
 numbers_distinct f limit fits (x ∷ xs) all d = (
   (rec_map (λ y. nat_eq (node_of_variable f (x / 2)) y ≡ false) (λ e. node_of_variable f (e / 2)) xs).1
       (rec_weaker (λ e. (IsDefinable f.greatest e × IsKnown f e) × (nat_eq x e ≡ false)) (λ (e : ℕ). nat_eq (node_of_variable f (x / 2)) (node_of_variable f (e / 2)) ≡ false)
-      (λ e h. number_differs f limit fits x e all.0.1 all.0.0.0 h.0.0.0 h.1) xs
+      (λ e h. number_differs f limit fits x e all.0.1 (even_literal f.greatest x all.0.0) (even_literal f.greatest e h.0.0) h.1) xs
       (rec_both (λ e. IsDefinable f.greatest e × IsKnown f e) (λ e. nat_eq x e ≡ false) xs all.1 d.0)),
   numbers_distinct f limit fits xs all.1 d.1,
 )
@@ -160,30 +158,17 @@ are_apart xs ys d =
 
 -- ---- edges
 
-edges_there : (f : File) (es : List ℕ) → AllByRecursion (HasNode f) es → All (IsInRange (nodes_of f)) (map (edge_of f) es)
-edges_there f es all = All-map (IsInRange (nodes_of f)) (edge_of f) es (All-from_recursion (λ e. IsInRange (nodes_of f) (edge_of f e)) es all)
-
 -- the literals that each section of a file uses have nodes
 pub record UsedHave (P : ℕ → Type 0) (f : File) : Type 0 where
   pub nexts : AllByRecursion P (map (λ (l : LatchLine). l.next) f.latches)
-  pub outputs : AllByRecursion P f.outputs
-  pub bads : AllByRecursion P f.bads
-  pub constraints : AllByRecursion P f.constraints
-  pub justice : AllByRecursion P (flat_map (λ s. s) f.justice)
-  pub fairness : AllByRecursion P f.fairness
+  pub properties : AllProperties P f.properties
 
 pub used_by_section : (P : ℕ → Type 0) (f : File) → AllByRecursion P (used f) → UsedHave P f
 used_by_section P f all_used =
     let nexts = map (λ (l : LatchLine). l.next) f.latches in
-    let sets = flat_map (λ s. s) f.justice in
     let operands = flat_map (λ (g : GateLine). g.rhs0 ∷ g.rhs1 ∷ []) f.gates in
-    let to_fairness = rec_parts P (nexts ++ f.outputs ++ f.bads ++ f.constraints ++ sets ++ f.fairness) operands all_used in
-    let to_justice = rec_parts P (nexts ++ f.outputs ++ f.bads ++ f.constraints ++ sets) f.fairness to_fairness.0 in
-    let to_constraints = rec_parts P (nexts ++ f.outputs ++ f.bads ++ f.constraints) sets to_justice.0 in
-    let to_bads = rec_parts P (nexts ++ f.outputs ++ f.bads) f.constraints to_constraints.0 in
-    let to_outputs = rec_parts P (nexts ++ f.outputs) f.bads to_bads.0 in
-    let all = rec_parts P nexts f.outputs to_outputs.0 in
-    record { nexts = all.0; outputs = all.1; bads = to_outputs.1; constraints = to_bads.1; justice = to_constraints.1; fairness = to_justice.1 }
+    let all = rec_parts P nexts (entries_of f.properties) (rec_parts P (nexts ++ entries_of f.properties) operands all_used).0 in
+    record { nexts = all.0; properties = (rec_entries P f.properties).0 all.1 }
 
 used_there : (f : File) (limit : ℕ) → Fits f limit → UsedHave (HasNode f) f
 used_there f limit fits = used_by_section (HasNode f) f (used_have_nodes f limit fits)
@@ -205,10 +190,6 @@ latches_there f limit fits =
     (λ l h. record { leaf = leaf_there f limit fits l.literal h.0; next = h.1; init = init_there f l }) f.latches
     (rec_both (λ (l : LatchLine). IsLeafLiteral f l.literal) (λ (l : LatchLine). HasNode f l.next) f.latches leaf next)))
 
-sets_there : (f : File) (sets : List (List ℕ)) → AllByRecursion (HasNode f) (flat_map (λ s. s) sets) → AllByRecursion (λ es. All (IsInRange (nodes_of f)) (map (edge_of f) es)) sets
-sets_there f [] all = tt
-sets_there f (es ∷ sets) all = let r = rec_parts (HasNode f) es (flat_map (λ s. s) sets) all in (edges_there f es r.0, sets_there f sets r.1)
-
 -- ---- names
 
 -- each key of entries has what the entries' keys have
@@ -221,8 +202,8 @@ key_has P (e ∷ es) q all has = at (eq_by_cmp nat_cmp q e.0) refl (key_has P es
     at false is rest = rest (subst (λ b. IsTrue (is_some (cond b (Some e.1) (find_key nat_cmp q es)))) is has)
 
 -- a name of an input or a latch names a node
-named_there : (f : File) (limit : ℕ) → Fits f limit → (n : NameLine) → IsNameOf f n → IfSome (named_node f n) (λ e. e.0 < length (nodes_of f))
-named_there f limit fits n h = by_letter (n.letter == 105) (n.letter == 108) _ h.0
+named_there : (f : File) (limit : ℕ) → Fits f limit → (n : NameLine) → is_name (header_of f) n ≡ true → IfSome (named_node f n) (λ e. e.0 < length (nodes_of f))
+named_there f limit fits n h = by_letter (n.letter == 105) (n.letter == 108) _ (ltb-true n.position (count_of (header_of f) n.letter) (and_parts (nat_lt n.position (count_of (header_of f) n.letter)) (not (is_kept n.letter) || is_utf8 n.name) h).0)
   where
     literals : List ℕ
     literals = map (λ (l : LatchLine). l.literal) f.latches
@@ -237,7 +218,7 @@ named_there f limit fits n h = by_letter (n.letter == 105) (n.letter == 108) _ h
     by_letter false true others low = at_place literals (rw length-map low) (rec_parts (IsLeafLiteral f) f.inputs literals (are_leaf_literals f limit fits)).1
     by_letter false false others low = tt
 
-entries_there : (f : File) (limit : ℕ) → Fits f limit → (names : List NameLine) → AllByRecursion (IsNameOf f) names → AllByRecursion (λ (e : ℕ × List ℕ). e.0 < length (nodes_of f)) (filter_map (named_node f) names)
+entries_there : (f : File) (limit : ℕ) → Fits f limit → (names : List NameLine) → AllPass (is_name (header_of f)) names → AllByRecursion (λ (e : ℕ × List ℕ). e.0 < length (nodes_of f)) (filter_map (named_node f) names)
 entries_there f limit fits [] all = tt
 entries_there f limit fits (n ∷ names) all = one_more (named_node f n) (filter_map (named_node f) names) (named_there f limit fits n all.0) (entries_there f limit fits names all.1)
   where
@@ -272,10 +253,6 @@ IsCircuit-of_file f limit fits =
       latchs = latches_there f limit fits;
       latchs_distinct = subst (AllPairs (λ m n. m ≢ n)) (sym latch_leaves_are) (distinct_pairs (numbers f literals) (differ_from (numbers f f.inputs) (numbers f literals) distinct).1);
       apart = subst (All (λ n. ¬ Contains (numbers f f.inputs) n)) (sym latch_leaves_are) (are_apart (numbers f f.inputs) (numbers f literals) distinct);
-      outputs = edges_there f f.outputs sections.outputs;
-      bads = edges_there f f.bads sections.bads;
-      constraints = edges_there f f.constraints sections.constraints;
-      justice = All-map (All (IsInRange (nodes_of f))) (map (edge_of f)) f.justice (All-from_recursion (λ es. All (IsInRange (nodes_of f)) (map (edge_of f) es)) f.justice (sets_there f f.justice sections.justice));
-      fairness = edges_there f f.fairness sections.fairness;
+      properties = AllProperties-map (IsInRange (nodes_of f)) (edge_of f) f.properties sections.properties;
       named = files_named f limit fits;
     }

@@ -2,6 +2,7 @@
 use Rattle.std.specs.Prelude.{◌≡◌, ℕ, List, [], ◌∷◌, codes, refl}
 use Rattle.std.proofs.Common.{lit<, lit≤, arith}
 use Rattle.aig_format.specs.Text.{IsDelta}
+use Rattle.aig_circuit.specs.Properties.{no_properties}
 use Rattle.aig_format.specs.declared.FileKind.TheVariants.{Text}
 use Rattle.aig_format.specs.File.{File}
 use Rattle.aig_format.specs.Written.{file_text, line_text}
@@ -14,12 +15,8 @@ and_file = record {
   greatest = 3;
   inputs = 2 ∷ 4 ∷ [];
   latches = [];
-  outputs = 6 ∷ [];
+  properties = record no_properties { outputs = 6 ∷ [] };
   gates = record { lhs = 6; rhs0 = 4; rhs1 = 2 } ∷ [];
-  bads = [];
-  constraints = [];
-  justice = [];
-  fairness = [];
   names = [];
 }
 

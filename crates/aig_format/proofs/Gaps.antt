@@ -1,15 +1,16 @@
 -- Text files with missing variables and unordered gates, computed: which fit, how their variables are numbered, and what is printed of their circuits.
-use Rattle.std.proofs.Common.{◌≡◌, ℕ, inl, inr, true, false, Some, None, List, [], ◌∷◌, map, refl, lit≤, arith}
+use Rattle.std.proofs.Common.{◌≡◌, ℕ, true, false, Some, None, List, [], ◌∷◌, map, refl, lit≤, arith}
 use Rattle.std.specs.Prelude.{codes}
 use Rattle.std.specs.Fmt.{digits}
 use Rattle.std.proofs.lemmas.Bool.{false≢true}
 use Rattle.std.specs.List.{IsDistinct}
+use Rattle.aig_circuit.specs.Properties.{no_properties}
 use Rattle.aig_format.specs.declared.FileKind.TheVariants.{Text, Binary}
 use Rattle.aig_format.specs.File.{LatchLine, GateLine, File, HeaderNumbers}
 use Rattle.aig_format.specs.Written.{file_text, line_text}
 use Rattle.aig_format.specs.Levels.{level_of}
 use Rattle.aig_format.specs.Numbering.{is_compact, node_of_variable, variables_in_order}
-use Rattle.aig_format.specs.Fits.{Fits, HasEnough}
+use Rattle.aig_format.specs.Fits.{Fits, has_enough}
 use Rattle.aig_format.specs.Circuit.{circuit_of, file_of}
 use Rattle.aig_format.proofs.Examples.{and_file}
 
@@ -22,12 +23,8 @@ file_with greatest inputs latches outputs gates = record {
   greatest = greatest;
   inputs = inputs;
   latches = latches;
-  outputs = outputs;
+  properties = record no_properties { outputs = outputs };
   gates = gates;
-  bads = [];
-  constraints = [];
-  justice = [];
-  fairness = [];
   names = [];
 }
 
@@ -61,11 +58,12 @@ doubled-fits : Fits doubled 16777216
 unfolding IsDistinct
 doubled-fits = record {
   within = lit≤ tt;
-  definable = search (lit≤, refl, tt);
-  distinct = search (refl, tt);
-  in_range = search (lit≤, tt);
+  enough = refl;
+  definable = search tt;
+  distinct = search tt;
+  in_range = search tt;
   resets = search tt;
-  rules = inr (record { text = refl; enough = lit≤ tt; known = search tt; levels = search tt });
+  order = refl;
   named = tt;
   once = tt;
 }
@@ -98,11 +96,12 @@ gapped-fits : Fits gapped 4
 unfolding IsDistinct
 gapped-fits = record {
   within = lit≤ tt;
-  definable = search (lit≤, refl, tt);
-  distinct = search (refl, tt);
-  in_range = search (lit≤, tt);
+  enough = refl;
+  definable = search tt;
+  distinct = search tt;
+  in_range = search tt;
   resets = search tt;
-  rules = inr (record { text = refl; enough = lit≤ tt; known = search tt; levels = search tt });
+  order = refl;
   named = tt;
   once = tt;
 }
@@ -225,7 +224,7 @@ abbrev pub exchanged : File
 exchanged = file_with 2 [] [] (2 ∷ []) (gate 2 4 4 ∷ gate 4 2 2 ∷ [])
 
 exchanged-refused : (limit : ℕ) → Fits exchanged limit → ⊥
-exchanged-refused limit fits = elim fits.rules [ inl compact ↦ omega (arith, compact.ordered.0.0) | inr well_founded ↦ false≢true well_founded.levels.0 ]
+exchanged-refused limit fits = false≢true fits.order
 
 exchanged-levels : map (level_of exchanged) (0 ∷ 1 ∷ 2 ∷ []) ≡ Some 0 ∷ None ∷ None ∷ []
 exchanged-levels = refl
@@ -235,7 +234,7 @@ abbrev pub own : File
 own = file_with 3 (2 ∷ []) [] [] (gate 4 4 2 ∷ gate 6 4 4 ∷ [])
 
 own-refused : (limit : ℕ) → Fits own limit → ⊥
-own-refused limit fits = elim fits.rules [ inl compact ↦ omega (arith, compact.ordered.0.0) | inr well_founded ↦ false≢true well_founded.levels.0 ]
+own-refused limit fits = false≢true fits.order
 
 own-levels : map (level_of own) (1 ∷ 2 ∷ 3 ∷ []) ≡ Some 0 ∷ None ∷ None ∷ []
 own-levels = refl
@@ -245,14 +244,14 @@ abbrev pub lost_output : File
 lost_output = file_with 3 (2 ∷ []) [] (4 ∷ []) (gate 6 2 2 ∷ [])
 
 lost_output-refused : (limit : ℕ) → Fits lost_output limit → ⊥
-lost_output-refused limit fits = elim fits.rules [ inl compact ↦ omega (arith, compact.exact) | inr well_founded ↦ false≢true well_founded.known.0 ]
+lost_output-refused limit fits = false≢true fits.order
 
 -- operand 2 is not defined
 abbrev pub lost_operand : File
 lost_operand = file_with 3 (2 ∷ []) [] [] (gate 6 4 2 ∷ [])
 
 lost_operand-refused : (limit : ℕ) → Fits lost_operand limit → ⊥
-lost_operand-refused limit fits = elim fits.rules [ inl compact ↦ omega (arith, compact.exact) | inr well_founded ↦ false≢true well_founded.known.0 ]
+lost_operand-refused limit fits = false≢true fits.order
 
 -- ---- headers
 
@@ -261,14 +260,14 @@ abbrev header_with : ℕ → ℕ → HeaderNumbers
 header_with greatest inputs = record { greatest = greatest; inputs = inputs; latches = 0; outputs = 0; gates = 0; bads = 0; constraints = 0; justice = 0; fairness = 0 }
 
 -- fewer than are defined in a text file, and any other count in a binary one; more in a text file
-too_few : HasEnough Text (header_with 1 2) → ⊥
-too_few h = omega (arith, h)
+too_few : has_enough Text (header_with 1 2) ≡ false
+too_few = refl
 
-not_exact : HasEnough Binary (header_with 2 1) → ⊥
-not_exact h = omega (arith, h)
+not_exact : has_enough Binary (header_with 2 1) ≡ false
+not_exact = refl
 
-more_in_text : HasEnough Text (header_with 2 1)
-more_in_text = lit≤ tt
+more_in_text : has_enough Text (header_with 2 1) ≡ true
+more_in_text = refl
 
 -- of a file with missing variables the greatest counts, not how many there are
 gapped-too_many : Fits gapped 3 → ⊥
@@ -276,7 +275,7 @@ gapped-too_many fits = omega (arith, fits.within)
 
 -- in binary no variable is missing
 short_in_binary : (limit : ℕ) → Fits (record short { kind = Binary }) limit → ⊥
-short_in_binary limit fits = elim fits.rules [ inl compact ↦ omega (arith, compact.exact) | inr well_founded ↦ cc ]
+short_in_binary limit fits = false≢true fits.order
 
 -- whether a file is compact
 compact-tests : map is_compact (deep ∷ late ∷ and_file ∷ in_binary ∷ []) ≡ true ∷ true ∷ true ∷ true ∷ []

@@ -8,7 +8,9 @@ use Rattle.std.proofs.lemmas.Option.{same_Some}
 use Rattle.aig_format.specs.File.{GateLine, File}
 use Rattle.aig_format.specs.Variables.{gate_among, gate_of_variable}
 use Rattle.aig_format.specs.Levels.{level_above, level_by, level_within, level_of, HasLevel}
-use Rattle.aig_format.specs.Fits.{IsAboveOperands}
+use Rattle.aig_format.specs.Fits.{AllPass}
+use Rattle.aig_format.specs.Numbering.{is_above_operands}
+use Rattle.aig_format.proofs.Rules.{above_told}
 use Rattle.aig_format.proofs.Entries.{rec_weaker}
 use Rattle.aig_format.proofs.Searches.{find_some}
 
@@ -240,19 +242,20 @@ levelled f all v = by_gate (gate_of_variable f v) refl
         (is.0, ap (level_of f) (sym (eqb-true (g.lhs / 2) v s.0)) ∙ is.1)
 
 -- where operands' variables are smaller than gates', each variable has a level
-ordered_levelled : (f : File) → AllByRecursion IsAboveOperands f.gates → (n v : ℕ) → v < n → (k : ℕ) × (level_of f v ≡ Some k)
+ordered_levelled : (f : File) → AllPass is_above_operands f.gates → (n v : ℕ) → v < n → (k : ℕ) × (level_of f v ≡ Some k)
 ordered_levelled f all zero v h = absurd (omega arith)
 ordered_levelled f all (suc n) v h = by_gate (gate_of_variable f v) refl (ordered_levelled f all n)
   where
     by_gate : (o : Option GateLine) → gate_of_variable f v ≡ o → ((u : ℕ) → u < n → (k : ℕ) × (level_of f u ≡ Some k)) → (k : ℕ) × (level_of f v ≡ Some k)
     by_gate None none rest = (0, level_of-leaf f v none)
     by_gate (Some g) found rest =
-        let s = find_some IsAboveOperands (λ h. h.lhs / 2 == v) f.gates g all found in
+        let s = find_some (λ g. is_above_operands g ≡ true) (λ h. h.lhs / 2 == v) f.gates g all found in
+        let above = above_told g s.1 in
         let own = eqb-true (g.lhs / 2) v s.0 in
-        let first = rest (g.rhs0 / 2) (omega (arith, own, s.1.0)) in
-        let second = rest (g.rhs1 / 2) (omega (arith, own, s.1.1)) in
+        let first = rest (g.rhs0 / 2) (omega (arith, own, above.0)) in
+        let second = rest (g.rhs1 / 2) (omega (arith, own, above.1)) in
         (max first.0 second.0 + 1, level_of-operands f v first.0 second.0 g found first.1 second.1)
 
-pub levels-ordered : (f : File) → AllByRecursion IsAboveOperands f.gates → AllByRecursion (HasLevel f) f.gates
+pub levels-ordered : (f : File) → AllPass is_above_operands f.gates → AllByRecursion (HasLevel f) f.gates
 levels-ordered f all =
-    rec_weaker IsAboveOperands (HasLevel f) (λ g h. let level = ordered_levelled f all (suc (g.lhs / 2)) (g.lhs / 2) (omega arith) in subst (λ o. IsTrue (is_some o)) (sym level.1) refl) f.gates all
+    rec_weaker (λ g. is_above_operands g ≡ true) (HasLevel f) (λ g h. let level = ordered_levelled f all (suc (g.lhs / 2)) (g.lhs / 2) (omega arith) in subst (λ o. IsTrue (is_some o)) (sym level.1) refl) f.gates all

@@ -3,7 +3,8 @@ pub mod Examples
 pub mod Gaps
 pub mod Members
 pub mod Searches
-pub mod Compact
+pub mod Rules
+pub mod Places
 pub mod Levels
 pub mod Orders
 pub mod Numbers

@@ -1,22 +1,23 @@
 -- The numbers of variables: in a compact file the variables themselves, else by level.
-use Rattle.std.proofs.Common.{◌≡◌, ℕ, zero, suc, ◌+◌, ◌*◌, ◌/◌, ◌%◌, ◌<◌, ◌≤◌, Bool, true, false, cond, eqb, ◌||◌, List, [], ◌∷◌, ◌++◌, length, map, refl, sym, ap, subst, ◌∙◌, arith, inl, inr}
+use Rattle.std.proofs.Common.{◌≡◌, ℕ, zero, suc, ◌+◌, ◌*◌, ◌/◌, ◌%◌, ◌<◌, ◌≤◌, Bool, true, false, cond, eqb, ◌||◌, List, [], ◌∷◌, ◌++◌, length, map, refl, sym, ap, subst, ◌∙◌, arith, leb-true}
 use Rattle.std.specs.Prelude.{nat_eq, ◌==◌, find, slice_index, Some}
-use Rattle.std.specs.List.{AllByRecursion, IsDistinct, list_any, flat_map}
-use Rattle.std.proofs.lemmas.Bool.{cond-true, cond-false, eqb-true, eqb-false, ne_eqb, false≢true, true_from_ne_false, or_parts, or_right}
+use Rattle.std.specs.List.{AllByRecursion, IsDistinct, list_any, flat_map, list_all}
+use Rattle.std.proofs.lemmas.Bool.{cond-true, cond-false, eqb-true, eqb-false, ne_eqb, false≢true, true_from_ne_false, or_parts, or_right, and_from}
 use Rattle.std.proofs.lemmas.List.{length-map}
 use Rattle.std.proofs.lemmas.Map.Keys.{IsDistinct-cons}
 use Rattle.std.proofs.lemmas.Map.Steps.{length-le_from_distinct_below}
+use Rattle.aig_circuit.specs.Properties.{entries_of}
 use Rattle.aig_circuit.specs.Renumber.{position_of}
 use Rattle.aig_format.specs.File.{LatchLine, GateLine, File, defined, used}
 use Rattle.aig_format.specs.Variables.{is_defined, is_known, IsKnown, gate_of_variable}
-use Rattle.aig_format.specs.Levels.{level_of}
-use Rattle.aig_format.specs.Numbering.{is_compact, numbers_from, variables_by_level, variables_in_order, node_of_variable}
-use Rattle.aig_format.specs.declared.FileKind.TheVariants.{Text, Binary}
-use Rattle.aig_format.specs.Fits.{IsDefinable, IsAboveOperands, Fits, IsWellFounded, IsCompact}
+use Rattle.aig_format.specs.Levels.{level_of, has_level}
+use Rattle.aig_format.specs.Numbering.{is_compact, numbers_from, variables_by_level, variables_in_order, node_of_variable, is_above_operands}
+use Rattle.aig_format.specs.declared.FileKind.TheVariants.{Binary}
+use Rattle.aig_format.specs.Fits.{IsDefinable, is_literal, Fits, uses_known, is_well_founded, is_accepted_order}
 use Rattle.aig_format.proofs.Entries.{rec_both, rec_map, rec_parts, rec_weaker}
 use Rattle.aig_format.proofs.Searches.{find_some}
 use Rattle.aig_format.proofs.Members.{has, has-numbers, index-position_of, position_of-index, position_of-numbers, position_of-one, position_of-within, distinct-numbers, rec_at, rec_numbers}
-use Rattle.aig_format.proofs.Compact.{well_founded_only, compact-told}
+use Rattle.aig_format.proofs.Rules.{all_pass, definable_told, even_literal, above_told, compact_exact, compact_ordered, well_founded_only, well_founded_parts}
 use Rattle.aig_format.proofs.Levels.{level_of-gate, levelled, levels-ordered}
 use Rattle.aig_format.proofs.Orders.{defined-by_level, distinct-by_level, has-by_level, position_of-by_level, position_of-in_level, some-by_level}
 
@@ -51,7 +52,7 @@ node_of_variable-some f v h = node_of_variable-place f v ∙ past_zero (variable
 pub node_of_variable-compact : (f : File) → is_compact f ≡ true → (v : ℕ) → v ≤ f.greatest → node_of_variable f v ≡ v
 node_of_variable-compact f compact zero h = node_of_variable-zero f
 node_of_variable-compact f compact (suc v) h =
-    let m = (compact-told f compact).exact in
+    let m = compact_exact f compact in
     node_of_variable-some f (suc v) (omega arith) ∙ ap (λ xs. position_of xs (suc v) + 1) (order-compact f compact) ∙ position_of-numbers (length (defined f)) 1 (suc v) (omega arith) (omega arith)
 
 -- each variable in the order is from 1 on
@@ -80,7 +81,7 @@ any_within greatest v (e ∷ es) all there = by_test (e / 2 == v) refl there (an
   where
     by_test : (b : Bool) → (e / 2 == v) ≡ b → (b || list_any (λ e. e / 2 == v) es) ≡ true → (list_any (λ e. e / 2 == v) es ≡ true → (1 ≤ v) × (v ≤ greatest)) → (1 ≤ v) × (v ≤ greatest)
     by_test true same there rest =
-        let is = eqb-true (e / 2) v same in let low = all.0.1 in let high = all.0.2 in
+        let is = eqb-true (e / 2) v same in let told = definable_told greatest e all.0 in let low = told.1 in let high = told.2 in
         (omega (arith), omega (arith))
     by_test false differs there rest = rest there
 
@@ -126,11 +127,11 @@ pub all_there : (greatest : ℕ) (es : List ℕ) → AllByRecursion (IsDefinable
 all_there greatest es definable distinct m v low high = true_from_ne_false (list_any (λ e. e / 2 == v) es) (λ no.
     let Even = λ (e : ℕ). e % 2 ≡ 0 in
     let Within = λ (x : ℕ). x < length es + 1 in
-    let even = rec_weaker (IsDefinable greatest) Even (λ e d. d.0) es definable in
+    let even = rec_weaker (IsDefinable greatest) Even (even_literal greatest) es definable in
     let within : AllByRecursion Within (halves es) =
-    (rec_map Within (λ (e : ℕ). e / 2) es).1 (rec_weaker (IsDefinable greatest) (λ (e : ℕ). e / 2 < length es + 1) (λ e d. let h = d.2 in omega arith) es definable) in
+    (rec_map Within (λ (e : ℕ). e / 2) es).1 (rec_weaker (IsDefinable greatest) (λ (e : ℕ). e / 2 < length es + 1) (λ e d. let h = (definable_told greatest e d).2 in omega arith) es definable) in
     let some : AllByRecursion (λ (x : ℕ). nat_eq 0 x ≡ false) (halves es) =
-    (rec_map (λ (x : ℕ). nat_eq 0 x ≡ false) (λ (e : ℕ). e / 2) es).1 (rec_weaker (IsDefinable greatest) (λ (e : ℕ). nat_eq 0 (e / 2) ≡ false) (λ e d. let h = d.1 in ne_eqb 0 (e / 2) (λ is. absurd (omega arith))) es definable) in
+    (rec_map (λ (x : ℕ). nat_eq 0 x ≡ false) (λ (e : ℕ). e / 2) es).1 (rec_weaker (IsDefinable greatest) (λ (e : ℕ). nat_eq 0 (e / 2) ≡ false) (λ e d. let h = (definable_told greatest e d).1 in ne_eqb 0 (e / 2) (λ is. absurd (omega arith))) es definable) in
     let d1 = IsDistinct-cons nat_eq v (halves es) (any_misses v es no) (halves_distinct es even distinct) in
     let d0 = IsDistinct-cons nat_eq 0 (v ∷ halves es) (ne_eqb 0 v (λ is. absurd (omega arith)), some) d1 in
     let zero_within : 0 < length es + 1 = omega arith in
@@ -155,8 +156,10 @@ pub used_known : (f : File) (limit : ℕ) → Fits f limit → AllByRecursion (I
 used_known f limit fits = by_test (is_compact f) refl
   where
     by_test : (b : Bool) → is_compact f ≡ b → AllByRecursion (IsKnown f) (used f)
-    by_test true is = rec_weaker (λ e. e ≤ 2 * f.greatest + 1) (IsKnown f) (λ e h. all_known f limit fits (compact-told f is).exact (e / 2) (omega arith)) (used f) fits.in_range
-    by_test false is = (well_founded_only f is fits.rules).known
+    by_test true is =
+        rec_weaker (λ e. is_literal f.greatest e ≡ true) (IsKnown f)
+        (λ e h. let high = leb-true e (2 * f.greatest + 1) h in all_known f limit fits (compact_exact f is) (e / 2) (omega arith)) (used f) fits.in_range
+    by_test false is = (well_founded_parts f (well_founded_only f is fits.order)).0
 
 -- ---- the numbers of a file that fits
 
@@ -169,10 +172,10 @@ defined_numbered f limit fits v there = by_test (is_compact f) refl
 
     by_test : (b : Bool) → is_compact f ≡ b → has (variables_in_order f) v ≡ true
     by_test true is =
-        let m = (compact-told f is).exact in
+        let m = compact_exact f is in
         ap (λ xs. has xs v) (order-compact f is) ∙ has-numbers (length (defined f)) 1 v bounds.0 (omega (arith, bounds.1))
     by_test false is =
-        let level = levelled f (well_founded_only f is fits.rules).levels v in
+        let level = levelled f (well_founded_parts f (well_founded_only f is fits.order)).1 v in
         ap (λ xs. has xs v) (order-well_founded f is) ∙ has-by_level f v level.0 there bounds.0 bounds.1 level.1
 
 rows_within : (n w : ℕ) → AllByRecursion (λ v. (w ≤ v) × (v < w + n)) (numbers_from n w)
@@ -188,7 +191,7 @@ order_defined f limit fits = by_test (is_compact f) refl
   where
     by_test : (b : Bool) → is_compact f ≡ b → AllByRecursion (λ v. is_defined f v ≡ true) (variables_in_order f)
     by_test true is =
-        let m = (compact-told f is).exact in
+        let m = compact_exact f is in
         let count = length (defined f) in
         subst (AllByRecursion (λ v. is_defined f v ≡ true)) (sym (order-compact f is))
         (rec_weaker (λ v. (1 ≤ v) × (v < 1 + count)) (λ v. is_defined f v ≡ true) (λ v h. all_defined f limit fits m v h.0 (let high = h.1 in omega arith)) (numbers_from count 1) (rows_within count 1))
@@ -279,8 +282,7 @@ used_operands : (P : ℕ → Type 0) (f : File) → AllByRecursion P (used f) �
 used_operands P f all =
     let operands = flat_map (λ (g : GateLine). g.rhs0 ∷ g.rhs1 ∷ []) f.gates in
     let nexts = map (λ (l : LatchLine). l.next) f.latches in
-    let sets = flat_map (λ s. s) f.justice in
-    operands_have P f.gates (rec_parts P (nexts ++ f.outputs ++ f.bads ++ f.constraints ++ sets ++ f.fairness) operands all).1
+    operands_have P f.gates (rec_parts P (nexts ++ entries_of f.properties) operands all).1
 
 -- a gate's operands are 0 or defined
 pub operands_known : (f : File) (limit : ℕ) → Fits f limit → (v : ℕ) (g : GateLine) → gate_of_variable f v ≡ Some g → IsKnown f g.rhs0 × IsKnown f g.rhs1
@@ -307,16 +309,17 @@ operands_before f limit fits v g found = by_test (is_compact f) refl
 
     by_test : (b : Bool) → is_compact f ≡ b → (node_of_variable f (g.rhs0 / 2) < node_of_variable f v) × (node_of_variable f (g.rhs1 / 2) < node_of_variable f v)
     by_test true is =
-        let s = find_some IsAboveOperands (λ h. h.lhs / 2 == v) f.gates g (compact-told f is).ordered found in
+        let s = find_some (λ g. is_above_operands g ≡ true) (λ h. h.lhs / 2 == v) f.gates g (compact_ordered f is) found in
+        let above = above_told g s.1 in
         let e = eqb-true (g.lhs / 2) v s.0 in
         let own = node_of_variable-compact f is v bounds.1 in
-        let less0 : g.rhs0 / 2 < v = subst (λ m. g.rhs0 / 2 < m) e s.1.0 in
-        let less1 : g.rhs1 / 2 < v = subst (λ m. g.rhs1 / 2 < m) e s.1.1 in
+        let less0 : g.rhs0 / 2 < v = subst (λ m. g.rhs0 / 2 < m) e above.0 in
+        let less1 : g.rhs1 / 2 < v = subst (λ m. g.rhs1 / 2 < m) e above.1 in
         let first = node_of_variable-compact f is (g.rhs0 / 2) (omega (arith, bounds.1, less0)) in
         let second = node_of_variable-compact f is (g.rhs1 / 2) (omega (arith, bounds.1, less1)) in
         (omega (arith, own, first, less0), omega (arith, own, second, less1))
     by_test false is =
-        let level = levelled f (well_founded_only f is fits.rules).levels v in
+        let level = levelled f (well_founded_parts f (well_founded_only f is fits.order)).1 v in
         let s = level_of-gate f v level.0 g found level.1 in
         let known = operands_known f limit fits v g found in
         let above = s.above in (
@@ -335,13 +338,16 @@ node_of_variable-in_level f limit fits is u v k first second ku kv less =
 
 -- ---- the rules by kind
 
--- a text file is well-founded also where it is compact
-pub text_rules : (f : File) (limit : ℕ) → Fits f limit → f.kind ≡ Text → IsWellFounded f
-text_rules f limit fits is = elim fits.rules [
-  | inl compact ↦ (let exact = compact.exact in record { text = is; enough = omega arith; known = used_known f limit fits; levels = levels-ordered f compact.ordered })
-  | inr well_founded ↦ well_founded
-]
+-- a compact file is well-founded too
+pub well_founded_also : (f : File) (limit : ℕ) → Fits f limit → is_well_founded f ≡ true
+well_founded_also f limit fits = by_test (is_compact f) refl
+  where
+    by_test : (b : Bool) → is_compact f ≡ b → is_well_founded f ≡ true
+    by_test true is =
+        and_from (uses_known f) (list_all (has_level f) f.gates) ((all_pass (λ e. is_known f (e / 2)) (used f)).1 (used_known f limit fits))
+        ((all_pass (has_level f) f.gates).1 (levels-ordered f (compact_ordered f is)))
+    by_test false is = well_founded_only f is fits.order
 
 -- a binary file is compact
-pub binary_rules : (f : File) (limit : ℕ) → Fits f limit → f.kind ≡ Binary → IsCompact f
-binary_rules f limit fits is = elim fits.rules [ inl compact ↦ compact | inr well_founded ↦ (let text = well_founded.text in absurd cc) ]
+pub compact_in_binary : (f : File) (limit : ℕ) → Fits f limit → f.kind ≡ Binary → is_compact f ≡ true
+compact_in_binary f limit fits is = ap (λ kind. is_accepted_order kind f) (sym is) ∙ fits.order

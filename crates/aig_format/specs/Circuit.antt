@@ -12,6 +12,7 @@ use Rattle.aig_circuit.specs.declared.node.AigLatch.{AigLatch}
 use Rattle.aig_circuit.specs.Edge.{edge_to, literal_of}
 use Rattle.aig_circuit.specs.Node.{and_of}
 use Rattle.aig_circuit.specs.Circuit.{Circuit, latch_leaves}
+use Rattle.aig_circuit.specs.Properties.{map_properties}
 use Rattle.aig_circuit.specs.Reencode.{reencoded}
 use Rattle.aig_format.specs.declared.FileKind.{FileKind}
 use Rattle.aig_format.specs.declared.FileKind.TheVariants.{Text, Binary}
@@ -70,11 +71,7 @@ circuit_of f = record {
   nodes = nodes_from f 0 (0 ∷ variables_in_order f);
   inputs = map (λ e. node_of_variable f (e / 2)) f.inputs;
   latchs = map (latch_of f) f.latches;
-  outputs = map (edge_of f) f.outputs;
-  bads = map (edge_of f) f.bads;
-  constraints = map (edge_of f) f.constraints;
-  justice = map (map (edge_of f)) f.justice;
-  fairness = map (edge_of f) f.fairness;
+  properties = map_properties (edge_of f) f.properties;
   names = from_entries (filter_map (named_node f) f.names);
 }
 
@@ -117,12 +114,8 @@ file_of kind c = record {
   greatest = length c.nodes - 1;
   inputs = map (λ n. 2 * n) c.inputs;
   latches = map latch_line c.latchs;
-  outputs = map literal_of c.outputs;
+  properties = map_properties literal_of c.properties;
   gates = filter_map gate_line c.nodes;
-  bads = map literal_of c.bads;
-  constraints = map literal_of c.constraints;
-  justice = map (map literal_of) c.justice;
-  fairness = map literal_of c.fairness;
   names =
       name_lines letter_of_inputs 0 c.inputs (get c.names)
       ++ name_lines letter_of_latches 0 (latch_leaves c.latchs) (get c.names);

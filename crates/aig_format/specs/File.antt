@@ -3,6 +3,7 @@
 -- table"; AIGER 1.9: "Reset logic", "Properties".)
 use Rattle.std.specs.Prelude.{ℕ, List, [], ◌∷◌, ◌++◌, length, map, Option}
 use Rattle.std.specs.List.{flat_map}
+use Rattle.aig_circuit.specs.Properties.{Properties, entries_of}
 use Rattle.aig_format.specs.declared.FileKind.{FileKind}
 
 -- a latch: its literal, its next literal, and its reset if one is written
@@ -29,12 +30,8 @@ pub record File : Type 0 where
   pub greatest : ℕ
   pub inputs : List ℕ
   pub latches : List LatchLine
-  pub outputs : List ℕ
+  pub properties : Properties ℕ
   pub gates : List GateLine
-  pub bads : List ℕ
-  pub constraints : List ℕ
-  pub justice : List (List ℕ)
-  pub fairness : List ℕ
   pub names : List NameLine
 
 -- the numbers of a header: the greatest variable, and how many entries each section has
@@ -55,12 +52,12 @@ header_of f = record {
   greatest = f.greatest;
   inputs = length f.inputs;
   latches = length f.latches;
-  outputs = length f.outputs;
+  outputs = length f.properties.outputs;
   gates = length f.gates;
-  bads = length f.bads;
-  constraints = length f.constraints;
-  justice = length f.justice;
-  fairness = length f.fairness;
+  bads = length f.properties.bads;
+  constraints = length f.properties.constraints;
+  justice = length f.properties.justice;
+  fairness = length f.properties.fairness;
 }
 
 -- the literals that are defined: inputs, latches, gates
@@ -70,5 +67,5 @@ defined f = f.inputs ++ map (λ l. l.literal) f.latches ++ map (λ g. g.lhs) f.g
 -- the literals that are used
 abbrev pub used : File → List ℕ
 used f =
-    map (λ l. l.next) f.latches ++ f.outputs ++ f.bads ++ f.constraints
-    ++ flat_map (λ s. s) f.justice ++ f.fairness ++ flat_map (λ g. g.rhs0 ∷ g.rhs1 ∷ []) f.gates
+    map (λ l. l.next) f.latches ++ entries_of f.properties
+    ++ flat_map (λ g. g.rhs0 ∷ g.rhs1 ∷ []) f.gates

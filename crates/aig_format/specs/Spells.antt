@@ -6,6 +6,7 @@
 use Rattle.std.specs.Prelude.{◌≡◌, ◌≢◌, Bool, true, ◌==◌, ℕ, zero, suc, ◌+◌, ◌*◌, ◌≤◌, List, [], ◌∷◌, ◌++◌, length, map, replicate, codes}
 use Rattle.std.specs.Option.{option_to_list}
 use Rattle.std.specs.List.{AllByRecursion, list_any}
+use Rattle.aig_circuit.specs.Properties.{Properties}
 use Rattle.aig_format.specs.Letters.{letter_of_comment}
 use Rattle.aig_format.specs.Text.{◌then◌, Each, Just, IsDigit, Ended, IsLine, Lines, IsDelta}
 use Rattle.aig_format.specs.declared.FileKind.{FileKind}
@@ -43,6 +44,16 @@ abbrev pub Latch : FileKind → LatchLine → List ℕ → Type 0
 Latch Text l = IsLine (l.literal ∷ next_and_reset l)
 Latch Binary l = IsLine (next_and_reset l)
 
+-- justice sets: how many literals each has, and then the literals, a line each
+abbrev pub JusticeLines : List (List ℕ) → List ℕ → Type 0
+JusticeLines sets = Lines (map length sets) then Each Lines sets
+
+-- outputs and properties, a literal a line
+abbrev pub PropertyLines : Properties ℕ → List ℕ → Type 0
+PropertyLines p =
+    Lines p.outputs then Lines p.bads then Lines p.constraints then JusticeLines p.justice
+    then Lines p.fairness
+
 -- gates: in a text file a line each, in a binary file two differences each, with nothing between
 -- them
 abbrev pub Gate : FileKind → GateLine → List ℕ → Type 0
@@ -71,9 +82,7 @@ IsComment (c ∷ b ∷ rest) = (c ≡ letter_of_comment) × (IsDigit b → ⊥)
 abbrev pub Body : File → List ℕ → Type 0
 Body f =
     IsHeader f.kind (header_of f) then Inputs f.kind f.inputs then Each (Latch f.kind) f.latches
-    then Lines f.outputs then Lines f.bads then Lines f.constraints
-    then Lines (map length f.justice) then Each Lines f.justice then Lines f.fairness
-    then Each (Gate f.kind) f.gates
+    then PropertyLines f.properties then Each (Gate f.kind) f.gates
 
 -- the names, and the comment
 abbrev pub Tail : File → List ℕ → Type 0

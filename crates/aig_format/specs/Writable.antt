@@ -17,14 +17,15 @@ named_nodes c = c.inputs ++ latch_leaves c.latchs
 -- the counts that a header has, that of gates aside
 abbrev pub list_lengths : Circuit → List ℕ
 list_lengths c =
-    length c.inputs ∷ length c.latchs ∷ length c.outputs ∷ length c.bads ∷ length c.constraints
-    ∷ length c.justice ∷ length c.fairness ∷ []
+    let p = c.properties in
+    length c.inputs ∷ length c.latchs ∷ length p.outputs ∷ length p.bads ∷ length p.constraints
+    ∷ length p.justice ∷ length p.fairness ∷ []
 
 -- at most 2^31 nodes, and lists and justice sets of at most 2^32 - 1 entries
 pub record FitsFormat (c : Circuit) : Type 0 where
   pub nodes : length c.nodes ≤ 2 ^ 31
   pub lists : All (λ n. n < 2 ^ 32) (list_lengths c)
-  pub sets : All (λ set. length set < 2 ^ 32) c.justice
+  pub sets : All (λ set. length set < 2 ^ 32) c.properties.justice
 
 -- no refusal applies
 pub record IsWritable (c : Circuit) : Type 0 where

@@ -3,6 +3,7 @@
 -- 20071012: "Header", "Binary encoding", "Symbol table"; AIGER 1.9: "Reset logic", "Properties".)
 use Rattle.std.specs.Prelude.{ℕ, zero, suc, ◌+◌, ◌-◌, ◌/◌, ◌%◌, nat_lt, ◌==◌, if◌then◌else◌, List, [], ◌∷◌, ◌++◌, length, map, decimal}
 use Rattle.std.specs.List.{flat_map}
+use Rattle.aig_circuit.specs.Properties.{Properties}
 use Rattle.aig_format.specs.declared.FileKind.{FileKind}
 use Rattle.aig_format.specs.declared.FileKind.TheVariants.{Text, Binary}
 use Rattle.aig_format.specs.File.{LatchLine, GateLine, NameLine, File}
@@ -31,11 +32,12 @@ shortened (n ∷ ns) = in_front n (shortened ns)
 -- the numbers of the header: five, and of the other four as many as up to the last that is not 0
 abbrev pub header_line_of : File → List ℕ
 header_line_of f =
+    let p = f.properties in
     magic f.kind
     ++ line_text
-    (f.greatest ∷ length f.inputs ∷ length f.latches ∷ length f.outputs ∷ length f.gates
+    (f.greatest ∷ length f.inputs ∷ length f.latches ∷ length p.outputs ∷ length f.gates
     ∷ shortened
-    (length f.bads ∷ length f.constraints ∷ length f.justice ∷ length f.fairness ∷ []))
+    (length p.bads ∷ length p.constraints ∷ length p.justice ∷ length p.fairness ∷ []))
 
 -- groups of seven bits, at most k and one more, the lowest first
 abbrev pub groups_of : ℕ → ℕ → List ℕ
@@ -61,6 +63,12 @@ abbrev pub inputs_text : FileKind → List ℕ → List ℕ
 inputs_text Text inputs = lines_text inputs
 inputs_text Binary inputs = []
 
+-- outputs and properties, a literal a line; of justice sets first how many literals each has
+abbrev pub properties_text : Properties ℕ → List ℕ
+properties_text p =
+    lines_text p.outputs ++ lines_text p.bads ++ lines_text p.constraints
+    ++ lines_text (map length p.justice) ++ flat_map lines_text p.justice ++ lines_text p.fairness
+
 -- a name line
 abbrev pub name_text : NameLine → List ℕ
 name_text n = n.letter ∷ decimal n.position ++ 32 ∷ n.name ++ 10 ∷ []
@@ -69,6 +77,5 @@ name_text n = n.letter ∷ decimal n.position ++ 32 ∷ n.name ++ 10 ∷ []
 unfoldable pub file_text : File → List ℕ
 file_text f =
     header_line_of f ++ inputs_text f.kind f.inputs ++ flat_map (latch_text f.kind) f.latches
-    ++ lines_text f.outputs ++ lines_text f.bads ++ lines_text f.constraints
-    ++ lines_text (map length f.justice) ++ flat_map lines_text f.justice ++ lines_text f.fairness
-    ++ flat_map (gate_text f.kind) f.gates ++ flat_map name_text f.names
+    ++ properties_text f.properties ++ flat_map (gate_text f.kind) f.gates
+    ++ flat_map name_text f.names

@@ -5,6 +5,8 @@ use Rattle.std.specs.List.{AllByRecursion}
 use Rattle.aig_circuit.specs.declared.edge.AigEdge.{AigEdge}
 use Rattle.aig_circuit.specs.declared.node.AigLatch.{AigLatch}
 use Rattle.aig_circuit.specs.Edge.{edge_to, literal_of}
+use Rattle.aig_circuit.specs.Properties.{AllProperties, Properties, map_properties}
+use Rattle.aig_circuit.proofs.Listed.{AllProperties-weaker, map_properties-map, map_properties-same}
 use Rattle.aig_format.specs.File.{File}
 use Rattle.aig_format.specs.Numbering.{is_compact, node_of_variable}
 use Rattle.aig_format.specs.Circuit.{edge_of, initial_of, latch_line, latch_of}
@@ -48,13 +50,10 @@ module _ (f : File) (compact : is_compact f ≡ true) where
   pub edge_again : (e : AigEdge) → IsWithin e → edge_of f (literal_of e) ≡ e
   edge_again e h = ap (λ n. edge_to n (literal_of e % 2 == 1)) (node_of_variable-compact f compact (literal_of e / 2) (omega (arith, h, literal_half e))) ∙ edge_literal e
 
-  pub edges_again : (es : List AigEdge) → AllByRecursion IsWithin es → map (edge_of f) (map literal_of es) ≡ es
-  edges_again [] all = refl
-  edges_again (e ∷ es) all = rw (edge_again e all.0, edges_again es all.1) refl
-
-  pub sets_again : (sets : List (List AigEdge)) → AllByRecursion (AllByRecursion IsWithin) sets → map (map (edge_of f)) (map (map literal_of) sets) ≡ sets
-  sets_again [] all = refl
-  sets_again (es ∷ sets) all = rw (edges_again es all.0, sets_again sets all.1) refl
+  pub properties_again : (p : Properties AigEdge) → AllProperties IsWithin p → map_properties (edge_of f) (map_properties literal_of p) ≡ p
+  properties_again p all =
+      let again = λ (e : AigEdge). edge_of f (literal_of e) in
+      map_properties-map (edge_of f) literal_of p ∙ map_properties-same again p (AllProperties-weaker IsWithin (λ e. again e ≡ e) edge_again p all)
 
   pub inputs_again : (ns : List ℕ) → AllByRecursion (λ n. n ≤ f.greatest) ns → map (λ e. node_of_variable f (e / 2)) (map (λ n. 2 * n) ns) ≡ ns
   inputs_again [] all = refl

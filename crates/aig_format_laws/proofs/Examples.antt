@@ -10,6 +10,7 @@ use Rattle.aig_circuit.specs.declared.node.AigNode.{AigNode}
 use Rattle.aig_circuit.specs.declared.node.AigLatch.{AigLatch}
 use Rattle.aig_circuit.specs.Edge.{edge_to}
 use Rattle.aig_circuit.specs.Circuit.{Circuit}
+use Rattle.aig_circuit.specs.Properties.{no_properties}
 use Rattle.aig_circuit.specs.Reencode.{reencoded}
 use Rattle.aig_format.specs.declared.FileKind.{FileKind}
 use Rattle.aig_format.specs.declared.FileKind.TheVariants.{Text, Binary}
@@ -27,7 +28,7 @@ and_file-nodes : (circuit_of and_file).nodes ≡ node 0 False ∷ node 1 Leaf �
 unfolding node_of_variable variables_in_order
 and_file-nodes = refl
 
-and_file-outputs : (circuit_of and_file).outputs ≡ edge_to 3 false ∷ []
+and_file-outputs : (circuit_of and_file).properties.outputs ≡ edge_to 3 false ∷ []
 unfolding node_of_variable variables_in_order
 and_file-outputs = refl
 
@@ -43,7 +44,7 @@ and_file-turned = refl
 
 -- latch 1 with next !1, output 1, and this reset
 abbrev pub latch_file : LatchLine → File
-latch_file l = record { kind = Text; greatest = 1; inputs = []; latches = l ∷ []; outputs = 2 ∷ []; gates = []; bads = []; constraints = []; justice = []; fairness = []; names = [] }
+latch_file l = record { kind = Text; greatest = 1; inputs = []; latches = l ∷ []; properties = record no_properties { outputs = 2 ∷ [] }; gates = []; names = [] }
 
 latch_file-false : (circuit_of (latch_file (record { literal = 2; next = 3; reset = None }))).latchs ≡ record { input = 1; next = edge_to 1 true; init = Some (edge_to 0 false) } ∷ []
 unfolding node_of_variable variables_in_order
@@ -63,7 +64,15 @@ latch_file-files = refl
 
 -- latch 2 with next true, gate and(1,2), a name for the input, justice sets and a fairness literal
 abbrev pub mixed_file : File
-mixed_file = record { kind = Text; greatest = 3; inputs = 2 ∷ []; latches = record { literal = 4; next = 1; reset = None } ∷ []; outputs = 6 ∷ []; gates = record { lhs = 6; rhs0 = 4; rhs1 = 2 } ∷ []; bads = []; constraints = []; justice = (2 ∷ 5 ∷ []) ∷ (4 ∷ []) ∷ []; fairness = 3 ∷ []; names = record { letter = 105; position = 0; name = 97 ∷ [] } ∷ record { letter = 108; position = 0; name = [] } ∷ [] }
+mixed_file = record {
+  kind = Text;
+  greatest = 3;
+  inputs = 2 ∷ [];
+  latches = record { literal = 4; next = 1; reset = None } ∷ [];
+  properties = record no_properties { outputs = 6 ∷ []; justice = (2 ∷ 5 ∷ []) ∷ (4 ∷ []) ∷ []; fairness = 3 ∷ [] };
+  gates = record { lhs = 6; rhs0 = 4; rhs1 = 2 } ∷ [];
+  names = record { letter = 105; position = 0; name = 97 ∷ [] } ∷ record { letter = 108; position = 0; name = [] } ∷ [];
+}
 
 mixed_file-file : record (file_of Text (circuit_of mixed_file)) { names = mixed_file.names } ≡ mixed_file
 unfolding node_of_variable variables_in_order
@@ -79,7 +88,7 @@ mixed_file-names = simp gets refl
 -- a circuit of these lists, with no names
 abbrev pub unnamed : List AigNode → List ℕ → List AigLatch → List AigEdge → List (List AigEdge) → List AigEdge → Circuit
 unnamed nodes inputs latchs outputs justice fairness =
-    record { nodes = nodes; inputs = inputs; latchs = latchs; outputs = outputs; bads = []; constraints = []; justice = justice; fairness = fairness; names = empty }
+    record { nodes = nodes; inputs = inputs; latchs = latchs; properties = record no_properties { outputs = outputs; justice = justice; fairness = fairness }; names = empty }
 
 -- the text of a circuit without its names, which are looked up and don't compute
 abbrev pub lists_text : FileKind → Circuit → List ℕ
@@ -96,7 +105,7 @@ latch_before_input-inputs = refl
 latch_before_input-latchs : (reencoded latch_before_input).latchs ≡ record { input = 2; next = edge_to 1 false; init = Some (edge_to 0 false) } ∷ []
 latch_before_input-latchs = refl
 
-latch_before_input-outputs : (reencoded latch_before_input).outputs ≡ edge_to 2 false ∷ []
+latch_before_input-outputs : (reencoded latch_before_input).properties.outputs ≡ edge_to 2 false ∷ []
 latch_before_input-outputs = refl
 
 latch_before_input-nodes : (reencoded latch_before_input).nodes ≡ latch_before_input.nodes

@@ -1,8 +1,8 @@
 -- The lines of a circuit's gates.
 use Rattle.std.proofs.Common.{◌≡◌, ◌≢◌, ℕ, zero, suc, ◌+◌, ◌*◌, ◌/◌, ◌<◌, ◌≤◌, true, false, cond, Some, None, List, [], ◌∷◌, length, map, refl, sym, ap, subst, ◌∙◌, arith}
-use Rattle.std.specs.Prelude.{◌==◌, find, filter, filter_map, count_by, slice_get}
+use Rattle.std.specs.Prelude.{◌==◌, find, filter, filter_map, count_by, slice_get, nat_lt}
 use Rattle.std.specs.List.{AllByRecursion, cons_option}
-use Rattle.std.proofs.lemmas.Bool.{eq-eqb, ne_eqb}
+use Rattle.std.proofs.lemmas.Bool.{eq-eqb, ne_eqb, and_from, lt-ltb}
 use Rattle.std.proofs.lemmas.Option.{same_Some}
 use Rattle.std.proofs.lemmas.List.Sums.{length-filter}
 use Rattle.aig_circuit.specs.declared.edge.AigEdge.{AigEdge}
@@ -13,7 +13,7 @@ use Rattle.aig_circuit.specs.Edge.{literal_of}
 use Rattle.aig_circuit.specs.Node.{kind_at}
 use Rattle.aig_circuit.specs.Runs.{is_leaf}
 use Rattle.aig_format.specs.File.{GateLine}
-use Rattle.aig_format.specs.Fits.{IsIncreasing}
+use Rattle.aig_format.specs.Numbering.{is_increasing}
 use Rattle.aig_format.specs.Circuit.{gate_line}
 use Rattle.aig_renumber.proofs.Order.{head_numbered, tail_numbered}
 
@@ -88,18 +88,18 @@ lefts gates = map (λ (g : GateLine). g.lhs) gates
 lefts_above : (v : ℕ) (nodes : List AigNode) → AreNumbered v nodes → AllByRecursion (λ (g : GateLine). 2 * v ≤ g.lhs) (lines_for nodes)
 lefts_above v nodes are = lines_all (λ (g : GateLine). 2 * v ≤ g.lhs) v nodes are (λ i a b h. omega arith)
 
-is_increasing_following : (e v : ℕ) (gates : List GateLine) → e < 2 * v → AllByRecursion (λ (g : GateLine). 2 * v ≤ g.lhs) gates → IsIncreasing (lefts gates) → IsIncreasing (e ∷ lefts gates)
-is_increasing_following e v [] h all rest = tt
-is_increasing_following e v (g ∷ gates) h all rest = (omega (arith, all.0), rest)
+is_increasing_following : (e v : ℕ) (gates : List GateLine) → e < 2 * v → AllByRecursion (λ (g : GateLine). 2 * v ≤ g.lhs) gates → is_increasing (lefts gates) ≡ true → is_increasing (e ∷ lefts gates) ≡ true
+is_increasing_following e v [] h all rest = refl
+is_increasing_following e v (g ∷ gates) h all rest = and_from (nat_lt e g.lhs) (is_increasing (lefts (g ∷ gates))) (lt-ltb e g.lhs (omega (arith, all.0))) rest
 
-pub lefts_rise : (v : ℕ) (nodes : List AigNode) → AreNumbered v nodes → IsIncreasing (lefts (lines_for nodes))
-lefts_rise v [] are = tt
+pub lefts_rise : (v : ℕ) (nodes : List AigNode) → AreNumbered v nodes → is_increasing (lefts (lines_for nodes)) ≡ true
+lefts_rise v [] are = refl
 lefts_rise v (x ∷ xs) are = by_case (line_case v x (head_numbered v x xs are)) (lefts_rise (suc v) xs next)
   where
     next : AreNumbered (suc v) xs
     next = tail_numbered v x xs are
 
-    by_case : LineCase v x → IsIncreasing (lefts (lines_for xs)) → IsIncreasing (lefts (cons_option (gate_line x) (lines_for xs)))
+    by_case : LineCase v x → is_increasing (lefts (lines_for xs)) ≡ true → is_increasing (lefts (cons_option (gate_line x) (lines_for xs))) ≡ true
     by_case (has_line a b is line) rest = rw line (is_increasing_following (2 * v) (suc v) (lines_for xs) (omega arith) (lefts_above (suc v) xs next) rest)
     by_case (no_line none line) rest = rw line rest
 

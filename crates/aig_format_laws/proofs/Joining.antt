@@ -26,6 +26,7 @@ use Rattle.aig_format.proofs.Nodes.{nodes_of, kind_at-number, VariableCase, at_z
 use Rattle.aig_format.proofs.Circuits.{defined_known, differ_from, gates_definable, kind_missed, leaf_missed, used_by_section}
 use Rattle.aig_format_laws.specs.Nodes.{HasNodeValues, values_over}
 use Rattle.aig_format.proofs.Found.{found_all}
+use Rattle.aig_format.proofs.Rules.{definable_told, even_literal}
 
 by_parity : (r : ℕ) → r < 2 → (b : Bool) → inverted_if (r == 1) b ≡ (if r == 0 then b else not b)
 by_parity zero h b = refl
@@ -150,7 +151,7 @@ gate_step : (f : File) (limit : ℕ) → Fits f limit → (x : ℕ → Bool) (g 
     values (g.lhs / 2) ≡ value_of_literal values g.rhs0 && value_of_literal values g.rhs1)
 gate_step f limit fits x g d known is =
     let values = λ (v : ℕ). node_value (nodes_of f) x (node_of_variable f v) in
-    let low = d.1 in
+    let low = (definable_told f.greatest g.lhs d).1 in
     let some : 1 ≤ g.lhs / 2 = omega arith in
     node_value-and_of (nodes_of f) (nodes-ordered f limit fits) x (node_of_variable f (g.lhs / 2)) (edge_of f g.rhs0) (edge_of f g.rhs1) (kind_at-number f limit fits (g.lhs / 2) known ∙ ap Some (kind_found f (g.lhs / 2) g some is))
     ∙ ap (λ b. b && edge_value (nodes_of f) x (edge_of f g.rhs1)) (edge_is f x values g.rhs0 refl)
@@ -163,7 +164,7 @@ back_step f limit fits x =
     let Known = λ (g : GateLine). IsKnown f g.lhs in
     let Found = λ (g : GateLine). gate_of_variable f (g.lhs / 2) ≡ Some g in
     let definable = gates_definable f limit fits in
-    let found = found_all (λ (g : GateLine). g.lhs) f.gates (rec_weaker Definable (λ (g : GateLine). g.lhs % 2 ≡ 0) (λ g d. d.0) f.gates definable) (later_distinct f limit fits).1 in record {
+    let found = found_all (λ (g : GateLine). g.lhs) f.gates (rec_weaker Definable (λ (g : GateLine). g.lhs % 2 ≡ 0) (λ g d. even_literal f.greatest g.lhs d) f.gates definable) (later_distinct f limit fits).1 in record {
       zero = ap (node_value (nodes_of f) x) (node_of_variable-zero f) ∙ node_value-false (nodes_of f) x 0 (sym (ap (λ n. kind_at (nodes_of f) n) (node_of_variable-zero f)) ∙ kind_at-number f limit fits 0 refl);
       gates = rec_weaker (λ g. (Definable g × Known g) × Found g) (λ (g : GateLine). values (g.lhs / 2) ≡ value_of_literal values g.rhs0 && value_of_literal values g.rhs1)
           (λ g p. gate_step f limit fits x g p.0.0 p.0.1 p.1) f.gates (rec_both (λ g. Definable g × Known g) Found f.gates (rec_both Definable Known f.gates definable (gates_known f)) found);
@@ -172,7 +173,7 @@ back_step f limit fits x =
 -- a leaf's node has its leaf value
 pub leaf_value : (f : File) (limit : ℕ) → Fits f limit → (x : ℕ → Bool) (e : ℕ) → IsDefinable f.greatest e → IsKnown f e → gate_of_variable f (e / 2) ≡ None → node_value (nodes_of f) x (node_of_variable f (e / 2)) ≡ x (node_of_variable f (e / 2))
 leaf_value f limit fits x e d known is =
-    let low = d.1 in
+    let low = (definable_told f.greatest e d).1 in
     let some : 1 ≤ e / 2 = omega arith in
     node_value-leaf (nodes_of f) x (node_of_variable f (e / 2)) (kind_at-number f limit fits (e / 2) known ∙ ap Some (kind_missed f (e / 2) some is))
 
@@ -187,7 +188,7 @@ latch_values f limit fits x =
     let Differs = λ (l : LatchLine). AllByRecursion (λ y. nat_eq l.literal y ≡ false) (map (λ (g : GateLine). g.lhs) f.gates) in
     let differs = rec_unmap (λ y. AllByRecursion (λ z. nat_eq y z ≡ false) (map (λ (g : GateLine). g.lhs) f.gates)) (λ (l : LatchLine). l.literal) f.latches (later_distinct f limit fits).0 in
     rec_weaker (λ l. (Definable l × Known l) × Differs l) (λ (l : LatchLine). node_value (nodes_of f) x (node_of_variable f (l.literal / 2)) ≡ x (node_of_variable f (l.literal / 2)))
-    (λ l p. leaf_value f limit fits x l.literal p.0.0 p.0.1 (leaf_missed f limit fits l.literal p.0.0.0 p.1)) f.latches
+    (λ l p. leaf_value f limit fits x l.literal p.0.0 p.0.1 (leaf_missed f limit fits l.literal (even_literal f.greatest l.literal p.0.0) p.1)) f.latches
     (rec_both (λ l. Definable l × Known l) Differs f.latches (rec_both Definable Known f.latches (latches_definable f limit fits) (latches_known f)) differs)
 
 -- and so has each input's
@@ -199,7 +200,7 @@ input_values f limit fits x =
     let Differs = λ (e : ℕ). AllByRecursion (λ y. nat_eq e y ≡ false) lefts in
     let differs = (rec_parts Differs f.inputs literals (differ_from (f.inputs ++ literals) lefts fits.distinct).0).0 in
     rec_weaker (λ e. (Definable e × IsKnown f e) × Differs e) (λ e. node_value (nodes_of f) x (node_of_variable f (e / 2)) ≡ x (node_of_variable f (e / 2)))
-    (λ e p. leaf_value f limit fits x e p.0.0 p.0.1 (leaf_missed f limit fits e p.0.0.0 p.1)) f.inputs
+    (λ e p. leaf_value f limit fits x e p.0.0 p.0.1 (leaf_missed f limit fits e (even_literal f.greatest e p.0.0) p.1)) f.inputs
     (rec_both (λ e. Definable e × IsKnown f e) Differs f.inputs (rec_both Definable (IsKnown f) f.inputs (inputs_definable f limit fits) (inputs_known f)) differs)
 
 pub back_moves : (f : File) (limit last : ℕ) (x : ℕ → ℕ → Bool) → Fits f limit → IsRun (circuit_of f) last x → (t : ℕ) → t < last → Moves f (values_over f x t) (values_over f x (t + 1))

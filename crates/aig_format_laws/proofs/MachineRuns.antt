@@ -25,6 +25,7 @@ use Rattle.aig_format_laws.specs.Nodes.{values_over}
 use Rattle.aig_format.proofs.Found.{found_all}
 use Rattle.aig_format_laws.proofs.Joining.{back_run, input_values, inputs_definable, inputs_known, latch_values, latches_definable, latches_known, nexts_known}
 use Rattle.aig_format_laws.proofs.Leaves.{leaf_is}
+use Rattle.aig_format.proofs.Rules.{even_literal}
 
 -- a literal has the same value where its variable has
 pub literal_same : (values other : ℕ → Bool) (e : ℕ) → values (e / 2) ≡ other (e / 2) → value_of_literal values e ≡ value_of_literal other e
@@ -105,7 +106,7 @@ module _ (f : File) (limit : ℕ) (fits : Fits f limit) (given : ℕ → ℕ →
   latches_found =
       let Definable = λ (l : LatchLine). IsDefinable f.greatest l.literal in
       let leaves = distinct_front (f.inputs ++ literals) (map (λ (g : GateLine). g.lhs) f.gates) fits.distinct in
-      found_all (λ (l : LatchLine). l.literal) f.latches (rec_weaker Definable (λ (l : LatchLine). l.literal % 2 ≡ 0) (λ l d. d.0) f.latches (latches_definable f limit fits)) (differ_from f.inputs literals leaves).1
+      found_all (λ (l : LatchLine). l.literal) f.latches (rec_weaker Definable (λ (l : LatchLine). l.literal % 2 ≡ 0) (λ l d. even_literal f.greatest l.literal d) f.latches (latches_definable f limit fits)) (differ_from f.inputs literals leaves).1
 
   -- and no latch at an input's
   no_latch : AllByRecursion (λ e. latch_at (e / 2) ≡ None) f.inputs
@@ -117,7 +118,7 @@ module _ (f : File) (limit : ℕ) (fits : Fits f limit) (given : ℕ → ℕ →
       (λ e p.
       let Differ = λ (l : LatchLine). nat_eq e l.literal ≡ false in
       find_none (λ (l : LatchLine). l.literal / 2 == e / 2) f.latches
-      (rec_weaker (λ l. Definable l × Differ l) (λ (l : LatchLine). (l.literal / 2 == e / 2) ≡ false) (λ l q. differs_half e l.literal p.0.0 q.0.0 q.1) f.latches
+      (rec_weaker (λ l. Definable l × Differ l) (λ (l : LatchLine). (l.literal / 2 == e / 2) ≡ false) (λ l q. differs_half e l.literal (even_literal f.greatest e p.0) (even_literal f.greatest l.literal q.0) q.1) f.latches
       (rec_both Definable Differ f.latches (latches_definable f limit fits) (rec_unmap (λ y. nat_eq e y ≡ false) (λ (l : LatchLine). l.literal) f.latches p.1))))
       f.inputs (rec_both (IsDefinable f.greatest) Differs f.inputs (inputs_definable f limit fits) (differ_from f.inputs literals leaves).0)
 

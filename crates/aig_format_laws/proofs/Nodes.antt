@@ -18,7 +18,7 @@ use Rattle.aig_format.specs.Circuit.{edge_of, file_of, kind_by, kind_of, nodes_f
 use Rattle.aig_format.specs.Variables.{gate_of_variable}
 use Rattle.aig_format.specs.Numbering.{is_compact, numbers_from, variables_in_order}
 use Rattle.aig_format.proofs.Searches.{find_none}
-use Rattle.aig_format.proofs.Compact.{compact-told}
+use Rattle.aig_format.proofs.Rules.{compact_exact}
 use Rattle.aig_format.proofs.Numbers.{order-compact}
 use Rattle.aig_format_laws.proofs.Edges.{edge_again}
 use Rattle.aig_format_laws.proofs.Gates.{AreNumbered, find_line, line_for, lines_all, lines_for}
@@ -72,7 +72,7 @@ module _ (kind : FileKind) (c : Circuit) (are : AreNodes c.nodes) (compact : is_
   pub nodes_again : nodes_from (file_of kind c) 0 (0 ∷ variables_in_order (file_of kind c)) ≡ c.nodes
   nodes_again =
       let there = kind_at-within c.nodes 0 False are.false_first in
-      let exact = (compact-told (file_of kind c) compact).exact in
+      let exact = compact_exact (file_of kind c) compact in
       let count : suc (length (defined (file_of kind c))) ≡ length c.nodes = omega arith in
       ap (λ vs. nodes_from (file_of kind c) 0 (0 ∷ vs)) (order-compact (file_of kind c) compact)
       ∙ ap (λ n. nodes_from (file_of kind c) 0 (numbers_from n 0)) count

@@ -19,7 +19,7 @@ use Rattle.aig_format.specs.File.{defined}
 use Rattle.aig_format.specs.Spells.{Placed, places}
 use Rattle.aig_format.specs.Circuit.{file_of}
 use Rattle.aig_format.specs.Writable.{IsWritable}
-use Rattle.aig_parsing.proofs.Files.{length-places, places-append}
+use Rattle.aig_format.proofs.Places.{length-places, places-append}
 use Rattle.aig_format_laws.proofs.Gates.{AreNumbered, LineCase, has_line, lefts, line_case, lines_for, no_line}
 use Rattle.aig_format_laws.proofs.Nodes.{numbered}
 use Rattle.aig_format_laws.proofs.Written.{defined_leaves}

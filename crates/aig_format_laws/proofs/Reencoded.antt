@@ -19,7 +19,7 @@ use Rattle.aig_format.specs.Writable.{AreTexts, HasLineFeed, IsWritable, list_le
 use Rattle.aig_circuit.specs.Edges.{HasConstantInit}
 use Rattle.aig_renumber.proofs.Circuits.{leaves-map}
 use Rattle.aig_renumber.proofs.Names.{found_back, names_in_circuit}
-use Rattle.aig_renumber.proofs.Numbering.{number-apart}
+use Rattle.aig_renumber.proofs.NodesInOrder.{number-apart}
 use Rattle.aig_renumber.proofs.Order.{Numbers-order}
 use Rattle.aig_renumber.proofs.Placed.{AreAsLong-reencoded, IsCircuit-reencoded, IsClosed-reencoded, IsReencoded-reencoded}
 use Rattle.aig_renumber.proofs.Places.{Contains-map_back}
@@ -52,7 +52,8 @@ module _ (c : Circuit) (is : IsCircuit c) (w : IsWritable c) where
   as_long =
       let number = new_number c in
       let edge = renumbered_edge number in
-      rw (length-map c.inputs number, length-map c.latchs (renumbered_latch number), length-map c.outputs edge, length-map c.bads edge, length-map c.constraints edge, length-map c.justice (map edge), length-map c.fairness edge) refl
+      let p = c.properties in
+      rw (length-map c.inputs number, length-map c.latchs (renumbered_latch number), length-map p.outputs edge, length-map p.bads edge, length-map p.constraints edge, length-map p.justice (map edge), length-map p.fairness edge) refl
 
   pub IsWritable-reencoded : IsWritable (reencoded c)
   IsWritable-reencoded = record {
@@ -62,9 +63,9 @@ module _ (c : Circuit) (is : IsCircuit c) (w : IsWritable c) where
     small = record {
       nodes = let same = (AreAsLong-reencoded c is w.closed).nodes in omega (arith, w.small.nodes);
       lists = subst (All (λ n. n < 2 ^ 32)) (sym as_long) w.small.lists;
-      sets = All-map (λ (set : List AigEdge). length set < 2 ^ 32) (map (renumbered_edge (new_number c))) c.justice
+      sets = All-map (λ (set : List AigEdge). length set < 2 ^ 32) (map (renumbered_edge (new_number c))) c.properties.justice
           (All-weaker (λ (set : List AigEdge). length set < 2 ^ 32) (λ (set : List AigEdge). length (map (renumbered_edge (new_number c)) set) < 2 ^ 32)
-          (λ set h. omega (arith, length-map set (renumbered_edge (new_number c)))) c.justice w.small.sets);
+          (λ set h. omega (arith, length-map set (renumbered_edge (new_number c)))) c.properties.justice w.small.sets);
     };
   }
 

@@ -38,9 +38,9 @@ pub header_small : (f : File) (bytes : List ℕ) → Spells f bytes → AllByRec
 header_small f bytes spells = header_line_small f.kind (header_of f) spells.sections.3.0 spells.sections.3.3
 
 -- the sizes of its justice sets
-pub sizes_small : (f : File) (bytes : List ℕ) → Spells f bytes → AllByRecursion IsSmallNumber (map length f.justice)
+pub sizes_small : (f : File) (bytes : List ℕ) → Spells f bytes → AllByRecursion IsSmallNumber (map length f.properties.justice)
 sizes_small f bytes spells =
-    let sizes = spells.sections.3.4.4.4.4.4.4 in lines_small (map length f.justice) sizes.0 sizes.3
+    let sizes = spells.sections.3.4.4.4.3.4.4.4.3 in lines_small (map length f.properties.justice) sizes.0 sizes.3
 
 -- its names hold no line feed
 pub names_plain : (f : File) (bytes : List ℕ) → Spells f bytes → AllByRecursion (λ (n : NameLine). AllByRecursion (λ b. b ≢ 10) n.name) f.names

@@ -1,10 +1,10 @@
 -- The circuit of an accepted file has a written form.
-use Rattle.std.proofs.Common.{◌≡◌, ◌≢◌, ℕ, ◌/◌, ◌^◌, ◌<◌, ◌≤◌, Bool, true, false, cond, ◌⊎◌, inl, inr, Option, Some, None, List, [], ◌∷◌, length, map, nat_cmp, refl, sym, subst, ◌∙◌, arith}
-use Rattle.std.specs.Prelude.{All, Contains, IfSome, IsSomeAnd, IsUtf8, filter_map, nat_lt, slice_index, unwrap_or, ◌==◌}
+use Rattle.std.proofs.Common.{◌≡◌, ◌≢◌, ℕ, ◌/◌, ◌^◌, ◌<◌, ◌≤◌, Bool, true, false, cond, Option, Some, None, List, [], ◌∷◌, length, map, nat_cmp, refl, sym, subst, ◌∙◌, arith, ◌||◌, ap}
+use Rattle.std.specs.Prelude.{All, Contains, IfSome, IsSomeAnd, IsUtf8, filter_map, nat_lt, slice_index, unwrap_or, ◌==◌, IsTrue}
 use Rattle.std.specs.List.{AllByRecursion, cons_option}
 use Rattle.std.specs.FinMap.{find, get, get-from_entries}
 use Rattle.std.specs.Ordering.{eq_by_cmp}
-use Rattle.std.proofs.lemmas.Bool.{eqb-true}
+use Rattle.std.proofs.lemmas.Bool.{or_right}
 use Rattle.std.proofs.lemmas.Cmp.{nat_cmp_total}
 use Rattle.std.proofs.lemmas.List.{length-map}
 use Rattle.std.proofs.lemmas.List.Elements.{All-contains, All-from_recursion}
@@ -12,9 +12,9 @@ use Rattle.std.proofs.lemmas.Option.{same_Some}
 use Rattle.aig_circuit.specs.declared.edge.AigEdge.{AigEdge}
 use Rattle.aig_circuit.specs.Edge.{edge_to}
 use Rattle.aig_circuit.specs.Edges.{HasConstantInit}
-use Rattle.aig_format.specs.File.{File, LatchLine, NameLine}
-use Rattle.aig_format.specs.Letters.{letter_of_inputs, letter_of_latches}
-use Rattle.aig_format.specs.Fits.{Accepts, Fits, IsNameOf}
+use Rattle.aig_format.specs.File.{File, LatchLine, NameLine, header_of}
+use Rattle.aig_format.specs.Letters.{letter_of_inputs, letter_of_latches, is_kept}
+use Rattle.aig_format.specs.Fits.{Accepts, Fits, is_name}
 use Rattle.aig_format.specs.Spells.{Spells}
 use Rattle.aig_format.specs.Circuit.{circuit_of, edge_of, latch_of, named_node}
 use Rattle.aig_format.specs.Numbering.{node_of_variable}
@@ -23,6 +23,7 @@ use Rattle.aig_format.proofs.Entries.{rec_map, rec_weaker}
 use Rattle.aig_format.proofs.Nodes.{few_nodes}
 use Rattle.aig_format_laws.proofs.Closed.{IsClosed-of_file}
 use Rattle.aig_format_laws.proofs.Spelled.{IsSmallNumber, header_small, names_plain, sizes_small}
+use Rattle.aig_format.proofs.Rules.{name_text}
 
 -- each latch of a file's circuit has a constant start or none
 pub plain_starts : (f : File) → All HasConstantInit (circuit_of f).latchs
@@ -49,7 +50,7 @@ value_has P (e ∷ es) q name all found = by_test (eq_by_cmp nat_cmp q e.0) foun
 
 -- names of inputs and latches are kept
 abbrev IsKept : NameLine → Type 0
-IsKept n = (n.letter ≡ letter_of_inputs) ⊎ (n.letter ≡ letter_of_latches)
+IsKept n = IsTrue (is_kept n.letter)
 
 -- a kept name has what the line's name has
 named_has : (f : File) (P : List ℕ → Type 0) (n : NameLine) → (IsKept n → P n.name) → IfSome (named_node f n) (λ e. P e.1)
@@ -57,8 +58,8 @@ named_has f P n has = by_letter (n.letter == letter_of_inputs) (n.letter == lett
   where
     by_letter : (i l : Bool) → (n.letter == letter_of_inputs) ≡ i → (n.letter == letter_of_latches) ≡ l
         → IfSome (cond i (Some (node_of_variable f (slice_index f.inputs n.position / 2), n.name)) (cond l (Some (node_of_variable f (slice_index (map (λ (l : LatchLine). l.literal) f.latches) n.position / 2), n.name)) None)) (λ (e : ℕ × List ℕ). P e.1)
-    by_letter true l is too = has (inl (eqb-true n.letter letter_of_inputs is))
-    by_letter false true is too = has (inr (eqb-true n.letter letter_of_latches too))
+    by_letter true l is too = has (ap (λ b. b || (n.letter == letter_of_latches)) is)
+    by_letter false true is too = has (or_right (n.letter == letter_of_inputs) (n.letter == letter_of_latches) too)
     by_letter false false is too = tt
 
 entries_have : (f : File) (P : List ℕ → Type 0) (names : List NameLine) → AllByRecursion (λ n. IsKept n → P n.name) names → AllByRecursion (λ (e : ℕ × List ℕ). P e.1) (filter_map (named_node f) names)
@@ -80,7 +81,7 @@ names_are_texts f limit fits n = by_name (get (circuit_of f).names n) refl
   where
     by_name : (o : Option (List ℕ)) → get (circuit_of f).names n ≡ o → IfSome o IsUtf8
     by_name None is = tt
-    by_name (Some name) is = names_have f IsUtf8 (rec_weaker (IsNameOf f) (λ n. IsKept n → IsUtf8 n.name) (λ n h. h.1) f.names fits.named) n name is
+    by_name (Some name) is = names_have f IsUtf8 (rec_weaker (λ n. is_name (header_of f) n ≡ true) (λ n. IsKept n → IsUtf8 n.name) (name_text (header_of f)) f.names fits.named) n name is
 
 -- and none holds a line feed
 no_line_feed : (f : File) → AllByRecursion (λ (n : NameLine). AllByRecursion (λ b. b ≢ 10) n.name) f.names → (n : ℕ) → ¬ HasLineFeed (circuit_of f).names n
@@ -104,11 +105,11 @@ lists_small f bytes spells =
     let h = header_small f bytes spells in
     let inputs = length-map f.inputs (λ e. node_of_variable f (e / 2)) in
     let latchs = length-map f.latches (latch_of f) in
-    let outputs = length-map f.outputs (edge_of f) in
-    let bads = length-map f.bads (edge_of f) in
-    let constraints = length-map f.constraints (edge_of f) in
-    let justice = length-map f.justice (map (edge_of f)) in
-    let fairness = length-map f.fairness (edge_of f) in
+    let outputs = length-map f.properties.outputs (edge_of f) in
+    let bads = length-map f.properties.bads (edge_of f) in
+    let constraints = length-map f.properties.constraints (edge_of f) in
+    let justice = length-map f.properties.justice (map (edge_of f)) in
+    let fairness = length-map f.properties.fairness (edge_of f) in
     let i = h.1.0 in let l = h.1.1.0 in let o = h.1.1.1.0 in let b = h.1.1.1.1.1.0 in let c = h.1.1.1.1.1.1.0 in let j = h.1.1.1.1.1.1.1.0 in let k = h.1.1.1.1.1.1.1.1.0 in
     (omega arith, (omega arith, (omega arith, (omega arith, (omega arith, (omega arith, (omega arith, tt)))))))
 
@@ -124,6 +125,6 @@ IsWritable-of_file f limit bytes low accepts = record {
   small = record {
     nodes = omega (arith, low, few_nodes f limit accepts.1);
     lists = All-from_recursion IsSmallNumber (list_lengths (circuit_of f)) (lists_small f bytes accepts.0);
-    sets = All-from_recursion (λ (set : List AigEdge). length set < 2 ^ 32) (circuit_of f).justice (sets_small f f.justice (sizes_small f bytes accepts.0));
+    sets = All-from_recursion (λ (set : List AigEdge). length set < 2 ^ 32) (circuit_of f).properties.justice (sets_small f f.properties.justice (sizes_small f bytes accepts.0));
   };
 }

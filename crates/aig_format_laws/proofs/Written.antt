@@ -1,9 +1,9 @@
 -- The file of a circuit that has a written form fits, can be written, and stands for the circuit.
-use Rattle.std.proofs.Common.{◌≡◌, ◌≢◌, ℕ, zero, suc, ◌+◌, ◌-◌, ◌*◌, ◌/◌, ◌^◌, ◌<◌, ◌≤◌, Bool, true, false, Option, Some, None, List, [], ◌∷◌, ◌++◌, length, map, refl, sym, ap, subst, ◌∙◌, arith, inl, inr, length-append, nat_cmp}
-use Rattle.std.specs.Prelude.{nat_eq, ◌==◌, slice_index, filter, filter_map, count_by, All, Contains, IfSome, IsSomeAnd, IsUtf8, option_to_list}
+use Rattle.std.proofs.Common.{◌≡◌, ◌≢◌, ℕ, zero, suc, ◌+◌, ◌-◌, ◌*◌, ◌/◌, ◌^◌, ◌<◌, ◌≤◌, Bool, true, false, Option, Some, None, List, [], ◌∷◌, ◌++◌, length, map, refl, sym, ap, subst, ◌∙◌, arith, length-append, nat_cmp, ◌||◌, le-leb}
+use Rattle.std.specs.Prelude.{nat_eq, ◌==◌, slice_index, filter, filter_map, count_by, Contains, IfSome, IsSomeAnd, IsUtf8, option_to_list, nat_le}
 use Rattle.std.specs.List.{AllByRecursion, IsDistinct}
 use Rattle.std.specs.FinMap.{FinMap, from_entries, get}
-use Rattle.std.proofs.lemmas.Bool.{ne_eqb, eqb-false}
+use Rattle.std.proofs.lemmas.Bool.{ne_eqb, eqb-false, eq-eqb, or_right}
 use Rattle.std.proofs.lemmas.Bool.Decides.{Decides-eqb}
 use Rattle.std.proofs.lemmas.Option.{same_Some}
 use Rattle.std.proofs.lemmas.List.{get_or-map, length-map, map-append}
@@ -18,31 +18,32 @@ use Rattle.aig_circuit.specs.declared.node.AigLatch.{AigLatch}
 use Rattle.aig_circuit.specs.Edge.{edge_to, literal_of}
 use Rattle.aig_circuit.specs.Node.{kind_at}
 use Rattle.aig_circuit.specs.Circuit.{Circuit, IsCircuit, IsInRange, IsLatch, IsLeaf, latch_leaves}
+use Rattle.aig_circuit.specs.Properties.{AllProperties, Properties}
 use Rattle.aig_circuit.specs.Runs.{is_leaf}
+use Rattle.aig_circuit.proofs.Listed.{AllProperties-map, AllProperties-weaker}
 use Rattle.aig_circuit.proofs.Trees.{kind_at-within}
 use Rattle.aig_circuit.proofs.Circuits.{AreLeaves-of_circuit}
 use Rattle.aig_circuit.proofs.Counting.{closed-count}
 use Rattle.aig_format.specs.declared.FileKind.{FileKind}
-use Rattle.aig_format.specs.File.{File, GateLine, LatchLine, defined, header_of}
-use Rattle.aig_format.specs.Fits.{Fits, IsCompact, HasReset, IsDefinable, IsNameOf, IsAboveOperands}
+use Rattle.aig_format.specs.File.{File, GateLine, LatchLine, defined, header_of, NameLine}
+use Rattle.aig_format.specs.Fits.{Fits, AllPass, IsDefinable, count_defined, has_enough, has_reset, is_accepted_order, is_literal, is_name, is_well_founded}
 use Rattle.aig_format.specs.Letters.{letter_of_inputs, letter_of_latches}
-use Rattle.aig_format.specs.Numbering.{is_compact, node_of_variable}
+use Rattle.aig_format.specs.Numbering.{is_above_operands, is_compact, node_of_variable}
 use Rattle.aig_format.specs.Spells.{numbers_in, Placed}
 use Rattle.aig_format.specs.Circuit.{IsReadAgain, circuit_of, file_of, latch_line, latch_of, named_node, name_lines, without_other_names}
 use Rattle.aig_format.specs.Writable.{AreTexts, HasLineFeed, IsWritable, list_lengths}
 use Rattle.aig_circuit.specs.Edges.{HasConstantInit}
 use Rattle.aig_format.proofs.Numbers.{node_of_variable-compact}
 use Rattle.aig_format.proofs.Members.{distinct_append}
-use Rattle.aig_format.proofs.Compact.{compact-tested}
-use Rattle.aig_format.proofs.Entries.{rec_append, rec_map, rec_weaker}
+use Rattle.aig_format.proofs.Rules.{above_from, compact_from, definable_from, name_from, rising_distinct}
+use Rattle.aig_format.proofs.Entries.{rec_append, rec_map, rec_weaker, OnUsed, length-defined, on_used}
 use Rattle.aig_parsing.specs.Writable.{CanWrite, GateSmall, IsFileNumber, LatchSmall, NameSmall}
 use Rattle.aig_parsing.proofs.Law.{spelling_spells}
-use Rattle.aig_parsing.proofs.Guards.{OnUsed, on_used}
-use Rattle.aig_parsing.proofs.FittingFiles.{rising_distinct}
-use Rattle.aig_format_laws.proofs.Edges.{IsOfFile, edges_again, inputs_again, latches_again, literal_below, literal_half, sets_again}
-use Rattle.aig_format_laws.proofs.Gates.{AreNumbered, lefts, lefts_rise, lines_all, lines_count, lines_for}
-use Rattle.aig_format_laws.proofs.Names.{names_again, names_all, names_distinct, names_kept, with_names}
+use Rattle.aig_format_laws.proofs.Edges.{IsOfFile, inputs_again, latches_again, literal_below, literal_half, properties_again}
+use Rattle.aig_format_laws.proofs.Gates.{AreNumbered, lefts, lefts_rise, lines_all, lines_count, lines_for, line_for}
+use Rattle.aig_format_laws.proofs.Names.{names_again, names_all, names_distinct, names_kept, with_names, line_named}
 use Rattle.aig_format_laws.proofs.Nodes.{nodes_again, numbered}
+use Rattle.aig_format.specs.declared.FileKind.TheVariants.{Text, Binary}
 
 -- twice each number
 abbrev doubled : List ℕ → List ℕ
@@ -73,12 +74,12 @@ no_line_feed [] none = tt
 no_line_feed (b ∷ bytes) none = (λ e. none (0, omega arith, e), no_line_feed bytes (λ has. none (Contains-append_right (b ∷ []) bytes 10 has)))
 
 -- circuits with the same parts are one
-same_parts : {nodes nodes' : List AigNode} {inputs inputs' : List ℕ} {latchs latchs' : List AigLatch} {outputs outputs' bads bads' constraints constraints' : List AigEdge} {justice justice' : List (List AigEdge)} {fairness fairness' : List AigEdge} {names names' : FinMap nat_cmp (List ℕ)}
-    → nodes ≡ nodes' → inputs ≡ inputs' → latchs ≡ latchs' → outputs ≡ outputs' → bads ≡ bads' → constraints ≡ constraints' → justice ≡ justice' → fairness ≡ fairness' → names ≡ names'
-    → (let first : Circuit = record { nodes = nodes; inputs = inputs; latchs = latchs; outputs = outputs; bads = bads; constraints = constraints; justice = justice; fairness = fairness; names = names } in
-    let second : Circuit = record { nodes = nodes'; inputs = inputs'; latchs = latchs'; outputs = outputs'; bads = bads'; constraints = constraints'; justice = justice'; fairness = fairness'; names = names' } in
+same_parts : {nodes nodes' : List AigNode} {inputs inputs' : List ℕ} {latchs latchs' : List AigLatch} {properties properties' : Properties AigEdge} {names names' : FinMap nat_cmp (List ℕ)}
+    → nodes ≡ nodes' → inputs ≡ inputs' → latchs ≡ latchs' → properties ≡ properties' → names ≡ names'
+    → (let first : Circuit = record { nodes = nodes; inputs = inputs; latchs = latchs; properties = properties; names = names } in
+    let second : Circuit = record { nodes = nodes'; inputs = inputs'; latchs = latchs'; properties = properties'; names = names' } in
     first ≡ second)
-same_parts a b d e g h i j k = cc
+same_parts a b d e k = cc
 
 module _ (kind : FileKind) (c : Circuit) (is : IsCircuit c) (w : IsWritable c) (texts : AreTexts c.names) where
   abbrev f : File
@@ -145,12 +146,13 @@ module _ (kind : FileKind) (c : Circuit) (is : IsCircuit c) (w : IsWritable c) (
 
   definable : AllByRecursion (IsDefinable (length c.nodes - 1)) (defined f)
   definable =
-      let P = IsDefinable (length c.nodes - 1) in
+      let top = length c.nodes - 1 in
+      let P = IsDefinable top in
       let low = some_node in
       let leaves : AllByRecursion P (doubled leaf_nodes) =
-      (rec_map P (λ m. 2 * m) leaf_nodes).1 (rec_weaker (IsLeaf c.nodes) (λ m. P (2 * m)) (λ m h. let p = leaf_first m h in let first = p.0 in let last = p.1 in (omega arith, omega arith, omega arith)) leaf_nodes leaves_are) in
+      (rec_map P (λ m. 2 * m) leaf_nodes).1 (rec_weaker (IsLeaf c.nodes) (λ m. P (2 * m)) (λ m h. let p = leaf_first m h in let first = p.0 in let last = p.1 in definable_from top (2 * m) (omega arith) (omega arith) (omega arith)) leaf_nodes leaves_are) in
       let gates : AllByRecursion P (lefts (lines_for c.nodes)) =
-      (rec_map P (λ (g : GateLine). g.lhs) (lines_for c.nodes)).1 (lines_all (λ (g : GateLine). P g.lhs) 0 c.nodes are_numbered (λ i a b h. let p = gate_first i a b h in let first = p.0 in let last = p.1 in (omega arith, omega arith, omega arith))) in
+      (rec_map P (λ (g : GateLine). g.lhs) (lines_for c.nodes)).1 (lines_all (λ (g : GateLine). P g.lhs) 0 c.nodes are_numbered (λ i a b h. let p = gate_first i a b h in let first = p.0 in let last = p.1 in definable_from top (2 * (0 + i)) (omega arith) (omega arith) (omega arith))) in
       (rec_append P (doubled c.inputs ++ map own (map latch_line c.latchs)) (lefts (lines_for c.nodes))).1 (subst (AllByRecursion P) (sym (defined_leaves c)) leaves, gates)
 
   distinct : IsDistinct nat_eq (defined f)
@@ -167,27 +169,20 @@ module _ (kind : FileKind) (c : Circuit) (is : IsCircuit c) (w : IsWritable c) (
       absurd cc)))) leaf_nodes leaves_are) in
       subst (λ ns. IsDistinct nat_eq (ns ++ gates)) (sym (defined_leaves c)) (distinct_append nat_eq (doubled leaf_nodes) gates leaves (rising_distinct gates (lefts_rise 0 c.nodes are_numbered)) apart)
 
-  -- a fact on the literals of edges that are in range
-  literals_have : (P : ℕ → Type 0) → ((e : ℕ) → e < 2 * length c.nodes → P e) → (es : List AigEdge) → All (IsInRange c.nodes) es → AllByRecursion P (map literal_of es)
-  literals_have P each es all =
-      (rec_map P literal_of es).1 (rec_weaker (IsInRange c.nodes) (λ e. P (literal_of e)) (λ e h. each (literal_of e) (literal_below (length c.nodes) e h)) es (recursion_from_All (IsInRange c.nodes) es all))
+  -- a fact on the literals of the properties, which are in range
+  literals_have : (P : ℕ → Type 0) → ((e : ℕ) → e < 2 * length c.nodes → P e) → AllProperties P f.properties
+  literals_have P each =
+      AllProperties-map P literal_of c.properties
+      (AllProperties-weaker (IsInRange c.nodes) (λ e. P (literal_of e)) (λ e h. each (literal_of e) (literal_below (length c.nodes) e h)) c.properties is.properties)
 
-  sets_have : (P : ℕ → Type 0) → ((e : ℕ) → e < 2 * length c.nodes → P e) → (sets : List (List AigEdge)) → AllByRecursion (All (IsInRange c.nodes)) sets → AllByRecursion (AllByRecursion P) (map (map literal_of) sets)
-  sets_have P each [] all = tt
-  sets_have P each (es ∷ sets) all = (literals_have P each es all.0, sets_have P each sets all.1)
-
-  in_range : OnUsed (λ e. e ≤ 2 * (length c.nodes - 1) + 1) f
+  in_range : OnUsed (λ e. is_literal (length c.nodes - 1) e ≡ true) f
   in_range =
-      let P = λ (e : ℕ). e ≤ 2 * (length c.nodes - 1) + 1 in
+      let P = λ (e : ℕ). is_literal (length c.nodes - 1) e ≡ true in
       let low = some_node in
-      let each : (e : ℕ) → e < 2 * length c.nodes → P e = λ e h. omega arith in
+      let each : (e : ℕ) → e < 2 * length c.nodes → P e = λ e h. le-leb e (2 * (length c.nodes - 1) + 1) (omega arith) in
       record {
         latches = (rec_map (λ (l : LatchLine). P l.next) latch_line c.latchs).1 (rec_weaker (IsLatch c.nodes) (λ l. P (literal_of l.next)) (λ l h. each (literal_of l.next) (literal_below (length c.nodes) l.next h.next)) c.latchs (recursion_from_All (IsLatch c.nodes) c.latchs is.latchs));
-        outputs = literals_have P each c.outputs is.outputs;
-        bads = literals_have P each c.bads is.bads;
-        constraints = literals_have P each c.constraints is.constraints;
-        justice = sets_have P each c.justice (recursion_from_All (All (IsInRange c.nodes)) c.justice is.justice);
-        fairness = literals_have P each c.fairness is.fairness;
+        properties = literals_have P each;
         gates = lines_all (λ (g : GateLine). P g.rhs0 × P g.rhs1) 0 c.nodes are_numbered (λ i a b h.
             let last = (gate_first i a b h).1 in
             let second = is.nodes.ordered.second_before i a b h in
@@ -195,30 +190,30 @@ module _ (kind : FileKind) (c : Circuit) (is : IsCircuit c) (w : IsWritable c) (
             (each (literal_of b) (literal_below (length c.nodes) b (omega arith)), each (literal_of a) (literal_below (length c.nodes) a (omega arith))));
       }
 
-  resets : AllByRecursion HasReset (map latch_line c.latchs)
-  resets = (rec_map HasReset latch_line c.latchs).1 (rec_weaker HasConstantInit (λ l. HasReset (latch_line l)) has_reset c.latchs (recursion_from_All HasConstantInit c.latchs w.start))
+  resets : AllPass has_reset (map latch_line c.latchs)
+  resets = (rec_map (λ l. has_reset l ≡ true) latch_line c.latchs).1 (rec_weaker HasConstantInit (λ l. has_reset (latch_line l) ≡ true) is_there c.latchs (recursion_from_All HasConstantInit c.latchs w.start))
     where
-      has_reset : (l : AigLatch) → HasConstantInit l → HasReset (latch_line l)
-      has_reset l plain = by_init l.init refl plain
+      is_there : (l : AigLatch) → HasConstantInit l → has_reset (latch_line l) ≡ true
+      is_there l plain = by_init l.init refl plain
         where
           made : Option AigEdge → AigLatch
           made init = record { input = l.input; next = l.next; init = init }
 
-          by_compl : (e : AigEdge) (b : Bool) → e.compl ≡ b → e.node_id ≡ 0 → HasReset (latch_line (made (Some e)))
-          by_compl e true h z = let own : e ≡ edge_to 0 true = ap (λ m. edge_to m e.compl) z ∙ ap (edge_to 0) h in rw own (inl (omega arith))
-          by_compl e false h z = let own : e ≡ edge_to 0 false = ap (λ m. edge_to m e.compl) z ∙ ap (edge_to 0) h in rw own tt
+          by_compl : (e : AigEdge) (b : Bool) → e.compl ≡ b → e.node_id ≡ 0 → has_reset (latch_line (made (Some e))) ≡ true
+          by_compl e true h z = let own : e ≡ edge_to 0 true = ap (λ m. edge_to m e.compl) z ∙ ap (edge_to 0) h in rw own refl
+          by_compl e false h z = let own : e ≡ edge_to 0 false = ap (λ m. edge_to m e.compl) z ∙ ap (edge_to 0) h in rw own refl
 
-          by_init : (o : Option AigEdge) → l.init ≡ o → IfSome l.init (λ e. e.node_id ≡ 0) → HasReset (latch_line l)
-          by_init (Some e) h z = subst (λ o. HasReset (latch_line (made o))) (sym h) (by_compl e e.compl refl (subst (λ o. IfSome o (λ e. e.node_id ≡ 0)) h z))
-          by_init None h z = subst (λ o. HasReset (latch_line (made o))) (sym h) (inr refl)
+          by_init : (o : Option AigEdge) → l.init ≡ o → IfSome l.init (λ e. e.node_id ≡ 0) → has_reset (latch_line l) ≡ true
+          by_init (Some e) h z = subst (λ o. has_reset (latch_line (made o)) ≡ true) (sym h) (by_compl e e.compl refl (subst (λ o. IfSome o (λ e. e.node_id ≡ 0)) h z))
+          by_init None h z = subst (λ o. has_reset (latch_line (made o)) ≡ true) (sym h) (or_right (nat_le (2 * l.input) 1) (2 * l.input == 2 * l.input) (eq-eqb (2 * l.input) (2 * l.input) refl))
 
-  ordered : AllByRecursion IsAboveOperands (lines_for c.nodes)
-  ordered = lines_all IsAboveOperands 0 c.nodes are_numbered (λ i a b h.
+  ordered : AllPass is_above_operands (lines_for c.nodes)
+  ordered = lines_all (λ g. is_above_operands g ≡ true) 0 c.nodes are_numbered (λ i a b h.
       let second = is.nodes.ordered.second_before i a b h in
       let first = is.nodes.ordered.first_before i a b h in
       let half_b = literal_half b in
       let half_a = literal_half a in
-      (omega arith, omega arith))
+      above_from (line_for (0 + i) a b) (omega arith) (omega arith))
 
   -- ---- names
 
@@ -231,29 +226,38 @@ module _ (kind : FileKind) (c : Circuit) (is : IsCircuit c) (w : IsWritable c) (
   input_count : length (doubled c.inputs) ≡ length c.inputs
   input_count = length-map c.inputs (λ m. 2 * m)
 
-  names_fit : AllByRecursion (IsNameOf f) f.names
-  names_fit = (rec_append (IsNameOf f) (name_lines letter_of_inputs 0 c.inputs (get c.names)) (name_lines letter_of_latches 0 (latch_leaves c.latchs) (get c.names))).1 (
-    names_all (IsNameOf f) letter_of_inputs 0 c.inputs (get c.names) (λ i bytes h is. (omega (arith, input_count), λ kept. texts_at _ bytes is)),
-    names_all (IsNameOf f) letter_of_latches 0 (latch_leaves c.latchs) (get c.names) (λ i bytes h is. (omega (arith, latch_count), λ kept. texts_at _ bytes is)),
-  )
+  names_fit : AllPass (is_name (header_of f)) f.names
+  names_fit =
+      let Named = λ (n : NameLine). is_name (header_of f) n ≡ true in
+      (rec_append Named (name_lines letter_of_inputs 0 c.inputs (get c.names)) (name_lines letter_of_latches 0 (latch_leaves c.latchs) (get c.names))).1 (
+        names_all Named letter_of_inputs 0 c.inputs (get c.names) (λ i bytes h is. name_from (header_of f) (line_named letter_of_inputs (0 + i) bytes) (omega (arith, input_count)) (texts_at _ bytes is)),
+        names_all Named letter_of_latches 0 (latch_leaves c.latchs) (get c.names) (λ i bytes h is. name_from (header_of f) (line_named letter_of_latches (0 + i) bytes) (omega (arith, latch_count)) (texts_at _ bytes is)),
+      )
 
   -- a written file is compact
-  fits_compact : IsCompact f
-  fits_compact = record { exact = exact; rising = lefts_rise 0 c.nodes are_numbered; ordered = ordered }
-
   compact : is_compact f ≡ true
-  compact = compact-tested f fits_compact
+  compact = compact_from f exact (lefts_rise 0 c.nodes are_numbered) ordered
+
+  -- and so in order, with as many variables as its header has
+  in_order : (kind : FileKind) → is_accepted_order kind f ≡ true
+  in_order Text = ap (λ b. b || is_well_founded f) compact
+  in_order Binary = compact
+
+  enough : (kind : FileKind) → has_enough kind (header_of f) ≡ true
+  enough Text = le-leb (count_defined (header_of f)) f.greatest (omega (arith, exact, length-defined f))
+  enough Binary = eq-eqb f.greatest (count_defined (header_of f)) (exact ∙ length-defined f)
 
   fits : (limit : ℕ) → length c.nodes ≤ limit → Fits f limit
   fits limit within =
       let low = some_node in
       record {
         within = omega arith;
+        enough = enough f.kind;
         definable = definable;
         distinct = distinct;
-        in_range = (on_used (λ e. e ≤ 2 * (length c.nodes - 1) + 1) f).1 in_range;
+        in_range = (on_used (λ e. is_literal (length c.nodes - 1) e ≡ true) f).1 in_range;
         resets = resets;
-        rules = inl fits_compact;
+        order = in_order f.kind;
         named = names_fit;
         once = names_distinct c.inputs (latch_leaves c.latchs) (get c.names);
       }
@@ -271,11 +275,12 @@ module _ (kind : FileKind) (c : Circuit) (is : IsCircuit c) (w : IsWritable c) (
 
   header_small : AllByRecursion IsFileNumber (numbers_in (header_of f))
   header_small =
+      let p = c.properties in
       let i = list_small 0 (omega arith) in let l = list_small 1 (omega arith) in let o = list_small 2 (omega arith) in
       let b = list_small 3 (omega arith) in let k = list_small 4 (omega arith) in let j = list_small 5 (omega arith) in let fs = list_small 6 (omega arith) in
-      let inputs = input_count in let latchs = length-map c.latchs latch_line in let outputs = length-map c.outputs literal_of in
-      let bads = length-map c.bads literal_of in let constraints = length-map c.constraints literal_of in
-      let justice = length-map c.justice (map literal_of) in let fairness = length-map c.fairness literal_of in
+      let inputs = input_count in let latchs = length-map c.latchs latch_line in let outputs = length-map p.outputs literal_of in
+      let bads = length-map p.bads literal_of in let constraints = length-map p.constraints literal_of in
+      let justice = length-map p.justice (map literal_of) in let fairness = length-map p.fairness literal_of in
       (omega (arith, few), (omega arith, (omega arith, (omega arith, (lines_few, (omega arith, (omega arith, (omega arith, (omega arith, tt)))))))))
 
   sizes_small : (sets : List (List AigEdge)) → AllByRecursion (λ set. length set < 2 ^ 32) sets → AllByRecursion IsFileNumber (map length (map (map literal_of) sets))
@@ -334,12 +339,8 @@ module _ (kind : FileKind) (c : Circuit) (is : IsCircuit c) (w : IsWritable c) (
     header = header_small;
     inputs = (rec_map IsFileNumber (λ m. 2 * m) c.inputs).1 (rec_weaker (IsLeaf c.nodes) (λ m. IsFileNumber (2 * m)) (λ m h. omega (arith, few, kind_at-within c.nodes m Leaf h)) c.inputs (recursion_from_All (IsLeaf c.nodes) c.inputs is.inputs));
     latches = latches_small;
-    outputs = literals_have IsFileNumber small_literal c.outputs is.outputs;
-    bads = literals_have IsFileNumber small_literal c.bads is.bads;
-    constraints = literals_have IsFileNumber small_literal c.constraints is.constraints;
-    sizes = sizes_small c.justice (recursion_from_All (λ set. length set < 2 ^ 32) c.justice w.small.sets);
-    justice = sets_have IsFileNumber small_literal c.justice (recursion_from_All (All (IsInRange c.nodes)) c.justice is.justice);
-    fairness = literals_have IsFileNumber small_literal c.fairness is.fairness;
+    properties = literals_have IsFileNumber small_literal;
+    sizes = sizes_small c.properties.justice (recursion_from_All (λ set. length set < 2 ^ 32) c.properties.justice w.small.sets);
     gates = gates_small;
     names = names_small;
     placed = placed;
@@ -351,12 +352,8 @@ module _ (kind : FileKind) (c : Circuit) (is : IsCircuit c) (w : IsWritable c) (
   within_file : (m : ℕ) → m < length c.nodes → m ≤ length c.nodes - 1
   within_file m h = omega arith
 
-  edges_within : (es : List AigEdge) → All (IsInRange c.nodes) es → AllByRecursion (λ (e : AigEdge). e.node_id ≤ length c.nodes - 1) es
-  edges_within es all = rec_weaker (IsInRange c.nodes) (λ (e : AigEdge). e.node_id ≤ length c.nodes - 1) (λ e h. within_file e.node_id h) es (recursion_from_All (IsInRange c.nodes) es all)
-
-  sets_within : AllByRecursion (AllByRecursion (λ (e : AigEdge). e.node_id ≤ length c.nodes - 1)) c.justice
-  sets_within =
-      rec_weaker (All (IsInRange c.nodes)) (AllByRecursion (λ (e : AigEdge). e.node_id ≤ length c.nodes - 1)) edges_within c.justice (recursion_from_All (All (IsInRange c.nodes)) c.justice is.justice)
+  properties_within : AllProperties (λ (e : AigEdge). e.node_id ≤ length c.nodes - 1) c.properties
+  properties_within = AllProperties-weaker (IsInRange c.nodes) (λ e. e.node_id ≤ length c.nodes - 1) (λ e h. within_file e.node_id h) c.properties is.properties
 
   leaf_within : (m : ℕ) → IsLeaf c.nodes m → m ≤ length c.nodes - 1
   leaf_within m h = within_file m (kind_at-within c.nodes m Leaf h)
@@ -397,9 +394,7 @@ module _ (kind : FileKind) (c : Circuit) (is : IsCircuit c) (w : IsWritable c) (
       ∙ names_kept c.names leaf_nodes
 
   circuit_same : circuit_of f ≡ without_other_names c
-  circuit_same =
-      let again = λ (es : List AigEdge) (all : All (IsInRange c.nodes) es). edges_again f compact es (edges_within es all) in
-      same_parts (nodes_again kind c is.nodes compact) inputs_same latches_same (again c.outputs is.outputs) (again c.bads is.bads) (again c.constraints is.constraints) (sets_again f compact c.justice sets_within) (again c.fairness is.fairness) names_same
+  circuit_same = same_parts (nodes_again kind c is.nodes compact) inputs_same latches_same (properties_again f compact c.properties properties_within) names_same
 
 -- what is written is read again
 pub is_read_again : (kind : FileKind) (c : Circuit) → IsCircuit c → IsWritable c → AreTexts c.names → Placed kind (defined (file_of kind c)) → IsReadAgain c (file_of kind c)

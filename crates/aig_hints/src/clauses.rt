@@ -3,7 +3,7 @@
 ghost use Rattle.std.specs.Prelude.{◌<◌, IfSome, length};
 
 use crate::trail::Trail;
-use aig_base::{Lbool, Lit, MemoryError};
+use aig_base::{Lit, MemoryError};
 use std::alloc::Global;
 
 /// How many words a clause has before its literals.
@@ -38,11 +38,12 @@ pub(crate) enum Look {
 }
 
 /// The place of the first literal from `from` on that isn't false, if there is one.
+#[inline(always)]
 fn open_from(lits: &[u32], from: usize, trail: &Trail) -> Option<usize>
     ensures { IfSome result (λ i. i < length lits.now) }
 {
     for i in from..lits.len() {
-        if trail.value(Lit::from(lits[i])) != Lbool::FALSE {
+        if !trail.is_false(Lit::from(lits[i])) {
             return Some(i);
         }
     }
@@ -51,6 +52,7 @@ fn open_from(lits: &[u32], from: usize, trail: &Trail) -> Option<usize>
 
 /// The place of a literal that isn't false, if there is one: of the first from `turn` on, and else
 /// of the first.
+#[inline(always)]
 fn next_open(lits: &[u32], turn: usize, trail: &Trail) -> Option<usize>
     ensures { IfSome result (λ i. i < length lits.now) }
 {
@@ -123,6 +125,16 @@ impl Clauses {
     /// The literal of this place in a clause.
     pub(crate) fn lit(&self, place: u32, i: u32) -> Lit {
         Lit::from(self.word(place as usize + HEADER + i as usize))
+    }
+
+    /// The words of a clause's literals.
+    pub(crate) fn lits(&self, place: u32) -> &[u32] {
+        let start = place as usize + HEADER;
+        let end = start + self.len(place) as usize;
+        if end > self.words.len() {
+            return &self.words[..0];
+        }
+        &self.words[start..end]
     }
 
     /// Writes the literal of this place in a clause.
@@ -235,7 +247,7 @@ impl Clauses {
     pub(crate) fn bring_open(&mut self, place: u32, trail: &Trail) -> u32 {
         let mut found = 0;
         for i in 0..self.len(place) {
-            if trail.value(self.lit(place, i)) != Lbool::FALSE {
+            if !trail.is_false(self.lit(place, i)) {
                 self.swap(place, found, i);
                 found += 1;
                 if found == 2 {
@@ -249,6 +261,7 @@ impl Clauses {
     /// Looks at a clause one of whose watched literals is this one, which is false now. Where the
     /// other isn't true, it watches a further literal that isn't false in its place, if there is
     /// one. The look for that goes on where the last one ended.
+    #[inline(always)]
     pub(crate) fn look(&mut self, place: u32, lit: Lit, trail: &Trail) -> Look {
         let start = (place as usize).min(self.words.len());
         let words = &mut self.words[start..];
@@ -261,7 +274,7 @@ impl Clauses {
         } else {
             first
         };
-        if trail.value(other) == Lbool::TRUE {
+        if trail.is_true(other) {
             return Look::True(other);
         }
         let end = HEADER + words[LENGTH] as usize;

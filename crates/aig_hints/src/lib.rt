@@ -8,6 +8,7 @@
 mod clauses;
 mod index;
 mod marked;
+mod needed;
 mod search;
 mod trail;
 mod watches;

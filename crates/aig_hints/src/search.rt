@@ -3,9 +3,10 @@
 use crate::clauses::Clauses;
 use crate::index::Index;
 use crate::marked::Marked;
+use crate::needed::Needed;
 use crate::trail::Trail;
-use crate::watches::Watches;
-use aig_base::{Lbool, Lit, MemoryError};
+use crate::watches::{Longs, Shorts};
+use aig_base::{Lit, MemoryError};
 use std::alloc::Global;
 use std::mem;
 
@@ -13,11 +14,14 @@ use std::mem;
 /// many.
 const PERIOD: u32 = 200;
 
+/// How many literals a short clause has at most.
+const MOST_OF_SHORT: u32 = 3;
+
 /// Finds hints by unit propagation: of each clause two literals are watched, and literals that
 /// follow from the clauses alone stay true from then on (Moskewicz, Madigan, Zhao, Zhang and Malik:
-/// Chaff, 2001).
+/// Chaff, 2001). Of a clause of two or three literals all are watched, so that its watches stay.
 ///
-/// What follows along clauses of two literals is made true before any other clause is looked at, and
+/// What follows along these short clauses is made true before any other clause is looked at, and
 /// what follows along recent ones before the rest: those that were added, or became hints, a short
 /// time ago. Most hints of a clause are also hints of the clauses just before it.
 ///
@@ -26,12 +30,12 @@ const PERIOD: u32 = 200;
 pub struct Search {
     alloc: Global,
     clauses: Clauses,
-    /// The clauses of two literals.
-    pairs: Watches,
+    /// The short clauses.
+    shorts: Shorts,
     /// Recent clauses of more literals.
-    recent: Watches,
+    recent: Longs,
     /// The others.
-    rest: Watches,
+    rest: Longs,
     /// The places of the recent ones, and of some that were removed.
     recent_places: Vec<u32>,
     /// How many searches there were. Clauses of the formula come before the first, and aren't recent.
@@ -39,13 +43,13 @@ pub struct Search {
     index: Index,
     trail: Trail,
     marked: Marked,
+    /// The literals for whose values clauses are to be collected.
+    needed: Needed,
     /// For each variable the number of the clause that has its literal alone, or 0 where there is
     /// none.
     units: Vec<u32>,
     /// How many of the first literals of the trail have such a clause.
     named: usize,
-    /// Such clauses among the hints that are collected.
-    unit_hints: Vec<u32>,
     /// The place of a clause whose literals are all false for good.
     conflict: Option<u32>,
 }
@@ -57,17 +61,17 @@ impl Search {
         Ok(Search {
             alloc,
             clauses: Clauses::new(alloc)?,
-            pairs: Watches::new(alloc, literals)?,
-            recent: Watches::new(alloc, literals)?,
-            rest: Watches::new(alloc, literals)?,
+            shorts: Shorts::new(alloc, literals)?,
+            recent: Longs::new(alloc, literals)?,
+            rest: Longs::new(alloc, literals)?,
             recent_places: Vec::new(alloc),
             searches: 0,
             index: Index::new(alloc),
             trail: Trail::new(alloc, variables)?,
             marked: Marked::new(alloc, literals)?,
+            needed: Needed::new(alloc, variables)?,
             units: vec![in alloc; 0; variables]?,
             named: 0,
-            unit_hints: Vec::new(alloc),
             conflict: None,
         })
     }
@@ -114,7 +118,7 @@ impl Search {
         }
         if open == 0 {
             self.conflict = Some(place);
-        } else if self.trail.value(first) == Lbool::NONE {
+        } else if !self.trail.is_true(first) {
             self.trail.assign(first, place);
             if self.clauses.len(place) == 1 {
                 self.set_unit(first, number);
@@ -123,10 +127,13 @@ impl Search {
         Ok(())
     }
 
-    /// Watches the first two literals of a clause.
+    /// Watches all literals of a short clause, and the first two of another.
     fn watch(&mut self, place: u32) -> Result<(), MemoryError> {
+        if self.clauses.len(place) == 3 {
+            return self.shorts.add_triple(&self.clauses, place);
+        }
         if self.clauses.len(place) == 2 {
-            return self.pairs.add(&self.clauses, place);
+            return self.shorts.add_pair(&self.clauses, place);
         }
         if self.clauses.used(place) == 0 {
             return self.rest.add(&self.clauses, place);
@@ -137,7 +144,7 @@ impl Search {
 
     /// Takes note that a clause is used now.
     fn make_recent(&mut self, place: u32) -> Result<(), MemoryError> {
-        if self.searches == 0 || self.clauses.len(place) <= 2 {
+        if self.searches == 0 || self.clauses.len(place) <= MOST_OF_SHORT {
             return Ok(());
         }
         let was_recent = self.clauses.used(place) != 0;
@@ -145,7 +152,7 @@ impl Search {
         if was_recent {
             return Ok(());
         }
-        self.rest.remove(&self.clauses, place);
+        self.rest.remove(&self.clauses, place, 2);
         self.watch(place)
     }
 
@@ -157,7 +164,7 @@ impl Search {
         if self.searches.saturating_sub(self.clauses.used(place)) <= PERIOD {
             return Ok(true);
         }
-        self.recent.remove(&self.clauses, place);
+        self.recent.remove(&self.clauses, place, 2);
         self.clauses.set_used(place, 0);
         self.watch(place)?;
         Ok(false)
@@ -174,12 +181,12 @@ impl Search {
         Ok(())
     }
 
-    /// Makes true what follows along clauses of two literals, up to one whose literals are both
-    /// false, and returns its place.
-    fn propagate_pairs(&mut self) -> Option<u32> {
+    /// Makes true what follows along short clauses, up to one whose literals are all false, and
+    /// returns its place.
+    fn propagate_shorts(&mut self) -> Option<u32> {
         for _ in 0..self.units.len() {
-            let lit = self.pairs.next(&self.trail)?;
-            let conflict = self.pairs.visit_pairs(!lit, &mut self.trail);
+            let lit = self.shorts.next(&self.trail)?;
+            let conflict = self.shorts.visit_shorts(!lit, &mut self.trail);
             if conflict.is_some() {
                 return conflict;
             }
@@ -190,7 +197,7 @@ impl Search {
     /// The same along recent clauses too.
     fn propagate_recent(&mut self) -> Result<Option<u32>, MemoryError> {
         for _ in 0..self.units.len() {
-            let conflict = self.propagate_pairs();
+            let conflict = self.propagate_shorts();
             if conflict.is_some() {
                 return Ok(conflict);
             }
@@ -232,32 +239,49 @@ impl Search {
     /// number of the clause that has it alone is answered.
     fn assume_false(&mut self, clause: &[Lit]) -> Result<Option<u32>, MemoryError> {
         for lit in clause.iter().rev() {
-            match self.trail.value(*lit) {
-                Lbool::TRUE => {
-                    let unit = self.unit(*lit);
-                    if unit != 0 {
-                        return Ok(Some(unit));
-                    }
+            if self.trail.is_true(*lit) {
+                let unit = self.unit(*lit);
+                if unit != 0 {
+                    return Ok(Some(unit));
                 }
-                Lbool::NONE => self.trail.assign(!*lit, 0),
-                Lbool::FALSE => {}
+            } else if !self.trail.is_false(*lit) {
+                self.trail.assign(!*lit, 0);
             }
         }
         Ok(None)
     }
 
-    /// Collects a clause, and the clauses that have its false literals' inverses alone.
+    /// Collects a clause, for whose literals clauses are needed then.
     fn collect(&mut self, place: u32, hints: &mut Vec<u32>) -> Result<(), MemoryError> {
         self.make_recent(place)?;
         hints.push(self.clauses.number(place))?;
-        for i in 0..self.clauses.len(place) {
-            let lit = !self.clauses.lit(place, i);
-            if self.marked.add(lit)? {
-                let unit = self.unit(lit);
-                if unit != 0 {
-                    self.unit_hints.push(unit)?;
-                }
+        for word in self.clauses.lits(place) {
+            self.needed.add(self.trail.order(Lit::from(*word)));
+        }
+        Ok(())
+    }
+
+    /// Collects the clause of the literal that stands here on the trail, if it has one. The first
+    /// `fixed` ones have clauses of their own.
+    fn collect_at(
+        &mut self,
+        i: usize,
+        fixed: usize,
+        hints: &mut Vec<u32>,
+    ) -> Result<(), MemoryError> {
+        let Some(lit) = self.trail.get(i) else {
+            return Ok(());
+        };
+        if i < fixed {
+            let unit = self.unit(lit);
+            if unit != 0 {
+                hints.push(unit)?;
             }
+            return Ok(());
+        }
+        let reason = self.trail.reason(i);
+        if reason != 0 {
+            self.collect(reason, hints)?;
         }
         Ok(())
     }
@@ -270,18 +294,15 @@ impl Search {
         fixed: usize,
         hints: &mut Vec<u32>,
     ) -> Result<(), MemoryError> {
-        self.marked.clear();
-        self.unit_hints.clear();
+        self.needed.start(self.trail.len());
         self.collect(place, hints)?;
-        for i in (fixed..self.trail.len()).rev() {
-            if let Some(lit) = self.trail.get(i) {
-                let reason = self.trail.reason(lit);
-                if reason != 0 && self.marked.has(lit) {
-                    self.collect(reason, hints)?;
-                }
-            }
+        for _ in 0..self.trail.len() {
+            let Some(i) = self.needed.last() else {
+                break;
+            };
+            self.collect_at(i, fixed, hints)?;
+            self.needed.remove(i);
         }
-        hints.extend_from_slice(&self.unit_hints)?;
         hints.reverse();
         Ok(())
     }
@@ -310,7 +331,7 @@ impl Search {
     /// Keeps the first `len` literals of the trail alone, all of which were propagated.
     fn undo(&mut self, len: usize) {
         self.trail.undo(len);
-        self.pairs.rewind(len);
+        self.shorts.rewind(len);
         self.recent.rewind(len);
         self.rest.rewind(len);
     }
@@ -338,7 +359,7 @@ impl Search {
             self.named = i;
             if let Some(lit) = self.trail.get(i) {
                 if self.unit(lit) == 0 {
-                    let reason = self.trail.reason(lit);
+                    let reason = self.trail.reason(i);
                     if reason != 0 {
                         self.explain(reason, fixed, hints)?;
                     }
@@ -369,8 +390,9 @@ impl Search {
         };
         let number = self.clauses.number(place);
         self.clauses.remove(place);
-        if self.clauses.len(place) == 2 {
-            self.pairs.remove(&self.clauses, place);
+        let len = self.clauses.len(place);
+        if len <= MOST_OF_SHORT {
+            self.shorts.remove(&self.clauses, place, len);
         }
         let tables = self.rest.size().saturating_add(self.index.size());
         if self.clauses.is_sparse(tables) {
@@ -384,7 +406,7 @@ impl Search {
     fn compact(&mut self) -> Result<(), MemoryError> {
         self.clauses.compact();
         self.index.fill(&mut self.clauses);
-        self.pairs.clear();
+        self.shorts.clear();
         self.recent.clear();
         self.rest.clear();
         self.recent_places.clear();

@@ -1,17 +1,38 @@
 //! Which literals are true, and why.
 
-use aig_base::{Lbool, Lit, MemoryError};
+use aig_base::{Lit, MemoryError};
 use std::alloc::Global;
+
+/// The weight of a false literal.
+const FALSE: u8 = 0;
+
+/// The weight of a literal that has no value.
+const OPEN: u8 = 1;
+
+/// The weight of a true literal.
+const TRUE: u8 = 2;
+
+/// Gives a literal and its inverse these weights, if they are there.
+fn put(weights: &mut [u8], lit: Lit, weight: u8, of_inverse: u8) {
+    let i = u32::from(lit) as usize;
+    let inverse = i ^ 1;
+    if i < weights.len() && inverse < weights.len() {
+        weights[i] = weight;
+        weights[inverse] = of_inverse;
+    }
+}
 
 /// Truth values of literals, in the order in which they came.
 #[derive(Drop)]
 pub(crate) struct Trail {
-    /// The value of each literal, by its number.
-    values: Vec<Lbool>,
-    /// For each variable the place of the clause that gave its value, or 0.
-    reasons: Vec<u32>,
+    /// How far each literal is from being false, by its number.
+    weights: Vec<u8>,
+    /// For each variable where its literal stands in the order, if it has a value.
+    orders: Vec<u32>,
     /// The true literals, and room for the others.
     lits: Vec<Lit>,
+    /// For each of them the place of the clause that gave its value, or 0.
+    reasons: Vec<u32>,
     /// How many literals are true.
     len: usize,
 }
@@ -19,13 +40,11 @@ pub(crate) struct Trail {
 impl Trail {
     /// No values, of so many variables.
     pub(crate) fn new(alloc: Global, variables: usize) -> Result<Trail, MemoryError> {
-        let values = vec![in alloc; Lbool::NONE; variables.saturating_mul(2)]?;
-        let reasons = vec![in alloc; 0; variables]?;
-        let lits = vec![in alloc; Lit::from(0); variables]?;
         Ok(Trail {
-            values,
-            reasons,
-            lits,
+            weights: vec![in alloc; OPEN; variables.saturating_mul(2)]?,
+            orders: vec![in alloc; 0; variables]?,
+            lits: vec![in alloc; Lit::from(0); variables]?,
+            reasons: vec![in alloc; 0; variables]?,
             len: 0,
         })
     }
@@ -35,7 +54,7 @@ impl Trail {
         self.len
     }
 
-    /// The true literal of this place in the order, if there are so many.
+    /// The true literal that stands here in the order, if there are so many.
     pub(crate) fn get(&self, i: usize) -> Option<Lit> {
         if i < self.len && i < self.lits.len() {
             Some(self.lits[i])
@@ -44,19 +63,35 @@ impl Trail {
         }
     }
 
-    /// The value of a literal.
-    pub(crate) fn value(&self, lit: Lit) -> Lbool {
+    /// How far a literal is from being false.
+    fn weight(&self, lit: Lit) -> u8 {
         let i = u32::from(lit) as usize;
-        if i < self.values.len() {
-            self.values[i]
+        if i < self.weights.len() {
+            self.weights[i]
         } else {
-            Lbool::NONE
+            OPEN
         }
     }
 
-    /// The place of the clause that gave a true literal its value, or 0.
-    pub(crate) fn reason(&self, lit: Lit) -> u32 {
-        let i = usize::from(lit.var());
+    /// Whether a literal is true.
+    pub(crate) fn is_true(&self, lit: Lit) -> bool {
+        self.weight(lit) == TRUE
+    }
+
+    /// Whether a literal is false.
+    pub(crate) fn is_false(&self, lit: Lit) -> bool {
+        self.weight(lit) == FALSE
+    }
+
+    /// Whether of two literals one is false and the other isn't true.
+    pub(crate) fn is_forced(&self, lits: [Lit; 2]) -> bool {
+        let sum = self.weight(lits[0]) as u32 + self.weight(lits[1]) as u32;
+        sum <= OPEN as u32
+    }
+
+    /// The place of the clause that gave its value to the literal that stands here in the order, or
+    /// 0.
+    pub(crate) fn reason(&self, i: usize) -> u32 {
         if i < self.reasons.len() {
             self.reasons[i]
         } else {
@@ -64,36 +99,35 @@ impl Trail {
         }
     }
 
-    /// Gives the literal and its inverse these values, if they are there.
-    fn put(&mut self, lit: Lit, value: Lbool) {
-        let i = u32::from(lit) as usize;
-        let inverse = u32::from(!lit) as usize;
-        if i < self.values.len() && inverse < self.values.len() {
-            self.values[i] = value;
-            self.values[inverse] = !value;
+    /// Where a literal that has a value, or its inverse, stands in the order.
+    pub(crate) fn order(&self, lit: Lit) -> usize {
+        let i = usize::from(lit.var());
+        if i < self.orders.len() {
+            self.orders[i] as usize
+        } else {
+            0
         }
     }
 
     /// Makes a literal true that has no value, for the reason of the clause of this place, or of
     /// none where that is 0.
     pub(crate) fn assign(&mut self, lit: Lit, reason: u32) {
-        if self.len < self.lits.len() {
-            self.lits[self.len] = lit;
-            self.len += 1;
-        }
-        self.put(lit, Lbool::TRUE);
-        let i = usize::from(lit.var());
-        if i < self.reasons.len() {
+        let i = self.len;
+        let variable = usize::from(lit.var());
+        if i < self.lits.len() && i < self.reasons.len() && variable < self.orders.len() {
+            self.lits[i] = lit;
             self.reasons[i] = reason;
+            self.orders[variable] = u32::try_from(i).unwrap_or(0);
+            self.len = i + 1;
         }
+        put(&mut self.weights, lit, TRUE, FALSE);
     }
 
     /// Keeps the first `len` literals alone.
     pub(crate) fn undo(&mut self, len: usize) {
-        for i in len..self.len {
-            if let Some(lit) = self.get(i) {
-                self.put(lit, Lbool::NONE);
-            }
+        let end = self.len.min(self.lits.len());
+        for lit in &self.lits[len.min(end)..end] {
+            put(&mut self.weights, *lit, OPEN, OPEN);
         }
         self.len = self.len.min(len);
     }

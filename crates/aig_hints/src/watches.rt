@@ -1,23 +1,22 @@
-//! Which clauses watch a literal.
+//! Which clauses are looked at once a literal is false.
 
 use crate::clauses::{Clauses, Look};
 use crate::trail::Trail;
-use aig_base::{Lbool, Lit, MemoryError};
+use aig_base::{Lit, MemoryError};
 use std::alloc::Global;
 use std::mem;
 
-/// A clause that watches a literal.
+/// A clause in the list of one of its literals, beside another one, or others.
 #[derive(Clone, Copy)]
-struct Watch {
+struct Watch<O> {
     /// The clause's place.
     place: u32,
-    /// Another literal of the clause: where it is true, so is the clause.
-    blocker: Lit,
+    others: O,
 }
 
 /// What becomes of a clause's watch on a literal that is false now.
 enum Visit {
-    /// It stays, with this blocker.
+    /// It stays, beside this other literal.
     Stays(Lit),
     /// It ends: the clause watches another literal, or was removed.
     Ends,
@@ -27,16 +26,24 @@ enum Visit {
 
 /// For each literal the clauses of some kind that watch it, and so are looked at once it is false.
 #[derive(Drop)]
-pub(crate) struct Watches {
+pub(crate) struct Watches<O> {
     alloc: Global,
-    lists: Vec<Vec<Watch>>,
+    lists: Vec<Vec<Watch<O>>>,
     /// How many of the literals on the trail were propagated along these clauses.
     taken: usize,
 }
 
-impl Watches {
+/// Clauses of which two literals are watched, each beside a literal: where that is true, so is the
+/// clause.
+pub(crate) type Longs = Watches<Lit>;
+
+/// Clauses of two or three literals, all of which are watched, beside the other two. Where there are
+/// two, the second of these is the watched one itself.
+pub(crate) type Shorts = Watches<[Lit; 2]>;
+
+impl<O: Copy> Watches<O> {
     /// No clauses, for so many literals.
-    pub(crate) fn new(alloc: Global, count: usize) -> Result<Watches, MemoryError> {
+    pub(crate) fn new(alloc: Global, count: usize) -> Result<Watches<O>, MemoryError> {
         let mut lists = Vec::with_capacity(alloc, count)?;
         for _ in 0..count {
             lists.push(Vec::new(alloc))?;
@@ -53,21 +60,13 @@ impl Watches {
         self.lists.len()
     }
 
-    /// Lets a clause watch a literal.
-    fn push(&mut self, lit: Lit, place: u32, blocker: Lit) -> Result<(), MemoryError> {
+    /// Lets a clause watch a literal, beside these others.
+    fn push(&mut self, lit: Lit, place: u32, others: O) -> Result<(), MemoryError> {
         let i = u32::from(lit) as usize;
         if i < self.lists.len() {
-            self.lists[i].push(Watch { place, blocker })?;
+            self.lists[i].push(Watch { place, others })?;
         }
         Ok(())
-    }
-
-    /// Lets a clause watch its first two literals.
-    pub(crate) fn add(&mut self, clauses: &Clauses, place: u32) -> Result<(), MemoryError> {
-        let first = clauses.lit(place, 0);
-        let second = clauses.lit(place, 1);
-        self.push(first, place, second)?;
-        self.push(second, place, first)
     }
 
     /// Lets a clause watch a literal no more.
@@ -85,10 +84,11 @@ impl Watches {
         }
     }
 
-    /// Lets a clause watch its first two literals no more.
-    pub(crate) fn remove(&mut self, clauses: &Clauses, place: u32) {
-        self.remove_from(clauses.lit(place, 0), place);
-        self.remove_from(clauses.lit(place, 1), place);
+    /// Lets a clause watch its first so many literals no more.
+    pub(crate) fn remove(&mut self, clauses: &Clauses, place: u32, count: u32) {
+        for i in 0..count {
+            self.remove_from(clauses.lit(place, i), place);
+        }
     }
 
     /// Empties all lists.
@@ -109,9 +109,19 @@ impl Watches {
     pub(crate) fn rewind(&mut self, len: usize) {
         self.taken = len;
     }
+}
+
+impl Watches<Lit> {
+    /// Lets a clause watch its first two literals.
+    pub(crate) fn add(&mut self, clauses: &Clauses, place: u32) -> Result<(), MemoryError> {
+        let first = clauses.lit(place, 0);
+        let second = clauses.lit(place, 1);
+        self.push(first, place, second)?;
+        self.push(second, place, first)
+    }
 
     /// Puts the list of a literal back.
-    fn put(&mut self, lit: Lit, list: Vec<Watch>) {
+    fn put(&mut self, lit: Lit, list: Vec<Watch<Lit>>) {
         let i = u32::from(lit) as usize;
         if i < self.lists.len() {
             self.lists[i] = list;
@@ -119,6 +129,7 @@ impl Watches {
     }
 
     /// Looks at a clause that watches a literal which is false now.
+    #[inline(always)]
     fn visit(
         &mut self,
         place: u32,
@@ -133,7 +144,7 @@ impl Watches {
                 self.push(next, place, other)?;
                 Ok(Visit::Ends)
             }
-            Look::Last(other) if trail.value(other) == Lbool::FALSE => Ok(Visit::Conflict),
+            Look::Last(other) if trail.is_false(other) => Ok(Visit::Conflict),
             Look::Last(other) => {
                 trail.assign(other, place);
                 Ok(Visit::Stays(other))
@@ -146,26 +157,29 @@ impl Watches {
     fn visit_list(
         &mut self,
         lit: Lit,
-        list: &mut Vec<Watch>,
+        list: &mut Vec<Watch<Lit>>,
         clauses: &mut Clauses,
         trail: &mut Trail,
     ) -> Result<Option<u32>, MemoryError> {
-        let mut kept = 0;
-        let mut conflict = None;
-        for i in 0..list.len() {
-            let mut watch = list[i];
-            if conflict.is_none() && trail.value(watch.blocker) != Lbool::TRUE {
+        let mut at = 0;
+        for _ in 0..list.len() {
+            if at >= list.len() {
+                break;
+            }
+            let watch = list[at];
+            if !trail.is_true(watch.others) {
                 match self.visit(watch.place, lit, clauses, trail)? {
-                    Visit::Stays(blocker) => watch.blocker = blocker,
-                    Visit::Ends => continue,
-                    Visit::Conflict => conflict = Some(watch.place),
+                    Visit::Stays(other) => list[at].others = other,
+                    Visit::Ends => {
+                        list.swap_remove(at);
+                        continue;
+                    }
+                    Visit::Conflict => return Ok(Some(watch.place)),
                 }
             }
-            list[kept] = watch;
-            kept += 1;
+            at += 1;
         }
-        list.truncate(kept);
-        Ok(conflict)
+        Ok(None)
     }
 
     /// Makes true what follows along the clauses that watch a literal which is false now, up to one
@@ -185,14 +199,52 @@ impl Watches {
         self.put(lit, list);
         Ok(conflict)
     }
+}
 
-    /// The same for clauses of two literals, whose blockers are all that is looked at.
-    pub(crate) fn visit_pairs(&self, lit: Lit, trail: &mut Trail) -> Option<u32> {
+impl Watch<[Lit; 2]> {
+    /// Makes the literal of the clause true that isn't false, and says whether there is one.
+    #[inline(always)]
+    fn force(&self, trail: &mut Trail) -> bool {
+        let first = self.others[0];
+        let lit = if trail.is_false(first) {
+            self.others[1]
+        } else {
+            first
+        };
+        if trail.is_false(lit) {
+            return false;
+        }
+        trail.assign(lit, self.place);
+        true
+    }
+}
+
+impl Watches<[Lit; 2]> {
+    /// Lets a clause of two literals watch both.
+    pub(crate) fn add_pair(&mut self, clauses: &Clauses, place: u32) -> Result<(), MemoryError> {
+        let first = clauses.lit(place, 0);
+        let second = clauses.lit(place, 1);
+        self.push(first, place, [second, first])?;
+        self.push(second, place, [first, second])
+    }
+
+    /// Lets a clause of three literals watch all of them.
+    pub(crate) fn add_triple(&mut self, clauses: &Clauses, place: u32) -> Result<(), MemoryError> {
+        let first = clauses.lit(place, 0);
+        let second = clauses.lit(place, 1);
+        let third = clauses.lit(place, 2);
+        self.push(first, place, [second, third])?;
+        self.push(second, place, [first, third])?;
+        self.push(third, place, [first, second])
+    }
+
+    /// Makes true what follows along the clauses that watch a literal which is false now, up to one
+    /// whose literals are all false, and returns its place. Nothing is read of them but what stands
+    /// in the list.
+    pub(crate) fn visit_shorts(&self, lit: Lit, trail: &mut Trail) -> Option<u32> {
         for watch in self.lists.get(u32::from(lit) as usize)? {
-            match trail.value(watch.blocker) {
-                Lbool::TRUE => {}
-                Lbool::NONE => trail.assign(watch.blocker, watch.place),
-                Lbool::FALSE => return Some(watch.place),
+            if trail.is_forced(watch.others) && !watch.force(trail) {
+                return Some(watch.place);
             }
         }
         None

@@ -73,3 +73,11 @@ place_fits place i lt is =
     let some : 0 < 128 = omega arith in
     let p : 128 ^ i ≤ 128 ^ 4 = pow-le-pow_right some le in
     omega arith
+
+-- four groups are below 2^28
+pub near_fits : (place i : ℕ) → i < 4 → place ≡ 128 ^ i → place * 128 ≤ 2 ^ 28
+near_fits place i lt is =
+    let le : i ≤ 3 = omega arith in
+    let some : 0 < 128 = omega arith in
+    let p : 128 ^ i ≤ 128 ^ 3 = pow-le-pow_right some le in
+    omega arith

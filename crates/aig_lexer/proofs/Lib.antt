@@ -1,4 +1,5 @@
 pub mod Window
+pub mod Front
 pub mod Going
 pub mod Taking
 pub mod Words
@@ -8,3 +9,4 @@ pub mod Deltas
 pub mod KindWord
 pub mod HeaderNumbers
 pub mod Ending
+mod Examples

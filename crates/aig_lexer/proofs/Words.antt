@@ -2,18 +2,23 @@
 use Rattle.std.proofs.Common.{◌≡◌, ℕ, cond, eqb, List, ◌∷◌, Option, Some, None, Result, Ok, Err, option_to_list, refl}
 use Rattle.std.specs.Io.KnownBytes.{Consumes}
 use Rattle.std.proofs.lemmas.Bool.{eq-eqb, ne_eqb}
-use Rattle.aig_parsing.specs.Parse.{◌>>=◌, parse_number, parse_ended}
-use Rattle.aig_parsing.specs.ParseTested.{parse_pair}
+use Rattle.aig_parsing.specs.Parse.{◌>>=◌, parse_number, parse_ended, parse_pair}
 use Rattle.aig_lexer.specs.declared.error.LexError.{LexError}
 use Rattle.aig_lexer.specs.declared.error.LexError.TheVariants.{Stream, Shape}
 use Rattle.aig_lexer.specs.Faults.{LexUnlessTransient}
 use Rattle.aig_lexer.specs.Takes.{Gives, Takes, Misses}
 use Rattle.aig_lexer.proofs.Going.{GoesOn, goes_start, goes_byte, goes_call, goes_done, goes_wrong}
-use Rattle.aig_lexer.proofs.Taking.{takes_bind, misses_first, misses_next, takes_nothing, takes_both}
+use Rattle.aig_lexer.proofs.Taking.{takes_same, misses_same, takes_bind, misses_first, misses_next, takes_nothing, takes_both}
 
 pub on_shape-weaker : (e : LexError) (P Q : Type 0) → (P → Q) → LexUnlessTransient e P → LexUnlessTransient e Q
 on_shape-weaker Stream P Q f h = tt
 on_shape-weaker Shape P Q f h = f h
+
+-- readers that agree give the same
+pub gives_same : {X Y : Type 0} (view : X → Y) (p q : List ℕ → Option (Y × List ℕ)) (before after : Option (List ℕ)) (r : Result X LexError)
+    → Gives LexUnlessTransient view before after r p → ((bs : List ℕ) → p bs ≡ q bs) → Gives LexUnlessTransient view before after r q
+gives_same view p q before after (Ok x) h e = takes_same p q before after (view x) h e
+gives_same view p q before after (Err f) h e = on_shape-weaker f _ _ (λ m. misses_same p q before m e) h
 
 -- a call after a byte that came
 pub gives_following : {X Y : Type 0} (view : X → Y) (p : List ℕ → Option (Y × List ℕ)) (before mid after : Option (List ℕ)) (o : Option ℕ) (b : ℕ) (r : Result X LexError)

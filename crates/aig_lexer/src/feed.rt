@@ -42,7 +42,7 @@ pub trait ByteFeed {
         requires { count ≤ length (at_hand self.old) }
         ensures bytes { Consumes (coming self.old) (coming self.new)
             (take count (at_hand self.old)) }
-        ensures fewer { turns self.new ≤ turns self.old }
+        ensures fewer { turns self.new + count ≤ turns self.old }
         ensures same { source_name self.new ≡ source_name self.old };
 }
 

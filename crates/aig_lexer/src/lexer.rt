@@ -1,8 +1,14 @@
 //! Words of the format: bytes, numbers, lines of numbers, and differences.
 
-ghost use Rattle.std.specs.Prelude.{◌≡◌, ◌+◌, ◌^◌, ◌++◌, ◌<◌, ◌≤◌, ℕ, List, length, take, IsErrOf, OnOk, true};
-ghost use Rattle.aig_parsing.specs.Parse.{parse_delta, parse_digits, parse_ended, parse_number};
-ghost use Rattle.aig_parsing.specs.ParseTested.{parse_next_and_reset, parse_pair};
+ghost use Rattle.std.specs.Prelude.{◌≡◌, ◌+◌, ◌^◌, ◌++◌, ◌<◌, ◌≤◌, ℕ, List, Some, length, take, IfSome, IsErrOf, OnOk, true};
+ghost use Rattle.aig_parsing.specs.Parse.{
+  parse_delta,
+  parse_digits,
+  parse_ended,
+  parse_next_and_reset,
+  parse_number,
+  parse_pair,
+};
 ghost use Rattle.aig_lexer.specs.Faults.{LexUnlessTransient};
 ghost use Rattle.aig_lexer.specs.Takes.{Gives};
 ghost use Rattle.aig_lexer.specs.Words.{parse_expected, parse_number_from, parse_word};
@@ -24,28 +30,71 @@ pub(crate) fn expect<F: ByteFeed>(f: &mut F, byte: u8) -> Result<(), LexError>
     }
 }
 
-/// Reads on in a number whose value so far is `first`, over the digits at the front of `bytes`: its value with them, and how
-/// many they are. It stops before a digit that would take the value to 2^32.
-fn digits_in(bytes: &[u8], first: u64) -> (u64, usize)
-    requires { first < 2 ^ 32 }
-    ensures small { result.0 < 2 ^ 32 }
-    ensures count { result.1 ≤ length bytes.now }
-    ensures digits { (rest : List ℕ) → parse_digits first (take result.1 bytes.now ++ rest)
-        ≡ parse_digits result.0 rest }
+/// How many bytes after a number's first digit are looked at at once. A number that ends there is below 10^9, and so needs no
+/// test of overflow.
+const NEAR: usize = 9;
+
+/// Reads on in a number after its first digit, where the byte that ends it is among the first nine of `bytes`: its value,
+/// that byte, and how many bytes it takes with that byte.
+#[inline(always)]
+fn digits_in(bytes: &[u8], first: u64) -> Option<(u32, u8, usize)>
+    requires { first < 10 }
+    ensures some { IfSome result (λ x. 0 < x.2) }
+    ensures within { IfSome result (λ x. x.2 ≤ length bytes.now) }
+    ensures reads { IfSome result (λ x. (rest : List ℕ)
+        → parse_digits first (take x.2 bytes.now ++ rest) ≡ Some ((x.0, x.1), rest)) }
 {
+    if bytes.len() < NEAR {
+        return None;
+    }
     let mut value = first;
-    for i in 0..bytes.len() {
+    for i in 0..NEAR {
         let b = bytes[i];
         if !b.is_ascii_digit() {
-            return (value, i);
+            return Some((value as u32, b, i + 1));
         }
-        let longer = 10 * value + (b - b'0') as u64;
-        if longer > u32::MAX as u64 {
-            return (value, i);
-        }
-        value = longer;
+        value = 10 * value + (b - b'0') as u64;
     }
-    (value, bytes.len())
+    None
+}
+
+/// Reads a number at the front of `bytes`, where `digits_in` finds its end.
+#[inline(always)]
+fn number_in(bytes: &[u8]) -> Option<(u32, u8, usize)>
+    ensures some { IfSome result (λ x. 0 < x.2) }
+    ensures within { IfSome result (λ x. x.2 ≤ length bytes.now) }
+    ensures reads { IfSome result (λ x. (rest : List ℕ)
+        → parse_number (take x.2 bytes.now ++ rest) ≡ Some ((x.0, x.1), rest)) }
+{
+    let (first, others) = bytes.split_first()?;
+    if !first.is_ascii_digit() {
+        return None;
+    }
+    let (value, end, count) = digits_in(others, (*first - b'0') as u64)?;
+    Some((value, end, count + 1))
+}
+
+/// Reads on in a number whose value so far is `first`, byte by byte.
+#[cold]
+fn number_by_bytes<F: ByteFeed>(f: &mut F, first: u64) -> Result<(u32, u8), LexError>
+    requires { first < 2 ^ 32 }
+    ensures exact { Gives LexUnlessTransient (λ x. (x.0, x.1))
+        (F.coming f.old) (F.coming f.new) result (parse_digits first) }
+    ensures stream { IsErrOf result LexError.Stream → F.failed f.new ≡ true }
+    ensures same { F.source_name f.new ≡ F.source_name f.old }
+    ensures fewer { OnOk result (F.turns f.new < F.turns f.old) }
+{
+    let mut value = first;
+    while let Some(b) = f.next()? {
+        if !b.is_ascii_digit() {
+            return Ok((value as u32, b));
+        }
+        value = 10 * value + (b - b'0') as u64;
+        if value > u32::MAX as u64 {
+            return Err(LexError::Shape);
+        }
+    }
+    Err(LexError::Shape)
 }
 
 /// Reads on in a number whose first byte, which was read before, is `first`: its value, and the byte that ends it.
@@ -62,22 +111,19 @@ pub fn number_from<F: ByteFeed>(f: &mut F, first: u8) -> Result<(u32, u8), LexEr
     if !first.is_ascii_digit() {
         return Err(LexError::Shape);
     }
-    let (mut value, count) = digits_in(f.window(), (first - b'0') as u64);
-    f.consume(count);
-    while let Some(b) = f.next()? {
-        if !b.is_ascii_digit() {
-            return Ok((value as u32, b));
+    let digit = (first - b'0') as u64;
+    match digits_in(f.window(), digit) {
+        Some((value, end, count)) => {
+            f.consume(count);
+            Ok((value, end))
         }
-        value = 10 * value + (b - b'0') as u64;
-        if value > u32::MAX as u64 {
-            return Err(LexError::Shape);
-        }
+        None => number_by_bytes(f, digit),
     }
-    Err(LexError::Shape)
 }
 
-/// Reads a number as `number_from` does, its first byte included: its value, and the byte that ends it.
-pub(crate) fn number<F: ByteFeed>(f: &mut F) -> Result<(u32, u8), LexError>
+/// Reads a number as `number_from` does, its first byte by itself.
+#[cold]
+fn number_after_first<F: ByteFeed>(f: &mut F) -> Result<(u32, u8), LexError>
     ensures exact { Gives LexUnlessTransient (λ x. (x.0, x.1))
         (F.coming f.old) (F.coming f.new) result parse_number }
     ensures stream { IsErrOf result LexError.Stream → F.failed f.new ≡ true }
@@ -90,9 +136,28 @@ pub(crate) fn number<F: ByteFeed>(f: &mut F) -> Result<(u32, u8), LexError>
     }
 }
 
+/// Reads a number as `number_from` does, its first byte included: its value, and the byte that ends it.
+#[inline(always)]
+pub(crate) fn number<F: ByteFeed>(f: &mut F) -> Result<(u32, u8), LexError>
+    ensures exact { Gives LexUnlessTransient (λ x. (x.0, x.1))
+        (F.coming f.old) (F.coming f.new) result parse_number }
+    ensures stream { IsErrOf result LexError.Stream → F.failed f.new ≡ true }
+    ensures same { F.source_name f.new ≡ F.source_name f.old }
+    ensures fewer { OnOk result (F.turns f.new < F.turns f.old) }
+{
+    match number_in(f.window()) {
+        Some((value, end, count)) => {
+            f.consume(count);
+            Ok((value, end))
+        }
+        None => number_after_first(f),
+    }
+}
+
 /// Reads a number that the byte `end` ends.
 ///
 /// Returns `Shape` where there is no such number, or another byte ends it, and `Stream` where a read failed.
+#[inline(always)]
 pub fn ended<F: ByteFeed>(f: &mut F, end: u8) -> Result<u32, LexError>
     ensures exact { Gives LexUnlessTransient (λ x. x) (F.coming f.old) (F.coming f.new) result
         (parse_ended end) }
@@ -149,12 +214,37 @@ pub fn next_line<F: ByteFeed>(f: &mut F) -> Result<(u32, Option<u32>), LexError>
 /// How many groups of seven bits a difference has at most.
 const MOST_GROUPS: u32 = 5;
 
-/// Reads a difference of a binary file (AIGER format 20071012, "Binary encoding"): groups of seven bits, the lowest first; a
-/// byte whose top bit is clear ends it.
-///
-/// A spelling need not be the shortest. Returns `Shape` where the difference has more than five bytes or is not below 2^32,
-/// or the bytes end in it, and `Stream` where a read failed.
-pub fn delta<F: ByteFeed>(f: &mut F) -> Result<u32, LexError>
+/// How many groups of a difference are looked at at once. A difference of so few is below 2^28, and so needs no test of
+/// overflow.
+const NEAR_GROUPS: usize = 4;
+
+/// Reads a difference at the front of `bytes`, where it ends among the first four: its value, and how many bytes it takes.
+#[inline(always)]
+fn delta_in(bytes: &[u8]) -> Option<(u32, usize)>
+    ensures some { IfSome result (λ x. 0 < x.1) }
+    ensures within { IfSome result (λ x. x.1 ≤ length bytes.now) }
+    ensures reads { IfSome result (λ x. (rest : List ℕ)
+        → parse_delta (take x.1 bytes.now ++ rest) ≡ Some (x.0, rest)) }
+{
+    if bytes.len() < NEAR_GROUPS {
+        return None;
+    }
+    let mut difference = 0u32;
+    let mut place = 1u32;
+    for i in 0..NEAR_GROUPS {
+        let b = bytes[i];
+        difference += place * (b % 128) as u32;
+        if b < 128 {
+            return Some((difference, i + 1));
+        }
+        place *= 128;
+    }
+    None
+}
+
+/// Reads a difference byte by byte.
+#[cold]
+fn delta_by_bytes<F: ByteFeed>(f: &mut F) -> Result<u32, LexError>
     ensures exact { Gives LexUnlessTransient (λ d. d) (F.coming f.old) (F.coming f.new) result
         parse_delta }
     ensures stream { IsErrOf result LexError.Stream → F.failed f.new ≡ true }
@@ -177,6 +267,28 @@ pub fn delta<F: ByteFeed>(f: &mut F) -> Result<u32, LexError>
         place *= 128;
     }
     Err(LexError::Shape)
+}
+
+/// Reads a difference of a binary file (AIGER format 20071012, "Binary encoding"): groups of seven bits, the lowest first; a
+/// byte whose top bit is clear ends it.
+///
+/// A spelling need not be the shortest. Returns `Shape` where the difference has more than five bytes or is not below 2^32,
+/// or the bytes end in it, and `Stream` where a read failed.
+#[inline(always)]
+pub fn delta<F: ByteFeed>(f: &mut F) -> Result<u32, LexError>
+    ensures exact { Gives LexUnlessTransient (λ d. d) (F.coming f.old) (F.coming f.new) result
+        parse_delta }
+    ensures stream { IsErrOf result LexError.Stream → F.failed f.new ≡ true }
+    ensures same { F.source_name f.new ≡ F.source_name f.old }
+    ensures fewer { OnOk result (F.turns f.new < F.turns f.old) }
+{
+    match delta_in(f.window()) {
+        Some((difference, count)) => {
+            f.consume(count);
+            Ok(difference)
+        }
+        None => delta_by_bytes(f),
+    }
 }
 
 /// Reads the bytes of a word.

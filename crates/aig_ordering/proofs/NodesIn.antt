@@ -1,15 +1,11 @@
 -- The nodes that a table of gates records.
 use Rattle.std.proofs.Common.{◌≡◌, ℕ, zero, suc, ◌+◌, ◌<◌, List, [], ◌∷◌, length, get_or, Option, refl, sym, ap, ◌∙◌, arith}
-use Rattle.std.specs.Prelude.{option_and_then}
 use Rattle.aig_circuit.specs.declared.node.AigNode.{AigNode}
 use Rattle.aig_circuit.specs.declared.node.AigNodeType.{AigNodeType}
-use Rattle.aig_circuit.specs.Node.{kind_at}
-use Rattle.aig_circuit.proofs.Trees.{kind_at-read}
 use Rattle.aig_format.specs.File.{File}
 use Rattle.aig_ordering.specs.declared.gates.Operands.{Operands}
 use Rattle.aig_ordering.specs.Gates.{kind_of_operands, node_in, nodes_in, nodes_in_from}
 use Rattle.aig_ordering.specs.Lists.{kind_among}
-use Rattle.aig_ordering.specs.Numbers.{kind_by_numbers, number_at}
 use Rattle.aig_ordering.specs.Tables.{AreNodesOf}
 use Rattle.aig_ordering.proofs.Tables.{count-nodes, node_at}
 
@@ -33,20 +29,6 @@ length-nodes_in gates = length-from 0 gates
 -- the node at a place is that of the gate there
 pub nodes_in-at : (gates : List (Option Operands)) (v : ℕ) (d : AigNode) (e : Option Operands) → v < length gates → get_or (nodes_in gates) v d ≡ node_in v (get_or gates v e)
 nodes_in-at gates v d e h = let same : 0 + v ≡ v = omega arith in at_from 0 v gates d e h ∙ ap (λ u. node_in u (get_or gates v e)) same
-
--- the kind of a node under the numbers
-abbrev pub node_under : List ℕ → AigNode → Option AigNodeType
-node_under numbers node = kind_by_numbers (number_at numbers) node.typ
-
--- the kind of a variable under the numbers
-abbrev pub kind_under : List ℕ → List (Option Operands) → ℕ → Option AigNodeType
-kind_under numbers gates v = option_and_then (kind_by_numbers (number_at numbers)) (kind_at (nodes_in gates) v)
-
--- it is told by the variable's gate
-pub kind_under-gate : (numbers : List ℕ) (gates : List (Option Operands)) (v : ℕ) (e : Option Operands) → v < length gates → kind_under numbers gates v ≡ kind_by_numbers (number_at numbers) (kind_of_operands v (get_or gates v e))
-kind_under-gate numbers gates v e h =
-    let d = node_in v (get_or gates v e) in
-    ap (option_and_then (kind_by_numbers (number_at numbers))) (kind_at-read (nodes_in gates) v d (kind_of_operands v (get_or gates v e)) (omega (arith, length-nodes_in gates)) (sym (ap (λ (node : AigNode). node.typ) (nodes_in-at gates v d e h))))
 
 module _ (f : File) (gates : List (Option Operands)) (are : AreNodesOf f (nodes_in gates)) where
   -- the table has each variable of the file

@@ -23,6 +23,7 @@ use Rattle.aig_format.proofs.Levels.{level_of-gate, level_of-leaf, level_of-oper
 use Rattle.aig_ordering.specs.Lists.{edge_from, kind_of_line, kind_among, node_from, nodes_in_row, nodes_of_variables}
 use Rattle.aig_ordering.specs.Tables.{AreNodesOf, HasOperands, all_have_levels, entry_value}
 use Rattle.aig_ordering.specs.Search.{Descends}
+use Rattle.aig_format.proofs.Rules.{definable_told}
 
 -- ---- entries
 
@@ -54,15 +55,6 @@ at_row : (gates : List GateLine) (n w i : ℕ) (d : AigNode) → i < n → get_o
 at_row gates zero w i d h = absurd (omega arith)
 at_row gates (suc n) w zero d h = let e : w ≡ w + 0 = omega arith in ap (node_from gates) e
 at_row gates (suc n) w (suc i) d h = let e : w + 1 + i ≡ w + suc i = omega arith in at_row gates n (w + 1) i d (omega arith) ∙ ap (node_from gates) e
-
-get_at_row : (gates : List GateLine) (n w i : ℕ) → i < n → slice_get (nodes_in_row gates n w) i ≡ Some (node_from gates (w + i))
-get_at_row gates zero w i h = absurd (omega arith)
-get_at_row gates (suc n) w zero h = let e : w ≡ w + 0 = omega arith in ap (λ v. Some (node_from gates v)) e
-get_at_row gates (suc n) w (suc i) h = let e : w + 1 + i ≡ w + suc i = omega arith in get_at_row gates n (w + 1) i (omega arith) ∙ ap (λ v. Some (node_from gates v)) e
-
--- what a variable is
-pub kind_at-variable : (greatest v : ℕ) (gates : List GateLine) → v ≤ greatest → kind_at (nodes_of_variables greatest gates) v ≡ Some (kind_among gates v)
-kind_at-variable greatest v gates h = let e : 0 + v ≡ v = omega arith in ap (λ (o : Option AigNode). option_map (λ (node : AigNode). node.typ) o) (get_at_row gates (greatest + 1) 0 v (omega arith)) ∙ ap (λ u. Some (kind_among gates u)) e
 
 -- ---- gates
 
@@ -123,7 +115,7 @@ module _ (f : File) (nodes : List AigNode) (are : AreNodesOf f nodes) where
       let literals = f.inputs ++ map (λ (l : LatchLine). l.literal) f.latches in
       let Definable = λ (g : GateLine). IsDefinable f.greatest g.lhs in
       find_none (λ (g : GateLine). g.lhs / 2 == 0) f.gates
-      (rec_weaker Definable (λ (g : GateLine). (g.lhs / 2 == 0) ≡ false) (λ g h. let low = h.1 in ne_eqb (g.lhs / 2) 0 (λ e. omega (arith, e))) f.gates
+      (rec_weaker Definable (λ (g : GateLine). (g.lhs / 2 == 0) ≡ false) (λ g h. let low = (definable_told f.greatest g.lhs h).1 in ne_eqb (g.lhs / 2) 0 (λ e. omega (arith, e))) f.gates
       (rec_unmap (IsDefinable f.greatest) (λ (g : GateLine). g.lhs) f.gates (rec_parts (IsDefinable f.greatest) literals (map (λ (g : GateLine). g.lhs) f.gates) are.definable).1))
 
   -- a variable that is no gate has level 0
@@ -206,5 +198,5 @@ pub all_levels-tested : (f : File) (nodes : List AigNode) → AreNodesOf f nodes
 all_levels-tested f nodes are has =
     let literals = f.inputs ++ map (λ (l : LatchLine). l.literal) f.latches in
     each_level f f.gates has
-    (rec_weaker (λ (g : GateLine). IsDefinable f.greatest g.lhs) (λ (g : GateLine). g.lhs / 2 ≤ f.greatest) (λ g h. let high = h.2 in omega arith) f.gates
+    (rec_weaker (λ (g : GateLine). IsDefinable f.greatest g.lhs) (λ (g : GateLine). g.lhs / 2 ≤ f.greatest) (λ g h. let high = (definable_told f.greatest g.lhs h).2 in omega arith) f.gates
     (rec_unmap (IsDefinable f.greatest) (λ (g : GateLine). g.lhs) f.gates (rec_parts (IsDefinable f.greatest) literals (map (λ (g : GateLine). g.lhs) f.gates) are.definable).1))

@@ -38,10 +38,10 @@ OrderUnlessTransient Variable P = P
 abbrev pub all_have_levels : File → Bool
 all_have_levels f = list_all (has_level f) f.gates
 
--- a value of a file in which each gate has a level, or a refusal of one in which some gate has none
-abbrev pub IfLevels : {X : Type 0} → File → (X → Type 0) → Result X OrderError → Type 0
-IfLevels f P (Ok x) = (all_have_levels f ≡ true) × P x
-IfLevels f P (Err e) = OrderUnlessTransient e (all_have_levels f ≡ false)
+-- a value where the test is passed, and else a fault, unless memory failed
+abbrev pub JudgedOrder : {X : Type 0} → Bool → (X → Type 0) → Result X OrderError → Type 0
+JudgedOrder test P (Ok x) = (test ≡ true) × P x
+JudgedOrder test P (Err e) = OrderUnlessTransient e (test ≡ false)
 
 -- what an entry of a table records: n + 1 records n, and 0 nothing
 abbrev pub entry_value : ℕ → Option ℕ

@@ -5,7 +5,7 @@ ghost use Rattle.aig_circuit.specs.Node.{IfAnd};
 ghost use Rattle.aig_format.specs.File.{File};
 ghost use Rattle.aig_ordering.specs.Gates.{nodes_in};
 ghost use Rattle.aig_ordering.specs.Search.{IsAt, IsAtRest, IsAtSome, IsLevelBy, IsTask, Opens, StaysOpen, work_of};
-ghost use Rattle.aig_ordering.specs.Tables.{AreLevelsOf, AreNodesOf, IfLevels, OrderUnlessTransient, all_have_levels};
+ghost use Rattle.aig_ordering.specs.Tables.{AreLevelsOf, AreNodesOf, JudgedOrder, OrderUnlessTransient, all_have_levels};
 
 use crate::error::OrderError;
 use crate::gates::{Operands, variable_node};
@@ -140,7 +140,7 @@ pub fn find_levels(alloc: Global, gates: &[Option<Operands>]) -> Result<Vec<u32>
     requires nodes { (f : File) × AreNodesOf f (nodes_in gates.now) }
     requires few { length gates.now ≤ 2 ^ 31 }
     ensures { (f : File) → AreNodesOf f (nodes_in gates.now)
-        → IfLevels f (λ levels. AreLevelsOf f levels.items) result }
+        → JudgedOrder (all_have_levels f) (λ levels. AreLevelsOf f levels.items) result }
 {
     let mut search = Search::new(alloc, gates.len())?;
     for variable in 0..gates.len() {

@@ -4,13 +4,14 @@ use Rattle.std.proofs.Common.{◌≡◌, ℕ, true, false, List, [], ◌∷◌, 
 use Rattle.std.specs.Prelude.{codes}
 use Rattle.std.specs.List.{AllByRecursion}
 use Rattle.std.specs.Str.{is_utf8, chars}
+use Rattle.aig_circuit.specs.Properties.{no_properties}
 use Rattle.aig_format.specs.declared.FileKind.TheVariants.{Text, Binary}
 use Rattle.aig_format.specs.File.{NameLine, File}
 use Rattle.aig_format.specs.Fits.{Accepts}
 use Rattle.aig_format.proofs.Examples.{and_file, and_text}
 use Rattle.aig_format.proofs.Gaps.{doubled, falling, gapped, mixed, short}
-use Rattle.aig_parsing.specs.Parse.{parse_number, parse_digits, parse_ended, parse_line, parse_kind, parse_text, parse_groups, parse_sets, parse_tail, parse_file, too_many_at}
-use Rattle.aig_parsing.specs.ParseTested.{parse_next_and_reset, parse_literal_sets, parse_fitting_tail, parse_fitting}
+use Rattle.aig_parsing.specs.Parse.{parse_number, parse_digits, parse_ended, parse_line, parse_kind, parse_next_and_reset, parse_text, parse_groups, parse_sets, parse_tail, parse_file, too_many_at}
+use Rattle.aig_parsing.specs.ParseTested.{parse_fitting}
 use Rattle.aig_parsing.proofs.FittingFiles.{fitting_sound}
 
 -- the limit of the rows
@@ -25,7 +26,7 @@ AreRefused = AllByRecursion (λ bytes. parse_fitting limit bytes ≡ None)
 
 -- what the rows compute by
 steps : Unit {0}
-unfolding parse_number parse_digits parse_ended parse_line parse_kind parse_next_and_reset parse_groups parse_text parse_sets parse_literal_sets is_utf8 chars encode parse_tail parse_fitting_tail parse_file parse_fitting
+unfolding parse_number parse_digits parse_ended parse_line parse_kind parse_next_and_reset parse_groups parse_text parse_sets is_utf8 chars encode parse_tail parse_file
 steps = tt
 
 -- a text file of inputs alone
@@ -35,12 +36,8 @@ of_inputs greatest inputs = record {
   greatest = greatest;
   inputs = inputs;
   latches = [];
-  outputs = [];
+  properties = no_properties;
   gates = [];
-  bads = [];
-  constraints = [];
-  justice = [];
-  fairness = [];
   names = [];
 }
 
@@ -87,7 +84,7 @@ named-read = refl
 
 -- latch 1 with next !1, and output 1
 abbrev latch_of : ℕ → Option ℕ → File
-latch_of next reset = record (of_inputs 1 []) { latches = record { literal = 2; next = next; reset = reset } ∷ []; outputs = 2 ∷ [] }
+latch_of next reset = record (of_inputs 1 []) { latches = record { literal = 2; next = next; reset = reset } ∷ []; properties = record no_properties { outputs = 2 ∷ [] } }
 
 pub latch-read : IsRead (codes "aag 1 0 1 1 0\n2 3\n2\n") (latch_of 3 None)
 unfolding steps
@@ -109,24 +106,24 @@ no_latches = (refl, (refl, (refl, (refl, (refl, tt)))))
 -- ---- properties
 
 -- two justice sets, and a fairness literal
-pub justice-read : IsRead (codes "aag 2 2 0 0 0 0 0 2 1\n2\n4\n2\n1\n2\n5\n4\n3\n") (record (of_inputs 2 (2 ∷ 4 ∷ [])) { justice = (2 ∷ 5 ∷ []) ∷ (4 ∷ []) ∷ []; fairness = 3 ∷ [] })
+pub justice-read : IsRead (codes "aag 2 2 0 0 0 0 0 2 1\n2\n4\n2\n1\n2\n5\n4\n3\n") (record (of_inputs 2 (2 ∷ 4 ∷ [])) { properties = record no_properties { justice = (2 ∷ 5 ∷ []) ∷ (4 ∷ []) ∷ []; fairness = 3 ∷ [] } })
 unfolding steps
 justice-read = refl
 
 -- an empty justice set
-pub empty_justice-read : IsRead (codes "aag 0 0 0 0 0 0 0 1\n0\n") (record (of_inputs 0 []) { justice = [] ∷ [] })
+pub empty_justice-read : IsRead (codes "aag 0 0 0 0 0 0 0 1\n0\n") (record (of_inputs 0 []) { properties = record no_properties { justice = [] ∷ [] } })
 unfolding steps
 empty_justice-read = refl
 
 -- bads and constraints, and nine numbers of which the last are 0
-pub nine-read : IsRead (codes "aag 1 1 0 1 0 1 1 0 0\n2\n1\n2\n3\n") (record (of_inputs 1 (2 ∷ [])) { outputs = 1 ∷ []; bads = 2 ∷ []; constraints = 3 ∷ [] })
+pub nine-read : IsRead (codes "aag 1 1 0 1 0 1 1 0 0\n2\n1\n2\n3\n") (record (of_inputs 1 (2 ∷ [])) { properties = record no_properties { outputs = 1 ∷ []; bads = 2 ∷ []; constraints = 3 ∷ [] } })
 unfolding steps
 nine-read = refl
 
 -- a literal that is none of the file, in each of these sections
-pub no_properties : AreRefused (codes "aag 1 1 0 1 0\n2\n4\n" ∷ codes "aag 0 0 0 0 0 1\n2\n" ∷ codes "aag 0 0 0 0 0 0 1\n2\n" ∷ codes "aag 0 0 0 0 0 0 0 1\n1\n2\n" ∷ codes "aag 0 0 0 0 0 0 0 0 1\n2\n" ∷ [])
+pub unknown_properties : AreRefused (codes "aag 1 1 0 1 0\n2\n4\n" ∷ codes "aag 0 0 0 0 0 1\n2\n" ∷ codes "aag 0 0 0 0 0 0 1\n2\n" ∷ codes "aag 0 0 0 0 0 0 0 1\n1\n2\n" ∷ codes "aag 0 0 0 0 0 0 0 0 1\n2\n" ∷ [])
 unfolding steps
-no_properties = (refl, (refl, (refl, (refl, (refl, tt)))))
+unknown_properties = (refl, (refl, (refl, (refl, (refl, tt)))))
 
 -- ---- names and the comment
 
@@ -150,7 +147,7 @@ unfolding steps
 no_names = (refl, (refl, (refl, (refl, (refl, (refl, (refl, (refl, (refl, (refl, tt))))))))))
 
 -- names of an output are any bytes, but for one place each
-pub output_name-read : IsRead (codes "aag 0 0 0 1 0\n0\no0 " ++ 255 ∷ 10 ∷ []) (record (of_inputs 0 []) { outputs = 0 ∷ []; names = name 111 0 (255 ∷ []) ∷ [] })
+pub output_name-read : IsRead (codes "aag 0 0 0 1 0\n0\no0 " ++ 255 ∷ 10 ∷ []) (record (of_inputs 0 []) { properties = record no_properties { outputs = 0 ∷ [] }; names = name 111 0 (255 ∷ []) ∷ [] })
 unfolding steps
 output_name-read = refl
 

@@ -1,16 +1,17 @@
 -- The written form of a file spells it.
 use Rattle.std.proofs.Common.{◌≡◌, ℕ, suc, ◌-◌, List, [], ◌∷◌, ◌++◌, length, map, replicate, refl, sym, ap, subst, ◌∙◌, append_assoc, append-nil, arith, inl, inr}
-use Rattle.std.specs.Prelude.{option_to_list, ◌==◌, decimal}
+use Rattle.std.specs.Prelude.{All, option_to_list, ◌==◌, decimal}
 use Rattle.std.specs.List.{AllByRecursion, flat_map}
 use Rattle.std.proofs.lemmas.Bool.{eqb-true}
+use Rattle.aig_circuit.specs.Properties.{Properties, AllProperties}
 use Rattle.aig_format.specs.Text.{IsLine, Lines}
 use Rattle.aig_format.specs.declared.FileKind.{FileKind}
 use Rattle.aig_format.specs.declared.FileKind.TheVariants.{Text, Binary}
 use Rattle.aig_format.specs.File.{LatchLine, GateLine, NameLine, File, HeaderNumbers, header_of}
-use Rattle.aig_format.specs.Spells.{magic, numbers_in, IsHeader, Inputs, Latch, Gate, Name, next_and_reset, Spells}
-use Rattle.aig_format.specs.Written.{line_text, lines_text, in_front, shortened, header_line_of, inputs_text, latch_text, gate_text, name_text, delta_of, file_text}
-use Rattle.aig_parsing.specs.Writable.{IsFileNumber, LatchSmall, GateSmall, NameSmall, SetSmall, CanWrite}
-use Rattle.aig_format.proofs.Entries.{chosen}
+use Rattle.aig_format.specs.Spells.{magic, numbers_in, IsHeader, Inputs, Latch, Gate, Name, next_and_reset, PropertyLines, Spells}
+use Rattle.aig_format.specs.Written.{line_text, lines_text, in_front, shortened, header_line_of, inputs_text, latch_text, gate_text, name_text, delta_of, properties_text, file_text}
+use Rattle.aig_parsing.specs.Writable.{IsFileNumber, LatchSmall, GateSmall, NameSmall, CanWrite}
+use Rattle.aig_format.proofs.Entries.{chosen, rec_all, rec_all_sets}
 use Rattle.aig_parsing.proofs.Printed.{number_written, line_written, delta_written, each_written}
 
 front_is : (n : ℕ) (xs ys : List ℕ) (k : ℕ) → ys ≡ xs ++ replicate k 0 → (j : ℕ) × (n ∷ ys ≡ in_front n xs ++ replicate j 0)
@@ -84,66 +85,54 @@ name_written n h =
       ),
     )
 
-regrouped : (a b c d e f g h i j k : List ℕ) → a ++ b ++ c ++ d ++ e ++ f ++ g ++ h ++ i ++ j ++ k ≡ (a ++ (b ++ (c ++ (d ++ (e ++ (f ++ (g ++ (h ++ (i ++ j))))))))) ++ k
-regrouped a b c d e f g h i j k = simp append_assoc
+properties_written : (p : Properties ℕ) → AllProperties IsFileNumber p → AllByRecursion IsFileNumber (map length p.justice) → PropertyLines p (properties_text p)
+properties_written p w small =
+    let lines = λ (ns : List ℕ) (all : All IsFileNumber ns). lines_written ns ((rec_all IsFileNumber ns).1 all) in
+    let o = lines_text p.outputs in let b = lines_text p.bads in let c = lines_text p.constraints in
+    let n = lines_text (map length p.justice) in let s = flat_map lines_text p.justice in let f = lines_text p.fairness in
+    let sets = each_written Lines (AllByRecursion IsFileNumber) lines_text lines_written p.justice ((rec_all_sets IsFileNumber p.justice).1 w.justice) in (
+      o,
+      b ++ (c ++ ((n ++ s) ++ f)),
+      simp append_assoc,
+      lines p.outputs w.outputs,
+      (
+        b,
+        c ++ ((n ++ s) ++ f),
+        refl,
+        lines p.bads w.bads,
+        (c, (n ++ s) ++ f, refl, lines p.constraints w.constraints, (n ++ s, f, refl, (n, s, refl, lines_written (map length p.justice) small, sets), lines p.fairness w.fairness)),
+      ),
+    )
+
+regrouped : (a b c d e f : List ℕ) → a ++ b ++ c ++ d ++ e ++ f ≡ (a ++ (b ++ (c ++ (d ++ e)))) ++ f
+regrouped a b c d e f = simp append_assoc
 
 pub spelling_spells : (f : File) → CanWrite f → Spells f (file_text f)
 unfolding file_text
 spelling_spells f w =
-    let a = header_line_of f in let b = inputs_text f.kind f.inputs in let c = flat_map (latch_text f.kind) f.latches in let d = lines_text f.outputs in
-    let e = lines_text f.bads in let g = lines_text f.constraints in let h = lines_text (map length f.justice) in let i = flat_map lines_text f.justice in
-    let j = lines_text f.fairness in let k = flat_map (gate_text f.kind) f.gates in let l = flat_map name_text f.names in
+    let a = header_line_of f in let b = inputs_text f.kind f.inputs in let c = flat_map (latch_text f.kind) f.latches in let d = properties_text f.properties in
+    let k = flat_map (gate_text f.kind) f.gates in let l = flat_map name_text f.names in
     record {
       sections = (
-        a ++ (b ++ (c ++ (d ++ (e ++ (g ++ (h ++ (i ++ (j ++ k)))))))),
+        a ++ (b ++ (c ++ (d ++ k))),
         l,
-        regrouped a b c d e g h i j k l,
+        regrouped a b c d k l,
         (
           a,
-          b ++ (c ++ (d ++ (e ++ (g ++ (h ++ (i ++ (j ++ k))))))),
+          b ++ (c ++ (d ++ k)),
           refl,
           header_written f.kind (header_of f) w.header,
           (
             b,
-            c ++ (d ++ (e ++ (g ++ (h ++ (i ++ (j ++ k)))))),
+            c ++ (d ++ k),
             refl,
             inputs_written f.kind f.inputs w.inputs,
             (
               c,
-              d ++ (e ++ (g ++ (h ++ (i ++ (j ++ k))))),
+              d ++ k,
               refl,
               each_written (Latch f.kind) LatchSmall (latch_text f.kind) (latch_written f.kind) f.latches w.latches,
-              (
-                d,
-                e ++ (g ++ (h ++ (i ++ (j ++ k)))),
-                refl,
-                lines_written f.outputs w.outputs,
-                (
-                  e,
-                  g ++ (h ++ (i ++ (j ++ k))),
-                  refl,
-                  lines_written f.bads w.bads,
-                  (
-                    g,
-                    h ++ (i ++ (j ++ k)),
-                    refl,
-                    lines_written f.constraints w.constraints,
-                    (
-                      h,
-                      i ++ (j ++ k),
-                      refl,
-                      lines_written (map length f.justice) w.sizes,
-                      (
-                        i,
-                        j ++ k,
-                        refl,
-                        each_written Lines SetSmall lines_text lines_written f.justice w.justice,
-                        (j, k, refl, lines_written f.fairness w.fairness, each_written (Gate f.kind) GateSmall (gate_text f.kind) (gate_written f.kind) f.gates w.gates),
-                      ),
-                    ),
-                  ),
-                ),
-              ),
+              (d, k, refl, properties_written f.properties w.properties w.sizes, each_written (Gate f.kind) GateSmall (gate_text f.kind) (gate_written f.kind) f.gates w.gates),
             ),
           ),
         ),

@@ -9,8 +9,9 @@ use Rattle.aig_format.specs.File.{NameLine}
 use Rattle.aig_format.specs.Spells.{is_letter, Name, IsComment}
 use Rattle.aig_parsing.specs.Parse.{◌>>=◌, is_digit, parse_ended, parse_both, parse_if, parse_byte, parse_text, name_from, parse_name, is_comment, parse_tail}
 use Rattle.aig_format.proofs.Entries.{chosen}
+use Rattle.aig_parsing.proofs.Entries.{AllAfter, Passes}
 use Rattle.aig_parsing.proofs.Numbers.{bind_some, true_digit, digit_false, false_digit}
-use Rattle.aig_parsing.proofs.Joined.{Begins, Reads, Reads-ended, Reads-both, Reads-tested, Reads-seen}
+use Rattle.aig_parsing.proofs.Joined.{Begins, Reads, With, Reads-ended, Reads-both, Reads-tested, Reads-seen}
 
 abbrev pub IsByte : ℕ → List ℕ → Type 0
 IsByte b = Just (b ∷ [])
@@ -103,36 +104,50 @@ name_is_some n front h =
     let same : front ≡ n.letter ∷ w.1 = w.2 ∙ ap (λ (xs : List ℕ). xs ++ w.1) w.3 in
     omega (arith, ap length same)
 
+-- the names and the comment after them
 abbrev pub IsTail : List NameLine → List ℕ → Type 0
 IsTail ns = Each Name ns then IsComment
 
-pub tail_sound : (k : ℕ) (bytes : List ℕ) (ns : List NameLine) → parse_tail k bytes ≡ Some ns → IsTail ns bytes
-unfolding parse_tail
-tail_sound zero bytes ns h = absurd cc
-tail_sound (suc k) bytes ns h =
-    elim (chosen (is_comment bytes) (Some []) (parse_name bytes >>= λ n. parse_tail k n.1 >>= λ ns. Some (n.0 ∷ ns)) (Some ns) h) [
-      | inl done ↦ subst (λ (ms : List NameLine). IsTail ms bytes) (same_Some _ _ done.1) ([], bytes, refl, refl, comment_sound bytes done.0)
-      | inr more ↦
-          let b = bind_some (parse_name bytes) (λ n. parse_tail k n.1 >>= λ ns. Some (n.0 ∷ ns)) ns more.1 in
-          let c = bind_some (parse_tail k b.0.1) (λ ns. Some (b.0.0 ∷ ns)) ns b.2 in
-          let s = Reads-name.sound bytes b.0 b.1 in
-          let t = tail_sound k b.0.1 c.0 c.1 in
-          let whole : bytes ≡ (s.0 ++ t.0) ++ t.1 = s.1 ∙ ap (λ (xs : List ℕ). s.0 ++ xs) t.2 ∙ sym (append_assoc s.0 t.0 t.1) in
-          subst (λ (ms : List NameLine). IsTail ms bytes) (same_Some _ _ c.2) (s.0 ++ t.0, t.1, whole, (s.0, t.0, refl, s.2, t.3), t.4)
-    ]
+module _ (test : List NameLine → NameLine → Bool) where
+  -- the same, of names that pass the test beside those before them
+  abbrev pub TailPasses : List NameLine → List NameLine → List ℕ → Type 0
+  TailPasses before ns bytes = IsTail ns bytes × AllAfter (Passes test) before ns
 
-pub tail_complete : (ns : List NameLine) (k : ℕ) (bytes : List ℕ) → length bytes < k → IsTail ns bytes → parse_tail k bytes ≡ Some ns
-unfolding parse_tail
-tail_complete ns zero bytes lt h = absurd (omega (arith, lt))
-tail_complete [] (suc k) bytes lt h =
-    let same : bytes ≡ h.1 = h.2 ∙ ap (λ (xs : List ℕ). xs ++ h.1) h.3 in
-    let is : is_comment bytes ≡ true = ap is_comment same ∙ comment_complete h.1 h.4 in
-    rw is refl
-tail_complete (n ∷ ns) (suc k) bytes lt h =
-    let e = h.3 in
-    let same : bytes ≡ e.0 ++ (e.1 ++ h.1) = h.2 ∙ ap (λ (xs : List ℕ). xs ++ h.1) e.2 ∙ append_assoc e.0 e.1 h.1 in
-    let some = name_is_some n e.0 e.3 in
-    let is_not : is_comment bytes ≡ false = ap is_comment same ∙ name_goes_on n e.0 (e.1 ++ h.1) e.3 in
-    let one : parse_name bytes ≡ Some (n, e.1 ++ h.1) = ap parse_name same ∙ Reads-name.complete n e.0 (e.1 ++ h.1) e.3 in
-    let rest : parse_tail k (e.1 ++ h.1) ≡ Some ns = tail_complete ns k (e.1 ++ h.1) (omega (arith, ap length same, length-append e.0 (e.1 ++ h.1))) (e.1, h.1, refl, e.4, h.4) in
-    rw (is_not, one, rest) refl
+  Reads-one : (before : List NameLine) → Reads (With (Passes test before) Name) (parse_if parse_name (test before))
+  Reads-one before = Reads-tested Name (Passes test before) parse_name (test before) Reads-name (λ n h. h) (λ n h. h)
+
+  pub tail_sound : (k : ℕ) (before : List NameLine) (bytes : List ℕ) (ns : List NameLine) → parse_tail test k before bytes ≡ Some ns → TailPasses before ns bytes
+  unfolding parse_tail
+  tail_sound zero before bytes ns h = absurd cc
+  tail_sound (suc k) before bytes ns h =
+      let read = parse_if parse_name (test before) bytes in
+      elim (chosen (is_comment bytes) (Some []) (read >>= λ n. parse_tail test k (before ++ n.0 ∷ []) n.1 >>= λ ns. Some (n.0 ∷ ns)) (Some ns) h) [
+        | inl done ↦ subst (λ (ms : List NameLine). TailPasses before ms bytes) (same_Some _ _ done.1) (([], bytes, refl, refl, comment_sound bytes done.0), tt)
+        | inr more ↦
+            let b = bind_some read (λ n. parse_tail test k (before ++ n.0 ∷ []) n.1 >>= λ ns. Some (n.0 ∷ ns)) ns more.1 in
+            let c = bind_some (parse_tail test k (before ++ b.0.0 ∷ []) b.0.1) (λ ns. Some (b.0.0 ∷ ns)) ns b.2 in
+            let s = (Reads-one before).sound bytes b.0 b.1 in
+            let r = tail_sound k (before ++ b.0.0 ∷ []) b.0.1 c.0 c.1 in
+            let t = r.0 in
+            let whole : bytes ≡ (s.0 ++ t.0) ++ t.1 = s.1 ∙ ap (λ (xs : List ℕ). s.0 ++ xs) t.2 ∙ sym (append_assoc s.0 t.0 t.1) in
+            subst (λ (ms : List NameLine). TailPasses before ms bytes) (same_Some _ _ c.2) ((s.0 ++ t.0, t.1, whole, (s.0, t.0, refl, s.2.1, t.3), t.4), (s.2.0, r.1))
+      ]
+
+  pub tail_complete : (ns : List NameLine) (k : ℕ) (before : List NameLine) (bytes : List ℕ) → length bytes < k → TailPasses before ns bytes → parse_tail test k before bytes ≡ Some ns
+  unfolding parse_tail
+  tail_complete ns zero before bytes lt p = absurd (omega (arith, lt))
+  tail_complete [] (suc k) before bytes lt p =
+      let h = p.0 in
+      let same : bytes ≡ h.1 = h.2 ∙ ap (λ (xs : List ℕ). xs ++ h.1) h.3 in
+      let is : is_comment bytes ≡ true = ap is_comment same ∙ comment_complete h.1 h.4 in
+      rw is refl
+  tail_complete (n ∷ ns) (suc k) before bytes lt p =
+      let h = p.0 in
+      let e = h.3 in
+      let same : bytes ≡ e.0 ++ (e.1 ++ h.1) = h.2 ∙ ap (λ (xs : List ℕ). xs ++ h.1) e.2 ∙ append_assoc e.0 e.1 h.1 in
+      let some = name_is_some n e.0 e.3 in
+      let is_not : is_comment bytes ≡ false = ap is_comment same ∙ name_goes_on n e.0 (e.1 ++ h.1) e.3 in
+      let one : parse_if parse_name (test before) bytes ≡ Some (n, e.1 ++ h.1) = ap (parse_if parse_name (test before)) same ∙ (Reads-one before).complete n e.0 (e.1 ++ h.1) (p.1.0, e.3) in
+      let rest : parse_tail test k (before ++ n ∷ []) (e.1 ++ h.1) ≡ Some ns =
+      tail_complete ns k (before ++ n ∷ []) (e.1 ++ h.1) (omega (arith, ap length same, length-append e.0 (e.1 ++ h.1))) ((e.1, h.1, refl, e.4, h.4), p.1.1) in
+      rw (is_not, one, rest) refl

@@ -1,27 +1,21 @@
 -- The header and the sections of a text file are read from the front exactly.
 use Rattle.std.proofs.Common.{◌≡◌, ℕ, zero, suc, ◌+◌, ◌-◌, ◌≤◌, Bool, eqb, leb, List, [], ◌∷◌, ◌++◌, length, get_or, replicate, map, Option, Some, None, refl, sym, ap, subst, ◌∙◌, append_assoc, arith, inl, inr, ◌⊎◌}
-use Rattle.std.specs.Prelude.{option_map, option_to_list}
+use Rattle.std.specs.Prelude.{IsTrue, option_map}
+use Rattle.std.specs.List.{AllByRecursion}
+use Rattle.aig_format.specs.Fits.{AllPass}
 use Rattle.std.proofs.lemmas.Bool.{eqb-true, eq-eqb, leb-true, le-leb}
 use Rattle.std.proofs.lemmas.Option.{same_Some}
 use Rattle.std.proofs.lemmas.List.{length-append, length-replicate}
-use Rattle.aig_format.specs.Text.{◌then◌, Each, Just, Ended, IsLine, Lines}
+use Rattle.aig_format.specs.Text.{◌then◌, Each, Just, Ended, Lines}
 use Rattle.aig_format.specs.declared.FileKind.{FileKind}
 use Rattle.aig_format.specs.declared.FileKind.TheVariants.{Text, Binary}
 use Rattle.aig_format.specs.File.{HeaderNumbers}
-use Rattle.aig_format.specs.Spells.{magic, numbers_in, IsHeader, Latch, Gate}
-use Rattle.aig_parsing.specs.Parse.{◌>>=◌, parse_ended, parse_line, strip, or_else, parse_kind, header_from, parse_header_numbers, parse_header, latch_from, gate_from, parse_numbers, parse_latch, parse_gate, parse_sets, parse_if}
+use Rattle.aig_format.specs.Spells.{magic, numbers_in, IsHeader}
+use Rattle.aig_parsing.specs.Parse.{◌>>=◌, parse_ended, parse_line, strip, or_else, parse_kind, header_from, parse_header_numbers, parse_header, parse_numbers, parse_tested, parse_sets, parse_if}
 use Rattle.aig_format.proofs.Entries.{chosen}
 use Rattle.aig_parsing.proofs.Numbers.{bind_some}
-use Rattle.aig_parsing.proofs.Joined.{Begins, Reads, Reads-ended, Reads-both, Reads-tested, Reads-seen, Reads-times}
-use Rattle.aig_parsing.proofs.Lines.{IsShortLine, Reads-line}
-
--- the same text in other words
-pub Reads-same : {A : Type 0} (P Q : A → List ℕ → Type 0) (p : List ℕ → Option (A × List ℕ)) → Reads P p
-    → ((x : A) (bytes : List ℕ) → P x bytes → Q x bytes) → ((x : A) (bytes : List ℕ) → Q x bytes → P x bytes) → Reads Q p
-Reads-same P Q p hp to from = record {
-  sound = λ bytes x h. let s = hp.sound bytes x h in (s.0, s.1, to x.0 s.0 s.2);
-  complete = λ x front rest h. hp.complete x front rest (from x front h);
-}
+use Rattle.aig_parsing.proofs.Joined.{Any, Begins, Reads, Several, With, Reads-any, Reads-ended, Reads-both, Reads-same, Reads-tested, Reads-seen, Reads-times}
+use Rattle.aig_parsing.proofs.Lines.{IsShortLine, Reads-line, not_10}
 
 strip_sound : (front bytes rest : List ℕ) → strip front bytes ≡ Some rest → bytes ≡ front ++ rest
 strip_sound [] bytes rest h = same_Some _ _ h
@@ -124,77 +118,58 @@ Reads-header =
     (Reads-both (λ kind. Just (magic kind)) (λ _. AreHeaderNumbers) parse_kind (λ _. parse_header_numbers) Reads-kind (λ _. Reads-header_numbers))
     header_to header_back
 
--- ---- latches, gates, justice sets
-
-latch_to : (ns : List ℕ) (bytes : List ℕ) → (2 ≤ length ns) × IsShortLine 3 ns bytes → Latch Text (latch_from ns) bytes
-latch_to [] bytes h = absurd (omega (arith, h.0))
-latch_to (a ∷ []) bytes h = absurd (omega (arith, h.0))
-latch_to (a ∷ b ∷ []) bytes h = h.1.1
-latch_to (a ∷ b ∷ c ∷ []) bytes h = h.1.1
-latch_to (a ∷ b ∷ c ∷ d ∷ ns) bytes h = absurd (omega (arith, h.1.0))
-
-latch_back : (a b : ℕ) (o : Option ℕ) (bytes : List ℕ) → IsLine (a ∷ b ∷ option_to_list o) bytes
-    → (ns : List ℕ) × ((2 ≤ length ns) × IsShortLine 3 ns bytes) × (latch_from ns ≡ record { literal = a; next = b; reset = o })
-latch_back a b None bytes h = (a ∷ b ∷ [], (omega arith, (omega arith, h)), refl)
-latch_back a b (Some c) bytes h = (a ∷ b ∷ c ∷ [], (omega arith, (omega arith, h)), refl)
-
-abbrev test_2 : List ℕ → Bool
-test_2 ns = leb 2 (length ns)
-
-pub Reads-latch : Reads (Latch Text) parse_latch
-Reads-latch =
-    Reads-seen (λ ns bytes. (2 ≤ length ns) × IsShortLine 3 ns bytes) (Latch Text) (parse_if (parse_line 3) test_2) latch_from
-    (Reads-tested (IsShortLine 3) (λ ns. 2 ≤ length ns) (parse_line 3) test_2 (Reads-line 3) (λ ns. leb-true 2 (length ns)) (λ ns. le-leb 2 (length ns)))
-    latch_to (λ l bytes h. latch_back l.literal l.next l.reset bytes h)
-
-gate_to : (ns : List ℕ) (bytes : List ℕ) → (length ns ≡ 3) × IsShortLine 3 ns bytes → Gate Text (gate_from ns) bytes
-gate_to [] bytes h = absurd (omega (arith, h.0))
-gate_to (a ∷ []) bytes h = absurd (omega (arith, h.0))
-gate_to (a ∷ b ∷ []) bytes h = absurd (omega (arith, h.0))
-gate_to (a ∷ b ∷ c ∷ []) bytes h = h.1.1
-gate_to (a ∷ b ∷ c ∷ d ∷ ns) bytes h = absurd (omega (arith, h.1.0))
-
-abbrev test_3 : List ℕ → Bool
-test_3 ns = eqb (length ns) 3
-
-pub Reads-gate : Reads (Gate Text) parse_gate
-Reads-gate =
-    Reads-seen (λ ns bytes. (length ns ≡ 3) × IsShortLine 3 ns bytes) (Gate Text) (parse_if (parse_line 3) test_3) gate_from
-    (Reads-tested (IsShortLine 3) (λ ns. length ns ≡ 3) (parse_line 3) test_3 (Reads-line 3) (λ ns. eqb-true (length ns) 3) (λ ns. eq-eqb (length ns) 3))
-    gate_to (λ g bytes h. (g.lhs ∷ g.rhs0 ∷ g.rhs1 ∷ [], (refl, (omega arith, h)), refl))
+-- ---- lines of one number, and justice sets
 
 -- as many numbers as n says, a line each
 abbrev pub SoMany : ℕ → List ℕ → List ℕ → Type 0
-SoMany n xs bytes = (length xs ≡ n) × Lines xs bytes
+SoMany = Several (Ended 10)
+
+all_any : {A : Type 0} (xs : List A) → AllByRecursion Any xs
+all_any [] = tt
+all_any (x ∷ xs) = (tt, all_any xs)
+
+pub Reads-line_end : Reads (Ended 10) (parse_ended 10)
+Reads-line_end = Reads-ended 10 not_10
 
 pub Reads-numbers : (n : ℕ) → Reads (SoMany n) (parse_numbers n)
-Reads-numbers n = Reads-times (Ended 10) (parse_ended 10) n (Reads-ended 10 (λ h. omega arith))
+Reads-numbers n =
+    Reads-same (With (AllByRecursion Any) (SoMany n)) (SoMany n) (parse_numbers n) (Reads-times Any (Ended 10) (parse_ended 10) n (Reads-any (Ended 10) (parse_ended 10) Reads-line_end))
+    (λ xs bytes h. h.1) (λ xs bytes h. (all_any xs, h))
 
--- sets of these sizes, line after line
-abbrev pub SetsOf : List ℕ → List (List ℕ) → List ℕ → Type 0
-SetsOf sizes sets bytes = (map length sets ≡ sizes) × Each Lines sets bytes
+module _ (test : ℕ → Bool) where
+  pub Reads-tested_lines : (n : ℕ) → Reads (With (AllPass test) (SoMany n)) (parse_tested test n)
+  Reads-tested_lines n =
+      Reads-times (λ e. IsTrue (test e)) (Ended 10) (parse_if (parse_ended 10) test) n
+      (Reads-tested (Ended 10) (λ e. IsTrue (test e)) (parse_ended 10) test Reads-line_end (λ e h. h) (λ e h. h))
 
-sets_sound : (sizes : List ℕ) (bytes : List ℕ) (x : List (List ℕ) × List ℕ) → parse_sets sizes bytes ≡ Some x → Begins (SetsOf sizes) bytes x
-unfolding parse_sets
-sets_sound [] bytes x h = subst (Begins (SetsOf []) bytes) (same_Some _ _ h) ([], refl, (refl, refl))
-sets_sound (n ∷ sizes) bytes x h =
-    let b = bind_some (parse_numbers n bytes) (λ set. parse_sets sizes set.1 >>= λ sets. Some (set.0 ∷ sets.0, sets.1)) x h in
-    let c = bind_some (parse_sets sizes b.0.1) (λ sets. Some (b.0.0 ∷ sets.0, sets.1)) x b.2 in
-    let s = (Reads-numbers n).sound bytes b.0 b.1 in
-    let t = sets_sound sizes b.0.1 c.0 c.1 in
-    let whole : bytes ≡ (s.0 ++ t.0) ++ c.0.1 = s.1 ∙ ap (λ (xs : List ℕ). s.0 ++ xs) t.1 ∙ sym (append_assoc s.0 t.0 c.0.1) in
-    let lens : map length (b.0.0 ∷ c.0.0) ≡ n ∷ sizes = let p = s.2.0 in let q = t.2.0 in cc in
-    subst (Begins (SetsOf (n ∷ sizes)) bytes) (same_Some _ _ c.2) (s.0 ++ t.0, whole, (lens, (s.0, t.0, refl, s.2.1, t.2.1)))
+  -- sets of these sizes that pass the test, line after line
+  abbrev pub AreSets : List (List ℕ) → Type 0
+  AreSets = AllByRecursion (AllPass test)
 
-sets_complete : (sets : List (List ℕ)) (front rest : List ℕ) → Each Lines sets front → parse_sets (map length sets) (front ++ rest) ≡ Some (sets, rest)
-unfolding parse_sets
-sets_complete [] front rest h = rw h refl
-sets_complete (xs ∷ sets) front rest h =
-    let same : front ++ rest ≡ h.0 ++ (h.1 ++ rest) = ap (λ (ys : List ℕ). ys ++ rest) h.2 ∙ append_assoc h.0 h.1 rest in
-    rw (same, (Reads-numbers (length xs)).complete xs h.0 (h.1 ++ rest) (refl, h.3), sets_complete sets h.1 rest h.4) refl
+  abbrev pub SetsOf : List ℕ → List (List ℕ) → List ℕ → Type 0
+  SetsOf sizes sets bytes = AreSets sets × (map length sets ≡ sizes) × Each Lines sets bytes
 
-pub Reads-sets : (sizes : List ℕ) → Reads (SetsOf sizes) (parse_sets sizes)
-Reads-sets sizes = record {
-  sound = sets_sound sizes;
-  complete = λ sets front rest h. ap (λ (k : List ℕ). parse_sets k (front ++ rest)) (sym h.0) ∙ sets_complete sets front rest h.1;
-}
+  sets_sound : (sizes bytes : List ℕ) (x : List (List ℕ) × List ℕ) → parse_sets test sizes bytes ≡ Some x → Begins (SetsOf sizes) bytes x
+  unfolding parse_sets
+  sets_sound [] bytes x h = subst (Begins (SetsOf []) bytes) (same_Some _ _ h) ([], refl, (tt, refl, refl))
+  sets_sound (n ∷ sizes) bytes x h =
+      let b = bind_some (parse_tested test n bytes) (λ set. parse_sets test sizes set.1 >>= λ sets. Some (set.0 ∷ sets.0, sets.1)) x h in
+      let c = bind_some (parse_sets test sizes b.0.1) (λ sets. Some (b.0.0 ∷ sets.0, sets.1)) x b.2 in
+      let s = (Reads-tested_lines n).sound bytes b.0 b.1 in
+      let t = sets_sound sizes b.0.1 c.0 c.1 in
+      let whole : bytes ≡ (s.0 ++ t.0) ++ c.0.1 = s.1 ∙ ap (λ (xs : List ℕ). s.0 ++ xs) t.1 ∙ sym (append_assoc s.0 t.0 c.0.1) in
+      let lens : map length (b.0.0 ∷ c.0.0) ≡ n ∷ sizes = let p = s.2.1.0 in let q = t.2.1 in cc in
+      subst (Begins (SetsOf (n ∷ sizes)) bytes) (same_Some _ _ c.2) (s.0 ++ t.0, whole, ((s.2.0, t.2.0), lens, (s.0, t.0, refl, s.2.1.1, t.2.2)))
+
+  sets_complete : (sets : List (List ℕ)) (front rest : List ℕ) → AreSets sets → Each Lines sets front → parse_sets test (map length sets) (front ++ rest) ≡ Some (sets, rest)
+  unfolding parse_sets
+  sets_complete [] front rest all h = rw h refl
+  sets_complete (xs ∷ sets) front rest all h =
+      let same : front ++ rest ≡ h.0 ++ (h.1 ++ rest) = ap (λ (ys : List ℕ). ys ++ rest) h.2 ∙ append_assoc h.0 h.1 rest in
+      rw (same, (Reads-tested_lines (length xs)).complete xs h.0 (h.1 ++ rest) (all.0, (refl, h.3)), sets_complete sets h.1 rest all.1 h.4) refl
+
+  pub Reads-sets : (sizes : List ℕ) → Reads (SetsOf sizes) (parse_sets test sizes)
+  Reads-sets sizes = record {
+    sound = sets_sound sizes;
+    complete = λ sets front rest h. ap (λ (k : List ℕ). parse_sets test k (front ++ rest)) (sym h.1) ∙ sets_complete sets front rest h.0 h.2;
+  }

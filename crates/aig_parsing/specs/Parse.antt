@@ -1,15 +1,18 @@
 -- Part of what is promised.
--- Reading from the front: a value and the bytes after it, or nothing. Each reader is for one text
--- of the grammar.
+-- Reading from the front: a value and the bytes after it, or nothing.
+-- What a file is, and which files are accepted, `Spells` and `Fits` of aig_format say, of whole
+-- texts and with no reader. Here are readers of it, one for each text, and what they test is a
+-- parameter: with no tests they read what is spelled, and with those of ParseTested what fits.
 -- (AIGER format 20071012: "Header", "Binary encoding", "Symbol table"; AIGER 1.9: "Reset logic",
 -- "Properties".)
-use Rattle.std.specs.Prelude.{ℕ, zero, suc, ◌+◌, ◌-◌, ◌*◌, ◌^◌, Bool, true, false, not, ◌&&◌, nat_lt, nat_le, ◌==◌, if◌then◌else◌, List, [], ◌∷◌, ◌++◌, length, slice_index, slice_index_or, slice_get, Option, Some, None, option_map}
+use Rattle.std.specs.Prelude.{ℕ, zero, suc, ◌+◌, ◌-◌, ◌*◌, ◌^◌, Bool, true, false, not, ◌&&◌, nat_lt, nat_le, ◌==◌, if◌then◌else◌, List, [], ◌∷◌, ◌++◌, length, slice_index_or, Option, Some, None, option_map, map}
+use Rattle.aig_circuit.specs.Properties.{Properties}
 use Rattle.aig_format.specs.declared.FileKind.{FileKind}
 use Rattle.aig_format.specs.declared.FileKind.TheVariants.{Text, Binary}
 use Rattle.aig_format.specs.File.{LatchLine, GateLine, NameLine, File, HeaderNumbers}
 use Rattle.aig_format.specs.Letters.{letter_of_comment}
-use Rattle.aig_format.specs.Spells.{magic, is_letter, places}
-use Rattle.aig_format.specs.Fits.{count_defined}
+use Rattle.aig_format.specs.Spells.{magic, is_letter}
+use Rattle.aig_format.specs.Fits.{has_enough}
 
 -- what follows a value, if there is one
 infixl 10 ◌>>=◌
@@ -62,14 +65,19 @@ parse_map f p bytes = do
   x ← p bytes
   Some (f x.0, x.1)
 
+-- n entries after these, each read beside those before it
+abbrev pub parse_entries : {A : Type 0} → (List A → List ℕ → Option (A × List ℕ)) → List A → ℕ
+    → List ℕ → Option (List A × List ℕ)
+parse_entries p before zero bytes = Some ([], bytes)
+parse_entries p before (suc n) bytes = do
+  x ← p before bytes
+  xs ← parse_entries p (before ++ x.0 ∷ []) n x.1
+  Some (x.0 ∷ xs.0, xs.1)
+
 -- a reader n times
 abbrev pub parse_times : {A : Type 0} → (List ℕ → Option (A × List ℕ)) → ℕ → List ℕ
     → Option (List A × List ℕ)
-parse_times p zero bytes = Some ([], bytes)
-parse_times p (suc n) bytes = do
-  x ← p bytes
-  xs ← parse_times p n x.1
-  Some (x.0 ∷ xs.0, xs.1)
+parse_times p = parse_entries (λ _. p) []
 
 -- a line of at most so many numbers
 unfoldable pub parse_line : ℕ → List ℕ → Option (List ℕ × List ℕ)
@@ -119,34 +127,17 @@ parse_header_numbers = parse_map header_from (parse_if (parse_line 9) (λ ns. na
 abbrev pub parse_header : List ℕ → Option ((FileKind × HeaderNumbers) × List ℕ)
 parse_header = parse_both parse_kind (λ _. parse_header_numbers)
 
--- the latch of the numbers of a line
-abbrev pub latch_from : List ℕ → LatchLine
-latch_from ns =
-    record { literal = slice_index ns 0; next = slice_index ns 1; reset = slice_get ns 2 }
+-- a next literal, and the reset after it if one is written
+unfoldable pub parse_next_and_reset : List ℕ → Option ((ℕ × Option ℕ) × List ℕ)
+parse_next_and_reset bytes = do
+  n ← parse_number bytes
+  if n.0.1 == 10 then Some ((n.0.0, None), n.1)
+      else if n.0.1 == 32 then (parse_ended 10 n.1 >>= λ r. Some ((n.0.0, Some r.0), r.1))
+      else None
 
--- the gate of the numbers of a line
-abbrev pub gate_from : List ℕ → GateLine
-gate_from ns = record { lhs = slice_index ns 0; rhs0 = slice_index ns 1; rhs1 = slice_index ns 2 }
-
--- lines of one number
-abbrev pub parse_numbers : ℕ → List ℕ → Option (List ℕ × List ℕ)
-parse_numbers = parse_times (parse_ended 10)
-
--- a latch line of a text file: two or three numbers
-abbrev pub parse_latch : List ℕ → Option (LatchLine × List ℕ)
-parse_latch = parse_map latch_from (parse_if (parse_line 3) (λ ns. nat_le 2 (length ns)))
-
--- a gate line of a text file: three numbers
-abbrev pub parse_gate : List ℕ → Option (GateLine × List ℕ)
-parse_gate = parse_map gate_from (parse_if (parse_line 3) (λ ns. length ns == 3))
-
--- sets of these sizes
-unfoldable pub parse_sets : List ℕ → List ℕ → Option (List (List ℕ) × List ℕ)
-parse_sets [] bytes = Some ([], bytes)
-parse_sets (n ∷ sizes) bytes = do
-  set ← parse_numbers n bytes
-  sets ← parse_sets sizes set.1
-  Some (set.0 ∷ sets.0, sets.1)
+-- two numbers in a line
+abbrev pub parse_pair : List ℕ → Option ((ℕ × ℕ) × List ℕ)
+parse_pair = parse_both (parse_ended 32) (λ _. parse_ended 10)
 
 -- a byte
 abbrev pub parse_byte : List ℕ → Option (ℕ × List ℕ)
@@ -176,14 +167,15 @@ is_comment [] = true
 is_comment (c ∷ []) = c == letter_of_comment
 is_comment (c ∷ b ∷ bs) = c == letter_of_comment && not (is_digit b)
 
--- the names, with the comment after them, up to the end; at most k names
-unfoldable pub parse_tail : ℕ → List ℕ → Option (List NameLine)
-parse_tail zero bytes = None
-parse_tail (suc k) bytes =
+-- the names after these, each with a test beside those before it, with the comment after them, up
+-- to the end; at most k names
+unfoldable pub parse_tail : (List NameLine → NameLine → Bool) → ℕ → List NameLine → List ℕ
+    → Option (List NameLine)
+parse_tail test zero before bytes = None
+parse_tail test (suc k) before bytes =
     if is_comment bytes then Some []
-    else (parse_name bytes >>= λ n. parse_tail k n.1 >>= λ ns. Some (n.0 ∷ ns))
-
--- ---- binary files
+    else (parse_if parse_name (test before) bytes >>= λ n. parse_tail test k (before ++ n.0 ∷ [])
+    n.1 >>= λ names. Some (n.0 ∷ names))
 
 -- groups of seven bits, at most k of them
 unfoldable pub parse_groups : ℕ → List ℕ → Option (ℕ × List ℕ)
@@ -197,95 +189,100 @@ parse_groups (suc k) (b ∷ bs) =
 abbrev pub parse_delta : List ℕ → Option (ℕ × List ℕ)
 parse_delta = parse_if (parse_groups 5) (λ d. nat_lt d (2 ^ 32))
 
--- n entries, of the variables from v on
-abbrev pub parse_placed : {A : Type 0} → (ℕ → List ℕ → Option (A × List ℕ)) → ℕ → ℕ → List ℕ
-    → Option (List A × List ℕ)
-parse_placed p zero v bytes = Some ([], bytes)
-parse_placed p (suc n) v bytes = do
-  x ← p v bytes
-  xs ← parse_placed p n (v + 1) x.1
-  Some (x.0 ∷ xs.0, xs.1)
+-- ---- entries, beside the literals that are defined before them
 
--- the latch of variable v in a binary file
-abbrev pub placed_latch : ℕ → List ℕ → LatchLine
-placed_latch v ns = record { literal = 2 * v; next = slice_index ns 0; reset = slice_get ns 1 }
+-- what is tested of the lines after the header
+pub record LineTests : Type 0 where
+  -- a literal that is defined, beside those before it
+  pub defined : List ℕ → ℕ → Bool
+  -- a latch
+  pub latch : LatchLine → Bool
+  -- a literal of outputs and properties
+  pub used : ℕ → Bool
+  -- a gate
+  pub gate : GateLine → Bool
 
--- the gate of variable v in a binary file, by its two differences
-abbrev pub placed_gate : ℕ → ℕ × ℕ → GateLine
-placed_gate v d = record { lhs = 2 * v; rhs0 = 2 * v - d.0; rhs1 = 2 * v - d.0 - d.1 }
+-- the literal that an entry defines: in a text file it is written, in a binary file it is that of
+-- the next variable
+abbrev pub parse_own : FileKind → ℕ → List ℕ → List ℕ → Option (ℕ × List ℕ)
+parse_own Text end before = parse_ended end
+parse_own Binary end before = λ bytes. Some (2 * (length before + 1), bytes)
+
+-- an input
+abbrev pub parse_input : LineTests → FileKind → List ℕ → List ℕ → Option (ℕ × List ℕ)
+parse_input tests kind before = parse_if (parse_own kind 10 before) (tests.defined before)
+
+-- a latch of this literal
+abbrev pub latch_line_from : ℕ → ℕ × Option ℕ → LatchLine
+latch_line_from own x = record { literal = own; next = x.0; reset = x.1 }
+
+-- a latch, after these inputs and latches
+abbrev pub parse_latch : LineTests → FileKind → List ℕ → List LatchLine → List ℕ
+    → Option (LatchLine × List ℕ)
+parse_latch tests kind inputs before =
+    let literals = inputs ++ map (λ m. m.literal) before in
+    parse_if
+    (parse_map (λ x. latch_line_from x.0 x.1)
+    (parse_both (parse_own kind 32 literals) (λ _. parse_next_and_reset)))
+    (λ l. tests.defined literals l.literal && tests.latch l)
 
 -- neither difference passes the number that it is taken from
 abbrev pub fits_gate : ℕ → ℕ × ℕ → Bool
-fits_gate v d = nat_le d.0 (2 * v) && nat_le d.1 (2 * v - d.0)
+fits_gate lhs d = nat_le d.0 lhs && nat_le d.1 (lhs - d.0)
 
--- a latch line of a binary file, for variable v
-abbrev pub parse_placed_latch : ℕ → List ℕ → Option (LatchLine × List ℕ)
-parse_placed_latch v = parse_map (placed_latch v) (parse_line 2)
+-- the operands of a gate of this literal: in a text file two numbers, in a binary file by their
+-- differences
+abbrev pub parse_operands : FileKind → ℕ → List ℕ → Option ((ℕ × ℕ) × List ℕ)
+parse_operands Text lhs = parse_pair
+parse_operands Binary lhs =
+    parse_map (λ d. (lhs - d.0, lhs - d.0 - d.1))
+    (parse_if (parse_both parse_delta (λ _. parse_delta)) (fits_gate lhs))
 
--- a gate of a binary file, for variable v
-abbrev pub parse_placed_gate : ℕ → List ℕ → Option (GateLine × List ℕ)
-parse_placed_gate v =
-    parse_map (placed_gate v) (parse_if (parse_both parse_delta (λ _. parse_delta)) (fits_gate v))
+-- the gate of three numbers
+abbrev pub gate_line_from : ℕ × (ℕ × ℕ) → GateLine
+gate_line_from x = record { lhs = x.0; rhs0 = x.1.0; rhs1 = x.1.1 }
 
--- ---- files of both kinds, by the header's numbers
+-- a gate, after these leaves and gates
+abbrev pub parse_gate : LineTests → FileKind → List ℕ → List GateLine → List ℕ
+    → Option (GateLine × List ℕ)
+parse_gate tests kind leaves before =
+    let literals = leaves ++ map (λ h. h.lhs) before in
+    parse_if
+    (parse_map gate_line_from (parse_both (parse_own kind 32 literals) (parse_operands kind)))
+    (λ g. tests.defined literals g.lhs && tests.gate g)
 
--- the inputs: in a binary file they have no bytes
-abbrev pub parse_inputs : FileKind → HeaderNumbers → List ℕ → Option (List ℕ × List ℕ)
-parse_inputs Text ns = parse_numbers ns.inputs
-parse_inputs Binary ns = λ bytes. Some (places ns.inputs 1, bytes)
+-- ---- sections, by the header's numbers
 
--- the latches
-abbrev pub parse_latches : FileKind → HeaderNumbers → List ℕ → Option (List LatchLine × List ℕ)
-parse_latches Text ns = parse_times parse_latch ns.latches
-parse_latches Binary ns = parse_placed parse_placed_latch ns.latches (1 + ns.inputs)
+-- lines of one number
+abbrev pub parse_numbers : ℕ → List ℕ → Option (List ℕ × List ℕ)
+parse_numbers = parse_times (parse_ended 10)
 
--- the gates
-abbrev pub parse_gates : FileKind → HeaderNumbers → List ℕ → Option (List GateLine × List ℕ)
-parse_gates Text ns = parse_times parse_gate ns.gates
-parse_gates Binary ns = parse_placed parse_placed_gate ns.gates (1 + ns.inputs + ns.latches)
+-- lines of one number that passes a test
+abbrev pub parse_tested : (ℕ → Bool) → ℕ → List ℕ → Option (List ℕ × List ℕ)
+parse_tested test = parse_times (parse_if (parse_ended 10) test)
 
--- outputs and properties
-pub record PropertyParts : Type 0 where
-  pub outputs : List ℕ
-  pub bads : List ℕ
-  pub constraints : List ℕ
-  pub justice : List (List ℕ)
-  pub fairness : List ℕ
-
--- those of a file
-abbrev pub property_parts : File → PropertyParts
-property_parts f =
-    record {
-      outputs = f.outputs;
-      bads = f.bads;
-      constraints = f.constraints;
-      justice = f.justice;
-      fairness = f.fairness;
-    }
-
--- the sections after the header
-pub record Parts : Type 0 where
-  pub inputs : List ℕ
-  pub latches : List LatchLine
-  pub properties : PropertyParts
-  pub gates : List GateLine
+-- sets of such lines, of these sizes
+unfoldable pub parse_sets : (ℕ → Bool) → List ℕ → List ℕ → Option (List (List ℕ) × List ℕ)
+parse_sets test [] bytes = Some ([], bytes)
+parse_sets test (n ∷ sizes) bytes = do
+  set ← parse_tested test n bytes
+  sets ← parse_sets test sizes set.1
+  Some (set.0 ∷ sets.0, sets.1)
 
 -- so many justice sets: their sizes, and then their literals
-abbrev pub parse_justice : ℕ → List ℕ → Option (List (List ℕ) × List ℕ)
-parse_justice count bytes = do
+abbrev pub parse_justice : (ℕ → Bool) → ℕ → List ℕ → Option (List (List ℕ) × List ℕ)
+parse_justice test count bytes = do
   sizes ← parse_numbers count bytes
-  parse_sets sizes.0 sizes.1
+  parse_sets test sizes.0 sizes.1
 
--- outputs and properties, by readers of so many literals and of so many sets
-abbrev pub properties_by : (ℕ → List ℕ → Option (List ℕ × List ℕ))
-    → (ℕ → List ℕ → Option (List (List ℕ) × List ℕ)) → HeaderNumbers → List ℕ
-    → Option (PropertyParts × List ℕ)
-properties_by literals sets ns bytes = do
-  outputs ← literals ns.outputs bytes
-  bads ← literals ns.bads outputs.1
-  constraints ← literals ns.constraints bads.1
-  justice ← sets ns.justice constraints.1
-  fairness ← literals ns.fairness justice.1
+-- outputs and properties
+abbrev pub parse_properties : (ℕ → Bool) → HeaderNumbers → List ℕ → Option (Properties ℕ × List ℕ)
+parse_properties test ns bytes = do
+  outputs ← parse_tested test ns.outputs bytes
+  bads ← parse_tested test ns.bads outputs.1
+  constraints ← parse_tested test ns.constraints bads.1
+  justice ← parse_justice test ns.justice constraints.1
+  fairness ← parse_tested test ns.fairness justice.1
   Some (
     record {
       outputs = outputs.0;
@@ -297,17 +294,23 @@ properties_by literals sets ns bytes = do
     fairness.1,
   )
 
--- the sections, by their readers; latches may look at the inputs, and gates at both
-abbrev pub sections_by : (List ℕ → Option (List ℕ × List ℕ))
-    → (List ℕ → List ℕ → Option (List LatchLine × List ℕ))
-    → (List ℕ → Option (PropertyParts × List ℕ))
-    → (List ℕ → List LatchLine → List ℕ → Option (List GateLine × List ℕ)) → List ℕ
+-- the sections after the header
+pub record Parts : Type 0 where
+  pub inputs : List ℕ
+  pub latches : List LatchLine
+  pub properties : Properties ℕ
+  pub gates : List GateLine
+
+-- the sections after the header
+abbrev pub parse_sections : LineTests → FileKind → HeaderNumbers → List ℕ
     → Option (Parts × List ℕ)
-sections_by read_inputs read_latches read_properties read_gates bytes = do
-  inputs ← read_inputs bytes
-  latches ← read_latches inputs.0 inputs.1
-  properties ← read_properties latches.1
-  gates ← read_gates inputs.0 latches.0 properties.1
+parse_sections tests kind ns bytes = do
+  inputs ← parse_entries (parse_input tests kind) [] ns.inputs bytes
+  latches ← parse_entries (parse_latch tests kind inputs.0) [] ns.latches inputs.1
+  properties ← parse_properties tests.used ns latches.1
+  gates ←
+      parse_entries (parse_gate tests kind (inputs.0 ++ map (λ l. l.literal) latches.0)) [] ns.gates
+      properties.1
   Some (
     record {
       inputs = inputs.0;
@@ -318,15 +321,15 @@ sections_by read_inputs read_latches read_properties read_gates bytes = do
     gates.1,
   )
 
--- the sections after the header
-abbrev pub parse_sections : FileKind → HeaderNumbers → List ℕ → Option (Parts × List ℕ)
-parse_sections kind ns =
-    sections_by (parse_inputs kind ns) (λ _. parse_latches kind ns)
-    (properties_by parse_numbers parse_justice ns) (λ _ _. parse_gates kind ns)
+-- ---- files
 
--- the header and the sections
-abbrev pub parse_body : List ℕ → Option (((FileKind × HeaderNumbers) × Parts) × List ℕ)
-parse_body = parse_both parse_header (λ h. parse_sections h.0 h.1)
+-- what is tested of a file: its header, its lines, all sections after the last gate, and each name
+-- beside those before it
+pub record Tests : Type 0 where
+  pub header : FileKind × HeaderNumbers → Bool
+  pub lines : FileKind × HeaderNumbers → LineTests
+  pub sections : File → Bool
+  pub names : HeaderNumbers → List NameLine → NameLine → Bool
 
 -- the file of a header, sections and names
 abbrev pub file_from : (FileKind × HeaderNumbers) × Parts → List NameLine → File
@@ -335,46 +338,47 @@ file_from b names = let x = b.1 in record {
   greatest = b.0.1.greatest;
   inputs = x.inputs;
   latches = x.latches;
-  outputs = x.properties.outputs;
+  properties = x.properties;
   gates = x.gates;
-  bads = x.properties.bads;
-  constraints = x.properties.constraints;
-  justice = x.properties.justice;
-  fairness = x.properties.fairness;
   names = names;
 }
 
--- the file that the bytes spell, if any
-unfoldable pub parse_file : List ℕ → Option File
-parse_file bytes = do
-  b ← parse_body bytes
-  names ← parse_tail (suc (length b.1)) b.1
+-- the header and the sections
+abbrev pub parse_body : Tests → List ℕ → Option (((FileKind × HeaderNumbers) × Parts) × List ℕ)
+parse_body tests =
+    parse_both (parse_if parse_header tests.header)
+    (λ h. parse_if (parse_sections (tests.lines h) h.0 h.1)
+    (λ x. tests.sections (file_from (h, x) [])))
+
+-- the file that the bytes spell, if any, where it passes the tests
+unfoldable pub parse_file : Tests → List ℕ → Option File
+parse_file tests bytes = do
+  b ← parse_body tests bytes
+  names ← parse_tail (tests.names b.0.0.1) (suc (length b.1)) [] b.1
   Some (file_from b.0 names)
 
--- M >= I + L + A in a text file, M = I + L + A in a binary one
-abbrev pub is_good : FileKind → HeaderNumbers → Bool
-is_good Text ns = nat_le (count_defined ns) ns.greatest
-is_good Binary ns = ns.greatest == count_defined ns
+-- no tests: these read whatever is spelled
+abbrev pub no_tests : Tests
+no_tests = record {
+  header = λ _. true;
+  lines = λ _. record {
+    defined = λ _ _. true;
+    latch = λ _. true;
+    used = λ _. true;
+    gate = λ _. true;
+  };
+  sections = λ _. true;
+  names = λ _ _ _. true;
+}
 
 -- whether the header line is good, and M + 1 passes the limit
 abbrev pub too_many_of : ℕ → Option ((FileKind × HeaderNumbers) × List ℕ) → Bool
 too_many_of limit None = false
-too_many_of limit (Some h) = is_good h.0.0 h.0.1 && nat_lt limit (h.0.1.greatest + 1)
+too_many_of limit (Some h) = has_enough h.0.0 h.0.1 && nat_lt limit (h.0.1.greatest + 1)
 
 -- whether bytes begin with such a header line
 abbrev pub too_many_at : ℕ → List ℕ → Bool
 too_many_at limit bytes = too_many_of limit (parse_header bytes)
-
--- ---- entries with a test that looks at those before
-
--- a reader n times, each entry tested beside the entries before it
-abbrev pub parse_checked : {A : Type 0} → (List ℕ → Option (A × List ℕ)) → (List A → A → Bool)
-    → List A → ℕ → List ℕ → Option (List A × List ℕ)
-parse_checked p test before zero bytes = Some ([], bytes)
-parse_checked p test before (suc n) bytes = do
-  x ← parse_if p (test before) bytes
-  xs ← parse_checked p test (before ++ x.0 ∷ []) n x.1
-  Some (x.0 ∷ xs.0, xs.1)
 
 -- each entry meets the condition beside the entries before it
 abbrev pub AllAfter : {A : Type 0} → (List A → A → Type 0) → List A → List A → Type 0

@@ -1,7 +1,8 @@
 -- Serves private clauses alone.
 -- The files that have a written form. (AIGER format 20071012: "Header", "Symbol table".)
-use Rattle.std.specs.Prelude.{◌≡◌, ◌≢◌, ℕ, ◌^◌, ◌<◌, ◌≤◌, true, List, map, length, option_to_list}
+use Rattle.std.specs.Prelude.{◌≡◌, ◌≢◌, ℕ, ◌^◌, ◌<◌, ◌≤◌, true, map, length, option_to_list}
 use Rattle.std.specs.List.{AllByRecursion}
+use Rattle.aig_circuit.specs.Properties.{AllProperties}
 use Rattle.aig_format.specs.File.{LatchLine, GateLine, NameLine, File, header_of, defined}
 use Rattle.aig_format.specs.Spells.{is_letter, numbers_in, Placed}
 
@@ -24,21 +25,13 @@ abbrev pub NameSmall : NameLine → Type 0
 NameSmall n =
     (is_letter n.letter ≡ true) × IsFileNumber n.position × AllByRecursion (λ b. b ≢ 10) n.name
 
--- a justice set of such numbers
-abbrev pub SetSmall : List ℕ → Type 0
-SetSmall s = AllByRecursion IsFileNumber s
-
 -- what can be written
 pub record CanWrite (f : File) : Type 0 where
   pub header : AllByRecursion IsFileNumber (numbers_in (header_of f))
   pub inputs : AllByRecursion IsFileNumber f.inputs
   pub latches : AllByRecursion LatchSmall f.latches
-  pub outputs : AllByRecursion IsFileNumber f.outputs
-  pub bads : AllByRecursion IsFileNumber f.bads
-  pub constraints : AllByRecursion IsFileNumber f.constraints
-  pub sizes : AllByRecursion IsFileNumber (map length f.justice)
-  pub justice : AllByRecursion SetSmall f.justice
-  pub fairness : AllByRecursion IsFileNumber f.fairness
+  pub properties : AllProperties IsFileNumber f.properties
+  pub sizes : AllByRecursion IsFileNumber (map length f.properties.justice)
   pub gates : AllByRecursion GateSmall f.gates
   pub names : AllByRecursion NameSmall f.names
   pub placed : Placed f.kind (defined f)

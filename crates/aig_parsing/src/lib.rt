@@ -6,14 +6,16 @@ ghost use Rattle.aig_format.specs.File.{File};
 ghost use Rattle.aig_format.specs.Spells.{Spells};
 ghost use Rattle.aig_format.specs.Written.{file_text};
 ghost use Rattle.aig_format.specs.Fits.{TooMany, Accepts};
-ghost use Rattle.aig_parsing.specs.Parse.{parse_file, too_many_at};
+ghost use Rattle.aig_parsing.specs.Parse.{no_tests, parse_file, too_many_at};
 ghost use Rattle.aig_parsing.specs.ParseTested.{parse_fitting};
 ghost use Rattle.aig_parsing.specs.Writable.{CanWrite};
 
 /// What is read is spelled so, what is spelled so is read, and bytes spell one file at most.
 pub fn reads_exactly()
-    ensures sound { (bytes : List ℕ) (f : File) → parse_file bytes ≡ Some f → Spells f bytes }
-    ensures complete { (f : File) (bytes : List ℕ) → Spells f bytes → parse_file bytes ≡ Some f }
+    ensures sound { (bytes : List ℕ) (f : File) → parse_file no_tests bytes ≡ Some f
+        → Spells f bytes }
+    ensures complete { (f : File) (bytes : List ℕ) → Spells f bytes
+        → parse_file no_tests bytes ≡ Some f }
     ensures one { (f g : File) (bytes : List ℕ) → Spells f bytes → Spells g bytes → f ≡ g }
 {}
 

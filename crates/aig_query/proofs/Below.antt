@@ -73,5 +73,5 @@ pub query_below : (c : Circuit) (k : ℕ) (unrolled : Circuit) → IsCircuit c �
 query_below c k unrolled is made longer =
     let n = length unrolled.nodes in
     let leaves = All-weaker (IsLatch c.nodes) (IsThere n) (λ l h. (omega (arith, longer, kind_at-within c.nodes l.input Leaf h.leaf), further_start c.nodes n longer l.init h.init)) c.latchs is.latchs in
-    let both = All-append (All (λ lit. variable_of lit < n)) (flat_map start_clauses c.latchs) (unit_clauses unrolled.constraints) (starts n c.latchs leaves) (units n unrolled.constraints made.constraints) in
-    All-append (All (λ lit. variable_of lit < n)) (flat_map start_clauses c.latchs ++ unit_clauses unrolled.constraints) (map lit_of (last_bads c k unrolled) ∷ []) both (any n (last_bads c k unrolled) (All-drop (λ (e : AigEdge). e.node_id < n) (k * length c.bads) unrolled.bads made.bads))
+    let both = All-append (All (λ lit. variable_of lit < n)) (flat_map start_clauses c.latchs) (unit_clauses unrolled.properties.constraints) (starts n c.latchs leaves) (units n unrolled.properties.constraints made.properties.constraints) in
+    All-append (All (λ lit. variable_of lit < n)) (flat_map start_clauses c.latchs ++ unit_clauses unrolled.properties.constraints) (map lit_of (last_bads c k unrolled) ∷ []) both (any n (last_bads c k unrolled) (All-drop (λ (e : AigEdge). e.node_id < n) (k * length c.properties.bads) unrolled.properties.bads made.properties.bads))

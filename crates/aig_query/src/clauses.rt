@@ -78,7 +78,8 @@ pub fn query_clauses(
 ) -> Result<LitVvec, MemoryError>
     requires few { length circuit.now.nodes ≤ 2 ^ 31 }
     requires few_unrolled { length unrolled.now.nodes ≤ 2 ^ 31 }
-    requires bads { length unrolled.now.bads ≡ (k + 1) * length circuit.now.bads }
+    requires bads { length unrolled.now.properties.bads
+        ≡ (k + 1) * length circuit.now.properties.bads }
     requires longer { length circuit.now.nodes ≤ length unrolled.now.nodes }
     // Which clauses there are, and in which order.
     ensures exact { IfOk result (λ extra. extra ≡ query_clauses circuit.now k unrolled.now) }

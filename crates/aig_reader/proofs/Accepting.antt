@@ -8,7 +8,7 @@ use Rattle.aig_format.specs.File.{NameLine, File, HeaderNumbers}
 use Rattle.aig_format.specs.Fits.{Accepts}
 use Rattle.aig_parsing.proofs.FittingFiles.{fitting_sound, fitting_complete}
 use Rattle.aig_parsing.proofs.TooManyAt.{too_many_exact}
-use Rattle.aig_parsing.specs.Parse.{◌>>=◌, Parts, file_from, too_many_at}
+use Rattle.aig_parsing.specs.Parse.{◌>>=◌, Parts, file_from, too_many_at, parse_file}
 use Rattle.aig_parsing.specs.ParseTested.{parse_fitting, parse_fitting_body, parse_fitting_header, parse_fitting_sections}
 use Rattle.aig_circuit.specs.declared.view.CircuitLists.{CircuitLists}
 use Rattle.aig_symbols.specs.Names.{tail_of}
@@ -79,7 +79,7 @@ abbrev with_names : Body × List ℕ → Option File
 with_names b = tail_of b.0.0.1 b.1 >>= λ names. Some (file_from b.0 names)
 
 file_is : (limit : ℕ) (bytes : List ℕ) → parse_fitting limit bytes ≡ (parse_fitting_body limit bytes >>= with_names)
-unfolding parse_fitting
+unfolding parse_file
 file_is limit bytes = refl
 
 no_file : (limit : ℕ) (bytes : List ℕ) → parse_fitting_body limit bytes ≡ None → parse_fitting limit bytes ≡ None

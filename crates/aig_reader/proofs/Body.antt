@@ -1,9 +1,10 @@
 -- The sections after the header line.
 use Rattle.std.proofs.Common.{◌≡◌, ℕ, ◌++◌, List, map, Option, Result, Ok, Err, refl, sym, subst, ◌∙◌}
+use Rattle.aig_circuit.specs.Properties.{Properties}
 use Rattle.aig_format.specs.declared.FileKind.{FileKind}
 use Rattle.aig_format.specs.declared.FileKind.TheVariants.{Text, Binary}
 use Rattle.aig_format.specs.File.{LatchLine, GateLine, HeaderNumbers}
-use Rattle.aig_parsing.specs.Parse.{◌>>=◌, Parts, PropertyParts, parse_map, parse_numbers}
+use Rattle.aig_parsing.specs.Parse.{◌>>=◌, Parts, parse_map, parse_numbers}
 use Rattle.aig_parsing.specs.ParseTested.{parse_fitting_gates, parse_fitting_inputs, parse_fitting_latches, parse_fitting_properties, parse_section_lines, parse_literal_justice, parse_literal_sets, parse_literals}
 use Rattle.aig_reader.specs.declared.error.Section.{Section}
 use Rattle.aig_reader.specs.declared.error.LineError.{LineError}
@@ -70,20 +71,17 @@ module _ (ns : HeaderNumbers) where
   abbrev sets_of : List ℕ → List ℕ → Option (List (List ℕ) × List ℕ)
   sets_of = parse_literal_sets ns.greatest
 
-  abbrev following_justice : List ℕ → List ℕ → List ℕ → List (List ℕ) → List ℕ → Option (PropertyParts × List ℕ)
+  abbrev following_justice : List ℕ → List ℕ → List ℕ → List (List ℕ) → List ℕ → Option (Properties ℕ × List ℕ)
   following_justice outputs bads constraints justice = parse_map (λ fairness. record { outputs = outputs; bads = bads; constraints = constraints; justice = justice; fairness = fairness }) (literals ns.fairness)
 
-  abbrev following_constraints : List ℕ → List ℕ → List ℕ → List ℕ → Option (PropertyParts × List ℕ)
+  abbrev following_constraints : List ℕ → List ℕ → List ℕ → List ℕ → Option (Properties ℕ × List ℕ)
   following_constraints outputs bads constraints bytes = parse_literal_justice ns.greatest ns.justice bytes >>= λ j. following_justice outputs bads constraints j.0 j.1
 
-  abbrev following_bads : List ℕ → List ℕ → List ℕ → Option (PropertyParts × List ℕ)
+  abbrev following_bads : List ℕ → List ℕ → List ℕ → Option (Properties ℕ × List ℕ)
   following_bads outputs bads bytes = literals ns.constraints bytes >>= λ c. following_constraints outputs bads c.0 c.1
 
-  abbrev following_outputs : List ℕ → List ℕ → Option (PropertyParts × List ℕ)
+  abbrev following_outputs : List ℕ → List ℕ → Option (Properties ℕ × List ℕ)
   following_outputs outputs bytes = literals ns.bads bytes >>= λ d. following_bads outputs d.0 d.1
-
-  pub misses_outputs : (b : Option (List ℕ)) → Misses (literals ns.outputs) b → Misses (parse_fitting_properties ns) b
-  misses_outputs b h = misses_first (literals ns.outputs) (λ x. following_outputs x.0 x.1) b h
 
   module _ (b o : Option (List ℕ)) (outputs : List ℕ) (ho : Takes (literals ns.outputs) b o outputs) where
     after_outputs : Misses (following_outputs outputs) o → Misses (parse_fitting_properties ns) b
@@ -100,7 +98,7 @@ module _ (ns : HeaderNumbers) where
       misses_constraints h = after_bads (misses_first (literals ns.constraints) (λ c. following_constraints outputs bads c.0 c.1) d h)
 
       module _ (c : Option (List ℕ)) (constraints : List ℕ) (hc : Takes (literals ns.constraints) d c constraints) where
-        abbrev next_sets : List (List ℕ) × List ℕ → Option (PropertyParts × List ℕ)
+        abbrev next_sets : List (List ℕ) × List ℕ → Option (Properties ℕ × List ℕ)
         next_sets j = following_justice outputs bads constraints j.0 j.1
 
         after_constraints : Misses (following_constraints outputs bads constraints) c → Misses (parse_fitting_properties ns) b
@@ -138,7 +136,7 @@ module _ (kind : FileKind) (ns : HeaderNumbers) where
   abbrev gates : List ℕ → List LatchLine → List ℕ → Option (List GateLine × List ℕ)
   gates inputs latches = parse_fitting_gates kind ns (inputs ++ map (λ l. l.literal) latches)
 
-  abbrev following_properties : List ℕ → List LatchLine → PropertyParts → List ℕ → Option (Parts × List ℕ)
+  abbrev following_properties : List ℕ → List LatchLine → Properties ℕ → List ℕ → Option (Parts × List ℕ)
   following_properties inputs latches properties = parse_map (λ gs. record { inputs = inputs; latches = latches; properties = properties; gates = gs }) (gates inputs latches)
 
   abbrev following_latches : List ℕ → List LatchLine → List ℕ → Option (Parts × List ℕ)
@@ -147,15 +145,9 @@ module _ (kind : FileKind) (ns : HeaderNumbers) where
   abbrev following_inputs : List ℕ → List ℕ → Option (Parts × List ℕ)
   following_inputs inputs bytes = parse_fitting_latches kind ns inputs bytes >>= λ l. following_latches inputs l.0 l.1
 
-  pub misses_inputs : (b : Option (List ℕ)) → Misses (parse_fitting_inputs kind ns) b → Misses (parse_section_lines kind ns) b
-  misses_inputs b h = misses_first (parse_fitting_inputs kind ns) (λ i. following_inputs i.0 i.1) b h
-
   module _ (b i : Option (List ℕ)) (inputs : List ℕ) (hi : Takes (parse_fitting_inputs kind ns) b i inputs) where
     after_inputs : Misses (following_inputs inputs) i → Misses (parse_section_lines kind ns) b
     after_inputs h = misses_next (parse_fitting_inputs kind ns) (λ i. following_inputs i.0 i.1) b i inputs hi h
-
-    pub misses_latches : Misses (parse_fitting_latches kind ns inputs) i → Misses (parse_section_lines kind ns) b
-    misses_latches h = after_inputs (misses_first (parse_fitting_latches kind ns inputs) (λ l. following_latches inputs l.0 l.1) i h)
 
     module _ (l : Option (List ℕ)) (latches : List LatchLine) (hl : Takes (parse_fitting_latches kind ns inputs) i l latches) where
       after_latches : Misses (following_latches inputs latches) l → Misses (parse_section_lines kind ns) b
@@ -164,7 +156,7 @@ module _ (kind : FileKind) (ns : HeaderNumbers) where
       pub misses_properties : Misses (parse_fitting_properties ns) l → Misses (parse_section_lines kind ns) b
       misses_properties h = after_latches (misses_first (parse_fitting_properties ns) (λ x. following_properties inputs latches x.0 x.1) l h)
 
-      module _ (p : Option (List ℕ)) (x : PropertyParts) (hp : Takes (parse_fitting_properties ns) l p x) where
+      module _ (p : Option (List ℕ)) (x : Properties ℕ) (hp : Takes (parse_fitting_properties ns) l p x) where
         pub misses_gates : Misses (gates inputs latches) p → Misses (parse_section_lines kind ns) b
         misses_gates h = after_latches (misses_next (parse_fitting_properties ns) (λ x. following_properties inputs latches x.0 x.1) l p x hp (misses_mapped _ (gates inputs latches) p h))
 

@@ -1,73 +1,68 @@
 -- The numbers of variables by level, and lists under them.
-use Rattle.std.proofs.Common.{◌≡◌, ◌≢◌, ℕ, zero, suc, ◌+◌, ◌/◌, ◌%◌, ◌<◌, ◌≤◌, Bool, true, false, cond, eqb, ltb, ◌||◌, ◌&&◌, List, [], ◌∷◌, ◌++◌, ◌↔◌, length, map, Option, Some, None, refl, sym, ap, ◌∙◌, arith, inl, inr}
-use Rattle.std.specs.Prelude.{◌==◌, option_map, option_and_then}
+use Rattle.std.proofs.Common.{◌≡◌, ℕ, zero, suc, ◌+◌, ◌/◌, ◌%◌, ◌<◌, ◌≤◌, Bool, true, false, cond, eqb, ltb, ◌||◌, ◌&&◌, List, [], ◌∷◌, ◌++◌, ◌↔◌, length, map, Option, Some, None, Vec, refl, sym, ap, subst, ◌∙◌, arith, inl, inr}
+use Rattle.std.specs.Prelude.{◌==◌, All, IfSome, is_some, nat_lt, option_map, unwrap_or}
 use Rattle.std.specs.List.{AllByRecursion, list_all, flat_map}
+use Rattle.std.specs.declared.alloc.Global.{Global}
 use Rattle.std.proofs.Math.Bool.{and_assoc}
-use Rattle.std.proofs.lemmas.Bool.{ltb-true, ltb-false, ne_eqb, false≢true, or_right}
+use Rattle.std.proofs.lemmas.Bool.{ltb-true, ltb-false, ne_eqb, false≢true, or_right, and_parts}
 use Rattle.std.proofs.lemmas.List.{get_or_past}
-use Rattle.std.proofs.lemmas.List.Folds.{list_all-append}
+use Rattle.std.proofs.lemmas.List.Elements.{All-from_recursion, All-map}
+use Rattle.std.proofs.lemmas.List.Folds.{list_all-append, list_all-map}
 use Rattle.aig_circuit.specs.declared.edge.AigEdge.{AigEdge}
 use Rattle.aig_circuit.specs.declared.node.AigNode.{AigNode}
 use Rattle.aig_circuit.specs.declared.node.AigNodeType.{AigNodeType}
-use Rattle.aig_circuit.specs.declared.node.AigNodeType.TheVariants.{False, Leaf, And}
+use Rattle.aig_circuit.specs.declared.node.AigNodeType.TheVariants.{False}
 use Rattle.aig_circuit.specs.declared.node.AigLatch.{AigLatch}
 use Rattle.aig_circuit.specs.Edge.{edge_to}
-use Rattle.aig_circuit.specs.Node.{and_of, kind_at}
-use Rattle.aig_circuit.specs.Renumber.{position_of}
-use Rattle.aig_circuit.proofs.Building.{and_of-cases, and_of-not_false, and_of-turned}
+use Rattle.aig_circuit.specs.Node.{and_of}
+use Rattle.aig_circuit.specs.Properties.{AllProperties, Properties, map_properties}
+use Rattle.aig_circuit.specs.Renumber.{position_of, renumbered_edge, renumbered_kind, renumbered_latch}
+use Rattle.aig_circuit.specs.View.{properties_of}
+use Rattle.aig_circuit.proofs.Building.{and_of-cases, and_of-turned}
 use Rattle.aig_format.specs.File.{LatchLine, GateLine, File, defined}
 use Rattle.aig_format.specs.Variables.{is_defined, is_known, IsKnown, gate_of_variable}
 use Rattle.aig_format.specs.Levels.{has_level, HasLevel}
 use Rattle.aig_format.specs.Numbering.{is_compact, node_of_variable, variables_by_level, variables_in_order}
-use Rattle.aig_format.specs.Circuit.{circuit_of, edge_of, initial_of, kind_of, latch_of, nodes_from}
+use Rattle.aig_format.specs.Circuit.{circuit_of, edge_of, kind_of, latch_of, nodes_from}
 use Rattle.aig_format.specs.Fits.{IsDefinable}
 use Rattle.aig_format.proofs.Circuits.{defined_known, differ_from}
 use Rattle.aig_format.proofs.Entries.{rec_both, rec_parts, rec_unmap, rec_weaker}
 use Rattle.aig_format.proofs.Found.{found_all}
 use Rattle.aig_format.proofs.Levels.{levelled}
 use Rattle.aig_format.proofs.Members.{has, rec_has}
-use Rattle.aig_format.proofs.Numbers.{any_within, node_of_variable-place, order-well_founded}
-use Rattle.aig_format.proofs.Orders.{defined-by_level, has-by_level, some-by_level}
+use Rattle.aig_format.proofs.Numbers.{any_within, node_of_variable-place, node_of_variable-zero, order-well_founded}
+use Rattle.aig_format.proofs.Orders.{defined-by_level, has-by_level}
 use Rattle.aig_format.proofs.Searches.{find_some}
-use Rattle.aig_parsing.proofs.Guards.{Decides-list_all}
+use Rattle.aig_format.proofs.Rules.{all_pass, definable_told, even_literal}
+use Rattle.aig_ordering.specs.declared.gates.Operands.{Operands}
 use Rattle.aig_ordering.specs.Lists as lists
 use Rattle.aig_format.specs.Circuit as of_file
-use Rattle.aig_ordering.specs.Lists.{edge_from, kind_among, latch_of_line, nodes_of_variables, variable_of_literal}
+use Rattle.aig_ordering.specs.Gates.{kind_of_operands, nodes_in, nodes_in_from}
+use Rattle.aig_ordering.specs.Lists.{edge_from, kind_among, latch_of_line, variable_of_literal}
 use Rattle.aig_ordering.specs.Tables.{entry_value}
-use Rattle.aig_ordering.specs.Numbers.{all_by, edge_by, kind_by_numbers, latch_by, node_of, number_at, place_in, nodes_numbered_from}
-use Rattle.aig_ordering.proofs.Tables.{kind_at-variable}
-use Rattle.aig_reader.specs.Numbered.{AreNumbersOf, have_operands, knows}
-use Rattle.aig_reader.specs.Sections.{HasGoodLines}
+use Rattle.aig_ordering.specs.Numbers.{has_number, has_operands, number_at, number_in, place_in, with_numbers}
+use Rattle.aig_renumber.specs.Numbers.{IsEdgeIn, IsLatchIn}
+use Rattle.aig_reader.specs.declared.sections.Lists.{Lists}
+use Rattle.aig_reader.specs.Numbered.{AreListsByNumber, AreNumbersOf, AreRenumbered, HasNumber, HaveNumbers, edges_pass, have_operands, knows, knows_lists, knows_properties, lists_pass, properties_pass}
+use Rattle.aig_reader.specs.Sections.{AreListsByVariable, HasGoodLines}
+use Rattle.aig_reader.proofs.Numbered.{knows_properties-is}
 
--- ---- images
+-- ---- lists
 
 all_rec : {A : Type 0} (P : A → Type 0) → ((x : A) → P x) → (xs : List A) → AllByRecursion P xs
 all_rec P h [] = tt
 all_rec P h (x ∷ xs) = (h x, all_rec P h xs)
 
--- the images of entries that are seen by a key: all of them where each has one
-pub images : {A B C : Type 0} (h : A → Option B) (key : C → A) (test : C → Bool) (image : C → B) (xs : List C) → AllByRecursion (λ x. h (key x) ≡ cond (test x) (Some (image x)) None) xs
-    → all_by h (map key xs) ≡ cond (list_all test xs) (Some (map image xs)) None
-images h key test image [] all = refl
-images {A} {B} h key test image (x ∷ xs) all =
-    ap (λ (o : Option (List B)). option_and_then (λ y. option_map (λ ys. y ∷ ys) o) (h (key x))) (images h key test image xs all.1)
-    ∙ ap (λ (o : Option B). option_and_then (λ y. option_map (λ ys. y ∷ ys) (cond (list_all test xs) (Some (map image xs)) None)) o) all.0
-    ∙ by_tests (test x) (list_all test xs)
-  where
-    by_tests : (s t : Bool) → option_and_then (λ y. option_map (λ ys. y ∷ ys) (cond t (Some (map image xs)) None)) (cond s (Some (image x)) None) ≡ cond (s && t) (Some (image x ∷ map image xs)) None
-    by_tests true true = refl
-    by_tests true false = refl
-    by_tests false t = refl
-
-map_id : {A : Type 0} (xs : List A) → map (λ x. x) xs ≡ xs
-map_id [] = refl
-map_id {A} (x ∷ xs) = ap (λ (ys : List A). x ∷ ys) (map_id xs)
+-- entries that are mapped twice, and what they are mapped to
+map_twice : {A B C : Type 0} (g : B → C) (h : A → B) (k : A → C) (xs : List A) → AllByRecursion (λ x. g (h x) ≡ k x) xs → map g (map h xs) ≡ map k xs
+map_twice g h k [] same = refl
+map_twice {C = C} g h k (x ∷ xs) same = ap (λ (y : C). y ∷ map g (map h xs)) same.0 ∙ ap (λ (ys : List C). k x ∷ ys) (map_twice g h k xs same.1)
 
 -- ---- the table of numbers
 
 module _ (f : File) (good : HasGoodLines f) (well_founded : is_compact f ≡ false) (levels : list_all (has_level f) f.gates ≡ true) where
   all_levels : AllByRecursion (HasLevel f) f.gates
-  all_levels = (Decides-list_all (has_level f) (HasLevel f) (λ g. (λ h. h, λ h. h)) f.gates).0 levels
+  all_levels = (all_pass (has_level f) f.gates).0 levels
 
   abbrev order : List ℕ
   order = 0 ∷ variables_by_level f
@@ -120,81 +115,193 @@ module _ (f : File) (good : HasGoodLines f) (well_founded : is_compact f ≡ fal
 -- ---- lists under the numbers
 
 module _ (f : File) (table : List ℕ) (are : AreNumbersOf f table) where
-  abbrev number : ℕ → Option ℕ
-  number = number_at table
+  abbrev number : ℕ → ℕ
+  number = number_in table
 
-  edge_is : (e : ℕ) → edge_by number (edge_from e) ≡ cond (is_known f (e / 2)) (Some (edge_of f e)) None
-  edge_is e = ap (λ (o : Option ℕ). option_map (λ n. edge_to n (e % 2 == 1)) o) (are (e / 2)) ∙ by_test (is_known f (e / 2))
+  -- exactly what is known has a number
+  has_is : (v : ℕ) → has_number table v ≡ is_known f v
+  has_is v = ap is_some (are v) ∙ by_test (is_known f v)
     where
-      by_test : (b : Bool) → option_map (λ n. edge_to n (e % 2 == 1)) (cond b (Some (node_of_variable f (e / 2))) None) ≡ cond b (Some (edge_of f e)) None
+      by_test : (b : Bool) → is_some (cond b (Some (node_of_variable f v)) None) ≡ b
       by_test true = refl
       by_test false = refl
+
+  has_same : has_number table ≡ is_known f
+  has_same = λ i v. has_is v i
+
+  number_is : (v : ℕ) → is_known f v ≡ true → number v ≡ node_of_variable f v
+  number_is v known = ap (λ (o : Option ℕ). unwrap_or o 0) (are v ∙ ap (λ b. cond b (Some (node_of_variable f v)) None) known)
+
+  abbrev HaveEdges : List AigEdge → Type 0
+  HaveEdges es = All (IsEdgeIn (HasNumber table)) es
 
   abbrev knows_one : ℕ → Bool
   knows_one e = is_known f (e / 2)
 
-  pub edges_are : (es : List ℕ) → all_by (edge_by number) (map edge_from es) ≡ cond (knows f es) (Some (map (edge_of f) es)) None
-  edges_are es = images (edge_by number) edge_from knows_one (edge_of f) es (all_rec (λ e. edge_by number (edge_from e) ≡ cond (knows_one e) (Some (edge_of f e)) None) edge_is es)
+  edge_is : (e : ℕ) → knows_one e ≡ true → renumbered_edge number (edge_from e) ≡ edge_of f e
+  edge_is e known = ap (λ n. edge_to n (e % 2 == 1)) (number_is (e / 2) known)
 
-  sets_known : (sets : List (List ℕ)) → list_all (knows f) sets ≡ knows f (flat_map (λ s. s) sets)
-  sets_known [] = refl
-  sets_known (es ∷ sets) = ap (λ b. knows f es && b) (sets_known sets) ∙ sym (list_all-append knows_one es (flat_map (λ s. s) sets))
+  edges_known : (es : List ℕ) → edges_pass (has_number table) (map edge_from es) ≡ knows f es
+  edges_known es = list_all-map (λ (e : AigEdge). has_number table e.node_id) edge_from es ∙ ap (λ (test : ℕ → Bool). list_all (λ e. test (e / 2)) es) has_same
 
-  pub sets_are : (sets : List (List ℕ)) → all_by (all_by (edge_by number)) (map (map edge_from) sets) ≡ cond (knows f (flat_map (λ s. s) sets)) (Some (map (map (edge_of f)) sets)) None
-  sets_are sets =
-      images (all_by (edge_by number)) (map edge_from) (knows f) (map (edge_of f)) sets (all_rec (λ es. all_by (edge_by number) (map edge_from es) ≡ cond (knows f es) (Some (map (edge_of f) es)) None) edges_are sets)
-      ∙ ap (λ b. cond b (Some (map (map (edge_of f)) sets)) None) (sets_known sets)
+  edges_are : (es : List ℕ) → knows f es ≡ true → map (renumbered_edge number) (map edge_from es) ≡ map (edge_of f) es
+  edges_are es known = map_twice (renumbered_edge number) edge_from (edge_of f) es (rec_weaker (λ e. knows_one e ≡ true) (λ e. renumbered_edge number (edge_from e) ≡ edge_of f e) edge_is es ((all_pass knows_one es).0 known))
 
-  leaves_known : AllByRecursion (IsKnown f) f.inputs × AllByRecursion (IsKnown f) (map (λ (l : LatchLine). l.literal) f.latches)
+  sets_joined : (sets : List (List ℕ)) → list_all (knows f) sets ≡ knows f (flat_map (λ s. s) sets)
+  sets_joined [] = refl
+  sets_joined (es ∷ sets) = ap (λ b. knows f es && b) (sets_joined sets) ∙ sym (list_all-append knows_one es (flat_map (λ s. s) sets))
+
+  sets_known : (sets : List (List ℕ)) → list_all (edges_pass (has_number table)) (map (map edge_from) sets) ≡ knows f (flat_map (λ s. s) sets)
+  sets_known sets =
+      let same : (λ es. edges_pass (has_number table) (map edge_from es)) ≡ knows f = λ i es. edges_known es i in
+      list_all-map (edges_pass (has_number table)) (map edge_from) sets ∙ ap (λ (test : List ℕ → Bool). list_all test sets) same ∙ sets_joined sets
+
+  sets_are : (sets : List (List ℕ)) → knows f (flat_map (λ s. s) sets) ≡ true → map (map (renumbered_edge number)) (map (map edge_from) sets) ≡ map (map (edge_of f)) sets
+  sets_are sets known =
+      map_twice (map (renumbered_edge number)) (map edge_from) (map (edge_of f)) sets
+      (rec_weaker (λ es. knows f es ≡ true) (λ es. map (renumbered_edge number) (map edge_from es) ≡ map (edge_of f) es) edges_are sets ((all_pass (knows f) sets).0 (sets_joined sets ∙ known)))
+
+  -- ---- latches
+
+  leaves_known : AllByRecursion (IsKnown f) f.inputs × AllByRecursion (λ (l : LatchLine). IsKnown f l.literal) f.latches
   leaves_known =
       let literals = map (λ (l : LatchLine). l.literal) f.latches in
-      rec_parts (IsKnown f) f.inputs literals (rec_parts (IsKnown f) (f.inputs ++ literals) (map (λ (g : GateLine). g.lhs) f.gates) (defined_known f)).0
-
-  -- inputs all have numbers
-  pub inputs_are : all_by number (map variable_of_literal f.inputs) ≡ Some (map (λ e. node_of_variable f (e / 2)) f.inputs)
-  inputs_are =
-      images number variable_of_literal (λ _. true) (λ e. node_of_variable f (e / 2)) f.inputs
-      (rec_weaker (IsKnown f) (λ e. number (e / 2) ≡ Some (node_of_variable f (e / 2))) (λ e known. are (e / 2) ∙ ap (λ b. cond b (Some (node_of_variable f (e / 2))) None) known) f.inputs leaves_known.0)
-      ∙ ap (λ b. cond b (Some (map (λ e. node_of_variable f (e / 2)) f.inputs)) None) (always f.inputs)
-    where
-      always : (es : List ℕ) → list_all (λ _. true) es ≡ true
-      always [] = refl
-      always (e ∷ es) = always es
+      let both = rec_parts (IsKnown f) f.inputs literals (rec_parts (IsKnown f) (f.inputs ++ literals) (map (λ (g : GateLine). g.lhs) f.gates) (defined_known f)).0 in
+      (both.0, rec_unmap (IsKnown f) (λ (l : LatchLine). l.literal) f.latches both.1)
 
   abbrev knows_next : LatchLine → Bool
-  knows_next l = is_known f (l.next / 2)
+  knows_next l = knows_one l.next
 
-  latch_is : (l : LatchLine) → IsKnown f l.literal → latch_by number (latch_of_line l) ≡ cond (knows_next l) (Some (latch_of f l)) None
+  -- what is known of a latch whose next edge has a number
+  abbrev IsKnownLatch : LatchLine → Type 0
+  IsKnownLatch l = IsKnown f l.literal × (knows_next l ≡ true)
+
+  latches_known : knows f (map (λ (l : LatchLine). l.next) f.latches) ≡ true → AllByRecursion IsKnownLatch f.latches
+  latches_known known =
+      let nexts = (all_pass knows_next f.latches).0 (sym (list_all-map knows_one (λ (l : LatchLine). l.next) f.latches) ∙ known) in
+      rec_both (λ (l : LatchLine). IsKnown f l.literal) (λ l. knows_next l ≡ true) f.latches leaves_known.1 nexts
+
+  nexts_known : list_all (λ (l : AigLatch). has_number table l.next.node_id) (map latch_of_line f.latches) ≡ knows f (map (λ (l : LatchLine). l.next) f.latches)
+  nexts_known =
+      list_all-map (λ (l : AigLatch). has_number table l.next.node_id) latch_of_line f.latches ∙ ap (λ (test : ℕ → Bool). list_all (λ (l : LatchLine). test (l.next / 2)) f.latches) has_same
+      ∙ sym (list_all-map knows_one (λ (l : LatchLine). l.next) f.latches)
+
+  -- an initial edge is to node 0, which keeps its number
+  zero_is : number 0 ≡ 0
+  zero_is = number_is 0 refl ∙ node_of_variable-zero f
+
+  latch_is : (l : LatchLine) → IsKnownLatch l → renumbered_latch number (latch_of_line l) ≡ latch_of f l
   latch_is l known =
-      let made = λ (n : ℕ) (e : AigEdge). let latch : AigLatch = record { input = n; next = e; init = initial_of l } in latch in
-      ap (λ (o : Option ℕ). option_and_then (λ n. option_map (made n) (edge_by number (edge_from l.next))) o) (are (l.literal / 2) ∙ ap (λ b. cond b (Some (node_of_variable f (l.literal / 2))) None) known)
-      ∙ ap (λ (o : Option AigEdge). option_map (made (node_of_variable f (l.literal / 2))) o) (edge_is l.next) ∙ by_test (knows_next l)
+      let leaf = number_is (l.literal / 2) known.0 in
+      let next = edge_is l.next known.1 in
+      let init = by_reset (nat_lt (unwrap_or l.reset 0) 2) (unwrap_or l.reset 0 == 1) in
+      λ i. record { input = leaf i; next = next i; init = init i }
     where
-      by_test : (b : Bool) → option_map (λ (e : AigEdge). let latch : AigLatch = record { input = node_of_variable f (l.literal / 2); next = e; init = initial_of l } in latch) (cond b (Some (edge_of f l.next)) None) ≡ cond b (Some (latch_of f l)) None
-      by_test true = refl
-      by_test false = refl
+      by_reset : (t b : Bool) → option_map (renumbered_edge number) (cond t (Some (edge_to 0 b)) None) ≡ cond t (Some (edge_to 0 b)) None
+      by_reset true b = ap (λ n. Some (edge_to n b)) zero_is
+      by_reset false b = refl
 
-  nexts_known : (ls : List LatchLine) → list_all knows_next ls ≡ knows f (map (λ (l : LatchLine). l.next) ls)
-  nexts_known [] = refl
-  nexts_known (l ∷ ls) = ap (λ b. knows_next l && b) (nexts_known ls)
+  latch_has : (l : LatchLine) → IsKnownLatch l → IsLatchIn (HasNumber table) (latch_of_line l)
+  latch_has l known = record {
+    leaf = has_is (l.literal / 2) ∙ known.0;
+    next = has_is (l.next / 2) ∙ known.1;
+    init = by_reset (nat_lt (unwrap_or l.reset 0) 2) (unwrap_or l.reset 0 == 1);
+  }
+    where
+      by_reset : (t b : Bool) → IfSome (cond t (Some (edge_to 0 b)) None) (IsEdgeIn (HasNumber table))
+      by_reset true b = has_is 0
+      by_reset false b = tt
 
-  pub latches_are : all_by (latch_by number) (map latch_of_line f.latches) ≡ cond (knows f (map (λ (l : LatchLine). l.next) f.latches)) (Some (map (latch_of f) f.latches)) None
-  latches_are =
-      images (latch_by number) latch_of_line knows_next (latch_of f) f.latches
-      (rec_weaker (λ (l : LatchLine). IsKnown f l.literal) (λ l. latch_by number (latch_of_line l) ≡ cond (knows_next l) (Some (latch_of f l)) None) latch_is f.latches (rec_unmap (IsKnown f) (λ (l : LatchLine). l.literal) f.latches leaves_known.1))
-      ∙ ap (λ b. cond b (Some (map (latch_of f) f.latches)) None) (nexts_known f.latches)
+  -- ---- the lists of a file
+
+  module _ (old : Lists) (made : AreListsByVariable old f) where
+    properties_known : properties_pass (has_number table) old.properties ≡ knows_properties f
+    properties_known =
+        let p = f.properties in
+        let have = edges_pass (has_number table) in
+        let outputs = ap (λ (q : Properties AigEdge). have q.outputs) made.properties ∙ edges_known p.outputs in
+        let bads = ap (λ (q : Properties AigEdge). have q.bads) made.properties ∙ edges_known p.bads in
+        let constraints = ap (λ (q : Properties AigEdge). have q.constraints) made.properties ∙ edges_known p.constraints in
+        let justice =
+        sym (list_all-map have (λ (set : Vec AigEdge Global). set.items) old.properties.justice.items) ∙ ap (λ (q : Properties AigEdge). list_all have q.justice) made.properties ∙ sets_known p.justice in
+        let fairness = ap (λ (q : Properties AigEdge). have q.fairness) made.properties ∙ edges_known p.fairness in
+        (λ i. outputs i && bads i && constraints i && justice i && fairness i) ∙ sym (knows_properties-is f)
+
+    -- the variables of all entries have numbers exactly where all are known
+    pub lists_known : lists_pass (has_number table) old ≡ knows_lists f
+    lists_known =
+        let nexts = ap (list_all (λ (l : AigLatch). has_number table l.next.node_id)) made.latchs ∙ nexts_known in
+        λ i. nexts i && properties_known i
+
+    module _ (known : knows_lists f ≡ true) where
+      parts : (knows f (map (λ (l : LatchLine). l.next) f.latches) ≡ true) × (knows_properties f ≡ true)
+      parts = and_parts (knows f (map (λ (l : LatchLine). l.next) f.latches)) (knows_properties f) known
+
+      -- then they all have numbers
+      pub lists_have : HaveNumbers table old
+      lists_have = record {
+        inputs =
+            subst (All (HasNumber table)) (sym made.inputs)
+            (All-map (HasNumber table) variable_of_literal f.inputs (All-from_recursion (λ e. HasNumber table (e / 2)) f.inputs (rec_weaker (IsKnown f) (λ e. HasNumber table (e / 2)) (λ e h. has_is (e / 2) ∙ h) f.inputs leaves_known.0)));
+        latchs =
+            subst (All (IsLatchIn (HasNumber table))) (sym made.latchs)
+            (All-map (IsLatchIn (HasNumber table)) latch_of_line f.latches (All-from_recursion (λ l. IsLatchIn (HasNumber table) (latch_of_line l)) f.latches (rec_weaker IsKnownLatch (λ l. IsLatchIn (HasNumber table) (latch_of_line l)) latch_has f.latches (latches_known parts.0))));
+        properties = properties_have;
+      }
+        where
+          from_test : (es : List AigEdge) → edges_pass (has_number table) es ≡ true → HaveEdges es
+          from_test es h = All-from_recursion (IsEdgeIn (HasNumber table)) es ((all_pass (λ (e : AigEdge). has_number table e.node_id) es).0 h)
+
+          properties_have : AllProperties (IsEdgeIn (HasNumber table)) (properties_of old.properties)
+          properties_have =
+              let items = λ (set : Vec AigEdge Global). set.items in
+              let p = old.properties in
+              let have = edges_pass (has_number table) in
+              let sets = λ (ss : List (Vec AigEdge Global)). list_all (λ (set : Vec AigEdge Global). have set.items) ss in
+              let four = and_parts (have p.outputs.items && have p.bads.items && have p.constraints.items && sets p.justice.items) (have p.fairness.items) (properties_known ∙ parts.1) in
+              let three = and_parts (have p.outputs.items && have p.bads.items && have p.constraints.items) (sets p.justice.items) four.0 in
+              let two = and_parts (have p.outputs.items && have p.bads.items) (have p.constraints.items) three.0 in
+              let one = and_parts (have p.outputs.items) (have p.bads.items) two.0 in
+              record {
+                outputs = from_test p.outputs.items one.0;
+                bads = from_test p.bads.items one.1;
+                constraints = from_test p.constraints.items two.1;
+                justice =
+                    All-map HaveEdges items p.justice.items
+                    (All-from_recursion (λ set. HaveEdges set.items) p.justice.items
+                    (rec_weaker (λ (set : Vec AigEdge Global). have set.items ≡ true) (λ set. HaveEdges set.items) (λ set h. from_test set.items h) p.justice.items ((all_pass (λ (set : Vec AigEdge Global). have set.items) p.justice.items).0 three.1)));
+                fairness = from_test p.fairness.items four.1;
+              }
+
+      -- and under these they are the lists of the file's circuit
+      pub lists_numbered : (new : Lists) → AreRenumbered table old new → AreListsByNumber f new
+      lists_numbered new moved = record {
+        inputs =
+            moved.inputs ∙ ap (map number) made.inputs
+            ∙ map_twice number variable_of_literal (λ e. node_of_variable f (e / 2)) f.inputs (rec_weaker (IsKnown f) (λ e. number (e / 2) ≡ node_of_variable f (e / 2)) (λ e h. number_is (e / 2) h) f.inputs leaves_known.0);
+        latchs =
+            moved.latchs ∙ ap (map (renumbered_latch number)) made.latchs
+            ∙ map_twice (renumbered_latch number) latch_of_line (latch_of f) f.latches (rec_weaker IsKnownLatch (λ l. renumbered_latch number (latch_of_line l) ≡ latch_of f l) latch_is f.latches (latches_known parts.0));
+        properties = moved.properties ∙ ap (map_properties (renumbered_edge number)) made.properties ∙ properties_are;
+      }
+        where
+          properties_are : map_properties (renumbered_edge number) (map_properties edge_from f.properties) ≡ map_properties (edge_of f) f.properties
+          properties_are =
+              let p = f.properties in
+              let sets = flat_map (λ (s : List ℕ). s) p.justice in
+              let all = sym (knows_properties-is f) ∙ parts.1 in
+              let four = and_parts (knows f p.outputs && knows f p.bads && knows f p.constraints && knows f sets) (knows f p.fairness) all in
+              let three = and_parts (knows f p.outputs && knows f p.bads && knows f p.constraints) (knows f sets) four.0 in
+              let two = and_parts (knows f p.outputs && knows f p.bads) (knows f p.constraints) three.0 in
+              let one = and_parts (knows f p.outputs) (knows f p.bads) two.0 in
+              let outputs = edges_are p.outputs one.0 in
+              let bads = edges_are p.bads one.1 in
+              let constraints = edges_are p.constraints two.1 in
+              let justice = sets_are p.justice three.1 in
+              let fairness = edges_are p.fairness four.1 in
+              λ i. record { outputs = outputs i; bads = bads i; constraints = constraints i; justice = justice i; fairness = fairness i }
 
   -- ---- nodes
-
-  pair_is : (x y : ℕ) → kind_by_numbers number (And (edge_from x) (edge_from y)) ≡ cond (knows_one x && knows_one y) (Some (and_of (edge_of f x) (edge_of f y))) None
-  pair_is x y =
-      ap (λ (o : Option AigEdge). option_and_then (λ c. option_map (and_of c) (edge_by number (edge_from y))) o) (edge_is x)
-      ∙ ap (λ (o : Option AigEdge). option_and_then (λ c. option_map (and_of c) o) (cond (knows_one x) (Some (edge_of f x)) None)) (edge_is y) ∙ by_tests (knows_one x) (knows_one y)
-    where
-      by_tests : (s t : Bool) → option_and_then (λ c. option_map (and_of c) (cond t (Some (edge_of f y)) None)) (cond s (Some (edge_of f x)) None) ≡ cond (s && t) (Some (and_of (edge_of f x) (edge_of f y))) None
-      by_tests true true = refl
-      by_tests true false = refl
-      by_tests false t = refl
 
   abbrev gate_known : GateLine → Bool
   gate_known g = knows_one g.rhs0 && knows_one g.rhs1
@@ -205,13 +312,26 @@ module _ (f : File) (table : List ℕ) (are : AreNumbersOf f table) where
   and_swap false true = refl
   and_swap false false = refl
 
-  -- a gate under the numbers of its operands
-  gate_is : (g : GateLine) → kind_by_numbers number (and_of (edge_from g.rhs0) (edge_from g.rhs1)) ≡ cond (gate_known g) (Some (and_of (edge_of f g.rhs0) (edge_of f g.rhs1))) None
-  gate_is g = elim (and_of-cases (edge_from g.rhs0) (edge_from g.rhs1)) [
-    | inl c ↦ ap (kind_by_numbers number) c.0 ∙ pair_is g.rhs1 g.rhs0 ∙ ap (λ b. cond b (Some (and_of (edge_of f g.rhs1) (edge_of f g.rhs0))) None) (and_swap (knows_one g.rhs1) (knows_one g.rhs0))
-        ∙ ap (λ (k : AigNodeType). cond (gate_known g) (Some k) None) (and_of-turned (edge_of f g.rhs1) (edge_of f g.rhs0))
-    | inr c ↦ ap (kind_by_numbers number) c.0 ∙ pair_is g.rhs0 g.rhs1
-  ]
+  -- a gate has numbers where its operands are known
+  gate_has : (g : GateLine) → has_operands table (and_of (edge_from g.rhs0) (edge_from g.rhs1)) ≡ gate_known g
+  gate_has g =
+      let both : (has_number table (g.rhs0 / 2) && has_number table (g.rhs1 / 2)) ≡ gate_known g = λ i. has_is (g.rhs0 / 2) i && has_is (g.rhs1 / 2) i in
+      elim (and_of-cases (edge_from g.rhs0) (edge_from g.rhs1)) [
+        | inl c ↦ ap (has_operands table) c.0 ∙ and_swap (has_number table (g.rhs1 / 2)) (has_number table (g.rhs0 / 2)) ∙ both
+        | inr c ↦ ap (has_operands table) c.0 ∙ both
+      ]
+
+  -- and is then the and of these
+  gate_is : (g : GateLine) → gate_known g ≡ true → renumbered_kind number (Some (and_of (edge_from g.rhs0) (edge_from g.rhs1))) ≡ and_of (edge_of f g.rhs0) (edge_of f g.rhs1)
+  gate_is g known =
+      let p = and_parts (knows_one g.rhs0) (knows_one g.rhs1) known in
+      let first = edge_is g.rhs0 p.0 in
+      let second = edge_is g.rhs1 p.1 in
+      let under = λ (k : AigNodeType). renumbered_kind number (Some k) in
+      elim (and_of-cases (edge_from g.rhs0) (edge_from g.rhs1)) [
+        | inl c ↦ ap under c.0 ∙ (λ i. and_of (second i) (first i)) ∙ and_of-turned (edge_of f g.rhs1) (edge_of f g.rhs0)
+        | inr c ↦ ap under c.0 ∙ (λ i. and_of (first i) (second i))
+      ]
 
   -- whether the operands of a variable's gate have numbers
   abbrev known_by : Option GateLine → Bool
@@ -221,16 +341,27 @@ module _ (f : File) (table : List ℕ) (are : AreNumbersOf f table) where
   abbrev kind_known : ℕ → Bool
   kind_known v = cond (v == 0) true (known_by (gate_of_variable f v))
 
-  kind_is : (v : ℕ) → kind_by_numbers number (kind_among f.gates v) ≡ cond (kind_known v) (Some (kind_of f v)) None
-  kind_is v = by_zero (v == 0)
+  kind_has : (v : ℕ) → has_operands table (kind_among f.gates v) ≡ kind_known v
+  kind_has v = by_zero (v == 0)
     where
-      by_gate : (o : Option GateLine) → kind_by_numbers number (lists.kind_of_line o) ≡ cond (known_by o) (Some (of_file.kind_by f o)) None
+      by_gate : (o : Option GateLine) → has_operands table (lists.kind_of_line o) ≡ known_by o
       by_gate None = refl
-      by_gate (Some g) = gate_is g
+      by_gate (Some g) = gate_has g
 
-      by_zero : (b : Bool) → kind_by_numbers number (cond b False (lists.kind_of_line (gate_of_variable f v))) ≡ cond (cond b true (known_by (gate_of_variable f v))) (Some (cond b False (of_file.kind_by f (gate_of_variable f v)))) None
+      by_zero : (b : Bool) → has_operands table (cond b False (lists.kind_of_line (gate_of_variable f v))) ≡ cond b true (known_by (gate_of_variable f v))
       by_zero true = refl
       by_zero false = by_gate (gate_of_variable f v)
+
+  kind_is : (v : ℕ) → kind_known v ≡ true → renumbered_kind number (Some (kind_among f.gates v)) ≡ kind_of f v
+  kind_is v known = by_zero (v == 0) known
+    where
+      by_gate : (o : Option GateLine) → known_by o ≡ true → renumbered_kind number (Some (lists.kind_of_line o)) ≡ of_file.kind_by f o
+      by_gate None h = refl
+      by_gate (Some g) h = gate_is g h
+
+      by_zero : (b : Bool) → cond b true (known_by (gate_of_variable f v)) ≡ true → renumbered_kind number (Some (cond b False (lists.kind_of_line (gate_of_variable f v)))) ≡ cond b False (of_file.kind_by f (gate_of_variable f v))
+      by_zero true h = refl
+      by_zero false h = by_gate (gate_of_variable f v) h
 
   operands_known : (gs : List GateLine) → knows f (flat_map (λ g. g.rhs0 ∷ g.rhs1 ∷ []) gs) ≡ list_all gate_known gs
   operands_known [] = refl
@@ -238,23 +369,17 @@ module _ (f : File) (table : List ℕ) (are : AreNumbersOf f table) where
 
   -- ---- nodes in a row
 
-  node_is : (n : ℕ) (kind : AigNodeType) → kind ≢ False → node_of n kind ≡ record { node_id = n; typ = kind }
-  node_is n False other = absurd (other refl)
-  node_is n Leaf other = refl
-  node_is n (And a b) other = refl
-
-  not_false : (v : ℕ) → 1 ≤ v → kind_of f v ≢ False
-  not_false v some is = by_gate (gate_of_variable f v) (sym (ap (λ b. cond b False (of_file.kind_by f (gate_of_variable f v))) (ne_eqb v 0 (λ e. omega (arith, e)))) ∙ is)
-    where
-      by_gate : (o : Option GateLine) → of_file.kind_by f o ≡ False → ⊥
-      by_gate None is = absurd cc
-      by_gate (Some g) is = and_of-not_false (edge_of f g.rhs0) (edge_of f g.rhs1) is
-
-  numbered_is : (n : ℕ) (vs : List ℕ) → AllByRecursion (λ v. 1 ≤ v) vs → nodes_numbered_from n (map (kind_of f) vs) ≡ nodes_from f n vs
-  numbered_is n [] all = refl
-  numbered_is n (v ∷ vs) all =
-      let made : AigNode = record { node_id = n; typ = kind_of f v } in
-      ap (λ (node : AigNode). node ∷ nodes_numbered_from (n + 1) (map (kind_of f) vs)) (node_is n (kind_of f v) (not_false v all.0)) ∙ ap (λ (nodes : List AigNode). made ∷ nodes) (numbered_is (n + 1) vs all.1)
+  -- nodes of these kinds are under the numbers those of the file
+  row_is : (w : ℕ) (gates : List (Option Operands)) (vs : List ℕ) → map (λ (node : AigNode). node.typ) (nodes_in_from w gates) ≡ map (kind_among f.gates) vs → AllByRecursion (λ v. kind_known v ≡ true) vs
+      → map (with_numbers table) (nodes_in_from w gates) ≡ nodes_from f w vs
+  row_is w [] [] kinds known = refl
+  row_is w [] (v ∷ vs) kinds known = absurd cc
+  row_is w (gate ∷ gates) [] kinds known = absurd cc
+  row_is w (gate ∷ gates) (v ∷ vs) kinds known =
+      let first : kind_of_operands w gate ≡ kind_among f.gates v = cc in
+      let rest = row_is (w + 1) gates vs (cc) known.1 in
+      let typ = ap (λ (k : AigNodeType). renumbered_kind number (Some k)) first ∙ kind_is v known.0 in
+      λ i. record { node_id = w; typ = typ i } ∷ rest i
 
   module _ (good : HasGoodLines f) (well_founded : is_compact f ≡ false) (levels : list_all (has_level f) f.gates ≡ true) where
     abbrev in_order : List ℕ
@@ -265,17 +390,14 @@ module _ (f : File) (table : List ℕ) (are : AreNumbersOf f table) where
         let leaves = f.inputs ++ map (λ (l : LatchLine). l.literal) f.latches in
         let lefts = map (λ (g : GateLine). g.lhs) f.gates in
         let definable = rec_unmap (IsDefinable f.greatest) (λ (g : GateLine). g.lhs) f.gates (rec_parts (IsDefinable f.greatest) leaves lefts good.definable).1 in
-        found_all (λ (g : GateLine). g.lhs) f.gates (rec_weaker (λ (g : GateLine). IsDefinable f.greatest g.lhs) (λ (g : GateLine). g.lhs % 2 ≡ 0) (λ g d. d.0) f.gates definable) (differ_from leaves lefts good.distinct).1
+        found_all (λ (g : GateLine). g.lhs) f.gates (rec_weaker (λ (g : GateLine). IsDefinable f.greatest g.lhs) (λ (g : GateLine). g.lhs % 2 ≡ 0) (λ g d. even_literal f.greatest g.lhs d) f.gates definable) (differ_from leaves lefts good.distinct).1
 
     -- a gate whose variable is in the order and has known operands there
     gate_told : AllByRecursion (λ v. kind_known v ≡ true) in_order → (g : GateLine) → IsDefinable f.greatest g.lhs → IsKnown f g.lhs → gate_of_variable f (g.lhs / 2) ≡ Some g → gate_known g ≡ true
     gate_told all g d known found =
-        let low = d.1 in
+        let low = (definable_told f.greatest g.lhs d).1 in
         let there = rec_has (λ v. kind_known v ≡ true) in_order (g.lhs / 2) (known_there f good well_founded levels (g.lhs / 2) known) all in
         sym (ap (λ b. cond b true (known_by (gate_of_variable f (g.lhs / 2)))) (ne_eqb (g.lhs / 2) 0 (λ e. omega (arith, e))) ∙ ap known_by found) ∙ there
-
-    Tells : {A : Type 0} (test : A → Bool) (xs : List A) → (list_all test xs ≡ true) ↔ AllByRecursion (λ x. test x ≡ true) xs
-    Tells test xs = Decides-list_all test (λ x. test x ≡ true) (λ x. (λ h. h, λ h. h)) xs
 
     gates_told : AllByRecursion (λ v. kind_known v ≡ true) in_order → AllByRecursion (λ g. gate_known g ≡ true) f.gates
     gates_told all =
@@ -305,33 +427,19 @@ module _ (f : File) (table : List ℕ) (are : AreNumbersOf f table) where
     kinds_known = by_tests (list_all kind_known in_order) (list_all gate_known f.gates) refl refl ∙ sym (operands_known f.gates)
       where
         by_tests : (s t : Bool) → list_all kind_known in_order ≡ s → list_all gate_known f.gates ≡ t → list_all kind_known in_order ≡ list_all gate_known f.gates
-        by_tests true t kinds gates = kinds ∙ sym ((Tells gate_known f.gates).1 (gates_told ((Tells kind_known in_order).0 kinds)))
-        by_tests false true kinds gates = (Tells kind_known in_order).1 (all_rec (λ v. kind_known v ≡ true) (kind_told ((Tells gate_known f.gates).0 gates)) in_order) ∙ sym gates
+        by_tests true t kinds gates = kinds ∙ sym ((all_pass gate_known f.gates).1 (gates_told ((all_pass kind_known in_order).0 kinds)))
+        by_tests false true kinds gates = (all_pass kind_known in_order).1 (all_rec (λ v. kind_known v ≡ true) (kind_told ((all_pass gate_known f.gates).0 gates)) in_order) ∙ sym gates
         by_tests false false kinds gates = kinds ∙ sym gates
 
-    -- the nodes of the order
-    pub nodes_are : (old : List AigNode) → old ≡ nodes_of_variables f.greatest f.gates
-        → option_map (nodes_numbered_from 0) (all_by (λ v. option_and_then (kind_by_numbers number) (kind_at old v)) in_order) ≡ cond (have_operands f) (Some (circuit_of f).nodes) None
-    nodes_are old placed =
-        ap (λ (vs : List ℕ). option_map (nodes_numbered_from 0) (all_by image vs)) (sym (map_id in_order))
-        ∙ ap (λ (o : Option (List AigNodeType)). option_map (nodes_numbered_from 0) o)
-        (images image (λ v. v) kind_known (kind_of f) in_order (rec_weaker (λ v. is_known f v ≡ true) (λ v. image v ≡ cond (kind_known v) (Some (kind_of f v)) None) at_known in_order (order_known f good well_founded levels)))
-        ∙ ap (λ b. option_map (nodes_numbered_from 0) (cond b (Some (map (kind_of f) in_order)) None)) kinds_known
-        ∙ by_test (have_operands f)
-      where
-        image : ℕ → Option AigNodeType
-        image v = option_and_then (kind_by_numbers number) (kind_at old v)
+    module _ (sorted : List (Option Operands)) (kinds : map (λ (node : AigNode). node.typ) (nodes_in sorted) ≡ map (kind_among f.gates) in_order) where
+      -- the nodes of the order have numbers of operands exactly where all gates have known ones
+      pub nodes_known : list_all (λ (node : AigNode). has_operands table node.typ) (nodes_in sorted) ≡ have_operands f
+      nodes_known =
+          let same : (λ v. has_operands table (kind_among f.gates v)) ≡ kind_known = λ i v. kind_has v i in
+          sym (list_all-map (has_operands table) (λ (node : AigNode). node.typ) (nodes_in sorted)) ∙ ap (list_all (has_operands table)) kinds
+          ∙ list_all-map (has_operands table) (kind_among f.gates) in_order ∙ ap (λ (test : ℕ → Bool). list_all test in_order) same ∙ kinds_known
 
-        at_known : (v : ℕ) → is_known f v ≡ true → image v ≡ cond (kind_known v) (Some (kind_of f v)) None
-        at_known v known =
-            ap (λ (ns : List AigNode). option_and_then (kind_by_numbers number) (kind_at ns v)) placed
-            ∙ ap (λ (o : Option AigNodeType). option_and_then (kind_by_numbers number) o) (kind_at-variable f.greatest v f.gates (within f good well_founded levels v known)) ∙ kind_is v
-
-        all_nodes : nodes_numbered_from 0 (map (kind_of f) in_order) ≡ (circuit_of f).nodes
-        all_nodes =
-            ap (λ (nodes : List AigNode). node_of 0 (kind_of f 0) ∷ nodes) (numbered_is 1 (variables_by_level f) (some-by_level f))
-            ∙ ap (λ (vs : List ℕ). nodes_from f 0 vs) (order_is f good well_founded levels)
-
-        by_test : (b : Bool) → option_map (nodes_numbered_from 0) (cond b (Some (map (kind_of f) in_order)) None) ≡ cond b (Some (circuit_of f).nodes) None
-        by_test true = ap Some all_nodes
-        by_test false = refl
+      -- and are then those of the file's circuit
+      pub nodes_are : have_operands f ≡ true → map (with_numbers table) (nodes_in sorted) ≡ (circuit_of f).nodes
+      nodes_are known =
+          row_is 0 sorted in_order kinds ((all_pass kind_known in_order).0 (kinds_known ∙ known)) ∙ ap (λ (vs : List ℕ). nodes_from f 0 vs) (order_is f good well_founded levels)

@@ -1,19 +1,14 @@
 -- Entries that are read one after the other, each beside those before it.
-use Rattle.std.proofs.Common.{◌≡◌, ℕ, zero, suc, ◌+◌, ◌<◌, Bool, List, [], ◌∷◌, ◌++◌, Option, Some, None, refl, sym, ap, subst, ◌∙◌, append_assoc, append-nil, add-one, length, length-append, map, get_or, arith}
+use Rattle.std.proofs.Common.{◌≡◌, ℕ, zero, suc, ◌+◌, ◌<◌, List, [], ◌∷◌, ◌++◌, Option, Some, None, refl, sym, ap, subst, ◌∙◌, append_assoc, append-nil, add-one, length, length-append, map, get_or, arith}
 use Rattle.std.proofs.lemmas.Option.{same_Some}
 use Rattle.std.proofs.lemmas.List.{map_push}
 use Rattle.std.proofs.Math.Seq.{get_or-append_seam}
-use Rattle.std.proofs.KnownBytes.{Consumes-nil, Consumes-trans}
-use Rattle.aig_parsing.specs.Parse.{◌>>=◌, parse_if, parse_times, parse_checked, parse_placed}
+use Rattle.std.proofs.KnownBytes.{Consumes-trans}
+use Rattle.aig_parsing.specs.Parse.{◌>>=◌, parse_entries, parse_sets}
 use Rattle.aig_parsing.specs.ParseTested.{parse_literals, parse_literal_sets}
 use Rattle.aig_parsing.proofs.Numbers.{bind_some}
 use Rattle.aig_lexer.specs.Takes.{Takes, Misses}
 use Rattle.aig_lexer.proofs.Going.{known_rest}
-
--- n entries after these
-abbrev pub entries_at : {A : Type 0} → (List A → List ℕ → Option (A × List ℕ)) → List A → ℕ → List ℕ → Option (List A × List ℕ)
-entries_at p front zero bytes = Some ([], bytes)
-entries_at p front (suc n) bytes = p front bytes >>= λ x. entries_at p (front ++ x.0 ∷ []) n x.1 >>= λ xs. Some (x.0 ∷ xs.0, xs.1)
 
 -- an entry before others
 abbrev pub put_first : {A : Type 0} → A → List A × List ℕ → Option (List A × List ℕ)
@@ -26,7 +21,7 @@ module _ {A : Type 0} (p : List A → List ℕ → Option (A × List ℕ)) where
 
   -- the entries after one
   abbrev lines_after : List A → ℕ → A × List ℕ → Option (List A × List ℕ)
-  lines_after front n x = entries_at p (front ++ x.0 ∷ []) n x.1 >>= put_first x.0
+  lines_after front n x = parse_entries p (front ++ x.0 ∷ []) n x.1 >>= put_first x.0
 
   -- the entry after some
   abbrev next_at : List A → List A × List ℕ → Option (A × List ℕ)
@@ -40,104 +35,61 @@ module _ {A : Type 0} (p : List A → List ℕ → Option (A × List ℕ)) where
   next_first front bs xs rest o same k =
       ap (λ (ys : List A). p ys bs) (sym (append-nil front)) ∙ subst (λ (w : List A × List ℕ). next_at front w ≡ o) (sym same) k
 
-  one_more : (i : ℕ) (front : List A) (bs rest last : List ℕ) (xs : List A) (x : A) → entries_at p front i bs ≡ Some (xs, rest) → next_at front (xs, rest) ≡ Some (x, last)
-      → entries_at p front (suc i) bs ≡ Some (xs ++ x ∷ [], last)
+  one_more : (i : ℕ) (front : List A) (bs rest last : List ℕ) (xs : List A) (x : A) → parse_entries p front i bs ≡ Some (xs, rest) → next_at front (xs, rest) ≡ Some (x, last)
+      → parse_entries p front (suc i) bs ≡ Some (xs ++ x ∷ [], last)
   one_more zero front bs rest last xs x h k =
       let same : lines [] bs ≡ lines xs rest = same_Some _ _ h in
       ap (λ (o : Option (A × List ℕ)). o >>= lines_after front 0) (next_first front bs xs rest (Some (x, last)) same k) ∙ ap (λ (w : List A × List ℕ). Some (w.0 ++ x ∷ [], last)) same
   one_more (suc i) front bs rest last xs x h k =
       let y = bind_some (p front bs) (lines_after front i) (xs, rest) h in
-      let ys = bind_some (entries_at p (front ++ y.0.0 ∷ []) i y.0.1) (put_first y.0.0) (xs, rest) y.2 in
+      let ys = bind_some (parse_entries p (front ++ y.0.0 ∷ []) i y.0.1) (put_first y.0.0) (xs, rest) y.2 in
       let same : lines (y.0.0 ∷ ys.0.0) ys.0.1 ≡ lines xs rest = same_Some _ _ ys.2 in
       ap (λ (o : Option (A × List ℕ)). o >>= lines_after front (suc i)) y.1
       ∙ ap (λ (o : Option (List A × List ℕ)). o >>= put_first y.0.0) (one_more i (front ++ y.0.0 ∷ []) y.0.1 ys.0.1 last ys.0.0 x ys.1 (next_is front ys.0.0 xs y.0.0 ys.0.1 rest (Some (x, last)) same k))
       ∙ ap (λ (w : List A × List ℕ). Some (w.0 ++ x ∷ [], last)) same
 
-  no_more : (i n : ℕ) (front : List A) (bs rest : List ℕ) (xs : List A) → i < n → entries_at p front i bs ≡ Some (xs, rest) → next_at front (xs, rest) ≡ None → entries_at p front n bs ≡ None
+  no_more : (i n : ℕ) (front : List A) (bs rest : List ℕ) (xs : List A) → i < n → parse_entries p front i bs ≡ Some (xs, rest) → next_at front (xs, rest) ≡ None → parse_entries p front n bs ≡ None
   no_more i zero front bs rest xs lt h k = absurd (omega arith)
   no_more zero (suc n) front bs rest xs lt h k =
       let same : lines [] bs ≡ lines xs rest = same_Some _ _ h in
       ap (λ (o : Option (A × List ℕ)). o >>= lines_after front n) (next_first front bs xs rest None same k)
   no_more (suc i) (suc n) front bs rest xs lt h k =
       let y = bind_some (p front bs) (lines_after front i) (xs, rest) h in
-      let ys = bind_some (entries_at p (front ++ y.0.0 ∷ []) i y.0.1) (put_first y.0.0) (xs, rest) y.2 in
+      let ys = bind_some (parse_entries p (front ++ y.0.0 ∷ []) i y.0.1) (put_first y.0.0) (xs, rest) y.2 in
       let same : lines (y.0.0 ∷ ys.0.0) ys.0.1 ≡ lines xs rest = same_Some _ _ ys.2 in
       ap (λ (o : Option (A × List ℕ)). o >>= lines_after front n) y.1
       ∙ ap (λ (o : Option (List A × List ℕ)). o >>= put_first y.0.0) (no_more i n (front ++ y.0.0 ∷ []) y.0.1 ys.0.1 ys.0.0 (omega arith) ys.1 (next_is front ys.0.0 xs y.0.0 ys.0.1 rest None same k))
 
-  count_is : (n : ℕ) (front : List A) (bs rest : List ℕ) (xs : List A) → entries_at p front n bs ≡ Some (xs, rest) → length xs ≡ n
+  count_is : (n : ℕ) (front : List A) (bs rest : List ℕ) (xs : List A) → parse_entries p front n bs ≡ Some (xs, rest) → length xs ≡ n
   count_is zero front bs rest xs h = let same : lines [] bs ≡ lines xs rest = same_Some _ _ h in ap (λ (w : List A × List ℕ). length w.0) (sym same)
   count_is (suc n) front bs rest xs h =
       let y = bind_some (p front bs) (lines_after front n) (xs, rest) h in
-      let ys = bind_some (entries_at p (front ++ y.0.0 ∷ []) n y.0.1) (put_first y.0.0) (xs, rest) y.2 in
+      let ys = bind_some (parse_entries p (front ++ y.0.0 ∷ []) n y.0.1) (put_first y.0.0) (xs, rest) y.2 in
       let same : lines (y.0.0 ∷ ys.0.0) ys.0.1 ≡ lines xs rest = same_Some _ _ ys.2 in
       ap (λ (w : List A × List ℕ). length w.0) (sym same) ∙ ap suc (count_is n (front ++ y.0.0 ∷ []) y.0.1 ys.0.1 ys.0.0 ys.1)
 
-  -- no entry yet
-  pub takes_none : (b : Option (List ℕ)) → Takes (entries_at p [] 0) b b []
-  takes_none b = record { taken = []; reads = λ rest. refl; consumed = Consumes-nil b }
-
   -- one more entry
-  pub takes_more : (i : ℕ) (b m a : Option (List ℕ)) (xs : List A) (x : A) → Takes (entries_at p [] i) b m xs → Takes (p xs) m a x → Takes (entries_at p [] (i + 1)) b a (xs ++ x ∷ [])
+  pub takes_more : (i : ℕ) (b m a : Option (List ℕ)) (xs : List A) (x : A) → Takes (parse_entries p [] i) b m xs → Takes (p xs) m a x → Takes (parse_entries p [] (i + 1)) b a (xs ++ x ∷ [])
   takes_more i b m a xs x h k = record {
     taken = h.taken ++ k.taken;
-    reads = λ rest. ap (λ (bs : List ℕ). entries_at p [] (i + 1) bs) (append_assoc h.taken k.taken rest)
-        ∙ ap (λ (n : ℕ). entries_at p [] n (h.taken ++ (k.taken ++ rest))) (add-one i)
+    reads = λ rest. ap (λ (bs : List ℕ). parse_entries p [] (i + 1) bs) (append_assoc h.taken k.taken rest)
+        ∙ ap (λ (n : ℕ). parse_entries p [] n (h.taken ++ (k.taken ++ rest))) (add-one i)
         ∙ one_more i [] (h.taken ++ (k.taken ++ rest)) (k.taken ++ rest) rest xs x (h.reads (k.taken ++ rest)) (k.reads rest);
     consumed = Consumes-trans b m a h.taken k.taken h.consumed k.consumed;
   }
 
   -- an entry that isn't there
-  pub misses_more : (i n : ℕ) (b m : Option (List ℕ)) (xs : List A) → i < n → Takes (entries_at p [] i) b m xs → Misses (p xs) m → Misses (entries_at p [] n) b
+  pub misses_more : (i n : ℕ) (b m : Option (List ℕ)) (xs : List A) → i < n → Takes (parse_entries p [] i) b m xs → Misses (p xs) m → Misses (parse_entries p [] n) b
   misses_more i n b m xs lt h k =
-      known_rest b m h.taken (λ bs. entries_at p [] n bs ≡ None) (λ bs. p xs bs ≡ None) h.consumed k
+      known_rest b m h.taken (λ bs. parse_entries p [] n bs ≡ None) (λ bs. p xs bs ≡ None) h.consumed k
       (λ rest e. no_more i n [] (h.taken ++ rest) rest xs lt (h.reads rest) e)
 
   -- as many as were asked for
-  pub takes_count : (n : ℕ) (b a : Option (List ℕ)) (xs : List A) → Takes (entries_at p [] n) b a xs → length xs ≡ n
+  pub takes_count : (n : ℕ) (b a : Option (List ℕ)) (xs : List A) → Takes (parse_entries p [] n) b a xs → length xs ≡ n
   takes_count n b a xs h = count_is n [] (h.taken ++ []) [] xs (h.reads [])
-
--- ---- other words for such entries
-
--- lines that are tested beside those before them
-pub checked_is_entries : {A : Type 0} (p : List ℕ → Option (A × List ℕ)) (test : List A → A → Bool) (front : List A) (n : ℕ) (bs : List ℕ) → entries_at (λ xs. parse_if p (test xs)) front n bs ≡ parse_checked p test front n bs
-checked_is_entries {A} p test front zero bs = refl
-checked_is_entries {A} p test front (suc n) bs = go (parse_if p (test front) bs) (λ x. checked_is_entries p test (front ++ x.0 ∷ []) n x.1)
-  where
-    go : (o : Option (A × List ℕ)) → ((x : A × List ℕ) → entries_at (λ xs. parse_if p (test xs)) (front ++ x.0 ∷ []) n x.1 ≡ parse_checked p test (front ++ x.0 ∷ []) n x.1)
-        → (o >>= lines_after (λ xs. parse_if p (test xs)) front n) ≡ (o >>= λ x. parse_checked p test (front ++ x.0 ∷ []) n x.1 >>= put_first x.0)
-    go None rest = refl
-    go (Some x) rest = ap (λ (r : Option (List A × List ℕ)). r >>= put_first x.0) (rest x)
-
--- lines that don't look at those before them
-pub times_is_entries : {A : Type 0} (p : List ℕ → Option (A × List ℕ)) (front : List A) (n : ℕ) (bs : List ℕ) → entries_at (λ _. p) front n bs ≡ parse_times p n bs
-times_is_entries {A} p front zero bs = refl
-times_is_entries {A} p front (suc n) bs = go (p bs) (λ x. times_is_entries p (front ++ x.0 ∷ []) n x.1)
-  where
-    go : (o : Option (A × List ℕ)) → ((x : A × List ℕ) → entries_at (λ _. p) (front ++ x.0 ∷ []) n x.1 ≡ parse_times p n x.1)
-        → (o >>= lines_after (λ _. p) front n) ≡ (o >>= λ x. parse_times p n x.1 >>= put_first x.0)
-    go None rest = refl
-    go (Some x) rest = ap (λ (r : Option (List A × List ℕ)). r >>= put_first x.0) (rest x)
 
 pub length_push : {A : Type 0} (xs : List A) (x : A) → length (xs ++ x ∷ []) ≡ length xs + 1
 length_push xs x = length-append xs (x ∷ [])
-
--- entries that look at their place alone, as long as a fact on those before them lasts
-module _ {A : Type 0} (p : List A → List ℕ → Option (A × List ℕ)) (q : ℕ → List ℕ → Option (A × List ℕ)) (base : ℕ) (I : List A → Type 0)
-    (agree : (front : List A) → I front → (bs : List ℕ) → p front bs ≡ q (base + length front) bs)
-    (lasts : (front : List A) → I front → (bs rest : List ℕ) (x : A) → q (base + length front) bs ≡ Some (x, rest) → I (front ++ x ∷ [])) where
-  pub placed_is_entries : (n : ℕ) (front : List A) (bs : List ℕ) → I front → entries_at p front n bs ≡ parse_placed q n (base + length front) bs
-  placed_is_entries zero front bs i = refl
-  placed_is_entries (suc n) front bs i =
-      ap (λ (o : Option (A × List ℕ)). o >>= lines_after p front n) (agree front i bs) ∙ go (q (base + length front) bs) refl (λ x is. placed_is_entries n (front ++ x.0 ∷ []) x.1 (lasts front i bs x.1 x.0 is))
-    where
-      go : (o : Option (A × List ℕ)) → q (base + length front) bs ≡ o
-          → ((x : A × List ℕ) → q (base + length front) bs ≡ Some (x.0, x.1) → entries_at p (front ++ x.0 ∷ []) n x.1 ≡ parse_placed q n (base + length (front ++ x.0 ∷ [])) x.1)
-          → (o >>= lines_after p front n) ≡ (o >>= λ x. parse_placed q n (base + length front + 1) x.1 >>= put_first x.0)
-      go None is rest = refl
-      go (Some x) is rest =
-          let place : base + length (front ++ x.0 ∷ []) ≡ base + length front + 1 = let l = length_push front x.0 in omega arith in
-          ap (λ (r : Option (List A × List ℕ)). r >>= put_first x.0) (rest x is ∙ ap (λ (v : ℕ). parse_placed q n v x.1) place)
 
 -- the set of the next size
 abbrev pub set_at : ℕ → List ℕ → List (List ℕ) → List ℕ → Option (List ℕ × List ℕ)
@@ -146,22 +98,22 @@ set_at greatest sizes front = parse_literals greatest (get_or sizes (length fron
 middle_is : (xs ys : List ℕ) (y n : ℕ) → length xs ≡ n → get_or (xs ++ y ∷ ys) n 0 ≡ y
 middle_is xs ys y n h = subst (λ (k : ℕ). get_or (xs ++ y ∷ ys) k 0 ≡ y) h (get_or-append_seam xs y ys 0)
 
-sets_following : (greatest : ℕ) (done sizes : List ℕ) (front : List (List ℕ)) (bs : List ℕ) → length done ≡ length front → entries_at (set_at greatest (done ++ sizes)) front (length sizes) bs ≡ parse_literal_sets greatest sizes bs
-unfolding parse_literal_sets
+sets_following : (greatest : ℕ) (done sizes : List ℕ) (front : List (List ℕ)) (bs : List ℕ) → length done ≡ length front → parse_entries (set_at greatest (done ++ sizes)) front (length sizes) bs ≡ parse_literal_sets greatest sizes bs
+unfolding parse_sets
 sets_following greatest done [] front bs h = refl
 sets_following greatest done (n ∷ sizes) front bs h =
     ap (λ (k : ℕ). parse_literals greatest k bs >>= lines_after (set_at greatest (done ++ n ∷ sizes)) front (length sizes)) (middle_is done sizes n (length front) h)
     ∙ go (parse_literals greatest n bs)
-    (λ x. ap (λ (all : List ℕ). entries_at (set_at greatest all) (front ++ x.0 ∷ []) (length sizes) x.1) (sym (append_assoc done (n ∷ []) sizes))
+    (λ x. ap (λ (all : List ℕ). parse_entries (set_at greatest all) (front ++ x.0 ∷ []) (length sizes) x.1) (sym (append_assoc done (n ∷ []) sizes))
     ∙ sets_following greatest (done ++ n ∷ []) sizes (front ++ x.0 ∷ []) x.1 (length_push done n ∙ ap (λ (k : ℕ). k + 1) h ∙ sym (length_push front x.0)))
   where
-    go : (o : Option (List ℕ × List ℕ)) → ((x : List ℕ × List ℕ) → entries_at (set_at greatest (done ++ n ∷ sizes)) (front ++ x.0 ∷ []) (length sizes) x.1 ≡ parse_literal_sets greatest sizes x.1)
+    go : (o : Option (List ℕ × List ℕ)) → ((x : List ℕ × List ℕ) → parse_entries (set_at greatest (done ++ n ∷ sizes)) (front ++ x.0 ∷ []) (length sizes) x.1 ≡ parse_literal_sets greatest sizes x.1)
         → (o >>= lines_after (set_at greatest (done ++ n ∷ sizes)) front (length sizes)) ≡ (o >>= λ set. parse_literal_sets greatest sizes set.1 >>= λ sets. Some (set.0 ∷ sets.0, sets.1))
     go None rest = refl
     go (Some x) rest = ap (λ (r : Option (List (List ℕ) × List ℕ)). r >>= put_first x.0) (rest x)
 
 -- sets of these sizes
-pub sets_is_entries : (greatest : ℕ) (sizes : List ℕ) (bs : List ℕ) → entries_at (set_at greatest sizes) [] (length sizes) bs ≡ parse_literal_sets greatest sizes bs
+pub sets_is_entries : (greatest : ℕ) (sizes : List ℕ) (bs : List ℕ) → parse_entries (set_at greatest sizes) [] (length sizes) bs ≡ parse_literal_sets greatest sizes bs
 sets_is_entries greatest sizes bs = sets_following greatest [] sizes [] bs refl
 
 -- one more value, made of one more entry

@@ -1,6 +1,6 @@
 -- The circuit of the file that was read.
-use Rattle.std.proofs.Common.{◌≡◌, ◌≢◌, ℕ, zero, suc, ◌+◌, ◌*◌, ◌/◌, ◌%◌, ◌≤◌, true, cond, List, [], ◌∷◌, ◌++◌, map, slice_index, Option, Some, None, refl, sym, ap, ◌∙◌, arith}
-use Rattle.std.specs.Prelude.{filter_map, AllPairs, ◌==◌}
+use Rattle.std.proofs.Common.{◌≡◌, ◌≢◌, ℕ, zero, suc, ◌+◌, ◌*◌, ◌/◌, ◌%◌, ◌≤◌, true, cond, List, [], ◌∷◌, ◌++◌, map, slice_index, Option, Some, None, refl, sym, ap, ◌∙◌, arith, leb-true}
+use Rattle.std.specs.Prelude.{filter_map, AllPairs, ◌==◌, option_map, Bool, false}
 use Rattle.std.specs.Ordering.{nat_cmp}
 use Rattle.std.specs.FinMap.{FinMap, from_entries}
 use Rattle.std.specs.List.{AllByRecursion, flat_map}
@@ -12,18 +12,19 @@ use Rattle.aig_circuit.specs.declared.node.AigNode.{AigNode}
 use Rattle.aig_circuit.specs.declared.node.AigLatch.{AigLatch}
 use Rattle.aig_circuit.specs.Edge.{edge_to}
 use Rattle.aig_circuit.specs.Node.{and_of}
+use Rattle.aig_circuit.proofs.Listed.{AllProperties-weaker, map_properties-agree}
 use Rattle.aig_parsing.specs.Parse.{Parts, file_from}
 use Rattle.aig_format.specs.Circuit as of_file
 use Rattle.aig_format.specs.Circuit.{circuit_of, edge_of, initial_of, kind_of, latch_of, named_node, nodes_from}
 use Rattle.aig_format.specs.declared.FileKind.{FileKind}
 use Rattle.aig_format.specs.File.{LatchLine, GateLine, NameLine, File, defined, used, HeaderNumbers}
-use Rattle.aig_format.specs.Fits.{Fits, IsDefinable}
+use Rattle.aig_format.specs.Fits.{Fits, IsDefinable, is_literal}
 use Rattle.aig_format.specs.Numbering.{is_compact, node_of_variable, numbers_from, variables_in_order}
 use Rattle.aig_format.specs.Variables.{gate_of_variable}
 use Rattle.aig_format.proofs.Circuits.{UsedHave, distinct_pairs, leaves_distinct, leaves_of_latches, numbers, used_by_section}
 use Rattle.aig_format.proofs.Entries.{rec_both, rec_flat_map, rec_parts, rec_unmap, rec_weaker}
 use Rattle.aig_format.proofs.Numbers.{node_of_variable-compact, node_of_variable-zero, order-compact}
-use Rattle.aig_format.proofs.Compact.{compact-told}
+use Rattle.aig_format.proofs.Rules.{compact_exact, definable_told}
 use Rattle.aig_format.proofs.Searches.{find_some}
 use Rattle.aig_ordering.specs.Lists.{edge_from, kind_of_line, kind_among, latch_of_line, nodes_in_row, nodes_of_variables, variable_of_literal}
 use Rattle.aig_symbols.specs.Names.{kept_name, kept_names}
@@ -43,13 +44,13 @@ module _ (f : File) (good : HasGoodLines f) (compact : is_compact f ≡ true) wh
   IsWithin e = e / 2 ≤ f.greatest
 
   used_within : AllByRecursion IsWithin (used f)
-  used_within = rec_weaker (λ e. e ≤ 2 * f.greatest + 1) IsWithin (λ e h. omega arith) (used f) good.in_range
+  used_within = rec_weaker (λ e. is_literal f.greatest e ≡ true) IsWithin (λ e h. let high = leb-true e (2 * f.greatest + 1) h in omega arith) (used f) good.in_range
 
   sections_within : UsedHave IsWithin f
   sections_within = used_by_section IsWithin f used_within
 
   defined_within : AllByRecursion IsWithin (defined f)
-  defined_within = rec_weaker (IsDefinable f.greatest) IsWithin (λ e d. let h = d.2 in omega arith) (defined f) good.definable
+  defined_within = rec_weaker (IsDefinable f.greatest) IsWithin (λ e d. let h = (definable_told f.greatest e d).2 in omega arith) (defined f) good.definable
 
   leaves_within : AllByRecursion IsWithin f.inputs × AllByRecursion IsWithin (map (λ (l : LatchLine). l.literal) f.latches)
   leaves_within =
@@ -61,14 +62,6 @@ module _ (f : File) (good : HasGoodLines f) (compact : is_compact f ≡ true) wh
 
   edge_is : (e : ℕ) → IsWithin e → edge_from e ≡ edge_of f e
   edge_is e h = ap (λ n. edge_to n (e % 2 == 1)) (number_is e h)
-
-  edges_are : (es : List ℕ) → AllByRecursion IsWithin es → map edge_from es ≡ map (edge_of f) es
-  edges_are [] all = refl
-  edges_are (e ∷ es) all = rw (edge_is e all.0, edges_are es all.1) refl
-
-  sets_are : (sets : List (List ℕ)) → AllByRecursion IsWithin (flat_map (λ s. s) sets) → map (map edge_from) sets ≡ map (map (edge_of f)) sets
-  sets_are [] all = refl
-  sets_are (es ∷ sets) all = let p = rec_parts IsWithin es (flat_map (λ s. s) sets) all in rw (edges_are es p.0, sets_are sets p.1) refl
 
   numbers_are : (es : List ℕ) → AllByRecursion IsWithin es → map variable_of_literal es ≡ map (λ e. node_of_variable f (e / 2)) es
   numbers_are [] all = refl
@@ -113,15 +106,18 @@ module _ (f : File) (good : HasGoodLines f) (compact : is_compact f ≡ true) wh
   nodes_same : nodes_of_variables f.greatest f.gates ≡ (circuit_of f).nodes
   nodes_same =
       let n : f.greatest + 1 ≡ suc f.greatest = omega arith in
-      let exact = (compact-told f compact).exact in
+      let exact = compact_exact f compact in
       ap (λ k. nodes_in_row f.gates k 0) n ∙ nodes_are (suc f.greatest) 0 ∙ ap (λ vs. nodes_from f 0 (0 ∷ vs)) (ap (λ n. numbers_from n 1) exact ∙ sym (order-compact f compact))
 
   -- the sections by variable are the file's circuit
   pub compact_circuit : (sections : Sections) → AreListsByVariable sections.lists f → sections.nodes.items ≡ nodes_of_variables f.greatest f.gates → IsCircuitOf f sections
   compact_circuit sections h placed = λ names.
-      let p = h.properties in
-      let used = sections_within in
-      rw (placed, h.inputs, h.latchs, p.outputs, p.bads, p.constraints, p.justice, p.fairness, nodes_same, numbers_are f.inputs leaves_within.0, latches_are f.latches latches_within, edges_are f.outputs used.outputs, edges_are f.bads used.bads, edges_are f.constraints used.constraints, sets_are f.justice used.justice, edges_are f.fairness used.fairness) refl
+      let all = AllProperties-weaker IsWithin (λ e. edge_from e ≡ edge_of f e) edge_is f.properties sections_within.properties in
+      let nodes = placed ∙ nodes_same in
+      let inputs = h.inputs ∙ numbers_are f.inputs leaves_within.0 in
+      let latchs = h.latchs ∙ latches_are f.latches latches_within in
+      let properties = h.properties ∙ map_properties-agree edge_from (edge_of f) f.properties all in
+      λ i. record { nodes = nodes i; inputs = inputs i; latchs = latchs i; properties = properties i; names = names }
 
 -- ---- the circuit with names
 
@@ -132,7 +128,19 @@ module _ (f : File) where
   input_is (e ∷ es) (suc n) = input_is es n
 
   name_is : (n : NameLine) → kept_name (numbers f f.inputs) (numbers f (map (λ (l : LatchLine). l.literal) f.latches)) n ≡ named_node f n
-  name_is n = rw (input_is f.inputs n.position, input_is (map (λ (l : LatchLine). l.literal) f.latches) n.position) refl
+  name_is n = by_letter (n.letter == 105) (n.letter == 108)
+    where
+      literals : List ℕ
+      literals = map (λ (l : LatchLine). l.literal) f.latches
+
+      named : ℕ → ℕ × List ℕ
+      named node = (node, n.name)
+
+      by_letter : (i l : Bool) → option_map named (cond i (Some (slice_index (numbers f f.inputs) n.position)) (cond l (Some (slice_index (numbers f literals) n.position)) None))
+          ≡ cond i (Some (named (node_of_variable f (slice_index f.inputs n.position / 2)))) (cond l (Some (named (node_of_variable f (slice_index literals n.position / 2)))) None)
+      by_letter true l = ap (λ m. Some (named m)) (input_is f.inputs n.position)
+      by_letter false true = ap (λ m. Some (named m)) (input_is literals n.position)
+      by_letter false false = refl
 
   module _ (sections : Sections) (is : IsCircuitOf f sections) where
     pub inputs_is : sections.lists.inputs.items ≡ numbers f f.inputs

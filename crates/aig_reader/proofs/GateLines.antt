@@ -7,18 +7,14 @@ use Rattle.std.proofs.lemmas.Bool.{lt-ltb}
 use Rattle.std.proofs.lemmas.List.{map_push}
 use Rattle.std.proofs.lemmas.List.Folds.{list_all-append}
 use Rattle.aig_ordering.specs.declared.gates.Operands.{Operands}
-use Rattle.aig_format.specs.declared.FileKind.{FileKind}
-use Rattle.aig_format.specs.declared.FileKind.TheVariants.{Text, Binary}
 use Rattle.aig_format.specs.File.{GateLine}
 use Rattle.aig_format.specs.Numbering.{are_in_order, is_above_operands, is_increasing}
 use Rattle.aig_format.proofs.Entries.{rec_append, rec_parts}
-use Rattle.aig_parsing.specs.ParseTested.{defines, is_literal}
 use Rattle.aig_reader.specs.declared.variables.DefinedVariables.{DefinedVariables}
 use Rattle.aig_reader.specs.declared.gate_store.InOrder.{InOrder}
 use Rattle.aig_reader.specs.declared.gate_store.GateStore.{GateStore}
 use Rattle.aig_reader.specs.declared.table.Table.{Table}
 use Rattle.aig_reader.specs.declared.gate_store.GateStore.TheVariants as held
-use Rattle.aig_reader.specs.ParseEntry.{may_define, may_stand, may_use}
 use Rattle.aig_reader.specs.Gates.{AreFirstNodes, AreGates, ArePlaced, AreInOrder, HoldsPending, HasWords, last_or, line_of, literals_of}
 use Rattle.aig_reader.specs.Variables.{AreDefined, IsNewAmong, is_marked}
 use Rattle.aig_reader.proofs.Defined.{unmarked_none}
@@ -93,13 +89,6 @@ module _ (greatest : ℕ) (leaves : List ℕ) (before : List GateLine) (lhs : �
   -- a file that is well-founded alone does with one gate more
   pub still_in_table : (old new : Table) → ArePlaced greatest leaves before (held.Shuffled old) → HoldsPending (before ++ g ∷ []) new → ArePlaced greatest leaves (before ++ g ∷ []) (held.Shuffled new)
   still_in_table old new h nodes = record { nodes = nodes; form = well_founded_more greatest leaves before g h.form }
-
--- ---- tests
-
--- a gate may stand after others where it may be defined and its operands may be used
-pub may_stand-both : (kind : FileKind) (greatest : ℕ) (before : List ℕ) (g : GateLine) → may_stand kind greatest before g ≡ may_define kind greatest before g.lhs && may_use kind greatest g
-may_stand-both Text greatest before g = and_assoc (defines greatest before g.lhs) (is_literal greatest g.rhs0) (is_literal greatest g.rhs1)
-may_stand-both Binary greatest before g = refl
 
 -- ---- one more gate
 

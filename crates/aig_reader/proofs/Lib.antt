@@ -3,7 +3,6 @@ pub mod TableEntries
 pub mod Waiting
 pub mod TestedLines
 pub mod Entries
-pub mod BothKinds
 pub mod OwnLines
 pub mod Rooms
 pub mod MarkedBits

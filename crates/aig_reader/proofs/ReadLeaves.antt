@@ -1,6 +1,5 @@
 -- What is known once the inputs and the latches were read.
-use Rattle.std.proofs.Common.{◌≡◌, ◌∙◌, ◌+◌, ◌++◌, ℕ, List, Option, Result, Ok, IfOk, Vec, ap, length, length-append, map, subst, vec_len, arith}
-use Rattle.std.proofs.lemmas.List.{length-map}
+use Rattle.std.proofs.Common.{◌≡◌, ◌∙◌, ◌+◌, ◌++◌, ℕ, List, Option, Result, Ok, Vec, map, subst}
 use Rattle.std.specs.declared.alloc.Global.{Global}
 use Rattle.aig_circuit.specs.declared.node.AigLatch.{AigLatch}
 use Rattle.aig_parsing.specs.ParseTested.{parse_fitting_inputs, parse_fitting_latches}
@@ -17,7 +16,6 @@ use Rattle.aig_reader.specs.Faults.{LineUnlessTransient, error_in, result_by}
 use Rattle.aig_ordering.specs.Lists.{variable_of_literal, latch_of_line}
 use Rattle.aig_reader.specs.Variables.{AreDefined, file_kind}
 use Rattle.aig_reader.proofs.Body.{in_section, made_in}
-use Rattle.aig_reader.proofs.ReadNames.{if_ok_in}
 
 -- the literals that inputs and latches define
 abbrev pub literals_with : List ℕ → List LatchLine → List ℕ
@@ -31,7 +29,6 @@ pub record LeavesRead (header : Header) (kind : FileKind) (before between after 
   pub latchs_are : latchs ≡ map latch_of_line lines
   pub takes_inputs : Takes (parse_fitting_inputs kind (numbers_of header)) before between literals
   pub takes_latchs : Takes (parse_fitting_latches kind (numbers_of header) literals) between after lines
-  pub count : length (literals_with literals lines) ≡ header.inputs + header.latches
   pub defined : AreDefined header.greatest variables (literals_with literals lines)
 
 module _ (header : Header) (kind : FileKind) (b m a : Option (List ℕ)) (u v w : DefinedVariables)
@@ -41,23 +38,14 @@ module _ (header : Header) (kind : FileKind) (b m a : Option (List ℕ)) (u v w 
       file_kind u ≡ kind → file_kind v ≡ file_kind u
       → inputs_result ≡ result_by (error_in Inputs) input_lines → inputs_result ≡ Ok inputs
       → Makes LineUnlessTransient (λ (xs : Vec ℕ Global) literals. (xs.items ≡ map variable_of_literal literals) × AreDefined header.greatest v literals) b m input_lines (parse_fitting_inputs (file_kind u) (numbers_of header))
-      → IfOk input_lines (λ xs. vec_len xs ≡ header.inputs)
       → latchs_result ≡ result_by (error_in Latches) latch_lines → latchs_result ≡ Ok latchs
-      → ((literals : List ℕ) → length literals ≡ header.inputs → AreDefined header.greatest v literals
+      → ((literals : List ℕ) → AreDefined header.greatest v literals
       → Makes LineUnlessTransient (λ (xs : Vec AigLatch Global) lines. (xs.items ≡ map latch_of_line lines) × AreDefined header.greatest w (literals_with literals lines)) m a latch_lines (parse_fitting_latches (file_kind v) (numbers_of header) literals))
-      → IfOk latch_lines (λ xs. vec_len xs ≡ header.latches)
       → LeavesRead header kind b m a w inputs.items latchs.items
-  leaves_read start same inputs_is inputs_was inputs_made inputs_count latchs_is latchs_was latchs_made latchs_count =
+  leaves_read start same inputs_is inputs_was inputs_made latchs_is latchs_was latchs_made =
       let ns = numbers_of header in
       let i = made_in (error_in Inputs) (in_section Inputs) _ _ _ _ input_lines inputs_result inputs inputs_is inputs_was inputs_made in
-      let i_count = if_ok_in (error_in Inputs) (λ xs. vec_len xs ≡ header.inputs) input_lines inputs_result inputs inputs_is inputs_was inputs_count in
-      let i_all = ap length i.1.0 ∙ length-map i.0 variable_of_literal in
-      let i_length : length i.0 ≡ header.inputs = omega (arith, i_all, i_count, inputs.ok.0) in
-      let l = made_in (error_in Latches) (in_section Latches) _ _ _ _ latch_lines latchs_result latchs latchs_is latchs_was (latchs_made i.0 i_length i.1.1) in
-      let l_count = if_ok_in (error_in Latches) (λ xs. vec_len xs ≡ header.latches) latch_lines latchs_result latchs latchs_is latchs_was latchs_count in
-      let l_all = ap length l.1.0 ∙ length-map l.0 latch_of_line in
-      let both = length-append i.0 (map (λ (l : LatchLine). l.literal) l.0) in
-      let mapped = length-map l.0 (λ (l : LatchLine). l.literal) in
+      let l = made_in (error_in Latches) (in_section Latches) _ _ _ _ latch_lines latchs_result latchs latchs_is latchs_was (latchs_made i.0 i.1.1) in
       record {
         literals = i.0;
         lines = l.0;
@@ -65,6 +53,5 @@ module _ (header : Header) (kind : FileKind) (b m a : Option (List ℕ)) (u v w 
         latchs_are = l.1.0;
         takes_inputs = subst (λ (k : FileKind). Takes (parse_fitting_inputs k ns) b m i.0) start i.2;
         takes_latchs = subst (λ (k : FileKind). Takes (parse_fitting_latches k ns i.0) m a l.0) (same ∙ start) l.2;
-        count = omega (arith, i_length, both, mapped, l_all, l_count, latchs.ok.0);
         defined = l.1.1;
       }

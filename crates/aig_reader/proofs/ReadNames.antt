@@ -2,7 +2,6 @@
 use Rattle.std.proofs.Common.{◌≡◌, ◌≢◌, ℕ, List, [], Option, Some, None, Result, Ok, Err, IfSome, IfOk, OnOk, refl, subst}
 use Rattle.std.specs.Io.KnownBytes.{Consumes}
 use Rattle.aig_format.specs.File.{HeaderNumbers}
-use Rattle.aig_parsing.specs.ParseTested.{parse_fitting_tail}
 use Rattle.aig_symbols.specs.declared.names.error.NameError.{NameError}
 use Rattle.aig_symbols.specs.declared.names.error.NameError.TheVariants as name
 use Rattle.aig_symbols.specs.NameFaults.{NameUnlessTransient}
@@ -11,6 +10,7 @@ use Rattle.aig_reader.specs.declared.error.ReadError.{ReadError}
 use Rattle.aig_reader.specs.declared.error.ReadError.TheVariants as errors
 use Rattle.aig_reader.specs.Faults.{ReadUnlessTransient, name_error_of, result_by}
 use Rattle.aig_reader.proofs.Body.{ok_in, err_in}
+use Rattle.aig_parsing.specs.Parse.{parse_tail}
 
 in_names : (k : NameError) (P : Type 0) → NameUnlessTransient k P → ReadUnlessTransient (name_error_of k) P
 in_names name.Memory P h = tt
@@ -51,5 +51,5 @@ names_fault lines result e is was same =
     subst IsNamesFault same (subst IsNamesFault k.2 (is_names_fault k.0))
 
 pub no_names_left : (ns : HeaderNumbers) → tail_of ns [] ≡ Some []
-unfolding parse_fitting_tail
+unfolding parse_tail
 no_names_left ns = refl

@@ -1,5 +1,5 @@
 -- The sections that were read, as those of the file's circuit.
-use Rattle.std.proofs.Common.{◌≡◌, ℕ, ◌+◌, ◌*◌, ◌/◌, ◌≤◌, Bool, true, false, ◌||◌, ◌&&◌, List, [], ◌++◌, length, Option, Result, Ok, Err, IfOk, IfErr, vec_len, refl, ap, sym, subst, ◌∙◌, arith}
+use Rattle.std.proofs.Common.{◌≡◌, ℕ, ◌+◌, ◌*◌, ◌/◌, ◌≤◌, Bool, true, false, ◌||◌, ◌&&◌, List, [], ◌++◌, length, Option, Result, Ok, Err, IfOk, IfErr, vec_len, ap, sym, subst, ◌∙◌, arith, leb-true}
 use Rattle.std.specs.List.{list_all}
 use Rattle.std.proofs.lemmas.List.{length-map}
 use Rattle.aig_format.specs.declared.FileKind.{FileKind}
@@ -8,9 +8,9 @@ use Rattle.aig_format.specs.Circuit.{circuit_of, latch_of}
 use Rattle.aig_format.specs.File.{File}
 use Rattle.aig_format.specs.Levels.{has_level}
 use Rattle.aig_format.specs.Numbering.{is_compact, node_of_variable}
-use Rattle.aig_parsing.specs.Parse.{Parts, is_good}
-use Rattle.aig_parsing.specs.ParseTested.{parse_fitting_sections, is_accepted_order, parse_section_lines, uses_known}
-use Rattle.aig_parsing.proofs.Guards.{length-defined, on_used}
+use Rattle.aig_parsing.specs.Parse.{Parts}
+use Rattle.aig_parsing.specs.ParseTested.{parse_fitting_sections, parse_section_lines}
+use Rattle.aig_parsing.proofs.FittingFiles.{HasOperands}
 use Rattle.aig_parsing.proofs.SectionFacts.{HasCounts, lines_tell}
 use Rattle.aig_ordering.specs.Tables.{AreNodesOf}
 use Rattle.aig_lexer.specs.declared.header.Header.{Header}
@@ -28,6 +28,8 @@ use Rattle.aig_reader.specs.Sections.{AreListsByVariable, HasGoodLines, file_by}
 use Rattle.aig_reader.proofs.Body.{on_refusal-weaker}
 use Rattle.aig_reader.proofs.FileCircuit.{inputs_is, latchs_is, compact_circuit}
 use Rattle.aig_reader.proofs.PlacedNodes.{first_all}
+use Rattle.aig_format.specs.Fits.{has_enough, is_accepted_order, is_literal, uses_known}
+use Rattle.aig_format.proofs.Entries.{rec_weaker, length-defined, on_used}
 
 module _ (header : Header) (x : Parts) (b a : Option (List ℕ)) (taken : Takes (parse_section_lines header.kind (numbers_of header)) b a x) where
   abbrev keeps : Parts → Bool
@@ -39,7 +41,7 @@ module _ (header : Header) (x : Parts) (b a : Option (List ℕ)) (taken : Takes 
   numbered_made (Ok sections) h = (x, h.1, takes_tested (parse_section_lines header.kind (numbers_of header)) keeps b a x taken h.0)
   numbered_made (Err e) h = on_refusal-weaker e _ _ (λ (no : keeps x ≡ false). misses_test (parse_section_lines header.kind (numbers_of header)) keeps b a x taken no) h
 
-  module _ (good : is_good header.kind (numbers_of header) ≡ true) where
+  module _ (good : has_enough header.kind (numbers_of header) ≡ true) where
     abbrev counts : HasCounts header.kind (numbers_of header) x
     counts = (lines_tell header.kind (numbers_of header) x (taken.taken ++ []) [] good (taken.reads [])).counts
 
@@ -83,7 +85,7 @@ module _ (f : File) where
   nodes_placed good nodes h all = record {
     placed = first_all f.greatest f.gates nodes h all;
     definable = good.definable;
-    operands = ((on_used (λ e. e ≤ 2 * f.greatest + 1) f).0 good.in_range).gates;
+    operands = rec_weaker (HasOperands f.greatest) (λ g. (g.rhs0 ≤ 2 * f.greatest + 1) × (g.rhs1 ≤ 2 * f.greatest + 1)) (λ g h. (leb-true g.rhs0 (2 * f.greatest + 1) h.0, leb-true g.rhs1 (2 * f.greatest + 1) h.1)) f.gates ((on_used (λ e. is_literal f.greatest e ≡ true) f).0 good.in_range).gates;
     few = omega (arith, length-defined f, good.enough);
   }
 
@@ -94,7 +96,7 @@ module _ (f : File) where
     where
       by_kind : (kind : FileKind) → is_accepted_order kind f ≡ true
       by_kind Text = ap (λ b. b || (uses_known f && list_all (has_level f) f.gates)) compact
-      by_kind Binary = refl
+      by_kind Binary = compact
 
   -- else it is tested whether the file is well-founded
   pub well_founded_judged : (result : Result Sections ReadError) → f.kind ≡ Text → is_compact f ≡ false → Judged (uses_known f && list_all (has_level f) f.gates) (IsCircuitOf f) result → Judged (is_accepted_order f.kind f) (IsCircuitOf f) result
@@ -104,4 +106,6 @@ module _ (f : File) where
 
   -- nodes and lists under the numbers of variables are the circuit's
   pub numbered_circuit : (sections : Sections) → sections.nodes.items ≡ (circuit_of f).nodes → AreListsByNumber f sections.lists → IsCircuitOf f sections
-  numbered_circuit sections nodes h = let p = h.properties in λ names. rw (nodes, h.inputs, h.latchs, p.outputs, p.bads, p.constraints, p.justice, p.fairness) refl
+  numbered_circuit sections nodes h = λ names.
+      let inputs = h.inputs in let latchs = h.latchs in let properties = h.properties in
+      λ i. record { nodes = nodes i; inputs = inputs i; latchs = latchs i; properties = properties i; names = names }

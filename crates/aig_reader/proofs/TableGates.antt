@@ -14,6 +14,7 @@ use Rattle.aig_format.proofs.Numbers.{all_there}
 use Rattle.aig_reader.specs.declared.gate_store.GateStore.{GateStore}
 use Rattle.aig_reader.specs.declared.gate_store.GateStore.TheVariants.{InOrder, Shuffled}
 use Rattle.aig_reader.specs.Gates.{IsHeld, IsNeverCompact, is_in_order, literals_of}
+use Rattle.aig_format.proofs.Rules.{definable_told}
 
 -- ---- numbers that rise
 
@@ -81,8 +82,9 @@ module _ (greatest : ℕ) (leaves : List ℕ) (before : List GateLine) (g : Gate
   pub well_founded_skipped : list_any is_here (leaves ++ literals_of gates) ≡ false → IsNeverCompact greatest leaves gates
   well_founded_skipped none = λ rest definable distinct exact.
       let front = rec_parts (IsDefinable greatest) leaves (literals_of (gates ++ rest)) definable in
-      let last = (rec_parts (IsDefinable greatest) (literals_of before) (g.lhs ∷ literals_of rest) (subst (AllByRecursion (IsDefinable greatest)) (following_gate rest) front.1)).1.0.2 in
-      by_test rest (are_in_order (gates ++ rest)) refl (all_there greatest _ definable distinct exact v some (omega (arith, below, last)))
+      let last = (rec_parts (IsDefinable greatest) (literals_of before) (g.lhs ∷ literals_of rest) (subst (AllByRecursion (IsDefinable greatest)) (following_gate rest) front.1)).1.0 in
+      let high = (definable_told greatest g.lhs last).2 in
+      by_test rest (are_in_order (gates ++ rest)) refl (all_there greatest _ definable distinct exact v some (omega (arith, below, high)))
     where
       by_test : (rest : List GateLine) (b : Bool) → are_in_order (gates ++ rest) ≡ b → list_any is_here (leaves ++ literals_of (gates ++ rest)) ≡ true → are_in_order (gates ++ rest) ≡ false
       by_test rest false is there = is

@@ -1,6 +1,6 @@
 -- Gates that wait for their places.
-use Rattle.std.proofs.Common.{◌≡◌, ℕ, ◌+◌, ◌<◌, ◌≤◌, List, [], ◌∷◌, ◌++◌, Option, length, map, take, drop, get_or, sym, ap, subst, ◌∙◌, append_assoc}
-use Rattle.std.proofs.lemmas.List.{append-nil, drop_more, map_more, map_push}
+use Rattle.std.proofs.Common.{◌≡◌, ℕ, ◌+◌, ◌<◌, ◌≤◌, List, [], ◌∷◌, ◌++◌, Option, map, take, sym, ap, subst, ◌∙◌, append_assoc}
+use Rattle.std.proofs.lemmas.List.{append-nil, map_push}
 use Rattle.aig_circuit.specs.declared.node.AigNode.{AigNode}
 use Rattle.aig_format.specs.File.{GateLine}
 use Rattle.aig_reader.specs.declared.table.PendingGate.{PendingGate}
@@ -21,16 +21,6 @@ module _ (front : List GateLine) (pending : List PendingGate) where
   -- the gates that are in their places once so many no longer wait
   abbrev pub placed : ℕ → List GateLine
   placed i = front ++ lines_of (take i pending)
-
-  pub placed_more : (i : ℕ) (d : PendingGate) → i < length pending → placed i ++ line_of (get_or pending i d).lhs (get_or pending i d).operands ∷ [] ≡ placed (i + 1)
-  placed_more i d h = append_assoc front (lines_of (take i pending)) _ ∙ ap (λ (gs : List GateLine). front ++ gs) (sym (map_more (λ (l : PendingGate). line_of l.lhs l.operands) pending i d h))
-
-  -- the next one is new after them, and so are the others after it
-  pub next_new : (i : ℕ) (d : PendingGate) → i < length pending → AreNew (placed i) (lines_of (drop i pending))
-      → ((2 ≤ (get_or pending i d).lhs) × IsNewAmong (literals_of (placed i)) (get_or pending i d).lhs) × AreNew (placed (i + 1)) (lines_of (drop (i + 1) pending))
-  next_new i d h new =
-      let next = subst (λ (ls : List PendingGate). AreNew (placed i) (lines_of ls)) (drop_more pending i d h) new in
-      (next.0, subst (λ (gs : List GateLine). AreNew gs (lines_of (drop (i + 1) pending))) (placed_more i d h) next.1)
 
 -- in the table of nodes all gates are in their places
 pub none_waits : (gates : List GateLine) (nodes : List AigNode) (table : Table) → AreFirstNodes gates nodes → table.entries.items ≡ map (λ node. gate_in node.typ) nodes → table.pending.items ≡ [] → HoldsPending gates table

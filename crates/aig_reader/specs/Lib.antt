@@ -2,7 +2,6 @@ pub mod Bits
 pub mod Faults
 pub mod Reading
 pub mod Variables
-pub mod ParseEntry
 pub mod Gates
 pub mod Properties
 pub mod Sections

@@ -1,14 +1,12 @@
 -- Serves private clauses alone.
 -- Outputs and properties.
-use Rattle.std.specs.Prelude.{◌≡◌, map}
-use Rattle.aig_parsing.specs.Parse.{PropertyParts}
-use Rattle.aig_reader.specs.declared.properties.Properties.{Properties}
+use Rattle.std.specs.Prelude.{◌≡◌, ℕ}
+use Rattle.aig_circuit.specs.declared.edge.AigEdge.{AigEdge}
+use Rattle.aig_circuit.specs.declared.properties.Properties.{Properties as PropertyVecs}
+use Rattle.aig_circuit.specs.Properties.{Properties, map_properties}
+use Rattle.aig_circuit.specs.View.{properties_of}
 use Rattle.aig_ordering.specs.Lists.{edge_from}
 
 -- the edges were made of these literals
-pub record ArePropertiesOf (properties : Properties) (x : PropertyParts) : Type 0 where
-  pub outputs : properties.outputs.items ≡ map edge_from x.outputs
-  pub bads : properties.bads.items ≡ map edge_from x.bads
-  pub constraints : properties.constraints.items ≡ map edge_from x.constraints
-  pub justice : map (λ set. set.items) properties.justice.items ≡ map (map edge_from) x.justice
-  pub fairness : properties.fairness.items ≡ map edge_from x.fairness
+abbrev pub ArePropertiesOf : PropertyVecs AigEdge → Properties ℕ → Type 0
+ArePropertiesOf edges literals = properties_of edges ≡ map_properties edge_from literals

@@ -5,11 +5,12 @@ use Rattle.std.specs.List.{AllByRecursion, IsDistinct}
 use Rattle.std.specs.Ordering.{nat_cmp}
 use Rattle.std.specs.FinMap.{FinMap}
 use Rattle.aig_circuit.specs.Circuit.{Circuit}
+use Rattle.aig_circuit.specs.View.{properties_of}
 use Rattle.aig_format.specs.declared.FileKind.TheVariants.{Binary}
 use Rattle.aig_format.specs.File.{File, defined, used}
-use Rattle.aig_format.specs.Fits.{IsDefinable}
+use Rattle.aig_format.specs.Fits.{IsDefinable, AllPass, is_literal}
 use Rattle.aig_format.specs.Numbering.{is_compact}
-use Rattle.aig_parsing.specs.Parse.{Parts, file_from, property_parts}
+use Rattle.aig_parsing.specs.Parse.{Parts, file_from}
 use Rattle.aig_lexer.specs.declared.header.Header.{Header}
 use Rattle.aig_lexer.specs.Header.{numbers_of}
 use Rattle.aig_ordering.specs.Lists.{latch_of_line, variable_of_literal}
@@ -28,7 +29,7 @@ file_by header x = file_from ((header.kind, numbers_of header), x) []
 pub record AreListsByVariable (lists : Lists) (f : File) : Type 0 where
   pub inputs : lists.inputs.items ≡ map variable_of_literal f.inputs
   pub latchs : lists.latchs.items ≡ map latch_of_line f.latches
-  pub properties : ArePropertiesOf lists.properties (property_parts f)
+  pub properties : ArePropertiesOf lists.properties f.properties
 
 -- what the lines of sections tell of their file: literals are defined once and are those of its
 -- variables, and binary files are compact
@@ -36,7 +37,7 @@ pub record HasGoodLines (f : File) : Type 0 where
   pub definable : AllByRecursion (IsDefinable f.greatest) (defined f)
   pub distinct : IsDistinct nat_eq (defined f)
   pub enough : length (defined f) ≤ f.greatest
-  pub in_range : AllByRecursion (λ e. e ≤ 2 * f.greatest + 1) (used f)
+  pub in_range : AllPass (is_literal f.greatest) (used f)
   pub binary : f.kind ≡ Binary → is_compact f ≡ true
 
 -- the lines of the file's sections were read: lists and gates by variable, what is defined, and
@@ -58,10 +59,6 @@ circuit_with s names = record {
   nodes = s.nodes.items;
   inputs = s.lists.inputs.items;
   latchs = s.lists.latchs.items;
-  outputs = s.lists.properties.outputs.items;
-  bads = s.lists.properties.bads.items;
-  constraints = s.lists.properties.constraints.items;
-  justice = map (λ set. set.items) s.lists.properties.justice.items;
-  fairness = s.lists.properties.fairness.items;
+  properties = properties_of s.lists.properties;
   names = names;
 }

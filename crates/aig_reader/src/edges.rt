@@ -1,7 +1,8 @@
 //! Edges, and lines of one edge each.
 
 ghost use Rattle.std.specs.Prelude.{◌≡◌, [], map, true, IfErr, IsErrOf};
-ghost use Rattle.aig_parsing.specs.ParseTested.{is_literal, parse_literals};
+ghost use Rattle.aig_format.specs.Fits.{is_literal};
+ghost use Rattle.aig_parsing.specs.ParseTested.{parse_literals};
 ghost use Rattle.aig_parsing.specs.Parse.{parse_ended, parse_if};
 ghost use Rattle.aig_lexer.specs.Takes.{Makes};
 ghost use Rattle.aig_reader.specs.Faults.{LineUnlessTransient};

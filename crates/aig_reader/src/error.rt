@@ -173,7 +173,7 @@ impl Section {
         }
     }
 
-    /// What a list of this section gave under the numbers of its variables.
+    /// What this section gave under the numbers of its variables.
     pub(crate) fn numbered<T>(self, lists: Result<T, OrderError>) -> Result<T, ReadError>
         ensures { result ≡ result_by (order_error_in self) lists }
     {

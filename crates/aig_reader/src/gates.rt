@@ -1,16 +1,16 @@
 //! Gates: in a text file a line each, in a binary file two differences each.
 
-ghost use Rattle.std.specs.Prelude.{◌≡◌, ℕ, ◌+◌, ◌^◌, ◌<◌, ◌≤◌, [], ◌∷◌, ◌++◌, List, length, true, IfOk, IsErrOf};
-ghost use Rattle.aig_parsing.specs.ParseTested.{parse_fitting_gates};
+ghost use Rattle.std.specs.Prelude.{◌≡◌, ℕ, ◌+◌, ◌^◌, ◌<◌, ◌≤◌, [], ◌∷◌, ◌++◌, List, true, IfOk, IsErrOf};
+ghost use Rattle.aig_parsing.specs.ParseTested.{may_use, parse_fitting_gates, parse_gate_entry};
 ghost use Rattle.aig_format.specs.declared.FileKind.TheVariants.{Binary};
 ghost use Rattle.aig_format.specs.File.{GateLine};
 ghost use Rattle.aig_lexer.specs.Faults.{LexUnlessTransient};
 ghost use Rattle.aig_lexer.specs.Header.{numbers_of};
 ghost use Rattle.aig_lexer.specs.Takes.{Gives, Makes};
-ghost use Rattle.aig_reader.specs.ParseEntry.{parse_gate_entry, may_use, parse_operands};
 ghost use Rattle.aig_reader.specs.Faults.{LineUnlessTransient};
 ghost use Rattle.aig_reader.specs.Gates.{AreGates, HasSpace, line_of};
 ghost use Rattle.aig_reader.specs.Variables.{AreDefined, HasRoom, file_kind};
+ghost use Rattle.aig_parsing.specs.Parse.{parse_operands};
 
 use crate::error::LineError;
 use crate::gate_store::GateStore;
@@ -111,8 +111,7 @@ pub fn read_gates<F: ByteFeed>(
     requires few { header.greatest < 2 ^ 31 }
     requires room { HasRoom (header.greatest + 1) variables.old header.gates }
     requires defined { (leaves : List ℕ) × AreDefined header.greatest variables.old leaves }
-    ensures exact { (leaves : List ℕ) → length leaves ≡ header.inputs + header.latches
-        → AreDefined header.greatest variables.old leaves
+    ensures exact { (leaves : List ℕ) → AreDefined header.greatest variables.old leaves
         → Makes LineUnlessTransient
         (λ held gates. AreGates header.greatest leaves gates variables.new held)
         (F.coming f.old) (F.coming f.new) result

@@ -1,8 +1,9 @@
 //! The header line.
 
 ghost use Rattle.std.specs.Prelude.{◌≡◌, ◌+◌, ◌≤◌, ◌↔◌, true, IfOk, IfSome, IsErrOf};
+ghost use Rattle.aig_format.specs.Fits.{has_enough};
 ghost use Rattle.aig_parsing.specs.ParseTested.{parse_fitting_header};
-ghost use Rattle.aig_parsing.specs.Parse.{is_good, too_many_at};
+ghost use Rattle.aig_parsing.specs.Parse.{too_many_at};
 ghost use Rattle.aig_lexer.specs.Header.{numbers_of};
 ghost use Rattle.aig_lexer.specs.Takes.{Gives};
 ghost use Rattle.aig_reader.specs.Faults.{ReadUnlessTransient};
@@ -13,8 +14,8 @@ use aig_lexer::{ByteFeed, FileKind, Header, header_line};
 
 /// Whether the greatest variable is great enough for all that are defined: a text file may leave variables out, a binary
 /// file has none but those.
-fn has_enough(header: Header) -> bool
-    ensures good { result ≡ is_good header.kind (numbers_of header) }
+fn is_great_enough(header: Header) -> bool
+    ensures good { result ≡ has_enough header.kind (numbers_of header) }
     ensures enough { result ≡ true
         → header.inputs + header.latches + header.gates ≤ header.greatest }
 {
@@ -32,14 +33,14 @@ pub fn read_header<F: ByteFeed>(f: &mut F, limit: usize) -> Result<Header, ReadE
     ensures too_many { IfSome (F.coming f.old) (λ bytes. UnlessTransient result
         (IsErrOf result ReadError.TooMany ↔ (too_many_at limit bytes ≡ true))) }
     ensures within { IfOk result (λ h. h.greatest + 1 ≤ limit) }
-    ensures good { IfOk result (λ h. is_good h.kind (numbers_of h) ≡ true) }
+    ensures good { IfOk result (λ h. has_enough h.kind (numbers_of h) ≡ true) }
     ensures enough { IfOk result (λ h. h.inputs + h.latches + h.gates ≤ h.greatest) }
     ensures stream { IsErrOf result ReadError.Stream → F.failed f.new ≡ true }
     ensures never_open { IsErrOf result ReadError.Open → ⊥ }
     ensures same { F.source_name f.new ≡ F.source_name f.old }
 {
     let header = header_line(f).map_err(in_header)?;
-    if !has_enough(header) {
+    if !is_great_enough(header) {
         return Err(ReadError::Header);
     }
     if header.greatest as usize >= limit {

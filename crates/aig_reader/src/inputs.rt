@@ -1,10 +1,9 @@
 //! Inputs: in a text file a line each, in a binary file the first variables.
 
 ghost use Rattle.std.specs.Prelude.{◌≡◌, ℕ, ◌+◌, ◌^◌, ◌<◌, ◌≤◌, List, [], ◌∷◌, ◌++◌, map, true, vec_len, IfOk, IsErrOf};
-ghost use Rattle.aig_parsing.specs.ParseTested.{parse_fitting_inputs};
+ghost use Rattle.aig_parsing.specs.ParseTested.{parse_fitting_inputs, parse_input_entry};
 ghost use Rattle.aig_lexer.specs.Header.{numbers_of};
 ghost use Rattle.aig_lexer.specs.Takes.{Makes};
-ghost use Rattle.aig_reader.specs.ParseEntry.{parse_input_entry};
 ghost use Rattle.aig_reader.specs.Faults.{LineUnlessTransient};
 ghost use Rattle.aig_ordering.specs.Lists.{variable_of_literal};
 ghost use Rattle.aig_reader.specs.Variables.{AreDefined, HasRoom, file_kind};

@@ -1,12 +1,12 @@
 //! Latches, a line each.
 
-ghost use Rattle.std.specs.Prelude.{◌≡◌, ℕ, ◌+◌, ◌^◌, ◌<◌, ◌≤◌, List, Option, [], ◌∷◌, ◌++◌, map, length, true, vec_len, IfErr, IfOk, IsErrOf};
-ghost use Rattle.aig_parsing.specs.ParseTested.{parse_fitting_latches, is_reset};
+ghost use Rattle.std.specs.Prelude.{◌≡◌, ℕ, ◌+◌, ◌^◌, ◌<◌, ◌≤◌, List, Option, [], ◌∷◌, ◌++◌, map, true, vec_len, IfErr, IfOk, IsErrOf};
+ghost use Rattle.aig_format.specs.Fits.{is_reset};
+ghost use Rattle.aig_parsing.specs.ParseTested.{parse_fitting_latches, parse_latch_entry};
 ghost use Rattle.aig_format.specs.Circuit.{initial_of};
 ghost use Rattle.aig_format.specs.File.{LatchLine};
 ghost use Rattle.aig_lexer.specs.Header.{numbers_of};
 ghost use Rattle.aig_lexer.specs.Takes.{Makes};
-ghost use Rattle.aig_reader.specs.ParseEntry.{parse_latch_entry};
 ghost use Rattle.aig_reader.specs.Faults.{LineUnlessTransient};
 ghost use Rattle.aig_ordering.specs.Lists.{latch_of_line};
 ghost use Rattle.aig_reader.specs.Variables.{AreDefined, HasRoom, Tested, file_kind};
@@ -72,8 +72,7 @@ pub fn read_latches<F: ByteFeed>(
 ) -> Result<Vec<AigLatch>, LineError>
     requires few { header.greatest < 2 ^ 31 }
     requires room { HasRoom (header.greatest + 1) variables.old header.latches }
-    ensures exact { (inputs : List ℕ) → length inputs ≡ header.inputs
-        → AreDefined header.greatest variables.old inputs
+    ensures exact { (inputs : List ℕ) → AreDefined header.greatest variables.old inputs
         → Makes LineUnlessTransient (λ latchs lines. (latchs.items ≡ map latch_of_line lines)
         × AreDefined header.greatest variables.new (inputs ++ map (λ l. l.literal) lines))
         (F.coming f.old) (F.coming f.new) result

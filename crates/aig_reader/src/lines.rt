@@ -2,7 +2,7 @@
 
 ghost use Rattle.std.specs.Prelude.{◌≡◌, ◌+◌, ◌^◌, ◌<◌, ◌≤◌, ◌==◌, true, IfErr, IsErrOf};
 ghost use Rattle.aig_parsing.specs.ParseTested.{parse_section_lines};
-ghost use Rattle.aig_parsing.specs.Parse.{is_good};
+ghost use Rattle.aig_format.specs.Fits.{has_enough};
 ghost use Rattle.aig_lexer.specs.Header.{numbers_of};
 ghost use Rattle.aig_lexer.specs.Takes.{Makes};
 ghost use Rattle.aig_reader.specs.Faults.{IsSectionFault, ReadUnlessTransient};
@@ -45,7 +45,7 @@ fn is_complete(header: Header) -> bool
 /// Reads the lines of the sections after the header line.
 pub fn read_lines<F: ByteFeed>(alloc: Global, f: &mut F, header: Header) -> Result<Lines, ReadError>
     requires few { header.greatest < 2 ^ 31 }
-    requires good { is_good header.kind (numbers_of header) ≡ true }
+    requires good { has_enough header.kind (numbers_of header) ≡ true }
     requires enough { header.inputs + header.latches + header.gates ≤ header.greatest }
     ensures exact { Makes ReadUnlessTransient (λ lines x. AreLinesOf (file_by header x) lines)
         (F.coming f.old) (F.coming f.new) result

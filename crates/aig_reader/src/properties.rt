@@ -10,31 +10,16 @@ ghost use Rattle.aig_reader.specs.Properties.{ArePropertiesOf};
 use crate::edges::read_edges;
 use crate::error::{ReadError, Section};
 use crate::justice::{read_sets, read_sizes};
-use aig_circuit::AigEdge;
+use aig_circuit::{AigEdge, Properties};
 use aig_lexer::{ByteFeed, Header};
 use std::alloc::Global;
-
-/// The edges of outputs and properties, each list in the file's order.
-#[derive(Drop)]
-pub struct Properties {
-    /// The outputs.
-    pub outputs: Vec<AigEdge>,
-    /// The bad state properties.
-    pub bads: Vec<AigEdge>,
-    /// The invariant constraints.
-    pub constraints: Vec<AigEdge>,
-    /// The justice properties, a set each.
-    pub justice: Vec<Vec<AigEdge>>,
-    /// The fairness constraints.
-    pub fairness: Vec<AigEdge>,
-}
 
 /// Reads outputs, bads, constraints, justice sets and fairness.
 pub fn read_properties<F: ByteFeed>(
     alloc: Global,
     f: &mut F,
     header: Header,
-) -> Result<Properties, ReadError>
+) -> Result<Properties<AigEdge>, ReadError>
     ensures exact { Makes ReadUnlessTransient ArePropertiesOf
         (F.coming f.old) (F.coming f.new) result (parse_fitting_properties (numbers_of header)) }
     ensures fault { IfErr result IsSectionFault }

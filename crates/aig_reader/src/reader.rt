@@ -3,8 +3,7 @@
 ghost use Rattle.std.specs.Prelude.{◌≡◌, ◌+◌, ◌^◌, ◌<◌, ◌≤◌, true, false, IfErr, IfOk, IfSome, IsErrOf, IsTrue, OnOk, vec_len};
 ghost use Rattle.std.specs.Io.KnownBytes.{IsAtEnd};
 ghost use Rattle.aig_parsing.specs.ParseTested.{parse_fitting_sections};
-ghost use Rattle.aig_parsing.specs.Parse.{is_good};
-ghost use Rattle.aig_format.specs.Fits.{Accepts};
+ghost use Rattle.aig_format.specs.Fits.{Accepts, has_enough};
 ghost use Rattle.aig_lexer.specs.Header.{numbers_of};
 ghost use Rattle.aig_lexer.specs.Takes.{Makes};
 ghost use Rattle.aig_reader.specs.Faults.{IsSectionFault, ReadUnlessTransient};
@@ -73,7 +72,7 @@ fn read_sections<F: ByteFeed>(
     header: Header,
 ) -> Result<Sections, ReadError>
     requires few { header.greatest < 2 ^ 31 }
-    requires good { is_good header.kind (numbers_of header) ≡ true }
+    requires good { has_enough header.kind (numbers_of header) ≡ true }
     requires enough { header.inputs + header.latches + header.gates ≤ header.greatest }
     ensures exact { Makes ReadUnlessTransient
         (λ sections x. IsCircuitOf (file_by header x) sections)

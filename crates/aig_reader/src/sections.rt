@@ -4,8 +4,7 @@ ghost use Rattle.std.specs.Prelude.{◌≡◌};
 ghost use Rattle.aig_circuit.specs.View.{lists_circuit, names_of};
 ghost use Rattle.aig_reader.specs.Sections.{circuit_with};
 
-use crate::properties::Properties;
-use aig_circuit::{AigLatch, AigNode, CircuitLists};
+use aig_circuit::{AigEdge, AigLatch, AigNode, CircuitLists, Properties};
 use std::collections::HashMap;
 
 /// The lists of a file's sections.
@@ -16,7 +15,7 @@ pub struct Lists {
     /// The latches, in the file's order.
     pub latchs: Vec<AigLatch>,
     /// The property lists.
-    pub properties: Properties,
+    pub properties: Properties<AigEdge>,
 }
 
 /// What the sections of a file give: nodes, and lists that name them.
@@ -39,22 +38,11 @@ impl Sections {
             latchs,
             properties,
         } = lists;
-        let Properties {
-            outputs,
-            bads,
-            constraints,
-            justice,
-            fairness,
-        } = properties;
         CircuitLists {
             nodes,
             inputs,
             latchs,
-            outputs,
-            bads,
-            constraints,
-            justice,
-            fairness,
+            properties,
             names,
         }
     }

@@ -1,14 +1,14 @@
 //! The variables of a file.
 
 ghost use Rattle.std.specs.Prelude.{◌≡◌, ℕ, ◌+◌, ◌/◌, ◌^◌, ◌<◌, ◌≤◌, List, [], ◌∷◌, ◌++◌, IfErr, IfOk, IsErrOf, MatchOption, OnOk, false, true, vec_len};
-ghost use Rattle.aig_parsing.specs.ParseTested.{defines};
+ghost use Rattle.aig_parsing.specs.ParseTested.{defines, may_define};
 ghost use Rattle.aig_lexer.specs.Faults.{LexUnlessTransient};
 ghost use Rattle.aig_lexer.specs.Takes.{Gives};
 ghost use Rattle.aig_format.specs.File.{File, defined};
 ghost use Rattle.aig_ordering.specs.Tables.{AreKnownOf};
 ghost use Rattle.aig_reader.specs.Bits.{bit_is_set};
-ghost use Rattle.aig_reader.specs.ParseEntry.{may_define, parse_own};
 ghost use Rattle.aig_reader.specs.Variables.{AreDefined, AreMarks, HasRoom, IsLiteralFault, IsNewAmong, IsNext, IsOwn, Tested, is_marked, file_kind};
+ghost use Rattle.aig_parsing.specs.Parse.{parse_own};
 
 use crate::bits::{has_bit, set_bit};
 use crate::error::LineError;
@@ -123,6 +123,7 @@ impl DefinedVariables {
     }
 
     /// Defines the variable of a literal, that of the next entry: it is even, is not that of variable 0, and is not defined yet.
+    #[inline(always)]
     pub fn define(&mut self, literal: u32) -> Result<usize, LineError>
         requires { IsNext self.old literal }
         ensures exact { (greatest : ℕ) (before : List ℕ) → AreDefined greatest self.old before

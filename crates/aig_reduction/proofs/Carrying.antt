@@ -52,16 +52,16 @@ module _ (c d : Circuit) (k : ℕ) (x y : ℕ → ℕ → Bool) (properties : (t
   witness_forth is start w = record {
     is_run = is;
     start = start;
-    constraints = λ t h. all_forth c.nodes d.nodes (x t) (y t) c.constraints d.constraints (properties t).constraints (w.constraints t h);
-    bad = sym (any_same c.nodes d.nodes (x k) (y k) c.bads d.bads (properties k).bads) ∙ w.bad;
+    constraints = λ t h. all_forth c.nodes d.nodes (x t) (y t) c.properties.constraints d.properties.constraints (properties t).constraints (w.constraints t h);
+    bad = sym (any_same c.nodes d.nodes (x k) (y k) c.properties.bads d.properties.bads (properties k).bads) ∙ w.bad;
   }
 
   pub witness_back : IsRun c k x → IsInitial c (x 0) → IsCircuitWitness d k y → IsCircuitWitness c k x
   witness_back is start w = record {
     is_run = is;
     start = start;
-    constraints = λ t h. all_back c.nodes d.nodes (x t) (y t) c.constraints d.constraints (properties t).constraints (w.constraints t h);
-    bad = any_same c.nodes d.nodes (x k) (y k) c.bads d.bads (properties k).bads ∙ w.bad;
+    constraints = λ t h. all_back c.nodes d.nodes (x t) (y t) c.properties.constraints d.properties.constraints (properties t).constraints (w.constraints t h);
+    bad = any_same c.nodes d.nodes (x k) (y k) c.properties.bads d.properties.bads (properties k).bads ∙ w.bad;
   }
 
 -- ---- leaves
@@ -88,6 +88,6 @@ module _ (c : Circuit) (is : IsCircuit c) (k : ℕ) (x z : ℕ → ℕ → Bool)
     start = λ i d lt.
         let latch = get_or c.latchs i d in
         init_same latch.input latch.init (agree 0 latch.input (omega arith) (is.latchs i d lt).leaf) (w.start i d lt);
-    constraints = λ t h i d lt. sym (same_at t h (get_or c.constraints i d)) ∙ w.constraints t h i d lt;
-    bad = sym (any_alike k (omega arith) c.bads) ∙ w.bad;
+    constraints = λ t h i d lt. sym (same_at t h (get_or c.properties.constraints i d)) ∙ w.constraints t h i d lt;
+    bad = sym (any_alike k (omega arith) c.properties.bads) ∙ w.bad;
   }

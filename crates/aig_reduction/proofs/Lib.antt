@@ -3,3 +3,4 @@ pub mod Witnesses
 mod Sizes
 mod Reducing
 mod Alone
+mod Examples

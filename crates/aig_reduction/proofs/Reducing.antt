@@ -26,7 +26,7 @@ module _ (old mid : Circuit) (numbers : FinMap nat_cmp ℕ) (is : IsCircuit (ask
         witnesses = both_witnesses old mid new first (renumbered_witnesses mid new (image_of mid.nodes) is_mid keeps);
         nodes = subst (λ (d : Circuit). length d.nodes ≤ length old.nodes) (sym exact) (reduced_few old kept is refines.are_kept);
         latchs = ap (λ (d : Circuit). length d.latchs) exact ∙ reduced_latchs old kept;
-        bads = ap (λ (d : Circuit). length d.bads) exact ∙ reduced_bads old kept;
+        bads = ap (λ (d : Circuit). length d.properties.bads) exact ∙ reduced_bads old kept;
       }
 
   pub reduces_if : {E : Type 0} (r : Result Circuit E) → IfOk r (λ made. made ≡ strashed mid) → IfOk r (λ made. KeepsRuns mid made (image_of mid.nodes)) → IfOk r (IsReduced old)

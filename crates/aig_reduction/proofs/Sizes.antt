@@ -5,7 +5,7 @@ use Rattle.std.proofs.lemmas.List.Filters.{length-filter_both}
 use Rattle.aig_circuit.specs.declared.node.AigNode.{AigNode}
 use Rattle.aig_circuit.specs.Circuit.{Circuit, IsCircuit}
 use Rattle.aig_circuit.specs.Renumber.{position_of, renumbered_edge, renumbered_latch}
-use Rattle.aig_renumber.proofs.Numbering.{length-nodes_in_order}
+use Rattle.aig_renumber.proofs.NodesInOrder.{length-nodes_in_order}
 use Rattle.aig_cone.specs.Refine.{AreKept, refined}
 use Rattle.aig_cone.proofs.Keeping.{kept-few}
 use Rattle.aig_strash.specs.Exchange.{image_of, is_representative, kept_nodes, node_numbers}
@@ -25,5 +25,5 @@ reduced_few c kept is are =
 pub reduced_latchs : (c : Circuit) (kept : List ℕ) → length (strashed (refined kept (asked_alone c))).latchs ≡ length c.latchs
 reduced_latchs c kept = let d = refined kept (asked_alone c) in length-map d.latchs (renumbered_latch (image_of d.nodes)) ∙ length-map c.latchs (renumbered_latch (position_of kept))
 
-pub reduced_bads : (c : Circuit) (kept : List ℕ) → length (strashed (refined kept (asked_alone c))).bads ≡ length c.bads
-reduced_bads c kept = let d = refined kept (asked_alone c) in length-map d.bads (renumbered_edge (image_of d.nodes)) ∙ length-map c.bads (renumbered_edge (position_of kept))
+pub reduced_bads : (c : Circuit) (kept : List ℕ) → length (strashed (refined kept (asked_alone c))).properties.bads ≡ length c.properties.bads
+reduced_bads c kept = let d = refined kept (asked_alone c) in length-map d.properties.bads (renumbered_edge (image_of d.nodes)) ∙ length-map c.properties.bads (renumbered_edge (position_of kept))

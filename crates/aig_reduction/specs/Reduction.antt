@@ -13,7 +13,8 @@ HaveSameWitnesses c d = (k : ℕ) → HasCircuitWitness c k ↔ HasCircuitWitnes
 
 -- the circuit with its bad edges and constraints as the only properties
 abbrev pub asked_alone : Circuit → Circuit
-asked_alone c = record c { outputs = []; justice = []; fairness = [] }
+asked_alone c =
+    record c { properties = record c.properties { outputs = []; justice = []; fairness = [] } }
 
 -- The circuit of what the bad edges, the constraints, the latches and the initial edges that aren't
 -- constant reach, in which gates share a node exactly where their trees are equal up to exchange.
@@ -26,4 +27,4 @@ pub record IsReduced (old new : Circuit) : Type 0 where
   -- it has no more nodes, and as many latches and bad edges
   pub nodes : length new.nodes ≤ length old.nodes
   pub latchs : length new.latchs ≡ length old.latchs
-  pub bads : length new.bads ≡ length old.bads
+  pub bads : length new.properties.bads ≡ length old.properties.bads

@@ -1,5 +1,5 @@
 -- Two functions that agree on every number of a circuit renumber it alike.
-use Rattle.std.proofs.Common.{◌≡◌, ℕ, suc, ◌+◌, Option, Some, None, List, [], ◌∷◌, map, get_or, refl, ap, ◌∙◌, arith}
+use Rattle.std.proofs.Common.{◌≡◌, ℕ, suc, ◌+◌, Option, Some, None, List, [], ◌∷◌, get_or, refl, ap, ◌∙◌, arith}
 use Rattle.std.specs.Prelude.{All, IfSome, option_map}
 use Rattle.std.specs.FinMap.{entries, from_entries}
 use Rattle.aig_circuit.specs.declared.edge.AigEdge.{AigEdge}
@@ -12,15 +12,13 @@ use Rattle.aig_circuit.specs.Node.{kind_at, and_of}
 use Rattle.aig_circuit.specs.Circuit.{Circuit}
 use Rattle.aig_circuit.specs.Renumber.{nodes_in_order, renumbered_circuit, renumbered_edge, renumbered_kind, renumbered_latch}
 use Rattle.aig_renumber.specs.Numbers.{IsEdgeIn, IsLatchIn, SpeaksOf}
-use Rattle.aig_renumber.proofs.Places.{map-agrees}
+use Rattle.aig_circuit.proofs.Listed.{AllProperties-weaker, map_properties-agree}
+use Rattle.aig_circuit.proofs.Lists.{map-agrees}
 use Rattle.aig_renumber.proofs.Names.{names_in_circuit}
 
 module _ (S : ℕ → Type 0) (f g : ℕ → ℕ) (agree : (n : ℕ) → S n → f n ≡ g n) where
   edge-agrees : (e : AigEdge) → IsEdgeIn S e → renumbered_edge f e ≡ renumbered_edge g e
   edge-agrees e s = ap (λ n. edge_to n e.compl) (agree e.node_id s)
-
-  edges-agree : (es : List AigEdge) → All (IsEdgeIn S) es → map (renumbered_edge f) es ≡ map (renumbered_edge g) es
-  edges-agree es all = map-agrees (renumbered_edge f) (renumbered_edge g) es (λ k d h. edge-agrees (get_or es k d) (all k d h))
 
   init-agrees : (o : Option AigEdge) → IfSome o (IsEdgeIn S) → option_map (renumbered_edge f) o ≡ option_map (renumbered_edge g) o
   init-agrees (Some e) s = ap Some (edge-agrees e s)
@@ -55,14 +53,10 @@ module _ (S : ℕ → Type 0) (f g : ℕ → ℕ) (agree : (n : ℕ) → S n →
       let a = nodes-agree c.nodes P operands 0 ns all in
       let b = map-agrees f g c.inputs (λ k d h. agree (get_or c.inputs k d) (speaks.inputs k d h)) in
       let l = map-agrees (renumbered_latch f) (renumbered_latch g) c.latchs (λ k d h. latch-agrees (get_or c.latchs k d) (speaks.latchs k d h)) in
-      let o = edges-agree c.outputs speaks.outputs in
-      let p = edges-agree c.bads speaks.bads in
-      let q = edges-agree c.constraints speaks.constraints in
-      let r = map-agrees (map (renumbered_edge f)) (map (renumbered_edge g)) c.justice (λ k d h. edges-agree (get_or c.justice k d) (speaks.justice k d h)) in
-      let s = edges-agree c.fairness speaks.fairness in
+      let p = map_properties-agree (renumbered_edge f) (renumbered_edge g) c.properties (AllProperties-weaker (IsEdgeIn S) (λ e. renumbered_edge f e ≡ renumbered_edge g e) edge-agrees c.properties speaks.properties) in
       let named = map-agrees (λ (e : ℕ × List ℕ). (f e.0, e.1)) (λ (e : ℕ × List ℕ). (g e.0, e.1)) (entries c.names) (λ k d h. ap (λ n. (n, (get_or (entries c.names) k d).1)) (agree (get_or (entries c.names) k d).0 (names_in_circuit S c.names speaks.named k d h))) in
       let t = ap from_entries named in
-      λ i. record { nodes = a i; inputs = b i; latchs = l i; outputs = o i; bads = p i; constraints = q i; justice = r i; fairness = s i; names = t i }
+      λ i. record { nodes = a i; inputs = b i; latchs = l i; properties = p i; names = t i }
 
   -- so they are where the operands of every gate are in S
   pub circuits-agree : (c : Circuit) (ns : List ℕ) → SpeaksOf S c → ((n : ℕ) (a b : AigEdge) → kind_at c.nodes n ≡ Some (And a b) → S a.node_id × S b.node_id) → renumbered_circuit f ns c ≡ renumbered_circuit g ns c

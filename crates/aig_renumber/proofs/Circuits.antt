@@ -15,9 +15,11 @@ use Rattle.aig_circuit.specs.Runs.{AreAsLong, HaveSameProperties, HaveSameValues
 use Rattle.aig_circuit.specs.Renumber.{nodes_in_order, renumbered_circuit, renumbered_edge, renumbered_latch}
 use Rattle.aig_circuit.proofs.Trees.{kind_at-within}
 use Rattle.aig_renumber.specs.Numbers.{IsEdgeIn, IsLatchIn, SpeaksOf}
-use Rattle.aig_renumber.proofs.Places.{AllPairs-map_numbers, AllZip-map, All-from_map, Contains-map, Contains-map_back}
+use Rattle.aig_circuit.proofs.Listed.{AllProperties-always, AllProperties-map, AllProperties-weaker, AreProperties-map}
+use Rattle.aig_circuit.proofs.Lists.{AllZip-map, All-from_map}
+use Rattle.aig_renumber.proofs.Places.{AllPairs-map_numbers, Contains-map, Contains-map_back}
 use Rattle.aig_circuit.proofs.Values.{edge_value-renumbered}
-use Rattle.aig_renumber.proofs.Numbering.{Merges, length-nodes_in_order, within_made, leaves-apart, AreNodes-made, IsOrdered-made, IsLeaf-number, IsLeaf-back, Renumbers-made}
+use Rattle.aig_renumber.proofs.NodesInOrder.{Merges, length-nodes_in_order, within_made, leaves-apart, AreNodes-made, IsOrdered-made, IsLeaf-number, IsLeaf-back, Renumbers-made}
 use Rattle.aig_renumber.proofs.Names.{names_in_circuit, named_back}
 
 pub latch_leaves-map : (number : ℕ → ℕ) (latchs : List AigLatch) → latch_leaves (map (renumbered_latch number) latchs) ≡ map number (latch_leaves latchs)
@@ -56,11 +58,7 @@ AreAsLong-renumbered number ns c count = record {
   nodes = length-nodes_in_order c.nodes number 0 ns ∙ count;
   inputs = length-map c.inputs number;
   latchs = length-map c.latchs (renumbered_latch number);
-  outputs = length-map c.outputs (renumbered_edge number);
-  bads = length-map c.bads (renumbered_edge number);
-  constraints = length-map c.constraints (renumbered_edge number);
-  justice = AllZip-map (map (renumbered_edge number)) (λ es fs. length fs ≡ length es) c.justice (λ k d h. length-map (get_or c.justice k d) (renumbered_edge number));
-  fairness = length-map c.fairness (renumbered_edge number);
+  properties = AreProperties-map (renumbered_edge number) (λ e f. Unit {0}) c.properties (AllProperties-always c.properties);
 }
 
 module _ (c : Circuit) (S : ℕ → Type 0) (ns : List ℕ) (number : ℕ → ℕ) (merges : Merges c.nodes S ns number) (is : IsCircuit c) (speaks : SpeaksOf S c) where
@@ -69,9 +67,6 @@ module _ (c : Circuit) (S : ℕ → Type 0) (ns : List ℕ) (number : ℕ → �
 
   in_range : (e : AigEdge) → IsEdgeIn S e → IsInRange new (renumbered_edge number e)
   in_range e s = within_made c.nodes S ns number merges e.node_id s
-
-  edges_in_range : (es : List AigEdge) → All (IsEdgeIn S) es → All (IsInRange new) (map (renumbered_edge number) es)
-  edges_in_range es all = All-map (IsInRange new) (renumbered_edge number) es (All-weaker (IsEdgeIn S) (λ e. IsInRange new (renumbered_edge number e)) in_range es all)
 
   init_in_range : (o : Option AigEdge) → IfSome o (IsEdgeIn S) → IfSome (option_map (renumbered_edge number) o) (IsInRange new)
   init_in_range (Some e) s = in_range e s
@@ -115,11 +110,7 @@ module _ (c : Circuit) (S : ℕ → Type 0) (ns : List ℕ) (number : ℕ → �
     latchs = latchs_are;
     latchs_distinct = subst (AllPairs (λ m n. m ≢ n)) (sym (latch_leaves-map number c.latchs)) (AllPairs-map_numbers LeafIn number (latch_leaves c.latchs) (leaves-apart c.nodes S ns number merges) leaves_in is.latchs_distinct);
     apart = subst (All (λ n. ¬ Contains (map number c.inputs) n)) (sym (latch_leaves-map number c.latchs)) leaves_apart;
-    outputs = edges_in_range c.outputs speaks.outputs;
-    bads = edges_in_range c.bads speaks.bads;
-    constraints = edges_in_range c.constraints speaks.constraints;
-    justice = All-map (All (IsInRange new)) (map (renumbered_edge number)) c.justice (λ k d h. edges_in_range (get_or c.justice k d) (speaks.justice k d h));
-    fairness = edges_in_range c.fairness speaks.fairness;
+    properties = AllProperties-map (IsInRange new) (renumbered_edge number) c.properties (AllProperties-weaker (IsEdgeIn S) (λ e. IsInRange new (renumbered_edge number e)) in_range c.properties speaks.properties);
     named = λ q has.
         let old = named_back S number (entries c.names) q (names_in_circuit S c.names speaks.named) has in
         subst (λ n. n < length new) old.2 (within_made c.nodes S ns number merges old.0 old.1);
@@ -169,13 +160,9 @@ module _ (c : Circuit) (S : ℕ → Type 0) (ns : List ℕ) (number : ℕ → �
   )
 
   pub properties-renumbered : (z : ℕ → Bool) → HaveSameProperties c (λ n. z (number n)) (renumbered_circuit number ns c) z
-  properties-renumbered z = record {
-    outputs = values z c.outputs speaks.outputs;
-    bads = values z c.bads speaks.bads;
-    constraints = values z c.constraints speaks.constraints;
-    justice = AllZip-map (map (renumbered_edge number)) (λ es fs. HaveSameValues c.nodes (λ n. z (number n)) es new z fs) c.justice (λ k d h. values z (get_or c.justice k d) (speaks.justice k d h));
-    fairness = values z c.fairness speaks.fairness;
-  }
+  properties-renumbered z =
+      let R : AigEdge → AigEdge → Type 0 = λ e f. edge_value c.nodes (λ n. z (number n)) e ≡ edge_value new z f in
+      AreProperties-map (renumbered_edge number) R c.properties (AllProperties-weaker (IsEdgeIn S) (λ e. R e (renumbered_edge number e)) (λ e h. sym (value z e h)) c.properties speaks.properties)
 
   pub next-renumbered : (z : ℕ → Bool) → HaveSameValues c.nodes (λ n. z (number n)) (next_edges c.latchs) new z (next_edges (map (renumbered_latch number) c.latchs))
   next-renumbered z = subst (HaveSameValues c.nodes (λ n. z (number n)) (next_edges c.latchs) new z) (sym (next_edges-map number c.latchs))
@@ -201,10 +188,6 @@ pub SpeaksOf-nodes : (c : Circuit) → IsCircuit c → SpeaksOf (λ n. n < lengt
 SpeaksOf-nodes c is = record {
   inputs = All-weaker (IsLeaf c.nodes) (λ n. n < length c.nodes) (λ n h. kind_at-within c.nodes n Leaf h) c.inputs is.inputs;
   latchs = All-weaker (IsLatch c.nodes) (IsLatchIn (λ n. n < length c.nodes)) (λ l h. record { leaf = kind_at-within c.nodes l.input Leaf h.leaf; next = h.next; init = h.init }) c.latchs is.latchs;
-  outputs = is.outputs;
-  bads = is.bads;
-  constraints = is.constraints;
-  justice = is.justice;
-  fairness = is.fairness;
+  properties = is.properties;
   named = is.named;
 }

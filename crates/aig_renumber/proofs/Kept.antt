@@ -1,5 +1,5 @@
 -- Which nodes are kept: those that stand in the list, at the places of their new numbers.
-use Rattle.std.proofs.Common.{◌≡◌, ℕ, suc, ◌<◌, Bool, true, false, eqb, List, [], ◌∷◌, length, get_or, refl, sym, ap, ◌∙◌, arith}
+use Rattle.std.proofs.Common.{◌≡◌, ℕ, suc, Bool, true, false, eqb, List, [], ◌∷◌, get_or, refl, sym, ap, ◌∙◌, arith}
 use Rattle.std.specs.Prelude.{Contains}
 use Rattle.std.proofs.lemmas.Bool.{eqb-true, eqb-false, eq-eqb, false≢true}
 use Rattle.std.proofs.lemmas.List.Folds.{list_any_at}
@@ -43,7 +43,3 @@ module _ (numbers kept : List ℕ) (has : HavePlaces numbers kept) where
           let at : get_or kept there.0 0 ≡ n = get_or_default kept there.0 0 n there.1 ∙ there.2 in
           let place : get_or numbers n 0 ≡ there.0 = ap (λ m. get_or numbers m 0) (sym at) ∙ has.places there.0 there.1 in
           ap (λ i. get_or kept i 0) place ∙ at
-
-  -- node 0 is the first kept node alone
-  pub false_first-kept : 0 < length kept → get_or kept 0 0 ≡ 0 → (i : ℕ) → i < length kept → get_or kept i 0 ≡ 0 → i ≡ 0
-  false_first-kept h first i l at = sym (has.places i l) ∙ ap (λ n. get_or numbers n 0) (at ∙ sym first) ∙ has.places 0 h

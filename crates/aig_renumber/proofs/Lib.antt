@@ -1,5 +1,5 @@
 pub mod Places
-pub mod Numbering
+pub mod NodesInOrder
 pub mod Names
 pub mod Kept
 pub mod Circuits

@@ -16,7 +16,7 @@ use Rattle.aig_base.proofs.Mapping.{same_test}
 use Rattle.aig_circuit.proofs.Names.{names_insert}
 use Rattle.aig_circuit.specs.Renumber.{renumbered_names}
 use Rattle.aig_renumber.specs.Numbers.{IsIndex}
-use Rattle.aig_renumber.proofs.Places.{All-from_map, map-same}
+use Rattle.aig_circuit.proofs.Lists.{All-from_map, map-same}
 
 -- entries of names, by their bytes
 abbrev pub Entries : Type 0

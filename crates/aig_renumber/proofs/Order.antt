@@ -20,7 +20,7 @@ use Rattle.aig_circuit.specs.Reencode.{gate_number, new_number, order_of}
 use Rattle.aig_circuit.proofs.Trees.{kind_at-there, kind_at-within}
 use Rattle.aig_circuit.proofs.Circuits.{AllPairs-append, AreLeaves-of_circuit}
 use Rattle.aig_renumber.proofs.Places.{AllPairs-weaker, position_of-within, get_or-position_of, position_of-get_or}
-use Rattle.aig_renumber.proofs.Numbering.{Numbers}
+use Rattle.aig_renumber.proofs.NodesInOrder.{Numbers}
 
 -- node n is a gate
 abbrev pub IsGate : List AigNode → ℕ → Type 0
@@ -164,10 +164,6 @@ module _ (c : Circuit) (is : IsCircuit c) where
         by_kind False at = (0, omega arith, sym (is.nodes.false_once n at))
         by_kind Leaf at = Contains-append_left (0 ∷ leaves) gates n (let there = closed n at in (suc there.0, omega (arith, there.1), there.2))
         by_kind (And a b) at = let e : 0 + n ≡ n = omega arith in Contains-append_right (0 ∷ leaves) gates n (subst (Contains gates) e (gates_complete 0 c.nodes numbered n (a, b, at)))
-
-    -- false is first alone
-    pub order-false : (i : ℕ) → i < length (order_of c) → get_or (order_of c) i 0 ≡ 0 → i ≡ 0
-    order-false i h at = sym (position_of-get_or (order_of c) i order-distinct h) ∙ ap (new_number c) at
 
     -- an operand comes before its gate
     operand_before : (m n : ℕ) → m < n → n < length c.nodes → IsGate c.nodes n → new_number c m < new_number c n

@@ -11,7 +11,7 @@ use Rattle.aig_circuit.proofs.Circuits.{AllPairs-append}
 use Rattle.aig_circuit.proofs.Trees.{by_smaller}
 use Rattle.aig_renumber.proofs.Places.{rising_from}
 use Rattle.aig_renumber.proofs.Same.{renumbered-same}
-use Rattle.aig_renumber.proofs.Numbering.{Merges, Merges-numbers}
+use Rattle.aig_renumber.proofs.NodesInOrder.{Merges, Merges-numbers}
 use Rattle.aig_renumber.proofs.Circuits.{AreAsLong-renumbered, IsCircuit-renumbered, IsClosed-renumbered, KeepsRuns-renumbered, SpeaksOf-nodes, leaves-map}
 use Rattle.aig_renumber.proofs.Order.{IsGate, Numbers-order, are_gates, length-order, no_gates, rising_gates}
 

@@ -1,49 +1,38 @@
 -- Lists without repetition, and the places of their entries.
-use Rattle.std.proofs.Common.{◌≡◌, ◌≢◌, ℕ, zero, suc, ◌+◌, ◌<◌, ◌≤◌, Bool, true, false, cond, eqb, List, [], ◌∷◌, length, map, get_or, refl, ap, subst, ◌∙◌, arith, add-one, inl, inr}
-use Rattle.std.specs.Prelude.{All, AllPairs, Contains, filter}
-use Rattle.std.specs.List.{AllZip}
+use Rattle.std.proofs.Common.{◌≡◌, ◌≢◌, ℕ, zero, suc, ◌+◌, ◌<◌, ◌≤◌, Bool, true, cond, List, [], ◌∷◌, length, map, get_or, refl, ap, subst, ◌∙◌, arith, inl, inr}
+use Rattle.std.specs.Prelude.{◌==◌, All, AllPairs, Contains, filter}
+use Rattle.std.specs.List.{position_or_len}
 use Rattle.std.proofs.lemmas.Bool.{cases_lt, eqb-true, eqb-false, eq-eqb, ne_eqb}
 use Rattle.std.proofs.lemmas.List.{get_or-map, length-map}
+use Rattle.std.proofs.lemmas.List.Recursion.{is_position_or_len}
+use Rattle.std.proofs.lemmas.List.Sums.{fails_before_first, passes_at_first, position_or_len_is}
 use Rattle.std.proofs.lemmas.List.Elements.{All-contains, All-filter, Contains-get_or, filter_passes}
 use Rattle.aig_circuit.specs.Renumber.{position_of}
 
 -- ---- the place of an entry
 
--- the place of an entry is one where it stands
-position_of-there : (ns : List ℕ) (n k : ℕ) → k < length ns → get_or ns k n ≡ n → (position_of ns n < length ns) × (get_or ns (position_of ns n) 0 ≡ n)
-position_of-there [] n k h e = absurd (omega arith)
-position_of-there (m ∷ ms) n k h e = by_test (eqb m n) refl (λ k h e. position_of-there ms n k h e)
-  where
-    Found : ℕ → Type 0
-    Found place = (place < suc (length ms)) × (get_or (m ∷ ms) place 0 ≡ n)
-
-    Rest : Type 0
-    Rest = (k : ℕ) → k < length ms → get_or ms k n ≡ n → (position_of ms n < length ms) × (get_or ms (position_of ms n) 0 ≡ n)
-
-    further : (k : ℕ) → k < suc (length ms) → get_or (m ∷ ms) k n ≡ n → eqb m n ≡ false → Rest → Found (position_of ms n + 1)
-    further zero h e differs rest = absurd (eqb-false m n differs e)
-    further (suc k) h e differs rest =
-        let found = rest k (omega arith) e in
-        rw add-one (omega (arith, found.0), found.1)
-
-    by_test : (b : Bool) → eqb m n ≡ b → Rest → Found (cond b 0 (position_of ms n + 1))
-    by_test true same rest = (omega arith, eqb-true m n same)
-    by_test false differs rest = further k h e differs rest
+-- it is that of the first number that is equal
+is_place : (ns : List ℕ) (n : ℕ) → position_of ns n ≡ position_or_len (λ m. m == n) ns
+is_place ns n = is_position_or_len (λ (ms : List ℕ). position_of ms n) (λ m. m == n) refl (λ m ms. ap (λ k. cond (m == n) 0 k) (omega arith)) ns
 
 pub position_of-within : (ns : List ℕ) (n : ℕ) → Contains ns n → position_of ns n < length ns
-position_of-within ns n has = (position_of-there ns n has.0 has.1 has.2).0
+position_of-within ns n has = elim (cases_lt has.0 (position_of ns n)) [
+  | inl before ↦
+      let fails = fails_before_first (λ m. m == n) ns has.0 n (subst (λ k. has.0 < k) (is_place ns n) before) in
+      absurd (eqb-false (get_or ns has.0 n) n fails has.2)
+  | inr there ↦ let low = has.1 in omega arith
+]
 
 pub get_or-position_of : (ns : List ℕ) (n : ℕ) → Contains ns n → get_or ns (position_of ns n) 0 ≡ n
-get_or-position_of ns n has = (position_of-there ns n has.0 has.1 has.2).1
+get_or-position_of ns n has =
+    let passes = passes_at_first (λ m. m == n) ns 0 (subst (λ k. k < length ns) (is_place ns n) (position_of-within ns n has)) in
+    ap (λ k. get_or ns k 0) (is_place ns n) ∙ eqb-true (get_or ns (position_or_len (λ m. m == n) ns) 0) n passes
 
 -- of entries that differ, each has its one place
 pub position_of-get_or : (ns : List ℕ) (i : ℕ) → AllPairs (λ m n. m ≢ n) ns → i < length ns → position_of ns (get_or ns i 0) ≡ i
-position_of-get_or [] i differ h = absurd (omega arith)
-position_of-get_or (m ∷ ms) zero differ h = let same : eqb m m ≡ true = eq-eqb m m refl in rw same refl
-position_of-get_or (m ∷ ms) (suc i) differ h =
-    let other : eqb m (get_or ms i 0) ≡ false = ne_eqb m (get_or ms i 0) (differ 0 (suc i) 0 (omega arith) h) in
-    let rest = position_of-get_or ms i (λ i j d h l. differ (suc i) (suc j) d (omega arith) (omega arith)) (omega arith) in
-    rw other (ap (λ n. n + 1) rest ∙ add-one i)
+position_of-get_or ns i differ h =
+    let n = get_or ns i 0 in
+    is_place ns n ∙ position_or_len_is (λ m. m == n) ns i 0 (omega arith) (λ k low. ne_eqb (get_or ns k 0) n (differ k i 0 low h)) (λ _. eq-eqb n n refl)
 
 -- ---- lists in rising order
 
@@ -117,24 +106,6 @@ module _ {X Y : Type 0} (f : X → Y) where
     rw length-map has.1,
     get_or-map f xs has.0 x (f x) has.1 ∙ ap f has.2,
   )
-
-  pub All-from_map : (P : Y → Type 0) (xs : List X) → All P (map f xs) → All (λ x. P (f x)) xs
-  All-from_map P xs all k d h = let e : get_or (map f xs) k (f d) ≡ f (get_or xs k d) = get_or-map f xs k d (f d) h in subst P e (all k (f d) (rw length-map h))
-
-  -- an entry and what it is mapped to, one for one
-  pub AllZip-map : (R : X → Y → Type 0) (xs : List X) → All (λ x. R x (f x)) xs → AllZip R xs (map f xs)
-  AllZip-map R [] all = tt
-  AllZip-map R (x ∷ xs) all = (all 0 x (omega arith), AllZip-map R xs (λ k d h. all (suc k) d (omega arith)))
-
-  -- functions that agree on every entry map the list alike
-  pub map-agrees : (g : X → Y) (xs : List X) → All (λ x. f x ≡ g x) xs → map f xs ≡ map g xs
-  map-agrees g [] all = refl
-  map-agrees g (x ∷ xs) all = ap (λ y. y ∷ map f xs) (all 0 x (omega arith)) ∙ ap (λ ys. g x ∷ ys) (map-agrees g xs (λ k d h. all (suc k) d (omega arith)))
-
--- a function that keeps every entry keeps the list
-pub map-same : {X : Type 0} (f : X → X) (xs : List X) → All (λ x. f x ≡ x) xs → map f xs ≡ xs
-map-same f [] all = refl
-map-same f (x ∷ xs) all = ap (λ y. y ∷ map f xs) (all 0 x (omega arith)) ∙ ap (λ ys. x ∷ ys) (map-same f xs (λ k d h. all (suc k) d (omega arith)))
 
 -- distinct numbers stay distinct where the function tells those of S apart
 pub AllPairs-map_numbers : (S : ℕ → Type 0) (f : ℕ → ℕ) (ns : List ℕ) → ((m n : ℕ) → S m → S n → f m ≡ f n → m ≡ n) → All S ns → AllPairs (λ m n. m ≢ n) ns → AllPairs (λ m n. m ≢ n) (map f ns)

@@ -1,6 +1,6 @@
 -- A circuit under its own numbers is itself.
-use Rattle.std.proofs.Common.{◌≡◌, ℕ, ◌+◌, ◌<◌, Bool, true, false, cond, nat_cmp, Option, Some, None, List, length, map, get_or, refl, sym, ap, ◌∙◌, arith, inl, inr, IsTrue}
-use Rattle.std.specs.Prelude.{All, IfSome, is_some, option_map}
+use Rattle.std.proofs.Common.{◌≡◌, ℕ, ◌+◌, ◌<◌, Bool, true, false, cond, nat_cmp, Option, Some, None, List, length, get_or, refl, sym, ap, ◌∙◌, arith, inl, inr, IsTrue}
+use Rattle.std.specs.Prelude.{IfSome, is_some, option_map}
 use Rattle.std.specs.FinMap.{FinMap, contains_key, entries, get, get-retain_keys, nat_cmp-IsAntisymmetric, retain_keys, same_map}
 use Rattle.std.proofs.lemmas.Bool.{false≢true}
 use Rattle.std.proofs.lemmas.Cmp.{nat_cmp_total}
@@ -18,8 +18,9 @@ use Rattle.aig_circuit.specs.Renumber.{nodes_in_order, renumbered_circuit, renum
 use Rattle.aig_circuit.proofs.Building.{and_of-cases}
 use Rattle.aig_circuit.proofs.Trees.{kind_at-within}
 use Rattle.aig_renumber.proofs.Names.{names-kept, names_in_circuit}
-use Rattle.aig_renumber.proofs.Numbering.{get-nodes_in_order, length-nodes_in_order, node_in_order}
-use Rattle.aig_renumber.proofs.Places.{map-same}
+use Rattle.aig_renumber.proofs.NodesInOrder.{get-nodes_in_order, length-nodes_in_order, node_in_order}
+use Rattle.aig_circuit.proofs.Listed.{AllProperties-weaker, map_properties-same}
+use Rattle.aig_circuit.proofs.Lists.{map-same}
 
 -- names are kept where each key passes the test
 pub retained-all : (names : FinMap nat_cmp (List ℕ)) (test : ℕ → Bool) → ((n : ℕ) → IsTrue (contains_key names n) → test n ≡ true) → retain_keys names test ≡ names
@@ -34,9 +35,6 @@ retained-all names test all = same_map nat_cmp_total nat_cmp-IsAntisymmetric _ _
 module _ (c : Circuit) (is : IsCircuit c) (number : ℕ → ℕ) (same : (n : ℕ) → n < length c.nodes → number n ≡ n) where
   edge-same : (e : AigEdge) → IsInRange c.nodes e → renumbered_edge number e ≡ e
   edge-same e h = ap (λ n. record e { node_id = n }) (same e.node_id h)
-
-  edges-same : (es : List AigEdge) → All (IsInRange c.nodes) es → map (renumbered_edge number) es ≡ es
-  edges-same es all = map-same (renumbered_edge number) es (λ k d h. edge-same (get_or es k d) (all k d h))
 
   init-same : (o : Option AigEdge) → IfSome o (IsInRange c.nodes) → option_map (renumbered_edge number) o ≡ o
   init-same (Some e) h = ap Some (edge-same e h)
@@ -88,10 +86,6 @@ module _ (c : Circuit) (is : IsCircuit c) (number : ℕ → ℕ) (same : (n : �
       let a = nodes-same ns places long in
       let b = map-same number c.inputs (λ k d h. same (get_or c.inputs k d) (kind_at-within c.nodes (get_or c.inputs k d) Leaf (is.inputs k d h))) in
       let l = map-same (renumbered_latch number) c.latchs (λ k d h. latch-same (get_or c.latchs k d) (is.latchs k d h)) in
-      let o = edges-same c.outputs is.outputs in
-      let p = edges-same c.bads is.bads in
-      let q = edges-same c.constraints is.constraints in
-      let r = map-same (map (renumbered_edge number)) c.justice (λ k d h. edges-same (get_or c.justice k d) (is.justice k d h)) in
-      let s = edges-same c.fairness is.fairness in
+      let p = map_properties-same (renumbered_edge number) c.properties (AllProperties-weaker (IsInRange c.nodes) (λ e. renumbered_edge number e ≡ e) edge-same c.properties is.properties) in
       let t = names-kept number c.names (λ k d h. same (get_or (entries c.names) k d).0 (names_in_circuit (λ n. n < length c.nodes) c.names is.named k d h)) in
-      λ i. record { nodes = a i; inputs = b i; latchs = l i; outputs = o i; bads = p i; constraints = q i; justice = r i; fairness = s i; names = t i }
+      λ i. record { nodes = a i; inputs = b i; latchs = l i; properties = p i; names = t i }

@@ -5,6 +5,7 @@ use Rattle.std.specs.Prelude.{◌≡◌, ℕ, ◌<◌, IfSome, IsTrue, List, All
 use Rattle.std.specs.FinMap.{contains_key}
 use Rattle.aig_circuit.specs.declared.edge.AigEdge.{AigEdge}
 use Rattle.aig_circuit.specs.declared.node.AigLatch.{AigLatch}
+use Rattle.aig_circuit.specs.Properties.{AllProperties}
 use Rattle.aig_circuit.specs.Circuit.{Circuit}
 
 -- the table has a number for node n
@@ -31,9 +32,5 @@ pub record IsLatchIn (S : ℕ → Type 0) (latch : AigLatch) : Type 0 where
 pub record SpeaksOf (S : ℕ → Type 0) (c : Circuit) : Type 0 where
   pub inputs : All S c.inputs
   pub latchs : All (IsLatchIn S) c.latchs
-  pub outputs : All (IsEdgeIn S) c.outputs
-  pub bads : All (IsEdgeIn S) c.bads
-  pub constraints : All (IsEdgeIn S) c.constraints
-  pub justice : All (All (IsEdgeIn S)) c.justice
-  pub fairness : All (IsEdgeIn S) c.fairness
+  pub properties : AllProperties (IsEdgeIn S) c.properties
   pub named : (n : ℕ) → IsTrue (contains_key c.names n) → S n

@@ -6,6 +6,8 @@ ghost use Rattle.aig_circuit.specs.Renumber.{kept_circuit};
 
 use crate::lists;
 use crate::nodes::nodes_in_order;
+use crate::numbering::Table;
+use crate::renumbered::{renumber_latches, renumber_properties};
 use aig_base::MemoryError;
 use aig_circuit::{CircuitLists, CircuitView};
 use std::alloc::Global;
@@ -30,15 +32,17 @@ pub fn renumber(
     ensures { IfOk result (λ lists. lists_circuit lists
         ≡ kept_circuit (slice_index numbers.now) kept.now circuit.now) }
 {
+    let inputs = lists::inputs(alloc, numbers, kept, circuit.inputs())?;
+    let table = Table { numbers };
+    let mut latchs = Vec::from_slice(alloc, circuit.latchs())?;
+    renumber_latches(&table, &mut latchs);
+    let mut properties = circuit.properties().copied(alloc)?;
+    renumber_properties(&table, &mut properties);
     Ok(CircuitLists {
-        nodes: nodes_in_order(alloc, circuit.nodes(), numbers, kept)?,
-        inputs: lists::inputs(alloc, numbers, kept, circuit.inputs())?,
-        latchs: lists::latchs(alloc, numbers, circuit.latchs())?,
-        outputs: lists::edges(alloc, numbers, circuit.outputs())?,
-        bads: lists::edges(alloc, numbers, circuit.bads())?,
-        constraints: lists::edges(alloc, numbers, circuit.constraints())?,
-        justice: lists::sets(alloc, numbers, circuit.justice())?,
-        fairness: lists::edges(alloc, numbers, circuit.fairness())?,
+        nodes: nodes_in_order(alloc, circuit.nodes(), &table, kept)?,
+        inputs,
+        latchs,
+        properties,
         names: lists::names(alloc, numbers, kept, circuit.names())?,
     })
 }

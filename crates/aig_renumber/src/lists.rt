@@ -1,57 +1,14 @@
-//! Lists and names under other numbers. A table gives the new number of node `n` at place `n`.
+//! Inputs and names of kept nodes under new numbers. A table gives the new number of node `n` at place `n`.
 
 ghost use Rattle.std.specs.Prelude.{◌≡◌, IfOk, All, filter, map, slice_index};
 ghost use Rattle.std.specs.FinMap.{retain_keys};
-ghost use Rattle.aig_circuit.specs.Renumber.{is_in, renumbered_edge, renumbered_latch, renumbered_names};
+ghost use Rattle.aig_circuit.specs.Renumber.{is_in, renumbered_names};
 ghost use Rattle.aig_circuit.specs.View.{names_of};
-ghost use Rattle.aig_renumber.specs.Numbers.{HavePlaces, IsEdgeIn, IsIndex, IsLatchIn};
+ghost use Rattle.aig_renumber.specs.Numbers.{HavePlaces, IsIndex};
 
 use aig_base::MemoryError;
-use aig_circuit::{AigEdge, AigLatch};
 use std::alloc::Global;
 use std::collections::HashMap;
-
-/// The edge to the node's new number.
-pub(crate) fn edge(numbers: &[usize], e: AigEdge) -> AigEdge
-    requires { IsEdgeIn (IsIndex numbers.now) e }
-    ensures { result ≡ renumbered_edge (slice_index numbers.now) e }
-{
-    AigEdge::new(numbers[e.node_id()], e.compl())
-}
-
-/// The edges to the nodes' new numbers.
-pub(crate) fn edges(
-    alloc: Global,
-    numbers: &[usize],
-    old: &[AigEdge],
-) -> Result<Vec<AigEdge>, MemoryError>
-    requires { All (IsEdgeIn (IsIndex numbers.now)) old.now }
-    ensures { IfOk result
-        (λ new. new.items ≡ map (renumbered_edge (slice_index numbers.now)) old.now) }
-{
-    let mut new = Vec::with_capacity(alloc, old.len())?;
-    for e in old {
-        new.push(edge(numbers, *e))?;
-    }
-    Ok(new)
-}
-
-/// The sets of edges to the nodes' new numbers.
-pub(crate) fn sets(
-    alloc: Global,
-    numbers: &[usize],
-    old: &[Vec<AigEdge>],
-) -> Result<Vec<Vec<AigEdge>>, MemoryError>
-    requires { All (All (IsEdgeIn (IsIndex numbers.now))) (map (λ set. set.items) old.now) }
-    ensures { IfOk result (λ new. map (λ set. set.items) new.items
-        ≡ map (map (renumbered_edge (slice_index numbers.now))) (map (λ set. set.items) old.now)) }
-{
-    let mut new = Vec::with_capacity(alloc, old.len())?;
-    for set in old {
-        new.push(edges(alloc, numbers, set)?)?;
-    }
-    Ok(new)
-}
 
 /// Whether node `n` is kept: it is the node of its new number.
 fn is_kept(numbers: &[usize], kept: &[usize], n: usize) -> bool
@@ -79,32 +36,6 @@ pub(crate) fn inputs(
         if is_kept(numbers, kept, *input) {
             new.push(numbers[*input])?;
         }
-    }
-    Ok(new)
-}
-
-/// The latch with the new numbers of its leaf and its edges.
-fn latch(numbers: &[usize], old: AigLatch) -> AigLatch
-    requires { IsLatchIn (IsIndex numbers.now) old }
-    ensures { result ≡ renumbered_latch (slice_index numbers.now) old }
-{
-    let init = old.init().map(|e| edge(numbers, e));
-    AigLatch::new(numbers[old.input()], edge(numbers, old.next()), init)
-}
-
-/// The latches with new numbers.
-pub(crate) fn latchs(
-    alloc: Global,
-    numbers: &[usize],
-    old: &[AigLatch],
-) -> Result<Vec<AigLatch>, MemoryError>
-    requires { All (IsLatchIn (IsIndex numbers.now)) old.now }
-    ensures { IfOk result
-        (λ new. new.items ≡ map (renumbered_latch (slice_index numbers.now)) old.now) }
-{
-    let mut new = Vec::with_capacity(alloc, old.len())?;
-    for l in old {
-        new.push(latch(numbers, *l))?;
     }
     Ok(new)
 }

@@ -33,7 +33,7 @@ module _ (c u : Circuit) (k : ℕ) (lists : List (List (List Lit))) (unrolls : U
     starts = flat_map start_clauses c.latchs
 
     abbrev units : List (List Lit)
-    units = unit_clauses u.constraints
+    units = unit_clauses u.properties.constraints
 
     abbrev last : List Lit
     last = map lit_of (last_bads c k u)
@@ -56,14 +56,14 @@ module _ (c u : Circuit) (k : ℕ) (lists : List (List (List Lit))) (unrolls : U
     abbrev IsTrueAt : ℕ → AigEdge → Type 0
     IsTrueAt t e = IsTrue (edge_value c.nodes (x t) e)
 
-    constraints_are : AllByRecursion (Holds v) units ↔ ((t : ℕ) → t ≤ k → All (IsTrueAt t) c.constraints)
+    constraints_are : AllByRecursion (Holds v) units ↔ ((t : ℕ) → t ≤ k → All (IsTrueAt t) c.properties.constraints)
     constraints_are =
-        let r = units_say v u.constraints in
-        let s = stand_all k (λ t. edge_value c.nodes (x t)) c.constraints (edge_in v) u.constraints shows.constraints in
-        (λ h t low. All-from_recursion (IsTrueAt t) c.constraints (s.0 (r.0 h) t low), λ h. r.1 (s.1 (λ t low. recursion_from_All (IsTrueAt t) c.constraints (h t low))))
+        let r = units_say v u.properties.constraints in
+        let s = stand_all k (λ t. edge_value c.nodes (x t)) c.properties.constraints (edge_in v) u.properties.constraints shows.properties.constraints in
+        (λ h t low. All-from_recursion (IsTrueAt t) c.properties.constraints (s.0 (r.0 h) t low), λ h. r.1 (s.1 (λ t low. recursion_from_All (IsTrueAt t) c.properties.constraints (h t low))))
 
-    last_is : is_true_clause v last ≡ list_any (edge_value c.nodes (x k)) c.bads
-    last_is = clause_says v (last_bads c k u) ∙ stand_any k (λ t. edge_value c.nodes (x t)) c.bads (edge_in v) u.bads shows.bads
+    last_is : is_true_clause v last ≡ list_any (edge_value c.nodes (x k)) c.properties.bads
+    last_is = clause_says v (last_bads c k u) ∙ stand_any k (λ t. edge_value c.nodes (x t)) c.properties.bads (edge_in v) u.properties.bads shows.properties.bads
 
     -- so the query clauses hold exactly where the run is a witness
     further_are : IsTrue (are_true v further) ↔ IsCircuitWitness c k x

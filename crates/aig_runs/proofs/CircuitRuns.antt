@@ -1,42 +1,43 @@
 -- From what unrolling and clauses promise: a satisfying assignment is a run of the circuit, and a run is a satisfying assignment.
-use Rattle.std.proofs.Common.{◌≡◌, ℕ, Bool, List, ◌∙◌}
-use Rattle.std.specs.Prelude.{All}
+use Rattle.std.proofs.Common.{◌≡◌, ℕ, Bool, List, refl, subst, ◌∙◌}
 use Rattle.std.proofs.lemmas.List.Elements.{All-weaker}
 use Rattle.aig_base.specs.declared.logic.literal.Lit.{Lit}
 use Rattle.aig_base.specs.Clauses.{Satisfies}
 use Rattle.aig_circuit.specs.declared.edge.AigEdge.{AigEdge}
 use Rattle.aig_circuit.specs.declared.node.AigLatch.{AigLatch}
 use Rattle.aig_circuit.specs.Circuit.{Circuit, IsCircuit}
+use Rattle.aig_circuit.specs.Properties.{AreProperties}
 use Rattle.aig_circuit.specs.Tree.{edge_value, node_value}
 use Rattle.aig_circuit.specs.Runs.{next_edges}
-use Rattle.aig_renumber.proofs.Places.{All-from_map}
+use Rattle.aig_circuit.proofs.Listed.{AllProperties-always, AllProperties-weaker, AreProperties-map, map_properties-same}
+use Rattle.aig_circuit.proofs.Lists.{All-from_map}
 use Rattle.aig_cnf.specs.Cnf.{FixesRoots, IsFixed, NodeValuesSatisfy, edge_in}
 use Rattle.aig_unroll.specs.Unroll.{HasStepValues, UnrollsTo}
 use Rattle.aig_unroll.proofs.Lists.{zip_weaker}
 use Rattle.aig_runs.specs.Circuits.{AssignmentsAreCircuitRuns, CircuitRunsAreAssignments}
 use Rattle.aig_runs.proofs.Leaves.{are_node_values, values_read}
-use Rattle.aig_runs.proofs.Standing.{sets_other, stand_other}
+use Rattle.aig_runs.proofs.Standing.{AreAlike, properties_alike}
 
 -- where the assignment satisfies, it gives each root its value, and so shows what the values show
 module _ (c u : Circuit) (k : ℕ) (lists : List (List (List Lit))) (v : ℕ → Bool) (x : ℕ → ℕ → Bool) (fixes : FixesRoots u lists) (holds : Satisfies v lists) where
   abbrev IsSame : AigEdge → Type 0
   IsSame e = edge_in v e ≡ edge_value u.nodes v e
 
-  same : (es : List AigEdge) → All (IsFixed u lists) es → All IsSame es
-  same es fixed = All-weaker (IsFixed u lists) IsSame (λ e is. is v holds) es fixed
+  same : (e : AigEdge) → IsFixed u lists e → IsSame e
+  same e is = is v holds
 
   pub shown : HasStepValues c u k (edge_value u.nodes v) x → HasStepValues c u k (edge_in v) x
   shown s =
       let new = edge_value u.nodes v in
       let other = edge_in v in
       let old = λ (t : ℕ). edge_value c.nodes (x t) in
-      let next = same (next_edges u.latchs) fixes.next in
+      let Alike = AreAlike k old old new other in
+      let alike : AreProperties Alike c.properties c.properties =
+      subst (AreProperties Alike c.properties) (map_properties-same (λ e. e) c.properties (AllProperties-weaker (λ e. Unit {0}) (λ e. e ≡ e) (λ e is. refl) c.properties (AllProperties-always c.properties)))
+      (AreProperties-map (λ e. e) Alike c.properties (AllProperties-weaker (λ e. Unit {0}) (λ e. Alike e e) (λ e is t h. refl) c.properties (AllProperties-always c.properties))) in
+      let next = All-weaker (IsFixed u lists) IsSame same (next_edges u.latchs) fixes.next in
       record {
-        outputs = stand_other k old new other c.outputs u.outputs (same u.outputs fixes.outputs) s.outputs;
-        bads = stand_other k old new other c.bads u.bads (same u.bads fixes.bads) s.bads;
-        constraints = stand_other k old new other c.constraints u.constraints (same u.constraints fixes.constraints) s.constraints;
-        justice = sets_other k old new other c.justice u.justice (All-weaker (All (IsFixed u lists)) (All IsSame) same u.justice fixes.justice) s.justice;
-        fairness = stand_other k old new other c.fairness u.fairness (same u.fairness fixes.fairness) s.fairness;
+        properties = properties_alike k old old new other c.properties c.properties u.properties alike (AllProperties-weaker (IsFixed u lists) IsSame same u.properties fixes.properties) s.properties;
         state = zip_weaker (λ (old now : AigLatch). new now.next ≡ edge_value c.nodes (x k) old.next) (λ (old now : AigLatch). other now.next ≡ edge_value c.nodes (x k) old.next)
             (λ (now : AigLatch). IsSame now.next) c.latchs u.latchs (λ old now p q. p ∙ q) (All-from_map (λ (latch : AigLatch). latch.next) IsSame u.latchs next) s.state;
       }

@@ -6,6 +6,7 @@ use Rattle.aig_base.proofs.Literals.{literal_value-lit_to}
 use Rattle.aig_circuit.specs.declared.edge.AigEdge.{AigEdge}
 use Rattle.aig_circuit.specs.declared.node.AigLatch.{AigLatch}
 use Rattle.aig_circuit.specs.Circuit.{Circuit, only_false}
+use Rattle.aig_circuit.specs.Properties.{no_properties}
 use Rattle.aig_circuit.specs.Edge.{edge_to}
 use Rattle.aig_format.specs.declared.FileKind.TheVariants.{Text}
 use Rattle.aig_format.specs.File.{File}
@@ -23,7 +24,7 @@ codes_of = map (map (λ (lit : Lit). lit.code))
 
 -- the lists that a query looks at
 abbrev lists_of : List AigLatch → List AigEdge → List AigEdge → Circuit
-lists_of latchs bads constraints = record only_false { latchs = latchs; bads = bads; constraints = constraints }
+lists_of latchs bads constraints = record only_false { latchs = latchs; properties = record no_properties { bads = bads; constraints = constraints } }
 
 -- latch 1 toggles, from this value or from any
 abbrev toggling : Option AigEdge → List AigLatch
@@ -66,12 +67,8 @@ toggle = record {
   greatest = 1;
   inputs = [];
   latches = record { literal = 2; next = 3; reset = None } ∷ [];
-  outputs = [];
+  properties = record no_properties { bads = 2 ∷ [] };
   gates = [];
-  bads = 2 ∷ [];
-  constraints = [];
-  justice = [];
-  fairness = [];
   names = [];
 }
 

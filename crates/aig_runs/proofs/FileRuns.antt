@@ -1,7 +1,7 @@
 -- From the runs of a file's circuit to the runs of its machine.
 use Rattle.std.proofs.Common.{◌≡◌, ℕ, ◌/◌, ◌≤◌, Bool, List, map, refl, sym, ◌∙◌, inl, inr, arith}
 use Rattle.std.specs.Prelude.{All, Contains}
-use Rattle.std.specs.List.{AllByRecursion, AllZip}
+use Rattle.std.specs.List.{AllZip}
 use Rattle.std.proofs.lemmas.List.Elements.{All-contains, All-from_recursion, All-map, All-weaker, Contains-append_cases, Contains-get_or, recursion_from_All}
 use Rattle.aig_base.specs.declared.logic.literal.Lit.{Lit}
 use Rattle.aig_circuit.specs.declared.edge.AigEdge.{AigEdge}
@@ -17,22 +17,22 @@ use Rattle.aig_format.specs.Circuit.{circuit_of, edge_of, latch_of}
 use Rattle.aig_format.specs.Numbering.{node_of_variable}
 use Rattle.aig_format.specs.Variables.{IsKnown}
 use Rattle.aig_format.proofs.Circuits.{IsCircuit-of_file, used_by_section}
-use Rattle.aig_format.proofs.Entries.{rec_flat_map, rec_weaker}
 use Rattle.aig_format.proofs.Numbers.{used_known}
 use Rattle.aig_format_laws.specs.MachineRuns.{AgreeOnInputs}
 use Rattle.aig_format_laws.specs.Nodes.{HasNodeValues, values_over}
 use Rattle.aig_format_laws.proofs.Closed.{IsClosed-of_file}
 use Rattle.aig_format_laws.proofs.Joining.{back_run, forth_run, forth_values, inputs_known, latches_known, leaves_of, literal_is}
 use Rattle.aig_format_laws.proofs.MachineRuns.{agree_on_known}
-use Rattle.aig_renumber.proofs.Places.{All-from_map, AllZip-map}
+use Rattle.aig_circuit.proofs.Listed.{AllProperties-always, AllProperties-weaker, AreProperties-map}
+use Rattle.aig_circuit.proofs.Lists.{All-from_map, AllZip-map}
 use Rattle.aig_unroll.specs.Places.{Reads, other_leaves, place_at}
-use Rattle.aig_unroll.specs.Unroll.{HasStepValues, HasValuesAtSteps, UnrollsTo}
+use Rattle.aig_unroll.specs.Unroll.{HasStepValues, UnrollsTo}
 use Rattle.aig_unroll.proofs.Lists.{all_from_zips, zip_turned, zip_weaker}
 use Rattle.aig_unroll.proofs.Others.{inputs_are_others, others-are}
 use Rattle.aig_runs.specs.Files.{AssignmentsAreRuns, HasLeafValues, RunsAreAssignments, HasRunValues}
 use Rattle.aig_runs.specs.Encodes.{Encodes}
 use Rattle.aig_runs.proofs.CircuitRuns as over_circuits
-use Rattle.aig_runs.proofs.Standing.{sets_same, sets_unmade, stand_same, stand_unmade, zip_front, zip_unmade}
+use Rattle.aig_runs.proofs.Standing.{AreAlike, properties_alike, zip_through}
 
 -- ---- leaf values
 
@@ -109,28 +109,24 @@ module _ (f : File) (limit k : ℕ) (fits : Fits f limit) (x run : ℕ → ℕ �
   abbrev Keeps : ℕ → Type 0
   Keeps e = (t : ℕ) → t ≤ k → edge_value (circuit_of f).nodes (x t) (edge_of f e) ≡ machine.value_of_literal (run t) e
 
-  kept : (es : List ℕ) → AllByRecursion (IsKnown f) es → All Keeps es
-  kept es known = All-from_recursion Keeps es (rec_weaker (IsKnown f) Keeps (λ e is t h. literal_is f k x run values t e h is) es known)
+  kept : (e : ℕ) → IsKnown f e → Keeps e
+  kept e is t h = literal_is f k x run values t e h is
 
   pub shows_run : (u : Circuit) (value : AigEdge → Bool) → HasStepValues (circuit_of f) u k value x → HasRunValues f u k value run
   shows_run u value s =
       let edge_at = λ (t : ℕ). edge_value (circuit_of f).nodes (x t) in
-      let old = λ (t e : ℕ). edge_at t (edge_of f e) in
       let first = λ (t : ℕ). machine.value_of_literal (run t) in
       let is = used_by_section (IsKnown f) f (used_known f limit fits) in
-      let sets = (rec_flat_map (IsKnown f) (λ (set : List ℕ). set) f.justice).0 is.justice in
-      let list = λ (es : List ℕ) (known : AllByRecursion (IsKnown f) es) (longer : List AigEdge) (stand : HasValuesAtSteps k edge_at (map (edge_of f) es) value longer).
-      stand_same k old first value es longer (kept es known) (stand_unmade (edge_of f) k edge_at value es longer stand) in
+      let nexts = map (λ (l : LatchLine). l.next) f.latches in
       record {
-        outputs = list f.outputs is.outputs u.outputs s.outputs;
-        bads = list f.bads is.bads u.bads s.bads;
-        constraints = list f.constraints is.constraints u.constraints s.constraints;
-        justice = sets_same k old first value f.justice u.justice (All-from_recursion (All Keeps) f.justice (rec_weaker (AllByRecursion (IsKnown f)) (All Keeps) kept f.justice sets))
-            (sets_unmade (edge_of f) k edge_at value f.justice u.justice s.justice);
-        fairness = list f.fairness is.fairness u.fairness s.fairness;
-        state = zip_front (λ (l : LatchLine) (now : AigLatch). value now.next ≡ old k l.next) (λ (l : LatchLine) (now : AigLatch). value now.next ≡ first k l.next) (λ (l : LatchLine). Keeps l.next) f.latches u.latchs
-            (λ l now p q. q ∙ p k (omega arith)) (All-from_map (λ (l : LatchLine). l.next) Keeps f.latches (kept (map (λ (l : LatchLine). l.next) f.latches) is.nexts))
-            (zip_unmade (latch_of f) (λ (before now : AigLatch). value now.next ≡ edge_at k before.next) f.latches u.latchs s.state);
+        properties = properties_alike k edge_at first value value f.properties (circuit_of f).properties u.properties
+            (AreProperties-map (edge_of f) (AreAlike k edge_at first value value) f.properties (AllProperties-weaker (IsKnown f) Keeps kept f.properties is.properties))
+            (AllProperties-weaker (λ e. Unit {0}) (λ e. value e ≡ value e) (λ e is. refl) u.properties (AllProperties-always u.properties)) s.properties;
+        state =
+            let Alike = λ (l : LatchLine) (latch : AigLatch). edge_at k latch.next ≡ first k l.next in
+            zip_through Alike (λ (latch now : AigLatch). value now.next ≡ edge_at k latch.next) (λ (l : LatchLine) (now : AigLatch). value now.next ≡ first k l.next) (λ now. Unit {0}) f.latches (circuit_of f).latchs u.latchs (λ l latch now p q is. q ∙ p)
+            (AllZip-map (latch_of f) Alike f.latches (All-weaker (λ (l : LatchLine). Keeps l.next) (λ l. Alike l (latch_of f l)) (λ l keeps. keeps k (omega arith)) f.latches (All-from_map (λ (l : LatchLine). l.next) Keeps f.latches (All-weaker (IsKnown f) Keeps kept nexts (All-from_recursion (IsKnown f) nexts is.nexts)))))
+            s.state (λ j d l. tt);
       }
 
 -- ---- runs

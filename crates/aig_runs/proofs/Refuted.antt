@@ -6,6 +6,7 @@ use Rattle.aig_base.specs.declared.logic.literal.Lit.{Lit}
 use Rattle.aig_circuit.specs.declared.edge.AigEdge.{AigEdge}
 use Rattle.aig_circuit.specs.declared.node.AigNodeType.TheVariants.{False, Leaf}
 use Rattle.aig_circuit.specs.Circuit.{Circuit, only_false}
+use Rattle.aig_circuit.specs.Properties.{no_properties}
 use Rattle.aig_circuit.specs.Tree.{node_value}
 use Rattle.aig_circuit.proofs.Trees.{node_value-leaf}
 use Rattle.aig_circuit.specs.Edge.{edge_to}
@@ -21,12 +22,8 @@ machine inputs latches gates bads constraints = record {
   greatest = 9;
   inputs = inputs;
   latches = latches;
-  outputs = [];
+  properties = record no_properties { bads = bads; constraints = constraints };
   gates = gates;
-  bads = bads;
-  constraints = constraints;
-  justice = [];
-  fairness = [];
   names = [];
 }
 
@@ -113,8 +110,8 @@ swap-back run r =
 -- the numbers of the literals of a query of one step, where these are the bad edges of both steps
 abbrev of_bads : AigEdge → AigEdge → List (List ℕ)
 of_bads first second =
-    let c = record only_false { bads = first ∷ [] } in
-    map (map (λ (lit : Lit). lit.code)) (query_clauses c 1 (record only_false { bads = first ∷ second ∷ [] }))
+    let c = record only_false { properties = record no_properties { bads = first ∷ [] } } in
+    map (map (λ (lit : Lit). lit.code)) (query_clauses c 1 (record only_false { properties = record no_properties { bads = first ∷ second ∷ [] } }))
 
 -- the last clause has not the bad edges of all steps
 no_bads_of_all_steps : of_bads (edge_to 1 false) (edge_to 2 false) ≢ (2 ∷ 4 ∷ []) ∷ []
@@ -136,8 +133,7 @@ held = record only_false {
   nodes = record { node_id = 0; typ = False } ∷ record { node_id = 1; typ = Leaf } ∷ record { node_id = 2; typ = Leaf } ∷ [];
   inputs = 1 ∷ [];
   latchs = record { input = 2; next = edge_to 2 false; init = Some (edge_to 1 false) } ∷ [];
-  bads = edge_to 2 false ∷ [];
-  constraints = edge_to 1 true ∷ [];
+  properties = record no_properties { bads = edge_to 2 false ∷ []; constraints = edge_to 1 true ∷ [] };
 }
 
 held-0 : ¬ HasCircuitWitness held 0

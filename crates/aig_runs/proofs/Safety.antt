@@ -18,11 +18,11 @@ module _ (f : File) (n : ℕ) where
   pub safe_is : ((k : ℕ) → k ≤ n → ¬ ((run : ℕ → ℕ → Bool) × IsWitness f k run)) ↔ IsSafeTo f n
   safe_is = (
     λ none last t run is start low h constraints.
-        (any_none (value_of_literal (run t)) f.bads).0 (false_from_ne_true (list_any (value_of_literal (run t)) f.bads) (λ bad.
+        (any_none (value_of_literal (run t)) f.properties.bads).0 (false_from_ne_true (list_any (value_of_literal (run t)) f.properties.bads) (λ bad.
         none t h (run, record { is_run = run_cut f last t run is low; start = start; constraints = constraints; bad = bad }))),
     λ safe k h w.
         let b = w.1 in
-        false≢true (sym ((any_none (value_of_literal (w.0 k)) f.bads).1 (safe k k w.0 b.is_run b.start (omega arith) h b.constraints)) ∙ b.bad),
+        false≢true (sym ((any_none (value_of_literal (w.0 k)) f.properties.bads).1 (safe k k w.0 b.is_run b.start (omega arith) h b.constraints)) ∙ b.bad),
   )
 
   -- and so exactly where each query is refuted

@@ -1,91 +1,67 @@
--- Entries at steps, under other values that are the same.
-use Rattle.std.proofs.Common.{◌≡◌, ℕ, zero, suc, ◌+◌, ◌*◌, ◌≤◌, Bool, Some, List, [], ◌∷◌, length, map, ap, subst, ◌∙◌}
+-- Entries at steps, and others with the same values.
+use Rattle.std.proofs.Common.{◌≡◌, ℕ, ◌+◌, ◌*◌, ◌≤◌, Bool, Some, List, [], ◌∷◌, length, subst, ◌∙◌}
 use Rattle.std.specs.Prelude.{All, slice_get}
 use Rattle.std.specs.List.{AllZip}
-use Rattle.std.proofs.lemmas.List.{length-map}
 use Rattle.std.proofs.lemmas.List.Elements.{All-head, All-tail}
-use Rattle.std.proofs.lemmas.Option.{same_Some}
+use Rattle.std.proofs.lemmas.Slice.Zip.{AllZip-long}
 use Rattle.aig_circuit.specs.declared.edge.AigEdge.{AigEdge}
-use Rattle.aig_unroll.specs.Unroll.{SetsStandAtSteps, HasValuesAtSteps}
-use Rattle.aig_unroll.proofs.Lists.{at_place, zip_weaker}
+use Rattle.aig_circuit.specs.Properties.{Properties, AllProperties, AreProperties}
+use Rattle.aig_unroll.specs.Unroll.{HasValuesAtSteps, PropertiesStandAtSteps, SetsStandAtSteps}
+use Rattle.aig_unroll.proofs.Lists.{at_place, zip_get}
 
 -- ---- lists
 
-get_map : {X Y : Type 0} (g : X → Y) (xs : List X) (i : ℕ) (x : X) → slice_get xs i ≡ Some x → slice_get (map g xs) i ≡ Some (g x)
-get_map g [] i x h = cc
-get_map g (y ∷ ys) zero x h = ap (λ z. Some (g z)) (same_Some y x h)
-get_map g (y ∷ ys) (suc i) x h = get_map g ys i x h
+-- what follows from two relations, one after the other, and a property of the last entries
+pub zip_through : {A B C : Type 0} (R : A → B → Type 0) (S : B → C → Type 0) (T : A → C → Type 0) (P : C → Type 0) (xs : List A) (ys : List B) (zs : List C) → ((x : A) (y : B) (z : C) → R x y → S y z → P z → T x z) → AllZip R xs ys → AllZip S ys zs → All P zs
+    → AllZip T xs zs
+zip_through R S T P [] [] [] w r s all = tt
+zip_through R S T P [] [] (z ∷ zs) w r s all = absurd s
+zip_through R S T P [] (y ∷ ys) zs w r s all = absurd r
+zip_through R S T P (x ∷ xs) [] zs w r s all = absurd r
+zip_through R S T P (x ∷ xs) (y ∷ ys) [] w r s all = absurd s
+zip_through R S T P (x ∷ xs) (y ∷ ys) (z ∷ zs) w r s all = (w x y z r.0 s.0 (All-head P z zs all), zip_through R S T P xs ys zs w r.1 s.1 (All-tail P z zs all))
 
--- a relation of what was made, of what it was made of
-pub zip_unmade : {A B D : Type 0} (g : D → A) (R : A → B → Type 0) (xs : List D) (ys : List B) → AllZip R (map g xs) ys → AllZip (λ x y. R (g x) y) xs ys
-zip_unmade g R [] [] zip = tt
-zip_unmade g R [] (y ∷ ys) zip = absurd zip
-zip_unmade g R (x ∷ xs) [] zip = absurd zip
-zip_unmade g R (x ∷ xs) (y ∷ ys) zip = (zip.0, zip_unmade g R xs ys zip.1)
+-- ---- entries
 
--- what a relation and a property of the first entries give
-pub zip_front : {A B : Type 0} (R S : A → B → Type 0) (P : A → Type 0) (xs : List A) (ys : List B) → ((x : A) (y : B) → P x → R x y → S x y) → All P xs → AllZip R xs ys → AllZip S xs ys
-zip_front R S P [] [] w all zip = tt
-zip_front R S P [] (y ∷ ys) w all zip = absurd zip
-zip_front R S P (x ∷ xs) [] w all zip = absurd zip
-zip_front R S P (x ∷ xs) (y ∷ ys) w all zip = (w x y (All-head P x xs all) zip.0, zip_front R S P xs ys w (All-tail P x xs all) zip.1)
+module _ {D E : Type 0} (k : ℕ) (old : ℕ → E → Bool) (first : ℕ → D → Bool) (new other : AigEdge → Bool) where
+  -- the two entries have the same value at each step
+  abbrev pub AreAlike : D → E → Type 0
+  AreAlike d e = (t : ℕ) → t ≤ k → old t e ≡ first t d
 
--- ---- the edges have other values
-
-module _ {E : Type 0} (k : ℕ) (old : ℕ → E → Bool) (new other : AigEdge → Bool) where
+  -- the edge has the same value
   abbrev pub IsSame : AigEdge → Type 0
   IsSame e = other e ≡ new e
 
-  pub stand_other : (entries : List E) (longer : List AigEdge) → All IsSame longer → HasValuesAtSteps k old entries new longer → HasValuesAtSteps k old entries other longer
-  stand_other entries longer same s = record {
-    count = s.count;
-    each = λ t j entry h is. let r = s.each t j entry h is in (r.0, r.1, at_place IsSame longer (t * length entries + j) r.0 same r.1 ∙ r.2);
-  }
+  pub stand_alike : (ds : List D) (es : List E) (longer : List AigEdge) → AllZip AreAlike ds es → All IsSame longer → HasValuesAtSteps k old es new longer → HasValuesAtSteps k first ds other longer
+  stand_alike ds es longer alike same s =
+      let long = AllZip-long AreAlike ds es alike in
+      record {
+        count = subst (λ n. length longer ≡ (k + 1) * n) long s.count;
+        each = λ t j d h is.
+            let e = zip_get AreAlike ds es j d alike is in
+            let r = s.each t j e.0 h e.1 in
+            (r.0, subst (λ n. slice_get longer (t * n + j) ≡ Some r.0) long r.1, at_place IsSame longer (t * length es + j) r.0 same r.1 ∙ r.2 ∙ e.2 t h);
+      }
 
-  pub sets_other : (sets : List (List E)) (longer : List (List AigEdge)) → All (All IsSame) longer → SetsStandAtSteps k old sets new longer → SetsStandAtSteps k old sets other longer
-  sets_other sets longer same s = record {
-    count = s.count;
-    each = λ t j set h is.
-        let r = s.each t j set h is in
-        (r.0, r.1, zip_weaker (λ entry e. new e ≡ old t entry) (λ entry e. other e ≡ old t entry) IsSame set r.0 (λ entry e p q. p ∙ q) (at_place (All IsSame) longer (t * length sets + j) r.0 same r.1) r.2);
-  }
+  pub sets_alike : (ds : List (List D)) (es : List (List E)) (longer : List (List AigEdge)) → AllZip (AllZip AreAlike) ds es → All (All IsSame) longer → SetsStandAtSteps k old es new longer → SetsStandAtSteps k first ds other longer
+  sets_alike ds es longer alike same s =
+      let long = AllZip-long (AllZip AreAlike) ds es alike in
+      record {
+        count = subst (λ n. length longer ≡ (k + 1) * n) long s.count;
+        each = λ t j d h is.
+            let e = zip_get (AllZip AreAlike) ds es j d alike is in
+            let r = s.each t j e.0 h e.1 in (
+              r.0,
+              subst (λ n. slice_get longer (t * n + j) ≡ Some r.0) long r.1,
+              zip_through AreAlike (λ e edge. new edge ≡ old t e) (λ d edge. other edge ≡ first t d) IsSame d e.0 r.0 (λ d e edge p q same. same ∙ q ∙ p t h) e.2 r.2 (at_place (All IsSame) longer (t * length es + j) r.0 same r.1),
+            );
+      }
 
--- ---- the entries have other values
-
-module _ {E : Type 0} (k : ℕ) (old first : ℕ → E → Bool) (new : AigEdge → Bool) where
-  -- the entry has the same value at each step
-  abbrev pub Keeps : E → Type 0
-  Keeps entry = (t : ℕ) → t ≤ k → old t entry ≡ first t entry
-
-  pub stand_same : (entries : List E) (longer : List AigEdge) → All Keeps entries → HasValuesAtSteps k old entries new longer → HasValuesAtSteps k first entries new longer
-  stand_same entries longer keeps s = record {
-    count = s.count;
-    each = λ t j entry h is. let r = s.each t j entry h is in (r.0, r.1, r.2 ∙ at_place Keeps entries j entry keeps is t h);
-  }
-
-  pub sets_same : (sets : List (List E)) (longer : List (List AigEdge)) → All (All Keeps) sets → SetsStandAtSteps k old sets new longer → SetsStandAtSteps k first sets new longer
-  sets_same sets longer keeps s = record {
-    count = s.count;
-    each = λ t j set h is.
-        let r = s.each t j set h is in
-        (r.0, r.1, zip_front (λ entry e. new e ≡ old t entry) (λ entry e. new e ≡ first t entry) Keeps set r.0 (λ entry e p q. q ∙ p t h) (at_place (All Keeps) sets j set keeps is) r.2);
-  }
-
--- ---- the entries were made of others
-
-module _ {D E : Type 0} (g : D → E) (k : ℕ) (old : ℕ → E → Bool) (new : AigEdge → Bool) where
-  pub stand_unmade : (entries : List D) (longer : List AigEdge) → HasValuesAtSteps k old (map g entries) new longer → HasValuesAtSteps k (λ t d. old t (g d)) entries new longer
-  stand_unmade entries longer s = record {
-    count = subst (λ n. length longer ≡ (k + 1) * n) (length-map entries g) s.count;
-    each = λ t j d h is.
-        let r = s.each t j (g d) h (get_map g entries j d is) in
-        (r.0, subst (λ n. slice_get longer (t * n + j) ≡ Some r.0) (length-map entries g) r.1, r.2);
-  }
-
-  pub sets_unmade : (sets : List (List D)) (longer : List (List AigEdge)) → SetsStandAtSteps k old (map (map g) sets) new longer → SetsStandAtSteps k (λ t d. old t (g d)) sets new longer
-  sets_unmade sets longer s = record {
-    count = subst (λ n. length longer ≡ (k + 1) * n) (length-map sets (map g)) s.count;
-    each = λ t j set h is.
-        let r = s.each t j (map g set) h (get_map (map g) sets j set is) in
-        (r.0, subst (λ n. slice_get longer (t * n + j) ≡ Some r.0) (length-map sets (map g)) r.1, zip_unmade g (λ entry e. new e ≡ old t entry) set r.0 r.2);
+  pub properties_alike : (p : Properties D) (q : Properties E) (longer : Properties AigEdge) → AreProperties AreAlike p q → AllProperties IsSame longer → PropertiesStandAtSteps k old q new longer → PropertiesStandAtSteps k first p other longer
+  properties_alike p q longer alike same s = record {
+    outputs = stand_alike p.outputs q.outputs longer.outputs alike.outputs same.outputs s.outputs;
+    bads = stand_alike p.bads q.bads longer.bads alike.bads same.bads s.bads;
+    constraints = stand_alike p.constraints q.constraints longer.constraints alike.constraints same.constraints s.constraints;
+    justice = sets_alike p.justice q.justice longer.justice alike.justice same.justice s.justice;
+    fairness = stand_alike p.fairness q.fairness longer.fairness alike.fairness same.fairness s.fairness;
   }

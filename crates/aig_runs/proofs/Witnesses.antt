@@ -1,12 +1,15 @@
 -- A witness of a file's machine and one of its circuit are one.
-use Rattle.std.proofs.Common.{◌≡◌, ℕ, ◌≤◌, Bool, List, IsTrue, refl, sym, subst, ◌∙◌, arith}
-use Rattle.std.specs.List.{AllByRecursion, list_any}
-use Rattle.std.proofs.lemmas.List.Elements.{All-from_recursion, All-map}
+use Rattle.std.proofs.Common.{◌≡◌, ℕ, ◌≤◌, Bool, IsTrue, refl, sym, subst, ◌∙◌, arith}
+use Rattle.std.specs.List.{list_any}
+use Rattle.std.proofs.lemmas.List.Elements.{All-from_recursion, All-map, recursion_from_All}
 use Rattle.aig_circuit.specs.declared.edge.AigEdge.{AigEdge}
 use Rattle.aig_circuit.specs.declared.node.AigNodeType.TheVariants.{Leaf}
 use Rattle.aig_circuit.specs.Circuit.{Circuit}
 use Rattle.aig_circuit.specs.Runs.{AgreeOnLeaves, IsRun}
 use Rattle.aig_circuit.specs.Tree.{edge_value, node_value}
+use Rattle.aig_circuit.specs.Properties.{AllProperties}
+use Rattle.aig_circuit.proofs.Listed.{AllProperties-weaker}
+use Rattle.aig_circuit.proofs.Lists.{All-from_map, AllZip-map}
 use Rattle.aig_circuit.proofs.Trees.{kind_at-within, node_value-leaf}
 use Rattle.aig_format.specs.Circuit.{circuit_of, edge_of}
 use Rattle.aig_format.specs.File.{File}
@@ -15,16 +18,14 @@ use Rattle.aig_format.specs.Machine as machine
 use Rattle.aig_format.specs.Machine.{value_of_literal}
 use Rattle.aig_format.specs.Variables.{IsKnown}
 use Rattle.aig_format.proofs.Circuits.{used_by_section}
-use Rattle.aig_format.proofs.Entries.{rec_both, rec_weaker}
 use Rattle.aig_format.proofs.Nodes.{length-nodes}
 use Rattle.aig_format.proofs.Numbers.{used_known, variable_of}
 use Rattle.aig_format_laws.specs.Nodes.{HasNodeValues, values_over}
-use Rattle.aig_format_laws.proofs.Joining.{all_unmap, back_run, forth_run, forth_values, leaves_of, literal_is}
+use Rattle.aig_format_laws.proofs.Joining.{back_run, forth_run, forth_values, leaves_of, literal_is}
 use Rattle.aig_format_laws.proofs.Starts.{starts_agree}
 use Rattle.aig_runs.specs.CircuitQueries.{IsCircuitWitness}
 use Rattle.aig_runs.specs.Queries.{IsWitness}
 use Rattle.aig_runs.proofs.Rows.{any_zip}
-use Rattle.aig_renumber.proofs.Places.{AllZip-map}
 
 module _ (f : File) (limit k : ℕ) (fits : Fits f limit) (x run : ℕ → ℕ → Bool) (values : HasNodeValues f k x run) where
   abbrev c : Circuit
@@ -34,19 +35,15 @@ module _ (f : File) (limit k : ℕ) (fits : Fits f limit) (x run : ℕ → ℕ �
   abbrev Keeps : ℕ → ℕ → Type 0
   Keeps t e = edge_value c.nodes (x t) (edge_of f e) ≡ value_of_literal (run t) e
 
-  keeps : (t : ℕ) → t ≤ k → (es : List ℕ) → AllByRecursion (IsKnown f) es → AllByRecursion (Keeps t) es
-  keeps t h es known = rec_weaker (IsKnown f) (Keeps t) (λ e is. literal_is f k x run values t e h is) es known
-
-  constraints_known : AllByRecursion (IsKnown f) f.constraints
-  constraints_known = (used_by_section (IsKnown f) f (used_known f limit fits)).constraints
+  keeps : (t : ℕ) → t ≤ k → AllProperties (Keeps t) f.properties
+  keeps t h = AllProperties-weaker (IsKnown f) (Keeps t) (λ e is. literal_is f k x run values t e h is) f.properties (used_by_section (IsKnown f) f (used_known f limit fits)).properties
 
   -- some bad edge is true where some bad literal is
-  bads_same : list_any (edge_value c.nodes (x k)) c.bads ≡ list_any (value_of_literal (run k)) f.bads
+  bads_same : list_any (edge_value c.nodes (x k)) c.properties.bads ≡ list_any (value_of_literal (run k)) f.properties.bads
   bads_same =
       let value = edge_value c.nodes (x k) in
-      let known = (used_by_section (IsKnown f) f (used_known f limit fits)).bads in
-      any_zip (value_of_literal (run k)) value f.bads c.bads
-      (AllZip-map (edge_of f) (λ e edge. value edge ≡ value_of_literal (run k) e) f.bads (All-from_recursion (Keeps k) f.bads (keeps k (omega arith) f.bads known)))
+      any_zip (value_of_literal (run k)) value f.properties.bads c.properties.bads
+      (AllZip-map (edge_of f) (λ e edge. value edge ≡ value_of_literal (run k) e) f.properties.bads (keeps k (omega arith)).bads)
 
   abbrev IsTrueEdge : ℕ → AigEdge → Type 0
   IsTrueEdge t e = IsTrue (edge_value c.nodes (x t) e)
@@ -59,9 +56,8 @@ module _ (f : File) (limit k : ℕ) (fits : Fits f limit) (x run : ℕ → ℕ �
     is_run = is;
     start = (starts_agree f limit k x run fits values).0 w.start;
     constraints = λ t h.
-        let both = rec_both (Keeps t) (IsTrueLiteral t) f.constraints (keeps t h f.constraints constraints_known) (w.constraints t h) in
-        let Are = λ (e : ℕ). IsTrueEdge t (edge_of f e) in
-        All-map (IsTrueEdge t) (edge_of f) f.constraints (All-from_recursion Are f.constraints (rec_weaker (λ e. Keeps t e × IsTrueLiteral t e) Are (λ e p. p.0 ∙ p.1) f.constraints both));
+        let holds = All-from_recursion (IsTrueLiteral t) f.properties.constraints (w.constraints t h) in
+        All-map (IsTrueEdge t) (edge_of f) f.properties.constraints (λ j d l. (keeps t h).constraints j d l ∙ holds j d l);
     bad = bads_same ∙ w.bad;
   }
 
@@ -70,9 +66,8 @@ module _ (f : File) (limit k : ℕ) (fits : Fits f limit) (x run : ℕ → ℕ �
     is_run = is;
     start = (starts_agree f limit k x run fits values).1 w.start;
     constraints = λ t h.
-        let Are = λ (e : ℕ). IsTrueEdge t (edge_of f e) in
-        let both = rec_both (Keeps t) Are f.constraints (keeps t h f.constraints constraints_known) (all_unmap (IsTrueEdge t) (edge_of f) f.constraints (w.constraints t h)) in
-        rec_weaker (λ e. Keeps t e × Are e) (IsTrueLiteral t) (λ e p. sym p.0 ∙ p.1) f.constraints both;
+        let holds = All-from_map (edge_of f) (IsTrueEdge t) f.properties.constraints (w.constraints t h) in
+        recursion_from_All (IsTrueLiteral t) f.properties.constraints (λ j d l. sym ((keeps t h).constraints j d l) ∙ holds j d l);
     bad = sym bads_same ∙ w.bad;
   }
 

@@ -16,8 +16,9 @@ use Rattle.aig_runs.specs.Queries.{SatisfiesBoth, query_clauses}
 pub record IsCircuitWitness (c : Circuit) (k : ℕ) (run : ℕ → ℕ → Bool) : Type 0 where
   pub is_run : IsRun c k run
   pub start : IsInitial c (run 0)
-  pub constraints : (t : ℕ) → t ≤ k → All (λ e. IsTrue (edge_value c.nodes (run t) e)) c.constraints
-  pub bad : IsTrue (list_any (edge_value c.nodes (run k)) c.bads)
+  pub constraints : (t : ℕ) → t ≤ k
+      → All (λ e. IsTrue (edge_value c.nodes (run t) e)) c.properties.constraints
+  pub bad : IsTrue (list_any (edge_value c.nodes (run k)) c.properties.bads)
 
 -- the circuit has a witness of k + 1 steps
 abbrev pub HasCircuitWitness : Circuit → ℕ → Type 0

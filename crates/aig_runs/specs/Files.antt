@@ -13,7 +13,7 @@ use Rattle.aig_format.specs.File.{File}
 use Rattle.aig_format.specs.Machine.{value_of_literal, IsMachineRun}
 use Rattle.aig_format_laws.specs.MachineRuns.{AgreeOnKnown}
 use Rattle.aig_unroll.specs.Places.{place_at}
-use Rattle.aig_unroll.specs.Unroll.{HasValuesAtSteps, SetsStandAtSteps}
+use Rattle.aig_unroll.specs.Unroll.{PropertiesStandAtSteps}
 use Rattle.aig_runs.specs.Circuits.{AreNodeValues}
 
 -- The run has the leaf values v: the file's j-th input, which is the circuit's, has at each step
@@ -28,13 +28,8 @@ pub record HasLeafValues (f : File) (circuit unrolled : Circuit) (k : ℕ) (v : 
 -- at step k, its value on the run.
 pub record HasRunValues (f : File) (unrolled : Circuit) (k : ℕ) (value : AigEdge → Bool)
     (run : ℕ → ℕ → Bool) : Type 0 where
-  pub outputs : HasValuesAtSteps k (λ t. value_of_literal (run t)) f.outputs value unrolled.outputs
-  pub bads : HasValuesAtSteps k (λ t. value_of_literal (run t)) f.bads value unrolled.bads
-  pub constraints : HasValuesAtSteps k (λ t. value_of_literal (run t)) f.constraints value
-      unrolled.constraints
-  pub justice : SetsStandAtSteps k (λ t. value_of_literal (run t)) f.justice value unrolled.justice
-  pub fairness : HasValuesAtSteps k (λ t. value_of_literal (run t)) f.fairness value
-      unrolled.fairness
+  pub properties : PropertiesStandAtSteps k (λ t. value_of_literal (run t)) f.properties value
+      unrolled.properties
   pub state : AllZip (λ l latch. value latch.next ≡ value_of_literal (run k) l.next) f.latches
       unrolled.latchs
 

@@ -19,8 +19,8 @@ pub record IsWitness (f : File) (k : ℕ) (run : ℕ → ℕ → Bool) : Type 0 
   pub is_run : IsMachineRun f k run
   pub start : IsMachineInitial f run
   pub constraints : (t : ℕ) → t ≤ k
-      → AllByRecursion (λ e. IsTrue (value_of_literal (run t) e)) f.constraints
-  pub bad : IsTrue (list_any (value_of_literal (run k)) f.bads)
+      → AllByRecursion (λ e. IsTrue (value_of_literal (run t) e)) f.properties.constraints
+  pub bad : IsTrue (list_any (value_of_literal (run k)) f.properties.bads)
 
 -- ---- the clauses
 
@@ -44,13 +44,13 @@ unit_clauses es = map (λ e. lit_of e ∷ []) es
 
 -- the bad edges of step k, which are the last of the unrolled circuit's
 abbrev pub last_bads : Circuit → ℕ → Circuit → List AigEdge
-last_bads c k unrolled = drop (k * length c.bads) unrolled.bads
+last_bads c k unrolled = drop (k * length c.properties.bads) unrolled.properties.bads
 
 -- the query clauses, in order: initial values, each constraint at each step, and one clause of the
 -- bad edges of step k
 abbrev pub query_clauses : Circuit → ℕ → Circuit → List (List Lit)
 query_clauses c k unrolled =
-    flat_map start_clauses c.latchs ++ unit_clauses unrolled.constraints
+    flat_map start_clauses c.latchs ++ unit_clauses unrolled.properties.constraints
     ++ map lit_of (last_bads c k unrolled) ∷ []
 
 -- ---- what they say
@@ -83,5 +83,6 @@ abbrev pub IsSafeTo : File → ℕ → Type 0
 IsSafeTo f n =
     (last t : ℕ) (run : ℕ → ℕ → Bool) → IsMachineRun f last run → IsMachineInitial f run → t ≤ last
     → t ≤ n
-    → ((s : ℕ) → s ≤ t → AllByRecursion (λ e. IsTrue (value_of_literal (run s) e)) f.constraints)
-    → AllByRecursion (λ e. value_of_literal (run t) e ≡ false) f.bads
+    → ((s : ℕ) → s ≤ t
+    → AllByRecursion (λ e. IsTrue (value_of_literal (run s) e)) f.properties.constraints)
+    → AllByRecursion (λ e. value_of_literal (run t) e ≡ false) f.properties.bads

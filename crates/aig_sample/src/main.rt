@@ -1,5 +1,8 @@
-//! Reads an AIGER file, makes a property of its first output, and prints two steps of the refined and hashed circuit.
+//! Prints a counter that calls build, and two of its steps; then reads an AIGER file, makes a property of its first output, and
+//! prints two steps of the refined and hashed circuit.
 #![tactic(auto)]
+
+mod counter;
 
 ghost use Rattle.std.specs.Prelude.{◌≡◌, ◌<◌, ◌&&◌, ◌||◌, ℕ, Bool, IfOk, length, not, slice_index_or};
 ghost use Rattle.aig_circuit.specs.Circuit.{IsInRange};
@@ -14,7 +17,7 @@ use std::process::ExitCode;
 use std::rt::Files;
 use thiserror::Error;
 
-/// Why nothing is printed.
+/// Why not all is printed.
 #[derive(Clone, Copy, Debug, Error)]
 enum SampleError {
     /// The file was refused.
@@ -30,12 +33,12 @@ enum SampleError {
 
 /// Adds gates for: where `enable` holds, so does the first output.
 fn output_where(aig: &mut Aig, enable: AigEdge) -> Result<AigEdge, MemoryError>
-    requires some { 0 < length aig.old.outputs }
+    requires some { 0 < length aig.old.properties.outputs }
     requires enable { IsInRange aig.old.nodes enable }
     ensures edge { IfOk result (λ e. IsInRange aig.new.nodes e) }
     ensures value { IfOk result (λ e. (x : ℕ → Bool) → edge_value aig.new.nodes x e
         ≡ (not (edge_value aig.old.nodes x enable)
-        || (edge_value aig.old.nodes x (slice_index_or aig.old.outputs 0 enable)
+        || (edge_value aig.old.nodes x (slice_index_or aig.old.properties.outputs 0 enable)
         && edge_value aig.old.nodes x enable))) }
 {
     let output = aig.outputs()[0];
@@ -64,6 +67,12 @@ fn show<R: Source, W: Sink>(alloc: Global, r: &mut R, w: &mut W) -> Result<(), S
     Ok(steps.write_text(w)?)
 }
 
+/// Writes the counter and two steps of it, and then those of the circuit of `r`.
+fn show_all<R: Source, W: Sink>(alloc: Global, r: &mut R, w: &mut W) -> Result<(), SampleError> {
+    counter::show(alloc, w)?;
+    show(alloc, r, w)
+}
+
 fn main(rt: HostRuntime) -> ExitCode {
     let Ok(file) = File::open(&rt, "and.aag") else {
         let _ = eprintln!(rt; "{}", ReadError::Open);
@@ -71,7 +80,7 @@ fn main(rt: HostRuntime) -> ExitCode {
     };
     let mut source = FromRead::new(file);
     let mut sink = ToWrite::new(io::writer(&rt));
-    match show(rt.alloc(), &mut source, &mut sink) {
+    match show_all(rt.alloc(), &mut source, &mut sink) {
         Ok(()) => ExitCode::SUCCESS,
         Err(fault) => {
             let _ = eprintln!(rt; "{fault}");

@@ -1,92 +1,97 @@
 //! Steps that ask something of a circuit.
 
-use crate::script::{Fault, Script, call};
-use crate::show::{print_answer, print_circuit, print_dag};
-use crate::words::{literals, number};
-use aig::{Aig, AigEdge};
-use aig_testing::{edge, has_edges};
+use crate::script::{Refusal, Script};
+use crate::show::{call, print, print_answer, print_circuit, print_dag};
+use crate::words::{Line, edges, find, has_edges};
+use aig::Aig;
+use aig_base::DagCnf;
 use std::alloc::Global;
+use std::collections::HashSet;
 use std::io::Print;
 
-/// Prints the clauses of the circuit's gates.
-fn cnf<R: Print>(rt: &R, circuit: &Aig, optimize: bool) -> Result<(), Fault> {
+/// What is asked.
+enum Question {
+    Show,
+    Symbol,
+    BeginsWith,
+    Cnf,
+    CnfRaw,
+    Cone,
+    Reached,
+}
+
+const STEPS: [(&str, Question); 7] = [
+    ("show", Question::Show),
+    ("get_symbol", Question::Symbol),
+    ("begins_with", Question::BeginsWith),
+    ("cnf", Question::Cnf),
+    ("cnf_raw", Question::CnfRaw),
+    ("fanin_logic_cone", Question::Cone),
+    ("coi", Question::Reached),
+];
+
+/// The clauses of the circuit's gates, if it fits literals.
+fn clauses(circuit: &Aig, optimize: bool) -> Result<DagCnf, Refusal> {
     if !circuit.fits_lits() {
-        return Err(Fault::Step);
+        return Err(Refusal::NotAllowed);
     }
-    match call!(rt, circuit.cnf(optimize)) {
+    Ok(circuit.cnf(optimize)?)
+}
+
+/// Prints the clauses of the circuit's gates.
+fn cnf<R: Print>(rt: &R, circuit: &Aig, optimize: bool) {
+    match call!(rt, clauses(circuit, optimize)) {
         Ok(clauses) => print_dag(rt, &clauses),
-        Err(error) => {
-            let _ = println!(rt; "{error:?}");
-        }
+        Err(refusal) => print(rt, &refusal),
     }
-    Ok(())
 }
 
-/// The edges that words spell.
-fn edges(alloc: Global, words: &[&str]) -> Result<Vec<AigEdge>, Fault> {
-    let mut edges = Vec::new(alloc);
-    for literal in &literals(alloc, words)? {
-        edges.push(edge(*literal))?;
+/// The cone of edges.
+fn cone(alloc: Global, circuit: &Aig, literals: &[usize]) -> Result<Vec<bool>, Refusal> {
+    let edges = edges(alloc, literals)?;
+    if !has_edges(circuit, &edges) {
+        return Err(Refusal::NotAllowed);
     }
-    Ok(edges)
+    Ok(circuit.fanin_logic_cone(&edges)?)
 }
 
-/// Prints the cone of edges.
-fn cone<R: Print>(rt: &R, script: &Script, words: &[&str]) -> Result<(), Fault> {
-    let edges = edges(script.alloc, words)?;
-    if !has_edges(&script.circuit, &edges) {
-        return Err(Fault::Step);
-    }
-    print_answer(rt, &call!(rt, script.circuit.fanin_logic_cone(&edges)));
-    Ok(())
-}
-
-/// The nodes that words spell.
-fn nodes(alloc: Global, words: &[&str]) -> Result<Vec<usize>, Fault> {
-    let mut nodes = Vec::new(alloc);
-    for word in words {
-        nodes.push(number(word)?)?;
-    }
-    Ok(nodes)
-}
-
-/// Prints what nodes reach, latches crossed.
-fn reached<R: Print>(rt: &R, script: &Script, words: &[&str]) -> Result<(), Fault> {
-    let circuit = &script.circuit;
-    let nodes = nodes(script.alloc, words)?;
+/// What nodes reach, latches crossed.
+fn reached(circuit: &Aig, nodes: &[usize]) -> Result<HashSet<usize>, Refusal> {
     if !nodes.iter().all(|id| circuit.has_node(*id)) {
-        return Err(Fault::Step);
+        return Err(Refusal::NotAllowed);
     }
-    print_answer(rt, &call!(rt, circuit.coi(&nodes)));
-    Ok(())
+    Ok(circuit.coi(nodes)?)
 }
 
 /// Prints a node's name.
-fn symbol<R: Print>(rt: &R, script: &Script, id: usize) {
-    print_answer(rt, &call!(rt, script.circuit.get_symbol(id)));
+fn symbol<R: Print>(rt: &R, circuit: &Aig, numbers: &[usize]) {
+    match numbers {
+        [id] => print_answer(rt, &call!(rt, circuit.get_symbol(*id))),
+        _ => print(rt, &Refusal::NotAllowed),
+    }
 }
 
-/// Prints whether the circuit begins with the one that was kept.
-fn begins_with<R: Print>(rt: &R, script: &Script) {
-    let _ = println!(rt; "{}", script.circuit.begins_with(&script.kept));
+/// Takes a step of the table.
+fn ask<R: Print>(rt: &R, script: &Script, question: &Question, numbers: &[usize]) {
+    let circuit = &script.circuit;
+    match question {
+        Question::Show => print_circuit(rt, circuit),
+        Question::Symbol => symbol(rt, circuit, numbers),
+        Question::BeginsWith => print(rt, &circuit.begins_with(&script.kept)),
+        Question::Cnf => cnf(rt, circuit, true),
+        Question::CnfRaw => cnf(rt, circuit, false),
+        Question::Cone => print_answer(rt, &call!(rt, cone(script.alloc, circuit, numbers))),
+        Question::Reached => print_answer(rt, &call!(rt, reached(circuit, numbers))),
+    }
 }
 
 /// Takes a step of this file, if it is one.
-pub(crate) fn take<R: Print>(
-    rt: &R,
-    script: &Script,
-    name: &str,
-    words: &[&str],
-) -> Result<bool, Fault> {
-    match words {
-        [] if name == "show" => print_circuit(rt, &script.circuit),
-        [id] if name == "get_symbol" => symbol(rt, script, number(id)?),
-        [] if name == "begins_with" => begins_with(rt, script),
-        [] if name == "cnf" => cnf(rt, &script.circuit, true)?,
-        [] if name == "cnf_raw" => cnf(rt, &script.circuit, false)?,
-        edges if name == "fanin_logic_cone" => cone(rt, script, edges)?,
-        nodes if name == "coi" => reached(rt, script, nodes)?,
-        _ => return Ok(false),
+pub(crate) fn take<R: Print>(rt: &R, script: &Script, line: Line<'_>) -> bool {
+    match find(&STEPS, line.name) {
+        Some(question) => {
+            ask(rt, script, question, line.numbers);
+            true
+        }
+        None => false,
     }
-    Ok(true)
 }

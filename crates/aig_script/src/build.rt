@@ -1,155 +1,146 @@
-//! Steps that add to a circuit, or change its entries.
+//! Steps that add gates to a circuit, or change its leaves and entries.
 
-use crate::script::{Fault, Script, call};
-use crate::show::print_answer;
-use crate::words::{list, literal, literals, number, optional};
-use aig_testing::{Many, Pair, Step};
+use crate::script::{Refusal, Script};
+use crate::show::{call, print, print_answer};
+use crate::words::{Line, edge, edges, find, has_edges};
+use crate::{leaves, properties};
+use aig::{Aig, AigEdge};
+use std::alloc::Global;
 use std::fs;
 use std::io::Print;
 use std::rt::Files;
 
-/// The connective of two edges of a name.
-fn pair(name: &str) -> Option<Pair> {
-    if name == "and" {
-        return Some(Pair::And);
-    }
-    if name == "or" {
-        return Some(Pair::Or);
-    }
-    if name == "imply" {
-        return Some(Pair::Imply);
-    }
-    if name == "eq" {
-        return Some(Pair::Eq);
-    }
-    if name == "trivial_and" {
-        return Some(Pair::TrivialAnd);
-    }
-    if name == "trivial_or" {
-        return Some(Pair::TrivialOr);
-    }
-    None
+/// The connectives of two edges.
+enum Pair {
+    And,
+    Or,
+    Imply,
+    Eq,
+    TrivialAnd,
+    TrivialOr,
 }
 
-/// The connective of lists of a name.
-fn many(name: &str) -> Option<Many> {
-    if name == "ands" {
-        return Some(Many::Ands);
-    }
-    if name == "ors" {
-        return Some(Many::Ors);
-    }
-    if name == "trivial_ands" {
-        return Some(Many::TrivialAnds);
-    }
-    if name == "trivial_ors" {
-        return Some(Many::TrivialOrs);
-    }
-    None
+/// The connectives of lists of edges.
+enum Many {
+    Ands,
+    Ors,
+    TrivialAnds,
+    TrivialOrs,
 }
 
-/// The step that adds or changes a leaf.
-fn leaf_step(name: &str, words: &[&str]) -> Result<Option<Step<'static>>, Fault> {
-    let step = match words {
-        [] if name == "leaf" => Step::Leaf,
-        [] if name == "input" => Step::Input,
-        [id] if name == "add_input" => Step::AddInput(number(id)?),
-        [next, init @ ..] if name == "latch" => Step::Latch(literal(next)?, optional(init)?),
-        [id, next, init @ ..] if name == "add_latch" => {
-            Step::AddLatch(number(id)?, literal(next)?, optional(init)?)
-        }
-        [i, e] if name == "next" => Step::Next(number(i)?, literal(e)?),
-        [i, e @ ..] if name == "init" => Step::Init(number(i)?, optional(e)?),
-        _ => return Ok(None),
+const PAIRS: [(&str, Pair); 6] = [
+    ("and", Pair::And),
+    ("or", Pair::Or),
+    ("imply", Pair::Imply),
+    ("eq", Pair::Eq),
+    ("trivial_and", Pair::TrivialAnd),
+    ("trivial_or", Pair::TrivialOr),
+];
+
+const MANY: [(&str, Many); 4] = [
+    ("ands", Many::Ands),
+    ("ors", Many::Ors),
+    ("trivial_ands", Many::TrivialAnds),
+    ("trivial_ors", Many::TrivialOrs),
+];
+
+/// Adds a connective of two edges.
+fn add_gate(aig: &mut Aig, pair: &Pair, literals: &[usize]) -> Result<AigEdge, Refusal> {
+    let [a, b] = literals else {
+        return Err(Refusal::NotAllowed);
     };
-    Ok(Some(step))
-}
-
-/// The step that changes a list.
-fn list_step(name: &str, words: &[&str]) -> Result<Option<Step<'static>>, Fault> {
-    let step = match words {
-        [it, e] if name == "push" => Step::Push(list(it)?, literal(e)?),
-        [it, i, e] if name == "set" => Step::Set(list(it)?, number(i)?, literal(e)?),
-        [it] if name == "clear" => Step::Clear(list(it)?),
-        [] if name == "clear_justice" => Step::ClearJustice,
-        _ => return Ok(None),
+    let (a, b) = (edge(*a), edge(*b));
+    if !aig.has_edge(a) || !aig.has_edge(b) {
+        return Err(Refusal::NotAllowed);
+    }
+    let added = match pair {
+        Pair::And => aig.new_and_node(a, b),
+        Pair::Or => aig.new_or_node(a, b),
+        Pair::Imply => aig.new_imply_node(a, b),
+        Pair::Eq => aig.new_eq_node(a, b),
+        Pair::TrivialAnd => aig.trivial_new_and_node(a, b),
+        Pair::TrivialOr => aig.trivial_new_or_node(a, b),
     };
-    Ok(Some(step))
+    Ok(added?)
 }
 
-/// The step of a connective, or of a justice set.
-fn edges_step<'a>(name: &str, literals: &'a [u32]) -> Option<Step<'a>> {
-    if name == "justice" {
-        return Some(Step::Justice(literals));
+/// Adds a connective of a list of edges.
+fn add_gates(
+    alloc: Global,
+    aig: &mut Aig,
+    many: &Many,
+    literals: &[usize],
+) -> Result<AigEdge, Refusal> {
+    let edges = edges(alloc, literals)?;
+    if !has_edges(aig, &edges) {
+        return Err(Refusal::NotAllowed);
     }
-    if let Some(many) = many(name) {
-        return Some(Step::Gates(many, literals));
-    }
-    match literals {
-        [a, b] => Some(Step::Gate(pair(name)?, *a, *b)),
-        _ => None,
-    }
-}
-
-/// Takes a step, and prints the edge that it answers, if there is one, or its refusal.
-fn take_step<R: Print>(rt: &R, script: &mut Script, step: Step<'_>) {
-    match call!(
-        rt,
-        aig_testing::take(script.alloc, &mut script.circuit, step)
-    ) {
-        Ok(None) => {}
-        answer => print_answer(rt, &answer),
-    }
-}
-
-/// Takes the step of a connective, or of a justice set, if it is one.
-fn take_edges<R: Print>(
-    rt: &R,
-    script: &mut Script,
-    name: &str,
-    words: &[&str],
-) -> Result<bool, Fault> {
-    if pair(name).is_none() && many(name).is_none() && name != "justice" {
-        return Ok(false);
-    }
-    let literals = literals(script.alloc, words)?;
-    let Some(step) = edges_step(name, &literals) else {
-        return Err(Fault::Step);
+    let added = match many {
+        Many::Ands => aig.new_ands_node(edges),
+        Many::Ors => aig.new_ors_node(edges),
+        Many::TrivialAnds => aig.trivial_new_ands_node(edges),
+        Many::TrivialOrs => aig.trivial_new_ors_node(edges),
     };
-    take_step(rt, script, step);
-    Ok(true)
+    Ok(added?)
 }
 
 /// Names a node by the text of a file.
-fn take_name<R: Print + Files + AllocGlobal>(
-    rt: &R,
-    script: &mut Script,
-    id: &str,
-    path: &str,
-) -> Result<bool, Fault> {
-    let name = fs::read_to_string(rt, path)?;
-    take_step(rt, script, Step::Name(number(id)?, name.as_str()));
-    Ok(true)
+fn name<R: Print + Files + AllocGlobal>(rt: &R, script: &mut Script, line: Line<'_>) {
+    let ([id, ..], [_, path]) = (line.numbers, line.words) else {
+        return print(rt, &Refusal::NotAllowed);
+    };
+    match fs::read_to_string(rt, *path) {
+        Ok(name) => print_answer(
+            rt,
+            &call!(rt, leaves::name(&mut script.circuit, *id, name.as_str())),
+        ),
+        Err(_) => print(rt, &Refusal::NotAllowed),
+    }
+}
+
+/// Takes a step that adds gates, if it is one.
+fn take_gates<R: Print>(rt: &R, script: &mut Script, line: Line<'_>) -> bool {
+    let aig = &mut script.circuit;
+    if let Some(pair) = find(&PAIRS, line.name) {
+        print_answer(rt, &call!(rt, add_gate(aig, pair, line.numbers)));
+        return true;
+    }
+    if let Some(many) = find(&MANY, line.name) {
+        print_answer(
+            rt,
+            &call!(rt, add_gates(script.alloc, aig, many, line.numbers)),
+        );
+        return true;
+    }
+    false
+}
+
+/// Takes a step that changes leaves or entries, if it is one.
+fn take_entries<R: Print>(rt: &R, script: &mut Script, line: Line<'_>) -> bool {
+    let aig = &mut script.circuit;
+    if let Some(leaf) = find(&leaves::STEPS, line.name) {
+        print_answer(rt, &call!(rt, leaves::change(aig, leaf, line.numbers)));
+        return true;
+    }
+    if let Some(entry) = find(&properties::STEPS, line.name) {
+        print_answer(
+            rt,
+            &call!(rt, properties::change(script.alloc, aig, entry, line)),
+        );
+        return true;
+    }
+    false
 }
 
 /// Takes a step of this file, if it is one.
 pub(crate) fn take<R: Print + Files + AllocGlobal>(
     rt: &R,
     script: &mut Script,
-    name: &str,
-    words: &[&str],
-) -> Result<bool, Fault> {
-    match words {
-        [id, path] if name == "name" => return take_name(rt, script, id, path),
-        _ => {}
+    line: Line<'_>,
+) -> bool {
+    if line.name == "name" {
+        name(rt, script, line);
+        return true;
     }
-    if let Some(step) = leaf_step(name, words)? {
-        take_step(rt, script, step);
-        return Ok(true);
-    }
-    if let Some(step) = list_step(name, words)? {
-        take_step(rt, script, step);
-        return Ok(true);
-    }
-    take_edges(rt, script, name, words)
+    take_gates(rt, script, line) || take_entries(rt, script, line)
 }

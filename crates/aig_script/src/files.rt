@@ -2,47 +2,70 @@
 
 ghost use Rattle.std.specs.Prelude.{◌<◌, ◌≤◌, ◌^◌, IfOk};
 
-use crate::script::{Fault, Script, call, take_circuit};
-use crate::show::{print_circuit, print_clauses, print_dag};
-use crate::words::number;
+use crate::script::{Refusal, Script};
+use crate::show::{call, print, print_circuit, print_clauses, print_dag, print_title};
+use crate::words::{Line, find};
 use aig::Aig;
 use aig_base::Parts;
 use aig_encode::{Query, encode, query};
+use std::fmt::Debug;
 use std::fs;
 use std::io::Print;
 use std::path::Path;
 use std::rt::Files;
 
+/// What a file is read for.
+enum Reading {
+    Circuit,
+    CircuitOfPath,
+    Encode,
+    EncodeRaw,
+    Query,
+    QueryRaw,
+}
+
+const STEPS: [(&str, Reading); 6] = [
+    ("read", Reading::Circuit),
+    ("from_file", Reading::CircuitOfPath),
+    ("encode", Reading::Encode),
+    ("encode_raw", Reading::EncodeRaw),
+    ("query", Reading::Query),
+    ("query_raw", Reading::QueryRaw),
+];
+
 /// The limits on nodes are from 1 to this.
 const MOST: usize = 1 << 31;
 
-/// How a file is read: so many bytes at a time, under a limit on nodes, and failing after some bytes.
-#[derive(Clone, Copy)]
-struct Reading {
-    piece: usize,
-    limit: usize,
-    fails: Option<usize>,
+/// A limit on nodes.
+fn limit_of(number: usize) -> Result<usize, Refusal>
+    ensures some { IfOk result (λ limit. 1 ≤ limit) }
+    ensures few { IfOk result (λ limit. limit ≤ 2 ^ 31) }
+{
+    if number < 1 || number > MOST {
+        return Err(Refusal::NotAllowed);
+    }
+    Ok(number)
 }
 
-/// How words say that a file is read.
-fn reading_of(words: &[&str]) -> Result<Reading, Fault>
-    ensures piece { IfOk result (λ it. 0 < it.piece) }
-    ensures some { IfOk result (λ it. 1 ≤ it.limit) }
-    ensures few { IfOk result (λ it. it.limit ≤ 2 ^ 31) }
-{
-    let (piece, limit, fails) = match words {
-        [piece, limit] => (number(piece)?, number(limit)?, None),
-        [piece, limit, fails] => (number(piece)?, number(limit)?, Some(number(fails)?)),
-        _ => return Err(Fault::Step),
-    };
-    if piece < 1 || limit < 1 || limit > MOST {
-        return Err(Fault::Step);
+/// The bytes of a file, of which so many come at a time, and which fail after some where a number says so.
+pub(crate) fn source<R: Files + AllocGlobal>(
+    rt: &R,
+    path: &str,
+    piece: usize,
+    fails: &[usize],
+) -> Result<Parts, Refusal> {
+    match fs::read(rt, path) {
+        Ok(bytes) if piece > 0 => Ok(Parts::new(bytes, piece, fails.first().copied())),
+        _ => Err(Refusal::NotAllowed),
     }
-    Ok(Reading {
-        piece,
-        limit,
-        fails,
-    })
+}
+
+/// Takes a circuit in place of the one before, or prints why there is none.
+fn take_circuit<R: Print, E: Debug + Drop>(rt: &R, script: &mut Script, made: Result<Aig, E>) {
+    match made {
+        Ok(circuit) => script.circuit = circuit,
+        Err(error) => print(rt, &error),
+    }
 }
 
 /// Reads a file.
@@ -50,14 +73,14 @@ fn read<R: Print + Files + AllocGlobal>(
     rt: &R,
     script: &mut Script,
     path: &str,
-    words: &[&str],
-) -> Result<(), Fault> {
-    let reading = reading_of(words)?;
-    let mut source = Parts::new(fs::read(rt, path)?, reading.piece, reading.fails);
-    let made = call!(
-        rt,
-        Aig::from_aiger(script.alloc, &mut source, reading.limit)
-    );
+    numbers: &[usize],
+) -> Result<(), Refusal> {
+    let [piece, limit, fails @ ..] = numbers else {
+        return Err(Refusal::NotAllowed);
+    };
+    let limit = limit_of(*limit)?;
+    let mut source = source(rt, path, *piece, fails)?;
+    let made = call!(rt, Aig::from_aiger(script.alloc, &mut source, limit));
     take_circuit(rt, script, made);
     Ok(())
 }
@@ -67,11 +90,12 @@ fn from_file<R: Print + Files>(
     rt: &R,
     script: &mut Script,
     path: &str,
-    limit: usize,
-) -> Result<(), Fault> {
-    if limit < 1 || limit > MOST {
-        return Err(Fault::Step);
-    }
+    numbers: &[usize],
+) -> Result<(), Refusal> {
+    let [limit] = numbers else {
+        return Err(Refusal::NotAllowed);
+    };
+    let limit = limit_of(*limit)?;
     let path = Path::new(path);
     let made = call!(rt, Aig::from_file(rt, script.alloc, path, limit));
     take_circuit(rt, script, made);
@@ -83,23 +107,20 @@ fn encode_file<R: Print + Files + AllocGlobal>(
     rt: &R,
     script: &mut Script,
     path: &str,
-    k: usize,
+    numbers: &[usize],
     optimize: bool,
-    words: &[&str],
-) -> Result<(), Fault> {
-    let reading = reading_of(words)?;
-    let mut source = Parts::new(fs::read(rt, path)?, reading.piece, reading.fails);
-    match call!(
-        rt,
-        encode(script.alloc, &mut source, reading.limit, k, optimize)
-    ) {
+) -> Result<(), Refusal> {
+    let [k, piece, limit, fails @ ..] = numbers else {
+        return Err(Refusal::NotAllowed);
+    };
+    let limit = limit_of(*limit)?;
+    let mut source = source(rt, path, *piece, fails)?;
+    match call!(rt, encode(script.alloc, &mut source, limit, *k, optimize)) {
         Ok(encoded) => {
             script.kept = encoded.circuit;
             script.circuit = encoded.unrolled;
         }
-        Err(error) => {
-            let _ = println!(rt; "{error:?}");
-        }
+        Err(error) => print(rt, &error),
     }
     Ok(())
 }
@@ -108,7 +129,7 @@ fn encode_file<R: Print + Files + AllocGlobal>(
 fn print_query<R: Print>(rt: &R, asked: &Query) {
     print_circuit(rt, &asked.encoded.unrolled);
     print_dag(rt, &asked.encoded.clauses);
-    let _ = println!(rt; "extra");
+    print_title(rt, "extra");
     print_clauses(rt, &asked.extra);
 }
 
@@ -117,38 +138,51 @@ fn query_file<R: Print + Files + AllocGlobal>(
     rt: &R,
     script: &Script,
     path: &str,
-    k: usize,
+    numbers: &[usize],
     optimize: bool,
-) -> Result<(), Fault> {
-    let mut source = Parts::new(fs::read(rt, path)?, 7, None);
-    match call!(rt, query(script.alloc, &mut source, MOST, k, optimize)) {
+) -> Result<(), Refusal> {
+    let [k] = numbers else {
+        return Err(Refusal::NotAllowed);
+    };
+    let mut source = source(rt, path, 7, &[])?;
+    match call!(rt, query(script.alloc, &mut source, MOST, *k, optimize)) {
         Ok(asked) => print_query(rt, &asked),
-        Err(error) => {
-            let _ = println!(rt; "{error:?}");
-        }
+        Err(error) => print(rt, &error),
     }
     Ok(())
+}
+
+/// Takes a step of the table.
+fn take_file<R: Print + Files + AllocGlobal>(
+    rt: &R,
+    script: &mut Script,
+    step: &Reading,
+    line: Line<'_>,
+) -> Result<(), Refusal> {
+    let ([path, ..], [_, numbers @ ..]) = (line.words, line.numbers) else {
+        return Err(Refusal::NotAllowed);
+    };
+    match step {
+        Reading::Circuit => read(rt, script, path, numbers),
+        Reading::CircuitOfPath => from_file(rt, script, path, numbers),
+        Reading::Encode => encode_file(rt, script, path, numbers, true),
+        Reading::EncodeRaw => encode_file(rt, script, path, numbers, false),
+        Reading::Query => query_file(rt, script, path, numbers, true),
+        Reading::QueryRaw => query_file(rt, script, path, numbers, false),
+    }
 }
 
 /// Takes a step of this file, if it is one.
 pub(crate) fn take<R: Print + Files + AllocGlobal>(
     rt: &R,
     script: &mut Script,
-    name: &str,
-    words: &[&str],
-) -> Result<bool, Fault> {
-    match words {
-        [path, k] if name == "query" => query_file(rt, script, path, number(k)?, true)?,
-        [path, k] if name == "query_raw" => query_file(rt, script, path, number(k)?, false)?,
-        [path, k, rest @ ..] if name == "encode" => {
-            encode_file(rt, script, path, number(k)?, true, rest)?
-        }
-        [path, k, rest @ ..] if name == "encode_raw" => {
-            encode_file(rt, script, path, number(k)?, false, rest)?
-        }
-        [path, limit] if name == "from_file" => from_file(rt, script, path, number(limit)?)?,
-        [path, rest @ ..] if name == "read" => read(rt, script, path, rest)?,
-        _ => return Ok(false),
+    line: Line<'_>,
+) -> bool {
+    let Some(step) = find(&STEPS, line.name) else {
+        return false;
+    };
+    if let Err(refusal) = take_file(rt, script, step, line) {
+        print(rt, &refusal);
     }
-    Ok(true)
+    true
 }

@@ -1,11 +1,11 @@
 //! Steps on clauses and maps.
 
-ghost use Rattle.std.specs.Prelude.{◌≡◌, ◌<◌, ◌^◌, ◌∷◌, [], IfOk};
+ghost use Rattle.std.specs.Prelude.{◌≡◌, ◌∷◌, [], IfOk};
 
-use crate::script::{Fault, call};
-use crate::show::{print_answer, print_clauses, print_dag, print_map};
-use crate::words::{literal, literals, number};
-use aig_base::{DagCnf, Lit, LitVvec, MemoryError, Var, VarVMap};
+use crate::script::{Fault, Refusal};
+use crate::show::{call, print, print_answer, print_clauses, print_dag, print_map};
+use crate::words::{Line, find};
+use aig_base::{DagCnf, Lit, LitVvec, Var, VarVMap};
 use std::alloc::Global;
 use std::io::Print;
 
@@ -31,73 +31,103 @@ impl Lists {
     }
 }
 
-/// The variable of a word.
-fn variable(word: &str) -> Result<Var, Fault> {
-    let number = number(word)?;
+/// What is done with the lists.
+enum ListStep {
+    Clauses,
+    Relations,
+    Mapped,
+    NewRelations,
+    NewVar,
+    AddRel,
+    Insert,
+}
+
+/// What is done with the list of clauses.
+enum Relation {
+    Clause,
+    And,
+    Xor,
+    Ite,
+}
+
+const STEPS: [(&str, ListStep); 7] = [
+    ("clauses", ListStep::Clauses),
+    ("relations", ListStep::Relations),
+    ("mapped", ListStep::Mapped),
+    ("new_relations", ListStep::NewRelations),
+    ("new_var", ListStep::NewVar),
+    ("add_rel", ListStep::AddRel),
+    ("insert", ListStep::Insert),
+];
+
+const RELATIONS: [(&str, Relation); 4] = [
+    ("clause", Relation::Clause),
+    ("cnf_and", Relation::And),
+    ("cnf_xor", Relation::Xor),
+    ("cnf_ite", Relation::Ite),
+];
+
+/// The variable of a number.
+fn variable(number: usize) -> Result<Var, Refusal> {
     if number >= 1 << 31 {
-        return Err(Fault::Step);
+        return Err(Refusal::NotAllowed);
     }
     Ok(Var::new(number))
 }
 
 /// The literals of numbers.
-fn lits(alloc: Global, numbers: &[u32]) -> Result<Vec<Lit>, Fault> {
+fn lits(alloc: Global, numbers: &[usize]) -> Result<Vec<Lit>, Refusal> {
     let mut lits = Vec::new(alloc);
     for number in numbers {
-        lits.push(Lit::from(*number))?;
+        match u32::try_from(*number) {
+            Ok(number) => lits.push(Lit::from(number))?,
+            Err(_) => return Err(Refusal::NotAllowed),
+        }
     }
     Ok(lits)
 }
 
-/// Appends a clause.
-fn push<R: Print>(rt: &R, lists: &mut Lists, clause: &[Lit]) {
-    print_answer(rt, &call!(rt, lists.clauses.push(clause)));
-}
-
-/// Makes the clauses that say of a literal what it is, in place of those before.
-fn relate<R: Print>(rt: &R, lists: &mut Lists, name: &str, lits: &[Lit]) -> Result<(), Fault> {
-    let alloc = lists.alloc;
-    let made = match lits {
-        [n, x, y] if name == "cnf_xor" => call!(rt, LitVvec::cnf_xor(alloc, *n, *x, *y)),
-        [n, c, t, e] if name == "cnf_ite" => call!(rt, LitVvec::cnf_ite(alloc, *n, *c, *t, *e)),
-        [n, of @ ..] if name == "cnf_and" => call!(rt, LitVvec::cnf_and(alloc, *n, of)),
-        _ => return Err(Fault::Step),
+/// The clauses that say of a literal what it is.
+fn related(alloc: Global, relation: &Relation, lits: &[Lit]) -> Result<LitVvec, Refusal> {
+    let made = match (relation, lits) {
+        (Relation::And, [n, of @ ..]) => LitVvec::cnf_and(alloc, *n, of),
+        (Relation::Xor, [n, x, y]) => LitVvec::cnf_xor(alloc, *n, *x, *y),
+        (Relation::Ite, [n, c, t, e]) => LitVvec::cnf_ite(alloc, *n, *c, *t, *e),
+        _ => return Err(Refusal::NotAllowed),
     };
-    take_clauses(rt, lists, made);
-    Ok(())
+    Ok(made?)
 }
 
-/// Takes clauses in place of those before, or prints why there are none.
-fn take_clauses<R: Print>(rt: &R, lists: &mut Lists, made: Result<LitVvec, MemoryError>) {
-    match made {
+/// Makes clauses in place of those before.
+fn relate<R: Print>(rt: &R, lists: &mut Lists, relation: &Relation, lits: &[Lit]) {
+    match call!(rt, related(lists.alloc, relation, lits)) {
         Ok(clauses) => lists.clauses = clauses,
-        Err(error) => {
-            let _ = println!(rt; "{error:?}");
-        }
+        Err(refusal) => print(rt, &refusal),
     }
 }
 
-/// Begins the clauses by variable anew.
-fn begin<R: Print>(rt: &R, lists: &mut Lists) {
-    match call!(rt, DagCnf::new(lists.alloc)) {
-        Ok(relations) => lists.relations = relations,
-        Err(error) => {
-            let _ = println!(rt; "{error:?}");
-        }
+/// Appends a clause, or makes those of a relation.
+fn take_clauses<R: Print>(rt: &R, lists: &mut Lists, relation: &Relation, numbers: &[usize]) {
+    let lits = match lits(lists.alloc, numbers) {
+        Ok(lits) => lits,
+        Err(refusal) => return print(rt, &refusal),
+    };
+    match relation {
+        Relation::Clause => print_answer(rt, &call!(rt, lists.clauses.push(&lits))),
+        _ => relate(rt, lists, relation, &lits),
     }
 }
 
-/// Adds a variable to the clauses by variable.
-fn new_var<R: Print>(rt: &R, lists: &mut Lists) -> Result<(), Fault> {
-    if lists.relations.num_vars() >= 1 << 31 {
-        return Err(Fault::Step);
+/// Adds a variable.
+fn new_var(relations: &mut DagCnf) -> Result<Var, Refusal> {
+    if relations.num_vars() >= 1 << 31 {
+        return Err(Refusal::NotAllowed);
     }
-    print_answer(rt, &call!(rt, lists.relations.new_var()));
-    Ok(())
+    Ok(relations.new_var()?)
 }
 
 /// A clause of two literals, alone.
-fn pair(alloc: Global, one: Lit, other: Lit) -> Result<LitVvec, Fault>
+fn pair(alloc: Global, one: Lit, other: Lit) -> Result<LitVvec, Refusal>
     ensures { IfOk result (λ clauses. clauses ≡ (one ∷ other ∷ []) ∷ []) }
 {
     let mut clauses = LitVvec::new(alloc);
@@ -106,68 +136,63 @@ fn pair(alloc: Global, one: Lit, other: Lit) -> Result<LitVvec, Fault>
 }
 
 /// Adds a clause of two literals to a variable.
-fn add_rel<R: Print>(rt: &R, lists: &mut Lists, var: Var, pair_of: [u32; 2]) -> Result<(), Fault> {
-    let [one, other] = pair_of;
-    let (one, other, count) = (Lit::from(one), Lit::from(other), lists.relations.num_vars());
+fn add_rel(alloc: Global, relations: &mut DagCnf, numbers: &[usize]) -> Result<(), Refusal> {
+    let [var, literals @ ..] = numbers else {
+        return Err(Refusal::NotAllowed);
+    };
+    let lits = lits(alloc, literals)?;
+    let [one, other] = lits.as_slice() else {
+        return Err(Refusal::NotAllowed);
+    };
+    let (var, one, other) = (variable(*var)?, *one, *other);
+    let count = relations.num_vars();
     if usize::from(var) >= count
         || usize::from(one.var()) >= count
         || usize::from(other.var()) >= count
     {
-        return Err(Fault::Step);
+        return Err(Refusal::NotAllowed);
     }
-    let rel = pair(lists.alloc, one, other)?;
-    print_answer(rt, &call!(rt, lists.relations.add_rel(var, &rel)));
+    let rel = pair(alloc, one, other)?;
+    Ok(relations.add_rel(var, &rel)?)
+}
+
+/// Maps a variable to another, and gives which it was mapped to before.
+fn insert(map: &mut VarVMap, numbers: &[usize]) -> Result<Option<Var>, Refusal> {
+    let [from, to] = numbers else {
+        return Err(Refusal::NotAllowed);
+    };
+    Ok(map.insert(variable(*from)?, variable(*to)?)?)
+}
+
+/// Begins the clauses by variable anew.
+fn begin(lists: &mut Lists) -> Result<(), Refusal> {
+    lists.relations = DagCnf::new(lists.alloc)?;
     Ok(())
 }
 
-/// Maps a variable to another, and prints which it was mapped to before.
-fn insert<R: Print>(rt: &R, lists: &mut Lists, from: &str, to: &str) -> Result<(), Fault> {
-    let (from, to) = (variable(from)?, variable(to)?);
-    print_answer(rt, &call!(rt, lists.map.insert(from, to)));
-    Ok(())
-}
-
-/// Takes the step of a clause, if it is one.
-fn take_clause<R: Print>(
-    rt: &R,
-    lists: &mut Lists,
-    name: &str,
-    words: &[&str],
-) -> Result<bool, Fault> {
-    if name != "clause" && name != "cnf_and" && name != "cnf_xor" && name != "cnf_ite" {
-        return Ok(false);
+/// Takes a step of the table.
+fn change<R: Print>(rt: &R, lists: &mut Lists, step: &ListStep, numbers: &[usize]) {
+    let (alloc, relations) = (lists.alloc, &mut lists.relations);
+    match step {
+        ListStep::Clauses => print_clauses(rt, &lists.clauses),
+        ListStep::Relations => print_dag(rt, relations),
+        ListStep::Mapped => print_map(rt, &lists.map),
+        ListStep::NewRelations => print_answer(rt, &call!(rt, begin(lists))),
+        ListStep::NewVar => print_answer(rt, &call!(rt, new_var(relations))),
+        ListStep::AddRel => print_answer(rt, &call!(rt, add_rel(alloc, relations, numbers))),
+        ListStep::Insert => print_answer(rt, &call!(rt, insert(&mut lists.map, numbers))),
     }
-    let numbers = literals(lists.alloc, words)?;
-    let lits = lits(lists.alloc, &numbers)?;
-    if name == "clause" {
-        push(rt, lists, &lits);
-    } else {
-        relate(rt, lists, name, &lits)?;
-    }
-    Ok(true)
 }
 
 /// Takes a step of this file, if it is one.
-pub(crate) fn take<R: Print>(
-    rt: &R,
-    lists: &mut Lists,
-    name: &str,
-    words: &[&str],
-) -> Result<bool, Fault> {
-    match words {
-        [] if name == "clauses" => print_clauses(rt, &lists.clauses),
-        [] if name == "relations" => print_dag(rt, &lists.relations),
-        [] if name == "mapped" => print_map(rt, &lists.map),
-        [] if name == "new_relations" => begin(rt, lists),
-        [] if name == "new_var" => new_var(rt, lists)?,
-        [var, one, other] if name == "add_rel" => add_rel(
-            rt,
-            lists,
-            variable(var)?,
-            [literal(one)?, literal(other)?],
-        )?,
-        [from, to] if name == "insert" => insert(rt, lists, from, to)?,
-        _ => return take_clause(rt, lists, name, words),
+pub(crate) fn take<R: Print>(rt: &R, lists: &mut Lists, line: Line<'_>) -> bool {
+    if let Some(step) = find(&STEPS, line.name) {
+        change(rt, lists, step, line.numbers);
+        return true;
     }
-    Ok(true)
+    if let Some(relation) = find(&RELATIONS, line.name) {
+        take_clauses(rt, lists, relation, line.numbers);
+        return true;
+    }
+    false
 }

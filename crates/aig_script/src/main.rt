@@ -9,37 +9,39 @@ mod ask;
 mod build;
 mod change;
 mod files;
+mod leaves;
 mod lists;
+mod parts;
+mod properties;
 mod script;
 mod show;
 mod simulation;
+mod streams;
+mod values;
 mod words;
 mod writing;
 
 use crate::lists::Lists;
 use crate::script::{Fault, Script};
+use crate::words::Line;
 use std::io::Print;
 use std::process::ExitCode;
 use std::rt::{Env, Files};
 use std::{env, fs};
 
-/// Takes a step: the first word is its name. Returns whether there is such a step.
-fn take<R: Print + Files + AllocGlobal>(
+/// Takes the step of a line on the circuit, if it is one.
+fn take_on_circuit<R: Print + Files + AllocGlobal>(
     rt: &R,
     script: &mut Script,
-    lists: &mut Lists,
-    name: &str,
-    words: &[&str],
-) -> Result<bool, Fault> {
-    Ok(
-        build::take(rt, script, name, words)?
-            || change::take(rt, script, name, words)?
-            || ask::take(rt, script, name, words)?
-            || simulation::take(rt, script, name, words)?
-            || writing::take(rt, script, name, words)?
-            || files::take(rt, script, name, words)?
-            || lists::take(rt, lists, name, words)?,
-    )
+    line: Line<'_>,
+) -> bool {
+    build::take(rt, script, line)
+        || parts::take(rt, &mut script.circuit, line)
+        || change::take(rt, script, line)
+        || ask::take(rt, script, line)
+        || simulation::take(rt, script, line)
+        || writing::take(rt, script, line)
+        || files::take(rt, script, line)
 }
 
 /// Takes the step of a line, if it has one.
@@ -50,11 +52,16 @@ fn take_line<R: Print + Files + AllocGlobal>(
     line: &str,
 ) -> Result<(), Fault> {
     let words = words::words(script.alloc, line)?;
-    let [name, rest @ ..] = words.as_slice() else {
+    let numbers = words::numbers(script.alloc, &words)?;
+    let Some(line) = words::line_of(&words, &numbers) else {
         return Ok(());
     };
-    let _ = println!(rt; "> {name}");
-    if take(rt, script, lists, name, rest)? {
+    show::print_name(rt, line.name);
+    if values::take(rt, line)
+        || lists::take(rt, lists, line)
+        || streams::take(rt, script, line)
+        || take_on_circuit(rt, script, line)
+    {
         Ok(())
     } else {
         Err(Fault::Step)
@@ -84,7 +91,7 @@ fn main(rt: HostRuntime) -> ExitCode {
     match execute(&rt) {
         Ok(()) => ExitCode::SUCCESS,
         Err(fault) => {
-            let _ = eprintln!(rt; "aig_script: {fault}");
+            let _ = eprintln!(rt; "aig_script: {fault:?}");
             ExitCode::FAILURE
         }
     }

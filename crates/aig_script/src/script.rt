@@ -3,23 +3,17 @@
 use aig::Aig;
 use aig_base::MemoryError;
 use std::alloc::{AllocError, AllocFailed, Global};
-use std::fmt::Debug;
 use std::io;
-use std::io::Print;
-use thiserror::Error;
 
-/// Why a step can't be taken.
-#[derive(Debug, Drop, Error)]
+/// Why steps end.
+#[derive(Clone, Copy, Debug)]
 pub(crate) enum Fault {
-    /// What comes before its call took more memory than there is.
-    #[error("out of memory")]
+    /// What comes before a call took more memory than there is.
     Memory,
-    /// It has no such words, or no step has its name.
-    #[error("no such step")]
+    /// No step has this name and these words.
     Step,
-    /// A file or the standard output failed.
-    #[error("{0}")]
-    Io(io::Error),
+    /// A file failed.
+    File,
 }
 
 impl From<MemoryError> for Fault {
@@ -41,8 +35,37 @@ impl<T: Drop> From<AllocFailed<T>> for Fault {
 }
 
 impl From<io::Error> for Fault {
-    fn from(error: io::Error) -> Fault {
-        Fault::Io(error)
+    fn from(_error: io::Error) -> Fault {
+        Fault::File
+    }
+}
+
+/// Why a step answers nothing.
+#[derive(Clone, Copy, Debug)]
+pub(crate) enum Refusal {
+    /// Its call was refused memory.
+    Memory,
+    /// The circuit doesn't allow it, or it has no such words.
+    NotAllowed,
+    /// A leaf is neither input nor latch.
+    FreeLeaf,
+}
+
+impl From<MemoryError> for Refusal {
+    fn from(_error: MemoryError) -> Refusal {
+        Refusal::Memory
+    }
+}
+
+impl From<AllocError> for Refusal {
+    fn from(_error: AllocError) -> Refusal {
+        Refusal::Memory
+    }
+}
+
+impl<T: Drop> From<AllocFailed<T>> for Refusal {
+    fn from(_error: AllocFailed<T>) -> Refusal {
+        Refusal::Memory
     }
 }
 
@@ -64,31 +87,5 @@ impl Script {
             circuit,
             kept,
         })
-    }
-}
-
-/// Makes a call between the lines `call` and `answer`.
-macro_rules! call {
-    ($rt:expr, $call:expr) => {{
-        let _ = println!($rt; "call");
-        let answer = $call;
-        let _ = println!($rt; "answer");
-        answer
-    }};
-}
-
-pub(crate) use call;
-
-/// Takes a circuit in place of the one before, or prints why there is none.
-pub(crate) fn take_circuit<R: Print, E: Debug + Drop>(
-    rt: &R,
-    script: &mut Script,
-    made: Result<Aig, E>,
-) {
-    match made {
-        Ok(circuit) => script.circuit = circuit,
-        Err(error) => {
-            let _ = println!(rt; "{error:?}");
-        }
     }
 }

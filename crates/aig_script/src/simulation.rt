@@ -2,43 +2,57 @@
 
 ghost use Rattle.std.specs.Prelude.{◌≡◌, All, IfOk, IsTrue, length};
 
-use crate::script::{Fault, Script, call};
-use crate::show::print_answer;
-use crate::words::literal;
+use crate::script::{Refusal, Script};
+use crate::show::{call, print, print_answer};
+use crate::words::{Line, edge, find};
 use aig::{Aig, AigEdge, TernarySimulate};
 use aig_base::Lbool;
-use aig_testing::edge;
 use std::alloc::Global;
 use std::io::Print;
 
-/// The values that a word spells: `0`, `1`, and `x` where it isn't known, after an `=`.
-fn values(alloc: Global, word: &str) -> Result<Vec<Lbool>, Fault> {
+/// What is simulated.
+enum Simulation {
+    Nodes,
+    Steps,
+    All,
+    Rest,
+}
+
+const STEPS: [(&str, Simulation); 4] = [
+    ("ternary_simulate", Simulation::Nodes),
+    ("simulate", Simulation::Steps),
+    ("simulate_all", Simulation::All),
+    ("simulate_rest", Simulation::Rest),
+];
+
+/// The value of a letter: `0`, `1`, or another where it isn't known.
+pub(crate) fn value(letter: u8) -> Lbool {
+    match letter {
+        b'0' => Lbool::FALSE,
+        b'1' => Lbool::TRUE,
+        _ => Lbool::NONE,
+    }
+}
+
+/// The values that a word spells, after an `=`.
+fn values(alloc: Global, word: &str) -> Result<Vec<Lbool>, Refusal> {
     let mut values = Vec::new(alloc);
-    for byte in word.bytes().skip(1) {
-        values.push(match byte {
-            b'0' => Lbool::FALSE,
-            b'1' => Lbool::TRUE,
-            _ => Lbool::NONE,
-        })?;
+    for letter in word.bytes().skip(1) {
+        values.push(value(letter))?;
     }
     Ok(values)
 }
 
-/// Prints the values of all nodes.
-fn ternary_simulate<R: Print>(
-    rt: &R,
-    script: &Script,
-    inputs: &str,
-    latches: &str,
-) -> Result<(), Fault> {
-    let circuit = &script.circuit;
-    let inputs = values(script.alloc, inputs)?;
-    let latches = values(script.alloc, latches)?;
+/// The values of all nodes.
+fn nodes(alloc: Global, circuit: &Aig, words: &[&str]) -> Result<Vec<Lbool>, Refusal> {
+    let [inputs, latches] = words else {
+        return Err(Refusal::NotAllowed);
+    };
+    let (inputs, latches) = (values(alloc, inputs)?, values(alloc, latches)?);
     if inputs.len() != circuit.inputs().len() || latches.len() != circuit.latchs().len() {
-        return Err(Fault::Step);
+        return Err(Refusal::NotAllowed);
     }
-    print_answer(rt, &call!(rt, circuit.ternary_simulate(&inputs, &latches)));
-    Ok(())
+    Ok(circuit.ternary_simulate(&inputs, &latches)?)
 }
 
 /// Whether each list has so many values.
@@ -49,7 +63,7 @@ fn are_as_long(lists: &[Vec<Lbool>], count: usize) -> bool
 }
 
 /// The values that each of the words spells.
-fn steps(alloc: Global, words: &[&str]) -> Result<Vec<Vec<Lbool>>, Fault> {
+fn steps(alloc: Global, words: &[&str]) -> Result<Vec<Vec<Lbool>>, Refusal> {
     let mut steps = Vec::new(alloc);
     for word in words {
         steps.push(values(alloc, word)?)?;
@@ -58,12 +72,12 @@ fn steps(alloc: Global, words: &[&str]) -> Result<Vec<Vec<Lbool>>, Fault> {
 }
 
 /// A simulation that begins in the state that a word spells.
-fn begun<'a>(alloc: Global, circuit: &'a Aig, state: &str) -> Result<TernarySimulate<'a>, Fault>
+fn begun<'a>(alloc: Global, circuit: &'a Aig, state: &str) -> Result<TernarySimulate<'a>, Refusal>
     ensures { IfOk result (λ simulation. simulation.circuit ≡ circuit.now) }
 {
     let state = values(alloc, state)?;
     if state.len() != circuit.latchs().len() {
-        return Err(Fault::Step);
+        return Err(Refusal::NotAllowed);
     }
     Ok(TernarySimulate::new(circuit, state))
 }
@@ -73,45 +87,46 @@ fn step(
     circuit: &Aig,
     simulation: &mut TernarySimulate<'_>,
     inputs: Vec<Lbool>,
-) -> Result<(), Fault>
+) -> Result<(), Refusal>
     requires { simulation.old.circuit ≡ circuit.now }
     ensures { simulation.new.circuit ≡ circuit.now }
 {
     if inputs.len() != circuit.inputs().len() {
-        return Err(Fault::Step);
+        return Err(Refusal::NotAllowed);
     }
     Ok(simulation.simulate(inputs)?)
 }
 
-/// Values a step, and prints whether memory was refused.
-fn told_step<R: Print>(
-    rt: &R,
+/// Values steps in one call, and gives the values of an edge.
+fn all_steps(
     circuit: &Aig,
     simulation: &mut TernarySimulate<'_>,
-    inputs: Vec<Lbool>,
-) -> Result<(), Fault>
+    e: AigEdge,
+    steps: Vec<Vec<Lbool>>,
+) -> Result<Vec<Lbool>, Refusal>
     requires { simulation.old.circuit ≡ circuit.now }
     ensures { simulation.new.circuit ≡ circuit.now }
 {
-    if inputs.len() != circuit.inputs().len() {
-        return Err(Fault::Step);
+    if !are_as_long(&steps, circuit.inputs().len()) || !circuit.has_edge(e) {
+        return Err(Refusal::NotAllowed);
     }
-    print_answer(rt, &call!(rt, simulation.simulate(inputs)));
-    Ok(())
+    Ok(simulation.simulate_all(steps, e)?)
+}
+
+/// Prints the value of a node, and that of its inverse, if it has one.
+fn print_value<R: Print>(rt: &R, simulation: &TernarySimulate<'_>, id: usize) {
+    let e = AigEdge::from(id);
+    if simulation.has_value(e) && simulation.has_value(!e) {
+        let (value, inverse) = (simulation.value(e), simulation.value(!e));
+        let _ = print!(rt; " {id}={value:?}/{inverse:?}");
+    }
 }
 
 /// Prints the value of each node that has one, and that of its inverse.
 fn print_values<R: Print>(rt: &R, circuit: &Aig, simulation: &TernarySimulate<'_>) {
     let _ = print!(rt; "values");
     for id in circuit.nodes_range_with_false() {
-        let e = AigEdge::from(id);
-        if simulation.has_value(e) && simulation.has_value(!e) {
-            let _ = print!(rt;
-                " {id}={:?}/{:?}",
-                simulation.value(e),
-                simulation.value(!e)
-            );
-        }
+        print_value(rt, simulation, id);
     }
     let _ = println!(rt; "");
 }
@@ -122,7 +137,7 @@ fn print_state<R: Print>(
     alloc: Global,
     circuit: &Aig,
     simulation: &mut TernarySimulate<'_>,
-) -> Result<(), Fault>
+) -> Result<(), Refusal>
     requires { simulation.old.circuit ≡ circuit.now }
 {
     print_values(rt, circuit, simulation);
@@ -133,96 +148,83 @@ fn print_state<R: Print>(
 }
 
 /// Values steps one by one from a state, and prints the state then.
-fn simulate<R: Print>(rt: &R, script: &Script, state: &str, inputs: &[&str]) -> Result<(), Fault> {
-    let mut simulation = begun(script.alloc, &script.circuit, state)?;
+fn simulate<R: Print>(rt: &R, script: &Script, words: &[&str]) -> Result<(), Refusal> {
+    let [state, inputs @ ..] = words else {
+        return Err(Refusal::NotAllowed);
+    };
+    let (alloc, circuit) = (script.alloc, &script.circuit);
+    let mut simulation = begun(alloc, circuit, state)?;
     for word in inputs {
-        let inputs = values(script.alloc, word)?;
-        told_step(rt, &script.circuit, &mut simulation, inputs)?;
+        let inputs = values(alloc, word)?;
+        print_answer(rt, &call!(rt, step(circuit, &mut simulation, inputs)));
     }
-    print_state(rt, script.alloc, &script.circuit, &mut simulation)
-}
-
-/// Values steps in one call, and prints the values of an edge.
-fn all_steps<R: Print>(
-    rt: &R,
-    circuit: &Aig,
-    simulation: &mut TernarySimulate<'_>,
-    e: AigEdge,
-    steps: Vec<Vec<Lbool>>,
-) -> Result<(), Fault>
-    requires { simulation.old.circuit ≡ circuit.now }
-    ensures { simulation.new.circuit ≡ circuit.now }
-{
-    if !are_as_long(&steps, circuit.inputs().len()) || !circuit.has_edge(e) {
-        return Err(Fault::Step);
-    }
-    print_answer(rt, &call!(rt, simulation.simulate_all(steps, e)));
-    Ok(())
+    print_state(rt, alloc, circuit, &mut simulation)
 }
 
 /// Prints the values of an edge over steps, from a state.
-fn simulate_all<R: Print>(
-    rt: &R,
-    script: &Script,
-    e: &str,
-    state: &str,
-    inputs: &[&str],
-) -> Result<(), Fault> {
-    let mut simulation = begun(script.alloc, &script.circuit, state)?;
-    let steps = steps(script.alloc, inputs)?;
-    all_steps(
+fn simulate_all<R: Print>(rt: &R, script: &Script, line: Line<'_>) -> Result<(), Refusal> {
+    let ([e, ..], [_, state, inputs @ ..]) = (line.numbers, line.words) else {
+        return Err(Refusal::NotAllowed);
+    };
+    let circuit = &script.circuit;
+    let mut simulation = begun(script.alloc, circuit, state)?;
+    let (e, steps) = (edge(*e), steps(script.alloc, inputs)?);
+    print_answer(
         rt,
-        &script.circuit,
-        &mut simulation,
-        edge(literal(e)?),
-        steps,
-    )
+        &call!(rt, all_steps(circuit, &mut simulation, e, steps)),
+    );
+    Ok(())
+}
+
+/// A simulation that begins in the state that a word spells, and has valued a step with the inputs of another.
+fn begun_with<'a>(
+    alloc: Global,
+    circuit: &'a Aig,
+    state: &str,
+    first: &str,
+) -> Result<TernarySimulate<'a>, Refusal>
+    ensures { IfOk result (λ simulation. simulation.circuit ≡ circuit.now) }
+{
+    let mut simulation = begun(alloc, circuit, state)?;
+    let inputs = values(alloc, first)?;
+    step(circuit, &mut simulation, inputs)?;
+    Ok(simulation)
 }
 
 /// Prints the values of an edge over the steps after a first one, and the state then.
-fn simulate_rest<R: Print>(
-    rt: &R,
-    script: &Script,
-    e: &str,
-    state: &str,
-    inputs: &[&str],
-) -> Result<(), Fault> {
-    let [first, rest @ ..] = inputs else {
-        return Err(Fault::Step);
+fn simulate_rest<R: Print>(rt: &R, script: &Script, line: Line<'_>) -> Result<(), Refusal> {
+    let ([e, ..], [_, state, first, rest @ ..]) = (line.numbers, line.words) else {
+        return Err(Refusal::NotAllowed);
     };
-    let mut simulation = begun(script.alloc, &script.circuit, state)?;
-    let inputs = values(script.alloc, first)?;
-    step(&script.circuit, &mut simulation, inputs)?;
-    let steps = steps(script.alloc, rest)?;
-    all_steps(
+    let (alloc, circuit) = (script.alloc, &script.circuit);
+    let mut simulation = begun_with(alloc, circuit, state, first)?;
+    let (e, steps) = (edge(*e), steps(alloc, rest)?);
+    print_answer(
         rt,
-        &script.circuit,
-        &mut simulation,
-        edge(literal(e)?),
-        steps,
-    )?;
-    print_state(rt, script.alloc, &script.circuit, &mut simulation)
+        &call!(rt, all_steps(circuit, &mut simulation, e, steps)),
+    );
+    print_state(rt, alloc, circuit, &mut simulation)
+}
+
+/// Prints the values of all nodes.
+fn ternary_simulate<R: Print>(rt: &R, script: &Script, words: &[&str]) -> Result<(), Refusal> {
+    print_answer(rt, &call!(rt, nodes(script.alloc, &script.circuit, words)));
+    Ok(())
 }
 
 /// Takes a step of this file, if it is one.
-pub(crate) fn take<R: Print>(
-    rt: &R,
-    script: &Script,
-    name: &str,
-    words: &[&str],
-) -> Result<bool, Fault> {
-    match words {
-        [inputs, latches] if name == "ternary_simulate" => {
-            ternary_simulate(rt, script, inputs, latches)?
-        }
-        [state, inputs @ ..] if name == "simulate" => simulate(rt, script, state, inputs)?,
-        [e, state, inputs @ ..] if name == "simulate_all" => {
-            simulate_all(rt, script, e, state, inputs)?
-        }
-        [e, state, inputs @ ..] if name == "simulate_rest" => {
-            simulate_rest(rt, script, e, state, inputs)?
-        }
-        _ => return Ok(false),
+pub(crate) fn take<R: Print>(rt: &R, script: &Script, line: Line<'_>) -> bool {
+    let Some(step) = find(&STEPS, line.name) else {
+        return false;
+    };
+    let taken = match step {
+        Simulation::Nodes => ternary_simulate(rt, script, line.words),
+        Simulation::Steps => simulate(rt, script, line.words),
+        Simulation::All => simulate_all(rt, script, line),
+        Simulation::Rest => simulate_rest(rt, script, line),
+    };
+    if let Err(refusal) = taken {
+        print(rt, &refusal);
     }
-    Ok(true)
+    true
 }

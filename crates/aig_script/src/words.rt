@@ -1,8 +1,19 @@
 //! The words of a step.
 
-use crate::script::Fault;
-use aig::PropList;
+ghost use Rattle.std.specs.Prelude.{All, IsTrue, IfSome};
+ghost use Rattle.aig_circuit.specs.Circuit.{IsInRange};
+
+use crate::script::{Fault, Refusal};
+use aig::{Aig, AigEdge};
 use std::alloc::Global;
+
+/// The name of a step, its words, and the numbers that these spell.
+#[derive(Clone, Copy)]
+pub(crate) struct Line<'a> {
+    pub(crate) name: &'a str,
+    pub(crate) words: &'a [&'a str],
+    pub(crate) numbers: &'a [usize],
+}
 
 /// The words of a line.
 pub(crate) fn words(alloc: Global, line: &str) -> Result<Vec<&str>, Fault> {
@@ -13,53 +24,72 @@ pub(crate) fn words(alloc: Global, line: &str) -> Result<Vec<&str>, Fault> {
     Ok(words)
 }
 
-/// The number that a word spells.
-pub(crate) fn number(word: &str) -> Result<usize, Fault> {
-    match word.parse::<usize>() {
-        Ok(number) => Ok(number),
-        Err(_) => Err(Fault::Step),
-    }
-}
-
-/// The literal that a word spells.
-pub(crate) fn literal(word: &str) -> Result<u32, Fault> {
-    match word.parse::<u32>() {
-        Ok(literal) => Ok(literal),
-        Err(_) => Err(Fault::Step),
-    }
-}
-
-/// The literals that words spell.
-pub(crate) fn literals(alloc: Global, words: &[&str]) -> Result<Vec<u32>, Fault> {
-    let mut literals = Vec::new(alloc);
+/// The number that each word spells; for one that spells none the greatest, which nothing has.
+pub(crate) fn numbers(alloc: Global, words: &[&str]) -> Result<Vec<usize>, Fault> {
+    let mut numbers = Vec::new(alloc);
     for word in words {
-        literals.push(literal(word)?)?;
+        numbers.push(word.parse::<usize>().unwrap_or(usize::MAX))?;
     }
-    Ok(literals)
+    Ok(numbers)
 }
 
-/// The literal that a list of at most one word spells, if there is one.
-pub(crate) fn optional(words: &[&str]) -> Result<Option<u32>, Fault> {
-    match words {
-        [] => Ok(None),
-        [word] => Ok(Some(literal(word)?)),
-        _ => Err(Fault::Step),
+/// The step of some words, if there are any.
+pub(crate) fn line_of<'a>(words: &'a [&'a str], numbers: &'a [usize]) -> Option<Line<'a>> {
+    match (words, numbers) {
+        ([name, words @ ..], [_, numbers @ ..]) => Some(Line {
+            name,
+            words,
+            numbers,
+        }),
+        _ => None,
     }
 }
 
-/// The list of a name.
-pub(crate) fn list(name: &str) -> Result<PropList, Fault> {
-    if name == "outputs" {
-        return Ok(PropList::Outputs);
+/// What stands beside a name in a table.
+pub(crate) fn find<'a, T>(table: &'a [(&'a str, T)], name: &str) -> Option<&'a T> {
+    for (other, it) in table {
+        if *other == name {
+            return Some(it);
+        }
     }
-    if name == "bads" {
-        return Ok(PropList::Bads);
+    None
+}
+
+/// The edge of a literal.
+pub(crate) fn edge(literal: usize) -> AigEdge {
+    AigEdge::new(literal / 2, literal % 2 == 1)
+}
+
+/// The edge of the first of some literals, if there is one.
+pub(crate) fn first_edge(literals: &[usize]) -> Option<AigEdge> {
+    match literals {
+        [literal, ..] => Some(edge(*literal)),
+        [] => None,
     }
-    if name == "constraints" {
-        return Ok(PropList::Constraints);
+}
+
+/// The edges of literals.
+pub(crate) fn edges(alloc: Global, literals: &[usize]) -> Result<Vec<AigEdge>, Refusal> {
+    let mut edges = Vec::new(alloc);
+    for literal in literals {
+        edges.push(edge(*literal))?;
     }
-    if name == "fairness" {
-        return Ok(PropList::Fairness);
+    Ok(edges)
+}
+
+/// Whether there are nodes of all of these edges' numbers.
+pub(crate) fn has_edges(aig: &Aig, edges: &[AigEdge]) -> bool
+    ensures { IsTrue result → All (IsInRange aig.now.nodes) edges.now }
+{
+    edges.iter().all(|e| aig.has_edge(*e))
+}
+
+/// Whether there is a node of an edge's number, where there is an edge.
+pub(crate) fn has_optional(aig: &Aig, e: Option<AigEdge>) -> bool
+    ensures { IsTrue result → IfSome e (IsInRange aig.now.nodes) }
+{
+    match e {
+        Some(e) => aig.has_edge(e),
+        None => true,
     }
-    Err(Fault::Step)
 }

@@ -2,26 +2,50 @@
 
 ghost use Rattle.std.specs.Prelude.{◌<◌};
 
-use crate::script::{Fault, Script, call};
-use crate::show::print_answer;
-use crate::words::number;
+use crate::script::{Refusal, Script};
+use crate::show::{call, print, print_answer};
+use crate::words::{Line, find};
 use aig::{Aig, WriteError};
 use aig_base::{Taker, ToWrite};
+use std::alloc::Global;
 use std::fmt::Write;
 use std::io::Print;
 use std::path::Path;
 use std::rt::Files;
 use std::{fmt, fs};
 
+/// Where the circuit is written.
+enum Writing {
+    Text,
+    Binary,
+    Taker,
+    PutText,
+    PutBinary,
+    Display,
+    DisplayStyled,
+    ToFile,
+    ToFileBinary,
+    Contents,
+}
+
+const STEPS: [(&str, Writing); 10] = [
+    ("text", Writing::Text),
+    ("binary", Writing::Binary),
+    ("taker", Writing::Taker),
+    ("put_text", Writing::PutText),
+    ("put_binary", Writing::PutBinary),
+    ("display", Writing::Display),
+    ("display_styled", Writing::DisplayStyled),
+    ("to_file", Writing::ToFile),
+    ("to_file_binary", Writing::ToFileBinary),
+    ("contents", Writing::Contents),
+];
+
 /// Prints bytes as a text, quoted.
 fn print_text<R: Print>(rt: &R, bytes: Vec<u8>) {
     match String::from_utf8(bytes) {
-        Ok(text) => {
-            let _ = println!(rt; "{text:?}");
-        }
-        Err(_) => {
-            let _ = println!(rt; "not UTF-8");
-        }
+        Ok(text) => print(rt, &text),
+        Err(_) => print(rt, &"not UTF-8"),
     }
 }
 
@@ -30,72 +54,53 @@ fn text<R: Print>(rt: &R, script: &Script) {
     let mut sink = ToWrite::new(Vec::new(script.alloc));
     match script.circuit.write_text(&mut sink) {
         Ok(()) => print_text(rt, sink.into_inner()),
-        Err(error) => {
-            let _ = println!(rt; "{error:?}");
-        }
+        Err(error) => print(rt, &error),
     }
 }
 
 /// Prints the bytes of the binary form of the circuit, or why there is none.
 fn binary<R: Print>(rt: &R, script: &Script) {
     let mut sink = ToWrite::new(Vec::new(script.alloc));
-    let written = script.circuit.write_binary(&mut sink);
-    print_answer(rt, &written.map(|_| sink.into_inner()));
+    match script.circuit.write_binary(&mut sink) {
+        Ok(()) => print(rt, &sink.into_inner()),
+        Err(error) => print(rt, &error),
+    }
 }
 
-/// Makes a sink that takes so many bytes at a time, and has room for so many.
-fn taker<R: Print>(rt: &R, script: &Script, most: usize, room: usize) -> Result<(), Fault> {
-    if most < 1 {
-        return Err(Fault::Step);
+/// A sink that takes so many bytes at a time, and has room for so many.
+pub(crate) fn taker_of(alloc: Global, numbers: &[usize]) -> Result<Taker, Refusal> {
+    match numbers {
+        [most, room] if *most > 0 => Ok(Taker::new(alloc, *most, *room)?),
+        _ => Err(Refusal::NotAllowed),
     }
-    match call!(rt, Taker::new(script.alloc, most, room)) {
-        Ok(taker) => print_held(rt, &taker),
-        Err(error) => {
-            let _ = println!(rt; "{error:?}");
-        }
-    }
-    Ok(())
 }
 
-/// Prints the bytes that a sink holds.
-fn print_held<R: Print>(rt: &R, taker: &Taker) {
-    let _ = println!(rt; "{:?}", taker.bytes());
+/// Makes a sink, and prints what it holds.
+fn taker<R: Print>(rt: &R, script: &Script, numbers: &[usize]) {
+    match call!(rt, taker_of(script.alloc, numbers)) {
+        Ok(taker) => print(rt, &taker.bytes()),
+        Err(refusal) => print(rt, &refusal),
+    }
 }
 
 /// Writes the circuit into a sink, in the text form or the binary form.
-fn write<R: Print>(rt: &R, circuit: &Aig, ascii: bool, taker: &mut Taker) {
-    let written = if ascii {
-        call!(rt, circuit.write_text(taker))
+fn write(circuit: &Aig, ascii: bool, taker: &mut Taker) -> Result<(), WriteError> {
+    if ascii {
+        circuit.write_text(taker)
     } else {
-        call!(rt, circuit.write_binary(taker))
-    };
-    print_answer(rt, &written);
-}
-
-/// Writes the circuit into a sink that takes so many bytes at a time, and has room for so many.
-fn put<R: Print>(rt: &R, script: &Script, ascii: bool, words: [&str; 2]) -> Result<(), Fault> {
-    let [most, room] = words;
-    let (most, room) = (number(most)?, number(room)?);
-    if most < 1 {
-        return Err(Fault::Step);
+        circuit.write_binary(taker)
     }
-    let mut taker = Taker::new(script.alloc, most, room)?;
-    write(rt, &script.circuit, ascii, &mut taker);
-    print_held(rt, &taker);
-    Ok(())
 }
 
-/// Writes the circuit into the file of a path.
-fn to_file<R: Print + Files>(rt: &R, script: &Script, path: &str, ascii: bool) {
-    let path = Path::new(path);
-    print_answer(rt, &call!(rt, script.circuit.to_file(rt, path, ascii)));
-}
-
-/// Prints the bytes of the file of a path.
-fn contents<R: Print + Files + AllocGlobal>(rt: &R, path: &str) -> Result<(), Fault> {
-    let bytes = fs::read(rt, path)?;
-    let _ = println!(rt; "{bytes:?}");
-    Ok(())
+/// Writes the circuit into a sink, and prints what that holds.
+fn put<R: Print>(rt: &R, script: &Script, ascii: bool, numbers: &[usize]) {
+    match taker_of(script.alloc, numbers) {
+        Ok(mut taker) => {
+            print_answer(rt, &call!(rt, write(&script.circuit, ascii, &mut taker)));
+            print(rt, &taker.bytes());
+        }
+        Err(refusal) => print(rt, &refusal),
+    }
 }
 
 /// Room for so many bytes, and the text that came. A piece that is longer is refused.
@@ -115,41 +120,80 @@ impl fmt::Write for Room {
     }
 }
 
-/// Prints what the circuit is printed as into so much room, or that it isn't.
-fn display<R: Print>(rt: &R, script: &Script, room: &str) -> Result<(), Fault> {
-    let mut room = Room {
-        left: number(room)?,
-        text: String::new(script.alloc),
-    };
-    match write!(room, "{}", script.circuit) {
-        Ok(()) => {
-            let _ = println!(rt; "{:?}", room.text);
-        }
+/// Prints what was written into a room, or that it was refused.
+fn print_room<R: Print>(rt: &R, room: &Room, written: fmt::Result) {
+    match written {
+        Ok(()) => print(rt, &room.text),
         Err(_) => {
             let _ = println!(rt; "refused after {} bytes", room.text.len());
         }
     }
-    Ok(())
+}
+
+/// Prints what the circuit is printed as into so much room, twice behind options where it is `styled`.
+fn display<R: Print>(rt: &R, script: &Script, numbers: &[usize], styled: bool) {
+    let [left] = numbers else {
+        return print(rt, &Refusal::NotAllowed);
+    };
+    let (left, text) = (*left, String::new(script.alloc));
+    let mut room = Room { left, text };
+    let written = if styled {
+        write!(room, "{:>60}{:.3}", script.circuit, script.circuit)
+    } else {
+        write!(room, "{}", script.circuit)
+    };
+    print_room(rt, &room, written);
+}
+
+/// Writes the circuit into the file of a path.
+fn to_file<R: Print + Files>(rt: &R, script: &Script, path: &str, ascii: bool) {
+    let path = Path::new(path);
+    print_answer(rt, &call!(rt, script.circuit.to_file(rt, path, ascii)));
+}
+
+/// Prints the bytes of the file of a path.
+fn contents<R: Print + Files + AllocGlobal>(rt: &R, path: &str) {
+    match fs::read(rt, path) {
+        Ok(bytes) => print(rt, &bytes),
+        Err(_) => print(rt, &Refusal::NotAllowed),
+    }
+}
+
+/// Takes a step of the table that names a file.
+fn take_file<R: Print + Files + AllocGlobal>(
+    rt: &R,
+    script: &Script,
+    step: &Writing,
+    words: &[&str],
+) {
+    let [path] = words else {
+        return print(rt, &Refusal::NotAllowed);
+    };
+    match step {
+        Writing::ToFile => to_file(rt, script, path, true),
+        Writing::ToFileBinary => to_file(rt, script, path, false),
+        _ => contents(rt, path),
+    }
 }
 
 /// Takes a step of this file, if it is one.
 pub(crate) fn take<R: Print + Files + AllocGlobal>(
     rt: &R,
     script: &Script,
-    name: &str,
-    words: &[&str],
-) -> Result<bool, Fault> {
-    match words {
-        [] if name == "text" => text(rt, script),
-        [] if name == "binary" => binary(rt, script),
-        [most, room] if name == "taker" => taker(rt, script, number(most)?, number(room)?)?,
-        [most, room] if name == "put_text" => put(rt, script, true, [most, room])?,
-        [most, room] if name == "put_binary" => put(rt, script, false, [most, room])?,
-        [path] if name == "to_file" => to_file(rt, script, path, true),
-        [path] if name == "to_file_binary" => to_file(rt, script, path, false),
-        [path] if name == "contents" => contents(rt, path)?,
-        [room] if name == "display" => display(rt, script, room)?,
-        _ => return Ok(false),
+    line: Line<'_>,
+) -> bool {
+    let Some(step) = find(&STEPS, line.name) else {
+        return false;
+    };
+    match step {
+        Writing::Text => text(rt, script),
+        Writing::Binary => binary(rt, script),
+        Writing::Taker => taker(rt, script, line.numbers),
+        Writing::PutText => put(rt, script, true, line.numbers),
+        Writing::PutBinary => put(rt, script, false, line.numbers),
+        Writing::Display => display(rt, script, line.numbers, false),
+        Writing::DisplayStyled => display(rt, script, line.numbers, true),
+        _ => take_file(rt, script, step, line.words),
     }
-    Ok(true)
+    true
 }

@@ -1,3 +1,4 @@
 mod Turning
 mod Steps
 pub mod Showing
+mod Examples

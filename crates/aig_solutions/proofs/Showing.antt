@@ -133,38 +133,38 @@ module _ (f : File) (limit k : ℕ) (optimize : Bool) (c u : Circuit) (clauses :
 
   -- ---- the bad literal
 
-  same_bads : length c.bads ≡ length f.bads
-  same_bads = ap (λ (d : Circuit). length d.bads) encodes.of_file ∙ length-map f.bads (edge_of f)
+  same_bads : length c.properties.bads ≡ length f.properties.bads
+  same_bads = ap (λ (d : Circuit). length d.properties.bads) encodes.of_file ∙ length-map f.properties.bads (edge_of f)
 
-  bad_below : w.bad < length f.bads
+  bad_below : w.bad < length f.properties.bads
   bad_below =
-      let count = one.shows.bads.count in
-      let many = length-drop (k * length c.bads) u.bads in
+      let count = one.shows.properties.bads.count in
+      let many = length-drop (k * length c.properties.bads) u.properties.bads in
       let place = ap (λ n. k * n) same_bads in
       omega (arith, says.bad.there, count, many, place)
 
   abbrev e : ℕ
-  e = get_or f.bads w.bad 0
+  e = get_or f.properties.bads w.bad 0
 
-  there : slice_get f.bads w.bad ≡ Some e
-  there = slice_get-get_or f.bads w.bad 0 bad_below
+  there : slice_get f.properties.bads w.bad ≡ Some e
+  there = slice_get-get_or f.properties.bads w.bad 0 bad_below
 
   -- it is true on the one run
   true_once : value_of_literal (one.run k) e ≡ true
   true_once =
-      let found = one.shows.bads.each k w.bad e (omega arith) there in
+      let found = one.shows.properties.bads.each k w.bad e (omega arith) there in
       let edge = found.0 in
-      let at : k * length f.bads + w.bad ≡ k * length c.bads + w.bad = ap (λ n. k * n + w.bad) (sym same_bads) in
+      let at : k * length f.properties.bads + w.bad ≡ k * length c.properties.bads + w.bad = ap (λ n. k * n + w.bad) (sym same_bads) in
       let named : get_or (last_bads c k u) w.bad (edge_to 0 false) ≡ edge =
-      get_or-drop (k * length c.bads) u.bads w.bad (edge_to 0 false) ∙ ap (λ i. get_or u.bads i (edge_to 0 false)) (sym at) ∙ get_or_from_slice_get u.bads (k * length f.bads + w.bad) edge (edge_to 0 false) found.1 in
-      let range : IsInRange u.nodes edge = at_place (IsInRange u.nodes) u.bads (k * length f.bads + w.bad) edge is.bads found.1 in
+      get_or-drop (k * length c.properties.bads) u.properties.bads w.bad (edge_to 0 false) ∙ ap (λ i. get_or u.properties.bads i (edge_to 0 false)) (sym at) ∙ get_or_from_slice_get u.properties.bads (k * length f.properties.bads + w.bad) edge (edge_to 0 false) found.1 in
+      let range : IsInRange u.nodes edge = at_place (IsInRange u.nodes) u.properties.bads (k * length f.properties.bads + w.bad) edge is.properties.bads found.1 in
       let known : edge_at values edge ≡ known_of (edge_in v edge) = ap (lbool_not_if edge.compl) (of edge.node_id range) ∙ known_not edge.compl (v edge.node_id) in
       sym found.2 ∙ known_true (edge_in v edge) (sym known ∙ ap (edge_at values) (sym named) ∙ says.bad.here)
 
   -- and on each run with the given values
   true_always : (run : ℕ → ℕ → Bool) → IsMachineRun f k run → HasLeafValues f c u k v run → value_of_literal (run k) e ≡ true
   true_always run is_run leaves =
-      let known : IsKnown f e = All-from_recursion (IsKnown f) f.bads (used_by_section (IsKnown f) f (used_known f limit fits)).bads w.bad 0 bad_below in
+      let known : IsKnown f e = (used_by_section (IsKnown f) f (used_known f limit fits)).properties.bads w.bad 0 bad_below in
       sym (literal_same (one.run k) (run k) e (one.only run is_run leaves k (e / 2) (omega arith) known)) ∙ true_once
 
   pub solution_shows : ShowsBad f w

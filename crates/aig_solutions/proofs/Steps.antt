@@ -33,9 +33,9 @@ rows_more row_at t old made row rows is here =
 -- ---- bad edges
 
 -- those of step k are the last of so many
-pub bads_room : (c u : Circuit) (k : ℕ) (old new : List AigEdge) → UnrollsTo c k u → old ≡ c.bads → new ≡ u.bads → k * length old + length old ≡ length new
+pub bads_room : (c u : Circuit) (k : ℕ) (old new : List AigEdge) → UnrollsTo c k u → old ≡ c.properties.bads → new ≡ u.properties.bads → k * length old + length old ≡ length new
 bads_room c u k old new unrolls is_old is_new =
     let y : ℕ → Bool = λ n. false in
     let r = unrolls.run_of y in
-    let count = (unrolls.same y r.0 r.1 r.2).bads.count in
+    let count = (unrolls.same y r.0 r.1 r.2).properties.bads.count in
     rw (is_old, is_new) (omega (arith, count))

@@ -12,7 +12,7 @@ use crate::reading::read_solution;
 use crate::witness::witness_of;
 use aig::{Aig, AigEdge};
 use aig_base::{MemoryError, Source};
-use aig_circuit::CircuitLists;
+use aig_circuit::{CircuitLists, Properties};
 use aig_encode::Query;
 use aig_witness::Witness;
 use aig_witness_check::check_circuit;
@@ -47,11 +47,13 @@ fn copied_lists(alloc: Global, circuit: &Aig) -> Result<CircuitLists, MemoryErro
         nodes: Vec::from_slice(alloc, circuit.nodes())?,
         inputs: Vec::from_slice(alloc, circuit.inputs())?,
         latchs: Vec::from_slice(alloc, circuit.latchs())?,
-        outputs: Vec::from_slice(alloc, circuit.outputs())?,
-        bads: Vec::from_slice(alloc, circuit.bads())?,
-        constraints: Vec::from_slice(alloc, circuit.constraints())?,
-        justice: copied_sets(alloc, circuit.justice())?,
-        fairness: Vec::from_slice(alloc, circuit.fairness())?,
+        properties: Properties {
+            outputs: Vec::from_slice(alloc, circuit.outputs())?,
+            bads: Vec::from_slice(alloc, circuit.bads())?,
+            constraints: Vec::from_slice(alloc, circuit.constraints())?,
+            justice: copied_sets(alloc, circuit.justice())?,
+            fairness: Vec::from_slice(alloc, circuit.fairness())?,
+        },
         names: copied_names(circuit.symbols())?,
     })
 }

@@ -12,7 +12,7 @@ use Rattle.aig_circuit.specs.Circuit.{AreNodes}
 use Rattle.aig_circuit.specs.Renumber.{renumbered_edge, renumbered_kind}
 use Rattle.aig_circuit.proofs.Building.{and_of-turned}
 use Rattle.aig_circuit.proofs.Trees.{kind_at-there, kind_at-within, tree_of-is}
-use Rattle.aig_renumber.proofs.Numbering.{Merges}
+use Rattle.aig_renumber.proofs.NodesInOrder.{Merges}
 use Rattle.aig_strash.specs.Exchange.{HaveEqualTrees, representative_of, image_of, kept_nodes}
 use Rattle.aig_strash.proofs.Equal.{Equal, equal-operands}
 use Rattle.aig_strash.proofs.Firsts.{first-is, first-leaf, first-within, image-0, image-back, image-below, image-place, image-same, image-within, kept-within, kept_at-kept}

@@ -10,7 +10,7 @@ use Rattle.aig_circuit.specs.Renumber.{renumbered_kind}
 use Rattle.aig_circuit.proofs.Trees.{kind_at-there}
 use Rattle.aig_renumber.proofs.Kept.{is_in-back, is_in-there}
 use Rattle.aig_renumber.proofs.Names.{find-number, names_in_circuit}
-use Rattle.aig_renumber.proofs.Numbering.{kind_at-number, length-nodes_in_order}
+use Rattle.aig_renumber.proofs.NodesInOrder.{kind_at-number, length-nodes_in_order}
 use Rattle.aig_strash.specs.Exchange.{representative_of, image_of, kept_nodes}
 use Rattle.aig_strash.specs.Strash.{KeepsRepresentatives, NumbersRepresentatives, strashed}
 use Rattle.aig_strash.proofs.Alike.{Merges-kept}

@@ -10,7 +10,7 @@ use Rattle.aig_circuit.specs.Circuit.{AreNodes, Circuit, IsCircuit, IsLeaf}
 use Rattle.aig_circuit.specs.Renumber.{nodes_in_order, renumbered_edge, renumbered_kind}
 use Rattle.aig_circuit.proofs.Building.{and_of-cases}
 use Rattle.aig_circuit.proofs.Trees.{by_smaller, kind_at-there, kind_at-within, tree_of-false, tree_of-leaf, tree_of-and}
-use Rattle.aig_renumber.proofs.Numbering.{IsLeaf-number, IsOrdered-made, kind_at-number, length-nodes_in_order}
+use Rattle.aig_renumber.proofs.NodesInOrder.{IsLeaf-number, IsOrdered-made, kind_at-number, length-nodes_in_order}
 use Rattle.aig_strash.specs.Exchange.{HaveEqualTrees, image_of, kept_nodes, leaves_before, with_leaves}
 use Rattle.aig_strash.specs.Strash.{MergesTrees, strashed}
 use Rattle.aig_strash.proofs.Alike.{Merges-kept, operands-there}

@@ -8,6 +8,7 @@ use Rattle.aig_circuit.specs.declared.node.AigNode.{AigNode}
 use Rattle.aig_circuit.specs.Edge.{edge_to}
 use Rattle.aig_circuit.specs.Tree.{tree_of}
 use Rattle.aig_circuit.specs.Circuit.{Circuit}
+use Rattle.aig_circuit.specs.Properties.{no_properties}
 use Rattle.aig_strash.specs.Strash.{strashed}
 
 abbrev node : ℕ → AigNodeType → AigNode
@@ -19,7 +20,7 @@ and_of a i b j = And (edge_to a i) (edge_to b j)
 -- false, inputs 1 and 2, and these gates
 abbrev over_two : List AigNode → List AigEdge → Circuit
 over_two gates outputs =
-    record { nodes = node 0 False ∷ node 1 Leaf ∷ node 2 Leaf ∷ gates; inputs = 1 ∷ 2 ∷ []; latchs = []; outputs = outputs; bads = []; constraints = []; justice = []; fairness = []; names = empty }
+    record { nodes = node 0 False ∷ node 1 Leaf ∷ node 2 Leaf ∷ gates; inputs = 1 ∷ 2 ∷ []; latchs = []; properties = record no_properties { outputs = outputs }; names = empty }
 
 nodes-count : {c d : Circuit} → c ≡ d → length c.nodes ≡ length d.nodes
 nodes-count e = ap (λ (c : Circuit). length c.nodes) e

@@ -43,11 +43,7 @@ module _ (c : Circuit) (is : IsCircuit c) where
     latchs = is.latchs;
     latchs_distinct = is.latchs_distinct;
     apart = All-weaker (λ n. ¬ Contains c.inputs n) (λ n. ¬ Contains cut.inputs n) (λ n not has. not (filter-back kept c.inputs n has).0) (latch_leaves c.latchs) is.apart;
-    outputs = is.outputs;
-    bads = is.bads;
-    constraints = is.constraints;
-    justice = is.justice;
-    fairness = is.fairness;
+    properties = is.properties;
     named = λ n has. is.named n (named_before n has);
   }
 
@@ -69,7 +65,7 @@ module _ (c : Circuit) (is : IsCircuit c) where
       record {
         runs = after.runs;
         starts = after.starts;
-        properties = λ z. let same = after.properties z in record { outputs = same.outputs; bads = same.bads; constraints = same.constraints; justice = same.justice; fairness = same.fairness };
+        properties = after.properties;
         next = after.next;
         initial = after.initial;
         each = after.each;

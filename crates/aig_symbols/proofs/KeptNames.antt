@@ -16,9 +16,9 @@ use Rattle.aig_format.specs.Fits.{same_place}
 use Rattle.aig_format.specs.Letters.{count_of, is_kept}
 use Rattle.aig_symbols.specs.contracts.names.section.NamedSection.{the_type}
 use Rattle.aig_symbols.specs.declared.names.place.Place.{Place}
-use Rattle.aig_symbols.specs.Names.{kept_name, kept_names}
+use Rattle.aig_symbols.specs.Names.{kept_name, kept_names, node_at}
 use Rattle.aig_symbols.specs.NamedSections.{letter_of_section}
-use Rattle.aig_symbols.specs.NameSteps.{node_at, with_name}
+use Rattle.aig_symbols.specs.NameSteps.{with_name}
 use Rattle.aig_symbols.proofs.NameLines.{name_line, is_taken}
 use Rattle.aig_symbols.proofs.NamedSections.{same_letters}
 
@@ -66,16 +66,6 @@ node_is_kept inputs leaves l n = go (eqb l 105) (eqb l 108)
 
 abbrev entry : List ℕ → ℕ → ℕ × List ℕ
 entry name node = (node, name)
-
--- a name is kept under its node
-kept_by_node : (inputs leaves : List ℕ) (l n : ℕ) (name : List ℕ) → kept_name inputs leaves (name_line l n name) ≡ option_map (entry name) (node_at inputs leaves l n)
-kept_by_node inputs leaves l n name = go (eqb l 105) (eqb l 108)
-  where
-    go : (i j : Bool) → cond i (Some (entry name (slice_index inputs n))) (cond j (Some (entry name (slice_index leaves n))) None)
-        ≡ option_map (entry name) (cond i (Some (slice_index inputs n)) (cond j (Some (slice_index leaves n)) None))
-    go true j = refl
-    go false true = refl
-    go false false = refl
 
 module _ (ns : HeaderNumbers) (inputs leaves : List ℕ) (all_inputs : length inputs ≡ ns.inputs) (all_leaves : length leaves ≡ ns.latches) (distinct : AllPairs (λ m n. m ≢ n) (inputs ++ leaves)) where
   -- where the node of a place stands among all nodes of inputs and latches
@@ -143,8 +133,7 @@ module _ (ns : HeaderNumbers) (inputs leaves : List ℕ) (all_inputs : length in
   fresh [] l n node all e lt free = refl
   fresh (m ∷ names) l n node all e lt free =
       let parts = or_parts (same_place m (name_line l n [])) (is_taken names l n) free in
-      ap (λ o. find nat_cmp node (cons_option o (filter_map (kept_name inputs leaves) names))) (kept_by_node inputs leaves m.letter m.position m.name)
-      ∙ no_entry node (node_at inputs leaves m.letter m.position) m.name (filter_map (kept_name inputs leaves) names)
+      no_entry node (node_at inputs leaves m.letter m.position) m.name (filter_map (kept_name inputs leaves) names)
       (λ k f. nodes_apart m.letter l m.position n k node f e all.0 lt parts.0)
       (fresh names l n node all.1 e lt parts.1)
 
@@ -159,5 +148,4 @@ module _ (ns : HeaderNumbers) (inputs leaves : List ℕ) (all_inputs : length in
   kept_more names l n name all lt free =
       let es = filter_map (kept_name inputs leaves) names in
       pushed (node_at inputs leaves l n) name es (λ k e. fresh names l n k all e lt free)
-      ∙ ap (λ o. from_entries {R = nat_cmp} (es ++ cons_option o [])) (sym (kept_by_node inputs leaves l n name))
       ∙ ap (λ (fs : List (ℕ × List ℕ)). from_entries {R = nat_cmp} fs) (sym (filter_map-append (kept_name inputs leaves) names (name_line l n name ∷ [])))

@@ -76,10 +76,12 @@ module _ (ns : HeaderNumbers) (names : List NameLine) where
   abbrev within : ℕ → ℕ × List ℕ → Option (ℕ × List ℕ)
   within l p = cond (ltb p.0 (count_of ns l)) (Some p) None
 
-  three_tests : (within taken utf8 : Bool) (x : NameLine × List ℕ) (p : ℕ × List ℕ) → cond (within && not taken && utf8) (Some x) None ≡ (cond within (Some p) None >>= λ _. cond taken None (cond utf8 (Some x) None))
+  three_tests : (within taken utf8 : Bool) (x : NameLine × List ℕ) (p : ℕ × List ℕ) → cond ((within && utf8) && not taken) (Some x) None ≡ (cond within (Some p) None >>= λ _. cond taken None (cond utf8 (Some x) None))
   three_tests false taken utf8 x p = refl
-  three_tests true true utf8 x p = refl
-  three_tests true false utf8 x p = refl
+  three_tests true true true x p = refl
+  three_tests true true false x p = refl
+  three_tests true false true x p = refl
+  three_tests true false false x p = refl
 
   no_text : (within taken : Bool) (p : ℕ × List ℕ) (o : Option (NameLine × List ℕ)) → o ≡ None → o ≡ (cond within (Some p) None >>= λ _. cond taken None o)
   no_text false taken p o e = e

@@ -14,9 +14,9 @@ use Rattle.aig_parsing.proofs.Numbers.{bind_some}
 use Rattle.aig_lexer.specs.Takes.{Takes, Misses}
 use Rattle.aig_symbols.specs.declared.names.place.Place.{Place}
 use Rattle.aig_symbols.specs.declared.names.section.NamedSection.{NamedSection}
-use Rattle.aig_symbols.specs.Names.{tail_of, kept_names}
+use Rattle.aig_symbols.specs.Names.{tail_of, kept_names, node_at}
 use Rattle.aig_symbols.specs.NamedSections.{letter_of_section}
-use Rattle.aig_symbols.specs.NameSteps.{NameStarts, IsNoTail, node_at, with_name}
+use Rattle.aig_symbols.specs.NameSteps.{NameStarts, IsNoTail, with_name}
 use Rattle.aig_symbols.proofs.NameLines.{name_line, is_taken, place_at, name_text_at, line_at, line_without_place, line_with_place, line_of_taken, line_without_name, line_with_name}
 use Rattle.aig_symbols.proofs.Tails.{TailGoes, tail_begins, tail_goes, tail_wrong, tail_ends, wrong_start, wrong_line}
 use Rattle.aig_symbols.proofs.NamedSections.{is_letter_of}

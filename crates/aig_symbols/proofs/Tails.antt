@@ -5,7 +5,7 @@ use Rattle.std.proofs.KnownBytes.{Consumes-nil, Consumes-trans}
 use Rattle.std.proofs.lemmas.Option.{cond_some}
 use Rattle.std.proofs.lemmas.List.{length-append}
 use Rattle.aig_format.specs.File.{NameLine, HeaderNumbers}
-use Rattle.aig_parsing.specs.Parse.{◌>>=◌, is_comment, parse_name}
+use Rattle.aig_parsing.specs.Parse.{◌>>=◌, is_comment, parse_name, parse_tail}
 use Rattle.aig_parsing.specs.ParseTested.{tests_name, parse_fitting_tail}
 use Rattle.aig_parsing.proofs.Numbers.{bind_some}
 use Rattle.aig_parsing.proofs.Names.{Reads-name, name_is_some, name_goes_on}
@@ -50,7 +50,7 @@ same_bind None f g h = refl
 same_bind (Some x) f g h = h x refl
 
 step : (ns : HeaderNumbers) (k : ℕ) (names : List NameLine) (bytes : List ℕ) → parse_fitting_tail ns (suc k) names bytes ≡ cond (is_comment bytes) (Some []) (line_at ns names bytes >>= one_more ns k names)
-unfolding parse_fitting_tail
+unfolding parse_tail
 step ns k names bytes = refl
 
 -- with more steps than bytes the count of steps doesn't matter

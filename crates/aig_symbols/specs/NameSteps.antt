@@ -1,10 +1,9 @@
 -- Serves private clauses alone.
 -- The steps of reading names.
-use Rattle.std.specs.Prelude.{◌≡◌, ℕ, ◌==◌, if◌then◌else◌, true, false, List, [], ◌∷◌, slice_index, Option, Some, None, IfSome, Result, Ok, Err}
+use Rattle.std.specs.Prelude.{◌≡◌, ℕ, true, false, List, [], ◌∷◌, Option, Some, None, IfSome, Result, Ok, Err}
 use Rattle.std.specs.Io.KnownBytes.{Consumes}
 use Rattle.std.specs.Ordering.{nat_cmp}
 use Rattle.std.specs.FinMap.{FinMap, insert}
-use Rattle.aig_format.specs.Letters.{letter_of_inputs, letter_of_latches}
 use Rattle.aig_parsing.specs.Parse.{is_comment, parse_name, parse_ended}
 use Rattle.aig_lexer.specs.declared.error.LexError.{LexError}
 use Rattle.aig_lexer.specs.Faults.{LexUnlessTransient}
@@ -30,13 +29,6 @@ NameStarts before after (Err e) = LexUnlessTransient e (IfSome before IsNoTail)
 -- a number that a space ends, whose first byte came before
 abbrev pub parse_position : ℕ → List ℕ → Option (ℕ × List ℕ)
 parse_position first bytes = parse_ended 32 (first ∷ bytes)
-
--- the node at a position of inputs or latches
-abbrev pub node_at : List ℕ → List ℕ → ℕ → ℕ → Option ℕ
-node_at inputs leaves letter position =
-    if letter == letter_of_inputs then Some (slice_index inputs position)
-    else if letter == letter_of_latches then Some (slice_index leaves position)
-    else None
 
 -- the names, with this one for the node if there is one
 abbrev pub with_name : Option ℕ → List ℕ → FinMap nat_cmp (List ℕ) → FinMap nat_cmp (List ℕ)

@@ -1,7 +1,7 @@
 -- Serves private clauses alone.
 -- Names up to the end of the stream, and those that are kept. (AIGER format 20071012: "Symbol
 -- table", "Comment section".)
-use Rattle.std.specs.Prelude.{◌≡◌, ℕ, suc, ◌==◌, if◌then◌else◌, List, [], length, filter_map, slice_index, Option, Some, None, IfSome, Result, Ok, Err}
+use Rattle.std.specs.Prelude.{◌≡◌, ℕ, suc, ◌==◌, if◌then◌else◌, List, [], length, filter_map, slice_index, Option, Some, None, IfSome, Result, Ok, Err, option_map}
 use Rattle.std.specs.Io.KnownBytes.{Consumes}
 use Rattle.std.specs.Ordering.{nat_cmp}
 use Rattle.std.specs.FinMap.{FinMap, from_entries}
@@ -22,12 +22,17 @@ EndsWith {Y = Y} refuses IsOf before after (Ok x) read =
 EndsWith refuses IsOf before after (Err e) read =
     refuses e (IfSome before (λ bytes. read bytes ≡ None))
 
+-- the node at a position of inputs or latches
+abbrev pub node_at : List ℕ → List ℕ → ℕ → ℕ → Option ℕ
+node_at inputs leaves letter position =
+    if letter == letter_of_inputs then Some (slice_index inputs position)
+    else if letter == letter_of_latches then Some (slice_index leaves position)
+    else None
+
 -- the node that a name of an input or a latch names; other names are dropped
 abbrev pub kept_name : List ℕ → List ℕ → NameLine → Option (ℕ × List ℕ)
 kept_name inputs leaves n =
-    if n.letter == letter_of_inputs then Some (slice_index inputs n.position, n.name)
-    else if n.letter == letter_of_latches then Some (slice_index leaves n.position, n.name)
-    else None
+    option_map (λ node. (node, n.name)) (node_at inputs leaves n.letter n.position)
 
 -- the names of nodes
 abbrev pub kept_names : List ℕ → List ℕ → List NameLine → FinMap nat_cmp (List ℕ)

@@ -9,6 +9,7 @@ use Rattle.aig_circuit.specs.declared.node.AigNode.{AigNode}
 use Rattle.aig_circuit.specs.Edge.{edge_to}
 use Rattle.aig_circuit.specs.Tree.{tree_of}
 use Rattle.aig_circuit.specs.Circuit.{Circuit}
+use Rattle.aig_circuit.specs.Properties.{no_properties}
 use Rattle.aig_ternary.specs.Ternary.{simulation_of, three_node_value, three_values, values_in}
 
 abbrev node : ℕ → AigNodeType → AigNode
@@ -16,7 +17,7 @@ node n kind = record { node_id = n; typ = kind }
 
 -- inputs 1 and 2, a free leaf 3, and the gate 4 = and(1,2)
 abbrev gate : Circuit
-gate = record { nodes = node 0 False ∷ node 1 Leaf ∷ node 2 Leaf ∷ node 3 Leaf ∷ node 4 (And (edge_to 1 false) (edge_to 2 false)) ∷ []; inputs = 1 ∷ 2 ∷ []; latchs = []; outputs = []; bads = []; constraints = []; justice = []; fairness = []; names = empty }
+gate = record { nodes = node 0 False ∷ node 1 Leaf ∷ node 2 Leaf ∷ node 3 Leaf ∷ node 4 (And (edge_to 1 false) (edge_to 2 false)) ∷ []; inputs = 1 ∷ 2 ∷ []; latchs = []; properties = no_properties; names = empty }
 
 abbrev one_false : ℕ → Lbool
 one_false n = FALSE

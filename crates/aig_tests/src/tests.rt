@@ -1,9 +1,4 @@
-//! What steps of tests/scripts can't say: literals and three values, single calls, streams that fail, and refusals in words.
+//! What steps of tests/scripts can't say: the examples of docstrings, and readers and writers of std that fail.
 
-mod display;
 mod examples;
-mod fields;
-mod lexing;
-mod logic;
-mod refusals;
 mod streams;

@@ -16,10 +16,10 @@ use Rattle.aig_circuit.proofs.Building.{Grows-kept, Grows-longer, Grows-then, ed
 use Rattle.aig_circuit.proofs.Trees.{kind_at-within}
 use Rattle.aig_renumber.proofs.Places.{position_of-get_or, position_of-within}
 use Rattle.aig_unroll.specs.Places.{Reads, leaves_after, other_leaves, place_at, unrolled_size}
-use Rattle.aig_unroll.specs.Unroll.{KeepsCircuit, SetsStandAtSteps, HasStepValues, HasValuesAtSteps, UnrollsOnce, UnrollsTo, starts_of}
+use Rattle.aig_unroll.specs.Unroll.{KeepsCircuit, PropertiesStandAtSteps, HasStepValues, UnrollsOnce, UnrollsTo, starts_of}
 use Rattle.aig_unroll.proofs.Added.{following-are, following-distinct, following-have, leaves_after-more}
 use Rattle.aig_unroll.proofs.Lists.{zip_turned, zip_unmapped}
-use Rattle.aig_unroll.proofs.MoreShown.{sets_stand_more, stand_more}
+use Rattle.aig_unroll.proofs.MoreShown.{properties_stand_more}
 use Rattle.aig_unroll.proofs.NextStep.{next_values, next_values-other, reads_added, reads_kept, reads_more, reads_next, reads_next_values, reads_same, run_kept, run_more, then_values, then_values-new, then_values-old, within_old}
 use Rattle.aig_unroll.proofs.Others.{others-are}
 
@@ -165,14 +165,10 @@ module _ (c old new : Circuit) (k : ℕ) (is : IsCircuit c) (is_old : IsCircuit 
       let first = edge_value old.nodes y in
       let then = edge_value new.nodes y in
       record {
-        outputs = subst (HasValuesAtSteps (k + 1) value c.outputs then) (sym once.with_outputs) (stand_more k value first then P (edges_kept y) c.outputs old.outputs once.outputs is_old.outputs early.outputs last.0);
-        bads = subst (HasValuesAtSteps (k + 1) value c.bads then) (sym once.with_bads) (stand_more k value first then P (edges_kept y) c.bads old.bads once.bads is_old.bads early.bads last.1);
-        constraints = subst (HasValuesAtSteps (k + 1) value c.constraints then) (sym once.with_constraints) (stand_more k value first then P (edges_kept y) c.constraints old.constraints once.constraints is_old.constraints early.constraints last.2);
-        justice = subst (SetsStandAtSteps (k + 1) value c.justice then) (sym once.with_justice) (sets_stand_more k value first then P (edges_kept y) c.justice old.justice once.justice is_old.justice early.justice last.3);
-        fairness = subst (HasValuesAtSteps (k + 1) value c.fairness then) (sym once.with_fairness) (stand_more k value first then P (edges_kept y) c.fairness old.fairness once.fairness is_old.fairness early.fairness last.4);
+        properties = subst (λ p. PropertiesStandAtSteps (k + 1) value c.properties then p) (sym once.with_added) (properties_stand_more k value first then P (edges_kept y) c.properties old.properties once.added is_old.properties early.properties last.0);
         state =
             zip_turned (λ (m l : AigLatch). edge_value new.nodes y m.next ≡ edge_value c.nodes (x (k + 1)) l.next) new.latchs c.latchs
-            (zip_unmapped (λ (l : AigLatch). l.next) (λ (l : AigLatch). l.next) (λ e f. edge_value new.nodes y e ≡ edge_value c.nodes (x (k + 1)) f) new.latchs c.latchs last.5);
+            (zip_unmapped (λ (l : AigLatch). l.next) (λ (l : AigLatch). l.next) (λ e f. edge_value new.nodes y e ≡ edge_value c.nodes (x (k + 1)) f) new.latchs c.latchs last.1);
       }
     where
       value : ℕ → AigEdge → Bool

@@ -1,7 +1,6 @@
 -- One step of a latch whose next edge is its inverse: no node is added, the next edge is the leaf itself, and the output is first the leaf
 -- and then its inverse.
 use Rattle.std.proofs.Common.{◌≡◌, ℕ, Bool, true, false, not, Some, List, [], ◌∷◌, refl, sym, ap, ◌∙◌, arith}
-use Rattle.std.specs.Prelude.{All}
 use Rattle.std.specs.FinMap.{empty}
 use Rattle.std.proofs.lemmas.List.Elements.{All-cons, All-nil}
 use Rattle.aig_circuit.specs.declared.edge.AigEdge.{AigEdge}
@@ -9,9 +8,11 @@ use Rattle.aig_circuit.specs.declared.node.AigNode.{AigNode}
 use Rattle.aig_circuit.specs.declared.node.AigNodeType.TheVariants.{False, Leaf}
 use Rattle.aig_circuit.specs.Edge.{edge_to}
 use Rattle.aig_circuit.specs.Circuit.{AreNodes, Circuit, IsCircuit, IsInRange, IsLatch, IsLeaf, only_false}
+use Rattle.aig_circuit.specs.Properties.{no_properties}
 use Rattle.aig_circuit.specs.Tree.{edge_value, node_value, tree_of}
 use Rattle.aig_circuit.proofs.Building.{AreNodes-with_node, Grows-itself}
 use Rattle.aig_circuit.proofs.Circuits.{IsCircuit-only_false}
+use Rattle.aig_circuit.proofs.Listed.{AllProperties-entries_of}
 use Rattle.aig_unroll.specs.Unroll.{ReadsNext, UnrollsOnce, UnrollsTo}
 use Rattle.aig_unroll.proofs.MoreSteps.{unrolls_more}
 use Rattle.aig_unroll.proofs.NoStep.{unrolls-none}
@@ -24,11 +25,7 @@ toggle next outputs = record {
   nodes = leaf_alone;
   inputs = [];
   latchs = record { input = 1; next = next; init = Some (edge_to 0 false) } ∷ [];
-  outputs = outputs;
-  bads = [];
-  constraints = [];
-  justice = [];
-  fairness = [];
+  properties = record no_properties { outputs = outputs };
   names = empty;
 }
 
@@ -58,18 +55,10 @@ toggle-unrolls : UnrollsOnce once once twice
 toggle-unrolls = record {
   keeps = record { nodes = Grows-itself leaf_alone are_nodes; inputs = refl; names = refl; leaves = refl; starts = refl };
   count = refl;
-  outputs = edge_to 1 true ∷ [];
-  bads = [];
-  constraints = [];
-  justice = [];
-  fairness = [];
-  with_outputs = refl;
-  with_bads = refl;
-  with_constraints = refl;
-  with_justice = refl;
-  with_fairness = refl;
+  added = record no_properties { outputs = edge_to 1 true ∷ [] };
+  with_added = refl;
   reads = toggle-reads;
-  values = λ y x r. let v = toggle-values y x r in ((v.0, tt), tt, tt, tt, tt, (v.1, tt));
+  values = λ y x r. let v = toggle-values y x r in (record { outputs = (v.0, tt); bads = tt; constraints = tt; justice = tt; fairness = tt }, (v.1, tt));
   size = omega arith;
 }
 
@@ -82,11 +71,7 @@ once-is = record {
   latchs = All-cons (IsLatch leaf_alone) _ [] (record { leaf = refl; next = omega arith; init = omega arith }) (All-nil (IsLatch leaf_alone));
   latchs_distinct = λ i j d h l. absurd (omega arith);
   apart = λ k d h has. absurd (omega (arith, has.1));
-  outputs = All-cons (IsInRange leaf_alone) (edge_to 1 false) [] (omega arith) (All-nil (IsInRange leaf_alone));
-  bads = All-nil (IsInRange leaf_alone);
-  constraints = All-nil (IsInRange leaf_alone);
-  justice = All-nil (All (IsInRange leaf_alone));
-  fairness = All-nil (IsInRange leaf_alone);
+  properties = AllProperties-entries_of (IsInRange leaf_alone) once.properties (All-cons (IsInRange leaf_alone) (edge_to 1 false) [] (omega arith) (All-nil (IsInRange leaf_alone)));
   named = λ n h. omega (arith, IsCircuit-only_false.named n h);
 }
 

@@ -12,6 +12,7 @@ use Rattle.aig_circuit.specs.declared.node.AigNode.{AigNode}
 use Rattle.aig_circuit.specs.declared.node.AigLatch.{AigLatch}
 use Rattle.aig_circuit.specs.Edge.{edge_to}
 use Rattle.aig_circuit.specs.Circuit.{Circuit}
+use Rattle.aig_circuit.specs.Properties.{no_properties}
 use Rattle.aig_circuit.specs.Tree.{tree_of, node_value}
 use Rattle.aig_unroll.specs.Places.{unrolled_size}
 use Rattle.aig_unroll.specs.Unroll.{UnrollsOnce, UnrollsTo}
@@ -25,11 +26,7 @@ circuit_with nodes inputs latchs outputs =
       nodes = nodes;
       inputs = inputs;
       latchs = latchs;
-      outputs = outputs;
-      bads = [];
-      constraints = [];
-      justice = [];
-      fairness = [];
+      properties = record no_properties { outputs = outputs };
       names = empty;
     }
 
@@ -58,7 +55,7 @@ no_swap_in_turn u =
     let y = first_alone in
     let r = u.reads y in
     let v = u.values y r.0 r.1 in
-    let nexts = v.5 in
+    let nexts = v.1 in
     let one : true ≡ r.0 1 = nexts.1.0 in
     let two : r.0 1 ≡ false = r.1.state.0 in
     false≢true (sym (one ∙ two))
@@ -88,7 +85,7 @@ no_inverted_output u =
     let y = first_alone in
     let r = u.run_of y in
     let s = u.same y r.0 r.1 r.2 in
-    let o = s.outputs.each 0 0 (edge_to 1 false) (omega arith) refl in
+    let o = s.properties.outputs.each 0 0 (edge_to 1 false) (omega arith) refl in
     let there : Some (edge_to 1 true) ≡ Some o.0 = o.1 in
     let e : edge_to 1 true ≡ o.0 = cc in
     let value : not (first_alone 1) ≡ r.0 0 1 = rw (sym e) at o.2 in

@@ -11,13 +11,15 @@ use Rattle.aig_circuit.specs.declared.node.AigLatch.{AigLatch}
 use Rattle.aig_circuit.specs.Edge.{edge_to, inverted_if}
 use Rattle.aig_circuit.specs.Tree.{edge_value}
 use Rattle.aig_circuit.specs.Circuit.{BeginsWith, Circuit, IsCircuit, IsInRange, IsLatch, IsLeaf, latch_leaves}
+use Rattle.aig_circuit.specs.Properties.{AllProperties, AreProperties, append_properties, map_properties}
 use Rattle.aig_circuit.specs.Runs.{HaveSameValues, next_edges}
 use Rattle.aig_circuit.proofs.Building.{Grows-kept, Grows-longer, edge_value-Grows}
 use Rattle.aig_circuit.proofs.Circuits.{AllPairs-append, init_grown, latch_leaves-leaves}
 use Rattle.aig_circuit.proofs.Trees.{kind_at-within, node_value-leaf}
-use Rattle.aig_renumber.proofs.Places.{All-from_map}
+use Rattle.aig_circuit.proofs.Listed.{AllProperties-append, AllProperties-map, AllProperties-weaker, AreProperties-map}
+use Rattle.aig_circuit.proofs.Lists.{All-from_map}
 use Rattle.aig_unroll.specs.Places.{leaves_after, other_leaves}
-use Rattle.aig_unroll.specs.Step.{AppendsImages, CopiesAll, HaveNextImages, image_at, image_in}
+use Rattle.aig_unroll.specs.Step.{AppendsButJustice, AppendsImages, CopiesAll, HaveNextImages, image_at, image_in}
 use Rattle.aig_unroll.specs.Unroll.{ReadsNext, UnrollsOnce, UnrollsTo, starts_of}
 use Rattle.aig_unroll.proofs.Added.{following-are, following-distinct, IsBehind}
 use Rattle.aig_unroll.proofs.Copied.{edge_value-image_in}
@@ -58,19 +60,12 @@ module _ (from old new : Circuit) (images : List AigEdge) (is_from : IsCircuit f
   images_there es all = All-map (IsInRange new.nodes) (image_in images) es (All-weaker (IsInRange from.nodes) (λ e. IsInRange new.nodes (image_in images e)) image_there es all)
 
   -- old entries and images are in range
-  edges_there : (olds es news : List AigEdge) → news ≡ olds ++ map (image_in images) es → All (IsInRange old.nodes) olds → All (IsInRange from.nodes) es → All (IsInRange new.nodes) news
-  edges_there olds es news same all more =
-      All-same (IsInRange new.nodes) news (olds ++ map (image_in images) es) same
-      (All-append (IsInRange new.nodes) olds (map (image_in images) es) (All-weaker (IsInRange old.nodes) (IsInRange new.nodes) edge_kept olds all) (images_there es more))
-
-  sets_there : All (All (IsInRange new.nodes)) new.justice
-  sets_there =
-      let P = All (IsInRange new.nodes) in
-      let news = map (map (image_in images)) from.justice in
-      All-same P new.justice (old.justice ++ news) appends.justice
-      (All-append P old.justice news
-      (All-weaker (All (IsInRange old.nodes)) P (λ es all. All-weaker (IsInRange old.nodes) (IsInRange new.nodes) edge_kept es all) old.justice is_old.justice)
-      (All-map P (map (image_in images)) from.justice (All-weaker (All (IsInRange from.nodes)) (λ es. P (map (image_in images) es)) images_there from.justice is_from.justice)))
+  properties_there : AllProperties (IsInRange new.nodes) new.properties
+  properties_there =
+      subst (AllProperties (IsInRange new.nodes)) (sym appends.properties)
+      (AllProperties-append (IsInRange new.nodes) old.properties (map_properties (image_in images) from.properties)
+      (AllProperties-weaker (IsInRange old.nodes) (IsInRange new.nodes) edge_kept old.properties is_old.properties)
+      (AllProperties-map (IsInRange new.nodes) (image_in images) from.properties (AllProperties-weaker (IsInRange from.nodes) (λ e. IsInRange new.nodes (image_in images e)) image_there from.properties is_from.properties)))
 
   added_are : All (IsBehind new.nodes copies.grows.sound (length old.nodes)) added
   added_are = following-are new.nodes copies.grows.sound (length old.nodes)
@@ -125,11 +120,7 @@ module _ (from old new : Circuit) (images : List AigEdge) (is_from : IsCircuit f
     latchs = latches_are;
     latchs_distinct = subst (AllPairs (λ m n. m ≢ n)) (sym appends.latchs.leaves) is_old.latchs_distinct;
     apart = leaves_apart;
-    outputs = edges_there old.outputs from.outputs new.outputs appends.outputs is_old.outputs is_from.outputs;
-    bads = edges_there old.bads from.bads new.bads appends.bads is_old.bads is_from.bads;
-    constraints = edges_there old.constraints from.constraints new.constraints appends.constraints is_old.constraints is_from.constraints;
-    justice = sets_there;
-    fairness = edges_there old.fairness from.fairness new.fairness appends.fairness is_old.fairness is_from.fairness;
+    properties = properties_there;
     named = λ n h. omega (arith, longer, is_old.named n (subst (λ names. IsTrue (contains_key names n)) appends.names h));
   }
 
@@ -169,54 +160,40 @@ module _ (from old new : Circuit) (images : List AigEdge) (is_from : IsCircuit f
     image_values [] all = tt
     image_values (e ∷ es) all = (image_value e (all 0 e (omega arith)), image_values es (λ k d h. all (suc k) d (omega arith)))
 
-    set_values : (sets : List (List AigEdge)) → All (All (IsInRange from.nodes)) sets → AllZip (λ es fs. HaveSameValues new.nodes y es from.nodes x fs) (map (map (image_in images)) sets) sets
-    set_values [] all = tt
-    set_values (set ∷ sets) all = (image_values set (all 0 set (omega arith)), set_values sets (λ k d h. all (suc k) d (omega arith)))
+    property_values : AreProperties (λ e f. edge_value new.nodes y f ≡ edge_value from.nodes x e) from.properties (map_properties (image_in images) from.properties)
+    property_values =
+        AreProperties-map (image_in images) (λ e f. edge_value new.nodes y f ≡ edge_value from.nodes x e) from.properties
+        (AllProperties-weaker (IsInRange from.nodes) (λ e. edge_value new.nodes y (image_in images e) ≡ edge_value from.nodes x e) image_value from.properties is_from.properties)
 
   pub stepped_unrolls : UnrollsOnce from old new
   stepped_unrolls = record {
     keeps = record { nodes = copies.grows; inputs = appends.inputs; names = appends.names; leaves = appends.latchs.leaves; starts = appends.latchs.starts };
     count = sym (length-map added (λ n. edge_to n false)) ∙ sym (ap length copies.others) ∙ length-map (other_leaves from) (image_at images);
-    outputs = map (image_in images) from.outputs;
-    bads = map (image_in images) from.bads;
-    constraints = map (image_in images) from.constraints;
-    justice = map (map (image_in images)) from.justice;
-    fairness = map (image_in images) from.fairness;
-    with_outputs = appends.outputs;
-    with_bads = appends.bads;
-    with_constraints = appends.constraints;
-    with_justice = appends.justice;
-    with_fairness = appends.fairness;
+    added = map_properties (image_in images) from.properties;
+    with_added = appends.properties;
     reads = λ y. (λ n. edge_value new.nodes y (image_at images n), record { state = latch_values y; others = other_values y });
     values = λ y x reads. (
-      image_values y x reads from.outputs is_from.outputs,
-      image_values y x reads from.bads is_from.bads,
-      image_values y x reads from.constraints is_from.constraints,
-      set_values y x reads from.justice is_from.justice,
-      image_values y x reads from.fairness is_from.fairness,
+      property_values y x reads,
       subst (λ es. HaveSameValues new.nodes y es from.nodes x (next_edges from.latchs)) (sym appends.latchs.next) (image_values y x reads (next_edges from.latchs) next_in),
     );
     size = copies.size;
   }
 
 -- what was made of a circuit is one step more: first its nodes and justice sets, and then its other lists
-pub stepped_in_parts : (from old mid new : Circuit) (images : List AigEdge) (start : ℕ) → start ≡ length old.nodes → CopiesAll from old.latchs old.nodes mid.nodes images → mid.justice ≡ old.justice ++ map (map (image_in images)) from.justice
-    → record mid { justice = old.justice } ≡ record old { nodes = mid.nodes } → new.nodes ≡ mid.nodes → new.inputs ≡ mid.inputs ++ leaves_after start mid.nodes → HaveNextImages images from.latchs mid.latchs new.latchs
-    → new.outputs ≡ mid.outputs ++ map (image_in images) from.outputs → new.bads ≡ mid.bads ++ map (image_in images) from.bads → new.constraints ≡ mid.constraints ++ map (image_in images) from.constraints
-    → new.justice ≡ mid.justice → new.fairness ≡ mid.fairness ++ map (image_in images) from.fairness → new.names ≡ mid.names → CopiesAll from old.latchs old.nodes new.nodes images × AppendsImages from old images new
-stepped_in_parts from old mid new images start begins copies sets same nodes inputs latchs outputs bads constraints justice fairness names = (
-  subst (λ ns. CopiesAll from old.latchs old.nodes ns images) (sym nodes) copies,
-  record {
-    inputs = inputs ∙ ap (λ (c : Circuit). c.inputs ++ leaves_after start mid.nodes) same ∙ ap (λ n. old.inputs ++ leaves_after n mid.nodes) begins ∙ ap (λ ns. old.inputs ++ leaves_after (length old.nodes) ns) (sym nodes);
-    latchs = subst (λ (ls : List AigLatch). HaveNextImages images from.latchs ls new.latchs) (ap (λ (c : Circuit). c.latchs) same) latchs;
-    outputs = outputs ∙ ap (λ (c : Circuit). c.outputs ++ map (image_in images) from.outputs) same;
-    bads = bads ∙ ap (λ (c : Circuit). c.bads ++ map (image_in images) from.bads) same;
-    constraints = constraints ∙ ap (λ (c : Circuit). c.constraints ++ map (image_in images) from.constraints) same;
-    justice = justice ∙ sets;
-    fairness = fairness ∙ ap (λ (c : Circuit). c.fairness ++ map (image_in images) from.fairness) same;
-    names = names ∙ ap (λ (c : Circuit). c.names) same;
-  },
-)
+pub stepped_in_parts : (from old mid new : Circuit) (images : List AigEdge) (start : ℕ) → start ≡ length old.nodes → CopiesAll from old.latchs old.nodes mid.nodes images
+    → mid.properties.justice ≡ old.properties.justice ++ map (map (image_in images)) from.properties.justice
+    → record mid { properties = record mid.properties { justice = old.properties.justice } } ≡ record old { nodes = mid.nodes } → new.nodes ≡ mid.nodes → new.inputs ≡ mid.inputs ++ leaves_after start mid.nodes → HaveNextImages images from.latchs mid.latchs new.latchs
+    → AppendsButJustice images from.properties mid.properties new.properties → new.names ≡ mid.names → CopiesAll from old.latchs old.nodes new.nodes images × AppendsImages from old images new
+stepped_in_parts from old mid new images start begins copies sets same nodes inputs latchs properties names =
+    let more = map_properties (image_in images) from.properties in (
+      subst (λ ns. CopiesAll from old.latchs old.nodes ns images) (sym nodes) copies,
+      record {
+        inputs = inputs ∙ ap (λ (c : Circuit). c.inputs ++ leaves_after start mid.nodes) same ∙ ap (λ n. old.inputs ++ leaves_after n mid.nodes) begins ∙ ap (λ ns. old.inputs ++ leaves_after (length old.nodes) ns) (sym nodes);
+        latchs = subst (λ (ls : List AigLatch). HaveNextImages images from.latchs ls new.latchs) (ap (λ (c : Circuit). c.latchs) same) latchs;
+        properties = properties ∙ ap (λ justice. record (append_properties mid.properties more) { justice = justice }) sets ∙ ap (λ (c : Circuit). append_properties c.properties more) same;
+        names = names ∙ ap (λ (c : Circuit). c.names) same;
+      },
+    )
 
 -- an unrolled circuit begins with the circuit
 pub begins_unrolled : (c : Circuit) (k : ℕ) (d : Circuit) → UnrollsTo c k d → BeginsWith d c

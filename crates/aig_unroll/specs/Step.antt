@@ -13,8 +13,9 @@ use Rattle.aig_circuit.specs.Node.{is_gate, kind_at}
 use Rattle.aig_circuit.specs.Tree.{edge_value, node_value}
 use Rattle.aig_circuit.specs.Circuit.{Circuit, IsInRange, IsLeaf, latch_leaves}
 use Rattle.aig_circuit.specs.Build.{AddsGates, Grows, with_node}
+use Rattle.aig_circuit.specs.Properties.{Properties, append_properties, map_properties}
 use Rattle.aig_circuit.specs.Runs.{next_edges}
-use Rattle.aig_circuit.specs.View.{lists_circuit}
+use Rattle.aig_circuit.specs.View.{HasRoomFor, lists_circuit, properties_of}
 use Rattle.aig_unroll.specs.Places.{is_other_leaf, leaves_after, other_leaves}
 use Rattle.aig_unroll.specs.Unroll.{starts_of}
 
@@ -132,15 +133,26 @@ abbrev pub AppendsSets : List AigEdge → List (List AigEdge) → List (List Aig
     → List (List AigEdge) → Type 0
 AppendsSets images sets old new = new ≡ old ++ map (map (image_in images)) sets
 
+-- the images of the entries stand after the old ones in each list
+abbrev pub AppendsProperties : List AigEdge → Properties AigEdge → Properties AigEdge
+    → Properties AigEdge → Type 0
+AppendsProperties images p old new =
+    new ≡ append_properties old (map_properties (image_in images) p)
+
+-- they do but for justice, which stays
+abbrev pub AppendsButJustice : List AigEdge → Properties AigEdge → Properties AigEdge
+    → Properties AigEdge → Type 0
+AppendsButJustice images p old new =
+    new
+    ≡ record (append_properties old (map_properties (image_in images) p)) {
+      justice = old.justice;
+    }
+
 -- there is room for the entries of a step, but for justice
 pub record HasRoomForStep (lists : CircuitLists) (from : Circuit) (before : ℕ) : Type 0 where
   pub inputs : vec_len lists.inputs + length (leaves_after before lists.nodes.items)
       ≤ vec_capacity lists.inputs
-  pub outputs : vec_len lists.outputs + length from.outputs ≤ vec_capacity lists.outputs
-  pub bads : vec_len lists.bads + length from.bads ≤ vec_capacity lists.bads
-  pub constraints : vec_len lists.constraints + length from.constraints
-      ≤ vec_capacity lists.constraints
-  pub fairness : vec_len lists.fairness + length from.fairness ≤ vec_capacity lists.fairness
+  pub properties : HasRoomFor lists.properties from.properties
 
 -- the latches have their leaves and initial edges, and the images of the next edges of others
 pub record HaveNextImages (images : List AigEdge) (others old new : List AigLatch) : Type 0 where
@@ -153,11 +165,7 @@ pub record HaveNextImages (images : List AigEdge) (others old new : List AigLatc
 pub record AppendsImages (from old : Circuit) (images : List AigEdge) (new : Circuit) : Type 0 where
   pub inputs : new.inputs ≡ old.inputs ++ leaves_after (length old.nodes) new.nodes
   pub latchs : HaveNextImages images from.latchs old.latchs new.latchs
-  pub outputs : Appends images from.outputs old.outputs new.outputs
-  pub bads : Appends images from.bads old.bads new.bads
-  pub constraints : Appends images from.constraints old.constraints new.constraints
-  pub justice : AppendsSets images from.justice old.justice new.justice
-  pub fairness : Appends images from.fairness old.fairness new.fairness
+  pub properties : AppendsProperties images from.properties old.properties new.properties
   pub names : new.names ≡ old.names
 
 -- the nodes and the justice sets of the step stand, the rest is as it was, and there is room for it
@@ -165,7 +173,12 @@ pub record IsPrepared (from : Circuit) (old new : CircuitLists) (images : List A
     : Type 0 where
   pub copies : CopiesAll from old.latchs.items old.nodes.items new.nodes.items images
   pub room : HasRoomForStep new from (length old.nodes.items)
-  pub justice : AppendsSets images from.justice (entries_of old.justice.items)
-      (entries_of new.justice.items)
-  pub same : record (lists_circuit new) { justice = (lists_circuit old).justice }
+  pub justice : AppendsSets images from.properties.justice
+      (entries_of old.properties.justice.items) (entries_of new.properties.justice.items)
+  pub same : record (lists_circuit new) {
+    properties =
+        record (properties_of new.properties) {
+          justice = (properties_of old.properties).justice;
+        };
+  }
       ≡ record (lists_circuit old) { nodes = new.nodes.items }

@@ -1,7 +1,7 @@
 -- Part of what is promised.
 -- Circuits with further steps. (Bounded model checking: time frames; the crate aig: `unroll`,
 -- `unroll_to`.)
-use Rattle.std.specs.Prelude.{◌≡◌, ℕ, zero, suc, ◌+◌, ◌-◌, ◌*◌, ◌<◌, ◌≤◌, ◌↔◌, ◌⊎◌, Bool, Option, Some, List, ◌++◌, length, map, drop, slice_get, Contains}
+use Rattle.std.specs.Prelude.{◌≡◌, ℕ, zero, suc, ◌+◌, ◌-◌, ◌*◌, ◌<◌, ◌≤◌, ◌↔◌, ◌⊎◌, Bool, Option, Some, List, ◌++◌, length, map, slice_get, Contains}
 use Rattle.std.specs.List.{AllZip}
 use Rattle.aig_circuit.specs.declared.edge.AigEdge.{AigEdge}
 use Rattle.aig_circuit.specs.declared.node.AigLatch.{AigLatch}
@@ -10,6 +10,7 @@ use Rattle.aig_circuit.specs.Node.{kind_at}
 use Rattle.aig_circuit.specs.Tree.{edge_value}
 use Rattle.aig_circuit.specs.Circuit.{Circuit, IsLeaf, latch_leaves}
 use Rattle.aig_circuit.specs.Build.{Grows}
+use Rattle.aig_circuit.specs.Properties.{Properties, AreProperties, append_properties}
 use Rattle.aig_circuit.specs.Runs.{AgreeOnLeaves, HaveSameValues, IsRun, IsInitial, next_edges}
 use Rattle.aig_unroll.specs.Places.{Reads, leaves_after, other_leaves, unrolled_size}
 
@@ -41,25 +42,14 @@ pub record UnrollsOnce (from old new : Circuit) : Type 0 where
   pub keeps : KeepsCircuit old new
   -- one input for each leaf of from that is no latch's
   pub count : length (leaves_after (length old.nodes) new.nodes) ≡ length (other_leaves from)
-  pub outputs : List AigEdge
-  pub bads : List AigEdge
-  pub constraints : List AigEdge
-  pub justice : List (List AigEdge)
-  pub fairness : List AigEdge
-  pub with_outputs : new.outputs ≡ old.outputs ++ outputs
-  pub with_bads : new.bads ≡ old.bads ++ bads
-  pub with_constraints : new.constraints ≡ old.constraints ++ constraints
-  pub with_justice : new.justice ≡ old.justice ++ justice
-  pub with_fairness : new.fairness ≡ old.fairness ++ fairness
+  pub added : Properties AigEdge
+  pub with_added : new.properties ≡ append_properties old.properties added
   -- every y gives leaf values of the new step
   pub reads : (y : ℕ → Bool)
       → (x : ℕ → Bool) × ReadsNext from old (leaves_after (length old.nodes) new.nodes) y x
   pub values : (y x : ℕ → Bool) → ReadsNext from old (leaves_after (length old.nodes) new.nodes) y x
-      → HaveSameValues new.nodes y outputs from.nodes x from.outputs
-      × HaveSameValues new.nodes y bads from.nodes x from.bads
-      × HaveSameValues new.nodes y constraints from.nodes x from.constraints
-      × AllZip (λ es fs. HaveSameValues new.nodes y es from.nodes x fs) justice from.justice
-      × HaveSameValues new.nodes y fairness from.nodes x from.fairness
+      → AreProperties (λ e f. edge_value new.nodes y f ≡ edge_value from.nodes x e) from.properties
+      added
       × HaveSameValues new.nodes y (next_edges new.latchs) from.nodes x (next_edges from.latchs)
   pub size : length new.nodes ≤ length old.nodes + (length from.nodes - 1 - length from.latchs)
 
@@ -81,17 +71,21 @@ pub record SetsStandAtSteps {E : Type 0} (k : ℕ) (old : ℕ → E → Bool) (s
       → (es : List AigEdge) × (slice_get longer (t * length sets + j) ≡ Some es)
       × AllZip (λ entry e. new e ≡ old t entry) set es
 
+-- the same of all properties, list for list
+pub record PropertiesStandAtSteps {E : Type 0} (k : ℕ) (old : ℕ → E → Bool) (p : Properties E)
+    (new : AigEdge → Bool) (longer : Properties AigEdge) : Type 0 where
+  pub outputs : HasValuesAtSteps k old p.outputs new longer.outputs
+  pub bads : HasValuesAtSteps k old p.bads new longer.bads
+  pub constraints : HasValuesAtSteps k old p.constraints new longer.constraints
+  pub justice : SetsStandAtSteps k old p.justice new longer.justice
+  pub fairness : HasValuesAtSteps k old p.fairness new longer.fairness
+
 -- The edges of the unrolled circuit give each property at each step, and the state after step k,
 -- its value on the run x.
 pub record HasStepValues (c unrolled : Circuit) (k : ℕ) (value : AigEdge → Bool) (x : ℕ → ℕ → Bool)
     : Type 0 where
-  pub outputs : HasValuesAtSteps k (λ t. edge_value c.nodes (x t)) c.outputs value unrolled.outputs
-  pub bads : HasValuesAtSteps k (λ t. edge_value c.nodes (x t)) c.bads value unrolled.bads
-  pub constraints : HasValuesAtSteps k (λ t. edge_value c.nodes (x t)) c.constraints value
-      unrolled.constraints
-  pub justice : SetsStandAtSteps k (λ t. edge_value c.nodes (x t)) c.justice value unrolled.justice
-  pub fairness : HasValuesAtSteps k (λ t. edge_value c.nodes (x t)) c.fairness value
-      unrolled.fairness
+  pub properties : PropertiesStandAtSteps k (λ t. edge_value c.nodes (x t)) c.properties value
+      unrolled.properties
   pub state : AllZip (λ old new. value new.next ≡ edge_value c.nodes (x k) old.next) c.latchs
       unrolled.latchs
 
@@ -125,10 +119,6 @@ pub record AddsExactly (from old new : Circuit) : Type 0 where
       ⊎ ((a b : AigEdge) × (kind_at new.nodes n ≡ Some (And a b)))
   pub inputs : length new.inputs ≡ length old.inputs + length (other_leaves from)
   pub latchs : length new.latchs ≡ length old.latchs
-  pub outputs : length new.outputs ≡ length old.outputs + length from.outputs
-  pub bads : length new.bads ≡ length old.bads + length from.bads
-  pub constraints : length new.constraints ≡ length old.constraints + length from.constraints
-  pub justice : AllZip (λ set other. length set ≡ length other)
-      (drop (length old.justice) new.justice) from.justice
-  pub sets : length new.justice ≡ length old.justice + length from.justice
-  pub fairness : length new.fairness ≡ length old.fairness + length from.fairness
+  pub added : Properties AigEdge
+  pub properties : new.properties ≡ append_properties old.properties added
+  pub as_many : AreProperties (λ e f. Unit {0}) from.properties added

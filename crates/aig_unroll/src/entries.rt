@@ -2,14 +2,15 @@
 
 ghost use Rattle.std.specs.Prelude.{◌≡◌, ◌+◌, ◌<◌, ◌≤◌, ◌++◌, OnOk, OnErr, All, count_by, drop, length, take, vec_capacity, vec_len};
 ghost use Rattle.aig_circuit.specs.Circuit.{IsCircuit};
+ghost use Rattle.aig_circuit.specs.Properties.{AllProperties};
 ghost use Rattle.aig_circuit.specs.Runs.{is_leaf};
-ghost use Rattle.aig_circuit.specs.View.{lists_circuit};
+ghost use Rattle.aig_circuit.specs.View.{HasRoomFor, lists_circuit, properties_of};
 ghost use Rattle.aig_unroll.specs.Places.{leaves_after};
-ghost use Rattle.aig_unroll.specs.Step.{Appends, AppendsSets, AreNodesBelow, HasRoomForStep, HaveNextImages, entries_of};
+ghost use Rattle.aig_unroll.specs.Step.{Appends, AppendsButJustice, AppendsSets, AreNodesBelow, HasRoomForStep, HaveNextImages, entries_of};
 
 use crate::nodes::image_of;
 use aig_base::MemoryError;
-use aig_circuit::{AigEdge, AigLatch, AigNode, CircuitLists, CircuitView};
+use aig_circuit::{AigEdge, AigLatch, AigNode, CircuitLists, CircuitView, Properties};
 
 /// Appends the images of edges. Requires room, so that no push fails.
 fn append_images(list: &mut Vec<AigEdge>, edges: &[AigEdge], images: &[AigEdge])
@@ -20,6 +21,19 @@ fn append_images(list: &mut Vec<AigEdge>, edges: &[AigEdge], images: &[AigEdge])
     for edge in edges {
         let _ = list.push(image_of(images, *edge));
     }
+}
+
+/// Appends the images of the entries of properties, but for justice. Requires room.
+fn append_properties(all: &mut Properties<AigEdge>, added: &Properties<AigEdge>, images: &[AigEdge])
+    requires room { HasRoomFor all.old (properties_of added.now) }
+    requires there { AllProperties (λ e. e.node_id < length images.now) (properties_of added.now) }
+    ensures { AppendsButJustice images.now (properties_of added.now)
+        (properties_of all.old) (properties_of all.new) }
+{
+    append_images(&mut all.outputs, &added.outputs, images);
+    append_images(&mut all.bads, &added.bads, images);
+    append_images(&mut all.constraints, &added.constraints, images);
+    append_images(&mut all.fairness, &added.fairness, images);
 }
 
 /// How many of the nodes from number `start` on are leaves.
@@ -95,10 +109,7 @@ pub(crate) fn reserve(
     ensures same { lists_circuit lists.new ≡ lists_circuit lists.old }
 {
     lists.inputs.reserve(count_leaves(&lists.nodes, start))?;
-    lists.outputs.reserve(from.outputs().len())?;
-    lists.bads.reserve(from.bads().len())?;
-    lists.constraints.reserve(from.constraints().len())?;
-    lists.fairness.reserve(from.fairness().len())?;
+    lists.properties.reserve(from.properties())?;
     Ok(())
 }
 
@@ -132,20 +143,11 @@ pub(crate) fn append_step(
         ≡ lists.old.inputs.items ++ leaves_after start lists.old.nodes.items }
     ensures latchs { HaveNextImages images.now from.now.latchs
         lists.old.latchs.items lists.new.latchs.items }
-    ensures outputs { Appends images.now from.now.outputs
-        lists.old.outputs.items lists.new.outputs.items }
-    ensures bads { Appends images.now from.now.bads lists.old.bads.items lists.new.bads.items }
-    ensures constraints { Appends images.now from.now.constraints
-        lists.old.constraints.items lists.new.constraints.items }
-    ensures justice { lists.new.justice.items ≡ lists.old.justice.items }
-    ensures fairness { Appends images.now from.now.fairness
-        lists.old.fairness.items lists.new.fairness.items }
+    ensures properties { AppendsButJustice images.now from.now.properties
+        (properties_of lists.old.properties) (properties_of lists.new.properties) }
     ensures names { lists.new.names ≡ lists.old.names }
 {
     append_leaves(&mut lists.inputs, &lists.nodes, start);
-    append_images(&mut lists.outputs, from.outputs(), images);
-    append_images(&mut lists.bads, from.bads(), images);
-    append_images(&mut lists.constraints, from.constraints(), images);
-    append_images(&mut lists.fairness, from.fairness(), images);
+    append_properties(&mut lists.properties, from.properties(), images);
     set_next_images(&mut lists.latchs, from.latchs(), images);
 }

@@ -41,7 +41,7 @@ fn add_nodes_and_reserve(
     let start = lists.nodes.len();
     copy_step(&mut lists.nodes, &lists.latchs, from, images)?;
     reserve(lists, from, start)?;
-    append_sets(&mut lists.justice, from.justice(), images)
+    append_sets(&mut lists.properties.justice, from.justice(), images)
 }
 
 /// Adds one step of the circuit `from` to the circuit of `lists`, in place (crate aig, `unroll`).

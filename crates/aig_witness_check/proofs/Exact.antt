@@ -25,7 +25,7 @@ use Rattle.aig_format_laws.specs.Nodes.{HasNodeValues}
 use Rattle.aig_format_laws.proofs.Closed.{IsClosed-of_file}
 use Rattle.aig_format_laws.proofs.Joining.{forth_values, leaves_of, literal_is}
 use Rattle.aig_format_laws.proofs.Starts.{starts_agree}
-use Rattle.aig_renumber.proofs.Places.{All-from_map}
+use Rattle.aig_circuit.proofs.Lists.{All-from_map}
 use Rattle.aig_ternary.specs.Ternary.{IsFilling, value_in}
 use Rattle.aig_unroll.proofs.Lists.{zip_at}
 use Rattle.aig_witness.specs.Witness.{Witness}
@@ -94,25 +94,25 @@ module _ (f : File) (limit : ℕ) (w : Witness) (fits : Fits f limit) (given : I
       let some = shows.some in
       let shown = shows.each run shows.there.1 shows.there.2 in
       let used = used_by_section (IsKnown f) f (used_known f limit fits) in
-      let within : w.bad < length f.bads = slice_get_within f.bads w.bad shows.named.0 shows.named.1 in
-      let named : get_or f.bads w.bad 0 ≡ shows.named.0 = get_or_from_slice_get f.bads w.bad shows.named.0 0 shows.named.1 in
+      let within : w.bad < length f.properties.bads = slice_get_within f.properties.bads w.bad shows.named.0 shows.named.1 in
+      let named : get_or f.properties.bads w.bad 0 ≡ shows.named.0 = get_or_from_slice_get f.properties.bads w.bad shows.named.0 0 shows.named.1 in
       let end : last < length w.steps = omega arith in
       record {
         latches = zip_long (λ (l : LatchLine) known. Agrees known (run 0 (l.literal / 2))) f.latches w.state shows.there.2.state ∙ sym (length-map f.latches (latch_of f));
         some = some;
-        named = omega (arith, within, length-map f.bads (edge_of f));
+        named = omega (arith, within, length-map f.properties.bads (edge_of f));
         start = starts;
         steps = record {
           inputs = λ t h.
               zip_long (λ e known. Agrees known (run t (e / 2))) f.inputs (get_or w.steps t []) (shows.there.2.inputs t (get_or w.steps t []) (slice_get-get_or w.steps t [] h)) ∙ sym (length-map f.inputs (λ e. node_of_variable f (e / 2)));
-          constraints = λ t h. All-map (λ e. value_in (simulated c w t) e ≡ TRUE) (edge_of f) f.constraints (λ i d lt.
+          constraints = λ t h. All-map (λ e. value_in (simulated c w t) e ≡ TRUE) (edge_of f) f.properties.constraints (λ i d lt.
               let low : t ≤ last = omega arith in
-              seen t (get_or f.constraints i d) h (All-from_recursion (IsKnown f) f.constraints used.constraints i d lt) (All-from_map (edge_of f) (IsInRange c.nodes) f.constraints is_circuit.constraints i d lt)
-              (All-from_recursion (λ e. IsTrue (value_of_literal (run t) e)) f.constraints (shown.0.constraints t low) i d lt));
+              seen t (get_or f.properties.constraints i d) h (used.properties.constraints i d lt) (All-from_map (edge_of f) (IsInRange c.nodes) f.properties.constraints is_circuit.properties.constraints i d lt)
+              (All-from_recursion (λ e. IsTrue (value_of_literal (run t) e)) f.properties.constraints (shown.0.constraints t low) i d lt));
         };
         bad =
-            ap (value_in (simulated c w last)) (get_or-map (edge_of f) f.bads w.bad 0 (edge_to 0 false) within)
-            ∙ seen last (get_or f.bads w.bad 0) end (All-from_recursion (IsKnown f) f.bads used.bads w.bad 0 within) (All-from_map (edge_of f) (IsInRange c.nodes) f.bads is_circuit.bads w.bad 0 within)
+            ap (value_in (simulated c w last)) (get_or-map (edge_of f) f.properties.bads w.bad 0 (edge_to 0 false) within)
+            ∙ seen last (get_or f.properties.bads w.bad 0) end (used.properties.bads w.bad 0 within) (All-from_map (edge_of f) (IsInRange c.nodes) f.properties.bads is_circuit.properties.bads w.bad 0 within)
             (subst (λ e. IsTrue (value_of_literal (run last) e)) (sym named) shown.1);
       }
 

@@ -3,6 +3,7 @@ use Rattle.std.proofs.Common.{◌≡◌, true, false, List, [], ◌∷◌, Some,
 use Rattle.std.specs.FinMap.{empty}
 use Rattle.aig_base.specs.declared.logic.three.Lbool.{Lbool}
 use Rattle.aig_base.specs.declared.logic.three.Lbool.TheVariants.{FALSE, TRUE, NONE}
+use Rattle.aig_circuit.specs.Properties.{no_properties}
 use Rattle.aig_circuit.specs.declared.node.AigNodeType.TheVariants.{False, Leaf}
 use Rattle.aig_circuit.specs.Edge.{edge_to}
 use Rattle.aig_circuit.specs.Tree.{tree_of}
@@ -17,11 +18,7 @@ toggle = record {
   nodes = record { node_id = 0; typ = False } ∷ record { node_id = 1; typ = Leaf } ∷ [];
   inputs = [];
   latchs = record { input = 1; next = edge_to 1 true; init = Some (edge_to 0 false) } ∷ [];
-  outputs = [];
-  bads = edge_to 1 false ∷ [];
-  constraints = [];
-  justice = [];
-  fairness = [];
+  properties = record no_properties { bads = edge_to 1 false ∷ [] };
   names = empty;
 }
 

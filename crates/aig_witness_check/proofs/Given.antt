@@ -19,7 +19,7 @@ use Rattle.aig_circuit.specs.Tree.{Tree, edge_value, node_value, tree_of, tree_o
 use Rattle.aig_circuit.specs.Circuit.{Circuit, IsCircuit, IsClosed, IsInRange, IsLeaf, latch_leaves}
 use Rattle.aig_circuit.proofs.Circuits.{AreLeaves-of_circuit}
 use Rattle.aig_circuit.proofs.Trees.{by_smaller, tree_of-is}
-use Rattle.aig_renumber.proofs.Places.{map-agrees}
+use Rattle.aig_circuit.proofs.Lists.{map-agrees}
 use Rattle.aig_ternary.specs.Ternary.{IsFilling, Simulation, given_values, next_state, simulation_of, stepped, stepped_all, three_edge_value, three_node_value, three_value_of_tree, value_in}
 use Rattle.aig_unroll.proofs.Lists.{all_from_zips}
 use Rattle.aig_witness.specs.Witness.{Witness}

@@ -26,7 +26,7 @@ use Rattle.aig_format_laws.specs.Nodes.{HasNodeValues}
 use Rattle.aig_format_laws.proofs.Joining.{forth_run, forth_values, inputs_known, latches_known, leaves_of, literal_is}
 use Rattle.aig_format_laws.proofs.MachineRuns.{given_run}
 use Rattle.aig_format_laws.proofs.Starts.{starts_agree}
-use Rattle.aig_renumber.proofs.Places.{All-from_map}
+use Rattle.aig_circuit.proofs.Lists.{All-from_map}
 use Rattle.aig_runs.specs.Queries.{IsWitness}
 use Rattle.aig_ternary.specs.Ternary.{IsFilling, KnownValuesHold, given_values, simulation_of, stepped_all, value_in, values_in}
 use Rattle.aig_witness.specs.Witness.{Witness}
@@ -125,14 +125,14 @@ module _ (f : File) (limit : ℕ) (w : Witness) (fits : Fits f limit) where
     is_circuit : IsCircuit (circuit_of f)
     is_circuit = IsCircuit-of_file f limit fits
 
-    bads_long : w.bad < length f.bads
-    bads_long = omega (arith, known.named, length-map f.bads (edge_of f))
+    bads_long : w.bad < length f.properties.bads
+    bads_long = omega (arith, known.named, length-map f.properties.bads (edge_of f))
 
     abbrev named : ℕ
-    named = get_or f.bads w.bad 0
+    named = get_or f.properties.bads w.bad 0
 
     named_is : named_bad (circuit_of f) w ≡ edge_of f named
-    named_is = get_or-map (edge_of f) f.bads w.bad 0 (edge_to 0 false) bads_long
+    named_is = get_or-map (edge_of f) f.properties.bads w.bad 0 (edge_to 0 false) bads_long
 
     module _ (run : ℕ → ℕ → Bool) (is_run : machine.IsMachineRun f last run) (given : HasGiven f w run) where
       values : HasNodeValues f last (leaves_of f run) run
@@ -156,17 +156,17 @@ module _ (f : File) (limit : ℕ) (w : Witness) (fits : Fits f limit) where
           let end : last < length w.steps = omega arith in
           let used = used_by_section (IsKnown f) f (used_known f limit fits) in
           let bad : IsTrue (value_of_literal (run last) named) =
-          holds last named end (All-from_recursion (IsKnown f) f.bads used.bads w.bad 0 bads_long) (All-from_map (edge_of f) (IsInRange (circuit_of f).nodes) f.bads is_circuit.bads w.bad 0 bads_long)
+          holds last named end (used.properties.bads w.bad 0 bads_long) (All-from_map (edge_of f) (IsInRange (circuit_of f).nodes) f.properties.bads is_circuit.properties.bads w.bad 0 bads_long)
           (ap (value_in (simulated (circuit_of f) w last)) (sym named_is) ∙ known.bad) in (
             record {
               is_run = is_run;
               start = (starts_agree f limit last (leaves_of f run) run fits values).1 (starts_hold (circuit_of f) w.state is_circuit known.start (leaves_of f run 0) (first_agrees run is_run given));
-              constraints = λ t low. recursion_from_All (λ e. IsTrue (value_of_literal (run t) e)) f.constraints (λ i d h.
+              constraints = λ t low. recursion_from_All (λ e. IsTrue (value_of_literal (run t) e)) f.properties.constraints (λ i d h.
                   let within : t < length w.steps = omega arith in
-                  holds t (get_or f.constraints i d) within (All-from_recursion (IsKnown f) f.constraints used.constraints i d h)
-                  (All-from_map (edge_of f) (IsInRange (circuit_of f).nodes) f.constraints is_circuit.constraints i d h)
-                  (All-from_map (edge_of f) (λ e. value_in (simulated (circuit_of f) w t) e ≡ TRUE) f.constraints (known.steps.constraints t within) i d h));
-              bad = list_any_at (value_of_literal (run last)) f.bads w.bad 0 bads_long bad;
+                  holds t (get_or f.properties.constraints i d) within (used.properties.constraints i d h)
+                  (All-from_map (edge_of f) (IsInRange (circuit_of f).nodes) f.properties.constraints is_circuit.properties.constraints i d h)
+                  (All-from_map (edge_of f) (λ e. value_in (simulated (circuit_of f) w t) e ≡ TRUE) f.properties.constraints (known.steps.constraints t within) i d h));
+              bad = list_any_at (value_of_literal (run last)) f.properties.bads w.bad 0 bads_long bad;
             },
             bad,
           )
@@ -175,6 +175,6 @@ module _ (f : File) (limit : ℕ) (w : Witness) (fits : Fits f limit) where
     shows_bad = record {
       some = known.some;
       there = given_is_there known.latches known.steps.inputs known.some;
-      named = (named, slice_get-get_or f.bads w.bad 0 bads_long);
+      named = (named, slice_get-get_or f.properties.bads w.bad 0 bads_long);
       each = is_witness;
     }

@@ -18,7 +18,7 @@ IsWrongStep c w (errors.Inputs t) =
 IsWrongStep c w (errors.Constraint t) =
     HoldsBefore c w t × (t < length w.steps)
     × (length (slice_index_or w.steps t []) ≡ length c.inputs)
-    × (¬ AreTrueIn (simulated c w t) c.constraints)
+    × (¬ AreTrueIn (simulated c w t) c.properties.constraints)
 IsWrongStep c w errors.Memory = Unit {0}
 IsWrongStep c w errors.Latches = ⊥
 IsWrongStep c w errors.NoStep = ⊥
@@ -31,7 +31,7 @@ IsWrongStep c w errors.Bad = ⊥
 pub record IsStarted (c : Circuit) (w : Witness) : Type 0 where
   pub latches : length w.state ≡ length c.latchs
   pub some : 0 < length w.steps
-  pub named : w.bad < length c.bads
+  pub named : w.bad < length c.properties.bads
   pub start : AreStarts c.latchs w.state
 
 -- what is wrong first of a witness
@@ -40,9 +40,9 @@ IsWrong c w errors.Memory = Unit {0}
 IsWrong c w errors.Latches = length w.state ≢ length c.latchs
 IsWrong c w errors.NoStep = (length w.state ≡ length c.latchs) × (length w.steps ≡ 0)
 IsWrong c w errors.NoBad =
-    (length w.state ≡ length c.latchs) × (0 < length w.steps) × (length c.bads ≤ w.bad)
+    (length w.state ≡ length c.latchs) × (0 < length w.steps) × (length c.properties.bads ≤ w.bad)
 IsWrong c w errors.Start =
-    (length w.state ≡ length c.latchs) × (0 < length w.steps) × (w.bad < length c.bads)
+    (length w.state ≡ length c.latchs) × (0 < length w.steps) × (w.bad < length c.properties.bads)
     × (¬ AreStarts c.latchs w.state)
 IsWrong c w (errors.Inputs t) = IsStarted c w × IsWrongStep c w (errors.Inputs t)
 IsWrong c w (errors.Constraint t) = IsStarted c w × IsWrongStep c w (errors.Constraint t)

@@ -21,7 +21,7 @@ pub record HasGiven (f : File) (w : Witness) (run : ℕ → ℕ → Bool) : Type
 pub record ShowsBad (f : File) (w : Witness) : Type 0 where
   pub some : 0 < length w.steps
   pub there : (run : ℕ → ℕ → Bool) × IsMachineRun f (length w.steps - 1) run × HasGiven f w run
-  pub named : (e : ℕ) × (slice_get f.bads w.bad ≡ Some e)
+  pub named : (e : ℕ) × (slice_get f.properties.bads w.bad ≡ Some e)
   pub each : (run : ℕ → ℕ → Bool) → IsMachineRun f (length w.steps - 1) run → HasGiven f w run
       → IsWitness f (length w.steps - 1) run
       × IsTrue (value_of_literal (run (length w.steps - 1)) named.0)

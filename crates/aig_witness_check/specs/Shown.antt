@@ -36,12 +36,12 @@ AreTrueIn s edges = All (λ e. value_in s e ≡ TRUE) edges
 
 -- the bad edge that a witness names
 abbrev pub named_bad : Circuit → Witness → AigEdge
-named_bad c w = slice_index_or c.bads w.bad (edge_to 0 false)
+named_bad c w = slice_index_or c.properties.bads w.bad (edge_to 0 false)
 
 -- each step before step n has a value for each input, and each constraint is known to hold at it
 pub record HoldsBefore (c : Circuit) (w : Witness) (n : ℕ) : Type 0 where
   pub inputs : (t : ℕ) → t < n → length (slice_index_or w.steps t []) ≡ length c.inputs
-  pub constraints : (t : ℕ) → t < n → AreTrueIn (simulated c w t) c.constraints
+  pub constraints : (t : ℕ) → t < n → AreTrueIn (simulated c w t) c.properties.constraints
 
 -- and so each step
 abbrev pub HoldsSteps : Circuit → Witness → Type 0
@@ -52,7 +52,7 @@ HoldsSteps c w = HoldsBefore c w (length w.steps)
 pub record IsKnownWitness (c : Circuit) (w : Witness) : Type 0 where
   pub latches : length w.state ≡ length c.latchs
   pub some : 0 < length w.steps
-  pub named : w.bad < length c.bads
+  pub named : w.bad < length c.properties.bads
   pub start : AreStarts c.latchs w.state
   pub steps : HoldsSteps c w
   pub bad : value_in (simulated c w (length w.steps - 1)) (named_bad c w) ≡ TRUE

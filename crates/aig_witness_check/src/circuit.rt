@@ -65,7 +65,7 @@ fn check_steps(
             return Err(CheckError::Inputs(t));
         }
         simulator.simulate(inputs)?;
-        if !all_true(simulator, &lists.constraints) {
+        if !all_true(simulator, &lists.properties.constraints) {
             return Err(CheckError::Constraint(t));
         }
     }
@@ -92,7 +92,7 @@ pub fn check_circuit(lists: &CircuitLists, witness: &Witness) -> Result<(), Chec
         return Err(CheckError::NoStep);
     }
     let named = witness.bad as usize;
-    if named >= lists.bads.len() {
+    if named >= lists.properties.bads.len() {
         return Err(CheckError::NoBad);
     }
     if !starts(&lists.latchs, &witness.state) {
@@ -102,7 +102,7 @@ pub fn check_circuit(lists: &CircuitLists, witness: &Witness) -> Result<(), Chec
     let state = witness.state.to_vec(view.allocator())?;
     let mut simulator = Simulator::new(view, state);
     check_steps(lists, &mut simulator, witness)?;
-    if simulator.value(lists.bads[named]) != Lbool::TRUE {
+    if simulator.value(lists.properties.bads[named]) != Lbool::TRUE {
         return Err(CheckError::Bad);
     }
     Ok(())

@@ -83,4 +83,4 @@ take-five m i l o a rest k h =
 pub header_text : (f : File) (k : ℕ) (numbers : List ℕ) → numbers ≡ numbers_in (header_of f) → take k (take 4 (drop 5 numbers)) ≡ shortened (take 4 (drop 5 numbers))
     → header_line_of f ≡ magic f.kind ++ line_text (take (5 + k) numbers)
 header_text f k numbers same h =
-    ap (λ ns. magic f.kind ++ line_text ns) (sym (take-five f.greatest (length f.inputs) (length f.latches) (length f.outputs) (length f.gates) _ k (rw same at h)) ∙ ap (take (5 + k)) (sym same))
+    ap (λ ns. magic f.kind ++ line_text ns) (sym (take-five f.greatest (length f.inputs) (length f.latches) (length f.properties.outputs) (length f.gates) _ k (rw same at h)) ∙ ap (take (5 + k)) (sym same))

@@ -17,18 +17,22 @@ groups_end : (k rest : ℕ) → rest < 128 → groups_of k rest ≡ rest ∷ []
 groups_end zero rest h = refl
 groups_end (suc k) rest h = let test : nat_lt rest 128 ≡ true = grind (arith, nat_tests) in ap (λ b. cond b (rest ∷ []) ((rest % 128 + 128) ∷ groups_of k (rest / 128))) test
 
--- so many groups stand in front, and the rest of the difference is still to come
-pub record Grouped (d : ℕ) (groups : List ℕ) (count rest : ℕ) : Type 0 where
-  pub within : count ≤ 4
-  pub room : length groups ≡ 5
-  pub low : rest < bound count
-  pub spelled : delta_of d ≡ take count groups ++ groups_of (4 - count) rest
+-- groups stand from `at` up to `end`, after a text, and the rest of the difference is still to come
+pub record Grouped (front : List ℕ) (d : ℕ) (groups : List ℕ) (at end rest : ℕ) : Type 0 where
+  pub begins : at ≤ end
+  pub within : end ≤ at + 4
+  pub room : at + 5 ≤ length groups
+  pub low : rest < bound (end - at)
+  pub spelled : front ++ delta_of d ≡ take end groups ++ groups_of (4 - (end - at)) rest
 
-pub Grouped-start : (d : ℕ) (groups : List ℕ) → d < 2 ^ 32 → length groups ≡ 5 → Grouped d groups 0 d
+pub Grouped-start : (d : ℕ) (groups : List ℕ) (at : ℕ) → d < 2 ^ 32 → at + 5 ≤ length groups → Grouped (take at groups) d groups at at d
 unfolding delta_of
-Grouped-start d groups small room = record { within = omega arith; room = room; low = small; spelled = refl }
+Grouped-start d groups at small room =
+    let none : at - at ≡ 0 = omega arith in
+    record { begins = omega arith; within = omega arith; room = room; low = rw none small; spelled = rw none refl }
 
-pub Grouped-end : (d : ℕ) (groups : List ℕ) (count rest : ℕ) → Grouped d groups count rest → rest < 128 → take (count + 1) (slice_set groups count rest) ≡ delta_of d
-Grouped-end d groups count rest so_far last =
-    let within = so_far.within in let room = so_far.room in
-    take_more_set groups count rest (omega arith) ∙ sym (ap (λ l. take count groups ++ l) (groups_end (4 - count) rest last)) ∙ sym so_far.spelled
+pub Grouped-end : (front : List ℕ) (d : ℕ) (groups : List ℕ) (at end rest : ℕ) → Grouped front d groups at end rest → rest < 128
+    → take (end + 1) (slice_set groups end rest) ≡ front ++ delta_of d
+Grouped-end front d groups at end rest so_far last =
+    let within = so_far.within in let room = so_far.room in let begins = so_far.begins in
+    take_more_set groups end rest (omega arith) ∙ sym (ap (λ l. take end groups ++ l) (groups_end (4 - (end - at)) rest last)) ∙ sym so_far.spelled

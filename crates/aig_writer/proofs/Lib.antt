@@ -7,6 +7,7 @@ pub mod Entries
 pub mod Texts
 pub mod Small
 mod Differences
+mod Fronts
 pub mod Printing
 pub mod Numbered
 mod Tables

@@ -1,7 +1,8 @@
 -- A line of numbers, built from its last number on.
-use Rattle.std.proofs.Common.{◌≡◌, ℕ, ◌+◌, ◌-◌, ◌<◌, ◌≤◌, List, [], ◌∷◌, ◌++◌, length, take, drop, replicate, get_or, refl, sym, ap, ◌∙◌, arith}
+use Rattle.std.proofs.Common.{◌≡◌, ℕ, ◌+◌, ◌-◌, ◌<◌, ◌≤◌, List, [], ◌∷◌, ◌++◌, length, take, drop, replicate, get_or, refl, sym, ap, ◌∙◌, append_assoc, length-append, arith}
 use Rattle.std.specs.Prelude.{decimal}
-use Rattle.std.proofs.lemmas.List.{drop_more, get_or-replicate, get_or-take, take-replicate, take-take}
+use Rattle.std.proofs.lemmas.List.{drop_more, get_or-replicate, get_or-take, length-drop, take-replicate, take-take}
+use Rattle.std.proofs.Math.Seq.{take-append_seam}
 use Rattle.aig_format.specs.Written.{line_text}
 
 -- what stands after a number of a line
@@ -14,9 +15,11 @@ unfolding line_text
 line_text-cons n [] = refl
 line_text-cons n (m ∷ ns) = refl
 
--- from the place before `start` on, the text is what stands after a number, and blanks are before that
+-- from the place before `start` on, the text is what stands after a number, and 32 bytes more; blanks are before that
 pub record Built (text : List ℕ) (start : ℕ) (ns : List ℕ) : Type 0 where
-  pub written : drop (start - 1) text ≡ following ns
+  pub more : List ℕ
+  pub many : length more ≡ 32
+  pub written : drop (start - 1) text ≡ following ns ++ more
   pub blank : take (start - 1) text ≡ replicate (start - 1) 32
 
 -- one more number, which begins at `at`
@@ -28,16 +31,25 @@ Built-turn text new start at n ns built some within before written same =
     let blank : get_or new (at - 1) 0 ≡ 32 =
     sym (get_or-take at new (at - 1) 0 (omega arith)) ∙ ap (λ l. get_or l (at - 1) 0) blanks ∙ get_or-replicate at (at - 1) 32 0 (omega arith) in
     let next : at - 1 + 1 ≡ at = omega arith in
-    let number : drop at new ≡ line_text (n ∷ ns) = written ∙ ap (λ l. decimal n ++ l) built.written ∙ sym (line_text-cons n ns) in
+    let number : drop at new ≡ line_text (n ∷ ns) ++ built.more =
+    written ∙ ap (λ l. decimal n ++ l) built.written ∙ sym (append_assoc (decimal n) (following ns) built.more)
+    ∙ ap (λ l. l ++ built.more) (sym (line_text-cons n ns)) in
     record {
+      more = built.more;
+      many = built.many;
       written = drop_more new (at - 1) 0 (omega arith) ∙ ap (λ b. b ∷ drop (at - 1 + 1) new) blank ∙ ap (λ k. 32 ∷ drop k new) next ∙ ap (λ l. 32 ∷ l) number;
       blank = sym (take-take (at - 1) at new (omega arith)) ∙ ap (take (at - 1)) blanks ∙ take-replicate (at - 1) at 32 (omega arith);
     }
 
 -- a line that is built
-pub Built-line : (text : List ℕ) (start : ℕ) (ns : List ℕ) → Built text start ns → 0 < length ns → 0 < start → start ≤ length text → drop start text ≡ line_text ns
-Built-line text start [] built some at within = absurd (omega arith)
-Built-line text start (n ∷ ns) built some at within =
+pub Built-line : (text : List ℕ) (start : ℕ) (ns : List ℕ) → Built text start ns → 0 < length ns → 0 < start → start ≤ 192 → length text ≡ 224
+    → take (192 - start) (drop start text) ≡ line_text ns
+Built-line text start [] built some at within size = absurd (omega arith)
+Built-line text start (n ∷ ns) built some at within size =
+    let line = line_text (n ∷ ns) in
     let next : start - 1 + 1 ≡ start = omega arith in
-    let whole : get_or text (start - 1) 0 ∷ drop (start - 1 + 1) text ≡ 32 ∷ line_text (n ∷ ns) = sym (drop_more text (start - 1) 0 (omega arith)) ∙ built.written in
-    ap (λ k. drop k text) (sym next) ∙ ap (drop 1) whole
+    let whole : get_or text (start - 1) 0 ∷ drop (start - 1 + 1) text ≡ 32 ∷ line ++ built.more = sym (drop_more text (start - 1) 0 (omega arith)) ∙ built.written in
+    let rest : drop start text ≡ line ++ built.more = ap (λ k. drop k text) (sym next) ∙ ap (drop 1) whole in
+    let long : 192 - start ≡ length line =
+    omega (arith, built.many, ap length rest, length-drop start text, length-append line built.more) in
+    rw (long, rest) (take-append_seam line built.more)

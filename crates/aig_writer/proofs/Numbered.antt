@@ -16,8 +16,10 @@ use Rattle.aig_circuit.specs.declared.node.AigLatch.{AigLatch}
 use Rattle.aig_circuit.specs.Edge.{edge_to, literal_of}
 use Rattle.aig_circuit.specs.Node.{kind_at, and_of}
 use Rattle.aig_circuit.specs.Circuit.{Circuit, IsCircuit, IsClosed, IsLeaf, IsLatch, latch_leaves}
+use Rattle.aig_circuit.specs.Properties.{map_properties}
 use Rattle.aig_circuit.specs.Reencode.{gate_number, new_number, order_of, reencoded}
 use Rattle.aig_circuit.specs.Renumber.{nodes_in_order, renumbered_circuit, renumbered_edge, renumbered_kind, renumbered_latch}
+use Rattle.aig_circuit.proofs.Listed.{AllProperties-always, AllProperties-weaker, map_properties-same}
 use Rattle.aig_circuit.proofs.Trees.{kind_at-within}
 use Rattle.aig_format.specs.declared.FileKind.{FileKind}
 use Rattle.aig_format.specs.declared.FileKind.TheVariants.{Binary}
@@ -27,10 +29,10 @@ use Rattle.aig_format.specs.Circuit.{file_of, gate_line, latch_line, name_lines}
 use Rattle.aig_renumber.proofs.Agreeing.{circuits-agree}
 use Rattle.aig_renumber.proofs.Circuits.{SpeaksOf-nodes, latch_leaves-map}
 use Rattle.aig_renumber.proofs.Names.{find-number, names_in_circuit}
-use Rattle.aig_renumber.proofs.Numbering.{number-apart, get-nodes_in_order}
+use Rattle.aig_renumber.proofs.NodesInOrder.{number-apart, get-nodes_in_order}
 use Rattle.aig_renumber.proofs.Order.{IsGate, Numbers-order, length-order, no_gates}
 use Rattle.aig_renumber.proofs.Placed.{AreAsLong-reencoded, IsCircuit-reencoded}
-use Rattle.aig_renumber.proofs.Places.{map-agrees, map-same}
+use Rattle.aig_circuit.proofs.Lists.{map-agrees, map-same}
 use Rattle.aig_writer.specs.Literals.{FallsBelow, HasLiteral}
 use Rattle.aig_writer.specs.Numbering.{FitsBinary, IsBinaryNumbering, written_number, numbered_file, renumbered_node}
 use Rattle.aig_writer.proofs.Small.{FallsBelow-from_circuit}
@@ -124,20 +126,12 @@ own_init (Some e) = refl
 own_latch : (l : AigLatch) → renumbered_latch (written_number []) l ≡ l
 own_latch l = ap (λ o. record { input = l.input; next = l.next; init = o }) (own_init l.init)
 
-own_edges : (es : List AigEdge) → map (renumbered_edge (written_number [])) es ≡ es
-own_edges es = map-same (renumbered_edge (written_number [])) es (λ k d h. refl)
-
 -- an empty table changes no number
 pub own_file : (c : Circuit) → IsCircuit c → (kind : FileKind) → numbered_file (written_number []) kind c ≡ file_of kind c
 own_file c is kind =
     let inputs = ap (map (λ n. 2 * n)) (map-same (written_number []) c.inputs (λ k d h. refl)) in
     let latches = ap (map latch_line) (map-same (renumbered_latch (written_number [])) c.latchs (λ k d h. own_latch (get_or c.latchs k d))) in
-    let edges = λ (es : List AigEdge). ap (map literal_of) (own_edges es) in
-    let outputs = edges c.outputs in
-    let bads = edges c.bads in
-    let constraints = edges c.constraints in
-    let fairness = edges c.fairness in
-    let justice = ap (map (map literal_of)) (map-same (map (renumbered_edge (written_number []))) c.justice (λ k d h. own_edges (get_or c.justice k d))) in
+    let properties = ap (map_properties literal_of) (map_properties-same (renumbered_edge (written_number [])) c.properties (AllProperties-weaker (λ e. Unit {0}) (λ e. renumbered_edge (written_number []) e ≡ e) (λ e u. refl) c.properties (AllProperties-always c.properties))) in
     let gates = ap (filter_map gate_line) (map-same (renumbered_node (written_number [])) c.nodes (own_node c is)) in
     let names = (file_of kind c).names in
     λ i. record {
@@ -145,12 +139,8 @@ own_file c is kind =
       greatest = length c.nodes - 1;
       inputs = inputs i;
       latches = latches i;
-      outputs = outputs i;
+      properties = properties i;
       gates = gates i;
-      bads = bads i;
-      constraints = constraints i;
-      justice = justice i;
-      fairness = fairness i;
       names = names;
     }
 
@@ -266,11 +256,7 @@ module _ (c : Circuit) (is : IsCircuit c) (closed : IsClosed c) where
         let greatest = ap (λ n. n - 1) (sym nodes) in
         let inputs = ap (λ (e : Circuit). map (λ n. 2 * n) e.inputs) same_circuit in
         let latches = ap (λ (e : Circuit). map latch_line e.latchs) same_circuit in
-        let outputs = ap (λ (e : Circuit). map literal_of e.outputs) same_circuit in
-        let bads = ap (λ (e : Circuit). map literal_of e.bads) same_circuit in
-        let constraints = ap (λ (e : Circuit). map literal_of e.constraints) same_circuit in
-        let justice = ap (λ (e : Circuit). map (map literal_of) e.justice) same_circuit in
-        let fairness = ap (λ (e : Circuit). map literal_of e.fairness) same_circuit in
+        let properties = ap (λ (e : Circuit). map_properties literal_of e.properties) same_circuit in
         let gates = ap (filter_map gate_line) (map-agrees (renumbered_node (written_number table)) (renumbered_node (new_number c)) c.nodes (nodes_agree c is (written_number table) (new_number c) has.numbers)) ∙ sym gates-reencoded in
         let names = sym (names-reencoded Binary) in
         λ i. record {
@@ -278,12 +264,8 @@ module _ (c : Circuit) (is : IsCircuit c) (closed : IsClosed c) where
           greatest = greatest i;
           inputs = inputs i;
           latches = latches i;
-          outputs = outputs i;
+          properties = properties i;
           gates = gates i;
-          bads = bads i;
-          constraints = constraints i;
-          justice = justice i;
-          fairness = fairness i;
           names = names i;
         }
 

@@ -14,6 +14,7 @@ use Rattle.aig_circuit.specs.Edge.{literal_of}
 use Rattle.aig_circuit.specs.Node.{and_of}
 use Rattle.aig_circuit.specs.Renumber.{renumbered_edge, renumbered_latch}
 use Rattle.aig_writer.specs.Numbering.{written_number}
+use Rattle.aig_circuit.proofs.Listed.{AllProperties-weaker}
 use Rattle.aig_circuit.proofs.Trees.{kind_at-within}
 use Rattle.aig_writer.specs.Literals.{FallsBelow, HasLiteral, IsSmallEdge, IsSmallLatch, IsSmallNode, HasSmallNumbers}
 
@@ -54,16 +55,11 @@ pub HasSmallNumbers-from_circuit : (c : Circuit) → IsCircuit c → length c.no
 HasSmallNumbers-from_circuit c is few =
     let leaf : (n : ℕ) → IsLeaf c.nodes n → HasLiteral n = λ n h. omega (arith, kind_at-within c.nodes n Leaf h) in
     let edge : (e : AigEdge) → IsInRange c.nodes e → IsSmallEdge e = λ e h. omega arith in
-    let edges : (es : List AigEdge) → All (IsInRange c.nodes) es → All IsSmallEdge es = All-weaker (IsInRange c.nodes) IsSmallEdge edge in
     record {
       nodes = IsSmallNode-at c.nodes is.nodes few;
       inputs = All-weaker (IsLeaf c.nodes) HasLiteral leaf c.inputs is.inputs;
       latchs = All-weaker (IsLatch c.nodes) IsSmallLatch (λ l h. record { leaf = leaf l.input h.leaf; next = edge l.next h.next; init = init_small c.nodes l.init few h.init }) c.latchs is.latchs;
-      outputs = edges c.outputs is.outputs;
-      bads = edges c.bads is.bads;
-      constraints = edges c.constraints is.constraints;
-      justice = All-weaker (All (IsInRange c.nodes)) (All IsSmallEdge) edges c.justice is.justice;
-      fairness = edges c.fairness is.fairness;
+      properties = AllProperties-weaker (IsInRange c.nodes) IsSmallEdge edge c.properties is.properties;
     }
 
 -- ---- under other numbers

@@ -7,6 +7,7 @@ use Rattle.aig_circuit.specs.declared.node.AigNode.{AigNode}
 use Rattle.aig_circuit.specs.declared.node.AigLatch.{AigLatch}
 use Rattle.aig_circuit.specs.Edge.{literal_of}
 use Rattle.aig_circuit.specs.Circuit.{Circuit}
+use Rattle.aig_circuit.specs.Properties.{AllProperties}
 
 -- twice the number, and one more, fits 64 bits
 abbrev pub HasLiteral : ℕ → Type 0
@@ -39,8 +40,4 @@ pub record HasSmallNumbers (c : Circuit) : Type 0 where
   pub nodes : All IsSmallNode c.nodes
   pub inputs : All HasLiteral c.inputs
   pub latchs : All IsSmallLatch c.latchs
-  pub outputs : All IsSmallEdge c.outputs
-  pub bads : All IsSmallEdge c.bads
-  pub constraints : All IsSmallEdge c.constraints
-  pub justice : All (All IsSmallEdge) c.justice
-  pub fairness : All IsSmallEdge c.fairness
+  pub properties : AllProperties IsSmallEdge c.properties

@@ -11,6 +11,9 @@ use std::marker::Model;
 /// How many bytes a buffer has room for.
 const SIZE: usize = 4096;
 
+/// How many bytes of a short piece are copied at once.
+pub(crate) const SHORT: usize = 32;
+
 /// How many digits a number has at most.
 const DIGITS: usize = 20;
 
@@ -61,6 +64,18 @@ impl OutputBuffer {
         self.len = end;
     }
 
+    /// Appends the first `count` bytes of a piece, by a copy of as many bytes as a short piece has.
+    #[inline]
+    fn push_short(&mut self, piece: &[u8], count: usize)
+        requires room { length self.old + 32 ≤ 4096 }
+        requires long { 32 ≤ length piece.now }
+        requires short { count ≤ 32 }
+        ensures { self.new ≡ self.old ++ take count piece.now }
+    {
+        self.bytes[self.len..self.len + SHORT].copy_from_slice(&piece[..SHORT]);
+        self.len += count;
+    }
+
     /// Writes a piece for which there is no room before what waits is put.
     #[cold]
     fn flush_and_push<W: Sink>(&mut self, w: &mut W, piece: &[u8]) -> Result<(), StreamFault>
@@ -85,13 +100,32 @@ impl OutputBuffer {
         Ok(())
     }
 
+    /// Writes the first `count` bytes of a piece. What stands after them makes the copy of a short piece quicker.
+    #[inline]
+    pub(crate) fn write_front<W: Sink>(
+        &mut self,
+        w: &mut W,
+        piece: &[u8],
+        count: usize,
+    ) -> Result<(), StreamFault>
+        requires { count ≤ length piece.now }
+        ensures { let text = take count piece.now in
+            BuffersOrStops W.held W.failed self.old w.old result text self.new w.new }
+    {
+        if count > SHORT || piece.len() < SHORT || SIZE - self.len < SHORT {
+            return self.write_bytes(w, &piece[..count]);
+        }
+        self.push_short(piece, count);
+        Ok(())
+    }
+
     /// Writes a number in decimal, and the byte `end` after it.
     pub fn write_number<W: Sink>(&mut self, w: &mut W, n: usize, end: u8) -> Result<(), StreamFault>
         ensures { let text = decimal n ++ end ∷ [] in
             BuffersOrStops W.held W.failed self.old w.old result text self.new w.new }
     {
-        let mut digits = [end; DIGITS + 1];
+        let mut digits = [end; DIGITS + SHORT];
         let start = write_digits(n as u64, &mut digits, DIGITS);
-        self.write_bytes(w, &digits[start..])
+        self.write_front(w, &digits[start..], DIGITS + 1 - start)
     }
 }

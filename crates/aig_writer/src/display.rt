@@ -28,6 +28,10 @@ impl<W: Write> TextOut for Formatter<W> {
             Err(_) => Err(fmt::Error),
         }
     }
+
+    fn write_front(&mut self, piece: &[u8], count: usize) -> fmt::Result {
+        self.write_bytes(&piece[..count])
+    }
 }
 
 /// Writes the text form of a circuit to a formatter (AIGER format 20071012 and AIGER 1.9), piece by piece and with no

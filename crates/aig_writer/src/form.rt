@@ -3,13 +3,12 @@
 ghost use Rattle.std.specs.Prelude.{◌≡◌, ◌≤◌, ◌^◌, All, length};
 ghost use Rattle.aig_circuit.specs.Circuit.{IsCircuit, IsClosed};
 ghost use Rattle.aig_format.specs.declared.FileKind.TheVariants.{Text};
-ghost use Rattle.aig_format.specs.Written.{file_text};
+ghost use Rattle.aig_format.specs.Written.{file_text, properties_text};
 ghost use Rattle.aig_format.specs.Circuit.{binary_of, text_of};
 ghost use Rattle.aig_writer.specs.Literals.{HasSmallNumbers, HasLiteral};
 ghost use Rattle.aig_writer.specs.Numbering.{FitsBinary, IsBinaryNumbering, written_number, numbered_file};
 ghost use Rattle.aig_writer.specs.Sinks.{WritesOrStops};
 ghost use Rattle.aig_writer.specs.Writing.{WritesPieces};
-ghost use Rattle.aig_writer.specs.Parts.{properties_of};
 
 use crate::header::write_header;
 use crate::names::write_names;
@@ -30,8 +29,8 @@ fn write_properties<O: TextOut>(
 ) -> Result<(), O::Error>
     requires table { All HasLiteral numbers.now }
     requires small { HasSmallNumbers circuit.now }
-    ensures { let text = properties_of
-        (numbered_file (written_number numbers.now) Text circuit.now) in
+    ensures { let text = properties_text
+        (numbered_file (written_number numbers.now) Text circuit.now).properties in
         WritesPieces O.wrote O.stopped out.old result text out.new }
 {
     write_edges(out, numbers, circuit.outputs())?;

@@ -1,17 +1,15 @@
 //! Numbers as they are written.
 
-ghost use Rattle.std.specs.Prelude.{◌^◌, ◌<◌, ◌≤◌, length};
+ghost use Rattle.std.specs.Prelude.{◌≡◌, ◌+◌, ◌^◌, ◌++◌, ◌<◌, ◌≤◌, length, take};
 ghost use Rattle.aig_format.specs.Written.{delta_of, line_text};
 ghost use Rattle.aig_writer.specs.Writing.{WritesPieces};
 
+use crate::buffer::SHORT;
 use crate::out::TextOut;
 use itoa::write_digits;
 
 /// Room for the longest line, of nine numbers with a byte after each.
 const LINE: usize = 192;
-
-/// How many groups of seven bits a difference has at most.
-const GROUPS: usize = 5;
 
 /// Writes a line of numbers, one at least and nine at most, apart by one space each.
 pub(crate) fn write_line<O: TextOut>(out: &mut O, numbers: &[usize]) -> Result<(), O::Error>
@@ -19,29 +17,47 @@ pub(crate) fn write_line<O: TextOut>(out: &mut O, numbers: &[usize]) -> Result<(
     requires few { length numbers.now ≤ 9 }
     ensures { WritesPieces O.wrote O.stopped out.old result (line_text numbers.now) out.new }
 {
-    let mut text = [b' '; LINE];
+    let mut text = [b' '; LINE + SHORT];
     text[LINE - 1] = b'\n';
     let mut start = LINE;
     for n in numbers.iter().rev() {
         start = write_digits(*n as u64, &mut text, start - 1);
     }
-    out.write_bytes(&text[start..])
+    out.write_front(&text[start..], LINE - start)
 }
 
-/// Writes a binary difference, in groups of seven bits, the lowest first, in its shortest spelling (AIGER format
-/// 20071012, "Binary encoding").
-pub(crate) fn write_difference<O: TextOut>(out: &mut O, d: usize) -> Result<(), O::Error>
-    requires { d < 2 ^ 32 }
-    ensures { WritesPieces O.wrote O.stopped out.old result (delta_of d) out.new }
+/// Puts a binary difference at `at`, in groups of seven bits, the lowest first, in its shortest spelling (AIGER format
+/// 20071012, "Binary encoding"), and returns where it ends.
+fn put_difference(groups: &mut [u8], at: usize, d: usize) -> usize
+    requires small { d < 2 ^ 32 }
+    requires room { at + 5 ≤ length groups.old }
+    ensures within { result ≤ at + 5 }
+    ensures text { take result groups.new ≡ take at groups.old ++ delta_of d }
 {
-    let mut groups = [0; GROUPS];
-    let mut count = 0;
+    let mut end = at;
     let mut rest = d;
     while rest >= 128 {
-        groups[count] = (rest % 128) as u8 + 128;
-        count += 1;
+        groups[end] = (rest % 128) as u8 + 128;
+        end += 1;
         rest /= 128;
     }
-    groups[count] = rest as u8;
-    out.write_bytes(&groups[..count + 1])
+    groups[end] = rest as u8;
+    end + 1
+}
+
+/// Writes two binary differences.
+pub(crate) fn write_differences<O: TextOut>(
+    out: &mut O,
+    first: usize,
+    second: usize,
+) -> Result<(), O::Error>
+    requires first { first < 2 ^ 32 }
+    requires second { second < 2 ^ 32 }
+    ensures { let text = delta_of first ++ delta_of second in
+        WritesPieces O.wrote O.stopped out.old result text out.new }
+{
+    let mut groups = [0; SHORT];
+    let middle = put_difference(&mut groups, 0, first);
+    let end = put_difference(&mut groups, middle, second);
+    out.write_front(&groups, end)
 }

@@ -4,41 +4,28 @@
 ghost use Rattle.std.specs.Prelude.{◌≡◌, ◌≢◌, ◌↔◌, ℕ, ◌+◌, ◌<◌, ◌≤◌, IfOk, IsOk, IsTrue, All, AllPairs, length, filter_map, slice_index};
 ghost use Rattle.aig_circuit.specs.Circuit.{IsCircuit, IsClosed, latch_leaves};
 ghost use Rattle.aig_circuit.specs.Reencode.{IsReencoded, gate_number};
-ghost use Rattle.aig_circuit.specs.Renumber.{renumbered_edge, renumbered_latch};
 ghost use Rattle.aig_writer.specs.Numbering.{IsBinaryNumbering, IsRowFrom, NumbersFrom, written_number};
 
 use aig_base::MemoryError;
-use aig_circuit::{AigEdge, AigLatch, AigNode, CircuitView};
+use aig_circuit::{AigLatch, AigNode, CircuitView};
+use aig_renumber::Numbering;
 
-/// The number of node `n`.
-#[inline]
-pub(crate) fn written_number(numbers: &[usize], n: usize) -> usize
-    ensures { result ≡ written_number numbers.now n }
-{
-    numbers.get(n).copied().unwrap_or(n)
+/// The numbers of a table under which nodes are written.
+#[derive(Clone, Copy)]
+pub(crate) struct Written<'a> {
+    /// The table.
+    pub(crate) table: &'a [usize],
 }
 
-/// The edge to the node's new number.
-#[inline]
-pub(crate) fn renumber_edge(numbers: &[usize], e: AigEdge) -> AigEdge
-    ensures { result ≡ renumbered_edge (written_number numbers.now) e }
-{
-    AigEdge::new(written_number(numbers, e.node_id()), e.compl())
-}
+impl Numbering for Written<'_> {
+    ghost has = { λ _ _. Unit {0} };
 
-/// The latch with its leaf and its edges under their new numbers.
-pub(crate) fn renumber_latch(numbers: &[usize], latch: &AigLatch) -> AigLatch
-    ensures { result ≡ renumbered_latch (written_number numbers.now) latch.now }
-{
-    let init = match latch.init() {
-        Some(e) => Some(renumber_edge(numbers, e)),
-        None => None,
-    };
-    AigLatch::new(
-        written_number(numbers, latch.input()),
-        renumber_edge(numbers, latch.next()),
-        init,
-    )
+    ghost number_of = { λ written. written_number written.table.now };
+
+    #[inline]
+    fn number(&self, n: usize) -> usize {
+        self.table.get(n).copied().unwrap_or(n)
+    }
 }
 
 /// Whether the inputs are the nodes 1, 2 and so on, in this order.

@@ -1,6 +1,6 @@
 //! What a text is written to.
 
-ghost use Rattle.std.specs.Prelude.{List, ℕ};
+ghost use Rattle.std.specs.Prelude.{List, ℕ, ◌≤◌, length, take};
 ghost use Rattle.aig_writer.specs.Writing.{WritesPieces};
 
 /// Takes a text piece by piece.
@@ -17,4 +17,9 @@ pub(crate) trait TextOut {
     /// Writes a piece of text.
     fn write_bytes(&mut self, piece: &[u8]) -> Result<(), Self::Error>
         ensures { WritesPieces wrote stopped self.old result piece.now self.new };
+
+    /// Writes the first `count` bytes of a piece. What stands after them may make this quicker.
+    fn write_front(&mut self, piece: &[u8], count: usize) -> Result<(), Self::Error>
+        requires { count ≤ length piece.now }
+        ensures { WritesPieces wrote stopped self.old result (take count piece.now) self.new };
 }

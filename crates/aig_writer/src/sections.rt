@@ -1,22 +1,23 @@
 //! The sections of a file, after its header. `numbers` is the table of the numbers under which nodes are written.
 
-ghost use Rattle.std.specs.Prelude.{◌≡◌, ◌-◌, ◌*◌, ◌^◌, ◌<◌, ◌≤◌, ◌++◌, ℕ, length, map, filter_map, option_to_list, All};
+ghost use Rattle.std.specs.Prelude.{◌≡◌, ◌*◌, ℕ, length, map, filter_map, option_to_list, All};
 ghost use Rattle.std.specs.List.{flat_map};
 ghost use Rattle.aig_circuit.specs.Edge.{literal_of};
 ghost use Rattle.aig_circuit.specs.Renumber.{renumbered_edge, renumbered_latch};
-ghost use Rattle.aig_format.specs.Written.{delta_of, gate_text, inputs_text, latch_text, lines_text};
+ghost use Rattle.aig_format.specs.Written.{gate_text, inputs_text, latch_text, lines_text};
 ghost use Rattle.aig_format.specs.Circuit.{latch_line, gate_line};
 ghost use Rattle.aig_writer.specs.Writing.{WritesPieces};
 ghost use Rattle.aig_writer.specs.Parts.{edges_of_sets};
 ghost use Rattle.aig_writer.specs.Numbering.{written_number, renumbered_node};
 ghost use Rattle.aig_writer.specs.Literals.{HasLiteral, IsSmallEdge, IsSmallLatch, IsSmallNode, FallsBelow};
 
-use crate::line::{write_difference, write_line};
+use crate::line::{write_differences, write_line};
 use crate::literal::{literal, reset_literal};
-use crate::numbering::{renumber_edge, renumber_latch, written_number};
+use crate::numbering::Written;
 use crate::out::TextOut;
 use aig_circuit::{AigEdge, AigLatch, AigNode, AigNodeType, gate_node};
 use aig_format::FileKind;
+use aig_renumber::{Numbering, renumbered_edge, renumbered_latch};
 
 /// Writes a line for each input, its literal.
 fn write_input_lines<O: TextOut>(
@@ -30,8 +31,9 @@ fn write_input_lines<O: TextOut>(
         (map (λ n. 2 * n) (map (written_number numbers.now) inputs.now)) in
         WritesPieces O.wrote O.stopped out.old result text out.new }
 {
+    let written = Written { table: numbers };
     for n in inputs {
-        write_line(out, &[2 * written_number(numbers, *n)])?;
+        write_line(out, &[2 * written.number(*n)])?;
     }
     Ok(())
 }
@@ -84,8 +86,9 @@ pub(crate) fn write_latches<O: TextOut>(
         let text = flat_map (latch_text kind) (map latch_line latches) in
         WritesPieces O.wrote O.stopped out.old result text out.new }
 {
+    let written = Written { table: numbers };
     for latch in latchs {
-        write_latch(out, kind, &renumber_latch(numbers, latch))?;
+        write_latch(out, kind, &renumbered_latch(&written, *latch))?;
     }
     Ok(())
 }
@@ -102,8 +105,9 @@ pub(crate) fn write_edges<O: TextOut>(
         let text = lines_text (map literal_of written) in
         WritesPieces O.wrote O.stopped out.old result text out.new }
 {
+    let written = Written { table: numbers };
     for e in edges {
-        write_line(out, &[literal(renumber_edge(numbers, *e))])?;
+        write_line(out, &[literal(renumbered_edge(&written, *e))])?;
     }
     Ok(())
 }
@@ -141,23 +145,6 @@ pub(crate) fn write_sets<O: TextOut>(
     Ok(())
 }
 
-/// Writes the two differences of a gate of a binary file.
-fn write_differences<O: TextOut>(
-    out: &mut O,
-    lhs: usize,
-    rhs0: usize,
-    rhs1: usize,
-) -> Result<(), O::Error>
-    requires small { lhs < 2 ^ 32 }
-    requires first { rhs0 ≤ lhs }
-    requires second { rhs1 ≤ rhs0 }
-    ensures { let text = delta_of (lhs - rhs0) ++ delta_of (rhs0 - rhs1) in
-        WritesPieces O.wrote O.stopped out.old result text out.new }
-{
-    write_difference(out, lhs - rhs0)?;
-    write_difference(out, rhs0 - rhs1)
-}
-
 /// Writes a gate: in a text file a line of its literal, its greater operand and its lesser, and in a binary file the
 /// differences between these.
 fn write_gate<O: TextOut>(out: &mut O, kind: FileKind, gate: &AigNode) -> Result<(), O::Error>
@@ -172,7 +159,7 @@ fn write_gate<O: TextOut>(out: &mut O, kind: FileKind, gate: &AigNode) -> Result
     let (lhs, rhs0, rhs1) = (2 * gate.node_id(), literal(second), literal(first));
     match kind {
         FileKind::Text => write_line(out, &[lhs, rhs0, rhs1]),
-        FileKind::Binary => write_differences(out, lhs, rhs0, rhs1),
+        FileKind::Binary => write_differences(out, lhs - rhs0, rhs0 - rhs1),
     }
 }
 
@@ -193,9 +180,10 @@ fn write_node<O: TextOut>(
 {
     match *node.typ() {
         AigNodeType::And(first, second) => {
-            let own = written_number(numbers, node.node_id());
-            let first = renumber_edge(numbers, first);
-            let second = renumber_edge(numbers, second);
+            let written = Written { table: numbers };
+            let own = written.number(node.node_id());
+            let first = renumbered_edge(&written, first);
+            let second = renumbered_edge(&written, second);
             write_gate(out, kind, &gate_node(own, first, second))
         }
         _ => Ok(()),

@@ -49,4 +49,8 @@ impl<'a, W: Sink> TextOut for BufferedSink<'a, W> {
     fn write_bytes(&mut self, piece: &[u8]) -> Result<(), StreamFault> {
         self.buffer.write_bytes(self.sink, piece)
     }
+
+    fn write_front(&mut self, piece: &[u8], count: usize) -> Result<(), StreamFault> {
+        self.buffer.write_front(self.sink, piece, count)
+    }
 }

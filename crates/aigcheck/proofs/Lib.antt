@@ -3,3 +3,4 @@ mod Commenting
 mod Memory
 mod Placing
 mod Shown
+mod Examples

@@ -14,4 +14,4 @@ some_there [] i e there none = let differ : None ≡ Some e = there in cc
 some_there (x ∷ xs) i e there none = cc
 
 pub asked_of : (f : File) (limit : ℕ) (bytes : List ℕ) (w : Witness) → Accepts bytes limit f → ShowsBad f w → IsAsked limit 0 bytes f
-asked_of f limit bytes w accepts shows = ((accepts, omega (arith, few_nodes f limit accepts.1)), some_there f.bads w.bad shows.named.0 shows.named.1)
+asked_of f limit bytes w accepts shows = ((accepts, omega (arith, few_nodes f limit accepts.1)), some_there f.properties.bads w.bad shows.named.0 shows.named.1)

@@ -27,10 +27,10 @@ impl Aig {
         ensures err { OnErr result (self.new ≡ self.old) }
     {
         match list {
-            PropList::Outputs => self.lists.outputs.push(e)?,
-            PropList::Bads => self.lists.bads.push(e)?,
-            PropList::Constraints => self.lists.constraints.push(e)?,
-            PropList::Fairness => self.lists.fairness.push(e)?,
+            PropList::Outputs => self.lists.properties.outputs.push(e)?,
+            PropList::Bads => self.lists.properties.bads.push(e)?,
+            PropList::Constraints => self.lists.properties.constraints.push(e)?,
+            PropList::Fairness => self.lists.properties.fairness.push(e)?,
         }
         Ok(())
     }
@@ -47,10 +47,10 @@ impl Aig {
         ensures { self.new ≡ with_edges list self.old (slice_set (edges_of list self.old) i e) }
     {
         match list {
-            PropList::Outputs => self.lists.outputs[i] = e,
-            PropList::Bads => self.lists.bads[i] = e,
-            PropList::Constraints => self.lists.constraints[i] = e,
-            PropList::Fairness => self.lists.fairness[i] = e,
+            PropList::Outputs => self.lists.properties.outputs[i] = e,
+            PropList::Bads => self.lists.properties.bads[i] = e,
+            PropList::Constraints => self.lists.properties.constraints[i] = e,
+            PropList::Fairness => self.lists.properties.fairness[i] = e,
         }
     }
 
@@ -59,10 +59,10 @@ impl Aig {
         ensures { self.new ≡ with_edges list self.old [] }
     {
         match list {
-            PropList::Outputs => self.lists.outputs.clear(),
-            PropList::Bads => self.lists.bads.clear(),
-            PropList::Constraints => self.lists.constraints.clear(),
-            PropList::Fairness => self.lists.fairness.clear(),
+            PropList::Outputs => self.lists.properties.outputs.clear(),
+            PropList::Bads => self.lists.properties.bads.clear(),
+            PropList::Constraints => self.lists.properties.constraints.clear(),
+            PropList::Fairness => self.lists.properties.fairness.clear(),
         }
     }
 
@@ -78,18 +78,22 @@ impl Aig {
     pub fn push_justice(&mut self, set: Vec<AigEdge>) -> Result<(), MemoryError>
         requires { All (IsInRange self.old.nodes) set.items }
         ensures ok { OnOk result
-            (self.new ≡ record self.old { justice = self.old.justice ++ set.items ∷ [] }) }
+            (self.new ≡ record self.old {
+              properties = record self.old.properties
+                  { justice = self.old.properties.justice ++ set.items ∷ [] };
+            }) }
         ensures err { OnErr result (self.new ≡ self.old) }
     {
-        self.lists.justice.push(set)?;
+        self.lists.properties.justice.push(set)?;
         Ok(())
     }
 
     /// Drops all justice properties.
     pub fn clear_justice(&mut self)
-        ensures { self.new ≡ record self.old { justice = [] } }
+        ensures { self.new ≡ record self.old
+            { properties = record self.old.properties { justice = [] } } }
     {
-        self.lists.justice.clear();
+        self.lists.properties.justice.clear();
     }
 
     /// Replaces the next edge of latch `i`, counted from 0.

@@ -8,7 +8,8 @@ ghost use Rattle.aig_lexer.specs.Faults.{LexUnlessTransient};
 ghost use Rattle.aig_lexer.specs.Header.{numbers_of};
 ghost use Rattle.aig_lexer.specs.Takes.{Gives};
 ghost use Rattle.aig_symbols.specs.NamedSections.{letter_of_section};
-ghost use Rattle.aig_symbols.specs.NameSteps.{node_at, parse_position};
+ghost use Rattle.aig_symbols.specs.NameSteps.{parse_position};
+ghost use Rattle.aig_symbols.specs.Names.{node_at};
 ghost use Rattle.aig_symbols.specs.declared.names.section.NamedSection.TheVariants as sections;
 
 use super::section::NamedSection;

@@ -6,7 +6,7 @@ use Rattle.aig_change.proofs.append.edges.Given as goal
 
 abbrev pub invariant-loop-e : goal.invariant-loop-e
 invariant-loop-e l = record {
-  items : l.all.items ≡ l.fn.all.items ++ map (renumbered_edge (shifted l.count)) (take l.e-index l.added);
+  items : l.all.items ≡ l.fn.all.items ++ map (renumbered_edge (shifted l.numbers.count)) (take l.e-index l.added);
   len : vec_len l.all ≡ vec_len l.fn.all + l.e-index;
   capacity : vec_capacity l.fn.all ≤ vec_capacity l.all;
 }

@@ -15,34 +15,36 @@ new_leaf_node-requires c = (subst IsCircuit (sym c.in_ok-lists.ensures.copy) c.c
 pub new_ands_node-requires-clause-edges : goal.new_ands_node-requires-clause-edges
 new_ands_node-requires-clause-edges c =
     let was = subst IsCircuit (sym c.in_ok-lists.ensures.copy) c.constraints-constraints.ensures.circuit in
-    let same = c.constraints-constraints.ensures.value ∙ sym (ap (λ (d : Circuit). d.constraints) c.in_ok-lists.ensures.copy) in
-    subst (All (IsInRange c.new_leaf_node.new.nodes.items)) (sym same) (All-grown _ _ _ c.in_ok-leaf.ensures.grows was.constraints)
+    let same = c.constraints-constraints.ensures.value ∙ sym (ap (λ (d : Circuit). d.properties.constraints) c.in_ok-lists.ensures.copy) in
+    subst (All (IsInRange c.new_leaf_node.new.nodes.items)) (sym same) (All-grown _ _ _ c.in_ok-leaf.ensures.grows was.properties.constraints)
 
 pub join_first-requires-clause-edges : goal.join_first-requires-clause-edges
 join_first-requires-clause-edges c =
     let was = subst IsCircuit (sym c.in_ok-lists.ensures.copy) c.constraints-constraints.ensures.circuit in
-    All-grown _ _ _ (Grows-then _ _ _ (Grows-then _ _ _ c.in_ok-leaf.ensures.grows c.in_ok-constraint.ensures.gates.grows) c.in_ok-next.ensures.gates.grows) was.bads
+    All-grown _ _ _ (Grows-then _ _ _ (Grows-then _ _ _ c.in_ok-leaf.ensures.grows c.in_ok-constraint.ensures.gates.grows) c.in_ok-next.ensures.gates.grows) was.properties.bads
 
 pub join_first-requires-2-clause-edges : goal.join_first-requires-2-clause-edges
 join_first-requires-2-clause-edges c =
     let was = subst IsCircuit (sym c.in_ok-lists.ensures.copy) c.constraints-constraints.ensures.circuit in
     All-grown _ _ _
     (Grows-then _ _ _ (Grows-then _ _ _ (Grows-then _ _ _ c.in_ok-leaf.ensures.grows c.in_ok-constraint.ensures.gates.grows) c.in_ok-next.ensures.gates.grows) c.in_ok-join_first.ensures.gates.grows)
-    was.outputs
+    was.properties.outputs
 
 -- the circuit that is answered
 abbrev made : goal.After-clear → Circuit
 made c = record (lists_circuit c.in_ok-lists.lists) {
   nodes = c.join_first-2.new.nodes.items;
   latchs = c.push.new.self.items;
-  outputs = c.join_first-2.new.edges.items;
-  bads = c.join_first.new.edges.items;
-  constraints = c.clear.new.self.items;
+  properties = record (lists_circuit c.in_ok-lists.lists).properties {
+    outputs = c.join_first-2.new.edges.items;
+    bads = c.join_first.new.edges.items;
+    constraints = c.clear.new.self.items;
+  };
 }
 
 both : (c : goal.After-clear) → IsCircuit (made c) × FoldsConstraints c.args.circuit.now (made c)
 both c =
-    let same = c.constraints-constraints.ensures.value ∙ sym (ap (λ (d : Circuit). d.constraints) c.in_ok-lists.ensures.copy) in
+    let same = c.constraints-constraints.ensures.value ∙ sym (ap (λ (d : Circuit). d.properties.constraints) c.in_ok-lists.ensures.copy) in
     let rule = subst (λ (es : List AigEdge). FoldsOrAddsAll c.new_leaf_node.new.nodes.items es c.new_ands_node.new.nodes.items c.in_ok-constraint.constraint) same c.in_ok-constraint.ensures.rule in
     let joins = subst (λ (es : List AigEdge). JoinsByAnd c.new_leaf_node.new.nodes.items c.new_ands_node.new.nodes.items es c.in_ok-constraint.constraint) same c.in_ok-constraint.ensures.joins in
     let latch : c.new.result ≡ constraints_held_latch c.in_ok-leaf.leaf c.in_ok-next.next = c.new.ensures ∙ ap (λ (e : AigEdge). record { input = c.in_ok-leaf.leaf; next = c.in_ok-next.next; init = Some e }) c.constant.ensures in

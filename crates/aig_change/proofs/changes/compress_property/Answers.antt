@@ -12,11 +12,11 @@ use Rattle.aig_change.proofs.changes.compress_property.Goals as goal
 pub new_ands_node-requires-clause-edges : goal.new_ands_node-requires-clause-edges
 new_ands_node-requires-clause-edges c =
     let nodes = c.args.lists.now.nodes.items in
-    subst (All (IsInRange nodes)) (sym (c.deref-2.ensures.value ∙ c.in_ok-inverted.ensures ∙ ap (map inverse) c.deref.ensures.value)) (All-inverse nodes c.args.lists.now.bads.items c.requires.bads)
+    subst (All (IsInRange nodes)) (sym (c.deref-2.ensures.value ∙ c.in_ok-inverted.ensures ∙ ap (map inverse) c.deref.ensures.value)) (All-inverse nodes c.args.lists.now.properties.bads.items c.requires.properties.bads)
 
 -- the circuit that is left
 abbrev made : goal.After-drop-inverted-2 → Circuit
-made c = record (lists_circuit c.args.lists.now) { nodes = c.new_ands_node.new.nodes.items; bads = c.replace.new.dest.items }
+made c = record (lists_circuit c.args.lists.now) { nodes = c.new_ands_node.new.nodes.items; properties = record (lists_circuit c.args.lists.now).properties { bads = c.replace.new.dest.items } }
 
 both : (c : goal.After-drop-inverted-2) → IsCircuit (made c) × CompressesBads (lists_circuit c.args.lists.now) (made c)
 both c =

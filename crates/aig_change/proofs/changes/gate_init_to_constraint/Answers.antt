@@ -20,7 +20,7 @@ returns-then-are_inits_constant-clause-starts c =
 
 -- the circuit that is left
 abbrev made : goal.After-push_reserved → Circuit
-made c = record (lists_circuit c.args.lists.now) { nodes = c.constrain_starts.new.nodes.items; latchs = c.push_reserved.new.self.items; constraints = c.constrain_starts.new.constraints.items }
+made c = record (lists_circuit c.args.lists.now) { nodes = c.constrain_starts.new.nodes.items; latchs = c.push_reserved.new.self.items; properties = record (lists_circuit c.args.lists.now).properties { constraints = c.constrain_starts.new.constraints.items } }
 
 both : (c : goal.After-push_reserved) → IsCircuit (made c) × ConstrainsInits (lists_circuit c.args.lists.now) (made c)
 both c =
@@ -31,7 +31,7 @@ both c =
     let latch : c.new.result ≡ first_step_latch c.in_ok-leaf.leaf =
     c.new.ensures ∙ ap (λ (e : AigEdge). record { input = c.in_ok-leaf.leaf; next = e; init = Some c.constant-2.result }) c.constant.ensures
     ∙ ap (λ (e : AigEdge). record { input = c.in_ok-leaf.leaf; next = edge_to 0 false; init = Some e }) c.constant-2.ensures in
-    let constrains = subst (λ ls. Constrains (with_node c.args.lists.now.nodes.items Leaf) c.constrain_starts.new.nodes.items (edge_to c.in_ok-leaf.leaf false) ls c.args.lists.now.constraints.items c.constrain_starts.new.constraints.items)
+    let constrains = subst (λ ls. Constrains (with_node c.args.lists.now.nodes.items Leaf) c.constrain_starts.new.nodes.items (edge_to c.in_ok-leaf.leaf false) ls c.args.lists.now.properties.constraints.items c.constrain_starts.new.constraints.items)
     (c.deref-2.ensures.value ∙ c.reserve.ensures.items) c.in_ok-leaf.ensures.constrains in
     gated_starts (lists_circuit c.args.lists.now) c.requires
     (λ all. false≢true (sym c.if-are_inits_constant.false ∙ c.are_inits_constant.ensures.plain.1 (subst (All HasConstantInit) (sym c.deref.ensures.value) all)))

@@ -23,7 +23,7 @@ query_clauses-requires-clause-bads g c =
     let steps = c.in_ok-encoded.ensures.answer.means.steps in
     let y : ℕ → Bool = λ n. false in
     let r = steps.run_of y in
-    (steps.same y r.0 r.1 r.2).bads.count
+    (steps.same y r.0 r.1 r.2).properties.bads.count
 
 -- its nodes stay
 pub query_clauses-requires-clause-longer : goal.query_clauses-requires-clause-longer

@@ -1,19 +1,17 @@
-use Rattle.std.proofs.Common.{◌≡◌, ℕ, ◌<◌, true, Some, sym, ap, ◌∙◌, arith, inl, inr}
+use Rattle.std.proofs.Common.{◌≡◌, ℕ, ◌<◌, true, false, Some, sym, ap, ◌∙◌, arith, inl, inr}
 use Rattle.std.specs.Prelude.{◌==◌}
-use Rattle.std.proofs.lemmas.Bool.{false_from_ne_true, or_right}
+use Rattle.std.proofs.lemmas.Bool.{or_right}
 use Rattle.aig_format.specs.File.{File}
 use Rattle.aig_format.specs.Variables.{is_defined}
 use Rattle.aig_format.specs.Numbering.{is_compact, node_of_variable}
-use Rattle.aig_format.specs.Fits.{Fits, IsCompact}
-use Rattle.aig_format.proofs.Compact.{compact-tested, compact-told}
+use Rattle.aig_format.specs.Fits.{Fits}
 use Rattle.aig_format.proofs.Numbers.{defined_within, node_of_variable-by_level, node_of_variable-in_level, node_of_variable-compact, node_of_variable-one, node_of_variable-within, node_of_variable-zero, variable_of}
 use Rattle.aig_format.proofs.Nodes.{length-nodes}
 use Rattle.aig_format_laws.specs.Numbers.{ComesFirst}
 use Rattle.aig_format_laws.proofs.numbering.numbers_follow_levels.Goals as goal
 
-later : (f : File) (limit u v : ℕ) → Fits f limit → ¬ IsCompact f → is_defined f u ≡ true → is_defined f v ≡ true → ComesFirst f u v → node_of_variable f u < node_of_variable f v
-later f limit u v fits isnt first second order =
-    let well_founded = false_from_ne_true (is_compact f) (λ is. isnt (compact-told f is)) in
+later : (f : File) (limit u v : ℕ) → Fits f limit → is_compact f ≡ false → is_defined f u ≡ true → is_defined f v ≡ true → ComesFirst f u v → node_of_variable f u < node_of_variable f v
+later f limit u v fits well_founded first second order =
     let known = or_right (u == 0) (is_defined f u) first in
     let low = (defined_within f limit fits v second).0 in
     elim order.before [
@@ -34,7 +32,7 @@ pub returns-clause-each : goal.returns-clause-each
 returns-clause-each c = λ f limit n fits h. let v = variable_of f limit fits n (omega (arith, length-nodes f, h)) in (v.variable, v.known, v.is)
 
 pub returns-clause-compact : goal.returns-clause-compact
-returns-clause-compact c = λ f v compact h. node_of_variable-compact f (compact-tested f compact) v h
+returns-clause-compact c = λ f v compact h. node_of_variable-compact f compact v h
 
 pub returns-clause-well_founded : goal.returns-clause-well_founded
 returns-clause-well_founded c = later

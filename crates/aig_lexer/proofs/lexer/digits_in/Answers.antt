@@ -1,21 +1,35 @@
-use Rattle.std.proofs.Common.{◌++◌, ◌∷◌, [], ℕ, List, take, slice_index_or, ap, ◌∙◌, append_assoc, arith}
-use Rattle.std.proofs.lemmas.List.{take_more}
+use Rattle.std.proofs.Common.{◌+◌, ◌-◌, ◌*◌, ◌^◌, ◌≤◌, ℕ, List, Some, slice_index_or, arith}
+use Rattle.std.proofs.lemmas.Grind.{pow_more}
+use Rattle.std.proofs.Math.Nat.{pow-le-pow_right}
 use Rattle.aig_parsing.specs.Parse.{parse_digits}
-use Rattle.aig_parsing.proofs.Numbers.{digits_go}
+use Rattle.aig_parsing.proofs.Numbers.{digits_go, digits_stop}
+use Rattle.aig_lexer.proofs.Front.{reads_more, is_other_than_digit}
 use Rattle.aig_lexer.proofs.lexer.digits_in.Goals as goal
+
+small_power : (i k : ℕ) → i ≤ k → 10 ^ i ≤ 10 ^ k
+small_power i k le = let some : 1 ≤ 10 = omega arith in pow-le-pow_right some le
+
+pub returns-then-not-is_ascii_digit-clause-reads : goal.returns-then-not-is_ascii_digit-clause-reads
+returns-then-not-is_ascii_digit-clause-reads c =
+    let bytes = c.args.bytes.now in
+    let i = c.loop-i.i in
+    let value = c.loop-i.value in
+    let b = slice_index_or bytes i 0 in
+    reads_more (parse_digits c.args.first) (parse_digits value) (λ (bs : List ℕ). Some ((value, b), bs)) bytes i
+    (omega arith) (c.loop-i.invariant.digits (omega arith))
+    (digits_stop value b (is_other_than_digit b c.if-not-is_ascii_digit.ensures.cases))
 
 pub loop-i-preserved : goal.loop-i-preserved
 loop-i-preserved c =
     let bytes = c.args.bytes.now in
     let i = c.loop-i.i in
+    let value = c.loop-i.value in
     let b = slice_index_or bytes i 0 in
     let digit = c.if-not-is_ascii_digit.ensures.cases in
     record {
-      small = omega arith;
-      digits = λ rest.
-          ap (λ (bs : List ℕ). parse_digits c.args.first (bs ++ rest))
-          (take_more bytes i 0 c.loop-i-test.true)
-          ∙ ap (parse_digits c.args.first) (append_assoc (take i bytes) (b ∷ []) rest)
-          ∙ c.loop-i.invariant.digits (b ∷ rest)
-          ∙ digits_go c.loop-i.value b digit.0 digit.1 (omega arith) rest;
+      small = omega (arith, pow_more 10 (i + 1));
+      digits = λ near.
+          reads_more (parse_digits c.args.first) (parse_digits value) (parse_digits (10 * value + (b - 48))) bytes i
+          (omega arith) (c.loop-i.invariant.digits (omega arith))
+          (digits_go value b digit.0 digit.1 (omega (arith, small_power (i + 1) 8 (omega arith))));
     }

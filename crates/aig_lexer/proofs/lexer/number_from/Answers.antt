@@ -1,64 +1,30 @@
-use Rattle.std.proofs.Common.{◌∙◌, ◌+◌, ◌*◌, ◌-◌, ℕ, None, arith}
-use Rattle.std.specs.Char.{IsNotAsciiDigit}
+use Rattle.std.proofs.Common.{◌∙◌, ◌-◌, None, sym, take}
 use Rattle.aig_parsing.specs.Parse.{parse_digits}
-use Rattle.aig_parsing.proofs.Numbers.{OtherThanDigit, number_goes, number_stops, digits_go, digits_overflow, digits_stop, digits_end}
+use Rattle.aig_parsing.proofs.Numbers.{number_goes, number_stops}
 use Rattle.aig_lexer.specs.Words.{parse_number_from}
-use Rattle.aig_lexer.proofs.Going.{goes_start, goes_same, goes_taken, goes_byte, goes_end, goes_done, goes_nowhere}
+use Rattle.aig_lexer.proofs.Front.{is_other_than_digit}
+use Rattle.aig_lexer.proofs.Going.{goes_start, goes_same, goes_nowhere}
+use Rattle.aig_lexer.proofs.Words.{gives_same}
 use Rattle.aig_lexer.proofs.lexer.number_from.Goals as goal
-
-other : (b : ℕ) → IsNotAsciiDigit b → OtherThanDigit b
-other b h = grind arith
 
 pub returns-then-not-is_ascii_digit-clause-exact :
     goal.returns-then-not-is_ascii_digit-clause-exact
 returns-then-not-is_ascii_digit-clause-exact g c =
     let read = parse_number_from c.args.first in
-    goes_nowhere read _ _ (goes_same read read (λ bs. None) _ _ (goes_start read (g.F.ByteFeed.coming c.args.f.now)) (number_stops c.args.first (other _ c.if-not-is_ascii_digit.ensures.cases)))
+    goes_nowhere read _ _ (goes_same read read (λ bs. None) _ _ (goes_start read (g.F.ByteFeed.coming c.args.f.now)) (number_stops c.args.first (is_other_than_digit _ c.if-not-is_ascii_digit.ensures.cases)))
 
-pub loop-b-init : goal.loop-b-init
-loop-b-init g c =
-    let read = parse_number_from c.args.first in
-    let digits = parse_digits (c.args.first - 48) in
+pub returns-in-Some-clause-exact : goal.returns-in-Some-clause-exact
+returns-in-Some-clause-exact g c =
     let digit = c.if-not-is_ascii_digit.ensures.cases in
-    let first =
-    goes_same read read digits _ _ (goes_start read (g.F.ByteFeed.coming c.args.f.now))
-    (number_goes c.args.first digit.0 digit.1) in
+    let hand = c.window.result.now in
     record {
-      goes_on =
-          goes_taken read digits (parse_digits c.digits_in-value.result.0) _ _ _ _ first
-          c.consume.ensures.bytes (rw c.window.ensures at c.digits_in-value.ensures.digits);
-      small = c.digits_in-value.ensures.small;
-      fewer = c.consume.ensures.fewer;
-      same = c.consume.ensures.same;
+      taken = take c.in-Some.count hand;
+      reads = λ rest. number_goes c.args.first digit.0 digit.1 _ ∙ c.in-Some.ensures.reads rest;
+      consumed = rw (← c.window.ensures) at c.consume.ensures.bytes;
     }
 
-pub returns-then-not-is_ascii_digit-2-clause-exact :
-    goal.returns-then-not-is_ascii_digit-2-clause-exact
-returns-then-not-is_ascii_digit-2-clause-exact g c =
-    let read = parse_number_from c.args.first in
-    goes_done read (c.loop-b.value, c.in-Some.b) _ (g.F.ByteFeed.coming c.next.new.self)
-    (goes_byte read (parse_digits c.loop-b.value) _ _ _ _ c.in_ok-b.field-0 c.in-Some.b c.loop-b.invariant.goes_on c.in_ok-b.ensures.byte c.in-Some.is (digits_stop c.loop-b.value c.in-Some.b (other _ c.if-not-is_ascii_digit-2.ensures.cases)))
-
-pub returns-then-value-clause-exact : goal.returns-then-value-clause-exact
-returns-then-value-clause-exact g c =
-    let read = parse_number_from c.args.first in
-    let digit = c.if-not-is_ascii_digit-2.ensures.cases in
-    goes_nowhere read _ (g.F.ByteFeed.coming c.next.new.self)
-    (goes_byte read (parse_digits c.loop-b.value) (λ bs. None) _ _ _ c.in_ok-b.field-0 c.in-Some.b c.loop-b.invariant.goes_on c.in_ok-b.ensures.byte c.in-Some.is
-    (digits_overflow c.loop-b.value c.in-Some.b digit.0 digit.1 (omega arith)))
-
-pub loop-b-preserved : goal.loop-b-preserved
-loop-b-preserved g c =
-    let read = parse_number_from c.args.first in
-    let digit = c.if-not-is_ascii_digit-2.ensures.cases in
-    record {
-      goes_on = goes_byte read (parse_digits c.loop-b.value) (parse_digits (10 * c.loop-b.value + (c.in-Some.b - 48))) _ _ _ c.in_ok-b.field-0 c.in-Some.b c.loop-b.invariant.goes_on c.in_ok-b.ensures.byte c.in-Some.is
-          (digits_go c.loop-b.value c.in-Some.b digit.0 digit.1 (omega arith));
-      small = omega arith;
-      fewer = omega (arith, rw c.in-Some.is at c.in_ok-b.ensures.fewer, c.loop-b.invariant.fewer);
-      same = c.next.ensures.same ∙ c.loop-b.invariant.same;
-    }
-
-pub returns-clause-exact : goal.returns-clause-exact
-returns-clause-exact g c =
-    goes_end (parse_number_from c.args.first) (parse_digits c.loop-b.value) _ _ (g.F.ByteFeed.coming c.next.new.self) c.in_ok-b.field-0 c.loop-b.invariant.goes_on c.in_ok-b.ensures.byte c.in_default.is (c.in_ok-b.ensures.end c.in_default.is).0 (digits_end c.loop-b.value)
+pub returns-in-None-clause-exact : goal.returns-in-None-clause-exact
+returns-in-None-clause-exact g c =
+    let digit = c.if-not-is_ascii_digit.ensures.cases in
+    gives_same (λ x. (x.0, x.1)) (parse_digits (c.args.first - 48)) (parse_number_from c.args.first) _ _ _ c.number_by_bytes.ensures.exact
+    (λ bs. sym (number_goes c.args.first digit.0 digit.1 bs))

@@ -1,15 +1,11 @@
-use Rattle.std.proofs.Common.{◌≡◌, List, Some, take}
-use Rattle.std.specs.Prelude.{vec_len}
-use Rattle.aig_circuit.specs.declared.node.AigNodeType.{AigNodeType}
+use Rattle.std.proofs.Common.{◌≡◌, true, map, take}
+use Rattle.std.specs.List.{list_all}
 use Rattle.aig_ordering.specs.Gates.{nodes_in}
-use Rattle.aig_ordering.specs.Numbers.{all_by, nodes_numbered_from}
-use Rattle.aig_ordering.proofs.NodesIn.{node_under}
+use Rattle.aig_ordering.specs.Numbers.{has_operands, with_numbers}
 use Rattle.aig_ordering.proofs.gate_nodes.nodes.Given as goal
 
-abbrev pub invariant-loop-gate : goal.invariant-loop-gate
-invariant-loop-gate l = record {
-  count : vec_len l.new ≡ l.gate-index;
-  kinds : List AigNodeType;
-  are : all_by (node_under l.numbers) (take l.gate-index (nodes_in l.gates)) ≡ Some kinds;
-  made : l.new.items ≡ nodes_numbered_from 0 kinds;
+abbrev pub invariant-loop-i : goal.invariant-loop-i
+invariant-loop-i l = record {
+  have : list_all (λ node. has_operands l.numbers.table.now node.typ) (take l.i (nodes_in l.gates)) ≡ true;
+  made : l.new.items ≡ map (with_numbers l.numbers.table.now) (take l.i (nodes_in l.gates));
 }

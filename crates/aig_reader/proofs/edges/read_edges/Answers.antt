@@ -1,13 +1,12 @@
 use Rattle.std.proofs.Common.{◌≡◌, ◌∙◌, ◌∷◌, ◌++◌, [], ℕ, subst, arith}
 use Rattle.std.proofs.lemmas.Result.{err_from_is_err_and}
-use Rattle.aig_parsing.specs.Parse.{parse_ended, parse_if, parse_times}
-use Rattle.aig_parsing.specs.ParseTested.{is_literal}
+use Rattle.aig_parsing.specs.Parse.{parse_ended, parse_if, parse_entries}
 use Rattle.aig_ordering.specs.Lists.{edge_from}
 use Rattle.aig_lexer.specs.Takes.{Takes, Misses}
-use Rattle.aig_lexer.proofs.Taking.{takes_same, misses_same}
-use Rattle.aig_reader.proofs.Entries.{entries_at, takes_more, misses_more, made_push, times_is_entries}
+use Rattle.aig_reader.proofs.Entries.{takes_more, misses_more, made_push}
 use Rattle.aig_reader.proofs.TestedLines.{on_line-weaker}
 use Rattle.aig_reader.proofs.edges.read_edges.Goals as goal
+use Rattle.aig_format.specs.Fits.{is_literal}
 
 pub returns-in_err-edge-clause-exact : goal.returns-in_err-edge-clause-exact
 returns-in_err-edge-clause-exact g c =
@@ -16,7 +15,7 @@ returns-in_err-edge-clause-exact g c =
     let count = c.args.count in
     let line = parse_if (parse_ended 10) (is_literal c.args.greatest) in
     rw (p.1, p.2) (on_line-weaker c.in_err-edge.field-0.0 _ _
-    (λ (k : Misses line (g.F.ByteFeed.coming c.loop.f)). misses_same (entries_at (λ _. line) [] count) (parse_times line count) _ (misses_more (λ _. line) c.loop.counter count _ _ h.0 c.loop-test.true h.2 k) (times_is_entries line [] count))
+    (λ (k : Misses line (g.F.ByteFeed.coming c.loop.f)). misses_more (λ _. line) c.loop.counter count _ _ h.0 c.loop-test.true h.2 k)
     c.in_err-edge.ensures.exact)
 
 pub loop-preserved : goal.loop-preserved
@@ -36,7 +35,5 @@ returns-clause-exact g c =
     let line = parse_if (parse_ended 10) (is_literal c.args.greatest) in (
       h.0,
       h.1,
-      takes_same (entries_at (λ _. line) [] count) (parse_times line count) _ _ h.0
-          (subst (λ (n : ℕ). Takes (entries_at (λ _. line) [] n) (g.F.ByteFeed.coming c.args.f.now) (g.F.ByteFeed.coming c.loop.f) h.0) all h.2)
-          (times_is_entries line [] count),
+      subst (λ (n : ℕ). Takes (parse_entries (λ _. line) [] n) (g.F.ByteFeed.coming c.args.f.now) (g.F.ByteFeed.coming c.loop.f) h.0) all h.2,
     )

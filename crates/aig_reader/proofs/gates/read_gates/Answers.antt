@@ -1,19 +1,18 @@
 use Rattle.std.proofs.Common.{◌≡◌, ◌∙◌, ◌∷◌, ◌++◌, ◌+◌, [], ℕ, subst, refl, sym, arith}
 use Rattle.std.proofs.lemmas.Result.{err_from_is_err_and}
-use Rattle.aig_parsing.specs.ParseTested.{parse_fitting_gates}
+use Rattle.aig_parsing.specs.ParseTested.{parse_gate_entry}
 use Rattle.aig_format.specs.declared.FileKind.{FileKind}
 use Rattle.aig_lexer.specs.Header.{numbers_of}
 use Rattle.aig_lexer.specs.Takes.{Takes, Misses}
 use Rattle.std.proofs.lemmas.List.{append-nil}
-use Rattle.aig_lexer.proofs.Taking.{takes_nothing, takes_same, misses_same}
-use Rattle.aig_reader.specs.ParseEntry.{parse_gate_entry}
+use Rattle.aig_lexer.proofs.Taking.{takes_nothing}
 use Rattle.aig_reader.specs.Faults.{LineUnlessTransient}
 use Rattle.aig_reader.specs.Variables.{AreDefined, HasRoom, file_kind}
-use Rattle.aig_reader.proofs.BothKinds.{gates_is}
-use Rattle.aig_reader.proofs.Entries.{entries_at, takes_more, misses_more}
+use Rattle.aig_reader.proofs.Entries.{takes_more, misses_more}
 use Rattle.aig_reader.proofs.Rooms.{room_for, room_more}
 use Rattle.aig_reader.proofs.TestedLines.{on_line-weaker}
 use Rattle.aig_reader.proofs.gates.read_gates.Goals as goal
+use Rattle.aig_parsing.specs.Parse.{parse_entries}
 
 pub gate_line-requires-clause-space : goal.gate_line-requires-clause-space
 gate_line-requires-clause-space g c =
@@ -39,7 +38,7 @@ loop-init g c = record {
 }
 
 pub returns-in_err-gate_line-clause-exact : goal.returns-in_err-gate_line-clause-exact
-returns-in_err-gate_line-clause-exact g c = λ leaves length defined.
+returns-in_err-gate_line-clause-exact g c = λ leaves defined.
     let p = err_from_is_err_and c.from_residual-in_err-gate_line.result c.from_residual-in_err-gate_line.ensures.1 in
     let h = c.loop.invariant.made leaves defined in
     let kind = file_kind c.args.variables.now in
@@ -50,7 +49,7 @@ returns-in_err-gate_line-clause-exact g c = λ leaves length defined.
     let e = c.in_err-gate_line.field-0.0 in
     rw (p.1, p.2) (on_line-weaker e _ _
     (λ (k : Misses (parse_gate_entry kind greatest leaves h.0) now).
-    misses_same (entries_at (parse_gate_entry kind greatest leaves) [] count) (parse_fitting_gates kind ns leaves) _ (misses_more (parse_gate_entry kind greatest leaves) c.loop.counter count _ _ h.0 c.loop-test.true h.2 k) (λ bs. gates_is kind ns leaves bs length))
+    misses_more (parse_gate_entry kind greatest leaves) c.loop.counter count _ _ h.0 c.loop-test.true h.2 k)
     (subst (λ (k : FileKind). LineUnlessTransient e (Misses (parse_gate_entry k greatest leaves h.0) now)) c.loop.invariant.kind (c.in_err-gate_line.ensures.exact greatest leaves h.0 h.1)))
 
 pub loop-preserved : goal.loop-preserved
@@ -73,7 +72,7 @@ loop-preserved g c = record {
 }
 
 pub returns-clause-exact : goal.returns-clause-exact
-returns-clause-exact g c = λ leaves count_is defined.
+returns-clause-exact g c = λ leaves defined.
     let done : c.loop.counter ≡ c.args.header.gates = omega arith in
     let h = c.loop.invariant.made leaves defined in
     let kind = file_kind c.args.variables.now in
@@ -82,6 +81,5 @@ returns-clause-exact g c = λ leaves count_is defined.
     let ns = numbers_of c.args.header in (
       h.0,
       h.1,
-      takes_same (entries_at (parse_gate_entry kind greatest leaves) [] count) (parse_fitting_gates kind ns leaves) _ _ h.0
-          (subst (λ (n : ℕ). Takes (entries_at (parse_gate_entry kind greatest leaves) [] n) (g.F.ByteFeed.coming c.args.f.now) (g.F.ByteFeed.coming c.loop.f) h.0) done h.2) (λ bs. gates_is kind ns leaves bs count_is),
+      subst (λ (n : ℕ). Takes (parse_entries (parse_gate_entry kind greatest leaves) [] n) (g.F.ByteFeed.coming c.args.f.now) (g.F.ByteFeed.coming c.loop.f) h.0) done h.2,
     )

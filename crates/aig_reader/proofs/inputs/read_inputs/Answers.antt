@@ -1,19 +1,17 @@
 use Rattle.std.proofs.Common.{◌≡◌, ◌∙◌, ◌∷◌, ◌++◌, ◌+◌, [], ℕ, ap, subst, arith}
 use Rattle.std.proofs.lemmas.Result.{err_from_is_err_and}
-use Rattle.aig_parsing.specs.ParseTested.{parse_fitting_inputs}
+use Rattle.aig_parsing.specs.ParseTested.{parse_input_entry}
 use Rattle.aig_format.specs.declared.FileKind.{FileKind}
 use Rattle.aig_lexer.specs.Header.{numbers_of}
 use Rattle.aig_lexer.specs.Takes.{Takes, Misses}
-use Rattle.aig_lexer.proofs.Taking.{takes_same, misses_same}
-use Rattle.aig_reader.specs.ParseEntry.{parse_input_entry}
 use Rattle.aig_reader.specs.Faults.{LineUnlessTransient}
 use Rattle.aig_ordering.specs.Lists.{variable_of_literal}
 use Rattle.aig_reader.specs.Variables.{file_kind}
-use Rattle.aig_reader.proofs.BothKinds.{inputs_is}
-use Rattle.aig_reader.proofs.Entries.{entries_at, takes_more, misses_more, made_push}
+use Rattle.aig_reader.proofs.Entries.{takes_more, misses_more, made_push}
 use Rattle.aig_reader.proofs.Rooms.{room_for, room_more}
 use Rattle.aig_reader.proofs.TestedLines.{on_line-weaker}
 use Rattle.aig_reader.proofs.inputs.read_inputs.Goals as goal
+use Rattle.aig_parsing.specs.Parse.{parse_entries}
 
 pub input_line-requires : goal.input_line-requires
 input_line-requires g c =
@@ -32,7 +30,7 @@ returns-in_err-input-clause-exact g c = λ start.
     let now = g.F.ByteFeed.coming c.loop.f in
     let e = c.in_err-input.field-0.0 in
     rw (p.1, p.2) (on_line-weaker e _ _
-    (λ (k : Misses (parse_input_entry kind greatest h.0) now). misses_same (entries_at (parse_input_entry kind greatest) [] count) (parse_fitting_inputs kind ns) _ (misses_more (parse_input_entry kind greatest) c.loop.counter count _ _ h.0 c.loop-test.true h.2 k) (inputs_is kind ns))
+    (λ (k : Misses (parse_input_entry kind greatest h.0) now). misses_more (parse_input_entry kind greatest) c.loop.counter count _ _ h.0 c.loop-test.true h.2 k)
     (subst (λ (k : FileKind). LineUnlessTransient e (Misses (parse_input_entry k greatest h.0) now)) c.loop.invariant.kind (c.in_err-input.ensures.exact greatest h.0 h.1.1)))
 
 pub loop-preserved : goal.loop-preserved
@@ -62,6 +60,5 @@ returns-clause-exact g c = λ start.
     let ns = numbers_of c.args.header in (
       h.0,
       h.1,
-      takes_same (entries_at (parse_input_entry kind greatest) [] count) (parse_fitting_inputs kind ns) _ _ h.0
-          (subst (λ (n : ℕ). Takes (entries_at (parse_input_entry kind greatest) [] n) (g.F.ByteFeed.coming c.args.f.now) (g.F.ByteFeed.coming c.loop.f) h.0) all h.2) (inputs_is kind ns),
+      subst (λ (n : ℕ). Takes (parse_entries (parse_input_entry kind greatest) [] n) (g.F.ByteFeed.coming c.args.f.now) (g.F.ByteFeed.coming c.loop.f) h.0) all h.2,
     )

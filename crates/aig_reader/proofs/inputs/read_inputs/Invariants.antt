@@ -1,15 +1,15 @@
 use Rattle.std.proofs.Common.{◌≡◌, ℕ, ◌+◌, [], map, vec_len}
-use Rattle.aig_reader.specs.ParseEntry.{parse_input_entry}
 use Rattle.aig_ordering.specs.Lists.{variable_of_literal}
 use Rattle.aig_reader.specs.Variables.{AreDefined, HasRoom, file_kind}
 use Rattle.aig_lexer.specs.Takes.{Made}
-use Rattle.aig_reader.proofs.Entries.{entries_at}
 use Rattle.aig_reader.proofs.inputs.read_inputs.Given as goal
+use Rattle.aig_parsing.specs.ParseTested.{parse_input_entry}
+use Rattle.aig_parsing.specs.Parse.{parse_entries}
 
 abbrev pub invariant-loop : goal.invariant-loop
 invariant-loop g l = record {
   made : AreDefined l.fn.header.greatest l.fn.variables []
-      → Made (λ inputs literals. (inputs.items ≡ map variable_of_literal literals) × AreDefined l.fn.header.greatest l.variables literals) (g.F.ByteFeed.coming l.fn.f) (g.F.ByteFeed.coming l.f) l.inputs (entries_at (parse_input_entry (file_kind l.fn.variables) l.fn.header.greatest) [] l.counter);
+      → Made (λ inputs literals. (inputs.items ≡ map variable_of_literal literals) × AreDefined l.fn.header.greatest l.variables literals) (g.F.ByteFeed.coming l.fn.f) (g.F.ByteFeed.coming l.f) l.inputs (parse_entries (parse_input_entry (file_kind l.fn.variables) l.fn.header.greatest) [] l.counter);
   count : vec_len l.inputs ≡ l.counter;
   room : (size k : ℕ) → HasRoom size l.fn.variables (k + l.counter) → HasRoom size l.variables k;
   kind : file_kind l.variables ≡ file_kind l.fn.variables;

@@ -8,9 +8,10 @@ use Rattle.aig_parsing.specs.ParseTested.{parse_literals, parse_literal_sets}
 use Rattle.aig_lexer.specs.Takes.{Takes, Misses}
 use Rattle.aig_lexer.proofs.Taking.{takes_same, misses_same}
 use Rattle.aig_ordering.specs.Lists.{edge_from}
-use Rattle.aig_reader.proofs.Entries.{entries_at, set_at, sets_is_entries, takes_count, takes_more, misses_more}
+use Rattle.aig_reader.proofs.Entries.{set_at, sets_is_entries, takes_count, takes_more, misses_more}
 use Rattle.aig_reader.proofs.TestedLines.{on_line-weaker}
 use Rattle.aig_reader.proofs.justice.read_sets.Goals as goal
+use Rattle.aig_parsing.specs.Parse.{parse_entries}
 
 -- the size of the set after these
 next_size : (sizes : List ℕ) (i : ℕ) (front : List (List ℕ)) → length front ≡ i → get_or sizes i 0 ≡ get_or sizes (length front) 0
@@ -30,7 +31,7 @@ returns-in_err-set-clause-exact g c =
     let greatest = c.args.greatest in
     rw (p.1, p.2) (on_line-weaker c.in_err-set.field-0.0 _ _
     (λ (k : Misses (parse_literals greatest (get_or sizes c.loop-size.size-index 0)) (g.F.ByteFeed.coming c.loop-size.f)).
-    misses_same (entries_at (set_at greatest sizes) [] (length sizes)) (parse_literal_sets greatest sizes) _
+    misses_same (parse_entries (set_at greatest sizes) [] (length sizes)) (parse_literal_sets greatest sizes) _
     (misses_more (set_at greatest sizes) c.loop-size.size-index (length sizes) _ _ h.0 (omega arith) h.2
     (subst (λ (n : ℕ). Misses (parse_literals greatest n) (g.F.ByteFeed.coming c.loop-size.f)) (next_size sizes c.loop-size.size-index h.0 (takes_count (set_at greatest sizes) _ _ _ _ h.2)) k)) (sets_is_entries greatest sizes))
     c.in_err-set.ensures.exact)
@@ -59,7 +60,7 @@ returns-clause-exact g c =
     let h = c.loop-size.invariant.made in (
       h.0,
       h.1,
-      takes_same (entries_at (set_at greatest sizes) [] (length sizes)) (parse_literal_sets greatest sizes) _ _ h.0
-          (subst (λ (n : ℕ). Takes (entries_at (set_at greatest sizes) [] n) (g.F.ByteFeed.coming c.args.f.now) (g.F.ByteFeed.coming c.loop-size.f) h.0) all h.2)
+      takes_same (parse_entries (set_at greatest sizes) [] (length sizes)) (parse_literal_sets greatest sizes) _ _ h.0
+          (subst (λ (n : ℕ). Takes (parse_entries (set_at greatest sizes) [] n) (g.F.ByteFeed.coming c.args.f.now) (g.F.ByteFeed.coming c.loop-size.f) h.0) all h.2)
           (sets_is_entries greatest sizes),
     )

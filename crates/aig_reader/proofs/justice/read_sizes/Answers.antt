@@ -1,9 +1,8 @@
 use Rattle.std.proofs.Common.{◌≡◌, ◌∙◌, ◌∷◌, ◌++◌, [], ℕ, List, subst, ap, arith}
 use Rattle.std.proofs.lemmas.Result.{err_from_is_err_and}
-use Rattle.aig_parsing.specs.Parse.{parse_ended, parse_numbers}
+use Rattle.aig_parsing.specs.Parse.{parse_ended, parse_entries}
 use Rattle.aig_lexer.specs.Takes.{Takes, Misses}
-use Rattle.aig_lexer.proofs.Taking.{takes_same, misses_same}
-use Rattle.aig_reader.proofs.Entries.{entries_at, takes_more, misses_more, times_is_entries}
+use Rattle.aig_reader.proofs.Entries.{takes_more, misses_more}
 use Rattle.aig_reader.proofs.TestedLines.{on_line-from_shape}
 use Rattle.aig_reader.proofs.justice.read_sizes.Goals as goal
 
@@ -13,7 +12,7 @@ returns-in_err-size-clause-exact g c =
     let h = c.loop.invariant.made in
     let count = c.args.count in
     rw (p.1, p.2) (on_line-from_shape c.in_err-size.field-0.0 _ _
-    (λ (k : Misses (parse_ended 10) (g.F.ByteFeed.coming c.loop.f)). misses_same (entries_at (λ _. parse_ended 10) [] count) (parse_numbers count) _ (misses_more (λ _. parse_ended 10) c.loop.counter count _ _ h.0 c.loop-test.true h.2 k) (times_is_entries (parse_ended 10) [] count))
+    (λ (k : Misses (parse_ended 10) (g.F.ByteFeed.coming c.loop.f)). misses_more (λ _. parse_ended 10) c.loop.counter count _ _ h.0 c.loop-test.true h.2 k)
     c.in_err-size.ensures.exact)
 
 pub loop-preserved : goal.loop-preserved
@@ -32,7 +31,5 @@ returns-clause-exact g c =
     let count = c.args.count in (
       h.0,
       h.1,
-      takes_same (entries_at (λ _. parse_ended 10) [] count) (parse_numbers count) _ _ h.0
-          (subst (λ (n : ℕ). Takes (entries_at (λ _. parse_ended 10) [] n) (g.F.ByteFeed.coming c.args.f.now) (g.F.ByteFeed.coming c.loop.f) h.0) all h.2)
-          (times_is_entries (parse_ended 10) [] count),
+      subst (λ (n : ℕ). Takes (parse_entries (λ _. parse_ended 10) [] n) (g.F.ByteFeed.coming c.args.f.now) (g.F.ByteFeed.coming c.loop.f) h.0) all h.2,
     )

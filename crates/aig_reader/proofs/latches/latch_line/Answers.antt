@@ -1,12 +1,13 @@
 use Rattle.std.proofs.Common.{◌≡◌, ◌&&◌, ◌++◌, false, map, refl}
 use Rattle.std.proofs.lemmas.Result.{err_from_is_err_and}
 use Rattle.aig_format.specs.File.{LatchLine}
-use Rattle.aig_parsing.specs.ParseTested.{has_next, is_reset, latch_line_from, parse_next_and_reset}
-use Rattle.aig_reader.specs.ParseEntry.{may_define}
+use Rattle.aig_parsing.specs.ParseTested.{has_next, may_define}
 use Rattle.aig_reader.specs.Variables.{file_kind}
 use Rattle.aig_reader.proofs.OwnLines.{misses_line, takes_line}
 use Rattle.aig_reader.proofs.TestedLines.{on_line-weaker}
 use Rattle.aig_reader.proofs.latches.latch_line.Goals as goal
+use Rattle.aig_format.specs.Fits.{is_reset}
+use Rattle.aig_parsing.specs.Parse.{latch_line_from, parse_next_and_reset}
 
 pub returns-in_err-init-clause-exact : goal.returns-in_err-init-clause-exact
 returns-in_err-init-clause-exact g c = λ inputs before defined.

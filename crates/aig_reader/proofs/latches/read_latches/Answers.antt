@@ -1,22 +1,20 @@
 use Rattle.std.proofs.Common.{◌≡◌, ◌∙◌, ◌∷◌, ◌++◌, ◌+◌, [], ℕ, List, map, ap, sym, subst, append_assoc, arith}
 use Rattle.std.proofs.lemmas.Result.{err_from_is_err_and}
 use Rattle.std.proofs.lemmas.List.{map_push}
-use Rattle.aig_parsing.specs.ParseTested.{parse_fitting_latches}
+use Rattle.aig_parsing.specs.ParseTested.{parse_latch_entry}
 use Rattle.aig_format.specs.declared.FileKind.{FileKind}
 use Rattle.aig_format.specs.File.{LatchLine}
 use Rattle.aig_lexer.specs.Header.{numbers_of}
 use Rattle.aig_lexer.specs.Takes.{Takes, Misses}
-use Rattle.aig_lexer.proofs.Taking.{takes_same, misses_same}
 use Rattle.aig_reader.specs.declared.variables.DefinedVariables.{DefinedVariables}
-use Rattle.aig_reader.specs.ParseEntry.{parse_latch_entry}
 use Rattle.aig_reader.specs.Faults.{LineUnlessTransient}
 use Rattle.aig_ordering.specs.Lists.{latch_of_line}
 use Rattle.aig_reader.specs.Variables.{AreDefined, file_kind}
-use Rattle.aig_reader.proofs.BothKinds.{latches_is}
-use Rattle.aig_reader.proofs.Entries.{entries_at, takes_more, misses_more, made_push}
+use Rattle.aig_reader.proofs.Entries.{takes_more, misses_more, made_push}
 use Rattle.aig_reader.proofs.Rooms.{room_for, room_more}
 use Rattle.aig_reader.proofs.TestedLines.{on_line-weaker}
 use Rattle.aig_reader.proofs.latches.read_latches.Goals as goal
+use Rattle.aig_parsing.specs.Parse.{parse_entries}
 
 abbrev literals : List LatchLine → List ℕ
 literals lines = map (λ l. l.literal) lines
@@ -33,7 +31,7 @@ latch_line-requires g c =
     (size, omega (arith, few), room_for _ _ size c.args.header.latches c.loop.counter c.loop-test.true c.requires.room c.loop.invariant.room)
 
 pub returns-in_err-latch-clause-exact : goal.returns-in_err-latch-clause-exact
-returns-in_err-latch-clause-exact g c = λ inputs length defined.
+returns-in_err-latch-clause-exact g c = λ inputs defined.
     let p = err_from_is_err_and c.from_residual.result c.from_residual.ensures.1 in
     let h = c.loop.invariant.made inputs defined in
     let kind = file_kind c.args.variables.now in
@@ -44,7 +42,7 @@ returns-in_err-latch-clause-exact g c = λ inputs length defined.
     let e = c.in_err-latch.field-0.0 in
     rw (p.1, p.2) (on_line-weaker e _ _
     (λ (k : Misses (parse_latch_entry kind greatest inputs h.0) now).
-    misses_same (entries_at (parse_latch_entry kind greatest inputs) [] count) (parse_fitting_latches kind ns inputs) _ (misses_more (parse_latch_entry kind greatest inputs) c.loop.counter count _ _ h.0 c.loop-test.true h.2 k) (λ bs. latches_is kind ns inputs bs length))
+    misses_more (parse_latch_entry kind greatest inputs) c.loop.counter count _ _ h.0 c.loop-test.true h.2 k)
     (subst (λ (k : FileKind). LineUnlessTransient e (Misses (parse_latch_entry k greatest inputs h.0) now)) c.loop.invariant.kind (c.in_err-latch.ensures.exact inputs h.0 h.1.1)))
 
 pub loop-preserved : goal.loop-preserved
@@ -65,7 +63,7 @@ loop-preserved g c = record {
 }
 
 pub returns-clause-exact : goal.returns-clause-exact
-returns-clause-exact g c = λ inputs length defined.
+returns-clause-exact g c = λ inputs defined.
     let all : c.loop.counter ≡ c.args.header.latches = omega arith in
     let h = c.loop.invariant.made inputs defined in
     let kind = file_kind c.args.variables.now in
@@ -74,6 +72,5 @@ returns-clause-exact g c = λ inputs length defined.
     let ns = numbers_of c.args.header in (
       h.0,
       h.1,
-      takes_same (entries_at (parse_latch_entry kind greatest inputs) [] count) (parse_fitting_latches kind ns inputs) _ _ h.0
-          (subst (λ (n : ℕ). Takes (entries_at (parse_latch_entry kind greatest inputs) [] n) (g.F.ByteFeed.coming c.args.f.now) (g.F.ByteFeed.coming c.loop.f) h.0) all h.2) (λ bs. latches_is kind ns inputs bs length),
+      subst (λ (n : ℕ). Takes (parse_entries (parse_latch_entry kind greatest inputs) [] n) (g.F.ByteFeed.coming c.args.f.now) (g.F.ByteFeed.coming c.loop.f) h.0) all h.2,
     )

@@ -56,7 +56,7 @@ leaves_of : (g : given.Over) (c : In_ok-latchs g) → LeavesRead c.args.header c
 leaves_of g c =
     let inputs = c.read_inputs-inputs.ensures in
     let latchs = c.read_latches-latchs.ensures in
-    leaves_read c.args.header c.args.header.kind _ _ _ _ _ _ _ _ _ _ _ _ c.new-variables.ensures.kind inputs.kind c.result_of.ensures c.in_ok-inputs.was (inputs.exact c.new-variables.ensures.defined) inputs.count c.result_of-2.ensures c.in_ok-latchs.was latchs.exact latchs.count
+    leaves_read c.args.header c.args.header.kind _ _ _ _ _ _ _ _ _ _ _ _ c.new-variables.ensures.kind inputs.kind c.result_of.ensures c.in_ok-inputs.was (inputs.exact c.new-variables.ensures.defined) c.result_of-2.ensures c.in_ok-latchs.was latchs.exact
 
 pub read_gates-gates-requires-clause-defined : goal.read_gates-gates-requires-clause-defined
 read_gates-gates-requires-clause-defined g c =
@@ -81,7 +81,7 @@ returns-in_err-gates-clause-exact g c =
     let latchs = c.read_latches-latchs.ensures in
     let leaves = leaves_of g (goal.at.returns-in_err-gates-clause-exact g c).In_ok-latchs in
     let properties = c.in_ok-properties.ensures.exact in
-    let gates = c.read_gates-gates.ensures.exact (literals_with leaves.literals leaves.lines) leaves.count leaves.defined in
+    let gates = c.read_gates-gates.ensures.exact (literals_with leaves.literals leaves.lines) leaves.defined in
     let e = c.in_err-gates.field-0.0 in
     let missed = missed_in (gate_error_in kind) (in_gates kind) _ _ _ _ c.read_gates-gates.result c.gates_result.result e c.gates_result.ensures c.in_err-gates.was gates in
     let p = err_from_is_err_and c.from_residual-in_err-gates.result c.from_residual-in_err-gates.ensures.1 in
@@ -99,7 +99,7 @@ returns-clause-exact g c =
     let leaves = leaves_of g (goal.at.returns-clause-exact g c).In_ok-latchs in
     let properties = c.in_ok-properties.ensures.exact in
     let defined = literals_with leaves.literals leaves.lines in
-    let gates = made_in (gate_error_in kind) (in_gates kind) _ _ _ _ c.read_gates-gates.result c.gates_result.result c.in_ok-gates.gates c.gates_result.ensures c.in_ok-gates.was (c.read_gates-gates.ensures.exact defined leaves.count leaves.defined) in
+    let gates = made_in (gate_error_in kind) (in_gates kind) _ _ _ _ c.read_gates-gates.result c.gates_result.result c.in_ok-gates.gates c.gates_result.ensures c.in_ok-gates.was (c.read_gates-gates.ensures.exact defined leaves.defined) in
     let same = latchs.kind ∙ inputs.kind ∙ start in
     let hg : Takes (parse_fitting_gates kind ns defined) (g.F.ByteFeed.coming c.read_properties.new.f) (g.F.ByteFeed.coming c.read_gates-gates.new.f) gates.0 =
     subst (λ (k : FileKind). Takes (parse_fitting_gates k ns defined) (g.F.ByteFeed.coming c.read_properties.new.f) (g.F.ByteFeed.coming c.read_gates-gates.new.f) gates.0) same gates.2 in
@@ -107,16 +107,15 @@ returns-clause-exact g c =
     let y : Parts = record { inputs = leaves.literals; latches = leaves.lines; properties = x; gates = gates.0 } in
     let f = file_by header y in
     let taken = takes_sections kind ns _ _ leaves.literals leaves.takes_inputs _ leaves.lines leaves.takes_latchs _ x properties.2 _ gates.0 hg in
-    let tell = lines_tell kind ns y (taken.taken ++ []) [] c.requires.good (taken.reads []) in
-    let p = properties.1 in (
+    let tell = lines_tell kind ns y (taken.taken ++ []) [] c.requires.good (taken.reads []) in (
       y,
       record {
-        good = record { definable = tell.variables.definable; distinct = tell.variables.distinct; enough = tell.enough; in_range = tell.in_range; binary = tell.compact };
+        good = record { definable = tell.variables.definable; distinct = tell.variables.distinct; enough = tell.enough; in_range = tell.in_range; binary = tell.variables.binary };
         greatest = refl;
         few = c.requires.few;
         kind = c.read_gates-gates.ensures.kind ∙ same;
         defined = gates.1.defined;
-        lists = record { inputs = leaves.inputs_are; latchs = leaves.latchs_are; properties = record { outputs = p.outputs; bads = p.bads; constraints = p.constraints; justice = p.justice; fairness = p.fairness } };
+        lists = record { inputs = leaves.inputs_are; latchs = leaves.latchs_are; properties = properties.1 };
         gates = gates.1.placed;
         space = if_ok_in (gate_error_in kind) (HasSpace (header.greatest + 1)) c.read_gates-gates.result c.gates_result.result c.in_ok-gates.gates c.gates_result.ensures c.in_ok-gates.was c.read_gates-gates.ensures.space;
         compact = compact_held f c.is_complete.result c.in_ok-gates.gates (c.is_complete.ensures ∙ ap (λ (n : ℕ). header.greatest == n) (sym tell.count)) tell.variables.definable tell.variables.distinct gates.1.placed.form;

@@ -1,24 +1,22 @@
-use Rattle.std.proofs.Common.{◌≡◌, ◌∙◌, ◌&&◌, Bool, true, false, List, Option, Vec, ap, sym, subst, arith}
-use Rattle.std.specs.Prelude.{option_map}
+use Rattle.std.proofs.Common.{◌≡◌, ◌∙◌, ◌&&◌, Bool, true, false, List, Vec, map, ap, sym, subst, arith}
 use Rattle.std.proofs.lemmas.Result.{err_from_is_err_and}
 use Rattle.std.specs.declared.alloc.Global.{Global}
+use Rattle.std.specs.List.{list_all}
 use Rattle.aig_circuit.specs.declared.node.AigNode.{AigNode}
-use Rattle.aig_circuit.specs.declared.node.AigNodeType.{AigNodeType}
 use Rattle.aig_format.specs.Circuit.{circuit_of}
 use Rattle.aig_format.specs.File.{File}
 use Rattle.aig_format.specs.Levels.{has_level}
 use Rattle.aig_format.specs.Numbering.{is_compact}
-use Rattle.std.specs.List.{list_all}
 use Rattle.aig_ordering.specs.Gates.{nodes_in}
-use Rattle.aig_ordering.specs.Numbers.{all_by, nodes_numbered_from}
+use Rattle.aig_ordering.specs.Numbers.{has_operands, with_numbers}
 use Rattle.aig_ordering.specs.Order.{AreOrdered}
-use Rattle.aig_ordering.specs.Tables.{AreKnownOf, AreNodesOf, OrderUnlessTransient}
-use Rattle.aig_ordering.proofs.NodesIn.{count-gates, node_under}
-use Rattle.aig_ordering.proofs.Written.{images_ordered}
-use Rattle.aig_reader.specs.Numbered.{AreNumbersOf, JudgedOrder, have_operands}
+use Rattle.aig_ordering.specs.Tables.{AreKnownOf, AreNodesOf, JudgedOrder, OrderUnlessTransient}
+use Rattle.aig_ordering.proofs.NodesIn.{count-gates}
+use Rattle.aig_ordering.proofs.Written.{kinds_ordered}
+use Rattle.aig_reader.specs.Numbered.{AreNumbersOf, have_operands}
 use Rattle.aig_reader.specs.Sections.{HasGoodLines}
-use Rattle.aig_reader.proofs.ByLevel.{nodes_are, numbers_are}
-use Rattle.aig_reader.proofs.Numbered.{images_judged}
+use Rattle.aig_reader.proofs.ByLevel.{nodes_are, nodes_known, numbers_are}
+use Rattle.aig_reader.proofs.Numbered.{rejudged}
 use Rattle.aig_reader.proofs.numbering.number_nodes.Goals as goal
 use Rattle.aig_reader.proofs.numbering.number_nodes.Goals.{After-nodes}
 
@@ -33,12 +31,12 @@ module _ (c : After-nodes) (f : File) (good : HasGoodLines f) (are : AreNodesOf 
 
   nodes_judged : JudgedOrder (have_operands f) (λ new. new.items ≡ (circuit_of f).nodes) c.nodes.result
   nodes_judged =
-      let gates = c.args.gates.items in
-      let numbers = c.in_ok-numbers.field-0.numbers.items in
+      let table = c.in_ok-numbers.field-0.numbers.items in
       let sorted = c.in_ok-numbers.field-0.gates.items in
-      let kinds = images_ordered numbers gates f sorted (count-gates f gates are) ordered.1.gates in
-      let images = ap (λ (o : Option (List AigNodeType)). option_map (nodes_numbered_from 0) o) kinds ∙ nodes_are f numbers numbers_judged good well_founded ordered.0 (nodes_in gates) are.placed in
-      images_judged (λ (new : Vec AigNode Global). new.items) (option_map (nodes_numbered_from 0) (all_by (node_under numbers) (nodes_in sorted))) (have_operands f) (circuit_of f).nodes c.nodes.result images (rw (c.deref-2.ensures.value, c.deref-3.ensures.value) at c.nodes.ensures)
+      let kinds = kinds_ordered f c.args.gates.items are sorted ordered.1.gates in
+      rejudged (list_all (λ (node : AigNode). has_operands table node.typ) (nodes_in sorted)) (have_operands f) (λ (new : Vec AigNode Global). new.items ≡ map (with_numbers table) (nodes_in sorted)) (λ new. new.items ≡ (circuit_of f).nodes)
+      (nodes_known f table numbers_judged good well_founded ordered.0 sorted kinds)
+      (λ new passed is. is ∙ nodes_are f table numbers_judged good well_founded ordered.0 sorted kinds passed) c.nodes.result (rw (c.deref-2.ensures.value, c.deref-3.ensures.value) at c.nodes.ensures)
 
 pub returns-in_err-nodes : goal.returns-in_err-nodes
 returns-in_err-nodes c = λ f good are known well_founded.

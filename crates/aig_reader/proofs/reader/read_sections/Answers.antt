@@ -1,11 +1,12 @@
 use Rattle.std.proofs.lemmas.Result.{err_from_is_err_and}
-use Rattle.aig_parsing.specs.ParseTested.{is_accepted_order, parse_section_lines}
+use Rattle.aig_parsing.specs.ParseTested.{parse_section_lines}
 use Rattle.aig_lexer.specs.Header.{numbers_of}
 use Rattle.aig_lexer.proofs.Taking.{misses_tested}
 use Rattle.aig_reader.specs.Sections.{file_by}
 use Rattle.aig_reader.proofs.Body.{on_refusal-weaker}
 use Rattle.aig_reader.proofs.Steps.{inputs_count, latchs_count, no_stream, number_faults, numbered_made}
 use Rattle.aig_reader.proofs.reader.read_sections.Goals as goal
+use Rattle.aig_format.specs.Fits.{is_accepted_order}
 
 pub returns-in_err-lines-clause-exact : goal.returns-in_err-lines-clause-exact
 returns-in_err-lines-clause-exact g c =

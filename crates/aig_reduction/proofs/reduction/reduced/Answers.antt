@@ -11,7 +11,7 @@ pub returns : goal.returns
 returns c =
     let old = c.args.circuit in
     let mid = c.in_ok-refined.refined in
-    let without = c.clear_justice.ensures ∙ ap (λ (d : Circuit). record d { justice = [] }) c.clear_edges.ensures in
+    let without = c.clear_justice.ensures ∙ ap (λ (d : Circuit). record d { properties = record d.properties { justice = [] } }) c.clear_edges.ensures in
     let alone : c.clear_edges-2.new.self ≡ asked_alone old = c.clear_edges-2.ensures ∙ ap (λ (d : Circuit). with_edges Fairness d []) without in
     let is = subst IsCircuit alone (subst IsCircuit c.circuit.view_is c.circuit.invariant) in
     let is_mid = subst IsCircuit c.refined.view_is c.refined.invariant in

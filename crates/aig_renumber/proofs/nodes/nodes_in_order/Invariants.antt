@@ -3,4 +3,4 @@ use Rattle.aig_circuit.specs.Renumber.{nodes_in_order}
 use Rattle.aig_renumber.proofs.nodes.nodes_in_order.Given as goal
 
 abbrev pub invariant-loop-i : goal.invariant-loop-i
-invariant-loop-i l = l.new.items ≡ nodes_in_order l.nodes (slice_index l.numbers) 0 (take l.i l.order)
+invariant-loop-i l = l.new.items ≡ nodes_in_order l.nodes (slice_index l.numbers.numbers.now) 0 (take l.i l.order)

@@ -1,6 +1,7 @@
-use Rattle.std.proofs.Common.{◌≡◌, length, drop, sym, ap, ◌∙◌, arith}
+use Rattle.std.proofs.Common.{◌≡◌, length, drop, sym, subst, ap, ◌∙◌, arith}
 use Rattle.std.specs.Prelude.{count_by}
 use Rattle.aig_circuit.specs.Runs.{is_leaf}
+use Rattle.aig_circuit.specs.View.{HasRoomFor}
 use Rattle.aig_circuit.specs.declared.node.AigNode.{AigNode}
 use Rattle.aig_unroll.specs.Places.{leaves_after}
 use Rattle.aig_unroll.proofs.Added.{count-leaves_after}
@@ -14,8 +15,5 @@ returns-clause-room c =
     c.count_leaves.ensures ∙ ap (λ l. count_by (λ (node : AigNode). is_leaf node.typ) (drop start l)) c.deref.ensures.value ∙ sym (count-leaves_after start nodes) in
     record {
       inputs = omega (arith, c.in_ok-reserve.ensures.ok);
-      outputs = omega (arith, c.in_ok-reserve-2.ensures.ok, ap length c.outputs.ensures.value);
-      bads = omega (arith, c.in_ok-reserve-3.ensures.ok, ap length c.bads.ensures.value);
-      constraints = omega (arith, c.in_ok-reserve-4.ensures.ok, ap length c.constraints.ensures.value);
-      fairness = omega (arith, c.in_ok-reserve-5.ensures.ok, ap length c.fairness.ensures.value);
+      properties = subst (HasRoomFor c.reserve-2.new.self) c.properties.ensures.value c.in_ok-reserve-2.ensures.room;
     }

@@ -1,4 +1,4 @@
-use Rattle.std.proofs.Common.{◌≡◌, length, map, ap, arith}
+use Rattle.std.proofs.Common.{◌≡◌, length, ap, arith}
 use Rattle.aig_circuit.specs.View.{lists_circuit, names_of}
 use Rattle.aig_unroll.specs.Step.{AppendsImages, CopiesAll, IsPrepared}
 use Rattle.aig_unroll.proofs.Stepped.{stepped_in_parts, stepped_is_circuit, stepped_unrolls}
@@ -15,7 +15,7 @@ stepped c =
     let prepared : IsPrepared c.args.from.now old mid images = c.in-Ok.ensures.ok in
     let ensures = c.append_step.ensures in
     stepped_in_parts c.args.from.now (lists_circuit old) (lists_circuit mid) (lists_circuit new) images c.len-start.result start prepared.copies prepared.justice prepared.same
-    ensures.nodes ensures.inputs ensures.latchs ensures.outputs ensures.bads ensures.constraints (ap (map (λ set. set.items)) ensures.justice) ensures.fairness (ap (λ names. names_of names.entries) ensures.names)
+    ensures.nodes ensures.inputs ensures.latchs ensures.properties (ap (λ names. names_of names.entries) ensures.names)
 
 pub returns-in-Ok-clause-circuit : goal.returns-in-Ok-clause-circuit
 returns-in-Ok-clause-circuit c = stepped_is_circuit c.args.from.now (lists_circuit c.args.lists.now) (lists_circuit c.append_step.new.lists) c.add_nodes_and_reserve.new.images c.append_step.ensures.circuit c.requires.circuit (stepped c).0 (stepped c).1

@@ -16,8 +16,8 @@ pub value-requires : goal.value-requires
 value-requires c =
     let rows = rows_of c.args.witness.now.steps.items in
     let circuit = lists_circuit c.args.lists.now in
-    let there : c.args.witness.now.bad < length c.args.lists.now.bads.items = omega (arith, c.args.lists.now.bads.ok.0) in
-    let range : c.index.result.now.node_id < length circuit.nodes = subst (λ (e : AigEdge). e.node_id < length circuit.nodes) (sym c.index.ensures) (c.requires.bads c.args.witness.now.bad c.index.result.now there) in
+    let there : c.args.witness.now.bad < length c.args.lists.now.properties.bads.items = omega (arith, c.args.lists.now.properties.bads.ok.0) in
+    let range : c.index.result.now.node_id < length circuit.nodes = subst (λ (e : AigEdge). e.node_id < length circuit.nodes) (sym c.index.ensures) (c.requires.properties.bads c.args.witness.now.bad c.index.result.now there) in
     let many : length rows ≡ length c.args.witness.now.steps.items = length-map c.args.witness.now.steps.items (λ (list : Vec Lbool Global). list.items) in
     let none = eqb-false c.args.witness.now.steps.len 0 (sym c.is_empty.ensures ∙ c.if-is_empty.false) in
     let some : 0 < length rows = omega (arith, c.args.witness.now.steps.ok.0, many, none) in

@@ -22,7 +22,7 @@ all_true-requires c =
     let circuit = lists_circuit c.args.lists.now in
     let rows = rows_of c.args.witness.now.steps.items in
     rw c.deref-in-loop-t.ensures.value
-    (values-there circuit c.args.witness.now.state.items (take c.loop-t.t rows) c.deref.result.now c.loop-t.simulator c.simulate.new.self c.args.lists.now.constraints.items c.requires.circuit.constraints c.loop-t.invariant.so_far c.in_ok-simulate.ensures.ok)
+    (values-there circuit c.args.witness.now.state.items (take c.loop-t.t rows) c.deref.result.now c.loop-t.simulator c.simulate.new.self c.args.lists.now.properties.constraints.items c.requires.circuit.properties.constraints c.loop-t.invariant.so_far c.in_ok-simulate.ensures.ok)
 
 pub returns-then-not-all_true-clause-wrong : goal.returns-then-not-all_true-clause-wrong
 returns-then-not-all_true-clause-wrong c =
@@ -47,6 +47,6 @@ loop-t-preserved c =
     record {
       so_far = now;
       inputs = below_more (λ s. length (slice_index_or rows s []) ≡ length circuit.inputs) c.loop-t.t c.loop-t.invariant.inputs (ap length row.1 ∙ long);
-      constraints = below_more (λ s. AreTrueIn (simulated circuit (said_by c.args.witness.now) s) circuit.constraints) c.loop-t.t c.loop-t.invariant.constraints
+      constraints = below_more (λ s. AreTrueIn (simulated circuit (said_by c.args.witness.now) s) circuit.properties.constraints) c.loop-t.t c.loop-t.invariant.constraints
           (true_turned _ _ _ _ now c.deref-in-loop-t.ensures.value (c.all_true.ensures.yes c.if-not-all_true.false));
     }

@@ -10,5 +10,5 @@ abbrev pub invariant-loop-t : goal.invariant-loop-t
 invariant-loop-t l = record {
   so_far : l.simulator ≡ stepped_all (simulation_of (lists_circuit l.lists) l.witness.state.items) (take l.t (rows_of l.witness.steps.items));
   inputs : (s : ℕ) → s < l.t → length (slice_index_or (rows_of l.witness.steps.items) s []) ≡ length (lists_circuit l.lists).inputs;
-  constraints : (s : ℕ) → s < l.t → AreTrueIn (simulated (lists_circuit l.lists) (said_by l.witness) s) (lists_circuit l.lists).constraints;
+  constraints : (s : ℕ) → s < l.t → AreTrueIn (simulated (lists_circuit l.lists) (said_by l.witness) s) (lists_circuit l.lists).properties.constraints;
 }

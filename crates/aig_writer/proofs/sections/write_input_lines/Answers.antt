@@ -7,11 +7,11 @@ use Rattle.aig_writer.proofs.sections.write_input_lines.Goals as goal
 pub returns-in_err-write_line : goal.returns-in_err-write_line
 returns-in_err-write_line g c =
     rw (numbered_inputs (written_number c.args.numbers.now) c.args.inputs.now)
-    (failed_turn calls_laws (λ n. input_line (written_number c.args.numbers.now n)) c.args.inputs.now c.loop-n.n-index _ c.loop-n-test.true c.loop-n.invariant (rw (c.written_number.ensures) at c.in_err-write_line.ensures) (search rules))
+    (failed_turn calls_laws (λ n. input_line (written_number c.args.numbers.now n)) c.args.inputs.now c.loop-n.n-index _ c.loop-n-test.true c.loop-n.invariant (rw (c.number.ensures) at c.in_err-write_line.ensures) (search rules))
 
 pub loop-n-preserved : goal.loop-n-preserved
 loop-n-preserved g c =
-    then_turn (λ n. input_line (written_number c.args.numbers.now n)) c.args.inputs.now c.loop-n.n-index _ c.loop-n-test.true c.loop-n.invariant (rw (c.written_number.ensures) at c.in_ok-write_line.ensures.ok)
+    then_turn (λ n. input_line (written_number c.args.numbers.now n)) c.args.inputs.now c.loop-n.n-index _ c.loop-n-test.true c.loop-n.invariant (rw (c.number.ensures) at c.in_ok-write_line.ensures.ok)
 
 pub returns : goal.returns
 returns g c =

@@ -14,9 +14,9 @@ use Rattle.aigcheck.proofs.comments.buffer_comments.Goals as goal
 pub overflow_mul-first : goal.overflow_mul-first
 overflow_mul-first g c =
     let p = length c.bads.result.now in
-    let same : p ≡ length c.args.asked.now.encoded.circuit.bads = ap length c.bads.ensures.value in
-    let all : length c.args.asked.now.encoded.unrolled.bads ≡ (c.args.k + 1) * p = c.requires.bads ∙ ap (λ n. (c.args.k + 1) * n) (sym same) in
-    let long : length c.bads-bads.result.now ≡ length c.args.asked.now.encoded.unrolled.bads = ap length c.bads-bads.ensures.value in
+    let same : p ≡ length c.args.asked.now.encoded.circuit.properties.bads = ap length c.bads.ensures.value in
+    let all : length c.args.asked.now.encoded.unrolled.properties.bads ≡ (c.args.k + 1) * p = c.requires.bads ∙ ap (λ n. (c.args.k + 1) * n) (sym same) in
+    let long : length c.bads-bads.result.now ≡ length c.args.asked.now.encoded.unrolled.properties.bads = ap length c.bads-bads.ensures.value in
     omega (arith, all, long, c.bads-bads.type_inv.0)
 
 pub buffer_steps-requires-clause-few : goal.buffer_steps-requires-clause-few
@@ -36,8 +36,8 @@ pub buffer_bads-requires : goal.buffer_bads-requires
 buffer_bads-requires g c =
     let q = c.args.asked.now.encoded in
     let Few = λ (e : AigEdge). e.node_id < 2 ^ 31 in
-    let are = All-weaker (IsInRange q.unrolled.nodes) Few (λ e h. omega (arith, c.requires.few)) q.unrolled.bads c.bads-bads.ensures.circuit.bads in
-    All-take Few _ _ (All-drop Few _ _ (All-same Few c.bads-bads.result.now q.unrolled.bads c.bads-bads.ensures.value are))
+    let are = All-weaker (IsInRange q.unrolled.nodes) Few (λ e h. omega (arith, c.requires.few)) q.unrolled.properties.bads c.bads-bads.ensures.circuit.properties.bads in
+    All-take Few _ _ (All-drop Few _ _ (All-same Few c.bads-bads.result.now q.unrolled.properties.bads c.bads-bads.ensures.value are))
 
 pub returns-in_err-buffer_steps : goal.returns-in_err-buffer_steps
 unfolding comments_of

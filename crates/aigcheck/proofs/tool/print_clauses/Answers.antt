@@ -30,7 +30,7 @@ write_comments-requires-clause-bads g c =
     let steps = c.in_ok-asked.ensures.answer.means.0.steps in
     let y : ℕ → Bool = λ n. false in
     let r = steps.run_of y in
-    (steps.same y r.0 r.1 r.2).bads.count
+    (steps.same y r.0 r.1 r.2).properties.bads.count
 
 pub returns-in_err-asked : goal.returns-in_err-asked
 returns-in_err-asked g c =

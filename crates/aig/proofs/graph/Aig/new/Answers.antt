@@ -11,12 +11,8 @@ invariant_of-result c =
         nodes = c.push.new.self;
         inputs = c.new.result;
         latchs = c.new-2.result;
-        outputs = c.new-3.result;
-        bads = c.new-4.result;
-        constraints = c.new-5.result;
-        justice = c.new-6.result;
-        fairness = c.new-7.result;
-        names = c.new-8.result;
+        properties = c.new-3.result;
+        names = c.new-4.result;
       };
     }) ≡ only_false = search rules in
     subst IsCircuit (sym e) IsCircuit-only_false

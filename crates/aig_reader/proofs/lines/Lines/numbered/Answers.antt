@@ -4,6 +4,7 @@ use Rattle.aig_format.specs.Numbering.{is_compact}
 use Rattle.aig_ordering.specs.Gates.{nodes_in}
 use Rattle.aig_ordering.specs.Tables.{AreKnownOf, AreNodesOf}
 use Rattle.aig_ordering.proofs.NodesIn.{length-nodes_in}
+use Rattle.aig_reader.specs.Numbered.{AreTablesOf}
 use Rattle.aig_reader.specs.Sections.{AreLinesOf}
 use Rattle.aig_reader.proofs.Steps.{well_founded_judged, nodes_placed, compact_judged}
 use Rattle.aig_reader.proofs.lines.Lines.numbered.Goals as goal
@@ -31,11 +32,13 @@ module _ (c : After-deref) (f : File) (h : AreLinesOf f c.args.self) where
     | else-is_complete-via-else-is_complete w ↦ rw w.if-is_complete.false refl
   ]
 
+tables_are : (c : After-deref) (f : File) → AreLinesOf f c.args.self → AreTablesOf f c.in_ok-gates.gates.items c.deref.result.now c.args.self.lists
+tables_are c f h = record { good = h.good; nodes = gates_are c f h; known = known_are c f h; lists = h.lists; not_compact = well_founded c f h }
+
 pub by_level-requires-clause-tables : goal.by_level-requires-clause-tables
-by_level-requires-clause-tables c = (c.requires.0, gates_are c c.requires.0 c.requires.1, known_are c c.requires.0 c.requires.1)
+by_level-requires-clause-tables c = (c.requires.0, tables_are c c.requires.0 c.requires.1)
 
 pub returns-clause-exact : goal.returns-clause-exact
 returns-clause-exact c = λ f h.
     let here = (goal.at.returns-clause-exact c).After-deref in
-    well_founded_judged f c.by_level.result (sym h.kind ∙ rw c.in-Text.is refl) (well_founded here f h)
-    (c.by_level.ensures.exact f h.good (gates_are here f h) (known_are here f h) h.lists (well_founded here f h))
+    well_founded_judged f c.by_level.result (sym h.kind ∙ rw c.in-Text.is refl) (well_founded here f h) (c.by_level.ensures.exact f (tables_are here f h))

@@ -1,0 +1,118 @@
+-- Wrong answers, of which the definitions are false: of another step, of a window for which there is
+-- no room, and of a file that asks nothing.
+use Rattle.std.proofs.Common.{◌≡◌, ◌≢◌, ℕ, zero, suc, ◌≤◌, ◌+◌, ◌*◌, Bool, true, false, ◌&&◌, ◌||◌, None, Some, Option, Ok, List, [], ◌∷◌, refl, sym, arith}
+use Rattle.std.specs.Prelude.{◌==◌}
+use Rattle.std.proofs.lemmas.Bool.{false≢true}
+use Rattle.aig_circuit.specs.declared.node.AigNodeType.TheVariants.{False, Leaf}
+use Rattle.aig_circuit.specs.declared.node.AigLatch.{AigLatch}
+use Rattle.aig_circuit.specs.Circuit.{Circuit, only_false}
+use Rattle.aig_circuit.specs.Edge.{edge_to}
+use Rattle.aig_circuit.specs.Properties.{no_properties}
+use Rattle.aig_circuit.specs.Runs.{IsRun, IsInitial}
+use Rattle.aig_circuit.specs.Tree.{node_value, tree_of}
+use Rattle.aig_format.specs.declared.FileKind.TheVariants.{Text}
+use Rattle.aig_format.specs.File.{File}
+use Rattle.aig_format.specs.Fits.{Accepts}
+use Rattle.aig_format.specs.Circuit.{circuit_of}
+use Rattle.aig_format.specs.Numbering.{node_of_variable, variables_in_order}
+use Rattle.aig_certify.specs.Safety.{IsCircuitSafeAt}
+use Rattle.aig_certify.specs.declared.window.Window.TheVariants.{Plain, Distinct}
+use Rattle.aig_answers.specs.Answers.{AsksNothing, IsExactly, TellsOfRoom, window_size}
+use Rattle.aig_answers.specs.declared.error.AnswerError.TheVariants as errors
+
+-- ---- another step
+
+-- latch 1 toggles from false, and is bad where it is true
+abbrev toggle : Circuit
+toggle = record only_false {
+  nodes = record { node_id = 0; typ = False } ∷ record { node_id = 1; typ = Leaf } ∷ [];
+  latchs = record { input = 1; next = edge_to 1 true; init = Some (edge_to 0 false) } ∷ [];
+  properties = record no_properties { bads = edge_to 1 false ∷ [] };
+}
+
+toggle-safe_at_0 : IsCircuitSafeAt toggle 0
+unfolding tree_of node_value
+toggle-safe_at_0 s =
+    let latch : AigLatch = record { input = 0; next = edge_to 0 false; init = None } in
+    let start : false ≡ s.0 0 1 = s.1.start 0 latch (omega arith) in
+    let bad : s.0 0 1 || false ≡ true = s.1.bad in
+    let none : false ≡ true = rw (sym start) at bad in
+    false≢true none
+
+abbrev toggles : ℕ → ℕ → Bool
+toggles t n = (n == 1) && (t == 1)
+
+toggles-run : IsRun toggle 1 toggles
+unfolding tree_of node_value
+toggles-run zero low zero d here = refl
+toggles-run zero low (suc i) d here = absurd (omega arith)
+toggles-run (suc t) low i d here = absurd (omega arith)
+
+toggles-initial : IsInitial toggle (toggles 0)
+unfolding tree_of node_value
+toggles-initial zero d here = refl
+toggles-initial (suc i) d here = absurd (omega arith)
+
+-- so a proof for step 0 is none for step 1
+no_proof_of_another_step : ¬ IsCircuitSafeAt toggle 1
+unfolding tree_of node_value
+no_proof_of_another_step safe =
+    safe (
+      toggles,
+      record {
+        is_run = toggles-run;
+        start = toggles-initial;
+        constraints = λ t low i d here. absurd (omega arith);
+        bad = refl;
+      },
+    )
+
+-- ---- what is asked, and room
+
+-- two latches that keep what they have, of which these literals are bad
+abbrev two_latches : List ℕ → File
+two_latches bads = record {
+  kind = Text;
+  greatest = 2;
+  inputs = [];
+  latches =
+      record { literal = 2; next = 2; reset = None }
+      ∷ record { literal = 4; next = 4; reset = None } ∷ [];
+  properties = record no_properties { bads = bads };
+  gates = [];
+  names = [];
+}
+
+-- a window with k = 1 has three states, and so three pairs of them, of two latches
+two_latches-size : (bads : List ℕ)
+    → window_size Distinct (circuit_of (two_latches bads)) 1 ≡ 3 + 3 * 2
+unfolding node_of_variable variables_in_order
+two_latches-size bads = refl
+
+two_latches-plain : (bads : List ℕ) → window_size Plain (circuit_of (two_latches bads)) 1 ≡ 3
+unfolding node_of_variable variables_in_order
+two_latches-plain bads = refl
+
+-- a window is answered where the limit leaves room for one pair
+no_room_for_states : {T : Type 0} (answer : T) (bytes : List ℕ) (rest : Option (List ℕ))
+    → Accepts bytes 5 (two_latches (2 ∷ []))
+    → ¬ TellsOfRoom (λ (left : Option (List ℕ)). left) Distinct 5 1 (Ok answer) (Some bytes) rest
+no_room_for_states answer bytes rest accepts tells =
+    let bads : List ℕ = 2 ∷ [] in
+    let told = tells.exact.1 (
+      two_latches bads,
+      (
+        ((accepts, omega (arith, two_latches-plain bads)), λ none. cc),
+        omega (arith, two_latches-size bads),
+      ),
+    ) in
+    cc
+
+-- a file without bad literals is answered as safe
+no_bads_are_not_safe : (bytes : List ℕ) → Accepts bytes 5 (two_latches [])
+    → ¬ IsExactly {T = Unit {0}} (λ (left : Option (List ℕ)). left) errors.NoBads (AsksNothing 5 2)
+    (Ok tt) (Some bytes)
+no_bads_are_not_safe bytes accepts exact =
+    let told =
+    exact.1 (two_latches [], ((accepts, omega (arith, two_latches-plain [])), refl)) in
+    cc

@@ -1,0 +1,55 @@
+//! Which true literals need a reason.
+
+use aig_base::MemoryError;
+use std::alloc::Global;
+
+/// How many literals one word has.
+const BITS: usize = 64;
+
+/// A set of true literals, by where they stand in their order. The last one is the first to be
+/// found.
+#[derive(Drop)]
+pub(crate) struct Needed {
+    /// A bit for each literal.
+    words: Vec<u64>,
+    /// How many of the words may have a bit.
+    end: usize,
+}
+
+impl Needed {
+    /// No literals, of so many.
+    pub(crate) fn new(alloc: Global, count: usize) -> Result<Needed, MemoryError> {
+        let words = vec![in alloc; 0; count / BITS + 1]?;
+        Ok(Needed { words, end: 0 })
+    }
+
+    /// Says that literals will be added to an empty set of which so many are true.
+    pub(crate) fn start(&mut self, count: usize) {
+        self.end = count / BITS + 1;
+    }
+
+    /// Adds the literal that stands here.
+    pub(crate) fn add(&mut self, i: usize) {
+        if i / BITS < self.words.len() {
+            self.words[i / BITS] |= 1 << (i % BITS);
+        }
+    }
+
+    /// Removes the literal that stands here.
+    pub(crate) fn remove(&mut self, i: usize) {
+        if i / BITS < self.words.len() {
+            self.words[i / BITS] &= !(1 << (i % BITS));
+        }
+    }
+
+    /// Where the last literal stands, if there is one.
+    pub(crate) fn last(&mut self) -> Option<usize> {
+        for i in (0..self.end.min(self.words.len())).rev() {
+            if let Some(bit) = self.words[i].checked_ilog2() {
+                self.end = i + 1;
+                return Some(i.saturating_mul(BITS).saturating_add(bit as usize));
+            }
+        }
+        None
+    }
+}

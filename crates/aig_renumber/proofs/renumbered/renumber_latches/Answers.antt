@@ -1,0 +1,8 @@
+use Rattle.std.proofs.Common.{arith}
+use Rattle.std.proofs.lemmas.Grind.{common_steps}
+use Rattle.std.proofs.lemmas.List.Edits.{map_over_more}
+use Rattle.aig_circuit.specs.Renumber.{renumbered_latch}
+use Rattle.aig_renumber.proofs.renumbered.renumber_latches.Goals as goal
+
+pub loop-latch-preserved : goal.loop-latch-preserved
+loop-latch-preserved g c = grind (arith, common_steps, map_over_more (renumbered_latch (g.N.Numbering.number_of c.args.numbers.now)))

@@ -1,0 +1,78 @@
+-- The comments of a small query, computed; and wrong words and lines, of which the definitions are
+-- false.
+use Rattle.std.proofs.Common.{◌≡◌, ◌≢◌, ℕ, Bool, true, false, None, Some, Option, List, [], ◌∷◌, ◌++◌, length, refl, ap, arith}
+use Rattle.std.specs.Prelude.{codes, slice_get, slice_index, slice_index_or}
+use Rattle.std.specs.Fmt.{digits}
+use Rattle.aig_base.specs.Clauses.{lit_to}
+use Rattle.aig_circuit.specs.declared.node.AigNodeType.TheVariants.{False, Leaf}
+use Rattle.aig_circuit.specs.Circuit.{Circuit, only_false}
+use Rattle.aig_circuit.specs.Edge.{edge_to}
+use Rattle.aig_circuit.specs.Properties.{no_properties}
+use Rattle.aig_format.specs.File.{File}
+use Rattle.aigcheck.specs.declared.command.Command.TheVariants as commands
+use Rattle.aigcheck.specs.Comments.{comments_of, input_lines, literal_line}
+use Rattle.aigcheck.specs.Running.{Answers, shown_line, window_line}
+use Rattle.aigcheck.specs.Words.{Give}
+
+-- ---- words
+
+-- a witness, and a word more
+no_more_words : (file witness more : List ℕ)
+    → ¬ Give (codes "run" ∷ file ∷ witness ∷ more ∷ []) commands.Run
+no_more_words file witness more give =
+    let count : 4 ≡ 3 = ap length give.2 in omega (arith, count)
+
+-- a proof for a witness
+no_other_name : (file steps proof : List ℕ) (k : ℕ) (optimize : Bool)
+    → ¬ Give (codes "refuted" ∷ file ∷ steps ∷ proof ∷ []) (commands.Witness k optimize)
+no_other_name file steps proof k optimize give =
+    let letter = ap (λ (words : List (List ℕ)). slice_index (slice_index_or words 0 []) 0) give.3 in
+    omega (arith, letter)
+
+-- ---- comments
+
+-- Latch 1 keeps what it has, and is bad where it is false. With one step more input 2 is node 3.
+abbrev held : Circuit
+held = record only_false {
+  nodes =
+      record { node_id = 0; typ = False } ∷ record { node_id = 1; typ = Leaf }
+      ∷ record { node_id = 2; typ = Leaf } ∷ [];
+  inputs = 2 ∷ [];
+  latchs = record { input = 1; next = edge_to 1 false; init = None } ∷ [];
+  properties = record no_properties { bads = edge_to 1 true ∷ [] };
+}
+
+abbrev held_once : Circuit
+held_once = record held {
+  nodes =
+      record { node_id = 0; typ = False } ∷ record { node_id = 1; typ = Leaf }
+      ∷ record { node_id = 2; typ = Leaf } ∷ record { node_id = 3; typ = Leaf } ∷ [];
+  inputs = 2 ∷ 3 ∷ [];
+  properties = record no_properties { bads = edge_to 1 true ∷ edge_to 1 true ∷ [] };
+}
+
+held-comments : comments_of held held_once 1
+    ≡ codes "c i0 at step 0 is 3\nc i0 at step 1 is 4\n"
+    ++ codes "c l0 at step 0 is 2\nc b0 at step 1 is -2\n"
+unfolding comments_of input_lines literal_line digits
+held-comments = refl
+
+-- an input is named inverted
+no_inverted_input : literal_line (codes "c i") 0 1 (lit_to 3 true) ≢ codes "c i0 at step 1 is -4\n"
+unfolding literal_line digits
+no_inverted_input same = let sign = ap (λ text. slice_get text 18) same in cc
+
+-- ---- lines
+
+-- the step as the bad state's number
+no_step_as_number : shown_line 3 5 ≢ codes "b5 at step 5\n"
+unfolding digits
+no_step_as_number same =
+    let number : 51 ≡ 53 = ap (λ text. slice_index text 1) same in omega (arith, number)
+
+-- a proof for one step is told as one for each
+no_window_told : (optimize : Bool) (given : Option (List ℕ)) (f : File)
+    → ¬ Answers (commands.Refuted 1 optimize) given f (window_line 1)
+unfolding digits
+no_window_told optimize given f answers =
+    let word : 97 ≡ 115 = ap (λ text. slice_index text 16) answers.0 in omega (arith, word)
