@@ -16,7 +16,7 @@ mod setters;
 
 use aig_base::MemoryError;
 use aig_circuit::{
-    AigEdge, AigLatch, AigNode, AndsIter, CircuitLists, CircuitView, Properties, build, checks,
+    AigEdge, AigLatch, AigNode, AndsIter, CircuitLists, CircuitView, Properties, checks,
     false_node, gates_among, leaves,
 };
 use std::alloc::{AllocError, Global};
@@ -118,7 +118,7 @@ impl Aig {
             (self.new ≡ record self.old { nodes = with_node self.old.nodes Leaf }) }
         ensures err { OnErr result (self.new ≡ self.old) }
     {
-        build::new_leaf_node(&mut self.lists.nodes)
+        aig_build::new_leaf_node(&mut self.lists.nodes)
     }
 
     /// Adds a leaf that is the last input, and returns its number.
@@ -133,7 +133,7 @@ impl Aig {
         ensures err { OnErr result (self.new ≡ self.old) }
     {
         self.lists.inputs.reserve(1)?;
-        let id = build::new_leaf_node(&mut self.lists.nodes)?;
+        let id = aig_build::new_leaf_node(&mut self.lists.nodes)?;
         self.lists.inputs.push(id)?;
         Ok(id)
     }
@@ -182,7 +182,7 @@ impl Aig {
         ensures err { OnErr result (self.new ≡ self.old) }
     {
         self.lists.latchs.reserve(1)?;
-        let id = build::new_leaf_node(&mut self.lists.nodes)?;
+        let id = aig_build::new_leaf_node(&mut self.lists.nodes)?;
         self.lists.latchs.push(AigLatch::new(id, next, init))?;
         Ok(id)
     }

@@ -11,7 +11,7 @@ use crate::append::{self, After};
 use crate::inits::{constrain_starts, make_plain};
 use crate::joining::{inverses, join_first};
 use aig_base::MemoryError;
-use aig_circuit::build::{new_and_node, new_ands_node, new_leaf_node};
+use aig_build::{new_and_node, new_ands_node, new_leaf_node};
 use aig_circuit::inits::are_inits_constant;
 use aig_circuit::{AigEdge, AigLatch, CircuitLists, CircuitView};
 use std::mem;

@@ -9,7 +9,7 @@ ghost use Rattle.aig_change.specs.Changes.{with_constant_start};
 ghost use Rattle.aig_change.specs.Inits.{Constrains};
 
 use aig_base::MemoryError;
-use aig_circuit::build::{new_eq_node, new_leaf_node, new_or_node};
+use aig_build::{new_eq_node, new_leaf_node, new_or_node};
 use aig_circuit::{AigEdge, AigLatch, AigNode};
 
 /// The latch without its initial edge where that isn't constant.

@@ -7,7 +7,7 @@ ghost use Rattle.aig_circuit.specs.Circuit.{AreNodes, IsInRange};
 ghost use Rattle.aig_change.specs.Joining.{JoinsFirst};
 
 use aig_base::MemoryError;
-use aig_circuit::build::new_and_node;
+use aig_build::new_and_node;
 use aig_circuit::{AigEdge, AigNode};
 use std::alloc::Global;
 

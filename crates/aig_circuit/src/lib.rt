@@ -2,7 +2,6 @@
 #![tactic(auto)]
 
 mod ands;
-pub mod build;
 pub mod checks;
 mod edge;
 pub mod inits;

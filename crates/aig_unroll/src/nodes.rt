@@ -7,7 +7,7 @@ ghost use Rattle.aig_circuit.specs.Circuit.{AreNodes, IsInRange, latch_leaves};
 ghost use Rattle.aig_unroll.specs.Step.{Copies, CopiesAll, CopiesBelow, HasLatchImages, MarksLatches, image_at, image_in};
 
 use aig_base::MemoryError;
-use aig_circuit::build::{new_and_node, new_leaf_node};
+use aig_build::{new_and_node, new_leaf_node};
 use aig_circuit::{AigEdge, AigLatch, AigNode, AigNodeType, CircuitView};
 
 /// The image of an edge, where `images` has that of its node.

@@ -47,7 +47,7 @@ fn add_nodes_and_reserve(
 /// Adds one step of the circuit `from` to the circuit of `lists`, in place (crate aig, `unroll`).
 ///
 /// A latch's leaf has in the new step the value of the latch's present next edge. Every other leaf becomes a new leaf
-/// that is an input, in rising number, and each gate is rebuilt by `build::new_and_node`. Then each next edge becomes the
+/// that is an input, in rising number, and each gate is rebuilt by `aig_build::new_and_node`. Then each next edge becomes the
 /// image of the next edge in `from`, and to each property list the image of each entry of `from` is appended, to justice
 /// a set for each set. Initial edges, names, latch leaves, old inputs and old entries stay. Takes time linear in `from`.
 ///

@@ -10,7 +10,7 @@ ghost use Rattle.aig.specs.Items.{ForItems, TakesItems};
 
 use super::Aig;
 use aig_base::MemoryError;
-use aig_circuit::{AigEdge, build};
+use aig_circuit::AigEdge;
 use std::alloc::Global;
 
 impl Aig {
@@ -40,7 +40,7 @@ impl Aig {
         ensures gates { AddsOnlyGates self.old self.new }
         ensures err { OnErr result (self.new ≡ self.old) }
     {
-        build::trivial_new_and_node(&mut self.lists.nodes, fanin0, fanin1)
+        aig_build::trivial_new_and_node(&mut self.lists.nodes, fanin0, fanin1)
     }
 
     /// Returns an edge that is the and of two edges, and adds at most one gate.
@@ -82,7 +82,7 @@ impl Aig {
         ensures gates { AddsOnlyGates self.old self.new }
         ensures err { OnErr result (self.new ≡ self.old) }
     {
-        build::new_and_node(&mut self.lists.nodes, fanin0, fanin1)
+        aig_build::new_and_node(&mut self.lists.nodes, fanin0, fanin1)
     }
 
     /// Adds a gate for the or of two edges, and returns the edge that is the or.
@@ -112,7 +112,7 @@ impl Aig {
         ensures gates { AddsOnlyGates self.old self.new }
         ensures err { OnErr result (self.new ≡ self.old) }
     {
-        build::trivial_new_or_node(&mut self.lists.nodes, fanin0, fanin1)
+        aig_build::trivial_new_or_node(&mut self.lists.nodes, fanin0, fanin1)
     }
 
     /// Returns an edge that is the or of two edges, and adds at most one gate.
@@ -139,7 +139,7 @@ impl Aig {
         ensures gates { AddsOnlyGates self.old self.new }
         ensures err { OnErr result (self.new ≡ self.old) }
     {
-        build::new_or_node(&mut self.lists.nodes, fanin0, fanin1)
+        aig_build::new_or_node(&mut self.lists.nodes, fanin0, fanin1)
     }
 
     /// Returns an edge that is true where the first edge implies the second, and adds at most one gate.
@@ -170,7 +170,7 @@ impl Aig {
         ensures gates { AddsOnlyGates self.old self.new }
         ensures err { OnErr result (self.new ≡ self.old) }
     {
-        build::new_imply_node(&mut self.lists.nodes, fanin0, fanin1)
+        aig_build::new_imply_node(&mut self.lists.nodes, fanin0, fanin1)
     }
 
     /// Returns an edge that is true where two edges have one value, and adds at most three gates.
@@ -197,7 +197,7 @@ impl Aig {
         ensures gates { AddsOnlyGates self.old self.new }
         ensures err { OnErr result (self.new ≡ self.old) }
     {
-        build::new_eq_node(&mut self.lists.nodes, fanin0, fanin1)
+        aig_build::new_eq_node(&mut self.lists.nodes, fanin0, fanin1)
     }
 
     /// Returns an edge that is the and of all edges that `fanin` gives, joined from the left, and adds one gate for
@@ -231,7 +231,7 @@ impl Aig {
         ensures err { OnErr result (self.new ≡ self.old) }
     {
         let edges = collect_edges(self.allocator(), fanin)?;
-        build::trivial_new_ands_node(&mut self.lists.nodes, &edges)
+        aig_build::trivial_new_ands_node(&mut self.lists.nodes, &edges)
     }
 
     /// Returns an edge that is the and of all edges that `fanin` gives, joined from the left by `new_and_node`.
@@ -263,7 +263,7 @@ impl Aig {
         ensures err { OnErr result (self.new ≡ self.old) }
     {
         let edges = collect_edges(self.allocator(), fanin)?;
-        build::new_ands_node(&mut self.lists.nodes, &edges)
+        aig_build::new_ands_node(&mut self.lists.nodes, &edges)
     }
 
     /// Returns an edge that is the or of all edges that `fanin` gives, joined from the left, and adds one gate for each
@@ -298,7 +298,7 @@ impl Aig {
         ensures err { OnErr result (self.new ≡ self.old) }
     {
         let edges = collect_edges(self.allocator(), fanin)?;
-        build::trivial_new_ors_node(&mut self.lists.nodes, &edges)
+        aig_build::trivial_new_ors_node(&mut self.lists.nodes, &edges)
     }
 
     /// Returns an edge that is the or of all edges that `fanin` gives, joined from the left.
@@ -331,7 +331,7 @@ impl Aig {
         ensures err { OnErr result (self.new ≡ self.old) }
     {
         let edges = collect_edges(self.allocator(), fanin)?;
-        build::new_ors_node(&mut self.lists.nodes, &edges)
+        aig_build::new_ors_node(&mut self.lists.nodes, &edges)
     }
 }
 

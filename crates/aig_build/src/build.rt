@@ -11,9 +11,8 @@ ghost use Rattle.aig_circuit.specs.Build.{with_node, AddsGate, AddsGates, AddsGa
 ghost use Rattle.aig_circuit.specs.Circuit.{AreNodes, IsInRange};
 ghost use Rattle.aig_circuit.specs.Tree.{edge_value};
 
-use crate::edge::AigEdge;
-use crate::node::{AigNode, gate_node, leaf_node};
 use aig_base::MemoryError;
+use aig_circuit::{AigEdge, AigNode, gate_node, leaf_node};
 use std::alloc::Global;
 
 /// Adds a leaf, and returns its number (crate aig, `new_leaf_node`).

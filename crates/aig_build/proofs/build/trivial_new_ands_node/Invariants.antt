@@ -1,7 +1,7 @@
 use Rattle.std.proofs.Common.{◌≡◌, ◌+◌, ◌∷◌, length, take}
 use Rattle.aig_circuit.specs.Build.{AddsGate, JoinsFromLeft}
 use Rattle.aig_circuit.proofs.Joining.{AndSoFar}
-use Rattle.aig_circuit.proofs.build.trivial_new_ands_node.Given as goal
+use Rattle.aig_build.proofs.build.trivial_new_ands_node.Given as goal
 
 abbrev pub invariant-loop-fanin : goal.invariant-loop-fanin
 invariant-loop-fanin l = record {

@@ -3,7 +3,7 @@ use Rattle.std.proofs.lemmas.Grind.{common_steps}
 use Rattle.aig_circuit.specs.declared.node.AigNodeType.TheVariants.{Leaf}
 use Rattle.aig_circuit.specs.Build.{with_node, Grows}
 use Rattle.aig_circuit.proofs.Building.{Grows-leaf}
-use Rattle.aig_circuit.proofs.build.new_leaf_node.Goals as goal
+use Rattle.aig_build.proofs.build.new_leaf_node.Goals as goal
 
 pub returns-clause-grows : goal.returns-clause-grows
 returns-clause-grows c =

@@ -2,7 +2,7 @@ use Rattle.std.proofs.Common.{subst, sym, arith}
 use Rattle.std.proofs.lemmas.Grind.{common_steps}
 use Rattle.aig_circuit.specs.Build.{AddsGate, AddsGates}
 use Rattle.aig_circuit.proofs.Building.{value-AddsGate, AddsGates-with_node}
-use Rattle.aig_circuit.proofs.build.trivial_new_and_node.Goals as goal
+use Rattle.aig_build.proofs.build.trivial_new_and_node.Goals as goal
 
 pub returns-clause-value : goal.returns-clause-value
 returns-clause-value c =

@@ -5,7 +5,7 @@ use Rattle.aig_circuit.specs.Tree.{edge_value}
 use Rattle.aig_circuit.specs.Build.{FoldsOrAdds}
 use Rattle.aig_circuit.proofs.Building.{AddsGates-then}
 use Rattle.aig_circuit.proofs.Joining.{value-both_or_neither}
-use Rattle.aig_circuit.proofs.build.both_or_neither.Goals as goal
+use Rattle.aig_build.proofs.build.both_or_neither.Goals as goal
 
 pub returns-clause-value : goal.returns-clause-value
 returns-clause-value c =

@@ -2,7 +2,7 @@ use Rattle.std.proofs.Common.{◌≡◌, ap, ◌∙◌}
 use Rattle.std.proofs.lemmas.Bool.{false≢true}
 use Rattle.aig_circuit.specs.Edge.{inverse}
 use Rattle.aig_circuit.proofs.Joining.{inverse_twice}
-use Rattle.aig_circuit.proofs.build.new_or_node.Goals as goal
+use Rattle.aig_build.proofs.build.new_or_node.Goals as goal
 
 pub returns-in_err-new_and_node-clause-folds : goal.returns-in_err-new_and_node-clause-folds
 returns-in_err-new_and_node-clause-folds c = λ f h. absurd (false≢true (c.in_err-new_and_node.ensures.folds f (rw (c.not.ensures, c.not-2.ensures) h)))

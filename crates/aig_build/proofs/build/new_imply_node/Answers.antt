@@ -4,7 +4,7 @@ use Rattle.aig_circuit.specs.declared.edge.AigEdge.{AigEdge}
 use Rattle.aig_circuit.specs.Edge.{inverse}
 use Rattle.aig_circuit.specs.Build.{Folds, FoldsOrAdds}
 use Rattle.aig_circuit.proofs.Joining.{inverse_twice}
-use Rattle.aig_circuit.proofs.build.new_imply_node.Goals as goal
+use Rattle.aig_build.proofs.build.new_imply_node.Goals as goal
 
 pub returns-clause-rule : goal.returns-clause-rule
 returns-clause-rule c =

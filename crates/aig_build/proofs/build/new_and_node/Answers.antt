@@ -2,7 +2,7 @@ use Rattle.std.proofs.Common.{arith}
 use Rattle.std.proofs.lemmas.Grind.{common_steps}
 use Rattle.aig_circuit.specs.Build.{Folds}
 use Rattle.aig_circuit.proofs.Building.{value-Folds}
-use Rattle.aig_circuit.proofs.build.new_and_node.Goals as goal
+use Rattle.aig_build.proofs.build.new_and_node.Goals as goal
 
 pub returns-then-eq-clause-value : goal.returns-then-eq-clause-value
 returns-then-eq-clause-value c =

@@ -8,7 +8,7 @@ use Rattle.aig_circuit.specs.Circuit.{IsInRange}
 use Rattle.aig_circuit.specs.Build.{AddsGate, AddsGates}
 use Rattle.aig_circuit.proofs.Building.{AddsGates-itself, Grows-longer, take-Grows}
 use Rattle.aig_circuit.proofs.Joining.{AndSoFar-one, AndSoFar-push, JoinsByAnd-none, joins_from_left_push}
-use Rattle.aig_circuit.proofs.build.trivial_new_ands_node.Goals as goal
+use Rattle.aig_build.proofs.build.trivial_new_ands_node.Goals as goal
 
 pub returns-in_default-clause-joins : goal.returns-in_default-clause-joins
 returns-in_default-clause-joins c =

@@ -6,7 +6,7 @@ use Rattle.aig_circuit.specs.Edge.{edge_to}
 use Rattle.aig_circuit.specs.Build.{AddsGates, FoldsOrAdds}
 use Rattle.aig_circuit.proofs.Building.{AddsGates-itself, take-Grows}
 use Rattle.aig_circuit.proofs.Joining.{AndSoFar-none, AndSoFar-push, joins_from_left_push, adds_none-true}
-use Rattle.aig_circuit.proofs.build.new_ands_node.Goals as goal
+use Rattle.aig_build.proofs.build.new_ands_node.Goals as goal
 
 pub loop-fanin-init : goal.loop-fanin-init
 loop-fanin-init c = record {

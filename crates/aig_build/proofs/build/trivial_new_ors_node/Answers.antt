@@ -3,7 +3,7 @@ use Rattle.std.proofs.lemmas.List.{length-map}
 use Rattle.aig_circuit.specs.Edge.{inverse}
 use Rattle.aig_circuit.specs.Build.{JoinsByAnd}
 use Rattle.aig_circuit.proofs.Joining.{All-inverse, JoinsByOr-inverse}
-use Rattle.aig_circuit.proofs.build.trivial_new_ors_node.Goals as goal
+use Rattle.aig_build.proofs.build.trivial_new_ors_node.Goals as goal
 
 pub trivial_new_ands_node-requires-clause-edges : goal.trivial_new_ands_node-requires-clause-edges
 trivial_new_ands_node-requires-clause-edges c = rw (c.deref.ensures.value, c.in_ok-inverses.ensures) (All-inverse c.args.nodes.now.items c.args.fanins.now c.requires.edges)
