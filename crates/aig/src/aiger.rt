@@ -9,7 +9,7 @@ ghost use Rattle.aig_format.specs.File.{File};
 ghost use Rattle.aig_format.specs.Fits.{Accepts};
 ghost use Rattle.aig_reader.specs.Reading.{IsReadAs, ReadsExactly, UnlessTransient};
 ghost use Rattle.aig_writer.specs.Numbering.{IsBinaryNumbering};
-ghost use Rattle.aig_writer.specs.Sinks.{AppendsBeginning, WritesOrStops};
+ghost use Rattle.aig_output.specs.Sinks.{AppendsBeginning, WritesOrStops};
 ghost use Rattle.aig_circuit.specs.Circuit.{IsClosed};
 ghost use Rattle.aig_format.specs.Writable.{IsWritable};
 ghost use Rattle.aig.specs.Reading.{IsFileCircuit};

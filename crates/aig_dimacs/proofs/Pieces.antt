@@ -6,7 +6,7 @@ use Rattle.std.proofs.lemmas.List.Concat.{flat_map-append, length-flat_map}
 use Rattle.std.proofs.lemmas.List.Elements.{All-append, All-from_recursion, All-tail}
 use Rattle.aig_base.specs.declared.logic.literal.Lit.{Lit}
 use Rattle.aig_base.specs.Clauses.{AreBelow, AreRelations, variable_of}
-use Rattle.aig_writer.proofs.Writing.{then_texts}
+use Rattle.aig_output.proofs.Writing.{then_texts}
 use Rattle.aig_base.specs.Formula.{clauses_in}
 use Rattle.aig_dimacs.specs.Text.{IsFormula, clause_line}
 

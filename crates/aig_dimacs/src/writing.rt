@@ -5,10 +5,10 @@ ghost use Rattle.std.specs.List.{flat_map};
 ghost use Rattle.aig_base.specs.Clauses.{AreBelow};
 ghost use Rattle.aig_base.specs.Formula.{clauses_in};
 ghost use Rattle.aig_dimacs.specs.Text.{IsFormula, clause_line, dimacs_of, header_line, literal_text, sign_of};
-ghost use Rattle.aig_writer.specs.Sinks.{BuffersOrStops, WritesOrStops};
+ghost use Rattle.aig_output.specs.Sinks.{BuffersOrStops, WritesOrStops};
 
 use aig_base::{DagCnf, Lit, LitVvec, Sink, StreamFault, Var};
-use aig_writer::OutputBuffer;
+use aig_output::OutputBuffer;
 
 /// Writes the header line.
 fn write_header<W: Sink>(

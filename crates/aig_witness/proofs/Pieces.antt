@@ -6,7 +6,7 @@ use Rattle.std.specs.declared.alloc.Global.{Global}
 use Rattle.std.proofs.lemmas.List.Concat.{flat_map_single}
 use Rattle.std.proofs.lemmas.List.Folds.{flat_map-map}
 use Rattle.aig_base.specs.declared.logic.three.Lbool.{Lbool}
-use Rattle.aig_writer.proofs.Writing.{then_texts}
+use Rattle.aig_output.proofs.Writing.{then_texts}
 use Rattle.aig_witness.specs.Witness.{Witness, letter_of, row_text, rows_of, witness_text}
 
 abbrev pub value_text : Lbool → List ℕ

@@ -3,11 +3,11 @@
 ghost use Rattle.std.specs.Prelude.{◌++◌, ◌∷◌, [], codes, decimal, map};
 ghost use Rattle.std.specs.List.{flat_map};
 ghost use Rattle.aig_witness.specs.Witness.{letter_of, row_text, rows_of, said_by, witness_text};
-ghost use Rattle.aig_writer.specs.Sinks.{BuffersOrStops, WritesOrStops};
+ghost use Rattle.aig_output.specs.Sinks.{BuffersOrStops, WritesOrStops};
 
 use crate::witness::Witness;
 use aig_base::{Lbool, Sink, StreamFault};
-use aig_writer::OutputBuffer;
+use aig_output::OutputBuffer;
 
 /// Writes the letter of a value.
 fn write_value<W: Sink>(

@@ -4,7 +4,7 @@ use Rattle.std.specs.List.{flat_map}
 use Rattle.aig_circuit.specs.Properties.{Properties}
 use Rattle.aig_format.specs.File.{File}
 use Rattle.aig_format.specs.Written.{gate_text, header_line_of, inputs_text, latch_text, lines_text, name_text, properties_text, file_text}
-use Rattle.aig_writer.proofs.Writing.{then_texts}
+use Rattle.aig_output.proofs.Writing.{then_texts}
 
 -- the lists of properties
 abbrev pub property_texts : Properties ℕ → List (List ℕ)

@@ -5,21 +5,20 @@ ghost use Rattle.aig_circuit.specs.Circuit.{IsCircuit, IsClosed};
 ghost use Rattle.aig_format.specs.declared.FileKind.TheVariants.{Text};
 ghost use Rattle.aig_format.specs.Written.{file_text, properties_text};
 ghost use Rattle.aig_format.specs.Circuit.{binary_of, text_of};
+ghost use Rattle.aig_output.specs.Sinks.{WritesOrStops};
+ghost use Rattle.aig_output.specs.Writing.{WritesPieces};
 ghost use Rattle.aig_writer.specs.Literals.{HasSmallNumbers, HasLiteral};
 ghost use Rattle.aig_writer.specs.Numbering.{FitsBinary, IsBinaryNumbering, written_number, numbered_file};
-ghost use Rattle.aig_writer.specs.Sinks.{WritesOrStops};
-ghost use Rattle.aig_writer.specs.Writing.{WritesPieces};
 
 use crate::header::write_header;
 use crate::names::write_names;
-use crate::out::TextOut;
 use crate::sections::{
     write_edges, write_gates, write_inputs, write_latches, write_set_sizes, write_sets,
 };
-use crate::sink::BufferedSink;
 use aig_base::{Sink, StreamFault};
 use aig_circuit::CircuitView;
 use aig_format::FileKind;
+use aig_output::{BufferedSink, TextOut};
 
 /// Writes the outputs and the properties.
 fn write_properties<O: TextOut>(

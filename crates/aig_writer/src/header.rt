@@ -6,12 +6,12 @@ ghost use Rattle.aig_format.specs.File.{header_of};
 ghost use Rattle.aig_format.specs.Spells.{magic, numbers_in};
 ghost use Rattle.aig_format.specs.Written.{shortened, header_line_of};
 ghost use Rattle.aig_format.specs.Circuit.{file_of, gate_line};
-ghost use Rattle.aig_writer.specs.Writing.{WritesPieces};
+ghost use Rattle.aig_output.specs.Writing.{WritesPieces};
 
 use crate::line::write_line;
-use crate::out::TextOut;
 use aig_circuit::{AigNode, CircuitView};
 use aig_format::FileKind;
+use aig_output::TextOut;
 
 /// How many numbers a header has at least: M I L O A.
 const FEWEST_NUMBERS: usize = 5;

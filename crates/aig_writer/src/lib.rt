@@ -1,7 +1,6 @@
 //! The AIGER forms of a circuit, written to any sink, and its text form, written to a formatter.
 #![tactic(auto)]
 
-mod buffer;
 mod display;
 mod form;
 mod header;
@@ -9,12 +8,8 @@ mod line;
 mod literal;
 mod names;
 mod numbering;
-mod out;
-mod put;
 mod sections;
-mod sink;
 
-pub use buffer::OutputBuffer;
 pub use display::fmt_text;
 pub use form::{write_binary, write_text};
 pub use numbering::binary_numbers;

@@ -2,10 +2,9 @@
 
 ghost use Rattle.std.specs.Prelude.{◌≡◌, ◌+◌, ◌^◌, ◌++◌, ◌<◌, ◌≤◌, length, take};
 ghost use Rattle.aig_format.specs.Written.{delta_of, line_text};
-ghost use Rattle.aig_writer.specs.Writing.{WritesPieces};
+ghost use Rattle.aig_output.specs.Writing.{WritesPieces};
 
-use crate::buffer::SHORT;
-use crate::out::TextOut;
+use aig_output::{SHORT_PIECE, TextOut};
 use itoa::write_digits;
 
 /// Room for the longest line, of nine numbers with a byte after each.
@@ -17,7 +16,7 @@ pub(crate) fn write_line<O: TextOut>(out: &mut O, numbers: &[usize]) -> Result<(
     requires few { length numbers.now ≤ 9 }
     ensures { WritesPieces O.wrote O.stopped out.old result (line_text numbers.now) out.new }
 {
-    let mut text = [b' '; LINE + SHORT];
+    let mut text = [b' '; LINE + SHORT_PIECE];
     text[LINE - 1] = b'\n';
     let mut start = LINE;
     for n in numbers.iter().rev() {
@@ -56,7 +55,7 @@ pub(crate) fn write_differences<O: TextOut>(
     ensures { let text = delta_of first ++ delta_of second in
         WritesPieces O.wrote O.stopped out.old result text out.new }
 {
-    let mut groups = [0; SHORT];
+    let mut groups = [0; SHORT_PIECE];
     let middle = put_difference(&mut groups, 0, first);
     let end = put_difference(&mut groups, middle, second);
     out.write_front(&groups, end)

@@ -7,12 +7,12 @@ ghost use Rattle.aig_circuit.specs.Circuit.{latch_leaves};
 ghost use Rattle.aig_format.specs.Written.{name_text};
 ghost use Rattle.aig_format.specs.declared.FileKind.TheVariants.{Text};
 ghost use Rattle.aig_format.specs.Circuit.{file_of, name_lines};
-ghost use Rattle.aig_writer.specs.Writing.{WritesPieces};
+ghost use Rattle.aig_output.specs.Writing.{WritesPieces};
 ghost use Rattle.aig_circuit.specs.View.{names_of};
 ghost use Rattle.aig_writer.specs.Parts.{text_of_name};
 
-use crate::out::TextOut;
 use aig_circuit::{AigLatch, CircuitView};
+use aig_output::TextOut;
 use itoa::Buffer;
 use std::collections::HashMap;
 

@@ -6,7 +6,7 @@ ghost use Rattle.aig_circuit.specs.Edge.{literal_of};
 ghost use Rattle.aig_circuit.specs.Renumber.{renumbered_edge, renumbered_latch};
 ghost use Rattle.aig_format.specs.Written.{gate_text, inputs_text, latch_text, lines_text};
 ghost use Rattle.aig_format.specs.Circuit.{latch_line, gate_line};
-ghost use Rattle.aig_writer.specs.Writing.{WritesPieces};
+ghost use Rattle.aig_output.specs.Writing.{WritesPieces};
 ghost use Rattle.aig_writer.specs.Parts.{edges_of_sets};
 ghost use Rattle.aig_writer.specs.Numbering.{written_number, renumbered_node};
 ghost use Rattle.aig_writer.specs.Literals.{HasLiteral, IsSmallEdge, IsSmallLatch, IsSmallNode, FallsBelow};
@@ -14,9 +14,9 @@ ghost use Rattle.aig_writer.specs.Literals.{HasLiteral, IsSmallEdge, IsSmallLatc
 use crate::line::{write_differences, write_line};
 use crate::literal::{literal, reset_literal};
 use crate::numbering::Written;
-use crate::out::TextOut;
 use aig_circuit::{AigEdge, AigLatch, AigNode, AigNodeType, gate_node};
 use aig_format::FileKind;
+use aig_output::TextOut;
 use aig_renumber::{Numbering, renumbered_edge, renumbered_latch};
 
 /// Writes a line for each input, its literal.

@@ -10,7 +10,7 @@ use Rattle.aig_dimacs.specs.Text.{dimacs_of}
 use Rattle.aig_format.specs.Circuit.{circuit_of}
 use Rattle.aig_format.specs.File.{File}
 use Rattle.aig_runs.specs.Queries.{IsSafeTo}
-use Rattle.aig_writer.specs.Sinks.{AppendsBeginning}
+use Rattle.aig_output.specs.Sinks.{AppendsBeginning}
 use Rattle.aig_certify.specs.declared.window.Window.{Window}
 use Rattle.aig_certify.specs.Induction.{IsKInductive}
 use Rattle.aig_certify.specs.Safety.{IsSafeAt}

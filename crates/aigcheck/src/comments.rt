@@ -7,15 +7,15 @@ ghost use Rattle.aig_dimacs.specs.Text.{sign_of};
 ghost use Rattle.aig_solutions.specs.Turns.{HasStep};
 ghost use Rattle.aig_unroll.specs.Places.{place_at};
 ghost use Rattle.aig_unroll.specs.Unroll.{UnrollsTo};
-ghost use Rattle.aig_writer.specs.Sinks.{BuffersOrStops, WritesOrStops};
+ghost use Rattle.aig_output.specs.Sinks.{BuffersOrStops, WritesOrStops};
 ghost use Rattle.aigcheck.specs.Comments.{bad_line, comments_of, input_lines, latch_comment, literal_line};
 
 use crate::line::buffer_named;
 use aig::{AigEdge, AigLatch};
 use aig_base::{Lit, Sink, StreamFault, Var};
 use aig_encode::Query;
+use aig_output::OutputBuffer;
 use aig_solutions::Places;
-use aig_writer::OutputBuffer;
 
 /// The sign of a literal.
 fn sign(lit: Lit) -> &'static [u8]

@@ -1,11 +1,11 @@
 //! What stands in a line about an input, a latch or a bad state property.
 
 ghost use Rattle.std.specs.Prelude.{◌++◌};
-ghost use Rattle.aig_writer.specs.Sinks.{BuffersOrStops};
+ghost use Rattle.aig_output.specs.Sinks.{BuffersOrStops};
 ghost use Rattle.aigcheck.specs.Comments.{named_text};
 
 use aig_base::{Sink, StreamFault};
-use aig_writer::OutputBuffer;
+use aig_output::OutputBuffer;
 
 /// Buffers a letter and a number, as `b0`, a step, and the byte `end` after it.
 pub(crate) fn buffer_named<W: Sink>(

@@ -7,7 +7,7 @@ ghost use Rattle.aig_base.specs.Clauses.{AreBelow};
 ghost use Rattle.aig_encode.specs.declared.error.EncodeError.TheVariants as encode;
 ghost use Rattle.aig_encode.specs.Encoding.{IsQuery};
 ghost use Rattle.aig_reader.specs.Reading.{IsReadAs};
-ghost use Rattle.aig_writer.specs.Sinks.{BuffersOrStops, WritesOrStops};
+ghost use Rattle.aig_output.specs.Sinks.{BuffersOrStops, WritesOrStops};
 ghost use Rattle.aigcheck.specs.Running.{Runs, shown_line};
 ghost use Rattle.aigcheck.specs.declared.tool.CheckError.TheVariants as errors;
 
@@ -19,10 +19,10 @@ use aig_base::{MemoryError, Sink, Source, StreamFault};
 use aig_certify::inductive_windows_are_safe;
 use aig_dimacs::write_dimacs;
 use aig_encode::{Query, query};
+use aig_output::OutputBuffer;
 use aig_solutions::{CheckedWitnessError, Places, SolutionError, checked_witness};
 use aig_witness::write_witness;
 use aig_witness_check::{ShowError, Shown, check_witness, known_witnesses_show};
-use aig_writer::OutputBuffer;
 use std::alloc::Global;
 use thiserror::Error;
 

@@ -5,7 +5,7 @@ use Rattle.std.specs.Io.KnownBytes.{Appends, IsAtEnd}
 use Rattle.aig_format.specs.File.{File}
 use Rattle.aig_reader.specs.declared.error.ReadError.{ReadError}
 use Rattle.aig_reader.specs.declared.error.ReadError.TheVariants as read
-use Rattle.aig_writer.specs.Sinks.{AppendsBeginning}
+use Rattle.aig_output.specs.Sinks.{AppendsBeginning}
 use Rattle.aig.specs.declared.aiger.WriteError.{WriteError}
 use Rattle.aig.specs.declared.aiger.WriteError.TheVariants as write
 use Rattle.aig_encode.specs.declared.error.EncodeError.{EncodeError}

@@ -1,5 +1,5 @@
 use Rattle.std.proofs.Common.{[], ◌∷◌, rules}
-use Rattle.aig_writer.proofs.Putting.{Buffers-end, Buffers-turn, failed_within, then_call}
+use Rattle.aig_output.proofs.Putting.{Buffers-end, Buffers-turn, failed_within, then_call}
 use Rattle.aig_dimacs.specs.Text.{clause_line, literal_text}
 use Rattle.aig_dimacs.proofs.writing.write_clause.Goals as goal
 

@@ -1,6 +1,6 @@
 use Rattle.std.proofs.Common.{take}
 use Rattle.std.specs.List.{flat_map}
-use Rattle.aig_writer.specs.Sinks.{Buffers}
+use Rattle.aig_output.specs.Sinks.{Buffers}
 use Rattle.aig_dimacs.specs.Text.{literal_text}
 use Rattle.aig_dimacs.proofs.writing.write_clause.Given as goal
 

@@ -1,5 +1,5 @@
 use Rattle.std.proofs.Common.{rules}
-use Rattle.aig_writer.proofs.Putting.{failed_put, written_through}
+use Rattle.aig_output.proofs.Putting.{failed_put, written_through}
 use Rattle.aig_dimacs.specs.Text.{dimacs_of}
 use Rattle.aig_dimacs.proofs.writing.write_dimacs.Goals as goal
 

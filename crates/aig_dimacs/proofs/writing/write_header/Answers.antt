@@ -1,5 +1,5 @@
 use Rattle.std.proofs.Common.{[], ◌∷◌, ◌++◌, decimal, rules}
-use Rattle.aig_writer.proofs.Putting.{Buffers-trans, failed_among, failed_first, then_call}
+use Rattle.aig_output.proofs.Putting.{Buffers-trans, failed_among, failed_first, then_call}
 use Rattle.aig_dimacs.proofs.writing.write_header.Goals as goal
 
 pub returns-in_err-write_bytes : goal.returns-in_err-write_bytes

@@ -1,6 +1,6 @@
 use Rattle.std.proofs.Common.{[], ◌∷◌, ◌++◌, ◌+◌, decimal, rules}
 use Rattle.aig_base.specs.Clauses.{variable_of}
-use Rattle.aig_writer.proofs.Putting.{failed_first, then_call}
+use Rattle.aig_output.proofs.Putting.{failed_first, then_call}
 use Rattle.aig_dimacs.proofs.writing.write_literal.Goals as goal
 
 pub returns-in_err-write_sign : goal.returns-in_err-write_sign

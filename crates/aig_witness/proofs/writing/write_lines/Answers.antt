@@ -1,7 +1,7 @@
 use Rattle.std.proofs.Common.{[], ◌∷◌, rules}
 use Rattle.std.specs.List.{flat_map}
 use Rattle.std.specs.Prelude.{codes}
-use Rattle.aig_writer.proofs.Putting.{Buffers-trans, failed_among, failed_first, then_call}
+use Rattle.aig_output.proofs.Putting.{Buffers-trans, failed_among, failed_first, then_call}
 use Rattle.aig_witness.specs.Witness.{row_text, said_by}
 use Rattle.aig_witness.proofs.Pieces.{text_pieces, witness_pieces}
 use Rattle.aig_witness.proofs.writing.write_lines.Goals as goal

@@ -1,5 +1,5 @@
 use Rattle.std.proofs.Common.{[], ◌∷◌, rules}
-use Rattle.aig_writer.proofs.Putting.{Buffers-end, Buffers-turn, failed_within, then_call}
+use Rattle.aig_output.proofs.Putting.{Buffers-end, Buffers-turn, failed_within, then_call}
 use Rattle.aig_witness.proofs.Pieces.{row_pieces, value_text}
 use Rattle.aig_witness.proofs.writing.write_row.Goals as goal
 

@@ -1,6 +1,6 @@
 use Rattle.std.proofs.Common.{take}
 use Rattle.std.specs.List.{flat_map}
-use Rattle.aig_writer.specs.Sinks.{Buffers}
+use Rattle.aig_output.specs.Sinks.{Buffers}
 use Rattle.aig_witness.proofs.Pieces.{value_text}
 use Rattle.aig_witness.proofs.writing.write_row.Given as goal
 

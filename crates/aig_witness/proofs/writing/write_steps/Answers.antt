@@ -1,5 +1,5 @@
 use Rattle.std.proofs.Common.{rules}
-use Rattle.aig_writer.proofs.Putting.{Buffers-turn, all_done, failed_turn}
+use Rattle.aig_output.proofs.Putting.{Buffers-turn, all_done, failed_turn}
 use Rattle.aig_witness.proofs.Pieces.{list_text, steps_pieces}
 use Rattle.aig_witness.proofs.writing.write_steps.Goals as goal
 

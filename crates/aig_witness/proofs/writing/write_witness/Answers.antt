@@ -1,5 +1,5 @@
 use Rattle.std.proofs.Common.{rules}
-use Rattle.aig_writer.proofs.Putting.{failed_put, written_through}
+use Rattle.aig_output.proofs.Putting.{failed_put, written_through}
 use Rattle.aig_witness.proofs.writing.write_witness.Goals as goal
 
 pub returns-in_err-write_lines : goal.returns-in_err-write_lines

@@ -1,6 +1,6 @@
 use Rattle.aig_format.specs.declared.FileKind.TheVariants.{Text}
+use Rattle.aig_output.proofs.Printing.{WritesStyledOnOk-from_pieces}
 use Rattle.aig_writer.proofs.Numbered.{own_file}
-use Rattle.aig_writer.proofs.Printing.{WritesStyledOnOk-from_pieces}
 use Rattle.aig_writer.proofs.display.fmt_text.Goals as goal
 
 pub returns : goal.returns

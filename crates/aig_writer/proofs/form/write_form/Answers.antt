@@ -1,7 +1,7 @@
 use Rattle.std.proofs.Common.{◌∙◌, sym, subst, arith, rules}
-use Rattle.aig_writer.specs.Sinks.{WritesOrStops}
-use Rattle.aig_writer.proofs.Putting.{failed_put, sink_laws, written_through}
-use Rattle.aig_writer.proofs.Writing.{all_written, some_written}
+use Rattle.aig_output.specs.Sinks.{WritesOrStops}
+use Rattle.aig_output.proofs.Putting.{failed_put, sink_laws, written_through}
+use Rattle.aig_output.proofs.Writing.{all_written, some_written}
 use Rattle.aig_writer.proofs.form.write_form.Goals as goal
 
 pub returns-in_err-write_sections-clause-writes : goal.returns-in_err-write_sections-clause-writes

@@ -1,7 +1,7 @@
 use Rattle.std.proofs.Common.{drop, rules}
 use Rattle.aig_format.specs.declared.FileKind.TheVariants.{Text}
+use Rattle.aig_output.proofs.Writing.{calls_laws, failed_among, failed_first, then_call, then_text}
 use Rattle.aig_writer.specs.Numbering.{written_number, numbered_file}
-use Rattle.aig_writer.proofs.Writing.{calls_laws, failed_among, failed_first, then_call, then_text}
 use Rattle.aig_writer.proofs.Items.{sets_small}
 use Rattle.aig_writer.proofs.Numbered.{numbered_sizes}
 use Rattle.aig_writer.proofs.Texts.{property_texts}

@@ -1,6 +1,6 @@
 use Rattle.std.proofs.Common.{drop, rules}
+use Rattle.aig_output.proofs.Writing.{calls_laws, failed_among, failed_first, then_call, then_text}
 use Rattle.aig_writer.specs.Numbering.{written_number, numbered_file}
-use Rattle.aig_writer.proofs.Writing.{calls_laws, failed_among, failed_first, then_call, then_text}
 use Rattle.aig_writer.proofs.Numbered.{numbered_falls, numbered_header}
 use Rattle.aig_writer.proofs.Small.{HasSmallNumbers-from_circuit}
 use Rattle.aig_writer.proofs.Texts.{section_texts, spelling-sections}

@@ -1,8 +1,8 @@
 use Rattle.aig_format.specs.Circuit.{file_of}
 use Rattle.aig_format.specs.Written.{line_text}
 use Rattle.std.proofs.Common.{◌+◌, take, ◌∷◌, [], rules}
+use Rattle.aig_output.proofs.Writing.{calls_laws, failed_first, then_call}
 use Rattle.aig_writer.proofs.Counts.{header_text}
-use Rattle.aig_writer.proofs.Writing.{calls_laws, failed_first, then_call}
 use Rattle.aig_writer.proofs.header.write_header.Goals as goal
 
 pub returns-in_err-write_bytes-clause-writes : goal.returns-in_err-write_bytes-clause-writes

@@ -3,7 +3,7 @@ use Rattle.std.specs.List.{enumerate_from}
 use Rattle.std.specs.FinMap.{get}
 use Rattle.std.proofs.lemmas.List.FromFn.{length-enumerate_from}
 use Rattle.aig_circuit.specs.View.{names_of}
-use Rattle.aig_writer.proofs.Writing.{all_done, calls_laws, failed_turn, then_turn}
+use Rattle.aig_output.proofs.Writing.{all_done, calls_laws, failed_turn, then_turn}
 use Rattle.aig_writer.proofs.Entries.{name_entry, name_entry-at, name_lines-places}
 use Rattle.aig_writer.proofs.names.write_input_names.Goals as goal
 

@@ -4,7 +4,7 @@ use Rattle.std.specs.FinMap.{get}
 use Rattle.std.proofs.lemmas.List.FromFn.{length-enumerate_from}
 use Rattle.aig_circuit.specs.Circuit.{latch_leaves}
 use Rattle.aig_circuit.specs.View.{names_of}
-use Rattle.aig_writer.proofs.Writing.{all_done, calls_laws, failed_turn, then_turn}
+use Rattle.aig_output.proofs.Writing.{all_done, calls_laws, failed_turn, then_turn}
 use Rattle.aig_circuit.proofs.Circuits.{leaf-read}
 use Rattle.aig_writer.proofs.Entries.{length-leaves, name_entry, name_entry-at, name_lines-places}
 use Rattle.aig_writer.proofs.names.write_latch_names.Goals as goal

@@ -1,5 +1,5 @@
 use Rattle.std.proofs.Common.{◌∷◌, [], rules}
-use Rattle.aig_writer.proofs.Writing.{calls_laws, failed_first, then_call}
+use Rattle.aig_output.proofs.Writing.{calls_laws, failed_first, then_call}
 use Rattle.aig_writer.proofs.Entries.{latch_name_lines, name_lines-both}
 use Rattle.aig_writer.proofs.names.write_names.Goals as goal
 

@@ -1,4 +1,4 @@
-use Rattle.aig_writer.proofs.Writing.{calls_laws, nothing_done}
+use Rattle.aig_output.proofs.Writing.{calls_laws, nothing_done}
 use Rattle.aig_circuit.proofs.Names.{get_names}
 use Rattle.aig_writer.proofs.names.write_node_name.Goals as goal
 

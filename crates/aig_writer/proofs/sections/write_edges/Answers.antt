@@ -1,5 +1,5 @@
 use Rattle.std.proofs.Common.{rules}
-use Rattle.aig_writer.proofs.Writing.{all_done, calls_laws, failed_turn, then_turn}
+use Rattle.aig_output.proofs.Writing.{all_done, calls_laws, failed_turn, then_turn}
 use Rattle.aig_writer.specs.Numbering.{written_number}
 use Rattle.aig_circuit.specs.Renumber.{renumbered_edge}
 use Rattle.aig_writer.proofs.Items.{edge_line, numbered_edges}

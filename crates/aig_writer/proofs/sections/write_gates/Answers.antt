@@ -1,5 +1,5 @@
 use Rattle.std.proofs.Common.{rules}
-use Rattle.aig_writer.proofs.Writing.{all_done, calls_laws, failed_turn, then_turn}
+use Rattle.aig_output.proofs.Writing.{all_done, calls_laws, failed_turn, then_turn}
 use Rattle.aig_writer.specs.Numbering.{written_number, renumbered_node}
 use Rattle.aig_writer.proofs.Items.{text_of_gate, numbered_gates}
 use Rattle.aig_writer.proofs.sections.write_gates.Goals as goal

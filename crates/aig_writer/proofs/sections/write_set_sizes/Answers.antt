@@ -1,5 +1,5 @@
 use Rattle.std.proofs.Common.{rules}
-use Rattle.aig_writer.proofs.Writing.{all_done, calls_laws, failed_turn, then_turn}
+use Rattle.aig_output.proofs.Writing.{all_done, calls_laws, failed_turn, then_turn}
 use Rattle.aig_writer.proofs.Items.{len_is, size_line, set_sizes}
 use Rattle.aig_writer.proofs.sections.write_set_sizes.Goals as goal
 

@@ -1,7 +1,7 @@
 use Rattle.std.proofs.Common.{arith, rules, false}
 use Rattle.std.specs.List.{enumerate_from}
 use Rattle.std.proofs.lemmas.List.FromFn.{length-enumerate_from}
-use Rattle.aig_writer.proofs.Putting.{Buffers-turn, all_done, failed_turn}
+use Rattle.aig_output.proofs.Putting.{Buffers-turn, all_done, failed_turn}
 use Rattle.aigcheck.proofs.Commenting.{line_at}
 use Rattle.aig_circuit.specs.Edge.{edge_to}
 use Rattle.aigcheck.specs.Comments.{bad_line}

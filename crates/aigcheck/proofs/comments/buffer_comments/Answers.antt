@@ -7,7 +7,7 @@ use Rattle.aig_circuit.specs.Circuit.{IsInRange, IsLatch, latch_leaves}
 use Rattle.aig_runs.specs.Queries.{last_bads}
 use Rattle.aigcheck.proofs.Commenting.{tail_is}
 use Rattle.aigcheck.proofs.Placing.{leaf_below, place_below}
-use Rattle.aig_writer.proofs.Putting.{Buffers-trans, failed_among, failed_first, then_call}
+use Rattle.aig_output.proofs.Putting.{Buffers-trans, failed_among, failed_first, then_call}
 use Rattle.aigcheck.specs.Comments.{bad_line, comments_of, latch_comment}
 use Rattle.aigcheck.proofs.comments.buffer_comments.Goals as goal
 

@@ -1,6 +1,6 @@
 use Rattle.std.proofs.Common.{take}
 use Rattle.std.specs.List.{enumerate_from, flat_map}
-use Rattle.aig_writer.specs.Sinks.{Buffers}
+use Rattle.aig_output.specs.Sinks.{Buffers}
 use Rattle.aigcheck.specs.Comments.{input_line}
 use Rattle.aigcheck.proofs.comments.buffer_inputs.Given as goal
 

@@ -1,6 +1,6 @@
 use Rattle.std.proofs.Common.{take}
 use Rattle.std.specs.List.{enumerate_from, flat_map}
-use Rattle.aig_writer.specs.Sinks.{Buffers}
+use Rattle.aig_output.specs.Sinks.{Buffers}
 use Rattle.aig_circuit.specs.Circuit.{latch_leaves}
 use Rattle.aigcheck.specs.Comments.{latch_comment}
 use Rattle.aigcheck.proofs.comments.buffer_latchs.Given as goal

@@ -2,7 +2,7 @@ use Rattle.std.proofs.Common.{[], ◌∷◌, ◌++◌, ◌+◌, decimal, rules}
 use Rattle.std.specs.Prelude.{codes}
 use Rattle.aig_base.specs.Clauses.{variable_of}
 use Rattle.aig_dimacs.specs.Text.{sign_of}
-use Rattle.aig_writer.proofs.Putting.{Buffers-trans, failed_among, failed_first, then_call}
+use Rattle.aig_output.proofs.Putting.{Buffers-trans, failed_among, failed_first, then_call}
 use Rattle.aigcheck.specs.Comments.{literal_line}
 use Rattle.aigcheck.proofs.comments.buffer_literal.Goals as goal
 

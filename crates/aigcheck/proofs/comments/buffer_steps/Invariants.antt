@@ -1,6 +1,6 @@
 use Rattle.std.proofs.Common.{◌+◌, take}
 use Rattle.std.specs.List.{flat_map, range_with_len}
-use Rattle.aig_writer.specs.Sinks.{Buffers}
+use Rattle.aig_output.specs.Sinks.{Buffers}
 use Rattle.aigcheck.specs.Comments.{input_lines}
 use Rattle.aigcheck.proofs.comments.buffer_steps.Given as goal
 

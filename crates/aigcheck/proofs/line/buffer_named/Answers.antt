@@ -1,6 +1,6 @@
 use Rattle.std.proofs.Common.{[], ◌∷◌, ◌++◌, decimal, rules}
 use Rattle.std.specs.Prelude.{codes}
-use Rattle.aig_writer.proofs.Putting.{Buffers-trans, failed_among, failed_first, then_call}
+use Rattle.aig_output.proofs.Putting.{Buffers-trans, failed_among, failed_first, then_call}
 use Rattle.aigcheck.proofs.line.buffer_named.Goals as goal
 
 pub returns-in_err-write_bytes : goal.returns-in_err-write_bytes

@@ -1,5 +1,5 @@
 use Rattle.std.proofs.Common.{[], ◌∷◌, ◌++◌, decimal, rules}
-use Rattle.aig_writer.proofs.Putting.{failed_first, then_call}
+use Rattle.aig_output.proofs.Putting.{failed_first, then_call}
 use Rattle.aigcheck.proofs.tool.buffer_line.Goals as goal
 
 pub returns-in_err-write_bytes : goal.returns-in_err-write_bytes

@@ -7,7 +7,7 @@ use Rattle.aig_dimacs.specs.Text.{dimacs_of}
 use Rattle.aig_encode.specs.declared.query_clauses.Query.{Query}
 use Rattle.aig_unroll.specs.Places.{unrolled_size}
 use Rattle.aig_answers.proofs.Files.{told_again}
-use Rattle.aig_writer.proofs.Putting.{Stops-before, Stops-put}
+use Rattle.aig_output.proofs.Putting.{Stops-before, Stops-put}
 use Rattle.aigcheck.specs.declared.tool.TheConstants.{LIMIT}
 use Rattle.aigcheck.specs.Comments.{comments_of}
 use Rattle.aigcheck.proofs.Memory.{memory_told}

@@ -1,5 +1,5 @@
 use Rattle.std.proofs.Common.{rules}
-use Rattle.aig_writer.proofs.Putting.{failed_put, written_through}
+use Rattle.aig_output.proofs.Putting.{failed_put, written_through}
 use Rattle.aigcheck.proofs.tool.write_line.Goals as goal
 
 pub returns-in_err-buffer_line : goal.returns-in_err-buffer_line

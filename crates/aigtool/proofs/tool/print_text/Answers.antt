@@ -2,7 +2,7 @@ use Rattle.std.proofs.Common.{refl}
 use Rattle.std.specs.Io.KnownBytes.{Appends}
 use Rattle.std.proofs.lemmas.Result.{err_from_is_err_and}
 use Rattle.aig_circuit.specs.Circuit.{Circuit}
-use Rattle.aig_writer.specs.Sinks.{AppendsBeginning}
+use Rattle.aig_output.specs.Sinks.{AppendsBeginning}
 use Rattle.aig.specs.declared.aiger.WriteError.TheVariants as write
 use Rattle.aig.specs.Reading.{IsFileCircuit}
 use Rattle.aigtool.specs.declared.command.Command.TheVariants as commands

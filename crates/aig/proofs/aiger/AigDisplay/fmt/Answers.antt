@@ -1,7 +1,7 @@
 -- A circuit that isn't refused has few nodes, and a text that is written whatever the options are is what `{}` writes.
 use Rattle.std.proofs.Common.{◌≤◌, ◌^◌, length, sym, subst, arith}
 use Rattle.aig_circuit.specs.Circuit.{Circuit}
-use Rattle.aig_writer.proofs.Printing.{WritesOnOk-from_styled}
+use Rattle.aig_output.proofs.Printing.{WritesOnOk-from_styled}
 use Rattle.aig.proofs.aiger.AigDisplay.fmt.Goals as goal
 
 pub fmt_text-requires : goal.fmt_text-requires

@@ -3,7 +3,7 @@ use Rattle.std.proofs.Common.{subst}
 use Rattle.aig_circuit.specs.Circuit.{Circuit}
 use Rattle.aig_circuit.specs.Reencode.{new_number}
 use Rattle.aig_format.specs.Circuit.{binary_of}
-use Rattle.aig_writer.specs.Sinks.{AppendsBeginning}
+use Rattle.aig_output.specs.Sinks.{AppendsBeginning}
 use Rattle.aig_format_laws.proofs.Reencoded.{binary_is_read_again}
 use Rattle.aig.proofs.Texts.{AreTexts-renumbered}
 use Rattle.aig.proofs.graph.Aig.write_binary.Goals as goal

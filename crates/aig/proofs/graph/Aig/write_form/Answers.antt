@@ -2,7 +2,7 @@
 use Rattle.std.proofs.Common.{subst}
 use Rattle.aig_circuit.specs.Circuit.{Circuit}
 use Rattle.aig_format.specs.Circuit.{binary_of}
-use Rattle.aig_writer.specs.Sinks.{WritesOrStops}
+use Rattle.aig_output.specs.Sinks.{WritesOrStops}
 use Rattle.aig.proofs.graph.Aig.write_form.Goals as goal
 
 pub returns-else-ascii : goal.returns-else-ascii

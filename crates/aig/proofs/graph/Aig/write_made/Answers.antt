@@ -2,7 +2,7 @@ use Rattle.std.proofs.Common.{ℕ, List, Bool, Option, Result, Ok, Err, rules}
 use Rattle.std.specs.Prelude.{IsErr}
 use Rattle.std.proofs.lemmas.Bool.{false≢true}
 use Rattle.aig_base.specs.declared.stream.StreamFault.{StreamFault}
-use Rattle.aig_writer.specs.Sinks.{WritesOrStops}
+use Rattle.aig_output.specs.Sinks.{WritesOrStops}
 use Rattle.aig.specs.declared.aiger.WriteError.{WriteError}
 use Rattle.aig.proofs.graph.Aig.write_made.Goals as goal
 

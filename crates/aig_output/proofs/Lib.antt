@@ -1,0 +1,5 @@
+pub mod Writing
+pub mod Putting
+pub mod Printing
+mod Fronts
+mod Refuted

@@ -1,6 +1,0 @@
-use Rattle.std.proofs.Common.{rules}
-use Rattle.aig_writer.proofs.Writing.{one_piece}
-use Rattle.aig_writer.proofs.sink.BufferedSinkTextOut.write_front.Goals as goal
-
-pub returns : goal.returns
-returns g c = one_piece _ (search rules) (search rules)
