@@ -1,6 +1,8 @@
-use Rattle.std.proofs.Common.{◌≡◌, ℕ, zero, suc, ◌+◌, ◌-◌, ◌<◌, ◌≤◌, Some, List, [], ◌∷◌, ◌++◌, length, map, get_or, take, drop, slice_get, slice_range, refl, sym, ap, ◌∙◌, arith, length-append, length-drop}
-use Rattle.std.proofs.lemmas.List.{take-append-le, drop-append-le, drop_at, drop-drop, take_all}
-use Rattle.aig_base.specs.Cut.{cut_at, start_of, AreEnds}
+use Rattle.std.proofs.Common.{◌≡◌, ℕ, zero, suc, ◌+◌, ◌-◌, ◌<◌, ◌≤◌, Some, List, [], ◌∷◌, ◌++◌, length, map, get_or, take, drop, slice_get, slice_range, refl, sym, ap, subst, ◌∙◌, arith, length-append, length-drop}
+use Rattle.std.proofs.Math.ListN.{set, length-set}
+use Rattle.std.proofs.lemmas.List.{take-append-le, drop-append-le, drop_at, drop-drop, drop-take, take_all, take-take, take_more, take_more_set, get_or-take, length-take-le}
+use Rattle.std.proofs.lemmas.Option.{slice_get_within, get_or_from_slice_get}
+use Rattle.aig_base.specs.Cut.{cut_at, start_of, AreEnds, IsCut}
 
 pub length-cut_at : {X : Type 0} (from : ℕ) (ends : List ℕ) (items : List X) → length (cut_at from ends items) ≡ length ends
 length-cut_at from [] items = refl
@@ -78,3 +80,53 @@ pub AreEnds-joined : (es fs : List ℕ) (middle last : ℕ) → AreEnds 0 es mid
 AreEnds-joined es fs middle last is next =
     let start : middle + 0 ≡ middle = omega arith in
     AreEnds-append 0 es (map (λ end. middle + end) fs) middle (middle + last) is (rw start at (AreEnds-shifted middle 0 fs last next))
+
+-- the first ends of more begin where they did
+start_of-take : (from n : ℕ) (ends : List ℕ) (i : ℕ) → i < n → start_of from (take n ends) i ≡ start_of from ends i
+start_of-take from n ends zero h = refl
+start_of-take from n ends (suc i) h = get_or-take n ends i 0 (omega arith)
+
+slice_range-take : {X : Type 0} (items : List X) (n from end : ℕ) → from ≤ end → end ≤ n → slice_range (take n items) from end ≡ slice_range items from end
+slice_range-take items n from end h k =
+    let sum : n ≡ from + (n - from) = omega arith in
+    ap (λ m. take (end - from) (drop from (take m items))) sum ∙ ap (take (end - from)) (drop-take from (n - from) items) ∙ take-take (end - from) (n - from) (drop from items) (omega arith)
+
+-- the lists that some of the ends cut
+pub length-cut : {X : Type 0} (ends : List ℕ) (items : List X) (clauses used : ℕ) → IsCut ends items clauses used → length (cut_at 0 (take clauses ends) (take used items)) ≡ clauses
+length-cut ends items clauses used is = length-cut_at 0 (take clauses ends) (take used items) ∙ length-take-le clauses ends is.clauses_few
+
+pub cut_bounds : {X : Type 0} (ends : List ℕ) (items : List X) (clauses used i : ℕ) → IsCut ends items clauses used → i < clauses → (start_of 0 ends i ≤ get_or ends i 0) × (get_or ends i 0 ≤ used)
+cut_bounds ends items clauses used i is h =
+    let there : i < length (take clauses ends) = omega (arith, length-take-le clauses ends is.clauses_few) in
+    let first = start_of-take 0 clauses ends i h in
+    let last = get_or-take clauses ends i 0 h in
+    (omega (arith, first, last, start_before 0 (take clauses ends) used i is.are_ends there), omega (arith, last, end_within 0 (take clauses ends) used i 0 is.are_ends there))
+
+pub get-cut : {X : Type 0} (ends : List ℕ) (items : List X) (clauses used i : ℕ) → IsCut ends items clauses used → i < clauses → slice_get (cut_at 0 (take clauses ends) (take used items)) i ≡ Some (slice_range items (start_of 0 ends i) (get_or ends i 0))
+get-cut ends items clauses used i is h =
+    let there : i < length (take clauses ends) = omega (arith, length-take-le clauses ends is.clauses_few) in
+    let bounds = cut_bounds ends items clauses used i is h in
+    get-cut_at 0 (take clauses ends) (take used items) i there
+    ∙ ap (λ from. Some (slice_range (take used items) from (get_or (take clauses ends) i 0))) (start_of-take 0 clauses ends i h)
+    ∙ ap (λ end. Some (slice_range (take used items) (start_of 0 ends i) end)) (get_or-take clauses ends i 0 h)
+    ∙ ap Some (slice_range-take items used (start_of 0 ends i) (get_or ends i 0) bounds.0 bounds.1)
+
+-- one more list after those
+pub cut-push : {X : Type 0} (ends : List ℕ) (items more after : List X) (clauses used : ℕ) → IsCut ends items clauses used → clauses < length ends → take (used + length more) after ≡ take used items ++ more → cut_at 0 (take (clauses + 1) (set ends clauses (used + length more))) (take (used + length more) after) ≡ cut_at 0 (take clauses ends) (take used items) ++ more ∷ []
+cut-push ends items more after clauses used is h e =
+    let first = length-take-le used items is.used_few in
+    let es = take clauses ends in
+    ap (λ fs. cut_at 0 fs (take (used + length more) after)) (take_more_set ends clauses (used + length more) h)
+    ∙ ap (cut_at 0 (es ++ (used + length more) ∷ [])) e
+    ∙ cut_at-push es (take used items) more (used + length more) (omega (arith, first, length-append (take used items) more)) (subst (AreEnds 0 es) (sym first) is.are_ends)
+
+pub IsCut-push : {X : Type 0} (ends : List ℕ) (items after : List X) (clauses used n : ℕ) → IsCut ends items clauses used → clauses < length ends → length after ≡ length items → used + n ≤ length items → IsCut (set ends clauses (used + n)) after (clauses + 1) (used + n)
+IsCut-push ends items after clauses used n is h same le = record {
+  are_ends = rw (take_more_set ends clauses (used + n) h) (AreEnds-push (take clauses ends) used (used + n) is.are_ends (omega arith));
+  clauses_few = omega (arith, length-set ends clauses (used + n));
+  used_few = omega (arith, same);
+}
+
+-- one more list is taken
+pub take-one : {X : Type 0} (xs : List X) (i : ℕ) (x : X) → slice_get xs i ≡ Some x → take (i + 1) xs ≡ take i xs ++ x ∷ []
+take-one xs i x e = take_more xs i x (slice_get_within xs i x e) ∙ ap (λ last. take i xs ++ last ∷ []) (get_or_from_slice_get xs i x x e)

@@ -1,6 +1,6 @@
 -- Part of what is promised.
 -- Lists that stand one after another in one list, and where each ends.
-use Rattle.std.specs.Prelude.{◌≡◌, ℕ, zero, suc, ◌≤◌, List, [], ◌∷◌, slice_range, slice_index}
+use Rattle.std.specs.Prelude.{◌≡◌, ℕ, zero, suc, ◌≤◌, List, [], ◌∷◌, length, take, slice_range, slice_index}
 
 -- the lists that a list is cut into: the first begins at `from`, and each other where the one
 -- before it ends
@@ -17,3 +17,9 @@ start_of from ends (suc i) = slice_index ends i
 abbrev pub AreEnds : ℕ → List ℕ → ℕ → Type 0
 AreEnds from [] last = from ≡ last
 AreEnds from (end ∷ ends) last = (from ≤ end) × AreEnds end ends last
+
+-- the first so many ends cut the first so many items
+pub record IsCut {X : Type 0} (ends : List ℕ) (items : List X) (clauses used : ℕ) : Type 0 where
+  pub are_ends : AreEnds 0 (take clauses ends) used
+  pub clauses_few : clauses ≤ length ends
+  pub used_few : used ≤ length items

@@ -2,8 +2,10 @@
 
 mod clauses;
 mod dag;
+mod far_clauses;
 mod literal;
 mod map;
+mod near_clauses;
 mod three;
 
 pub use clauses::LitVvec;

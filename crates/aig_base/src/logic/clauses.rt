@@ -1,34 +1,44 @@
 //! Lists of clauses, and the relations that they say.
 
-ghost use Rattle.std.specs.Prelude.{◌≡◌, ◌↔◌, ◌<◌, ◌≤◌, ◌+◌, ◌^◌, ◌++◌, ◌∷◌, [], ℕ, Bool, Some, IsTrue, All, not, if◌then◌else◌, length, map, slice_get, vec_len, vec_capacity, IfOk, OnOk, OnErr};
+ghost use Rattle.std.specs.Prelude.{◌≡◌, ◌↔◌, ◌<◌, ◌^◌, ◌++◌, ◌∷◌, [], ℕ, Bool, Some, IsTrue, not, if◌then◌else◌, length, map, slice_get, IfOk, OnOk, OnErr};
 ghost use Rattle.std.specs.List.{list_all};
 ghost use Rattle.aig_base.specs.Clauses.{literal_value, are_true, and_clauses, xor_clauses, ite_clauses, inverse_lit};
-ghost use Rattle.aig_base.specs.Cut.{start_of};
 
+use crate::logic::far_clauses::FarClauses;
 use crate::logic::literal::Lit;
+use crate::logic::near_clauses::NearClauses;
 use crate::memory::MemoryError;
 use std::alloc::Global;
 use std::marker::Model;
 
-/// A list of clauses: their literals one after another, and where each clause ends.
+/// Where the clauses of a list stand.
+#[derive(Drop)]
+enum Place {
+    /// In the list itself.
+    Near(NearClauses),
+    /// In vectors.
+    Far(FarClauses),
+}
+
+/// A list of clauses.
 ///
-/// A call that returns an error leaves the list as it was.
+/// Up to 4 clauses with up to 12 literals together, as an and of two, an exclusive or and an if-then-else have, stand
+/// in the list itself and take no memory. With the first clause beyond these all clauses move to memory. A call that
+/// returns an error leaves the list as it was.
 #[derive(Drop)]
 pub struct LitVvec {
-    literals: Vec<Lit>,
-    ends: Vec<usize>,
+    place: Place,
+    alloc: Global,
 }
 
 impl Model for LitVvec {
-    ghost use Rattle.std.specs.Prelude.{List, length};
+    ghost use Rattle.std.specs.Prelude.{List};
     ghost use Rattle.aig_base.specs.declared.logic.literal.Lit.{Lit};
-    ghost use Rattle.aig_base.specs.Cut.{cut_at, AreEnds};
+    ghost use Rattle.aig_base.specs.Place.{clauses_at};
 
     ghost Value = { List (List Lit) };
 
-    ghost view = { λ a. cut_at 0 a.ends.items a.literals.items };
-
-    ghost invariant = { λ a. AreEnds 0 a.ends.items (length a.literals.items) };
+    ghost view = { λ a. clauses_at a.place };
 }
 
 impl LitVvec {
@@ -36,20 +46,17 @@ impl LitVvec {
     pub fn new(alloc: Global) -> LitVvec
         ensures { result ≡ [] }
     {
-        LitVvec {
-            literals: Vec::new(alloc),
-            ends: Vec::new(alloc),
-        }
+        LitVvec::near(alloc, NearClauses::new())
     }
 
-    /// Returns a list of no clauses, with room for so many and for so many literals.
-    fn with_room(alloc: Global, clauses: usize, literals: usize) -> Result<LitVvec, MemoryError>
-        ensures { IfOk result (λ list. list ≡ []) }
+    /// Returns a list of clauses that stand in it.
+    fn near(alloc: Global, clauses: NearClauses) -> LitVvec
+        ensures { result ≡ clauses }
     {
-        Ok(LitVvec {
-            literals: Vec::with_capacity(alloc, literals)?,
-            ends: Vec::with_capacity(alloc, clauses)?,
-        })
+        LitVvec {
+            place: Place::Near(clauses),
+            alloc,
+        }
     }
 
     /// Appends one clause, which may be empty.
@@ -61,9 +68,17 @@ impl LitVvec {
         ensures ok { OnOk result (self.new ≡ self.old ++ clause.now ∷ []) }
         ensures err { OnErr result (self.new ≡ self.old) }
     {
-        self.ends.reserve(1)?;
-        self.literals.extend_from_slice(clause)?;
-        self.ends.push(self.literals.len())?;
+        let mut far = match &mut self.place {
+            Place::Far(far) => return far.push(clause),
+            Place::Near(near) => {
+                if near.push(clause) {
+                    return Ok(());
+                }
+                to_far(self.alloc, near)?
+            }
+        };
+        far.push(clause)?;
+        self.place = Place::Far(far);
         Ok(())
     }
 
@@ -72,7 +87,10 @@ impl LitVvec {
         ensures count { result ≡ length self.now }
         ensures few { result < 2 ^ 63 }
     {
-        self.ends.len()
+        match &self.place {
+            Place::Near(near) => near.len(),
+            Place::Far(far) => far.len(),
+        }
     }
 
     /// Returns the literals of clause `i`, counted from 0.
@@ -84,7 +102,10 @@ impl LitVvec {
         requires { i < length self.now }
         ensures { slice_get self.now i ≡ Some result.now }
     {
-        &self.literals[start(&self.ends, i)..self.ends[i]]
+        match &self.place {
+            Place::Near(near) => near.clause(i),
+            Place::Far(far) => far.clause(i),
+        }
     }
 
     /// Appends the clauses of another list. An empty list takes just the memory that these need.
@@ -92,28 +113,36 @@ impl LitVvec {
         ensures ok { OnOk result (self.new ≡ self.old ++ other.now) }
         ensures err { OnErr result (self.new ≡ self.old) }
     {
-        if self.ends.is_empty() {
-            self.ends.reserve_exact(other.ends.len())?;
-        } else {
-            self.ends.reserve(other.ends.len())?;
+        match &other.place {
+            Place::Near(near) => self.append_near(near),
+            Place::Far(far) => self.append_far(far),
         }
-        let before = self.literals.len();
-        self.literals.extend_from_slice(&other.literals)?;
-        append_shifted(&mut self.ends, &other.ends, before);
-        Ok(())
     }
 
-    /// Appends the clause of one literal and the inverses of others.
-    fn push_inverses(&mut self, first: Lit, others: &[Lit]) -> Result<(), MemoryError>
-        ensures ok { OnOk result
-            (self.new ≡ self.old ++ (first ∷ map inverse_lit others.now) ∷ []) }
+    /// Appends clauses that stand in another list itself.
+    fn append_near(&mut self, others: &NearClauses) -> Result<(), MemoryError>
+        ensures ok { OnOk result (self.new ≡ self.old ++ others.now) }
         ensures err { OnErr result (self.new ≡ self.old) }
     {
-        self.ends.reserve(1)?;
-        self.literals.reserve(others.len() + 1)?;
-        self.literals.push(first)?;
-        append_inverses(&mut self.literals, others);
-        self.ends.push(self.literals.len())?;
+        if let Place::Near(near) = &mut self.place
+            && near.append(others)
+        {
+            return Ok(());
+        }
+        self.append_far(&to_far(self.alloc, others)?)
+    }
+
+    /// Appends clauses that stand in vectors.
+    fn append_far(&mut self, others: &FarClauses) -> Result<(), MemoryError>
+        ensures ok { OnOk result (self.new ≡ self.old ++ others.now) }
+        ensures err { OnErr result (self.new ≡ self.old) }
+    {
+        let mut far = match &mut self.place {
+            Place::Far(far) => return far.append(others),
+            Place::Near(near) => to_far(self.alloc, near)?,
+        };
+        far.append(others)?;
+        self.place = Place::Far(far);
         Ok(())
     }
 
@@ -128,11 +157,14 @@ impl LitVvec {
         ensures relation { IfOk result (λ rel. (v : ℕ → Bool) → IsTrue (are_true v rel)
             ↔ (literal_value v n ≡ list_all (literal_value v) lits.now)) }
     {
-        let mut rel = LitVvec::with_room(alloc, lits.len() + 1, 3 * lits.len() + 1)?;
+        if let [a, b] = lits {
+            return Ok(LitVvec::near(alloc, NearClauses::of_and(n, *a, *b)));
+        }
+        let mut rel = LitVvec::new(alloc);
         for lit in lits {
             rel.push(&[!n, *lit])?;
         }
-        rel.push_inverses(n, lits)?;
+        rel.push(&with_inverses(alloc, n, lits)?)?;
         Ok(rel)
     }
 
@@ -147,12 +179,7 @@ impl LitVvec {
             ↔ (literal_value v n
             ≡ (if literal_value v x then not (literal_value v y) else literal_value v y))) }
     {
-        let mut rel = LitVvec::with_room(alloc, 4, 12)?;
-        rel.push(&[!n, x, y])?;
-        rel.push(&[!n, !x, !y])?;
-        rel.push(&[n, !x, y])?;
-        rel.push(&[n, x, !y])?;
-        Ok(rel)
+        Ok(LitVvec::near(alloc, NearClauses::of_xor(n, x, y)))
     }
 
     /// Returns the four clauses that hold exactly where `n` is `t` if `c` is true, and else `e`.
@@ -166,44 +193,29 @@ impl LitVvec {
             ↔ (literal_value v n
             ≡ (if literal_value v c then literal_value v t else literal_value v e))) }
     {
-        let mut rel = LitVvec::with_room(alloc, 4, 12)?;
-        rel.push(&[!c, !t, n])?;
-        rel.push(&[!c, t, !n])?;
-        rel.push(&[c, !e, n])?;
-        rel.push(&[c, e, !n])?;
-        Ok(rel)
+        Ok(LitVvec::near(alloc, NearClauses::of_ite(n, c, t, e)))
     }
 }
 
-/// Where the clause of this place begins.
-fn start(ends: &[usize], i: usize) -> usize
-    requires { i < length ends.now }
-    ensures { result ≡ start_of 0 ends.now i }
+/// Returns the same clauses in vectors.
+fn to_far(alloc: Global, near: &NearClauses) -> Result<FarClauses, MemoryError>
+    ensures { IfOk result (λ far. far ≡ near.now) }
 {
-    if i == 0 { 0 } else { ends[i - 1] }
-}
-
-/// Appends the ends of other clauses, which begin after `by` literals. There is room for them.
-fn append_shifted(ends: &mut Vec<usize>, others: &[usize], by: usize)
-    requires room { vec_len ends.old + length others.now ≤ vec_capacity ends.old }
-    requires fits { All (λ end. by + end < 2 ^ 64) others.now }
-    ensures { ends.new.items ≡ ends.old.items ++ map (λ end. by + end) others.now }
-{
-    for end in others {
-        if ends.push(by + *end).is_err() {
-            unreachable!();
-        }
+    let mut far = FarClauses::new(alloc);
+    for i in 0..near.len() {
+        far.push(near.clause(i))?;
     }
+    Ok(far)
 }
 
-/// Appends the inverses of literals. There is room for them.
-fn append_inverses(literals: &mut Vec<Lit>, others: &[Lit])
-    requires { vec_len literals.old + length others.now ≤ vec_capacity literals.old }
-    ensures { literals.new.items ≡ literals.old.items ++ map inverse_lit others.now }
+/// Returns the clause of one literal and the inverses of others.
+fn with_inverses(alloc: Global, first: Lit, others: &[Lit]) -> Result<Vec<Lit>, MemoryError>
+    ensures { IfOk result (λ clause. clause.items ≡ first ∷ map inverse_lit others.now) }
 {
+    let mut clause = Vec::with_capacity(alloc, others.len() + 1)?;
+    clause.push(first)?;
     for lit in others {
-        if literals.push(!*lit).is_err() {
-            unreachable!();
-        }
+        clause.push(!*lit)?;
     }
+    Ok(clause)
 }

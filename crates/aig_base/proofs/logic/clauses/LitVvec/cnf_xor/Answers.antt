@@ -6,5 +6,5 @@ use Rattle.aig_base.proofs.logic.clauses.LitVvec.cnf_xor.Goals as goal
 
 pub returns-clause-relation : goal.returns-clause-relation
 returns-clause-relation c = λ v.
-    let made : c.push-4.new.self ≡ xor_clauses c.args.n c.args.x c.args.y = grind (arith, common_steps) in
+    let made : c.near.result ≡ xor_clauses c.args.n c.args.x c.args.y = grind (arith, common_steps) in
     rw made (are_true-xor_clauses v c.args.n c.args.x c.args.y)

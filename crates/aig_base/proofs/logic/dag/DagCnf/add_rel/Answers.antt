@@ -1,6 +1,6 @@
-use Rattle.std.proofs.Common.{◌≡◌, ◌<◌, ◌≤◌, ◌^◌, ◌++◌, ℕ, ◌+◌, ◌-◌, List, length, get_or, ap, sym, subst, ◌∙◌, arith}
+use Rattle.std.proofs.Common.{◌≡◌, ◌<◌, ◌≤◌, ◌^◌, ◌++◌, ℕ, ◌+◌, List, length, get_or, ap, sym, subst, ◌∙◌, arith}
 use Rattle.std.proofs.Math.ListN.{set, length-set}
-use Rattle.std.specs.List.{All, sum_by}
+use Rattle.std.specs.List.{All}
 use Rattle.std.proofs.lemmas.List.{length-append}
 use Rattle.std.proofs.lemmas.List.Elements.{All-append, All-set}
 use Rattle.std.proofs.lemmas.List.Sums.{sum_by-set}

@@ -1,7 +1,7 @@
 use Rattle.std.proofs.Common.{◌≡◌, ◌++◌, ◌∷◌, [], length, refl, arith, length-append}
 use Rattle.std.proofs.lemmas.Grind.{common_steps}
 use Rattle.aig_base.proofs.Cutting.{cut_at-push, AreEnds-push}
-use Rattle.aig_base.proofs.logic.clauses.LitVvec.push.Goals as goal
+use Rattle.aig_base.proofs.logic.far_clauses.FarClauses.push.Goals as goal
 
 pub invariant_of-self-2 : goal.invariant_of-self-2
 invariant_of-self-2 c =

@@ -1,7 +1,7 @@
 use Rattle.std.proofs.Common.{◌≡◌, ◌+◌, ◌≤◌, ◌++◌, length, map, ap, arith, length-append, get_or}
 use Rattle.std.proofs.lemmas.Grind.{common_steps}
 use Rattle.aig_base.proofs.Cutting.{cut_at-joined, AreEnds-joined, end_within}
-use Rattle.aig_base.proofs.logic.clauses.LitVvec.append.Goals as goal
+use Rattle.aig_base.proofs.logic.far_clauses.FarClauses.append.Goals as goal
 
 pub append_shifted-requires-clause-fits : goal.append_shifted-requires-clause-fits
 append_shifted-requires-clause-fits c = λ k d h.

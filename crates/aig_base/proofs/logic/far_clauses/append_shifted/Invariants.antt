@@ -1,5 +1,5 @@
 use Rattle.std.proofs.Common.{◌≡◌, ◌+◌, ◌≤◌, ◌++◌, length, map, take, vec_len, vec_capacity}
-use Rattle.aig_base.proofs.logic.clauses.append_shifted.Given as goal
+use Rattle.aig_base.proofs.logic.far_clauses.append_shifted.Given as goal
 
 abbrev pub invariant-loop-end : goal.invariant-loop-end
 invariant-loop-end l =

@@ -3,7 +3,7 @@ use Rattle.std.proofs.lemmas.List.{get_or_read}
 use Rattle.aig_base.specs.Cut.{cut_at, start_of, AreEnds}
 use Rattle.aig_base.proofs.Cutting.{length-cut_at, end_within, start_before, get-cut_at}
 use Rattle.aig_base.specs.declared.logic.literal.Lit.{Lit}
-use Rattle.aig_base.proofs.logic.clauses.LitVvec.clause.Goals as goal
+use Rattle.aig_base.proofs.logic.far_clauses.FarClauses.clause.Goals as goal
 
 -- a place in the list is a place among the ends
 place : (ends : List ℕ) (literals : List Lit) (clauses : List (List Lit)) (i : ℕ) → cut_at 0 ends literals ≡ clauses → i < length clauses → i < length ends
