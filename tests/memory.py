@@ -175,8 +175,10 @@ READ_FIRST = {
     "query full 2": "read full 7 1000",
     "query_raw shuffled 0": "read shuffled 7 1000",
 }
+# Calls whose clauses stand in their list, behind the clauses of an and.
+IN_THE_LIST = ["clause 5 6", "cnf_and 2 5 6", "cnf_xor 2 5 6", "cnf_ite 2 5 6 9"]
 # All calls that ask for no memory, though they answer a result: those, and the writing of a text.
-ASK_NOTHING = {*QUIET, "put_text 7 1000", "to_file out"}
+ASK_NOTHING = {*QUIET, *IN_THE_LIST, "put_text 7 1000", "to_file out"}
 
 
 @dataclasses.dataclass
@@ -200,11 +202,13 @@ def cases():
     # What a simulation that isn't refused prints is what the refused one prints behind its answer.
     yield Case(CLOSED, "simulate =000 =00", after=["simulate =000"])
     yield Case(CLOSED, "simulate_rest 24 =000 =xx =00 =xx", after=["simulate =000 =xx"])
-    for step in ("clause 5 6 9", "cnf_and 2 5 6 9", "cnf_xor 2 5 6", "cnf_ite 2 5 6 9"):
-        yield Case(["cnf_xor 2 5 6"], step, "clauses")
+    yield from (Case(["cnf_and 2 5 6"], step, "clauses") for step in IN_THE_LIST)
+    # Clauses that leave the list, and one that finds its vector of ends full.
+    for before, step in ([], "clause 5 6 9"), ([], "cnf_and 2 5 6 9"), (["clause 5 6 9"] * 4, "clause 5 6 9"):
+        yield Case(["cnf_xor 2 5 6", *before], step, "clauses")
     yield Case([], "new_relations", "relations")
     yield Case(["new_var"] * 3, "new_var", "relations")
-    yield Case(["add_rel 0 0 0"] * 3, "add_rel 0 0 0", "relations")
+    yield from (Case(["add_rel 0 0 0"] * count, "add_rel 0 0 0", "relations") for count in (3, 7))
     yield Case([], "insert 1 2", "mapped")
 
 

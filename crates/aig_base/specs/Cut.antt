@@ -1,4 +1,4 @@
--- Part of what is promised.
+-- Serves private clauses alone.
 -- Lists that stand one after another in one list, and where each ends.
 use Rattle.std.specs.Prelude.{◌≡◌, ℕ, zero, suc, ◌≤◌, List, [], ◌∷◌, length, take, slice_range, slice_index}
 
