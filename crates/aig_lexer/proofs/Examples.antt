@@ -1,23 +1,26 @@
 -- Wrong answers of a lexer, of which the definitions are false.
-use Rattle.std.proofs.Common.{◌≡◌, ℕ, List, [], ◌∷◌, Option, None, Some, Ok, Err, ap, ◌∙◌, arith}
+use Rattle.std.proofs.Common.{◌≡◌, ℕ, false, List, [], ◌∷◌, Option, None, Some, Ok, Err, ap, ◌∙◌, arith}
 use Rattle.std.specs.Prelude.{codes, length, option_map}
-use Rattle.std.specs.Io.KnownBytes.{Consumes}
 use Rattle.aig_format.specs.declared.FileKind.TheVariants.{Binary, Text}
 use Rattle.aig_parsing.specs.Parse.{parse_delta, parse_digits, parse_groups, parse_number}
-use Rattle.aig_lexer.specs.Bytes.{coming_of}
+use Rattle.aig_lexer.specs.Bytes.{Fills}
 use Rattle.aig_lexer.specs.declared.error.LexError.TheVariants as lex
-use Rattle.aig_lexer.specs.Faults.{LexUnlessTransient}
-use Rattle.aig_lexer.specs.Takes.{Gives}
+use Rattle.aig_lexer.specs.Faults.{LexTells}
+use Rattle.aig_lexer.specs.Takes.{Feed, Gives, Steps}
 use Rattle.aig_lexer.specs.Words.{parse_kind_byte}
+
+-- these bytes are to come
+abbrev known : List ℕ → Feed
+known bytes = record { coming = Some bytes; failed = false; most = length bytes }
 
 -- known bytes, of which these are left, are answered so
 abbrev IsRead : {Y : Type 0} → (List ℕ → Option (Y × List ℕ)) → List ℕ → List ℕ → Y → Type 0
-IsRead read bytes rest y = Gives LexUnlessTransient (λ y. y) (Some bytes) (Some rest) (Ok y) read
+IsRead read bytes rest y = Gives LexTells (λ y. y) (known bytes) (known rest) (Ok y) read
 
 -- and are refused as malformed
 abbrev IsMalformed : {Y : Type 0} → (List ℕ → Option (Y × List ℕ)) → List ℕ → List ℕ → Type 0
 IsMalformed {Y = Y} read bytes rest =
-    Gives {X = Y} LexUnlessTransient (λ y. y) (Some bytes) (Some rest) (Err lex.Shape) read
+    Gives {X = Y} LexTells (λ y. y) (known bytes) (known rest) (Err lex.Shape) read
 
 -- how many bytes a reader leaves
 abbrev count_left : {Y : Type 0} → Option (Y × List ℕ) → ℕ
@@ -27,7 +30,7 @@ count_left None = 0
 -- bytes that are answered so are read so
 read_so : {Y : Type 0} (read : List ℕ → Option (Y × List ℕ)) (bytes rest : List ℕ) (y : Y)
     → IsRead read bytes rest y → read bytes ≡ Some (y, rest)
-read_so read bytes rest y is = ap read is.consumed ∙ is.reads rest
+read_so read bytes rest y is = ap read is.advances.consumed ∙ is.reads rest
 
 -- with so many bytes left
 left_so : {Y : Type 0} (read : List ℕ → Option (Y × List ℕ)) (bytes rest : List ℕ) (y : Y)
@@ -69,7 +72,16 @@ no_other_kind is =
     let kind : Some Text ≡ Some Binary = ap (option_map (λ x. x.0)) read in
     cc
 
--- bytes of the window that were given are given again
-no_stale_bytes : ¬ Consumes (coming_of (1 ∷ 2 ∷ []) 2 2 (Some []))
-    (coming_of (1 ∷ 2 ∷ []) 0 2 (Some [])) []
-no_stale_bytes same = cc
+-- a read that failed is told where none failed
+no_failed_read : (bytes rest : List ℕ)
+    → ¬ Gives {X = ℕ × ℕ} LexTells (λ y. y) (known bytes) (known rest) (Err lex.Stream) parse_number
+no_failed_read bytes rest is = cc
+
+-- a byte comes, and no fewer are to come
+no_endless_bytes : (f : Feed) (byte : ℕ) → ¬ Steps f f (Some byte)
+no_endless_bytes f byte is = omega (arith, is.fewer)
+
+-- bytes are held after a read that failed
+no_stale_bytes : (before after : Feed)
+    → ¬ Fills {X = Unit {0}} {E = Unit {0}} before after (Err tt) (1 ∷ 2 ∷ [])
+no_stale_bytes before after is = let none = is.1 in cc

@@ -5,7 +5,7 @@ use Rattle.aig_base.proofs.Mapping.{turned}
 use Rattle.aig_format.specs.declared.FileKind.{FileKind}
 use Rattle.aig_format.specs.declared.FileKind.TheVariants.{Text, Binary}
 use Rattle.aig_parsing.specs.Parse.{◌>>=◌, parse_kind, or_else, strip}
-use Rattle.aig_lexer.specs.Takes.{Takes, Misses}
+use Rattle.aig_lexer.specs.Takes.{Feed, Takes, Misses}
 use Rattle.aig_lexer.specs.Words.{parse_expected, parse_kind_byte, parse_word}
 use Rattle.aig_lexer.proofs.Taking.{takes_same, misses_same, takes_bind, misses_first, misses_next, takes_mapped, misses_mapped}
 
@@ -59,19 +59,19 @@ kind_is (b ∷ bs) = go (eqb 97 b)
     go false = refl
 
 -- the word, and where it stops to be one
-pub takes_kind : (b m n a : Option (List ℕ)) (kind : FileKind) → Takes (parse_expected 97) b m 97 → Takes parse_kind_byte m n kind → Takes (parse_word end_text) n a tt → Takes parse_kind b a kind
+pub takes_kind : (b m n a : Feed) (kind : FileKind) → Takes (parse_expected 97) b m 97 → Takes parse_kind_byte m n kind → Takes (parse_word end_text) n a tt → Takes parse_kind b a kind
 takes_kind b m n a kind first second rest =
     takes_same (λ bs. parse_expected 97 bs >>= following_first) parse_kind b a kind
     (takes_bind (parse_expected 97) following_first b m a 97 kind first (takes_bind parse_kind_byte following_kind m n a kind kind second (takes_mapped (λ (_ : Unit {0}). kind) (parse_word end_text) n a tt rest))) kind_is
 
-pub misses_first_byte : (b : Option (List ℕ)) → Misses (parse_expected 97) b → Misses parse_kind b
+pub misses_first_byte : (b : Feed) → Misses (parse_expected 97) b → Misses parse_kind b
 misses_first_byte b h = misses_same (λ bs. parse_expected 97 bs >>= following_first) parse_kind b (misses_first (parse_expected 97) following_first b h) kind_is
 
-module _ (b m : Option (List ℕ)) (first : Takes (parse_expected 97) b m 97) where
+module _ (b m : Feed) (first : Takes (parse_expected 97) b m 97) where
   pub misses_kind_byte : Misses parse_kind_byte m → Misses parse_kind b
   misses_kind_byte h = misses_same (λ bs. parse_expected 97 bs >>= following_first) parse_kind b (misses_next (parse_expected 97) following_first b m 97 first (misses_first parse_kind_byte following_kind m h)) kind_is
 
-  pub misses_word : (n : Option (List ℕ)) (kind : FileKind) → Takes parse_kind_byte m n kind → Misses (parse_word end_text) n → Misses parse_kind b
+  pub misses_word : (n : Feed) (kind : FileKind) → Takes parse_kind_byte m n kind → Misses (parse_word end_text) n → Misses parse_kind b
   misses_word n kind second h =
       misses_same (λ bs. parse_expected 97 bs >>= following_first) parse_kind b
       (misses_next (parse_expected 97) following_first b m 97 first (misses_next parse_kind_byte following_kind m n kind second (misses_mapped (λ (_ : Unit {0}). kind) (parse_word end_text) n h))) kind_is

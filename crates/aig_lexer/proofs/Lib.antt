@@ -1,4 +1,4 @@
-pub mod Window
+pub mod Feeds
 pub mod Front
 pub mod Going
 pub mod Taking

@@ -1,60 +1,58 @@
 -- The words of the format: numbers that a byte ends, and lines of two of them.
-use Rattle.std.proofs.Common.{◌≡◌, ℕ, cond, eqb, List, ◌∷◌, Option, Some, None, Result, Ok, Err, option_to_list, refl}
-use Rattle.std.specs.Io.KnownBytes.{Consumes}
+use Rattle.std.proofs.Common.{◌≡◌, ℕ, cond, eqb, List, ◌∷◌, Option, Some, None, Result, Ok, Err, Bool, refl}
 use Rattle.std.proofs.lemmas.Bool.{eq-eqb, ne_eqb}
 use Rattle.aig_parsing.specs.Parse.{◌>>=◌, parse_number, parse_ended, parse_pair}
 use Rattle.aig_lexer.specs.declared.error.LexError.{LexError}
 use Rattle.aig_lexer.specs.declared.error.LexError.TheVariants.{Stream, Shape}
-use Rattle.aig_lexer.specs.Faults.{LexUnlessTransient}
-use Rattle.aig_lexer.specs.Takes.{Gives, Takes, Misses}
-use Rattle.aig_lexer.proofs.Going.{GoesOn, goes_start, goes_byte, goes_call, goes_done, goes_wrong}
+use Rattle.aig_lexer.specs.Faults.{LexTells}
+use Rattle.aig_lexer.specs.Takes.{Feed, Steps, Gives, Takes, Misses}
+use Rattle.aig_lexer.proofs.Going.{GoesOn, misses_all, goes_start, goes_byte, goes_call, goes_done, goes_wrong}
 use Rattle.aig_lexer.proofs.Taking.{takes_same, misses_same, takes_bind, misses_first, misses_next, takes_nothing, takes_both}
 
-pub on_shape-weaker : (e : LexError) (P Q : Type 0) → (P → Q) → LexUnlessTransient e P → LexUnlessTransient e Q
-on_shape-weaker Stream P Q f h = tt
-on_shape-weaker Shape P Q f h = f h
+pub on_shape-weaker : (e : LexError) (P Q : Type 0) (failed : Bool) → (P → Q) → LexTells e P failed → LexTells e Q failed
+on_shape-weaker Stream P Q failed f h = h
+on_shape-weaker Shape P Q failed f h = f h
 
 -- readers that agree give the same
-pub gives_same : {X Y : Type 0} (view : X → Y) (p q : List ℕ → Option (Y × List ℕ)) (before after : Option (List ℕ)) (r : Result X LexError)
-    → Gives LexUnlessTransient view before after r p → ((bs : List ℕ) → p bs ≡ q bs) → Gives LexUnlessTransient view before after r q
+pub gives_same : {X Y : Type 0} (view : X → Y) (p q : List ℕ → Option (Y × List ℕ)) (before after : Feed) (r : Result X LexError)
+    → Gives LexTells view before after r p → ((bs : List ℕ) → p bs ≡ q bs) → Gives LexTells view before after r q
 gives_same view p q before after (Ok x) h e = takes_same p q before after (view x) h e
-gives_same view p q before after (Err f) h e = on_shape-weaker f _ _ (λ m. misses_same p q before m e) h
+gives_same view p q before after (Err f) h e = on_shape-weaker f _ _ after.failed (λ m. misses_same p q before m e) h
 
 -- a call after a byte that came
-pub gives_following : {X Y : Type 0} (view : X → Y) (p : List ℕ → Option (Y × List ℕ)) (before mid after : Option (List ℕ)) (o : Option ℕ) (b : ℕ) (r : Result X LexError)
-    → Consumes before mid (option_to_list o) → o ≡ Some b → Gives LexUnlessTransient view mid after r (λ bs. p (b ∷ bs)) → Gives LexUnlessTransient view before after r p
+pub gives_following : {X Y : Type 0} (view : X → Y) (p : List ℕ → Option (Y × List ℕ)) (before mid after : Feed) (o : Option ℕ) (b : ℕ) (r : Result X LexError)
+    → Steps before mid o → o ≡ Some b → Gives LexTells view mid after r (λ bs. p (b ∷ bs)) → Gives LexTells view before after r p
 gives_following {X} view p before mid after o b r c is h = go r h
   where
     following : GoesOn p before (λ bs. p (b ∷ bs)) mid
     following = goes_byte p p (λ bs. p (b ∷ bs)) before before mid o b (goes_start p before) c is (λ bs. refl)
 
-    go : (r : Result X LexError) → Gives LexUnlessTransient view mid after r (λ bs. p (b ∷ bs)) → Gives LexUnlessTransient view before after r p
+    go : (r : Result X LexError) → Gives LexTells view mid after r (λ bs. p (b ∷ bs)) → Gives LexTells view before after r p
     go (Ok x) h = goes_done p (view x) before after (goes_call p (λ bs. p (b ∷ bs)) (λ bs. p (b ∷ bs)) (λ bs. Some (view x, bs)) before mid after (view x) following h (λ bs rest e. e))
-    go (Err e) h = on_shape-weaker e _ _ (goes_wrong p (λ bs. p (b ∷ bs)) before mid following) h
+    go (Err e) h = on_shape-weaker e _ _ after.failed (goes_wrong p (λ bs. p (b ∷ bs)) before mid following) h
 
 abbrev pub with_end : ℕ → (ℕ × ℕ) × List ℕ → Option (ℕ × List ℕ)
 with_end end n = cond (eqb n.0.1 end) (Some (n.0.0, n.1)) None
 
 -- a number that is read in this way, and that this byte ends
 module _ (read : List ℕ → Option ((ℕ × ℕ) × List ℕ)) (end : ℕ) where
-  pub takes_before : (b a : Option (List ℕ)) (n found : ℕ) → Takes read b a (n, found) → found ≡ end → Takes (λ bs. read bs >>= with_end end) b a n
+  pub takes_before : (b a : Feed) (n found : ℕ) → Takes read b a (n, found) → found ≡ end → Takes (λ bs. read bs >>= with_end end) b a n
   takes_before b a n found h is = takes_bind read (with_end end) b a a (n, found) n h (rw (eq-eqb found end is) (takes_nothing a n))
 
-  pub misses_before : (b a : Option (List ℕ)) (n found : ℕ) → Takes read b a (n, found) → (found ≡ end → ⊥) → Misses (λ bs. read bs >>= with_end end) b
-  misses_before b None n found h ne = misses_next read (with_end end) b None (n, found) h tt
-  misses_before b (Some bs) n found h ne = misses_next read (with_end end) b (Some bs) (n, found) h (rw (ne_eqb found end ne) refl)
+  pub misses_before : (b a : Feed) (n found : ℕ) → Takes read b a (n, found) → (found ≡ end → ⊥) → Misses (λ bs. read bs >>= with_end end) b
+  misses_before b a n found h ne = misses_next read (with_end end) b a (n, found) h (misses_all (λ bs. with_end end ((n, found), bs)) a (λ bs. rw (ne_eqb found end ne) refl))
 
-pub takes_ended : (end : ℕ) (b a : Option (List ℕ)) (n found : ℕ) → Takes parse_number b a (n, found) → found ≡ end → Takes (parse_ended end) b a n
+pub takes_ended : (end : ℕ) (b a : Feed) (n found : ℕ) → Takes parse_number b a (n, found) → found ≡ end → Takes (parse_ended end) b a n
 unfolding parse_ended
 takes_ended end b a n found h is = takes_before parse_number end b a n found h is
 
-pub misses_number : (end : ℕ) (b : Option (List ℕ)) → Misses parse_number b → Misses (parse_ended end) b
+pub misses_number : (end : ℕ) (b : Feed) → Misses parse_number b → Misses (parse_ended end) b
 unfolding parse_ended
 misses_number end b h = misses_first parse_number (with_end end) b h
 
-pub misses_end : (end : ℕ) (b a : Option (List ℕ)) (n found : ℕ) → Takes parse_number b a (n, found) → (found ≡ end → ⊥) → Misses (parse_ended end) b
+pub misses_end : (end : ℕ) (b a : Feed) (n found : ℕ) → Takes parse_number b a (n, found) → (found ≡ end → ⊥) → Misses (parse_ended end) b
 unfolding parse_ended
 misses_end end b a n found h ne = misses_before parse_number end b a n found h ne
 
-pub takes_pair : (b m a : Option (List ℕ)) (x y : ℕ) → Takes (parse_ended 32) b m x → Takes (parse_ended 10) m a y → Takes parse_pair b a (x, y)
+pub takes_pair : (b m a : Feed) (x y : ℕ) → Takes (parse_ended 32) b m x → Takes (parse_ended 10) m a y → Takes parse_pair b a (x, y)
 takes_pair b m a x y h k = takes_both (parse_ended 32) (λ _. parse_ended 10) b m a x y h k

@@ -1,9 +1,10 @@
 -- Serves private clauses alone.
 -- What a fault tells.
+use Rattle.std.specs.Prelude.{◌≡◌, Bool, true}
 use Rattle.aig_lexer.specs.declared.error.LexError.{LexError}
 use Rattle.aig_lexer.specs.declared.error.LexError.TheVariants as lex
 
--- the fact, unless the stream failed
-abbrev pub LexUnlessTransient : LexError → Type 0 → Type 0
-LexUnlessTransient lex.Stream P = Unit {0}
-LexUnlessTransient lex.Shape P = P
+-- this fact, or that the stream failed
+abbrev pub LexTells : LexError → Type 0 → Bool → Type 0
+LexTells lex.Stream P failed = failed ≡ true
+LexTells lex.Shape P failed = P

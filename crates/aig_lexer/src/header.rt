@@ -1,15 +1,15 @@
 //! The header line.
 
-ghost use Rattle.std.specs.Prelude.{◌≡◌, ◌<◌, IsErrOf, OnOk, true};
 ghost use Rattle.aig_parsing.specs.Parse.{parse_header, header_from, parse_header_numbers, parse_kind};
-ghost use Rattle.aig_lexer.specs.Faults.{LexUnlessTransient};
+ghost use Rattle.aig_lexer.specs.Faults.{LexTells};
 ghost use Rattle.aig_lexer.specs.Header.{numbers_of};
-ghost use Rattle.aig_lexer.specs.Takes.{Gives};
+ghost use Rattle.aig_lexer.specs.Takes.{Gives, feed};
 ghost use Rattle.aig_lexer.specs.Words.{parse_kind_byte};
 
+use crate::buffer::InputBuffer;
 use crate::error::LexError;
-use crate::feed::ByteFeed;
 use crate::lexer::{expect, number, word};
+use aig_base::Source;
 use aig_format::FileKind;
 
 /// The header of a file: its kind, the greatest variable, and how many entries each section has (AIGER format 20071012,
@@ -42,14 +42,12 @@ pub struct Header {
 /// first five are those of AIGER 1.9, and 0 where they are not written).
 ///
 /// Returns `Shape` where the bytes are no such line, or end in it, and `Stream` where a read failed.
-pub fn header_line<F: ByteFeed>(f: &mut F) -> Result<Header, LexError>
-    ensures exact { Gives LexUnlessTransient (λ h. (h.kind, numbers_of h))
-        (F.coming f.old) (F.coming f.new) result parse_header }
-    ensures stream { IsErrOf result LexError.Stream → F.failed f.new ≡ true }
-    ensures same { F.source_name f.new ≡ F.source_name f.old }
-    ensures fewer { OnOk result (F.turns f.new < F.turns f.old) }
+pub fn header_line<R: Source>(buffer: &mut InputBuffer, r: &mut R) -> Result<Header, LexError>
+    ensures { Gives LexTells (λ h. (h.kind, numbers_of h))
+        (feed R.left R.failed R.pulls buffer.old r.old)
+        (feed R.left R.failed R.pulls buffer.new r.new) result parse_header }
 {
-    let kind = kind_word(f)?;
+    let kind = kind_word(buffer, r)?;
     let [
         greatest,
         inputs,
@@ -60,7 +58,7 @@ pub fn header_line<F: ByteFeed>(f: &mut F) -> Result<Header, LexError>
         constraints,
         justice,
         fairness,
-    ] = header_numbers(f)?;
+    ] = header_numbers(buffer, r)?;
     Ok(Header {
         kind,
         greatest,
@@ -76,28 +74,22 @@ pub fn header_line<F: ByteFeed>(f: &mut F) -> Result<Header, LexError>
 }
 
 /// Reads `aag` or `aig`, and the space after it.
-fn kind_word<F: ByteFeed>(f: &mut F) -> Result<FileKind, LexError>
-    ensures exact { Gives LexUnlessTransient (λ kind. kind) (F.coming f.old) (F.coming f.new) result
-        parse_kind }
-    ensures stream { IsErrOf result LexError.Stream → F.failed f.new ≡ true }
-    ensures same { F.source_name f.new ≡ F.source_name f.old }
-    ensures fewer { OnOk result (F.turns f.new < F.turns f.old) }
+fn kind_word<R: Source>(buffer: &mut InputBuffer, r: &mut R) -> Result<FileKind, LexError>
+    ensures { Gives LexTells (λ kind. kind) (feed R.left R.failed R.pulls buffer.old r.old)
+        (feed R.left R.failed R.pulls buffer.new r.new) result parse_kind }
 {
-    expect(f, b'a')?;
-    let kind = kind_byte(f)?;
-    word(f, b"g ")?;
+    expect(buffer, r, b'a')?;
+    let kind = kind_byte(buffer, r)?;
+    word(buffer, r, b"g ")?;
     Ok(kind)
 }
 
 /// Reads the byte that tells the kind.
-fn kind_byte<F: ByteFeed>(f: &mut F) -> Result<FileKind, LexError>
-    ensures exact { Gives LexUnlessTransient (λ kind. kind)
-        (F.coming f.old) (F.coming f.new) result parse_kind_byte }
-    ensures stream { IsErrOf result LexError.Stream → F.failed f.new ≡ true }
-    ensures same { F.source_name f.new ≡ F.source_name f.old }
-    ensures fewer { OnOk result (F.turns f.new < F.turns f.old) }
+fn kind_byte<R: Source>(buffer: &mut InputBuffer, r: &mut R) -> Result<FileKind, LexError>
+    ensures { Gives LexTells (λ kind. kind) (feed R.left R.failed R.pulls buffer.old r.old)
+        (feed R.left R.failed R.pulls buffer.new r.new) result parse_kind_byte }
 {
-    match f.next()? {
+    match buffer.next(r)? {
         Some(b'a') => Ok(FileKind::Text),
         Some(b'i') => Ok(FileKind::Binary),
         _ => Err(LexError::Shape),
@@ -111,16 +103,13 @@ const FEWEST: usize = 5;
 const MOST: usize = 9;
 
 /// Reads a line of five to nine numbers; those that are not written are 0.
-fn header_numbers<F: ByteFeed>(f: &mut F) -> Result<[u32; MOST], LexError>
-    ensures exact { Gives LexUnlessTransient header_from
-        (F.coming f.old) (F.coming f.new) result parse_header_numbers }
-    ensures stream { IsErrOf result LexError.Stream → F.failed f.new ≡ true }
-    ensures same { F.source_name f.new ≡ F.source_name f.old }
-    ensures fewer { OnOk result (F.turns f.new < F.turns f.old) }
+fn header_numbers<R: Source>(buffer: &mut InputBuffer, r: &mut R) -> Result<[u32; MOST], LexError>
+    ensures { Gives LexTells header_from (feed R.left R.failed R.pulls buffer.old r.old)
+        (feed R.left R.failed R.pulls buffer.new r.new) result parse_header_numbers }
 {
     let mut numbers = [0; MOST];
     for i in 0..MOST {
-        let (value, end) = number(f)?;
+        let (value, end) = number(buffer, r)?;
         numbers[i] = value;
         if end == b'\n' && i + 1 >= FEWEST {
             return Ok(numbers);

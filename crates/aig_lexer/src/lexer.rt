@@ -1,6 +1,6 @@
 //! Words of the format: bytes, numbers, lines of numbers, and differences.
 
-ghost use Rattle.std.specs.Prelude.{◌≡◌, ◌+◌, ◌^◌, ◌++◌, ◌<◌, ◌≤◌, ℕ, List, Some, length, take, IfSome, IsErrOf, OnOk, true};
+ghost use Rattle.std.specs.Prelude.{◌≡◌, ◌^◌, ◌++◌, ◌<◌, ◌≤◌, ℕ, List, Some, length, take, IfSome};
 ghost use Rattle.aig_parsing.specs.Parse.{
   parse_delta,
   parse_digits,
@@ -9,25 +9,30 @@ ghost use Rattle.aig_parsing.specs.Parse.{
   parse_number,
   parse_pair,
 };
-ghost use Rattle.aig_lexer.specs.Faults.{LexUnlessTransient};
-ghost use Rattle.aig_lexer.specs.Takes.{Gives};
+ghost use Rattle.aig_lexer.specs.Faults.{LexTells};
+ghost use Rattle.aig_lexer.specs.Takes.{Gives, feed};
 ghost use Rattle.aig_lexer.specs.Words.{parse_expected, parse_number_from, parse_word};
 
+use crate::buffer::InputBuffer;
 use crate::error::LexError;
-use crate::feed::ByteFeed;
+use aig_base::Source;
 
 /// Reads this byte.
-pub(crate) fn expect<F: ByteFeed>(f: &mut F, byte: u8) -> Result<(), LexError>
-    ensures exact { Gives LexUnlessTransient (λ _. byte)
-        (F.coming f.old) (F.coming f.new) result (parse_expected byte) }
-    ensures stream { IsErrOf result LexError.Stream → F.failed f.new ≡ true }
-    ensures same { F.source_name f.new ≡ F.source_name f.old }
-    ensures fewer { OnOk result (F.turns f.new < F.turns f.old) }
+pub(crate) fn expect<R: Source>(
+    buffer: &mut InputBuffer,
+    r: &mut R,
+    byte: u8,
+) -> Result<(), LexError>
+    ensures { Gives LexTells (λ _. byte) (feed R.left R.failed R.pulls buffer.old r.old)
+        (feed R.left R.failed R.pulls buffer.new r.new) result (parse_expected byte) }
 {
-    match f.next()? {
-        Some(b) if b == byte => Ok(()),
-        _ => Err(LexError::Shape),
+    let Some(found) = buffer.next(r)? else {
+        return Err(LexError::Shape);
+    };
+    if found != byte {
+        return Err(LexError::Shape);
     }
+    Ok(())
 }
 
 /// How many bytes after a number's first digit are looked at at once. A number that ends there is below 10^9, and so needs no
@@ -39,7 +44,6 @@ const NEAR: usize = 9;
 #[inline(always)]
 fn digits_in(bytes: &[u8], first: u64) -> Option<(u32, u8, usize)>
     requires { first < 10 }
-    ensures some { IfSome result (λ x. 0 < x.2) }
     ensures within { IfSome result (λ x. x.2 ≤ length bytes.now) }
     ensures reads { IfSome result (λ x. (rest : List ℕ)
         → parse_digits first (take x.2 bytes.now ++ rest) ≡ Some ((x.0, x.1), rest)) }
@@ -61,7 +65,6 @@ fn digits_in(bytes: &[u8], first: u64) -> Option<(u32, u8, usize)>
 /// Reads a number at the front of `bytes`, where `digits_in` finds its end.
 #[inline(always)]
 fn number_in(bytes: &[u8]) -> Option<(u32, u8, usize)>
-    ensures some { IfSome result (λ x. 0 < x.2) }
     ensures within { IfSome result (λ x. x.2 ≤ length bytes.now) }
     ensures reads { IfSome result (λ x. (rest : List ℕ)
         → parse_number (take x.2 bytes.now ++ rest) ≡ Some ((x.0, x.1), rest)) }
@@ -76,16 +79,17 @@ fn number_in(bytes: &[u8]) -> Option<(u32, u8, usize)>
 
 /// Reads on in a number whose value so far is `first`, byte by byte.
 #[cold]
-fn number_by_bytes<F: ByteFeed>(f: &mut F, first: u64) -> Result<(u32, u8), LexError>
+fn number_by_bytes<R: Source>(
+    buffer: &mut InputBuffer,
+    r: &mut R,
+    first: u64,
+) -> Result<(u32, u8), LexError>
     requires { first < 2 ^ 32 }
-    ensures exact { Gives LexUnlessTransient (λ x. (x.0, x.1))
-        (F.coming f.old) (F.coming f.new) result (parse_digits first) }
-    ensures stream { IsErrOf result LexError.Stream → F.failed f.new ≡ true }
-    ensures same { F.source_name f.new ≡ F.source_name f.old }
-    ensures fewer { OnOk result (F.turns f.new < F.turns f.old) }
+    ensures { Gives LexTells (λ x. (x.0, x.1)) (feed R.left R.failed R.pulls buffer.old r.old)
+        (feed R.left R.failed R.pulls buffer.new r.new) result (parse_digits first) }
 {
     let mut value = first;
-    while let Some(b) = f.next()? {
+    while let Some(b) = buffer.next(r)? {
         if !b.is_ascii_digit() {
             return Ok((value as u32, b));
         }
@@ -101,56 +105,51 @@ fn number_by_bytes<F: ByteFeed>(f: &mut F, first: u64) -> Result<(u32, u8), LexE
 ///
 /// A number is one or more decimal digits (AIGER format 20071012, "Header"); zeros may lead, and its value is below 2^32.
 /// Returns `Shape` where there is no such number, or the bytes end in it, and `Stream` where a read failed.
-pub fn number_from<F: ByteFeed>(f: &mut F, first: u8) -> Result<(u32, u8), LexError>
-    ensures exact { Gives LexUnlessTransient (λ x. (x.0, x.1))
-        (F.coming f.old) (F.coming f.new) result (parse_number_from first) }
-    ensures stream { IsErrOf result LexError.Stream → F.failed f.new ≡ true }
-    ensures same { F.source_name f.new ≡ F.source_name f.old }
-    ensures fewer { OnOk result (F.turns f.new < F.turns f.old) }
+pub fn number_from<R: Source>(
+    buffer: &mut InputBuffer,
+    r: &mut R,
+    first: u8,
+) -> Result<(u32, u8), LexError>
+    ensures { Gives LexTells (λ x. (x.0, x.1)) (feed R.left R.failed R.pulls buffer.old r.old)
+        (feed R.left R.failed R.pulls buffer.new r.new) result (parse_number_from first) }
 {
     if !first.is_ascii_digit() {
         return Err(LexError::Shape);
     }
     let digit = (first - b'0') as u64;
-    match digits_in(f.window(), digit) {
+    match digits_in(buffer.window(), digit) {
         Some((value, end, count)) => {
-            f.consume(count);
+            buffer.consume(count);
             Ok((value, end))
         }
-        None => number_by_bytes(f, digit),
+        None => number_by_bytes(buffer, r, digit),
     }
 }
 
 /// Reads a number as `number_from` does, its first byte by itself.
 #[cold]
-fn number_after_first<F: ByteFeed>(f: &mut F) -> Result<(u32, u8), LexError>
-    ensures exact { Gives LexUnlessTransient (λ x. (x.0, x.1))
-        (F.coming f.old) (F.coming f.new) result parse_number }
-    ensures stream { IsErrOf result LexError.Stream → F.failed f.new ≡ true }
-    ensures same { F.source_name f.new ≡ F.source_name f.old }
-    ensures fewer { OnOk result (F.turns f.new < F.turns f.old) }
+fn number_after_first<R: Source>(buffer: &mut InputBuffer, r: &mut R) -> Result<(u32, u8), LexError>
+    ensures { Gives LexTells (λ x. (x.0, x.1)) (feed R.left R.failed R.pulls buffer.old r.old)
+        (feed R.left R.failed R.pulls buffer.new r.new) result parse_number }
 {
-    match f.next()? {
-        Some(first) => number_from(f, first),
+    match buffer.next(r)? {
+        Some(first) => number_from(buffer, r, first),
         None => Err(LexError::Shape),
     }
 }
 
 /// Reads a number as `number_from` does, its first byte included: its value, and the byte that ends it.
 #[inline(always)]
-pub(crate) fn number<F: ByteFeed>(f: &mut F) -> Result<(u32, u8), LexError>
-    ensures exact { Gives LexUnlessTransient (λ x. (x.0, x.1))
-        (F.coming f.old) (F.coming f.new) result parse_number }
-    ensures stream { IsErrOf result LexError.Stream → F.failed f.new ≡ true }
-    ensures same { F.source_name f.new ≡ F.source_name f.old }
-    ensures fewer { OnOk result (F.turns f.new < F.turns f.old) }
+pub(crate) fn number<R: Source>(buffer: &mut InputBuffer, r: &mut R) -> Result<(u32, u8), LexError>
+    ensures { Gives LexTells (λ x. (x.0, x.1)) (feed R.left R.failed R.pulls buffer.old r.old)
+        (feed R.left R.failed R.pulls buffer.new r.new) result parse_number }
 {
-    match number_in(f.window()) {
+    match number_in(buffer.window()) {
         Some((value, end, count)) => {
-            f.consume(count);
+            buffer.consume(count);
             Ok((value, end))
         }
-        None => number_after_first(f),
+        None => number_after_first(buffer, r),
     }
 }
 
@@ -158,14 +157,11 @@ pub(crate) fn number<F: ByteFeed>(f: &mut F) -> Result<(u32, u8), LexError>
 ///
 /// Returns `Shape` where there is no such number, or another byte ends it, and `Stream` where a read failed.
 #[inline(always)]
-pub fn ended<F: ByteFeed>(f: &mut F, end: u8) -> Result<u32, LexError>
-    ensures exact { Gives LexUnlessTransient (λ x. x) (F.coming f.old) (F.coming f.new) result
-        (parse_ended end) }
-    ensures stream { IsErrOf result LexError.Stream → F.failed f.new ≡ true }
-    ensures same { F.source_name f.new ≡ F.source_name f.old }
-    ensures fewer { OnOk result (F.turns f.new < F.turns f.old) }
+pub fn ended<R: Source>(buffer: &mut InputBuffer, r: &mut R, end: u8) -> Result<u32, LexError>
+    ensures { Gives LexTells (λ x. x) (feed R.left R.failed R.pulls buffer.old r.old)
+        (feed R.left R.failed R.pulls buffer.new r.new) result (parse_ended end) }
 {
-    let (value, found) = number(f)?;
+    let (value, found) = number(buffer, r)?;
     if found != end {
         return Err(LexError::Shape);
     }
@@ -176,15 +172,12 @@ pub fn ended<F: ByteFeed>(f: &mut F, end: u8) -> Result<u32, LexError>
 /// format 20071012, "Input/Latch/Output/And section").
 ///
 /// Returns `Shape` where there is no such line, and `Stream` where a read failed.
-pub fn pair<F: ByteFeed>(f: &mut F) -> Result<(u32, u32), LexError>
-    ensures exact { Gives LexUnlessTransient (λ x. (x.0, x.1))
-        (F.coming f.old) (F.coming f.new) result parse_pair }
-    ensures stream { IsErrOf result LexError.Stream → F.failed f.new ≡ true }
-    ensures same { F.source_name f.new ≡ F.source_name f.old }
-    ensures fewer { OnOk result (F.turns f.new < F.turns f.old) }
+pub fn pair<R: Source>(buffer: &mut InputBuffer, r: &mut R) -> Result<(u32, u32), LexError>
+    ensures { Gives LexTells (λ x. (x.0, x.1)) (feed R.left R.failed R.pulls buffer.old r.old)
+        (feed R.left R.failed R.pulls buffer.new r.new) result parse_pair }
 {
-    let first = ended(f, b' ')?;
-    let second = ended(f, b'\n')?;
+    let first = ended(buffer, r, b' ')?;
+    let second = ended(buffer, r, b'\n')?;
     Ok((first, second))
 }
 
@@ -193,21 +186,21 @@ pub fn pair<F: ByteFeed>(f: &mut F) -> Result<(u32, u32), LexError>
 ///
 /// Returns `Shape` where there is no such line, and `Stream` where a read failed. Which resets a latch may have is not
 /// tested here.
-pub fn next_line<F: ByteFeed>(f: &mut F) -> Result<(u32, Option<u32>), LexError>
-    ensures exact { Gives LexUnlessTransient (λ x. (x.0, x.1))
-        (F.coming f.old) (F.coming f.new) result parse_next_and_reset }
-    ensures stream { IsErrOf result LexError.Stream → F.failed f.new ≡ true }
-    ensures same { F.source_name f.new ≡ F.source_name f.old }
-    ensures fewer { OnOk result (F.turns f.new < F.turns f.old) }
+pub fn next_line<R: Source>(
+    buffer: &mut InputBuffer,
+    r: &mut R,
+) -> Result<(u32, Option<u32>), LexError>
+    ensures { Gives LexTells (λ x. (x.0, x.1)) (feed R.left R.failed R.pulls buffer.old r.old)
+        (feed R.left R.failed R.pulls buffer.new r.new) result parse_next_and_reset }
 {
-    let (next, end) = number(f)?;
+    let (next, end) = number(buffer, r)?;
     if end == b'\n' {
         return Ok((next, None));
     }
     if end != b' ' {
         return Err(LexError::Shape);
     }
-    let reset = ended(f, b'\n')?;
+    let reset = ended(buffer, r, b'\n')?;
     Ok((next, Some(reset)))
 }
 
@@ -221,7 +214,6 @@ const NEAR_GROUPS: usize = 4;
 /// Reads a difference at the front of `bytes`, where it ends among the first four: its value, and how many bytes it takes.
 #[inline(always)]
 fn delta_in(bytes: &[u8]) -> Option<(u32, usize)>
-    ensures some { IfSome result (λ x. 0 < x.1) }
     ensures within { IfSome result (λ x. x.1 ≤ length bytes.now) }
     ensures reads { IfSome result (λ x. (rest : List ℕ)
         → parse_delta (take x.1 bytes.now ++ rest) ≡ Some (x.0, rest)) }
@@ -244,17 +236,14 @@ fn delta_in(bytes: &[u8]) -> Option<(u32, usize)>
 
 /// Reads a difference byte by byte.
 #[cold]
-fn delta_by_bytes<F: ByteFeed>(f: &mut F) -> Result<u32, LexError>
-    ensures exact { Gives LexUnlessTransient (λ d. d) (F.coming f.old) (F.coming f.new) result
-        parse_delta }
-    ensures stream { IsErrOf result LexError.Stream → F.failed f.new ≡ true }
-    ensures same { F.source_name f.new ≡ F.source_name f.old }
-    ensures fewer { OnOk result (F.turns f.new < F.turns f.old) }
+fn delta_by_bytes<R: Source>(buffer: &mut InputBuffer, r: &mut R) -> Result<u32, LexError>
+    ensures { Gives LexTells (λ d. d) (feed R.left R.failed R.pulls buffer.old r.old)
+        (feed R.left R.failed R.pulls buffer.new r.new) result parse_delta }
 {
     let mut difference = 0u64;
     let mut place = 1u64;
     for _ in 0..MOST_GROUPS {
-        let Some(b) = f.next()? else {
+        let Some(b) = buffer.next(r)? else {
             return Err(LexError::Shape);
         };
         difference += place * (b % 128) as u64;
@@ -275,32 +264,30 @@ fn delta_by_bytes<F: ByteFeed>(f: &mut F) -> Result<u32, LexError>
 /// A spelling need not be the shortest. Returns `Shape` where the difference has more than five bytes or is not below 2^32,
 /// or the bytes end in it, and `Stream` where a read failed.
 #[inline(always)]
-pub fn delta<F: ByteFeed>(f: &mut F) -> Result<u32, LexError>
-    ensures exact { Gives LexUnlessTransient (λ d. d) (F.coming f.old) (F.coming f.new) result
-        parse_delta }
-    ensures stream { IsErrOf result LexError.Stream → F.failed f.new ≡ true }
-    ensures same { F.source_name f.new ≡ F.source_name f.old }
-    ensures fewer { OnOk result (F.turns f.new < F.turns f.old) }
+pub fn delta<R: Source>(buffer: &mut InputBuffer, r: &mut R) -> Result<u32, LexError>
+    ensures { Gives LexTells (λ d. d) (feed R.left R.failed R.pulls buffer.old r.old)
+        (feed R.left R.failed R.pulls buffer.new r.new) result parse_delta }
 {
-    match delta_in(f.window()) {
+    match delta_in(buffer.window()) {
         Some((difference, count)) => {
-            f.consume(count);
+            buffer.consume(count);
             Ok(difference)
         }
-        None => delta_by_bytes(f),
+        None => delta_by_bytes(buffer, r),
     }
 }
 
 /// Reads the bytes of a word.
-pub(crate) fn word<F: ByteFeed>(f: &mut F, text: &[u8]) -> Result<(), LexError>
-    ensures exact { Gives LexUnlessTransient (λ _. tt {0})
-        (F.coming f.old) (F.coming f.new) result (parse_word text.now) }
-    ensures stream { IsErrOf result LexError.Stream → F.failed f.new ≡ true }
-    ensures same { F.source_name f.new ≡ F.source_name f.old }
-    ensures fewer { OnOk result (F.turns f.new + length text.now ≤ F.turns f.old) }
+pub(crate) fn word<R: Source>(
+    buffer: &mut InputBuffer,
+    r: &mut R,
+    text: &[u8],
+) -> Result<(), LexError>
+    ensures { Gives LexTells (λ _. tt {0}) (feed R.left R.failed R.pulls buffer.old r.old)
+        (feed R.left R.failed R.pulls buffer.new r.new) result (parse_word text.now) }
 {
     for byte in text {
-        expect(f, *byte)?;
+        expect(buffer, r, *byte)?;
     }
     Ok(())
 }

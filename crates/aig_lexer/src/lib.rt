@@ -1,13 +1,13 @@
 //! Reads the words and numbers of the AIGER formats from a source of bytes.
 #![tactic(auto)]
 
+mod buffer;
 mod error;
-mod feed;
 mod header;
 mod lexer;
 
 pub use aig_format::FileKind;
+pub use buffer::InputBuffer;
 pub use error::LexError;
-pub use feed::{Buffered, ByteFeed, WINDOW_SIZE};
 pub use header::{Header, header_line};
 pub use lexer::{delta, ended, next_line, number_from, pair};

@@ -1,7 +1,7 @@
 -- What the answer of a reading call tells of the bytes, by the laws of readers on lists.
-use Rattle.std.proofs.Common.{◌≡◌, ◌≢◌, ◌↔◌, ℕ, true, List, ◌++◌, Option, Some, None, Result, Ok, Err, IfSome, IsErrOf, refl, sym, ap, subst, ◌∙◌}
+use Rattle.std.proofs.Common.{◌≡◌, ◌≢◌, ◌↔◌, ℕ, Bool, true, List, ◌++◌, Option, Some, None, Result, Ok, Err, IfSome, IsErrOf, refl, sym, ap, subst, ◌∙◌}
 use Rattle.std.specs.Io.KnownBytes.{IsAtEnd}
-use Rattle.std.proofs.lemmas.Option.{same_Some}
+use Rattle.std.proofs.lemmas.Option.{IfSome_then, same_Some}
 use Rattle.std.proofs.KnownBytes.{Consumes-whole}
 use Rattle.aig_format.specs.declared.FileKind.{FileKind}
 use Rattle.aig_format.specs.File.{NameLine, File, HeaderNumbers}
@@ -14,9 +14,9 @@ use Rattle.aig_circuit.specs.declared.view.CircuitLists.{CircuitLists}
 use Rattle.aig_symbols.specs.Names.{tail_of}
 use Rattle.aig_reader.specs.declared.error.ReadError.{ReadError}
 use Rattle.aig_reader.specs.declared.error.ReadError.TheVariants as errors
-use Rattle.aig_reader.specs.Faults.{IsSectionFault, ReadUnlessTransient}
+use Rattle.aig_reader.specs.Faults.{IsSectionFault, ReadTells}
 use Rattle.aig_reader.specs.Reading.{AreListsOf, IsReadAs, ReadsExactly, UnlessTransient}
-use Rattle.aig_lexer.specs.Takes.{Takes, Misses}
+use Rattle.aig_lexer.specs.Takes.{Feed, Takes, Misses}
 use Rattle.aig_reader.proofs.Body.{on_refusal-weaker}
 use Rattle.aig_lexer.proofs.Going.{known_rest}
 use Rattle.aig_lexer.proofs.Taking.{misses_either, misses_both}
@@ -48,16 +48,16 @@ refuses limit bytes e none tells = record {
 }
 
 -- a fault that refuses, with what it tells
-refusal : (T U : Type 0) (e : ReadError) (P Q R : Type 0) → (P → Q → R) → ReadUnlessTransient e P → UnlessTransient (fault T e) Q → UnlessTransient (fault U e) R
-refusal T U errors.Memory P Q R f h k = tt
-refusal T U errors.Stream P Q R f h k = tt
-refusal T U errors.Header P Q R f h k = f h k
-refusal T U errors.TooMany P Q R f h k = f h k
-refusal T U (errors.Syntax s) P Q R f h k = f h k
-refusal T U (errors.Literal s) P Q R f h k = f h k
-refusal T U errors.Delta P Q R f h k = f h k
-refusal T U errors.Name P Q R f h k = f h k
-refusal T U errors.Open P Q R f h k = f h k
+refusal : (T U : Type 0) (e : ReadError) (P Q R : Type 0) (failed : Bool) → (P → Q → R) → ReadTells e P failed → UnlessTransient (fault T e) Q → UnlessTransient (fault U e) R
+refusal T U errors.Memory P Q R failed f h k = tt
+refusal T U errors.Stream P Q R failed f h k = tt
+refusal T U errors.Header P Q R failed f h k = f h k
+refusal T U errors.TooMany P Q R failed f h k = f h k
+refusal T U (errors.Syntax s) P Q R failed f h k = f h k
+refusal T U (errors.Literal s) P Q R failed f h k = f h k
+refusal T U errors.Delta P Q R failed f h k = f h k
+refusal T U errors.Name P Q R failed f h k = f h k
+refusal T U errors.Open P Q R failed f h k = f h k
 
 always : (T : Type 0) (e : ReadError) → UnlessTransient (fault T e) (Unit {0})
 always T errors.Memory = tt
@@ -89,13 +89,22 @@ no_file limit bytes h = file_is limit bytes ∙ ap (λ (o : Option (Body × List
 abbrev pub sections_of : FileKind × HeaderNumbers → List ℕ → Option (Parts × List ℕ)
 sections_of h = parse_fitting_sections h.0 h.1
 
--- the header is refused
-pub refused_header : (T : Type 0) (limit : ℕ) (before : Option (List ℕ)) (e : ReadError) → ReadUnlessTransient e (Misses (parse_fitting_header limit) before)
+no_files : (limit : ℕ) (before : Feed) → Misses (parse_fitting_body limit) before → IfSome before.coming (λ bytes. parse_fitting limit bytes ≡ None)
+no_files limit before h = IfSome_then before.coming h (no_file limit)
+
+-- where no file is read, a fault is told
+refused_known : (T : Type 0) (limit : ℕ) (before : Option (List ℕ)) (e : ReadError) (failed : Bool) → ReadTells e (IfSome before (λ bytes. parse_fitting limit bytes ≡ None)) failed
     → IfSome before (λ bytes. UnlessTransient (fault T e) (IsErrOf (fault T e) errors.TooMany ↔ (too_many_at limit bytes ≡ true))) → ReadsKnown (fault CircuitLists e) limit before
-refused_header T limit None e h k = tt
-refused_header T limit (Some bytes) e h k =
-    refusal T CircuitLists e (parse_fitting_header limit bytes ≡ None) (IsErrOf (fault T e) errors.TooMany ↔ (too_many_at limit bytes ≡ true)) (ReadsExactly AreListsOf limit (fault CircuitLists e) bytes)
-    (λ none tells. refuses limit bytes e (no_file limit bytes (misses_either (parse_fitting_header limit) sections_of (Some bytes) none)) (told T e _ tells)) h k
+refused_known T limit None e failed h k = tt
+refused_known T limit (Some bytes) e failed h k =
+    refusal T CircuitLists e (parse_fitting limit bytes ≡ None) (IsErrOf (fault T e) errors.TooMany ↔ (too_many_at limit bytes ≡ true)) (ReadsExactly AreListsOf limit (fault CircuitLists e) bytes) failed
+    (λ none tells. refuses limit bytes e none (told T e _ tells)) h k
+
+-- the header is refused
+pub refused_header : (T : Type 0) (limit : ℕ) (before : Feed) (e : ReadError) (failed : Bool) → ReadTells e (Misses (parse_fitting_header limit) before) failed
+    → IfSome before.coming (λ bytes. UnlessTransient (fault T e) (IsErrOf (fault T e) errors.TooMany ↔ (too_many_at limit bytes ≡ true))) → ReadsKnown (fault CircuitLists e) limit before.coming
+refused_header T limit before e failed h k =
+    refused_known T limit before.coming e failed (on_refusal-weaker e _ _ failed (λ (none : Misses (parse_fitting_header limit) before). no_files limit before (misses_either (parse_fitting_header limit) sections_of before none)) h) k
 
 -- a header that was taken is not too large
 not_too_many : (T : Type 0) (x : T) (P : Type 0) → ◌≡◌ {A = Result T ReadError} (Ok x) (Err errors.TooMany) ↔ P → P → ⊥
@@ -105,38 +114,34 @@ pub section_fault : (e : ReadError) → IsSectionFault e → e ≢ errors.TooMan
 section_fault e h is = subst IsSectionFault is h
 
 -- where a header was taken and no file is read, a fault that isn't TooMany is told
-refused_following : (T : Type 0) (header : T) (limit : ℕ) (before : Option (List ℕ)) (e : ReadError) → ReadUnlessTransient e (IfSome before (λ bytes. parse_fitting limit bytes ≡ None)) → e ≢ errors.TooMany
+refused_following : (T : Type 0) (header : T) (limit : ℕ) (before : Option (List ℕ)) (e : ReadError) (failed : Bool) → ReadTells e (IfSome before (λ bytes. parse_fitting limit bytes ≡ None)) failed → e ≢ errors.TooMany
     → IfSome before (λ bytes. ◌≡◌ {A = Result T ReadError} (Ok header) (Err errors.TooMany) ↔ (too_many_at limit bytes ≡ true)) → ReadsKnown (fault CircuitLists e) limit before
-refused_following T header limit None e h other k = tt
-refused_following T header limit (Some bytes) e h other k =
-    refusal CircuitLists CircuitLists e (parse_fitting limit bytes ≡ None) (Unit {0}) (ReadsExactly AreListsOf limit (fault CircuitLists e) bytes)
+refused_following T header limit None e failed h other k = tt
+refused_following T header limit (Some bytes) e failed h other k =
+    refusal CircuitLists CircuitLists e (parse_fitting limit bytes ≡ None) (Unit {0}) (ReadsExactly AreListsOf limit (fault CircuitLists e) bytes) failed
     (λ none t. refuses limit bytes e none (λ is. absurd (other is), λ p. absurd (not_too_many T header _ k p))) h (always CircuitLists e)
 
-no_files : (limit : ℕ) (before : Option (List ℕ)) → Misses (parse_fitting_body limit) before → IfSome before (λ bytes. parse_fitting limit bytes ≡ None)
-no_files limit None h = tt
-no_files limit (Some bytes) h = no_file limit bytes h
-
 -- a section is refused
-pub refused_section : (T : Type 0) (header : T) (limit : ℕ) (before m : Option (List ℕ)) (h : FileKind × HeaderNumbers) (e : ReadError) → Takes (parse_fitting_header limit) before m h → ReadUnlessTransient e (Misses (sections_of h) m) → e ≢ errors.TooMany
-    → IfSome before (λ bytes. ◌≡◌ {A = Result T ReadError} (Ok header) (Err errors.TooMany) ↔ (too_many_at limit bytes ≡ true)) → ReadsKnown (fault CircuitLists e) limit before
-refused_section T header limit before m h e taken missed other k =
-    refused_following T header limit before e
-    (on_refusal-weaker e _ _ (λ (none : Misses (sections_of h) m). no_files limit before (misses_both (parse_fitting_header limit) sections_of before m h taken none)) missed) other k
+pub refused_section : (T : Type 0) (header : T) (limit : ℕ) (before m : Feed) (h : FileKind × HeaderNumbers) (e : ReadError) (failed : Bool) → Takes (parse_fitting_header limit) before m h → ReadTells e (Misses (sections_of h) m) failed → e ≢ errors.TooMany
+    → IfSome before.coming (λ bytes. ◌≡◌ {A = Result T ReadError} (Ok header) (Err errors.TooMany) ↔ (too_many_at limit bytes ≡ true)) → ReadsKnown (fault CircuitLists e) limit before.coming
+refused_section T header limit before m h e failed taken missed other k =
+    refused_following T header limit before.coming e failed
+    (on_refusal-weaker e _ _ failed (λ (none : Misses (sections_of h) m). no_files limit before (misses_both (parse_fitting_header limit) sections_of before m h taken none)) missed) other k
 
 -- the names are refused
-pub refused_names : (T : Type 0) (header : T) (limit : ℕ) (before m : Option (List ℕ)) (body : Body) (e : ReadError) → Takes (parse_fitting_body limit) before m body → ReadUnlessTransient e (IfSome m (λ bytes. tail_of body.0.1 bytes ≡ None)) → e ≢ errors.TooMany
-    → IfSome before (λ bytes. ◌≡◌ {A = Result T ReadError} (Ok header) (Err errors.TooMany) ↔ (too_many_at limit bytes ≡ true)) → ReadsKnown (fault CircuitLists e) limit before
-refused_names T header limit before m body e taken missed other k =
-    refused_following T header limit before e
-    (on_refusal-weaker e _ _
-    (λ (none : IfSome m (λ bytes. tail_of body.0.1 bytes ≡ None)).
-    known_rest before m taken.taken (λ bytes. parse_fitting limit bytes ≡ None) (λ bytes. tail_of body.0.1 bytes ≡ None) taken.consumed none
+pub refused_names : (T : Type 0) (header : T) (limit : ℕ) (before m : Feed) (body : Body) (e : ReadError) (failed : Bool) → Takes (parse_fitting_body limit) before m body → ReadTells e (IfSome m.coming (λ bytes. tail_of body.0.1 bytes ≡ None)) failed → e ≢ errors.TooMany
+    → IfSome before.coming (λ bytes. ◌≡◌ {A = Result T ReadError} (Ok header) (Err errors.TooMany) ↔ (too_many_at limit bytes ≡ true)) → ReadsKnown (fault CircuitLists e) limit before.coming
+refused_names T header limit before m body e failed taken missed other k =
+    refused_following T header limit before.coming e failed
+    (on_refusal-weaker e _ _ failed
+    (λ (none : IfSome m.coming (λ bytes. tail_of body.0.1 bytes ≡ None)).
+    known_rest before.coming m.coming taken.taken (λ bytes. parse_fitting limit bytes ≡ None) (λ bytes. tail_of body.0.1 bytes ≡ None) taken.advances.consumed none
     (λ rest no. file_is limit (taken.taken ++ rest) ∙ ap (λ (o : Option (Body × List ℕ)). o >>= with_names) (taken.reads rest) ∙ ap (λ (o : Option (List NameLine)). o >>= λ names. Some (file_from body names)) no)) missed) other k
 
 -- ---- acceptance
 
 -- the file that was read
-pub accepted : (limit : ℕ) (before m : Option (List ℕ)) (body : Body) (h : Takes (parse_fitting_body limit) before m body) (names : List NameLine) (tail : List ℕ) → tail_of body.0.1 tail ≡ Some names → Accepts (h.taken ++ tail) limit (file_from body names)
+pub accepted : (limit : ℕ) (before m : Feed) (body : Body) (h : Takes (parse_fitting_body limit) before m body) (names : List NameLine) (tail : List ℕ) → tail_of body.0.1 tail ≡ Some names → Accepts (h.taken ++ tail) limit (file_from body names)
 accepted limit before m body h names tail is =
     fitting_sound limit (h.taken ++ tail) (file_from body names)
     (file_is limit (h.taken ++ tail) ∙ ap (λ (o : Option (Body × List ℕ)). o >>= with_names) (h.reads tail) ∙ ap (λ (o : Option (List NameLine)). o >>= λ ns. Some (file_from body ns)) is)

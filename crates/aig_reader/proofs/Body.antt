@@ -1,48 +1,48 @@
 -- The sections after the header line.
-use Rattle.std.proofs.Common.{◌≡◌, ℕ, ◌++◌, List, map, Option, Result, Ok, Err, refl, sym, subst, ◌∙◌}
+use Rattle.std.proofs.Common.{◌≡◌, ℕ, ◌++◌, Bool, List, map, Option, Result, Ok, Err, refl, sym, subst, ◌∙◌}
 use Rattle.aig_circuit.specs.Properties.{Properties}
 use Rattle.aig_format.specs.declared.FileKind.{FileKind}
 use Rattle.aig_format.specs.declared.FileKind.TheVariants.{Text, Binary}
 use Rattle.aig_format.specs.File.{LatchLine, GateLine, HeaderNumbers}
-use Rattle.aig_parsing.specs.Parse.{◌>>=◌, Parts, parse_map, parse_numbers}
-use Rattle.aig_parsing.specs.ParseTested.{parse_fitting_gates, parse_fitting_inputs, parse_fitting_latches, parse_fitting_properties, parse_section_lines, parse_literal_justice, parse_literal_sets, parse_literals}
+use Rattle.aig_parsing.specs.Parse.{◌>>=◌, Parts, parse_map}
+use Rattle.aig_parsing.specs.ParseTested.{parse_fitting_gates, parse_fitting_inputs, parse_fitting_latches, parse_fitting_properties, parse_section_lines, parse_literal_justice, parse_literals}
 use Rattle.aig_reader.specs.declared.error.Section.{Section}
 use Rattle.aig_reader.specs.declared.error.LineError.{LineError}
 use Rattle.aig_reader.specs.declared.error.LineError.TheVariants.{Memory, Stream, Syntax, Literal}
 use Rattle.aig_reader.specs.declared.error.ReadError.{ReadError}
 use Rattle.aig_reader.specs.declared.error.ReadError.TheVariants as errors
-use Rattle.aig_reader.specs.Faults.{LineUnlessTransient, ReadUnlessTransient, error_in, gate_error_in, result_by}
-use Rattle.aig_lexer.specs.Takes.{Takes, Misses, Made, Makes}
+use Rattle.aig_reader.specs.Faults.{LineTells, ReadTells, error_in, gate_error_in, result_by}
+use Rattle.aig_lexer.specs.Takes.{Feed, Takes, Misses, Made, Makes}
 use Rattle.aig_lexer.proofs.Taking.{misses_first, misses_mapped, misses_next, takes_bind, takes_mapped}
 
 -- ---- faults seen otherwise
 
 -- a fault of a line that refuses is one of the file that refuses
 abbrev Refuses : (LineError → ReadError) → Type 1
-Refuses fault = (e : LineError) (P : Type 0) → LineUnlessTransient e P → ReadUnlessTransient (fault e) P
+Refuses fault = (e : LineError) (P : Type 0) (failed : Bool) → LineTells e P failed → ReadTells (fault e) P failed
 
 pub in_section : (s : Section) → Refuses (error_in s)
-in_section s Memory P h = tt
-in_section s Stream P h = tt
-in_section s Syntax P h = h
-in_section s Literal P h = h
+in_section s Memory P failed h = tt
+in_section s Stream P failed h = h
+in_section s Syntax P failed h = h
+in_section s Literal P failed h = h
 
 pub in_gates : (kind : FileKind) → Refuses (gate_error_in kind)
-in_gates Text e P h = elim e as (λ d. LineUnlessTransient d P → ReadUnlessTransient (gate_error_in Text d) P) [ Memory ↦ λ k. tt | Stream ↦ λ k. tt | Syntax ↦ λ k. k | Literal ↦ λ k. k ] h
-in_gates Binary e P h = elim e as (λ d. LineUnlessTransient d P → ReadUnlessTransient (gate_error_in Binary d) P) [ Memory ↦ λ k. tt | Stream ↦ λ k. tt | Syntax ↦ λ k. k | Literal ↦ λ k. k ] h
+in_gates Text e P failed h = elim e as (λ d. LineTells d P failed → ReadTells (gate_error_in Text d) P failed) [ Memory ↦ λ k. tt | Stream ↦ λ k. k | Syntax ↦ λ k. k | Literal ↦ λ k. k ] h
+in_gates Binary e P failed h = elim e as (λ d. LineTells d P failed → ReadTells (gate_error_in Binary d) P failed) [ Memory ↦ λ k. tt | Stream ↦ λ k. k | Syntax ↦ λ k. k | Literal ↦ λ k. k ] h
 
 -- ---- answers
 
-pub on_refusal-weaker : (e : ReadError) (P Q : Type 0) → (P → Q) → ReadUnlessTransient e P → ReadUnlessTransient e Q
-on_refusal-weaker errors.Memory P Q f h = tt
-on_refusal-weaker errors.Stream P Q f h = tt
-on_refusal-weaker errors.Header P Q f h = f h
-on_refusal-weaker errors.TooMany P Q f h = f h
-on_refusal-weaker (errors.Syntax s) P Q f h = f h
-on_refusal-weaker (errors.Literal s) P Q f h = f h
-on_refusal-weaker errors.Delta P Q f h = f h
-on_refusal-weaker errors.Name P Q f h = f h
-on_refusal-weaker errors.Open P Q f h = f h
+pub on_refusal-weaker : (e : ReadError) (P Q : Type 0) (failed : Bool) → (P → Q) → ReadTells e P failed → ReadTells e Q failed
+on_refusal-weaker errors.Memory P Q failed f h = tt
+on_refusal-weaker errors.Stream P Q failed f h = h
+on_refusal-weaker errors.Header P Q failed f h = f h
+on_refusal-weaker errors.TooMany P Q failed f h = f h
+on_refusal-weaker (errors.Syntax s) P Q failed f h = f h
+on_refusal-weaker (errors.Literal s) P Q failed f h = f h
+on_refusal-weaker errors.Delta P Q failed f h = f h
+on_refusal-weaker errors.Name P Q failed f h = f h
+on_refusal-weaker errors.Open P Q failed f h = f h
 
 -- what a result is, by what it is seen as
 pub ok_in : {X E : Type 0} (fault : E → ReadError) (lines : Result X E) (result : Result X ReadError) (x : X) → result ≡ result_by fault lines → result ≡ Ok x → lines ≡ Ok x
@@ -53,23 +53,28 @@ pub err_in : {X E : Type 0} (fault : E → ReadError) (lines : Result X E) (resu
 err_in fault (Ok y) result e is was = let same = sym is ∙ was in absurd cc
 err_in {X} {E} fault (Err k) result e is was = let same : ◌≡◌ {A = Result X ReadError} (Err (fault k)) (Err e) = sym is ∙ was in (k, refl, cc)
 
-module _ {X Y : Type 0} (fault : LineError → ReadError) (refuses : Refuses fault) (IsOf : X → Y → Type 0) (b a : Option (List ℕ)) (read : List ℕ → Option (Y × List ℕ)) where
-  pub made_in : (lines : Result X LineError) (result : Result X ReadError) (x : X) → result ≡ result_by fault lines → result ≡ Ok x → Makes LineUnlessTransient IsOf b a lines read → Made IsOf b a x read
-  made_in lines result x is was h = subst (λ (r : Result X LineError). Makes LineUnlessTransient IsOf b a r read) (ok_in fault lines result x is was) h
+module _ {X Y : Type 0} (fault : LineError → ReadError) (refuses : Refuses fault) (IsOf : X → Y → Type 0) (b a : Feed) (read : List ℕ → Option (Y × List ℕ)) where
+  pub made_in : (lines : Result X LineError) (result : Result X ReadError) (x : X) → result ≡ result_by fault lines → result ≡ Ok x → Makes LineTells IsOf b a lines read → Made IsOf b a x read
+  made_in lines result x is was h = subst (λ (r : Result X LineError). Makes LineTells IsOf b a r read) (ok_in fault lines result x is was) h
 
-  pub missed_in : (lines : Result X LineError) (result : Result X ReadError) (e : ReadError) → result ≡ result_by fault lines → result ≡ Err e → Makes LineUnlessTransient IsOf b a lines read → ReadUnlessTransient e (Misses read b)
+  pub missed_in : (lines : Result X LineError) (result : Result X ReadError) (e : ReadError) → result ≡ result_by fault lines → result ≡ Err e → Makes LineTells IsOf b a lines read → ReadTells e (Misses read b) a.failed
   missed_in lines result e is was h =
       let k = err_in fault lines result e is was in
-      subst (λ (d : ReadError). ReadUnlessTransient d (Misses read b)) k.2 (refuses k.0 (Misses read b) (subst (λ (r : Result X LineError). Makes LineUnlessTransient IsOf b a r read) k.1 h))
+      subst (λ (d : ReadError). ReadTells d (Misses read b) a.failed) k.2 (refuses k.0 (Misses read b) a.failed (subst (λ (r : Result X LineError). Makes LineTells IsOf b a r read) k.1 h))
+
+  -- an answer whose fault is seen otherwise
+  pub makes_in : (lines : Result X LineError) (result : Result X ReadError) → result ≡ result_by fault lines → Makes LineTells IsOf b a lines read → Makes ReadTells IsOf b a result read
+  makes_in lines result is h = subst (λ (r : Result X ReadError). Makes ReadTells IsOf b a r read) (sym is) (go lines h)
+    where
+      go : (lines : Result X LineError) → Makes LineTells IsOf b a lines read → Makes ReadTells IsOf b a (result_by fault lines) read
+      go (Ok x) h = h
+      go (Err e) h = refuses e (Misses read b) a.failed h
 
 -- ---- the properties: what they take, and where they stop
 
 module _ (ns : HeaderNumbers) where
   abbrev literals : ℕ → List ℕ → Option (List ℕ × List ℕ)
   literals = parse_literals ns.greatest
-
-  abbrev sets_of : List ℕ → List ℕ → Option (List (List ℕ) × List ℕ)
-  sets_of = parse_literal_sets ns.greatest
 
   abbrev following_justice : List ℕ → List ℕ → List ℕ → List (List ℕ) → List ℕ → Option (Properties ℕ × List ℕ)
   following_justice outputs bads constraints justice = parse_map (λ fairness. record { outputs = outputs; bads = bads; constraints = constraints; justice = justice; fairness = fairness }) (literals ns.fairness)
@@ -83,52 +88,42 @@ module _ (ns : HeaderNumbers) where
   abbrev following_outputs : List ℕ → List ℕ → Option (Properties ℕ × List ℕ)
   following_outputs outputs bytes = literals ns.bads bytes >>= λ d. following_bads outputs d.0 d.1
 
-  module _ (b o : Option (List ℕ)) (outputs : List ℕ) (ho : Takes (literals ns.outputs) b o outputs) where
+  module _ (b o : Feed) (outputs : List ℕ) (ho : Takes (literals ns.outputs) b o outputs) where
     after_outputs : Misses (following_outputs outputs) o → Misses (parse_fitting_properties ns) b
     after_outputs h = misses_next (literals ns.outputs) (λ x. following_outputs x.0 x.1) b o outputs ho h
 
     pub misses_bads : Misses (literals ns.bads) o → Misses (parse_fitting_properties ns) b
     misses_bads h = after_outputs (misses_first (literals ns.bads) (λ d. following_bads outputs d.0 d.1) o h)
 
-    module _ (d : Option (List ℕ)) (bads : List ℕ) (hd : Takes (literals ns.bads) o d bads) where
+    module _ (d : Feed) (bads : List ℕ) (hd : Takes (literals ns.bads) o d bads) where
       after_bads : Misses (following_bads outputs bads) d → Misses (parse_fitting_properties ns) b
       after_bads h = after_outputs (misses_next (literals ns.bads) (λ d. following_bads outputs d.0 d.1) o d bads hd h)
 
       pub misses_constraints : Misses (literals ns.constraints) d → Misses (parse_fitting_properties ns) b
       misses_constraints h = after_bads (misses_first (literals ns.constraints) (λ c. following_constraints outputs bads c.0 c.1) d h)
 
-      module _ (c : Option (List ℕ)) (constraints : List ℕ) (hc : Takes (literals ns.constraints) d c constraints) where
+      module _ (c : Feed) (constraints : List ℕ) (hc : Takes (literals ns.constraints) d c constraints) where
         abbrev next_sets : List (List ℕ) × List ℕ → Option (Properties ℕ × List ℕ)
         next_sets j = following_justice outputs bads constraints j.0 j.1
 
         after_constraints : Misses (following_constraints outputs bads constraints) c → Misses (parse_fitting_properties ns) b
         after_constraints h = after_bads (misses_next (literals ns.constraints) (λ c. following_constraints outputs bads c.0 c.1) d c constraints hc h)
 
-        without_justice : Misses (parse_literal_justice ns.greatest ns.justice) c → Misses (parse_fitting_properties ns) b
-        without_justice h = after_constraints (misses_first (parse_literal_justice ns.greatest ns.justice) next_sets c h)
+        pub misses_justice : Misses (parse_literal_justice ns.greatest ns.justice) c → Misses (parse_fitting_properties ns) b
+        misses_justice h = after_constraints (misses_first (parse_literal_justice ns.greatest ns.justice) next_sets c h)
 
-        pub misses_sizes : Misses (parse_numbers ns.justice) c → Misses (parse_fitting_properties ns) b
-        misses_sizes h = without_justice (misses_first (parse_numbers ns.justice) (λ s. sets_of s.0 s.1) c h)
+        module _ (j : Feed) (sets : List (List ℕ)) (hj : Takes (parse_literal_justice ns.greatest ns.justice) c j sets) where
+          pub misses_fairness : Misses (literals ns.fairness) j → Misses (parse_fitting_properties ns) b
+          misses_fairness h = after_constraints (misses_next (parse_literal_justice ns.greatest ns.justice) next_sets c j sets hj (misses_mapped _ (literals ns.fairness) j h))
 
-        module _ (s : Option (List ℕ)) (sizes : List ℕ) (hs : Takes (parse_numbers ns.justice) c s sizes) where
-          pub misses_sets : Misses (sets_of sizes) s → Misses (parse_fitting_properties ns) b
-          misses_sets h = without_justice (misses_next (parse_numbers ns.justice) (λ s. sets_of s.0 s.1) c s sizes hs h)
-
-          module _ (j : Option (List ℕ)) (sets : List (List ℕ)) (hj : Takes (sets_of sizes) s j sets) where
-            takes_justice : Takes (parse_literal_justice ns.greatest ns.justice) c j sets
-            takes_justice = takes_bind (parse_numbers ns.justice) (λ s. sets_of s.0 s.1) c s j sizes sets hs hj
-
-            pub misses_fairness : Misses (literals ns.fairness) j → Misses (parse_fitting_properties ns) b
-            misses_fairness h = after_constraints (misses_next (parse_literal_justice ns.greatest ns.justice) next_sets c j sets takes_justice (misses_mapped _ (literals ns.fairness) j h))
-
-            pub takes_properties : (a : Option (List ℕ)) (fairness : List ℕ) → Takes (literals ns.fairness) j a fairness
-                → Takes (parse_fitting_properties ns) b a (record { outputs = outputs; bads = bads; constraints = constraints; justice = sets; fairness = fairness })
-            takes_properties a fairness h =
-                takes_bind (literals ns.outputs) (λ x. following_outputs x.0 x.1) b o a outputs _ ho
-                (takes_bind (literals ns.bads) (λ d. following_bads outputs d.0 d.1) o d a bads _ hd
-                (takes_bind (literals ns.constraints) (λ c. following_constraints outputs bads c.0 c.1) d c a constraints _ hc
-                (takes_bind (parse_literal_justice ns.greatest ns.justice) next_sets c j a sets _ takes_justice
-                (takes_mapped _ (literals ns.fairness) j a fairness h))))
+          pub takes_properties : (a : Feed) (fairness : List ℕ) → Takes (literals ns.fairness) j a fairness
+              → Takes (parse_fitting_properties ns) b a (record { outputs = outputs; bads = bads; constraints = constraints; justice = sets; fairness = fairness })
+          takes_properties a fairness h =
+              takes_bind (literals ns.outputs) (λ x. following_outputs x.0 x.1) b o a outputs _ ho
+              (takes_bind (literals ns.bads) (λ d. following_bads outputs d.0 d.1) o d a bads _ hd
+              (takes_bind (literals ns.constraints) (λ c. following_constraints outputs bads c.0 c.1) d c a constraints _ hc
+              (takes_bind (parse_literal_justice ns.greatest ns.justice) next_sets c j a sets _ hj
+              (takes_mapped _ (literals ns.fairness) j a fairness h))))
 
 -- ---- all sections
 
@@ -145,22 +140,22 @@ module _ (kind : FileKind) (ns : HeaderNumbers) where
   abbrev following_inputs : List ℕ → List ℕ → Option (Parts × List ℕ)
   following_inputs inputs bytes = parse_fitting_latches kind ns inputs bytes >>= λ l. following_latches inputs l.0 l.1
 
-  module _ (b i : Option (List ℕ)) (inputs : List ℕ) (hi : Takes (parse_fitting_inputs kind ns) b i inputs) where
+  module _ (b i : Feed) (inputs : List ℕ) (hi : Takes (parse_fitting_inputs kind ns) b i inputs) where
     after_inputs : Misses (following_inputs inputs) i → Misses (parse_section_lines kind ns) b
     after_inputs h = misses_next (parse_fitting_inputs kind ns) (λ i. following_inputs i.0 i.1) b i inputs hi h
 
-    module _ (l : Option (List ℕ)) (latches : List LatchLine) (hl : Takes (parse_fitting_latches kind ns inputs) i l latches) where
+    module _ (l : Feed) (latches : List LatchLine) (hl : Takes (parse_fitting_latches kind ns inputs) i l latches) where
       after_latches : Misses (following_latches inputs latches) l → Misses (parse_section_lines kind ns) b
       after_latches h = after_inputs (misses_next (parse_fitting_latches kind ns inputs) (λ l. following_latches inputs l.0 l.1) i l latches hl h)
 
       pub misses_properties : Misses (parse_fitting_properties ns) l → Misses (parse_section_lines kind ns) b
       misses_properties h = after_latches (misses_first (parse_fitting_properties ns) (λ x. following_properties inputs latches x.0 x.1) l h)
 
-      module _ (p : Option (List ℕ)) (x : Properties ℕ) (hp : Takes (parse_fitting_properties ns) l p x) where
+      module _ (p : Feed) (x : Properties ℕ) (hp : Takes (parse_fitting_properties ns) l p x) where
         pub misses_gates : Misses (gates inputs latches) p → Misses (parse_section_lines kind ns) b
         misses_gates h = after_latches (misses_next (parse_fitting_properties ns) (λ x. following_properties inputs latches x.0 x.1) l p x hp (misses_mapped _ (gates inputs latches) p h))
 
-        pub takes_sections : (a : Option (List ℕ)) (gs : List GateLine) → Takes (gates inputs latches) p a gs
+        pub takes_sections : (a : Feed) (gs : List GateLine) → Takes (gates inputs latches) p a gs
             → Takes (parse_section_lines kind ns) b a (record { inputs = inputs; latches = latches; properties = x; gates = gs })
         takes_sections a gs h =
             takes_bind (parse_fitting_inputs kind ns) (λ i. following_inputs i.0 i.1) b i a inputs _ hi

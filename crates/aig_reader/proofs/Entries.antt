@@ -3,12 +3,13 @@ use Rattle.std.proofs.Common.{◌≡◌, ℕ, zero, suc, ◌+◌, ◌<◌, List,
 use Rattle.std.proofs.lemmas.Option.{same_Some}
 use Rattle.std.proofs.lemmas.List.{map_push}
 use Rattle.std.proofs.Math.Seq.{get_or-append_seam}
-use Rattle.std.proofs.KnownBytes.{Consumes-trans}
 use Rattle.aig_parsing.specs.Parse.{◌>>=◌, parse_entries, parse_sets}
 use Rattle.aig_parsing.specs.ParseTested.{parse_literals, parse_literal_sets}
 use Rattle.aig_parsing.proofs.Numbers.{bind_some}
-use Rattle.aig_lexer.specs.Takes.{Takes, Misses}
+use Rattle.aig_lexer.specs.Takes.{Feed, Takes, Misses}
+use Rattle.aig_lexer.proofs.Feeds.{advances_on}
 use Rattle.aig_lexer.proofs.Going.{known_rest}
+use Rattle.aig_lexer.proofs.Taking.{takes_same, misses_same}
 
 -- an entry before others
 abbrev pub put_first : {A : Type 0} → A → List A × List ℕ → Option (List A × List ℕ)
@@ -69,23 +70,27 @@ module _ {A : Type 0} (p : List A → List ℕ → Option (A × List ℕ)) where
       ap (λ (w : List A × List ℕ). length w.0) (sym same) ∙ ap suc (count_is n (front ++ y.0.0 ∷ []) y.0.1 ys.0.1 ys.0.0 ys.1)
 
   -- one more entry
-  pub takes_more : (i : ℕ) (b m a : Option (List ℕ)) (xs : List A) (x : A) → Takes (parse_entries p [] i) b m xs → Takes (p xs) m a x → Takes (parse_entries p [] (i + 1)) b a (xs ++ x ∷ [])
+  pub takes_more : (i : ℕ) (b m a : Feed) (xs : List A) (x : A) → Takes (parse_entries p [] i) b m xs → Takes (p xs) m a x → Takes (parse_entries p [] (i + 1)) b a (xs ++ x ∷ [])
   takes_more i b m a xs x h k = record {
     taken = h.taken ++ k.taken;
     reads = λ rest. ap (λ (bs : List ℕ). parse_entries p [] (i + 1) bs) (append_assoc h.taken k.taken rest)
         ∙ ap (λ (n : ℕ). parse_entries p [] n (h.taken ++ (k.taken ++ rest))) (add-one i)
         ∙ one_more i [] (h.taken ++ (k.taken ++ rest)) (k.taken ++ rest) rest xs x (h.reads (k.taken ++ rest)) (k.reads rest);
-    consumed = Consumes-trans b m a h.taken k.taken h.consumed k.consumed;
+    advances = advances_on b m a h.taken k.taken h.advances k.advances;
   }
 
   -- an entry that isn't there
-  pub misses_more : (i n : ℕ) (b m : Option (List ℕ)) (xs : List A) → i < n → Takes (parse_entries p [] i) b m xs → Misses (p xs) m → Misses (parse_entries p [] n) b
+  pub misses_more : (i n : ℕ) (b m : Feed) (xs : List A) → i < n → Takes (parse_entries p [] i) b m xs → Misses (p xs) m → Misses (parse_entries p [] n) b
   misses_more i n b m xs lt h k =
-      known_rest b m h.taken (λ bs. parse_entries p [] n bs ≡ None) (λ bs. p xs bs ≡ None) h.consumed k
+      known_rest b.coming m.coming h.taken (λ bs. parse_entries p [] n bs ≡ None) (λ bs. p xs bs ≡ None) h.advances.consumed k
       (λ rest e. no_more i n [] (h.taken ++ rest) rest xs lt (h.reads rest) e)
 
+  -- all entries
+  pub takes_every : (i n : ℕ) (b a : Feed) (xs : List A) → i ≡ n → Takes (parse_entries p [] i) b a xs → Takes (parse_entries p [] n) b a xs
+  takes_every i n b a xs all h = subst (λ (k : ℕ). Takes (parse_entries p [] k) b a xs) all h
+
   -- as many as were asked for
-  pub takes_count : (n : ℕ) (b a : Option (List ℕ)) (xs : List A) → Takes (parse_entries p [] n) b a xs → length xs ≡ n
+  takes_count : (n : ℕ) (b a : Feed) (xs : List A) → Takes (parse_entries p [] n) b a xs → length xs ≡ n
   takes_count n b a xs h = count_is n [] (h.taken ++ []) [] xs (h.reads [])
 
 pub length_push : {A : Type 0} (xs : List A) (x : A) → length (xs ++ x ∷ []) ≡ length xs + 1
@@ -113,8 +118,31 @@ sets_following greatest done (n ∷ sizes) front bs h =
     go (Some x) rest = ap (λ (r : Option (List (List ℕ) × List ℕ)). r >>= put_first x.0) (rest x)
 
 -- sets of these sizes
-pub sets_is_entries : (greatest : ℕ) (sizes : List ℕ) (bs : List ℕ) → parse_entries (set_at greatest sizes) [] (length sizes) bs ≡ parse_literal_sets greatest sizes bs
+sets_is_entries : (greatest : ℕ) (sizes : List ℕ) (bs : List ℕ) → parse_entries (set_at greatest sizes) [] (length sizes) bs ≡ parse_literal_sets greatest sizes bs
 sets_is_entries greatest sizes bs = sets_following greatest [] sizes [] bs refl
+
+module _ (greatest : ℕ) (sizes : List ℕ) (i : ℕ) (b m : Feed) (front : List (List ℕ)) (h : Takes (parse_entries (set_at greatest sizes) [] i) b m front) where
+  -- the size of the set after these
+  next_size : get_or sizes i 0 ≡ get_or sizes (length front) 0
+  next_size = ap (λ (k : ℕ). get_or sizes k 0) (sym (takes_count (set_at greatest sizes) i b m front h))
+
+  -- one more set
+  pub takes_set : (a : Feed) (set : List ℕ) → Takes (parse_literals greatest (get_or sizes i 0)) m a set → Takes (parse_entries (set_at greatest sizes) [] (i + 1)) b a (front ++ set ∷ [])
+  takes_set a set k = takes_more (set_at greatest sizes) i b m a front set h (subst (λ (n : ℕ). Takes (parse_literals greatest n) m a set) next_size k)
+
+  -- a set that isn't there
+  pub misses_set : i < length sizes → Misses (parse_literals greatest (get_or sizes i 0)) m → Misses (parse_literal_sets greatest sizes) b
+  misses_set lt k =
+      misses_same (parse_entries (set_at greatest sizes) [] (length sizes)) (parse_literal_sets greatest sizes) b
+      (misses_more (set_at greatest sizes) i (length sizes) b m front lt h (subst (λ (n : ℕ). Misses (parse_literals greatest n) m) next_size k))
+      (sets_is_entries greatest sizes)
+
+  -- all sets
+  pub takes_sets : i ≡ length sizes → Takes (parse_literal_sets greatest sizes) b m front
+  takes_sets all =
+      takes_same (parse_entries (set_at greatest sizes) [] (length sizes)) (parse_literal_sets greatest sizes) b m front
+      (takes_every (set_at greatest sizes) i (length sizes) b m front all h)
+      (sets_is_entries greatest sizes)
 
 -- one more value, made of one more entry
 pub made_push : {A B : Type 0} (f : A → B) (xs : List A) (x : A) (old new : List B) (y : B) → old ≡ map f xs → y ≡ f x → new ≡ old ++ y ∷ [] → new ≡ map f (xs ++ x ∷ [])

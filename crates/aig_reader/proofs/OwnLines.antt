@@ -2,7 +2,7 @@
 use Rattle.std.proofs.Common.{◌≡◌, ℕ, Bool, true, false, List, Option}
 use Rattle.aig_format.specs.declared.FileKind.{FileKind}
 use Rattle.aig_parsing.specs.Parse.{parse_both, parse_map, parse_if, parse_own}
-use Rattle.aig_lexer.specs.Takes.{Takes, Misses}
+use Rattle.aig_lexer.specs.Takes.{Feed, Takes, Misses}
 use Rattle.aig_lexer.proofs.Taking.{misses_test, takes_both, takes_mapped, takes_tested}
 
 module _ {X Y : Type 0} (kind : FileKind) (end : ℕ) (literals : List ℕ) (rest : ℕ → List ℕ → Option (X × List ℕ)) (make : ℕ × X → Y) (test : Y → Bool) where
@@ -12,8 +12,8 @@ module _ {X Y : Type 0} (kind : FileKind) (end : ℕ) (literals : List ℕ) (res
   abbrev line : List ℕ → Option (Y × List ℕ)
   line = parse_if (parse_map make both) test
 
-  module _ (b m : Option (List ℕ)) (e : ℕ) (own : Takes (parse_own kind end literals) b m e) where
-    module _ (a : Option (List ℕ)) (x : X) (following : Takes (rest e) m a x) where
+  module _ (b m : Feed) (e : ℕ) (own : Takes (parse_own kind end literals) b m e) where
+    module _ (a : Feed) (x : X) (following : Takes (rest e) m a x) where
       -- the test fails
       pub misses_line : test (make (e, x)) ≡ false → Misses line b
       misses_line h = misses_test (parse_map make both) test b a (make (e, x)) (takes_mapped make both b a (e, x) (takes_both (parse_own kind end literals) rest b m a e x own following)) h

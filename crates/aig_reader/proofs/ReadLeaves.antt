@@ -1,5 +1,5 @@
 -- What is known once the inputs and the latches were read.
-use Rattle.std.proofs.Common.{◌≡◌, ◌∙◌, ◌+◌, ◌++◌, ℕ, List, Option, Result, Ok, Vec, map, subst}
+use Rattle.std.proofs.Common.{◌≡◌, ◌∙◌, ◌++◌, ℕ, List, Result, Ok, Vec, map, subst}
 use Rattle.std.specs.declared.alloc.Global.{Global}
 use Rattle.aig_circuit.specs.declared.node.AigLatch.{AigLatch}
 use Rattle.aig_parsing.specs.ParseTested.{parse_fitting_inputs, parse_fitting_latches}
@@ -7,12 +7,12 @@ use Rattle.aig_format.specs.declared.FileKind.{FileKind}
 use Rattle.aig_format.specs.File.{LatchLine}
 use Rattle.aig_lexer.specs.declared.header.Header.{Header}
 use Rattle.aig_lexer.specs.Header.{numbers_of}
-use Rattle.aig_lexer.specs.Takes.{Makes, Takes}
+use Rattle.aig_lexer.specs.Takes.{Feed, Makes, Takes}
 use Rattle.aig_reader.specs.declared.error.LineError.{LineError}
 use Rattle.aig_reader.specs.declared.error.ReadError.{ReadError}
 use Rattle.aig_reader.specs.declared.error.Section.TheVariants.{Inputs, Latches}
 use Rattle.aig_reader.specs.declared.variables.DefinedVariables.{DefinedVariables}
-use Rattle.aig_reader.specs.Faults.{LineUnlessTransient, error_in, result_by}
+use Rattle.aig_reader.specs.Faults.{LineTells, error_in, result_by}
 use Rattle.aig_ordering.specs.Lists.{variable_of_literal, latch_of_line}
 use Rattle.aig_reader.specs.Variables.{AreDefined, file_kind}
 use Rattle.aig_reader.proofs.Body.{in_section, made_in}
@@ -22,7 +22,7 @@ abbrev pub literals_with : List ℕ → List LatchLine → List ℕ
 literals_with inputs lines = inputs ++ map (λ (l : LatchLine). l.literal) lines
 
 -- the lines of the inputs and of the latches, which were read one after the other, and the lists that were made of them
-pub record LeavesRead (header : Header) (kind : FileKind) (before between after : Option (List ℕ)) (variables : DefinedVariables) (inputs : List ℕ) (latchs : List AigLatch) : Type 0 where
+pub record LeavesRead (header : Header) (kind : FileKind) (before between after : Feed) (variables : DefinedVariables) (inputs : List ℕ) (latchs : List AigLatch) : Type 0 where
   pub literals : List ℕ
   pub lines : List LatchLine
   pub inputs_are : inputs ≡ map variable_of_literal literals
@@ -31,16 +31,16 @@ pub record LeavesRead (header : Header) (kind : FileKind) (before between after 
   pub takes_latchs : Takes (parse_fitting_latches kind (numbers_of header) literals) between after lines
   pub defined : AreDefined header.greatest variables (literals_with literals lines)
 
-module _ (header : Header) (kind : FileKind) (b m a : Option (List ℕ)) (u v w : DefinedVariables)
+module _ (header : Header) (kind : FileKind) (b m a : Feed) (u v w : DefinedVariables)
     (input_lines : Result (Vec ℕ Global) LineError) (inputs_result : Result (Vec ℕ Global) ReadError) (inputs : Vec ℕ Global)
     (latch_lines : Result (Vec AigLatch Global) LineError) (latchs_result : Result (Vec AigLatch Global) ReadError) (latchs : Vec AigLatch Global) where
   pub leaves_read :
       file_kind u ≡ kind → file_kind v ≡ file_kind u
       → inputs_result ≡ result_by (error_in Inputs) input_lines → inputs_result ≡ Ok inputs
-      → Makes LineUnlessTransient (λ (xs : Vec ℕ Global) literals. (xs.items ≡ map variable_of_literal literals) × AreDefined header.greatest v literals) b m input_lines (parse_fitting_inputs (file_kind u) (numbers_of header))
+      → Makes LineTells (λ (xs : Vec ℕ Global) literals. (xs.items ≡ map variable_of_literal literals) × AreDefined header.greatest v literals) b m input_lines (parse_fitting_inputs (file_kind u) (numbers_of header))
       → latchs_result ≡ result_by (error_in Latches) latch_lines → latchs_result ≡ Ok latchs
       → ((literals : List ℕ) → AreDefined header.greatest v literals
-      → Makes LineUnlessTransient (λ (xs : Vec AigLatch Global) lines. (xs.items ≡ map latch_of_line lines) × AreDefined header.greatest w (literals_with literals lines)) m a latch_lines (parse_fitting_latches (file_kind v) (numbers_of header) literals))
+      → Makes LineTells (λ (xs : Vec AigLatch Global) lines. (xs.items ≡ map latch_of_line lines) × AreDefined header.greatest w (literals_with literals lines)) m a latch_lines (parse_fitting_latches (file_kind v) (numbers_of header) literals))
       → LeavesRead header kind b m a w inputs.items latchs.items
   leaves_read start same inputs_is inputs_was inputs_made latchs_is latchs_was latchs_made =
       let ns = numbers_of header in

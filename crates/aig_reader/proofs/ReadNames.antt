@@ -1,21 +1,21 @@
 -- What reading the names gave.
-use Rattle.std.proofs.Common.{◌≡◌, ◌≢◌, ℕ, List, [], Option, Some, None, Result, Ok, Err, IfSome, IfOk, OnOk, refl, subst}
-use Rattle.std.specs.Io.KnownBytes.{Consumes}
+use Rattle.std.proofs.Common.{◌≡◌, ◌≢◌, ℕ, Bool, List, [], Option, Some, None, Result, Ok, Err, IfSome, IfOk, refl, subst}
 use Rattle.aig_format.specs.File.{HeaderNumbers}
+use Rattle.aig_lexer.specs.Takes.{Feed, Ends}
 use Rattle.aig_symbols.specs.declared.names.error.NameError.{NameError}
 use Rattle.aig_symbols.specs.declared.names.error.NameError.TheVariants as name
-use Rattle.aig_symbols.specs.NameFaults.{NameUnlessTransient}
+use Rattle.aig_symbols.specs.NameFaults.{NameTells}
 use Rattle.aig_symbols.specs.Names.{EndsWith, tail_of}
 use Rattle.aig_reader.specs.declared.error.ReadError.{ReadError}
 use Rattle.aig_reader.specs.declared.error.ReadError.TheVariants as errors
-use Rattle.aig_reader.specs.Faults.{ReadUnlessTransient, name_error_of, result_by}
+use Rattle.aig_reader.specs.Faults.{ReadTells, name_error_of, result_by}
 use Rattle.aig_reader.proofs.Body.{ok_in, err_in}
 use Rattle.aig_parsing.specs.Parse.{parse_tail}
 
-in_names : (k : NameError) (P : Type 0) → NameUnlessTransient k P → ReadUnlessTransient (name_error_of k) P
-in_names name.Memory P h = tt
-in_names name.Stream P h = tt
-in_names name.Shape P h = h
+in_names : (k : NameError) (P : Type 0) (failed : Bool) → NameTells k P failed → ReadTells (name_error_of k) P failed
+in_names name.Memory P failed h = tt
+in_names name.Stream P failed h = h
+in_names name.Shape P failed h = h
 
 -- a fault of the names is not TooMany
 abbrev IsNamesFault : ReadError → Type 0
@@ -27,23 +27,20 @@ is_names_fault name.Memory = tt
 is_names_fault name.Stream = tt
 is_names_fault name.Shape = tt
 
-module _ {X Y : Type 0} (IsOf : X → Y → Type 0) (b a : Option (List ℕ)) (read : List ℕ → Option Y) (lines : Result X NameError) (result : Result X ReadError) (is : result ≡ result_by name_error_of lines) (h : EndsWith NameUnlessTransient IsOf b a lines read) where
+module _ {X Y : Type 0} (IsOf : X → Y → Type 0) (b a : Feed) (read : List ℕ → Option Y) (lines : Result X NameError) (result : Result X ReadError) (is : result ≡ result_by name_error_of lines) (h : EndsWith NameTells IsOf b a lines read) where
   -- the names, the bytes that were read so, and what they are
-  pub names_in : (x : X) → result ≡ Ok x → (y : Y) × IsOf x y × (taken : List ℕ) × (read taken ≡ Some y) × Consumes b a taken
-  names_in x was = subst (λ (r : Result X NameError). EndsWith NameUnlessTransient IsOf b a r read) (ok_in name_error_of lines result x is was) h
+  pub names_in : (x : X) → result ≡ Ok x → (y : Y) × IsOf x y × (taken : List ℕ) × (read taken ≡ Some y) × Ends b a taken
+  names_in x was = subst (λ (r : Result X NameError). EndsWith NameTells IsOf b a r read) (ok_in name_error_of lines result x is was) h
 
-  pub no_names_in : (e : ReadError) → result ≡ Err e → ReadUnlessTransient e (IfSome b (λ bytes. read bytes ≡ None))
+  pub no_names_in : (e : ReadError) → result ≡ Err e → ReadTells e (IfSome b.coming (λ bytes. read bytes ≡ None)) a.failed
   no_names_in e was =
       let k = err_in name_error_of lines result e is was in
-      let P = IfSome b (λ bytes. read bytes ≡ None) in
-      subst (λ (d : ReadError). ReadUnlessTransient d P) k.2 (in_names k.0 P (subst (λ (r : Result X NameError). EndsWith NameUnlessTransient IsOf b a r read) k.1 h))
+      let P = IfSome b.coming (λ bytes. read bytes ≡ None) in
+      subst (λ (d : ReadError). ReadTells d P a.failed) k.2 (in_names k.0 P a.failed (subst (λ (r : Result X NameError). EndsWith NameTells IsOf b a r read) k.1 h))
 
 -- what holds of an answer that is there
 pub if_ok_in : {X E : Type 0} (fault : E → ReadError) (P : X → Type 0) (lines : Result X E) (result : Result X ReadError) (x : X) → result ≡ result_by fault lines → result ≡ Ok x → IfOk lines P → P x
 if_ok_in {X} {E} fault P lines result x is was h = subst (λ (r : Result X E). IfOk r P) (ok_in fault lines result x is was) h
-
-pub on_ok_in : {X E : Type 0} (fault : E → ReadError) (P : Type 0) (lines : Result X E) (result : Result X ReadError) (x : X) → result ≡ result_by fault lines → result ≡ Ok x → OnOk lines P → P
-on_ok_in {X} {E} fault P lines result x is was h = subst (λ (r : Result X E). OnOk r P) (ok_in fault lines result x is was) h
 
 pub names_fault : {X : Type 0} (lines : Result X NameError) (result : Result X ReadError) (e : ReadError) → result ≡ result_by name_error_of lines → result ≡ Err e → e ≢ errors.TooMany
 names_fault lines result e is was same =

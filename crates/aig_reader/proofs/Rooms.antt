@@ -20,3 +20,9 @@ pub room_more : (v w x : DefinedVariables) (i : ℕ) → ((size k : ℕ) → Has
 room_more v w x i f g size k h =
     let sum : k + (i + 1) ≡ k + 1 + i = omega arith in
     g size k (f size (k + 1) (subst (λ (n : ℕ). HasRoom size v n) sum h))
+
+-- no entry yet
+pub room_none : (v : DefinedVariables) (size k : ℕ) → HasRoom size v (k + 0) → HasRoom size v k
+room_none v size k h =
+    let sum : k + 0 ≡ k = omega arith in
+    subst (λ (n : ℕ). HasRoom size v n) sum h

@@ -1,6 +1,7 @@
 -- The sections that were read, as those of the file's circuit.
-use Rattle.std.proofs.Common.{◌≡◌, ℕ, ◌+◌, ◌*◌, ◌/◌, ◌≤◌, Bool, true, false, ◌||◌, ◌&&◌, List, [], ◌++◌, length, Option, Result, Ok, Err, IfOk, IfErr, vec_len, ap, sym, subst, ◌∙◌, arith, leb-true}
+use Rattle.std.proofs.Common.{◌≡◌, ◌+◌, ◌*◌, ◌/◌, ◌≤◌, Bool, true, false, ◌||◌, ◌&&◌, List, [], ◌++◌, length, Result, Ok, Err, IfOk, IfErr, vec_len, ap, sym, subst, ◌∙◌, arith, leb-true}
 use Rattle.std.specs.List.{list_all}
+use Rattle.std.proofs.lemmas.Bool.{false≢true}
 use Rattle.std.proofs.lemmas.List.{length-map}
 use Rattle.aig_format.specs.declared.FileKind.{FileKind}
 use Rattle.aig_format.specs.declared.FileKind.TheVariants.{Text, Binary}
@@ -15,31 +16,42 @@ use Rattle.aig_parsing.proofs.SectionFacts.{HasCounts, lines_tell}
 use Rattle.aig_ordering.specs.Tables.{AreNodesOf}
 use Rattle.aig_lexer.specs.declared.header.Header.{Header}
 use Rattle.aig_lexer.specs.Header.{numbers_of}
-use Rattle.aig_lexer.specs.Takes.{Makes, Takes}
+use Rattle.aig_lexer.specs.Takes.{Feed, Makes, Takes}
 use Rattle.aig_lexer.proofs.Taking.{misses_test, takes_tested}
 use Rattle.aig_reader.specs.declared.error.ReadError.{ReadError}
 use Rattle.aig_reader.specs.declared.error.ReadError.TheVariants as errors
 use Rattle.aig_reader.specs.declared.sections.Sections.{Sections}
-use Rattle.aig_reader.specs.Faults.{IsNumberFault, IsSectionFault, ReadUnlessTransient}
+use Rattle.aig_reader.specs.Faults.{IsNumberFault, IsSectionFault, ReadTells}
 use Rattle.aig_reader.specs.Numbered.{AreListsByNumber, IsCircuitOf, Judged}
 use Rattle.aig_circuit.specs.declared.node.AigNode.{AigNode}
 use Rattle.aig_reader.specs.Gates.{AreFirstNodes}
 use Rattle.aig_reader.specs.Sections.{AreListsByVariable, HasGoodLines, file_by}
-use Rattle.aig_reader.proofs.Body.{on_refusal-weaker}
 use Rattle.aig_reader.proofs.FileCircuit.{inputs_is, latchs_is, compact_circuit}
 use Rattle.aig_reader.proofs.PlacedNodes.{first_all}
 use Rattle.aig_format.specs.Fits.{has_enough, is_accepted_order, is_literal, uses_known}
 use Rattle.aig_format.proofs.Entries.{rec_weaker, length-defined, on_used}
 
-module _ (header : Header) (x : Parts) (b a : Option (List ℕ)) (taken : Takes (parse_section_lines header.kind (numbers_of header)) b a x) where
+-- a fault that no failed read made tells the same, whether a read failed or not
+on_refusal-unfailed : (e : ReadError) (P Q : Type 0) (failed : Bool) → (P → Q) → ReadTells e P false → ReadTells e Q failed
+on_refusal-unfailed errors.Memory P Q failed f h = tt
+on_refusal-unfailed errors.Stream P Q failed f h = absurd (false≢true h)
+on_refusal-unfailed errors.Header P Q failed f h = f h
+on_refusal-unfailed errors.TooMany P Q failed f h = f h
+on_refusal-unfailed (errors.Syntax s) P Q failed f h = f h
+on_refusal-unfailed (errors.Literal s) P Q failed f h = f h
+on_refusal-unfailed errors.Delta P Q failed f h = f h
+on_refusal-unfailed errors.Name P Q failed f h = f h
+on_refusal-unfailed errors.Open P Q failed f h = f h
+
+module _ (header : Header) (x : Parts) (b a : Feed) (taken : Takes (parse_section_lines header.kind (numbers_of header)) b a x) where
   abbrev keeps : Parts → Bool
   keeps y = is_accepted_order header.kind (file_by header y)
 
   -- numbered sections, or a refusal, after the last gate
   pub numbered_made : (result : Result Sections ReadError) → Judged (keeps x) (IsCircuitOf (file_by header x)) result
-      → Makes ReadUnlessTransient (λ (sections : Sections) y. IsCircuitOf (file_by header y) sections) b a result (parse_fitting_sections header.kind (numbers_of header))
+      → Makes ReadTells (λ (sections : Sections) y. IsCircuitOf (file_by header y) sections) b a result (parse_fitting_sections header.kind (numbers_of header))
   numbered_made (Ok sections) h = (x, h.1, takes_tested (parse_section_lines header.kind (numbers_of header)) keeps b a x taken h.0)
-  numbered_made (Err e) h = on_refusal-weaker e _ _ (λ (no : keeps x ≡ false). misses_test (parse_section_lines header.kind (numbers_of header)) keeps b a x taken no) h
+  numbered_made (Err e) h = on_refusal-unfailed e _ _ a.failed (λ (no : keeps x ≡ false). misses_test (parse_section_lines header.kind (numbers_of header)) keeps b a x taken no) h
 
   module _ (good : has_enough header.kind (numbers_of header) ≡ true) where
     abbrev counts : HasCounts header.kind (numbers_of header) x
@@ -72,10 +84,6 @@ number_fault errors.Open h = h
 pub number_faults : (result : Result Sections ReadError) → IfErr result IsNumberFault → IfErr result IsSectionFault
 number_faults (Ok sections) h = tt
 number_faults (Err e) h = number_fault e h
-
--- and not of the stream
-pub no_stream : (result : Result Sections ReadError) → IfErr result IsNumberFault → result ≡ Err errors.Stream → ⊥
-no_stream result h is = subst (λ (r : Result Sections ReadError). IfErr r IsNumberFault) is h
 
 -- ---- the two ways to number
 

@@ -1,18 +1,42 @@
 -- A line whose numbers are tested.
+use Rattle.std.proofs.Common.{◌≡◌, ℕ, Bool, false, List, Option, Result, Ok, Err, sym, subst}
+use Rattle.std.proofs.lemmas.Bool.{false≢true}
+use Rattle.aig_parsing.specs.Parse.{◌>>=◌}
 use Rattle.aig_reader.specs.declared.error.LineError.{LineError}
 use Rattle.aig_reader.specs.declared.error.LineError.TheVariants.{Memory, Stream, Syntax, Literal}
 use Rattle.aig_lexer.specs.declared.error.LexError.{LexError}
 use Rattle.aig_lexer.specs.declared.error.LexError.TheVariants as lex
-use Rattle.aig_lexer.specs.Faults.{LexUnlessTransient}
-use Rattle.aig_reader.specs.Faults.{LineUnlessTransient, line_error_of}
+use Rattle.aig_lexer.specs.Faults.{LexTells}
+use Rattle.aig_lexer.specs.Takes.{Feed, Takes, Makes}
+use Rattle.aig_lexer.proofs.Taking.{misses_next, takes_bind}
+use Rattle.aig_reader.specs.Faults.{LineTells, line_error_of}
 
-pub on_line-weaker : (e : LineError) (P Q : Type 0) → (P → Q) → LineUnlessTransient e P → LineUnlessTransient e Q
-on_line-weaker Memory P Q f h = tt
-on_line-weaker Stream P Q f h = tt
-on_line-weaker Syntax P Q f h = f h
-on_line-weaker Literal P Q f h = f h
+pub on_line-weaker : (e : LineError) (P Q : Type 0) (failed : Bool) → (P → Q) → LineTells e P failed → LineTells e Q failed
+on_line-weaker Memory P Q failed f h = tt
+on_line-weaker Stream P Q failed f h = h
+on_line-weaker Syntax P Q failed f h = f h
+on_line-weaker Literal P Q failed f h = f h
 
 -- a malformed word, as a fault in a line
-pub on_line-from_shape : (e : LexError) (P Q : Type 0) → (P → Q) → LexUnlessTransient e P → LineUnlessTransient (line_error_of e) Q
-on_line-from_shape lex.Stream P Q f h = tt
-on_line-from_shape lex.Shape P Q f h = f h
+pub on_line-from_shape : (e : LexError) (P Q : Type 0) (failed : Bool) → (P → Q) → LexTells e P failed → LineTells (line_error_of e) Q failed
+on_line-from_shape lex.Stream P Q failed f h = h
+on_line-from_shape lex.Shape P Q failed f h = f h
+
+-- a fault that no failed read made tells the same, whether a read failed or not
+pub on_line-unfailed : (e : LineError) (P Q : Type 0) (failed : Bool) → (P → Q) → LineTells e P false → LineTells e Q failed
+on_line-unfailed Memory P Q failed f h = tt
+on_line-unfailed Stream P Q failed f h = absurd (false≢true h)
+on_line-unfailed Syntax P Q failed f h = f h
+on_line-unfailed Literal P Q failed f h = f h
+
+-- a call that reads on after what was taken
+pub makes_next : {X Y Z : Type 0} (IsOf : X → Z → Type 0) (p : List ℕ → Option (Y × List ℕ)) (next : Y × List ℕ → Option (Z × List ℕ)) (b m a : Feed) (y z : Y) (r : Result X LineError) → Takes p b m y → z ≡ y
+    → Makes LineTells IsOf m a r (λ bs. next (z, bs)) → Makes LineTells IsOf b a r (λ bs. p bs >>= next)
+makes_next {X} {Y} {Z} IsOf p next b m a y z r h is = go r
+  where
+    taken : Takes p b m z
+    taken = subst (λ (x : Y). Takes p b m x) (sym is) h
+
+    go : (r : Result X LineError) → Makes LineTells IsOf m a r (λ bs. next (z, bs)) → Makes LineTells IsOf b a r (λ bs. p bs >>= next)
+    go (Ok x) k = (k.0, k.1, takes_bind p next b m a z k.0 taken k.2)
+    go (Err e) k = on_line-weaker e _ _ a.failed (misses_next p next b m z taken) k

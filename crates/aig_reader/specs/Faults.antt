@@ -1,6 +1,6 @@
 -- Part of what is promised.
 -- What a fault tells.
-use Rattle.std.specs.Prelude.{ℕ, List, codes, Result, Ok, Err}
+use Rattle.std.specs.Prelude.{◌≡◌, ℕ, List, Bool, true, codes, Result, Ok, Err}
 use Rattle.aig_format.specs.declared.FileKind.{FileKind}
 use Rattle.aig_format.specs.declared.FileKind.TheVariants.{Text, Binary}
 use Rattle.aig_ordering.specs.declared.error.OrderError.{OrderError}
@@ -27,18 +27,18 @@ section_name sections.Justice = codes "justice"
 section_name sections.Fairness = codes "fairness"
 section_name sections.Gates = codes "gates"
 
--- the fact, unless memory or the stream failed
-abbrev pub LineUnlessTransient : LineError → Type 0 → Type 0
-LineUnlessTransient line.Memory P = Unit {0}
-LineUnlessTransient line.Stream P = Unit {0}
-LineUnlessTransient line.Syntax P = P
-LineUnlessTransient line.Literal P = P
+-- this fact, or that the stream failed; refused memory tells nothing
+abbrev pub LineTells : LineError → Type 0 → Bool → Type 0
+LineTells line.Memory P failed = Unit {0}
+LineTells line.Stream P failed = failed ≡ true
+LineTells line.Syntax P failed = P
+LineTells line.Literal P failed = P
 
--- the fact, unless memory or the stream failed
-abbrev pub ReadUnlessTransient : ReadError → Type 0 → Type 0
-ReadUnlessTransient errors.Memory P = Unit {0}
-ReadUnlessTransient errors.Stream P = Unit {0}
-ReadUnlessTransient e P = P
+-- this fact, or that the stream failed; refused memory tells nothing
+abbrev pub ReadTells : ReadError → Type 0 → Bool → Type 0
+ReadTells errors.Memory P failed = Unit {0}
+ReadTells errors.Stream P failed = failed ≡ true
+ReadTells e P failed = P
 
 -- a fault in a line
 abbrev pub line_error_of : LexError → LineError

@@ -11,7 +11,7 @@ use Rattle.aig_reader.specs.declared.error.LineError.TheVariants.{Literal, Memor
 use Rattle.aig_reader.specs.declared.variables.Marks.{Marks}
 use Rattle.aig_reader.specs.declared.variables.DefinedVariables.{DefinedVariables}
 use Rattle.aig_reader.specs.declared.variables.DefinedVariables.TheVariants as kinds
-use Rattle.aig_reader.specs.Faults.{LineUnlessTransient}
+use Rattle.aig_reader.specs.Faults.{LineTells}
 
 -- the kind of the file
 abbrev pub file_kind : DefinedVariables → FileKind
@@ -60,10 +60,10 @@ IsOwn size e = (e % 2 ≡ 0) × (2 ≤ e) × (e / 2 < size)
 abbrev pub IsNewAmong : List ℕ → ℕ → Type 0
 IsNewAmong before e = AllByRecursion (λ d. d / 2 ≢ e / 2) before
 
--- a value where the test is passed, and else a fault, unless memory failed
+-- a value where the test is passed, and else a fault that tells that it isn't; no read failed
 abbrev pub Tested : {X : Type 0} → Bool → (X → Type 0) → Result X LineError → Type 0
 Tested test P (Ok x) = (test ≡ true) × P x
-Tested test P (Err e) = LineUnlessTransient e (test ≡ false)
+Tested test P (Err e) = LineTells e (test ≡ false) false
 
 -- memory, or a bad literal
 abbrev pub IsLiteralFault : LineError → Type 0

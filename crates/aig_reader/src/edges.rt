@@ -1,17 +1,18 @@
 //! Edges, and lines of one edge each.
 
-ghost use Rattle.std.specs.Prelude.{◌≡◌, [], map, true, IfErr, IsErrOf};
+ghost use Rattle.std.specs.Prelude.{◌≡◌, map, IfErr};
 ghost use Rattle.aig_format.specs.Fits.{is_literal};
 ghost use Rattle.aig_parsing.specs.ParseTested.{parse_literals};
 ghost use Rattle.aig_parsing.specs.Parse.{parse_ended, parse_if};
-ghost use Rattle.aig_lexer.specs.Takes.{Makes};
-ghost use Rattle.aig_reader.specs.Faults.{LineUnlessTransient};
+ghost use Rattle.aig_lexer.specs.Takes.{Makes, feed};
+ghost use Rattle.aig_reader.specs.Faults.{LineTells};
 ghost use Rattle.aig_ordering.specs.Lists.{edge_from};
 ghost use Rattle.aig_reader.specs.Variables.{Tested};
 
 use crate::error::LineError;
+use aig_base::Source;
 use aig_circuit::AigEdge;
-use aig_lexer::{ByteFeed, ended};
+use aig_lexer::{InputBuffer, ended};
 use aig_ordering::edge_of;
 use std::alloc::Global;
 
@@ -27,32 +28,36 @@ pub fn edge_within(greatest: u32, literal: u32) -> Result<AigEdge, LineError>
 }
 
 /// Reads a line of one literal.
-fn edge_line<F: ByteFeed>(f: &mut F, greatest: u32) -> Result<AigEdge, LineError>
-    ensures exact { Makes LineUnlessTransient (λ edge literal. edge ≡ edge_from literal)
-        (F.coming f.old) (F.coming f.new) result (parse_if (parse_ended 10) (is_literal greatest)) }
-    ensures stream { IsErrOf result LineError.Stream → F.failed f.new ≡ true }
-    ensures same { F.source_name f.new ≡ F.source_name f.old }
+fn edge_line<R: Source>(
+    buffer: &mut InputBuffer,
+    r: &mut R,
+    greatest: u32,
+) -> Result<AigEdge, LineError>
+    ensures { Makes LineTells (λ edge literal. edge ≡ edge_from literal)
+        (feed R.left R.failed R.pulls buffer.old r.old)
+        (feed R.left R.failed R.pulls buffer.new r.new) result
+        (parse_if (parse_ended 10) (is_literal greatest)) }
 {
-    let literal = ended(f, b'\n')?;
+    let literal = ended(buffer, r, b'\n')?;
     edge_within(greatest, literal)
 }
 
 /// Reads so many lines of one literal each. `greatest` is the greatest variable.
-pub fn read_edges<F: ByteFeed>(
+pub fn read_edges<R: Source>(
     alloc: Global,
-    f: &mut F,
+    buffer: &mut InputBuffer,
+    r: &mut R,
     count: u32,
     greatest: u32,
 ) -> Result<Vec<AigEdge>, LineError>
-    ensures exact { Makes LineUnlessTransient
+    ensures { Makes LineTells
         (λ edges literals. edges.items ≡ map edge_from literals)
-        (F.coming f.old) (F.coming f.new) result (parse_literals greatest count) }
-    ensures stream { IsErrOf result LineError.Stream → F.failed f.new ≡ true }
-    ensures same { F.source_name f.new ≡ F.source_name f.old }
+        (feed R.left R.failed R.pulls buffer.old r.old)
+        (feed R.left R.failed R.pulls buffer.new r.new) result (parse_literals greatest count) }
 {
     let mut edges = Vec::new(alloc);
     for _ in 0..count {
-        let edge = edge_line(f, greatest)?;
+        let edge = edge_line(buffer, r, greatest)?;
         edges.push(edge)?;
     }
     Ok(edges)

@@ -1,6 +1,6 @@
 //! Where the gates that were read are held.
 
-ghost use Rattle.std.specs.Prelude.{◌≡◌, ℕ, ◌+◌, ◌/◌, ◌^◌, ◌<◌, ◌≤◌, ◌&&◌, ◌⊎◌, nat_lt, [], ◌∷◌, ◌++◌, List, max, IfOk, OnOk, false, length, true, vec_len};
+ghost use Rattle.std.specs.Prelude.{◌≡◌, ℕ, ◌+◌, ◌/◌, ◌^◌, ◌<◌, ◌≤◌, ◌&&◌, ◌⊎◌, nat_lt, [], ◌∷◌, ◌++◌, List, max, IfOk, OnOk, false, true, vec_len};
 ghost use Rattle.aig_format.specs.File.{GateLine};
 ghost use Rattle.aig_format.specs.Numbering.{is_above_operands};
 ghost use Rattle.aig_ordering.specs.Gates.{nodes_in};

@@ -1,13 +1,13 @@
 //! Gates: in a text file a line each, in a binary file two differences each.
 
-ghost use Rattle.std.specs.Prelude.{◌≡◌, ℕ, ◌+◌, ◌^◌, ◌<◌, ◌≤◌, [], ◌∷◌, ◌++◌, List, true, IfOk, IsErrOf};
+ghost use Rattle.std.specs.Prelude.{◌≡◌, ℕ, ◌+◌, ◌^◌, ◌<◌, ◌≤◌, [], ◌∷◌, ◌++◌, List, IfOk};
 ghost use Rattle.aig_parsing.specs.ParseTested.{may_use, parse_fitting_gates, parse_gate_entry};
 ghost use Rattle.aig_format.specs.declared.FileKind.TheVariants.{Binary};
 ghost use Rattle.aig_format.specs.File.{GateLine};
-ghost use Rattle.aig_lexer.specs.Faults.{LexUnlessTransient};
+ghost use Rattle.aig_lexer.specs.Faults.{LexTells};
 ghost use Rattle.aig_lexer.specs.Header.{numbers_of};
-ghost use Rattle.aig_lexer.specs.Takes.{Gives, Makes};
-ghost use Rattle.aig_reader.specs.Faults.{LineUnlessTransient};
+ghost use Rattle.aig_lexer.specs.Takes.{Gives, Makes, feed};
+ghost use Rattle.aig_reader.specs.Faults.{LineTells};
 ghost use Rattle.aig_reader.specs.Gates.{AreGates, HasSpace, line_of};
 ghost use Rattle.aig_reader.specs.Variables.{AreDefined, HasRoom, file_kind};
 ghost use Rattle.aig_parsing.specs.Parse.{parse_operands};
@@ -15,19 +15,23 @@ ghost use Rattle.aig_parsing.specs.Parse.{parse_operands};
 use crate::error::LineError;
 use crate::gate_store::GateStore;
 use crate::variables::DefinedVariables;
-use aig_lexer::{ByteFeed, Header, LexError, delta, pair};
+use aig_base::Source;
+use aig_lexer::{Header, InputBuffer, LexError, delta, pair};
 use aig_ordering::Operands;
 use std::alloc::Global;
 
 /// Reads two differences: from a gate's literal to its first operand, and from this to its second.
-fn differences<F: ByteFeed>(f: &mut F, lhs: u32) -> Result<(u32, u32), LexError>
-    ensures exact { Gives LexUnlessTransient (λ x. (x.0, x.1))
-        (F.coming f.old) (F.coming f.new) result (parse_operands Binary lhs) }
-    ensures stream { IsErrOf result LexError.Stream → F.failed f.new ≡ true }
-    ensures same { F.source_name f.new ≡ F.source_name f.old }
+fn differences<R: Source>(
+    buffer: &mut InputBuffer,
+    r: &mut R,
+    lhs: u32,
+) -> Result<(u32, u32), LexError>
+    ensures { Gives LexTells (λ x. (x.0, x.1))
+        (feed R.left R.failed R.pulls buffer.old r.old)
+        (feed R.left R.failed R.pulls buffer.new r.new) result (parse_operands Binary lhs) }
 {
-    let first = delta(f)?;
-    let second = delta(f)?;
+    let first = delta(buffer, r)?;
+    let second = delta(buffer, r)?;
     if first > lhs || second > lhs - first {
         return Err(LexError::Shape);
     }
@@ -35,19 +39,20 @@ fn differences<F: ByteFeed>(f: &mut F, lhs: u32) -> Result<(u32, u32), LexError>
 }
 
 /// Reads the operands of the gate that defines this literal.
-fn operands<F: ByteFeed>(
-    f: &mut F,
+fn operands<R: Source>(
+    buffer: &mut InputBuffer,
+    r: &mut R,
     variables: &DefinedVariables,
     lhs: u32,
 ) -> Result<(u32, u32), LexError>
-    ensures exact { Gives LexUnlessTransient (λ x. (x.0, x.1))
-        (F.coming f.old) (F.coming f.new) result (parse_operands (file_kind variables.now) lhs) }
-    ensures stream { IsErrOf result LexError.Stream → F.failed f.new ≡ true }
-    ensures same { F.source_name f.new ≡ F.source_name f.old }
+    ensures { Gives LexTells (λ x. (x.0, x.1))
+        (feed R.left R.failed R.pulls buffer.old r.old)
+        (feed R.left R.failed R.pulls buffer.new r.new) result
+        (parse_operands (file_kind variables.now) lhs) }
 {
     match variables {
-        DefinedVariables::Text(_) => pair(f),
-        DefinedVariables::Binary(_) => differences(f, lhs),
+        DefinedVariables::Text(_) => pair(buffer, r),
+        DefinedVariables::Binary(_) => differences(buffer, r, lhs),
     }
 }
 
@@ -66,9 +71,10 @@ fn are_usable(variables: &DefinedVariables, lhs: u32, operands: Operands) -> boo
 }
 
 /// Reads a gate, defines its variable, and puts it in its place.
-fn gate_line<F: ByteFeed>(
+fn gate_line<R: Source>(
     alloc: Global,
-    f: &mut F,
+    buffer: &mut InputBuffer,
+    r: &mut R,
     variables: &mut DefinedVariables,
     gates: &mut GateStore,
 ) -> Result<(), LineError>
@@ -78,20 +84,19 @@ fn gate_line<F: ByteFeed>(
         × AreGates greatest leaves before variables.old gates.old }
     ensures exact { (greatest : ℕ) (leaves : List ℕ) (before : List GateLine)
         → AreGates greatest leaves before variables.old gates.old
-        → Makes LineUnlessTransient
+        → Makes LineTells
         (λ _ gate. AreGates greatest leaves (before ++ gate ∷ []) variables.new gates.new)
-        (F.coming f.old) (F.coming f.new) result
+        (feed R.left R.failed R.pulls buffer.old r.old)
+        (feed R.left R.failed R.pulls buffer.new r.new) result
         (parse_gate_entry (file_kind variables.old) greatest leaves before) }
     ensures space { IfOk result (λ _. (size : ℕ) → HasRoom size variables.old 1
         → HasSpace size gates.old → HasSpace size gates.new) }
     ensures room { IfOk result
         (λ _. (size k : ℕ) → HasRoom size variables.old (k + 1) → HasRoom size variables.new k) }
     ensures kind { file_kind variables.new ≡ file_kind variables.old }
-    ensures stream { IsErrOf result LineError.Stream → F.failed f.new ≡ true }
-    ensures same { F.source_name f.new ≡ F.source_name f.old }
 {
-    let lhs = variables.own_literal(f, b' ')?;
-    let (rhs0, rhs1) = operands(f, variables, lhs)?;
+    let lhs = variables.own_literal(buffer, r, b' ')?;
+    let (rhs0, rhs1) = operands(buffer, r, variables, lhs)?;
     let operands = Operands { rhs0, rhs1 };
     if !are_usable(variables, lhs, operands) {
         return Err(LineError::Literal);
@@ -102,9 +107,10 @@ fn gate_line<F: ByteFeed>(
 }
 
 /// Reads the gates, defines their variables, and puts them in their places.
-pub fn read_gates<F: ByteFeed>(
+pub fn read_gates<R: Source>(
     alloc: Global,
-    f: &mut F,
+    buffer: &mut InputBuffer,
+    r: &mut R,
     header: Header,
     variables: &mut DefinedVariables,
 ) -> Result<GateStore, LineError>
@@ -112,18 +118,17 @@ pub fn read_gates<F: ByteFeed>(
     requires room { HasRoom (header.greatest + 1) variables.old header.gates }
     requires defined { (leaves : List ℕ) × AreDefined header.greatest variables.old leaves }
     ensures exact { (leaves : List ℕ) → AreDefined header.greatest variables.old leaves
-        → Makes LineUnlessTransient
+        → Makes LineTells
         (λ held gates. AreGates header.greatest leaves gates variables.new held)
-        (F.coming f.old) (F.coming f.new) result
+        (feed R.left R.failed R.pulls buffer.old r.old)
+        (feed R.left R.failed R.pulls buffer.new r.new) result
         (parse_fitting_gates (file_kind variables.old) (numbers_of header) leaves) }
     ensures space { IfOk result (HasSpace (header.greatest + 1)) }
     ensures kind { file_kind variables.new ≡ file_kind variables.old }
-    ensures stream { IsErrOf result LineError.Stream → F.failed f.new ≡ true }
-    ensures same { F.source_name f.new ≡ F.source_name f.old }
 {
     let mut gates = GateStore::new(alloc)?;
     for _ in 0..header.gates {
-        gate_line(alloc, f, variables, &mut gates)?;
+        gate_line(alloc, buffer, r, variables, &mut gates)?;
     }
     Ok(gates)
 }

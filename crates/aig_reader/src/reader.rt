@@ -5,8 +5,8 @@ ghost use Rattle.std.specs.Io.KnownBytes.{IsAtEnd};
 ghost use Rattle.aig_parsing.specs.ParseTested.{parse_fitting_sections};
 ghost use Rattle.aig_format.specs.Fits.{Accepts, has_enough};
 ghost use Rattle.aig_lexer.specs.Header.{numbers_of};
-ghost use Rattle.aig_lexer.specs.Takes.{Makes};
-ghost use Rattle.aig_reader.specs.Faults.{IsSectionFault, ReadUnlessTransient};
+ghost use Rattle.aig_lexer.specs.Takes.{Makes, feed};
+ghost use Rattle.aig_reader.specs.Faults.{IsSectionFault, ReadTells};
 ghost use Rattle.aig_reader.specs.Reading.{AreListsOf, IsReadAs, ReadsExactly, UnlessTransient};
 ghost use Rattle.aig_reader.specs.Numbered.{IsCircuitOf};
 ghost use Rattle.aig_reader.specs.Sections.{file_by};
@@ -17,7 +17,7 @@ use crate::lines::read_lines;
 use crate::sections::Sections;
 use aig_base::Source;
 use aig_circuit::CircuitLists;
-use aig_lexer::{Buffered, ByteFeed, Header, WINDOW_SIZE};
+use aig_lexer::{Header, InputBuffer};
 use aig_symbols::read_names;
 use std::alloc::Global;
 
@@ -40,50 +40,56 @@ pub fn read<R: Source>(alloc: Global, r: &mut R, limit: usize) -> Result<Circuit
     ensures stream { IsErrOf result ReadError.Stream → IsTrue (R.failed r.new) }
     ensures never_open { IsErrOf result ReadError.Open → ⊥ }
 {
-    let mut window = vec![in alloc; 0; WINDOW_SIZE]?;
-    let mut bytes = Buffered::new(r, &mut window);
-    read_file(alloc, &mut bytes, limit)
+    let mut buffer = InputBuffer::new();
+    read_file(alloc, &mut buffer, r, limit)
 }
 
 /// Reads a file, up to the end.
-fn read_file<F: ByteFeed>(alloc: Global, f: &mut F, limit: usize) -> Result<CircuitLists, ReadError>
+fn read_file<R: Source>(
+    alloc: Global,
+    buffer: &mut InputBuffer,
+    r: &mut R,
+    limit: usize,
+) -> Result<CircuitLists, ReadError>
     requires { limit ≤ 2 ^ 31 }
     ensures circuit { IfOk result
-        (IsReadAs (λ bytes. Accepts bytes limit) AreListsOf (F.coming f.old) (F.coming f.new)) }
-    ensures exact { IfSome (F.coming f.old) (λ bytes.
+        (IsReadAs (λ bytes. Accepts bytes limit) AreListsOf
+        (feed R.left R.failed R.pulls buffer.old r.old).coming
+        (feed R.left R.failed R.pulls buffer.new r.new).coming) }
+    ensures exact { IfSome (feed R.left R.failed R.pulls buffer.old r.old).coming (λ bytes.
         UnlessTransient result (ReadsExactly AreListsOf limit result bytes)) }
-    ensures whole { OnOk result ((F.failed f.new ≡ false) × IsAtEnd (F.coming f.new)) }
-    ensures stream { IsErrOf result ReadError.Stream → IsTrue (F.failed f.new) }
+    ensures whole { OnOk result ((R.failed r.new ≡ false)
+        × IsAtEnd (feed R.left R.failed R.pulls buffer.new r.new).coming) }
+    ensures stream { IsErrOf result ReadError.Stream → IsTrue (R.failed r.new) }
     ensures never_open { IsErrOf result ReadError.Open → ⊥ }
-    ensures same { F.source_name f.new ≡ F.source_name f.old }
 {
-    let header = read_header(f, limit)?;
-    let sections = read_sections(alloc, f, header)?;
+    let header = read_header(buffer, r, limit)?;
+    let sections = read_sections(alloc, buffer, r, header)?;
     let lists = &sections.lists;
-    let names = read_names(alloc, f, &header, &lists.inputs, &lists.latchs);
+    let names = read_names(alloc, buffer, r, &header, &lists.inputs, &lists.latchs);
     let names = names_result(names)?;
     Ok(sections.with_names(names))
 }
 
 /// Reads the sections after the header line, and numbers their nodes.
-fn read_sections<F: ByteFeed>(
+fn read_sections<R: Source>(
     alloc: Global,
-    f: &mut F,
+    buffer: &mut InputBuffer,
+    r: &mut R,
     header: Header,
 ) -> Result<Sections, ReadError>
     requires few { header.greatest < 2 ^ 31 }
     requires good { has_enough header.kind (numbers_of header) ≡ true }
     requires enough { header.inputs + header.latches + header.gates ≤ header.greatest }
-    ensures exact { Makes ReadUnlessTransient
+    ensures exact { Makes ReadTells
         (λ sections x. IsCircuitOf (file_by header x) sections)
-        (F.coming f.old) (F.coming f.new) result
+        (feed R.left R.failed R.pulls buffer.old r.old)
+        (feed R.left R.failed R.pulls buffer.new r.new) result
         (parse_fitting_sections header.kind (numbers_of header)) }
     ensures inputs { IfOk result (λ sections. vec_len sections.lists.inputs ≡ header.inputs) }
     ensures latchs { IfOk result (λ sections. vec_len sections.lists.latchs ≡ header.latches) }
     ensures fault { IfErr result IsSectionFault }
-    ensures stream { IsErrOf result ReadError.Stream → F.failed f.new ≡ true }
-    ensures same { F.source_name f.new ≡ F.source_name f.old }
 {
-    let lines = read_lines(alloc, f, header)?;
+    let lines = read_lines(alloc, buffer, r, header)?;
     lines.numbered(alloc)
 }

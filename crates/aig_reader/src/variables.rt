@@ -1,9 +1,9 @@
 //! The variables of a file.
 
-ghost use Rattle.std.specs.Prelude.{◌≡◌, ℕ, ◌+◌, ◌/◌, ◌^◌, ◌<◌, ◌≤◌, List, [], ◌∷◌, ◌++◌, IfErr, IfOk, IsErrOf, MatchOption, OnOk, false, true, vec_len};
+ghost use Rattle.std.specs.Prelude.{◌≡◌, ℕ, ◌+◌, ◌/◌, ◌^◌, ◌<◌, ◌≤◌, List, [], ◌∷◌, ◌++◌, IfErr, IfOk, MatchOption, OnOk, false, true, vec_len};
 ghost use Rattle.aig_parsing.specs.ParseTested.{defines, may_define};
-ghost use Rattle.aig_lexer.specs.Faults.{LexUnlessTransient};
-ghost use Rattle.aig_lexer.specs.Takes.{Gives};
+ghost use Rattle.aig_lexer.specs.Faults.{LexTells};
+ghost use Rattle.aig_lexer.specs.Takes.{Gives, feed};
 ghost use Rattle.aig_format.specs.File.{File, defined};
 ghost use Rattle.aig_ordering.specs.Tables.{AreKnownOf};
 ghost use Rattle.aig_reader.specs.Bits.{bit_is_set};
@@ -12,7 +12,8 @@ ghost use Rattle.aig_parsing.specs.Parse.{parse_own};
 
 use crate::bits::{has_bit, set_bit};
 use crate::error::LineError;
-use aig_lexer::{ByteFeed, FileKind, LexError, ended};
+use aig_base::Source;
+use aig_lexer::{FileKind, InputBuffer, LexError, ended};
 use std::alloc::{AllocError, Global};
 
 /// Which variables of a text file are defined so far. A variable that has no bit is not.
@@ -107,17 +108,22 @@ impl DefinedVariables {
     }
 
     /// The literal that the next entry defines. In a text file it is read, with this byte after it.
-    pub fn own_literal<F: ByteFeed>(&self, f: &mut F, end: u8) -> Result<u32, LexError>
+    pub fn own_literal<R: Source>(
+        &self,
+        buffer: &mut InputBuffer,
+        r: &mut R,
+        end: u8,
+    ) -> Result<u32, LexError>
         requires { (size : ℕ) × (size ≤ 2 ^ 31) × HasRoom size self.now 1 }
         ensures exact { (greatest : ℕ) (before : List ℕ) → AreDefined greatest self.now before
-            → Gives LexUnlessTransient (λ e. e)
-            (F.coming f.old) (F.coming f.new) result (parse_own (file_kind self.now) end before) }
+            → Gives LexTells (λ e. e)
+            (feed R.left R.failed R.pulls buffer.old r.old)
+            (feed R.left R.failed R.pulls buffer.new r.new) result
+            (parse_own (file_kind self.now) end before) }
         ensures next { IfOk result (λ e. IsNext self.now e) }
-        ensures stream { IsErrOf result LexError.Stream → F.failed f.new ≡ true }
-        ensures same { F.source_name f.new ≡ F.source_name f.old }
     {
         match self {
-            DefinedVariables::Text(_) => ended(f, end),
+            DefinedVariables::Text(_) => ended(buffer, r, end),
             DefinedVariables::Binary(count) => Ok(2 * (count + 1)),
         }
     }

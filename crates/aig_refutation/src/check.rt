@@ -9,7 +9,7 @@ use crate::error::RefutationError;
 use crate::step::Step;
 use aig_base::{DagCnf, LitVvec, Source, Var};
 use aig_hints::Search;
-use aig_lexer::{Buffered, ByteFeed, WINDOW_SIZE};
+use aig_lexer::InputBuffer;
 use std::alloc::Global;
 
 /// Appends clauses of the formula, under the next numbers.
@@ -176,24 +176,24 @@ fn search_for(
 }
 
 /// Checks steps up to the first empty clause.
-fn check_steps<F: ByteFeed>(
+fn check_steps<R: Source>(
     alloc: Global,
-    f: &mut F,
+    buffer: &mut InputBuffer,
+    r: &mut R,
     variables: usize,
     mut checker: Checker,
 ) -> Result<(), RefutationError>
     requires { variables ≤ 2 ^ 31 }
     ensures refuted { OnOk result (¬ IsSatisfiable checker) }
-    ensures stream { IsErrOf result RefutationError.Stream → F.failed f.new ≡ true }
-    ensures same { F.source_name f.new ≡ F.source_name f.old }
+    ensures stream { IsErrOf result RefutationError.Stream → R.failed r.new ≡ true }
 {
     let mut step = Step::new(alloc);
-    if !step.read(f, variables)? {
+    if !step.read(buffer, r, variables)? {
         return Err(RefutationError::Unfinished);
     }
     let mut search = search_for(alloc, &mut checker, &step)?;
     'steps: while !take_step(&mut checker, &mut search, &mut step)? {
-        if !step.read(f, variables)? {
+        if !step.read(buffer, r, variables)? {
             return Err(RefutationError::Unfinished);
         }
     }
@@ -230,7 +230,6 @@ pub fn check_refutation<R: Source>(
     ensures stream { IsErrOf result RefutationError.Stream → R.failed r.new ≡ true }
 {
     let checker = number_clauses(alloc, cnf, further)?;
-    let mut window = vec![in alloc; 0; WINDOW_SIZE]?;
-    let mut f = Buffered::new(r, &mut window);
-    check_steps(alloc, &mut f, cnf.num_vars(), checker)
+    let mut buffer = InputBuffer::new();
+    check_steps(alloc, &mut buffer, r, cnf.num_vars(), checker)
 }

@@ -1,10 +1,11 @@
 //! Steps of a proof, as lines of text.
 
 ghost use Rattle.std.specs.Prelude.{◌≡◌, ◌<◌, ◌≤◌, ◌^◌, IfOk, IsErrOf, IsTrue, OnOk, true};
+ghost use Rattle.aig_lexer.specs.Takes.{feed};
 
 use crate::error::RefutationError;
-use aig_base::{Lit, Var};
-use aig_lexer::ByteFeed;
+use aig_base::{Lit, Source, Var};
+use aig_lexer::InputBuffer;
 use std::alloc::Global;
 
 /// A number of a line.
@@ -34,12 +35,12 @@ pub(crate) struct Step {
 }
 
 /// The next byte of a line.
-fn next_byte<F: ByteFeed>(f: &mut F) -> Result<u8, RefutationError>
-    ensures stream { IsErrOf result RefutationError.Stream → F.failed f.new ≡ true }
-    ensures same { F.source_name f.new ≡ F.source_name f.old }
-    ensures fewer { OnOk result (F.turns f.new < F.turns f.old) }
+fn next_byte<R: Source>(buffer: &mut InputBuffer, r: &mut R) -> Result<u8, RefutationError>
+    ensures stream { IsErrOf result RefutationError.Stream → R.failed r.new ≡ true }
+    ensures fewer { OnOk result ((feed R.left R.failed R.pulls buffer.new r.new).most
+        < (feed R.left R.failed R.pulls buffer.old r.old).most) }
 {
-    match f.next()? {
+    match buffer.next(r)? {
         Some(byte) => Ok(byte),
         None => Err(RefutationError::Unfinished),
     }
@@ -47,10 +48,14 @@ fn next_byte<F: ByteFeed>(f: &mut F) -> Result<u8, RefutationError>
 
 /// The digits of a number that begins with this byte: their value, which is below 2^32, and the
 /// byte after them.
-fn read_digits<F: ByteFeed>(f: &mut F, first: u8) -> Result<(u32, u8), RefutationError>
-    ensures stream { IsErrOf result RefutationError.Stream → F.failed f.new ≡ true }
-    ensures same { F.source_name f.new ≡ F.source_name f.old }
-    ensures fewer { OnOk result (F.turns f.new ≤ F.turns f.old) }
+fn read_digits<R: Source>(
+    buffer: &mut InputBuffer,
+    r: &mut R,
+    first: u8,
+) -> Result<(u32, u8), RefutationError>
+    ensures stream { IsErrOf result RefutationError.Stream → R.failed r.new ≡ true }
+    ensures fewer { OnOk result ((feed R.left R.failed R.pulls buffer.new r.new).most
+        ≤ (feed R.left R.failed R.pulls buffer.old r.old).most) }
 {
     if !first.is_ascii_digit() {
         return Err(RefutationError::Line);
@@ -62,20 +67,28 @@ fn read_digits<F: ByteFeed>(f: &mut F, first: u8) -> Result<(u32, u8), Refutatio
         if value > u32::MAX as u64 {
             return Err(RefutationError::Line);
         }
-        byte = next_byte(f)?;
+        byte = next_byte(buffer, r)?;
     }
     Ok((value as u32, byte))
 }
 
 /// The number that begins with this byte, and that a space or a line feed ends.
-fn read_word<F: ByteFeed>(f: &mut F, first: u8) -> Result<Word, RefutationError>
-    ensures stream { IsErrOf result RefutationError.Stream → F.failed f.new ≡ true }
-    ensures same { F.source_name f.new ≡ F.source_name f.old }
-    ensures fewer { OnOk result (F.turns f.new ≤ F.turns f.old) }
+fn read_word<R: Source>(
+    buffer: &mut InputBuffer,
+    r: &mut R,
+    first: u8,
+) -> Result<Word, RefutationError>
+    ensures stream { IsErrOf result RefutationError.Stream → R.failed r.new ≡ true }
+    ensures fewer { OnOk result ((feed R.left R.failed R.pulls buffer.new r.new).most
+        ≤ (feed R.left R.failed R.pulls buffer.old r.old).most) }
 {
     let positive = first != b'-';
-    let digit = if positive { first } else { next_byte(f)? };
-    let (value, end) = read_digits(f, digit)?;
+    let digit = if positive {
+        first
+    } else {
+        next_byte(buffer, r)?
+    };
+    let (value, end) = read_digits(buffer, r, digit)?;
     match end {
         b' ' | b'\n' => Ok(Word {
             value,
@@ -87,22 +100,22 @@ fn read_word<F: ByteFeed>(f: &mut F, first: u8) -> Result<Word, RefutationError>
 }
 
 /// The next number of a line.
-fn next_word<F: ByteFeed>(f: &mut F) -> Result<Word, RefutationError>
-    ensures stream { IsErrOf result RefutationError.Stream → F.failed f.new ≡ true }
-    ensures same { F.source_name f.new ≡ F.source_name f.old }
-    ensures fewer { OnOk result (F.turns f.new < F.turns f.old) }
+fn next_word<R: Source>(buffer: &mut InputBuffer, r: &mut R) -> Result<Word, RefutationError>
+    ensures stream { IsErrOf result RefutationError.Stream → R.failed r.new ≡ true }
+    ensures fewer { OnOk result ((feed R.left R.failed R.pulls buffer.new r.new).most
+        < (feed R.left R.failed R.pulls buffer.old r.old).most) }
 {
-    let first = next_byte(f)?;
-    read_word(f, first)
+    let first = next_byte(buffer, r)?;
+    read_word(buffer, r, first)
 }
 
 /// The space after a `d`.
-fn expect_space<F: ByteFeed>(f: &mut F) -> Result<(), RefutationError>
-    ensures stream { IsErrOf result RefutationError.Stream → F.failed f.new ≡ true }
-    ensures same { F.source_name f.new ≡ F.source_name f.old }
-    ensures fewer { OnOk result (F.turns f.new ≤ F.turns f.old) }
+fn expect_space<R: Source>(buffer: &mut InputBuffer, r: &mut R) -> Result<(), RefutationError>
+    ensures stream { IsErrOf result RefutationError.Stream → R.failed r.new ≡ true }
+    ensures fewer { OnOk result ((feed R.left R.failed R.pulls buffer.new r.new).most
+        ≤ (feed R.left R.failed R.pulls buffer.old r.old).most) }
 {
-    match next_byte(f)? {
+    match next_byte(buffer, r)? {
         b' ' => Ok(()),
         _ => Err(RefutationError::Line),
     }
@@ -138,39 +151,41 @@ fn literal(word: Word, variables: usize) -> Result<Lit, RefutationError>
 
 /// Reads literals up to a 0, the first of which is this number, and says whether the 0 ends the
 /// line.
-fn read_clause<F: ByteFeed>(
-    f: &mut F,
+fn read_clause<R: Source>(
+    buffer: &mut InputBuffer,
+    r: &mut R,
     first: Word,
     variables: usize,
     clause: &mut Vec<Lit>,
 ) -> Result<bool, RefutationError>
     requires { variables ≤ 2 ^ 31 }
-    ensures stream { IsErrOf result RefutationError.Stream → F.failed f.new ≡ true }
-    ensures same { F.source_name f.new ≡ F.source_name f.old }
-    ensures fewer { OnOk result (F.turns f.new ≤ F.turns f.old) }
+    ensures stream { IsErrOf result RefutationError.Stream → R.failed r.new ≡ true }
+    ensures fewer { OnOk result ((feed R.left R.failed R.pulls buffer.new r.new).most
+        ≤ (feed R.left R.failed R.pulls buffer.old r.old).most) }
 {
     let mut word = first;
     while word.value != 0 {
         clause.push(literal(word, variables)?)?;
-        word = next_word(f)?;
+        word = next_word(buffer, r)?;
     }
     Ok(word.last)
 }
 
 /// Reads numbers of clauses up to a 0, which ends the line. A negative one is refused as this
 /// error.
-fn read_numbers<F: ByteFeed>(
-    f: &mut F,
+fn read_numbers<R: Source>(
+    buffer: &mut InputBuffer,
+    r: &mut R,
     numbers: &mut Vec<u32>,
     negative: RefutationError,
 ) -> Result<(), RefutationError>
     requires { negative ≡ RefutationError.Stream → ⊥ }
-    ensures stream { IsErrOf result RefutationError.Stream → F.failed f.new ≡ true }
-    ensures same { F.source_name f.new ≡ F.source_name f.old }
-    ensures fewer { OnOk result (F.turns f.new ≤ F.turns f.old) }
+    ensures stream { IsErrOf result RefutationError.Stream → R.failed r.new ≡ true }
+    ensures fewer { OnOk result ((feed R.left R.failed R.pulls buffer.new r.new).most
+        ≤ (feed R.left R.failed R.pulls buffer.old r.old).most) }
 {
     loop {
-        let word = next_word(f)?;
+        let word = next_word(buffer, r)?;
         if !word.positive {
             return Err(negative);
         }
@@ -198,61 +213,65 @@ impl Step {
 
     /// Reads the next step, and says whether there is one. Literals are those of the variables
     /// below `variables`.
-    pub(crate) fn read<F: ByteFeed>(
+    pub(crate) fn read<R: Source>(
         &mut self,
-        f: &mut F,
+        buffer: &mut InputBuffer,
+        r: &mut R,
         variables: usize,
     ) -> Result<bool, RefutationError>
         requires { variables ≤ 2 ^ 31 }
-        ensures stream { IsErrOf result RefutationError.Stream → F.failed f.new ≡ true }
-        ensures same { F.source_name f.new ≡ F.source_name f.old }
-        ensures fewer { IfOk result (λ there. IsTrue there → F.turns f.new < F.turns f.old) }
+        ensures stream { IsErrOf result RefutationError.Stream → R.failed r.new ≡ true }
+        ensures fewer { IfOk result (λ there. IsTrue there
+            → (feed R.left R.failed R.pulls buffer.new r.new).most
+            < (feed R.left R.failed R.pulls buffer.old r.old).most) }
     {
         self.clause.clear();
         self.numbers.clear();
-        match f.next()? {
+        match buffer.next(r)? {
             None => return Ok(false),
-            Some(b'd') => self.read_deletion(f, variables)?,
+            Some(b'd') => self.read_deletion(buffer, r, variables)?,
             Some(byte) => {
-                let first = read_word(f, byte)?;
-                self.read_after(f, first, variables)?;
+                let first = read_word(buffer, r, byte)?;
+                self.read_after(buffer, r, first, variables)?;
             }
         }
         Ok(true)
     }
 
     /// Reads a line of a DRAT file after its `d`.
-    fn read_deletion<F: ByteFeed>(
+    fn read_deletion<R: Source>(
         &mut self,
-        f: &mut F,
+        buffer: &mut InputBuffer,
+        r: &mut R,
         variables: usize,
     ) -> Result<(), RefutationError>
         requires { variables ≤ 2 ^ 31 }
-        ensures stream { IsErrOf result RefutationError.Stream → F.failed f.new ≡ true }
-        ensures same { F.source_name f.new ≡ F.source_name f.old }
-        ensures fewer { OnOk result (F.turns f.new ≤ F.turns f.old) }
+        ensures stream { IsErrOf result RefutationError.Stream → R.failed r.new ≡ true }
+        ensures fewer { OnOk result ((feed R.left R.failed R.pulls buffer.new r.new).most
+            ≤ (feed R.left R.failed R.pulls buffer.old r.old).most) }
     {
         self.is_numbered = false;
         self.deletes = true;
-        expect_space(f)?;
-        let first = next_word(f)?;
-        if !read_clause(f, first, variables, &mut self.clause)? {
+        expect_space(buffer, r)?;
+        let first = next_word(buffer, r)?;
+        if !read_clause(buffer, r, first, variables, &mut self.clause)? {
             return Err(RefutationError::Line);
         }
         Ok(())
     }
 
     /// Reads a line after its first number.
-    fn read_after<F: ByteFeed>(
+    fn read_after<R: Source>(
         &mut self,
-        f: &mut F,
+        buffer: &mut InputBuffer,
+        r: &mut R,
         first: Word,
         variables: usize,
     ) -> Result<(), RefutationError>
         requires { variables ≤ 2 ^ 31 }
-        ensures stream { IsErrOf result RefutationError.Stream → F.failed f.new ≡ true }
-        ensures same { F.source_name f.new ≡ F.source_name f.old }
-        ensures fewer { OnOk result (F.turns f.new ≤ F.turns f.old) }
+        ensures stream { IsErrOf result RefutationError.Stream → R.failed r.new ≡ true }
+        ensures fewer { OnOk result ((feed R.left R.failed R.pulls buffer.new r.new).most
+            ≤ (feed R.left R.failed R.pulls buffer.old r.old).most) }
     {
         self.deletes = false;
         if first.last {
@@ -263,49 +282,55 @@ impl Step {
                 Err(RefutationError::Line)
             };
         }
-        match next_byte(f)? {
-            b'd' => self.read_deleted(f, first),
+        match next_byte(buffer, r)? {
+            b'd' => self.read_deleted(buffer, r, first),
             byte => {
-                let second = read_word(f, byte)?;
-                self.read_added(f, first, second, variables)
+                let second = read_word(buffer, r, byte)?;
+                self.read_added(buffer, r, first, second, variables)
             }
         }
     }
 
     /// Reads a line of an LRAT file after its number and `d`.
-    fn read_deleted<F: ByteFeed>(&mut self, f: &mut F, number: Word) -> Result<(), RefutationError>
-        ensures stream { IsErrOf result RefutationError.Stream → F.failed f.new ≡ true }
-        ensures same { F.source_name f.new ≡ F.source_name f.old }
-        ensures fewer { OnOk result (F.turns f.new ≤ F.turns f.old) }
+    fn read_deleted<R: Source>(
+        &mut self,
+        buffer: &mut InputBuffer,
+        r: &mut R,
+        number: Word,
+    ) -> Result<(), RefutationError>
+        ensures stream { IsErrOf result RefutationError.Stream → R.failed r.new ≡ true }
+        ensures fewer { OnOk result ((feed R.left R.failed R.pulls buffer.new r.new).most
+            ≤ (feed R.left R.failed R.pulls buffer.old r.old).most) }
     {
         self.is_numbered = true;
         self.deletes = true;
         self.number = clause_number(number)?;
-        expect_space(f)?;
-        read_numbers(f, &mut self.numbers, RefutationError::Line)
+        expect_space(buffer, r)?;
+        read_numbers(buffer, r, &mut self.numbers, RefutationError::Line)
     }
 
     /// Reads a line that adds a clause after its first two numbers. Where the clause ends the
     /// line, the first is a literal.
-    fn read_added<F: ByteFeed>(
+    fn read_added<R: Source>(
         &mut self,
-        f: &mut F,
+        buffer: &mut InputBuffer,
+        r: &mut R,
         first: Word,
         second: Word,
         variables: usize,
     ) -> Result<(), RefutationError>
         requires { variables ≤ 2 ^ 31 }
-        ensures stream { IsErrOf result RefutationError.Stream → F.failed f.new ≡ true }
-        ensures same { F.source_name f.new ≡ F.source_name f.old }
-        ensures fewer { OnOk result (F.turns f.new ≤ F.turns f.old) }
+        ensures stream { IsErrOf result RefutationError.Stream → R.failed r.new ≡ true }
+        ensures fewer { OnOk result ((feed R.left R.failed R.pulls buffer.new r.new).most
+            ≤ (feed R.left R.failed R.pulls buffer.old r.old).most) }
     {
-        if read_clause(f, second, variables, &mut self.clause)? {
+        if read_clause(buffer, r, second, variables, &mut self.clause)? {
             self.is_numbered = false;
             self.clause.push(literal(first, variables)?)?;
             return Ok(());
         }
         self.is_numbered = true;
         self.number = clause_number(first)?;
-        read_numbers(f, &mut self.numbers, RefutationError::Asymmetry)
+        read_numbers(buffer, r, &mut self.numbers, RefutationError::Asymmetry)
     }
 }

@@ -8,7 +8,7 @@ use crate::show::{print, print_answer};
 use crate::words::{Line, find};
 use crate::writing::taker_of;
 use aig_base::{FromRead, Parts, Sink, Source, StreamFault, ToWrite};
-use aig_lexer::{Buffered, LexError, WINDOW_SIZE, delta, ended, header_line, pair};
+use aig_lexer::{InputBuffer, LexError, delta, ended, header_line, pair};
 use std::alloc::Global;
 use std::fs;
 use std::io::Print;
@@ -200,16 +200,13 @@ fn put_many<R: Print + Files + AllocGlobal>(
 }
 
 /// Prints a header's greatest number, a number with its end, a pair, and so many differences.
-fn print_words<R: Print>(
-    rt: &R,
-    f: &mut Buffered<'_, Parts>,
-    count: usize,
-) -> Result<(), LexError> {
-    print(rt, &header_line(f)?.greatest);
-    print(rt, &ended(f, b' ')?);
-    print(rt, &pair(f)?);
+fn print_words<R: Print>(rt: &R, source: &mut Parts, count: usize) -> Result<(), LexError> {
+    let mut buffer = InputBuffer::new();
+    print(rt, &header_line(&mut buffer, source)?.greatest);
+    print(rt, &ended(&mut buffer, source, b' ')?);
+    print(rt, &pair(&mut buffer, source)?);
     for _ in 0..count {
-        print(rt, &delta(f)?);
+        print(rt, &delta(&mut buffer, source)?);
     }
     Ok(())
 }
@@ -217,7 +214,6 @@ fn print_words<R: Print>(
 /// Prints the words of the bytes of a file, so many at a time.
 fn lex<R: Print + Files + AllocGlobal>(
     rt: &R,
-    script: &Script,
     path: &str,
     numbers: &[usize],
 ) -> Result<(), Refusal> {
@@ -225,9 +221,7 @@ fn lex<R: Print + Files + AllocGlobal>(
         return Err(Refusal::NotAllowed);
     };
     let mut source = source(rt, path, *piece, &[])?;
-    let mut window = vec![in script.alloc; 0; WINDOW_SIZE]?;
-    let read = print_words(rt, &mut Buffered::new(&mut source, &mut window), *count);
-    if let Err(error) = read {
+    if let Err(error) = print_words(rt, &mut source, *count) {
         print(rt, &error);
     }
     Ok(())
@@ -248,7 +242,7 @@ fn take_file<R: Print + Files + AllocGlobal>(
         Stream::PullStd => pull_std(rt, script, path, numbers),
         Stream::PullMany => pull_many(rt, script, path, numbers),
         Stream::PutMany => put_many(rt, script, path, numbers),
-        Stream::Lex => lex(rt, script, path, numbers),
+        Stream::Lex => lex(rt, path, numbers),
         Stream::Put => put(rt, script, line),
         Stream::PutStd => put_std(rt, script, line.words),
     }

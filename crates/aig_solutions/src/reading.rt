@@ -1,20 +1,21 @@
 //! Reading solvers' answers, as in the SAT competitions.
 
 ghost use Rattle.std.specs.Prelude.{◌≡◌, ◌<◌, ◌≤◌, IfOk, IsErrOf, IsTrue, OnOk, OnSome, length, true, vec_len};
+ghost use Rattle.aig_lexer.specs.Takes.{feed};
 
 use crate::error::SolutionError;
 use aig_base::{Lbool, Source};
-use aig_lexer::{Buffered, ByteFeed, LexError, WINDOW_SIZE, number_from};
+use aig_lexer::{InputBuffer, LexError, number_from};
 use std::alloc::Global;
 
 /// The first byte of the next line that is no comment, if there is one.
-fn first_byte<F: ByteFeed>(f: &mut F) -> Result<Option<u8>, SolutionError>
-    ensures stream { IsErrOf result SolutionError.Stream → F.failed f.new ≡ true }
-    ensures same { F.source_name f.new ≡ F.source_name f.old }
-    ensures fewer { IfOk result (λ o. OnSome o (F.turns f.new < F.turns f.old)) }
+fn first_byte<R: Source>(buffer: &mut InputBuffer, r: &mut R) -> Result<Option<u8>, SolutionError>
+    ensures stream { IsErrOf result SolutionError.Stream → R.failed r.new ≡ true }
+    ensures fewer { IfOk result (λ o. OnSome o ((feed R.left R.failed R.pulls buffer.new r.new).most
+        < (feed R.left R.failed R.pulls buffer.old r.old).most)) }
 {
     let mut inside = false;
-    while let Some(b) = f.next()? {
+    while let Some(b) = buffer.next(r)? {
         if inside {
             inside = b != b'\n';
         } else if b == b'c' {
@@ -27,12 +28,12 @@ fn first_byte<F: ByteFeed>(f: &mut F) -> Result<Option<u8>, SolutionError>
 }
 
 /// The next byte of a line of values.
-fn next_byte<F: ByteFeed>(f: &mut F) -> Result<u8, SolutionError>
-    ensures stream { IsErrOf result SolutionError.Stream → F.failed f.new ≡ true }
-    ensures same { F.source_name f.new ≡ F.source_name f.old }
-    ensures fewer { OnOk result (F.turns f.new < F.turns f.old) }
+fn next_byte<R: Source>(buffer: &mut InputBuffer, r: &mut R) -> Result<u8, SolutionError>
+    ensures stream { IsErrOf result SolutionError.Stream → R.failed r.new ≡ true }
+    ensures fewer { OnOk result ((feed R.left R.failed R.pulls buffer.new r.new).most
+        < (feed R.left R.failed R.pulls buffer.old r.old).most) }
 {
-    match f.next()? {
+    match buffer.next(r)? {
         Some(byte) => Ok(byte),
         None => Err(SolutionError::Unfinished),
     }
@@ -42,12 +43,15 @@ fn next_byte<F: ByteFeed>(f: &mut F) -> Result<u8, SolutionError>
 const LONGEST: usize = 16;
 
 /// What stands in a line after its first byte.
-fn rest_of_line<F: ByteFeed>(alloc: Global, f: &mut F) -> Result<Vec<u8>, SolutionError>
-    ensures stream { IsErrOf result SolutionError.Stream → F.failed f.new ≡ true }
-    ensures same { F.source_name f.new ≡ F.source_name f.old }
+fn rest_of_line<R: Source>(
+    alloc: Global,
+    buffer: &mut InputBuffer,
+    r: &mut R,
+) -> Result<Vec<u8>, SolutionError>
+    ensures stream { IsErrOf result SolutionError.Stream → R.failed r.new ≡ true }
 {
     let mut rest = Vec::with_capacity(alloc, LONGEST)?;
-    while let Some(b) = f.next()? {
+    while let Some(b) = buffer.next(r)? {
         if b == b'\n' {
             return Ok(rest);
         }
@@ -60,14 +64,17 @@ fn rest_of_line<F: ByteFeed>(alloc: Global, f: &mut F) -> Result<Vec<u8>, Soluti
 }
 
 /// Reads the line of an answer, after comments. Other answers than `SATISFIABLE` are refused.
-fn read_answer<F: ByteFeed>(alloc: Global, f: &mut F) -> Result<(), SolutionError>
-    ensures stream { IsErrOf result SolutionError.Stream → F.failed f.new ≡ true }
-    ensures same { F.source_name f.new ≡ F.source_name f.old }
+fn read_answer<R: Source>(
+    alloc: Global,
+    buffer: &mut InputBuffer,
+    r: &mut R,
+) -> Result<(), SolutionError>
+    ensures stream { IsErrOf result SolutionError.Stream → R.failed r.new ≡ true }
 {
-    if first_byte(f)? != Some(b's') {
+    if first_byte(buffer, r)? != Some(b's') {
         return Err(SolutionError::Answer);
     }
-    let line = rest_of_line(alloc, f)?;
+    let line = rest_of_line(alloc, buffer, r)?;
     let rest = line.as_slice();
     if rest == b" SATISFIABLE".as_slice() {
         Ok(())
@@ -92,14 +99,22 @@ struct Word {
 }
 
 /// Reads the literal that begins with this byte.
-fn read_word<F: ByteFeed>(f: &mut F, first: u8) -> Result<Word, SolutionError>
-    ensures stream { IsErrOf result SolutionError.Stream → F.failed f.new ≡ true }
-    ensures same { F.source_name f.new ≡ F.source_name f.old }
-    ensures fewer { OnOk result (F.turns f.new < F.turns f.old) }
+fn read_word<R: Source>(
+    buffer: &mut InputBuffer,
+    r: &mut R,
+    first: u8,
+) -> Result<Word, SolutionError>
+    ensures stream { IsErrOf result SolutionError.Stream → R.failed r.new ≡ true }
+    ensures fewer { OnOk result ((feed R.left R.failed R.pulls buffer.new r.new).most
+        < (feed R.left R.failed R.pulls buffer.old r.old).most) }
 {
     let positive = first != b'-';
-    let digit = if positive { first } else { next_byte(f)? };
-    match number_from(f, digit) {
+    let digit = if positive {
+        first
+    } else {
+        next_byte(buffer, r)?
+    };
+    match number_from(buffer, r, digit) {
         Ok((number, end)) if end == b' ' || end == b'\n' => Ok(Word {
             number,
             positive,
@@ -134,20 +149,24 @@ fn set_value(values: &mut [Lbool], word: &Word) -> Result<(), SolutionError>
 }
 
 /// Reads the literals of a line, after its first byte, and says whether the 0 stands there.
-fn read_values<F: ByteFeed>(f: &mut F, values: &mut [Lbool]) -> Result<bool, SolutionError>
-    ensures stream { IsErrOf result SolutionError.Stream → F.failed f.new ≡ true }
-    ensures same { F.source_name f.new ≡ F.source_name f.old }
-    ensures fewer { OnOk result (F.turns f.new < F.turns f.old) }
+fn read_values<R: Source>(
+    buffer: &mut InputBuffer,
+    r: &mut R,
+    values: &mut [Lbool],
+) -> Result<bool, SolutionError>
+    ensures stream { IsErrOf result SolutionError.Stream → R.failed r.new ≡ true }
+    ensures fewer { OnOk result ((feed R.left R.failed R.pulls buffer.new r.new).most
+        < (feed R.left R.failed R.pulls buffer.old r.old).most) }
 {
-    let mut byte = next_byte(f)?;
+    let mut byte = next_byte(buffer, r)?;
     if byte != b' ' && byte != b'\n' {
         return Err(SolutionError::Line);
     }
     while byte != b'\n' {
         if byte == b' ' {
-            byte = next_byte(f)?;
+            byte = next_byte(buffer, r)?;
         } else {
-            let word = read_word(f, byte)?;
+            let word = read_word(buffer, r, byte)?;
             if word.positive && word.number == 0 {
                 return Ok(true);
             }
@@ -159,15 +178,18 @@ fn read_values<F: ByteFeed>(f: &mut F, values: &mut [Lbool]) -> Result<bool, Sol
 }
 
 /// Reads lines of values up to the 0.
-fn read_lines<F: ByteFeed>(f: &mut F, values: &mut [Lbool]) -> Result<(), SolutionError>
-    ensures stream { IsErrOf result SolutionError.Stream → F.failed f.new ≡ true }
-    ensures same { F.source_name f.new ≡ F.source_name f.old }
+fn read_lines<R: Source>(
+    buffer: &mut InputBuffer,
+    r: &mut R,
+    values: &mut [Lbool],
+) -> Result<(), SolutionError>
+    ensures stream { IsErrOf result SolutionError.Stream → R.failed r.new ≡ true }
 {
-    while let Some(first) = first_byte(f)? {
+    while let Some(first) = first_byte(buffer, r)? {
         if first != b'v' {
             return Err(SolutionError::Line);
         }
-        if read_values(f, values)? {
+        if read_values(buffer, r, values)? {
             return Ok(());
         }
     }
@@ -196,10 +218,9 @@ pub fn read_solution<R: Source>(
     // Stream only where a read failed in this call.
     ensures stream { IsErrOf result SolutionError.Stream → IsTrue (R.failed r.new) }
 {
-    let mut window = vec![in alloc; 0; WINDOW_SIZE]?;
-    let mut bytes = Buffered::new(r, &mut window);
-    read_answer(alloc, &mut bytes)?;
+    let mut buffer = InputBuffer::new();
+    read_answer(alloc, &mut buffer, r)?;
     let mut values = vec![in alloc; Lbool::NONE; variables]?;
-    read_lines(&mut bytes, &mut values)?;
+    read_lines(&mut buffer, r, &mut values)?;
     Ok(values)
 }

@@ -2,14 +2,13 @@
 use Rattle.std.proofs.Common.{◌≡◌, ℕ, Bool, true, false, not, ◌&&◌, ◌||◌, cond, ltb, List, [], ◌∷◌, Option, Some, None, refl, ap, ◌∙◌}
 use Rattle.std.specs.Str.{is_utf8}
 use Rattle.std.specs.List.{list_any}
-use Rattle.std.specs.Io.KnownBytes.{Consumes}
 use Rattle.aig_format.specs.File.{NameLine, HeaderNumbers}
 use Rattle.aig_format.specs.Fits.{same_place}
 use Rattle.aig_format.specs.Spells.{is_letter}
 use Rattle.aig_parsing.specs.Parse.{◌>>=◌, parse_if, parse_text, parse_name, name_from}
 use Rattle.aig_format.specs.Letters.{count_of, is_kept}
 use Rattle.aig_parsing.specs.ParseTested.{tests_name}
-use Rattle.aig_lexer.specs.Takes.{Takes, Misses}
+use Rattle.aig_lexer.specs.Takes.{Feed, Advances, Takes, Misses}
 use Rattle.aig_lexer.proofs.Going.{GoesOn, goes_same, goes_call, goes_wrong, goes_nowhere, goes_done}
 use Rattle.aig_lexer.proofs.Taking.{misses_first}
 use Rattle.aig_symbols.specs.NameSteps.{parse_position}
@@ -119,28 +118,28 @@ module _ (ns : HeaderNumbers) (names : List NameLine) where
 
   -- ---- step by step
 
-  module _ (now mid : Option (List ℕ)) (l b : ℕ) (is : is_letter l ≡ true) (c : Consumes now mid (l ∷ b ∷ [])) where
+  module _ (now mid : Feed) (l b : ℕ) (is : is_letter l ≡ true) (c : Advances now mid (l ∷ b ∷ [])) where
     line_begins : GoesOn line_at now (λ bs. place_at ns l b bs >>= following_place names l) mid
-    line_begins = record { taken = l ∷ b ∷ []; goes = λ rest. line_parts l b rest is; consumed = c }
+    line_begins = record { taken = l ∷ b ∷ []; goes = λ rest. line_parts l b rest is; advances = c }
 
     pub line_without_place : Misses (place_at ns l b) mid → Misses line_at now
     line_without_place k = goes_wrong line_at (λ bs. place_at ns l b bs >>= following_place names l) now mid line_begins (misses_first (place_at ns l b) (following_place names l) mid k)
 
-    pub line_with_place : (after : Option (List ℕ)) (n : ℕ) → Takes (place_at ns l b) mid after n → GoesOn line_at now (λ bs. following_place names l (n, bs)) after
+    pub line_with_place : (after : Feed) (n : ℕ) → Takes (place_at ns l b) mid after n → GoesOn line_at now (λ bs. following_place names l (n, bs)) after
     line_with_place after n k =
         goes_call line_at (place_at ns l b) (λ bs. place_at ns l b bs >>= following_place names l) (λ bs. following_place names l (n, bs)) now mid after n line_begins k
         (λ bs rest e. ap (λ o. o >>= following_place names l) e)
 
-  pub line_of_taken : (now mid : Option (List ℕ)) (l n : ℕ) → GoesOn line_at now (λ bs. following_place names l (n, bs)) mid → is_taken names l n ≡ true → Misses line_at now
+  pub line_of_taken : (now mid : Feed) (l n : ℕ) → GoesOn line_at now (λ bs. following_place names l (n, bs)) mid → is_taken names l n ≡ true → Misses line_at now
   line_of_taken now mid l n h is =
       goes_nowhere line_at now mid (goes_same line_at (λ bs. following_place names l (n, bs)) (λ bs. None) now mid h (λ bs. ap (λ t. cond t None (name_text_at (is_kept l) bs >>= with_place l n)) is))
 
-  pub line_without_name : (now mid : Option (List ℕ)) (l n : ℕ) → GoesOn line_at now (λ bs. following_place names l (n, bs)) mid → is_taken names l n ≡ false → Misses (name_text_at (is_kept l)) mid → Misses line_at now
+  pub line_without_name : (now mid : Feed) (l n : ℕ) → GoesOn line_at now (λ bs. following_place names l (n, bs)) mid → is_taken names l n ≡ false → Misses (name_text_at (is_kept l)) mid → Misses line_at now
   line_without_name now mid l n h is k =
       goes_wrong line_at (λ bs. name_text_at (is_kept l) bs >>= with_place l n) now mid (goes_same line_at (λ bs. following_place names l (n, bs)) (λ bs. name_text_at (is_kept l) bs >>= with_place l n) now mid h (new_place l n is))
       (misses_first (name_text_at (is_kept l)) (with_place l n) mid k)
 
-  pub line_with_name : (now mid after : Option (List ℕ)) (l n : ℕ) (name : List ℕ) → GoesOn line_at now (λ bs. following_place names l (n, bs)) mid → is_taken names l n ≡ false → Takes (name_text_at (is_kept l)) mid after name
+  pub line_with_name : (now mid after : Feed) (l n : ℕ) (name : List ℕ) → GoesOn line_at now (λ bs. following_place names l (n, bs)) mid → is_taken names l n ≡ false → Takes (name_text_at (is_kept l)) mid after name
       → Takes line_at now after (name_line l n name)
   line_with_name now mid after l n name h is k =
       goes_done line_at (name_line l n name) now after

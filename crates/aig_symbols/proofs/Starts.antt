@@ -1,21 +1,14 @@
 -- How what is left starts: as a comment, as a name line, or as neither.
-use Rattle.std.proofs.Common.{◌≡◌, ◌≢◌, ℕ, Bool, true, false, List, [], ◌∷◌, ◌++◌, Option, Some, None, IfSome, option_to_list, refl, subst}
-use Rattle.std.specs.Io.KnownBytes.{Consumes, IsAtEnd}
-use Rattle.std.proofs.KnownBytes.{Consumes-trans, Consumes-whole}
+use Rattle.std.proofs.Common.{◌≡◌, ◌≢◌, ℕ, Bool, true, false, List, [], ◌∷◌, ◌++◌, Option, None, IfSome, refl}
+use Rattle.std.proofs.KnownBytes.{Consumes-whole}
 use Rattle.std.proofs.lemmas.Bool.{eq-eqb, ne_eqb}
 use Rattle.aig_format.specs.Spells.{is_letter}
 use Rattle.aig_format.specs.Text.{IsDigit}
 use Rattle.aig_parsing.specs.Parse.{is_comment, parse_name, parse_number, parse_ended}
 use Rattle.aig_parsing.proofs.Numbers.{false_digit}
+use Rattle.aig_lexer.specs.Takes.{Feed, Advances, Steps}
+use Rattle.aig_lexer.proofs.Feeds.{ends_on, steps_end}
 use Rattle.aig_symbols.specs.NameSteps.{IsNoTail}
-
--- one byte came
-pub took_byte : (now after : Option (List ℕ)) (o : Option ℕ) (b : ℕ) → Consumes now after (option_to_list o) → o ≡ Some b → Consumes now after (b ∷ [])
-took_byte now after o b c is = subst (λ (m : Option ℕ). Consumes now after (option_to_list m)) is c
-
--- no byte came
-took_none : (now after : Option (List ℕ)) (o : Option ℕ) → Consumes now after (option_to_list o) → o ≡ None → Consumes now after []
-took_none now after o c is = subst (λ (m : Option ℕ). Consumes now after (option_to_list m)) is c
 
 lone_letter : (l : ℕ) → parse_name (l ∷ []) ≡ None
 unfolding parse_ended parse_number
@@ -26,9 +19,10 @@ lone_letter l = go (is_letter l) refl
     go false is = rw is refl
 
 -- a byte that is no `c`, and then the end
-pub no_tail : (before now after : Option (List ℕ)) (o : Option ℕ) (l : ℕ) → Consumes before now (l ∷ []) → Consumes now after (option_to_list o) → o ≡ None → IsAtEnd after → l ≢ 99 → IfSome before IsNoTail
-no_tail before now after o l c d is e ne =
-    Consumes-whole before after ((l ∷ []) ++ []) IsNoTail (Consumes-trans before now after (l ∷ []) [] c (took_none now after o d is)) e
+pub no_tail : (before now after : Feed) (o : Option ℕ) (l : ℕ) → Advances before now (l ∷ []) → Steps now after o → o ≡ None → l ≢ 99 → IfSome before.coming IsNoTail
+no_tail before now after o l c d is ne =
+    let all = ends_on before now after (l ∷ []) [] c (steps_end now after o d is) in
+    Consumes-whole before.coming after.coming ((l ∷ []) ++ []) IsNoTail all.consumed all.at_end
     (record { no_comment = ne_eqb l 99 ne; no_name = lone_letter l })
 
 -- a `c`, and a byte that is no digit

@@ -1,15 +1,15 @@
 -- The names up to the end, one by one.
 use Rattle.std.proofs.Common.{◌≡◌, ℕ, zero, suc, ◌<◌, true, false, cond, List, [], ◌∷◌, ◌++◌, length, Option, Some, None, IfSome, refl, sym, ap, ◌∙◌, append_assoc, append-nil, arith}
 use Rattle.std.specs.Io.KnownBytes.{Consumes}
-use Rattle.std.proofs.KnownBytes.{Consumes-nil, Consumes-trans}
-use Rattle.std.proofs.lemmas.Option.{cond_some}
+use Rattle.std.proofs.lemmas.Option.{cond_some, IfSome_then}
 use Rattle.std.proofs.lemmas.List.{length-append}
 use Rattle.aig_format.specs.File.{NameLine, HeaderNumbers}
 use Rattle.aig_parsing.specs.Parse.{◌>>=◌, is_comment, parse_name, parse_tail}
 use Rattle.aig_parsing.specs.ParseTested.{tests_name, parse_fitting_tail}
 use Rattle.aig_parsing.proofs.Numbers.{bind_some}
 use Rattle.aig_parsing.proofs.Names.{Reads-name, name_is_some, name_goes_on}
-use Rattle.aig_lexer.specs.Takes.{Takes, Misses}
+use Rattle.aig_lexer.specs.Takes.{Feed, Advances, Ends, Takes}
+use Rattle.aig_lexer.proofs.Feeds.{advances_none, advances_on, ends_on}
 use Rattle.aig_lexer.proofs.Going.{known_rest}
 use Rattle.aig_symbols.specs.Names.{tail_of}
 use Rattle.aig_symbols.specs.NameSteps.{IsNoTail}
@@ -77,50 +77,50 @@ tail_name ns names bytes rest n is =
     ∙ ap (λ o. o >>= put n) (steps_enough ns (length bytes) (suc (length rest)) (names ++ n ∷ []) rest less (omega arith))
 
 -- reading the bytes that were taken, and whatever follows, is reading what follows after these names
-pub record TailGoes (ns : HeaderNumbers) (before : Option (List ℕ)) (names : List NameLine) (now : Option (List ℕ)) : Type 0 where
+pub record TailGoes (ns : HeaderNumbers) (before : Feed) (names : List NameLine) (now : Feed) : Type 0 where
   pub taken : List ℕ
   pub goes : (rest : List ℕ) → tail_of ns (taken ++ rest) ≡ (tail_from ns names rest >>= after names)
-  pub consumed : Consumes before now taken
+  pub advances : Advances before now taken
 
 after_none : (o : Option (List NameLine)) → o ≡ (o >>= after [])
 after_none None = refl
 after_none (Some names) = refl
 
-pub tail_begins : (ns : HeaderNumbers) (before : Option (List ℕ)) → TailGoes ns before [] before
-tail_begins ns before = record { taken = []; goes = λ rest. after_none (tail_from ns [] rest); consumed = Consumes-nil before }
+pub tail_begins : (ns : HeaderNumbers) (before : Feed) → TailGoes ns before [] before
+tail_begins ns before = record { taken = []; goes = λ rest. after_none (tail_from ns [] rest); advances = advances_none before }
 
 after_one : (names : List NameLine) (n : NameLine) (o : Option (List NameLine)) → (o >>= put n >>= after names) ≡ (o >>= after (names ++ n ∷ []))
 after_one names n None = refl
 after_one names n (Some more) = ap (λ (ms : List NameLine). Some ms) (sym (append_assoc names (n ∷ []) more))
 
 -- one more name was read
-pub tail_goes : (ns : HeaderNumbers) (names : List NameLine) (before now later : Option (List ℕ)) (n : NameLine) → TailGoes ns before names now → Takes (line_at ns names) now later n → TailGoes ns before (names ++ n ∷ []) later
+pub tail_goes : (ns : HeaderNumbers) (names : List NameLine) (before now later : Feed) (n : NameLine) → TailGoes ns before names now → Takes (line_at ns names) now later n → TailGoes ns before (names ++ n ∷ []) later
 tail_goes ns names before now later n h k = record {
   taken = h.taken ++ k.taken;
   goes = λ rest. ap (tail_of ns) (append_assoc h.taken k.taken rest) ∙ h.goes (k.taken ++ rest) ∙ ap (λ o. o >>= after names) (tail_name ns names (k.taken ++ rest) rest n (k.reads rest)) ∙ after_one names n (tail_from ns (names ++ n ∷ []) rest);
-  consumed = Consumes-trans before now later h.taken k.taken h.consumed k.consumed;
+  advances = advances_on before now later h.taken k.taken h.advances k.advances;
 }
 
 -- a comment was read, up to the end
-pub tail_ends : (ns : HeaderNumbers) (names : List NameLine) (before now later : Option (List ℕ)) (comment : List ℕ) → TailGoes ns before names now → Consumes now later comment → is_comment comment ≡ true
-    → (taken : List ℕ) × (tail_of ns taken ≡ Some names) × Consumes before later taken
+pub tail_ends : (ns : HeaderNumbers) (names : List NameLine) (before now later : Feed) (comment : List ℕ) → TailGoes ns before names now → Ends now later comment → is_comment comment ≡ true
+    → (taken : List ℕ) × (tail_of ns taken ≡ Some names) × Ends before later taken
 tail_ends ns names before now later comment h c is =
-    (h.taken ++ comment, h.goes comment ∙ ap (λ o. o >>= after names) (tail_comment ns names comment is) ∙ ap (λ (ms : List NameLine). Some ms) (append-nil names), Consumes-trans before now later h.taken comment h.consumed c)
+    (h.taken ++ comment, h.goes comment ∙ ap (λ o. o >>= after names) (tail_comment ns names comment is) ∙ ap (λ (ms : List NameLine). Some ms) (append-nil names), ends_on before now later h.taken comment h.advances c)
 
 -- neither a comment nor a name that passes its tests
 abbrev pub IsWrong : HeaderNumbers → List NameLine → List ℕ → Type 0
 IsWrong ns names bytes = (is_comment bytes ≡ false) × (line_at ns names bytes ≡ None)
 
-pub tail_wrong : (ns : HeaderNumbers) (names : List NameLine) (before now : Option (List ℕ)) → TailGoes ns before names now → IfSome now (IsWrong ns names) → IfSome before (λ bytes. tail_of ns bytes ≡ None)
+pub tail_wrong : (ns : HeaderNumbers) (names : List NameLine) (before now : Feed) → TailGoes ns before names now → IfSome now.coming (IsWrong ns names) → IfSome before.coming (λ bytes. tail_of ns bytes ≡ None)
 tail_wrong ns names before now h k =
-    known_rest before now h.taken (λ bytes. tail_of ns bytes ≡ None) (IsWrong ns names) h.consumed k
+    known_rest before.coming now.coming h.taken (λ bytes. tail_of ns bytes ≡ None) (IsWrong ns names) h.advances.consumed k
     (λ rest w. h.goes rest ∙ ap (λ o. o >>= after names) (tail_line ns names rest w.0 ∙ ap (λ o. o >>= one_more ns (length rest) names) w.1))
 
 pub wrong_start : (ns : HeaderNumbers) (names : List NameLine) (now : Option (List ℕ)) → IfSome now IsNoTail → IfSome now (IsWrong ns names)
-wrong_start ns names None h = tt
-wrong_start ns names (Some bytes) h = (h.no_comment, ap (λ (o : Option (NameLine × List ℕ)). o >>= λ n. cond (tests_name ns names n.0) (Some n) None) h.no_name)
+wrong_start ns names now h =
+    IfSome_then now h (λ bytes h. (h.no_comment, ap (λ (o : Option (NameLine × List ℕ)). o >>= λ n. cond (tests_name ns names n.0) (Some n) None) h.no_name))
 
-pub wrong_line : (ns : HeaderNumbers) (names : List NameLine) (now mid : Option (List ℕ)) (l b : ℕ) → Consumes now mid (l ∷ b ∷ []) → is_comment (l ∷ b ∷ []) ≡ false → Misses (line_at ns names) now → IfSome now (IsWrong ns names)
+pub wrong_line : (ns : HeaderNumbers) (names : List NameLine) (now mid : Option (List ℕ)) (l b : ℕ) → Consumes now mid (l ∷ b ∷ []) → is_comment (l ∷ b ∷ []) ≡ false → IfSome now (λ bytes. line_at ns names bytes ≡ None) → IfSome now (IsWrong ns names)
 wrong_line ns names None mid l b c is h = tt
 wrong_line ns names (Some bytes) None l b c is h = absurd c
 wrong_line ns names (Some bytes) (Some rest) l b c is h = (ap is_comment c ∙ is, h)

@@ -1,5 +1,6 @@
 -- Serves private clauses alone.
 -- What a fault tells.
+use Rattle.std.specs.Prelude.{◌≡◌, Bool, true}
 use Rattle.aig_lexer.specs.declared.error.LexError.{LexError}
 use Rattle.aig_lexer.specs.declared.error.LexError.TheVariants as lex
 use Rattle.aig_symbols.specs.declared.names.error.NameError.{NameError}
@@ -10,8 +11,8 @@ abbrev pub error_of : LexError → NameError
 error_of lex.Stream = name.Stream
 error_of lex.Shape = name.Shape
 
--- the fact, unless memory or the stream failed
-abbrev pub NameUnlessTransient : NameError → Type 0 → Type 0
-NameUnlessTransient name.Memory P = Unit {0}
-NameUnlessTransient name.Stream P = Unit {0}
-NameUnlessTransient name.Shape P = P
+-- this fact, or that the stream failed, or nothing where memory ran out
+abbrev pub NameTells : NameError → Type 0 → Bool → Type 0
+NameTells name.Memory P failed = Unit {0}
+NameTells name.Stream P failed = failed ≡ true
+NameTells name.Shape P failed = P

@@ -1,14 +1,13 @@
 //! Names, line by line.
 
-ghost use Rattle.std.specs.Prelude.{◌≡◌, ◌≢◌, ◌<◌, not, ◌||◌, ◌++◌, length, AllPairs, IfOk, IsErrOf, OnOk, OnSome, true, false, is_some};
-ghost use Rattle.std.specs.Io.KnownBytes.{IsAtEnd};
+ghost use Rattle.std.specs.Prelude.{◌≡◌, ◌≢◌, not, ◌||◌, ◌++◌, length, AllPairs, is_some};
 ghost use Rattle.std.specs.Str.{is_utf8};
 ghost use Rattle.aig_circuit.specs.Circuit.{latch_leaves};
 ghost use Rattle.aig_circuit.specs.View.{names_of};
 ghost use Rattle.aig_parsing.specs.Parse.{parse_if, parse_text};
 ghost use Rattle.aig_lexer.specs.Header.{numbers_of};
-ghost use Rattle.aig_lexer.specs.Takes.{Makes};
-ghost use Rattle.aig_symbols.specs.NameFaults.{NameUnlessTransient};
+ghost use Rattle.aig_lexer.specs.Takes.{Makes, feed};
+ghost use Rattle.aig_symbols.specs.NameFaults.{NameTells};
 ghost use Rattle.aig_symbols.specs.Names.{EndsWith, kept_names, tail_of};
 ghost use Rattle.aig_symbols.specs.NameSteps.{NameStarts, with_name};
 
@@ -17,8 +16,9 @@ mod place;
 mod section;
 mod text;
 
+use aig_base::Source;
 use aig_circuit::AigLatch;
-use aig_lexer::{ByteFeed, Header, LexError};
+use aig_lexer::{Header, InputBuffer, LexError};
 pub use error::NameError;
 use place::{named_node, read_place};
 use section::NamedSection;
@@ -30,25 +30,24 @@ use text::{kept_text, skip_rest, skip_text};
 /// section, and the byte.
 ///
 /// A `c` that ends the stream or has no digit after it begins the comment.
-fn name_start<F: ByteFeed>(f: &mut F) -> Result<Option<(NamedSection, u8)>, LexError>
-    ensures exact { NameStarts (F.coming f.old) (F.coming f.new) result }
-    ensures whole { IfOk result
-        (λ x. x ≡ None → (F.failed f.new ≡ false) × IsAtEnd (F.coming f.new)) }
-    ensures stream { IsErrOf result LexError.Stream → F.failed f.new ≡ true }
-    ensures same { F.source_name f.new ≡ F.source_name f.old }
-    ensures fewer { IfOk result (λ x. OnSome x (F.turns f.new < F.turns f.old)) }
+fn name_start<R: Source>(
+    buffer: &mut InputBuffer,
+    r: &mut R,
+) -> Result<Option<(NamedSection, u8)>, LexError>
+    ensures { NameStarts (feed R.left R.failed R.pulls buffer.old r.old)
+        (feed R.left R.failed R.pulls buffer.new r.new) result }
 {
-    let Some(letter) = f.next()? else {
+    let Some(letter) = buffer.next(r)? else {
         return Ok(None);
     };
-    let Some(second) = f.next()? else {
+    let Some(second) = buffer.next(r)? else {
         if letter == b'c' {
             return Ok(None);
         }
         return Err(LexError::Shape);
     };
     if letter == b'c' && !second.is_ascii_digit() {
-        skip_rest(f)?;
+        skip_rest(buffer, r)?;
         return Ok(None);
     }
     match NamedSection::of_letter(letter) {
@@ -58,25 +57,24 @@ fn name_start<F: ByteFeed>(f: &mut F) -> Result<Option<(NamedSection, u8)>, LexE
 }
 
 /// Reads a name, and keeps it where it is that of a node.
-fn read_name<F: ByteFeed>(
+fn read_name<R: Source>(
     alloc: Global,
-    f: &mut F,
+    buffer: &mut InputBuffer,
+    r: &mut R,
     node: Option<usize>,
     names: &mut HashMap<usize, String>,
 ) -> Result<(), NameError>
-    ensures exact { Makes NameUnlessTransient
+    ensures { Makes NameTells
         (λ _ name. names_of names.new.entries ≡ with_name node name (names_of names.old.entries))
-        (F.coming f.old) (F.coming f.new) result
+        (feed R.left R.failed R.pulls buffer.old r.old)
+        (feed R.left R.failed R.pulls buffer.new r.new) result
         (parse_if parse_text (λ name. not (is_some node) || is_utf8 name)) }
-    ensures stream { IsErrOf result NameError.Stream → F.failed f.new ≡ true }
-    ensures same { F.source_name f.new ≡ F.source_name f.old }
-    ensures fewer { OnOk result (F.turns f.new < F.turns f.old) }
 {
     let Some(node) = node else {
-        skip_text(f)?;
+        skip_text(buffer, r)?;
         return Ok(());
     };
-    let text = kept_text(alloc, f)?;
+    let text = kept_text(alloc, buffer, r)?;
     names.insert(node, text)?;
     Ok(())
 }
@@ -90,9 +88,10 @@ fn read_name<F: ByteFeed>(
 ///
 /// Returns `Shape` where the bytes are no such names and comment, `Stream` where a read failed, and `Memory` where a growth
 /// was refused.
-pub fn read_names<F: ByteFeed>(
+pub fn read_names<R: Source>(
     alloc: Global,
-    f: &mut F,
+    buffer: &mut InputBuffer,
+    r: &mut R,
     header: &Header,
     inputs: &[usize],
     latchs: &[AigLatch],
@@ -100,22 +99,20 @@ pub fn read_names<F: ByteFeed>(
     requires inputs { length inputs.now ≡ header.now.inputs }
     requires latchs { length latchs.now ≡ header.now.latches }
     requires distinct { AllPairs (λ m n. m ≢ n) (inputs.now ++ latch_leaves latchs.now) }
-    ensures exact { EndsWith NameUnlessTransient
+    ensures { EndsWith NameTells
         (λ map names. names_of map.entries ≡ kept_names inputs.now (latch_leaves latchs.now) names)
-        (F.coming f.old) (F.coming f.new) result (tail_of (numbers_of header.now)) }
-    ensures whole { OnOk result ((F.failed f.new ≡ false) × IsAtEnd (F.coming f.new)) }
-    ensures stream { IsErrOf result NameError.Stream → F.failed f.new ≡ true }
-    ensures same { F.source_name f.new ≡ F.source_name f.old }
+        (feed R.left R.failed R.pulls buffer.old r.old)
+        (feed R.left R.failed R.pulls buffer.new r.new) result (tail_of (numbers_of header.now)) }
 {
     let mut places = HashSet::new(alloc);
     let mut names = HashMap::new(alloc);
-    while let Some((section, first)) = name_start(f)? {
-        let place = read_place(f, header, section, first)?;
+    while let Some((section, first)) = name_start(buffer, r)? {
+        let place = read_place(buffer, r, header, section, first)?;
         if !places.insert(place)? {
             return Err(NameError::Shape);
         }
         let node = named_node(place, inputs, latchs);
-        read_name(alloc, f, node, &mut names)?;
+        read_name(alloc, buffer, r, node, &mut names)?;
     }
     Ok(names)
 }

@@ -1,39 +1,38 @@
 -- How a witness is read, byte by byte.
-use Rattle.std.proofs.Common.{◌≡◌, ◌≢◌, ℕ, Bool, true, false, cond, eqb, List, [], ◌∷◌, ◌++◌, Option, Some, None, Result, Ok, Err, refl, sym, ap, subst, ◌∙◌, option_to_list}
+use Rattle.std.proofs.Common.{◌≡◌, ◌≢◌, ℕ, Bool, true, false, cond, eqb, List, [], ◌∷◌, ◌++◌, Option, Some, None, Result, Ok, Err, refl, sym, ap, subst, ◌∙◌}
 use Rattle.std.specs.Prelude.{Vec}
 use Rattle.std.specs.declared.alloc.Global.{Global}
 use Rattle.std.proofs.lemmas.Bool.{eq-eqb, eqb-true, ne_eqb}
 use Rattle.std.proofs.lemmas.List.{map-append}
 use Rattle.std.proofs.KnownBytes.{Consumes-trans}
-use Rattle.std.specs.Io.KnownBytes.{Consumes, IsAtEnd}
 use Rattle.aig_base.specs.declared.logic.three.Lbool.{Lbool}
 use Rattle.aig_parsing.specs.Parse.{◌>>=◌, parse_ended, parse_map, strip}
-use Rattle.aig_lexer.specs.Takes.{Gives}
+use Rattle.aig_lexer.specs.Takes.{Feed, Ends, Steps, Gives}
 use Rattle.aig_lexer.specs.Words.{parse_expected}
 use Rattle.aig_lexer.proofs.Taking.{misses_mapped, takes_mapped}
 use Rattle.aig_lexer.proofs.Going.{GoesOn, goes_call, goes_done, goes_wrong}
 use Rattle.aig_witness.specs.declared.error.WitnessError.{WitnessError}
 use Rattle.aig_witness.specs.declared.error.WitnessError.TheVariants.{Memory, Stream, Status, Property, Values}
-use Rattle.aig_witness.specs.Faults.{Ends, OnWitness}
+use Rattle.aig_witness.specs.Faults.{EndsWithout, WitnessTells}
 use Rattle.aig_witness.specs.Reading.{after_comments, parse_first, parse_next, parse_parts, parse_point_after, parse_property, parse_row_after, parse_steps_after, value_of_letter, parse_witness, witness_from}
 use Rattle.aig_witness.specs.declared.witness.Witness as lists
 use Rattle.aig_witness.specs.Witness.{Witness, parts_of, rows_of, said_by}
 
-pub on_witness-weaker : (e : WitnessError) (P Q : Type 0) → (P → Q) → OnWitness e P → OnWitness e Q
-on_witness-weaker Memory P Q f h = tt
-on_witness-weaker Stream P Q f h = tt
-on_witness-weaker Status P Q f h = f h
-on_witness-weaker Property P Q f h = f h
-on_witness-weaker Values P Q f h = f h
+pub witness-weaker : (e : WitnessError) (P Q : Type 0) (failed : Bool) → (P → Q) → WitnessTells e P failed → WitnessTells e Q failed
+witness-weaker Memory P Q failed f h = tt
+witness-weaker Stream P Q failed f h = h
+witness-weaker Status P Q failed f h = f h
+witness-weaker Property P Q failed f h = f h
+witness-weaker Values P Q failed f h = f h
 
 -- a call that reads all that is left
-pub gives_rest : {X Y : Type 0} (view : X → Y) (p q : List ℕ → Option (Y × List ℕ)) (before mid after : Option (List ℕ)) (r : Result X WitnessError)
-    → GoesOn p before q mid → Gives OnWitness view mid after r q → Gives OnWitness view before after r p
+pub gives_rest : {X Y : Type 0} (view : X → Y) (p q : List ℕ → Option (Y × List ℕ)) (before mid after : Feed) (r : Result X WitnessError)
+    → GoesOn p before q mid → Gives WitnessTells view mid after r q → Gives WitnessTells view before after r p
 gives_rest {X} view p q before mid after r h k = go r k
   where
-    go : (r : Result X WitnessError) → Gives OnWitness view mid after r q → Gives OnWitness view before after r p
+    go : (r : Result X WitnessError) → Gives WitnessTells view mid after r q → Gives WitnessTells view before after r p
     go (Ok x) k = goes_done p (view x) before after (goes_call p q q (λ bs. Some (view x, bs)) before mid after (view x) h k (λ bs rest e. e))
-    go (Err e) k = on_witness-weaker e _ _ (goes_wrong p q before mid h) k
+    go (Err e) k = witness-weaker e _ _ after.failed (goes_wrong p q before mid h) k
 
 -- ---- a line of values
 
@@ -184,14 +183,17 @@ pub witness_missed : (b : ℕ) → b ≢ 99 → (bs : List ℕ) → parse_witnes
 witness_missed b ne bs is = witness_begins b ne bs ∙ ap (λ o. o >>= there) is
 
 -- no byte came: there is no witness
-pub nothing_left : (inside : Bool) (before now after : Option (List ℕ)) (o : Option ℕ) → GoesOn parse_next before (next_from inside) now → Consumes now after (option_to_list o) → o ≡ None → IsAtEnd after → Ends before after
-nothing_left inside before now after o h c is end =
-    let none : Consumes now after [] = subst (λ (m : Option ℕ). Consumes now after (option_to_list m)) is c in
+pub nothing_left : (inside : Bool) (before now after : Feed) (o : Option ℕ) → GoesOn parse_next before (next_from inside) now → Steps now after o → o ≡ None → EndsWithout before after
+nothing_left inside before now after o h c is =
+    let none : Ends now after [] = subst (Steps now after) is c in
     record {
       taken = h.taken ++ [];
       none = h.goes [] ∙ ends inside;
-      consumed = Consumes-trans before now after h.taken [] h.consumed none;
-      whole = end;
+      ends = record {
+        consumed = Consumes-trans before.coming now.coming after.coming h.taken [] h.advances.consumed none.consumed;
+        at_end = none.at_end;
+        sound = none.sound;
+      };
     }
   where
     ends : (inside : Bool) → next_from inside [] ≡ Some (None, [])
@@ -200,6 +202,6 @@ nothing_left inside before now after o h c is end =
 
 -- ---- the parts, as a witness
 
-pub seen_as_witness : (mid after : Option (List ℕ)) (r : Result lists.Witness WitnessError) → Gives OnWitness parts_of mid after r parse_parts → Gives OnWitness said_by mid after r (parse_map witness_from parse_parts)
+pub seen_as_witness : (mid after : Feed) (r : Result lists.Witness WitnessError) → Gives WitnessTells parts_of mid after r parse_parts → Gives WitnessTells said_by mid after r (parse_map witness_from parse_parts)
 seen_as_witness mid after (Ok w) h = takes_mapped witness_from parse_parts mid after (parts_of w) h
-seen_as_witness mid after (Err e) h = on_witness-weaker e _ _ (misses_mapped witness_from parse_parts mid) h
+seen_as_witness mid after (Err e) h = witness-weaker e _ _ after.failed (misses_mapped witness_from parse_parts mid) h

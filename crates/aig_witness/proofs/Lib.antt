@@ -1,4 +1,4 @@
 mod Spelled
-mod Going
+pub mod Going
 mod Pieces
 mod Examples

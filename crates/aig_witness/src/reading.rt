@@ -1,16 +1,15 @@
 //! Reading witnesses.
 
-ghost use Rattle.std.specs.Prelude.{◌≡◌, ◌∷◌, ◌<◌, ◌≤◌, [], IfOk, IsErrOf, OnErr, OnOk, false, true};
-ghost use Rattle.aig_lexer.specs.Takes.{Gives, Misses, Takes};
-ghost use Rattle.aig_lexer.specs.Words.{parse_expected};
-ghost use Rattle.aig_witness.specs.Faults.{GivesNext, OnWitness};
+ghost use Rattle.std.specs.Prelude.{◌≡◌, ◌∷◌, []};
+ghost use Rattle.aig_lexer.specs.Takes.{Gives, feed};
+ghost use Rattle.aig_witness.specs.Faults.{EndsLine, GivesNext, WitnessTells};
 ghost use Rattle.aig_witness.specs.Reading.{parse_parts, parse_property, parse_row_after, parse_steps_after, value_of_letter, parse_witness};
 ghost use Rattle.aig_witness.specs.Witness.{parts_of, rows_of, said_by};
 
 use crate::error::WitnessError;
 use crate::witness::Witness;
-use aig_base::{Lbool, StreamFault};
-use aig_lexer::{ByteFeed, LexError, ended};
+use aig_base::{Lbool, Source, StreamFault};
+use aig_lexer::{InputBuffer, LexError, ended};
 use std::alloc::Global;
 
 /// The value of a letter, if it is that of one.
@@ -26,12 +25,16 @@ fn value_of(letter: u8) -> Option<Lbool>
 }
 
 /// Reads a line of values whose first byte, which was read before, is `first`.
-fn read_row<F: ByteFeed>(alloc: Global, f: &mut F, first: u8) -> Result<Vec<Lbool>, WitnessError>
-    ensures exact { Gives OnWitness (λ row. row.items)
-        (F.coming f.old) (F.coming f.new) result (λ bs. parse_row_after [] (first ∷ bs)) }
-    ensures stream { IsErrOf result WitnessError.Stream → F.failed f.new ≡ true }
-    ensures same { F.source_name f.new ≡ F.source_name f.old }
-    ensures fewer { OnOk result (F.turns f.new ≤ F.turns f.old) }
+fn read_row<R: Source>(
+    alloc: Global,
+    buffer: &mut InputBuffer,
+    r: &mut R,
+    first: u8,
+) -> Result<Vec<Lbool>, WitnessError>
+    ensures { Gives WitnessTells (λ row. row.items)
+        (feed R.left R.failed R.pulls buffer.old r.old)
+        (feed R.left R.failed R.pulls buffer.new r.new) result
+        (λ bs. parse_row_after [] (first ∷ bs)) }
 {
     let mut row = Vec::new(alloc);
     let mut letter = first;
@@ -40,7 +43,7 @@ fn read_row<F: ByteFeed>(alloc: Global, f: &mut F, first: u8) -> Result<Vec<Lboo
             return Err(WitnessError::Values);
         };
         row.push(value)?;
-        let Some(next) = f.next()? else {
+        let Some(next) = buffer.next(r)? else {
             return Err(WitnessError::Values);
         };
         letter = next;
@@ -49,65 +52,64 @@ fn read_row<F: ByteFeed>(alloc: Global, f: &mut F, first: u8) -> Result<Vec<Lboo
 }
 
 /// Reads a line of values.
-fn read_state<F: ByteFeed>(alloc: Global, f: &mut F) -> Result<Vec<Lbool>, WitnessError>
-    ensures exact { Gives OnWitness (λ row. row.items)
-        (F.coming f.old) (F.coming f.new) result (parse_row_after []) }
-    ensures stream { IsErrOf result WitnessError.Stream → F.failed f.new ≡ true }
-    ensures same { F.source_name f.new ≡ F.source_name f.old }
+fn read_state<R: Source>(
+    alloc: Global,
+    buffer: &mut InputBuffer,
+    r: &mut R,
+) -> Result<Vec<Lbool>, WitnessError>
+    ensures { Gives WitnessTells (λ row. row.items) (feed R.left R.failed R.pulls buffer.old r.old)
+        (feed R.left R.failed R.pulls buffer.new r.new) result (parse_row_after []) }
 {
-    let Some(first) = f.next()? else {
+    let Some(first) = buffer.next(r)? else {
         return Err(WitnessError::Values);
     };
-    read_row(alloc, f, first)
+    read_row(alloc, buffer, r, first)
 }
 
 /// Whether the next byte is a line feed, which is read.
-fn ends_line<F: ByteFeed>(f: &mut F) -> Result<bool, StreamFault>
-    ensures takes { IfOk result (λ yes. yes ≡ true
-        → Takes (parse_expected 10) (F.coming f.old) (F.coming f.new) 10) }
-    ensures misses { IfOk result
-        (λ yes. yes ≡ false → Misses (parse_expected 10) (F.coming f.old)) }
-    ensures stream { OnErr result (F.failed f.new ≡ true) }
-    ensures same { F.source_name f.new ≡ F.source_name f.old }
+fn ends_line<R: Source>(buffer: &mut InputBuffer, r: &mut R) -> Result<bool, StreamFault>
+    ensures { EndsLine (feed R.left R.failed R.pulls buffer.old r.old)
+        (feed R.left R.failed R.pulls buffer.new r.new) result }
 {
-    match f.next()? {
+    match buffer.next(r)? {
         Some(b'\n') => Ok(true),
         _ => Ok(false),
     }
 }
 
 /// Reads lines of values, up to the line of a point.
-fn read_steps<F: ByteFeed>(alloc: Global, f: &mut F) -> Result<Vec<Vec<Lbool>>, WitnessError>
-    ensures exact { Gives OnWitness (λ steps. rows_of steps.items)
-        (F.coming f.old) (F.coming f.new) result (parse_steps_after [] []) }
-    ensures stream { IsErrOf result WitnessError.Stream → F.failed f.new ≡ true }
-    ensures same { F.source_name f.new ≡ F.source_name f.old }
+fn read_steps<R: Source>(
+    alloc: Global,
+    buffer: &mut InputBuffer,
+    r: &mut R,
+) -> Result<Vec<Vec<Lbool>>, WitnessError>
+    ensures { Gives WitnessTells (λ steps. rows_of steps.items)
+        (feed R.left R.failed R.pulls buffer.old r.old)
+        (feed R.left R.failed R.pulls buffer.new r.new) result (parse_steps_after [] []) }
 {
     let mut steps = Vec::new(alloc);
-    while let Some(first) = f.next()? {
+    while let Some(first) = buffer.next(r)? {
         if first == b'.' {
-            if !ends_line(f)? {
+            if !ends_line(buffer, r)? {
                 return Err(WitnessError::Values);
             }
             return Ok(steps);
         }
-        let row = read_row(alloc, f, first)?;
+        let row = read_row(alloc, buffer, r, first)?;
         steps.push(row)?;
     }
     Err(WitnessError::Values)
 }
 
 /// Reads the line of a bad state property: `b` and its number.
-fn read_property<F: ByteFeed>(f: &mut F) -> Result<u32, WitnessError>
-    ensures exact { Gives OnWitness (λ bad. bad)
-        (F.coming f.old) (F.coming f.new) result parse_property }
-    ensures stream { IsErrOf result WitnessError.Stream → F.failed f.new ≡ true }
-    ensures same { F.source_name f.new ≡ F.source_name f.old }
+fn read_property<R: Source>(buffer: &mut InputBuffer, r: &mut R) -> Result<u32, WitnessError>
+    ensures { Gives WitnessTells (λ bad. bad) (feed R.left R.failed R.pulls buffer.old r.old)
+        (feed R.left R.failed R.pulls buffer.new r.new) result parse_property }
 {
-    let Some(b'b') = f.next()? else {
+    let Some(b'b') = buffer.next(r)? else {
         return Err(WitnessError::Property);
     };
-    match ended(f, b'\n') {
+    match ended(buffer, r, b'\n') {
         Ok(bad) => Ok(bad),
         Err(LexError::Stream) => Err(WitnessError::Stream),
         Err(LexError::Shape) => Err(WitnessError::Property),
@@ -115,32 +117,37 @@ fn read_property<F: ByteFeed>(f: &mut F) -> Result<u32, WitnessError>
 }
 
 /// Reads the lines after the status line.
-fn read_parts<F: ByteFeed>(alloc: Global, f: &mut F) -> Result<Witness, WitnessError>
-    ensures exact { Gives OnWitness parts_of
-        (F.coming f.old) (F.coming f.new) result parse_parts }
-    ensures stream { IsErrOf result WitnessError.Stream → F.failed f.new ≡ true }
-    ensures same { F.source_name f.new ≡ F.source_name f.old }
+fn read_parts<R: Source>(
+    alloc: Global,
+    buffer: &mut InputBuffer,
+    r: &mut R,
+) -> Result<Witness, WitnessError>
+    ensures { Gives WitnessTells parts_of (feed R.left R.failed R.pulls buffer.old r.old)
+        (feed R.left R.failed R.pulls buffer.new r.new) result parse_parts }
 {
-    let bad = read_property(f)?;
-    let state = read_state(alloc, f)?;
-    let steps = read_steps(alloc, f)?;
+    let bad = read_property(buffer, r)?;
+    let state = read_state(alloc, buffer, r)?;
+    let steps = read_steps(alloc, buffer, r)?;
     Ok(Witness { bad, state, steps })
 }
 
 /// Reads a witness whose first byte, which was read before, is `first`.
-fn read_after<F: ByteFeed>(alloc: Global, f: &mut F, first: u8) -> Result<Witness, WitnessError>
-    ensures exact { Gives OnWitness said_by
-        (F.coming f.old) (F.coming f.new) result (λ bs. parse_witness (first ∷ bs)) }
-    ensures stream { IsErrOf result WitnessError.Stream → F.failed f.new ≡ true }
-    ensures same { F.source_name f.new ≡ F.source_name f.old }
+fn read_after<R: Source>(
+    alloc: Global,
+    buffer: &mut InputBuffer,
+    r: &mut R,
+    first: u8,
+) -> Result<Witness, WitnessError>
+    ensures { Gives WitnessTells said_by (feed R.left R.failed R.pulls buffer.old r.old)
+        (feed R.left R.failed R.pulls buffer.new r.new) result (λ bs. parse_witness (first ∷ bs)) }
 {
     if first != b'1' {
         return Err(WitnessError::Status);
     }
-    if !ends_line(f)? {
+    if !ends_line(buffer, r)? {
         return Err(WitnessError::Status);
     }
-    read_parts(alloc, f)
+    read_parts(alloc, buffer, r)
 }
 
 /// Reads the next witness of a stream, after comments, or returns none where only comments are left (AIGER 1.9, "Witness
@@ -154,21 +161,24 @@ fn read_after<F: ByteFeed>(alloc: Global, f: &mut F, first: u8) -> Result<Witnes
 /// # Errors
 ///
 /// `Status`, `Property` and `Values` name the first line that is malformed or cut; `Stream` where a read failed; `Memory`.
-pub fn read_witness<F: ByteFeed>(alloc: Global, f: &mut F) -> Result<Option<Witness>, WitnessError>
+pub fn read_witness<R: Source>(
+    alloc: Global,
+    buffer: &mut InputBuffer,
+    r: &mut R,
+) -> Result<Option<Witness>, WitnessError>
     // A witness stands after comments in the bytes that were taken, whatever follows them; or these are comments alone, and
-    // nothing follows; or known bytes are neither.
-    ensures exact { GivesNext (F.coming f.old) (F.coming f.new) result }
-    ensures stream { IsErrOf result WitnessError.Stream → F.failed f.new ≡ true }
-    ensures same { F.source_name f.new ≡ F.source_name f.old }
+    // nothing follows; or known bytes are neither, or a read failed.
+    ensures { GivesNext (feed R.left R.failed R.pulls buffer.old r.old)
+        (feed R.left R.failed R.pulls buffer.new r.new) result }
 {
     let mut inside = false;
-    while let Some(b) = f.next()? {
+    while let Some(b) = buffer.next(r)? {
         if inside {
             inside = b != b'\n';
         } else if b == b'c' {
             inside = true;
         } else {
-            let witness = read_after(alloc, f, b)?;
+            let witness = read_after(alloc, buffer, r, b)?;
             return Ok(Some(witness));
         }
     }

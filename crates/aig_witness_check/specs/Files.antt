@@ -1,14 +1,15 @@
 -- Part of what is promised.
 -- What the answer of a check tells of the bytes of a file and of a witness. (AIGER format 20071012;
 -- AIGER 1.9, "Witness format".)
-use Rattle.std.specs.Prelude.{◌≡◌, ℕ, ◌-◌, List, [], length, Option, Some, None, IfSome, Result, Ok, Err}
+use Rattle.std.specs.Prelude.{◌≡◌, ℕ, ◌-◌, Bool, List, [], length, Option, Some, None, IfSome, Result, Ok, Err}
 use Rattle.aig_format.specs.File.{File}
 use Rattle.aig_format.specs.Fits.{Accepts}
 use Rattle.aig_format.specs.Circuit.{circuit_of}
-use Rattle.aig_lexer.specs.Takes.{Misses}
 use Rattle.aig_reader.specs.Reading.{IsReadAs, UnlessTransient}
+use Rattle.aig_witness.specs.declared.error.WitnessError.{WitnessError}
+use Rattle.aig_witness.specs.declared.error.WitnessError.TheVariants as witness
 use Rattle.aig_witness.specs.declared.witness.Witness as lists
-use Rattle.aig_witness.specs.Faults.{OnWitness}
+use Rattle.aig_witness.specs.Faults.{WitnessTells}
 use Rattle.aig_witness.specs.Reading.{parse_next}
 use Rattle.aig_witness.specs.Witness.{Witness, said_by}
 use Rattle.aig_witness_check.specs.declared.error.CheckError.{CheckError}
@@ -28,6 +29,10 @@ IsNextWitness text w =
 abbrev pub HasNone : Option (List ℕ) → Type 0
 HasNone text = IfSome text (λ bytes. parse_next bytes ≡ Some (None, []))
 
+-- where the bytes are known, there is neither
+abbrev pub HasNeither : Option (List ℕ) → Type 0
+HasNeither text = IfSome text (λ bytes. parse_next bytes ≡ None)
+
 -- the next witness of the text shows this bad state of the file's machine
 pub record ShowsNext (text : Option (List ℕ)) (f : File) (shown : Shown) : Type 0 where
   pub witness : Witness
@@ -44,12 +49,12 @@ pub record FailsNext (text : Option (List ℕ)) (f : File) (e : CheckError) : Ty
   pub wrong : IsWrong (circuit_of f) witness e
 
 -- the next witness, or why there is none
-abbrev pub GivesFirst : Option (List ℕ) → Result lists.Witness ShowError → Type 0
-GivesFirst text (Ok w) = IsNextWitness text (said_by w)
-GivesFirst text (Err (errors.File e)) = ⊥
-GivesFirst text (Err (errors.Witness e)) = OnWitness e (Misses parse_next text)
-GivesFirst text (Err errors.NoWitness) = HasNone text
-GivesFirst text (Err (errors.Check e)) = ⊥
+abbrev pub GivesFirst : Option (List ℕ) → Bool → Result lists.Witness ShowError → Type 0
+GivesFirst text failed (Ok w) = IsNextWitness text (said_by w)
+GivesFirst text failed (Err (errors.File e)) = ⊥
+GivesFirst text failed (Err (errors.Witness e)) = WitnessTells e (HasNeither text) failed
+GivesFirst text failed (Err errors.NoWitness) = HasNone text
+GivesFirst text failed (Err (errors.Check e)) = ⊥
 
 -- the answer tells of the file alone: no witness was read
 abbrev pub IsOfFileAlone : Result Shown ShowError → Type 0
@@ -58,6 +63,14 @@ IsOfFileAlone (Err (errors.File e)) = Unit {0}
 IsOfFileAlone (Err (errors.Witness e)) = ⊥
 IsOfFileAlone (Err errors.NoWitness) = ⊥
 IsOfFileAlone (Err (errors.Check e)) = ⊥
+
+-- the fact, unless memory or the stream failed
+abbrev pub OnWitness : WitnessError → Type 0 → Type 0
+OnWitness witness.Memory P = Unit {0}
+OnWitness witness.Stream P = Unit {0}
+OnWitness witness.Status P = P
+OnWitness witness.Property P = P
+OnWitness witness.Values P = P
 
 -- The bytes that were taken are a file, and the next witness shows a bad state of its machine; or,
 -- memory and streams aside: no file is accepted, or the text has no witness, or the file is
@@ -68,7 +81,7 @@ Answers limit old new text (Ok shown) =
     IsReadAs (λ bytes. Accepts bytes limit) (ShowsNext text) old new shown
 Answers limit old new text (Err (errors.File e)) =
     IfSome old (λ bytes. UnlessTransient {T = Shown} (Err e) ((f : File) → ¬ Accepts bytes limit f))
-Answers limit old new text (Err (errors.Witness e)) = OnWitness e (Misses parse_next text)
+Answers limit old new text (Err (errors.Witness e)) = OnWitness e (HasNeither text)
 Answers limit old new text (Err errors.NoWitness) = HasNone text
 Answers limit old new text (Err (errors.Check e)) =
     IsReadAs (λ bytes. Accepts bytes limit) (FailsNext text) old new e

@@ -3,16 +3,15 @@
 ghost use Rattle.std.specs.Prelude.{◌≡◌, ◌^◌, ◌≤◌, IsErrOf, IsTrue};
 ghost use Rattle.aig_witness_check.specs.Files.{Answers, GivesFirst, IsOfFileAlone};
 ghost use Rattle.aig_witness_check.specs.declared.file.ShowError.TheVariants as errors;
-ghost use Rattle.aig_witness.specs.declared.error.WitnessError.TheVariants as witness;
 
 use crate::circuit::check_circuit;
 use crate::error::CheckError;
 use crate::laws::known_witnesses_show;
 use aig_base::Source;
-use aig_lexer::{Buffered, WINDOW_SIZE};
+use aig_lexer::InputBuffer;
 use aig_reader::ReadError;
 use aig_witness::{Witness, WitnessError, read_witness};
-use std::alloc::{AllocError, Global};
+use std::alloc::Global;
 use thiserror::Error;
 
 /// A bad state that a witness shows.
@@ -65,23 +64,12 @@ impl From<CheckError> for ShowError {
     }
 }
 
-impl From<AllocError> for ShowError {
-    ghost from_gives = { λ _ r. r ≡ errors.Witness witness.Memory };
-
-    fn from(_error: AllocError) -> ShowError {
-        ShowError::Witness(WitnessError::Memory)
-    }
-}
-
-/// Reads the next witness through a buffer of 4,096 bytes.
+/// Reads the next witness through a buffer.
 fn read_first<W: Source>(alloc: Global, w: &mut W) -> Result<Witness, ShowError>
-    ensures first { GivesFirst (W.left w.old) result }
-    ensures stream { IsErrOf result (ShowError.Witness WitnessError.Stream)
-        → IsTrue (W.failed w.new) }
+    ensures { GivesFirst (W.left w.old) (W.failed w.new) result }
 {
-    let mut window = vec![in alloc; 0; WINDOW_SIZE]?;
-    let mut bytes = Buffered::new(w, &mut window);
-    match read_witness(alloc, &mut bytes)? {
+    let mut buffer = InputBuffer::new();
+    match read_witness(alloc, &mut buffer, w)? {
         Some(witness) => Ok(witness),
         None => Err(ShowError::NoWitness),
     }

@@ -9,7 +9,7 @@ use aig_answers::Window;
 use aig_words::steps;
 
 /// What the program is asked to do.
-#[derive(Clone, Copy, Debug, PartialEq, Eq)]
+#[derive(Clone, Copy)]
 pub enum Command {
     /// Print the clauses that ask for a bad state at step `k`, and which literals stand for what.
     Clauses {

@@ -7,7 +7,7 @@ ghost use Rattle.aigtool.specs.declared.command.Command.{Command};
 use aig_words::steps;
 
 /// What the program is asked to do.
-#[derive(Clone, Copy, Debug, PartialEq, Eq)]
+#[derive(Clone, Copy)]
 pub enum Command {
     /// Print the text form of a file.
     Text,

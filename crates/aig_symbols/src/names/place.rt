@@ -1,20 +1,21 @@
 //! The entry that a name is for.
 
-ghost use Rattle.std.specs.Prelude.{◌≡◌, ◌<◌, nat_lt, length, IfOk, IsErrOf, OnOk, true};
+ghost use Rattle.std.specs.Prelude.{◌≡◌, ◌<◌, nat_lt, length, IfOk};
 ghost use Rattle.aig_circuit.specs.Circuit.{latch_leaves};
 ghost use Rattle.aig_parsing.specs.Parse.{parse_if};
 ghost use Rattle.aig_format.specs.Letters.{count_of};
-ghost use Rattle.aig_lexer.specs.Faults.{LexUnlessTransient};
+ghost use Rattle.aig_lexer.specs.Faults.{LexTells};
 ghost use Rattle.aig_lexer.specs.Header.{numbers_of};
-ghost use Rattle.aig_lexer.specs.Takes.{Gives};
+ghost use Rattle.aig_lexer.specs.Takes.{Gives, feed};
 ghost use Rattle.aig_symbols.specs.NamedSections.{letter_of_section};
 ghost use Rattle.aig_symbols.specs.NameSteps.{parse_position};
 ghost use Rattle.aig_symbols.specs.Names.{node_at};
 ghost use Rattle.aig_symbols.specs.declared.names.section.NamedSection.TheVariants as sections;
 
 use super::section::NamedSection;
+use aig_base::Source;
 use aig_circuit::AigLatch;
-use aig_lexer::{ByteFeed, Header, LexError, number_from};
+use aig_lexer::{Header, InputBuffer, LexError, number_from};
 
 /// The entry that a name is for.
 #[derive(Clone, Copy, PartialEq, Eq, Hash)]
@@ -26,14 +27,12 @@ pub struct Place {
 }
 
 /// Reads the rest of a number whose first byte is `first`, up to the space that ends it.
-fn position<F: ByteFeed>(f: &mut F, first: u8) -> Result<u32, LexError>
-    ensures exact { Gives LexUnlessTransient (λ x. x)
-        (F.coming f.old) (F.coming f.new) result (parse_position first) }
-    ensures stream { IsErrOf result LexError.Stream → F.failed f.new ≡ true }
-    ensures same { F.source_name f.new ≡ F.source_name f.old }
-    ensures fewer { OnOk result (F.turns f.new < F.turns f.old) }
+fn position<R: Source>(buffer: &mut InputBuffer, r: &mut R, first: u8) -> Result<u32, LexError>
+    ensures { Gives LexTells (λ x. x)
+        (feed R.left R.failed R.pulls buffer.old r.old)
+        (feed R.left R.failed R.pulls buffer.new r.new) result (parse_position first) }
 {
-    let (position, end) = number_from(f, first)?;
+    let (position, end) = number_from(buffer, r, first)?;
     if end != b' ' {
         return Err(LexError::Shape);
     }
@@ -42,22 +41,21 @@ fn position<F: ByteFeed>(f: &mut F, first: u8) -> Result<u32, LexError>
 
 /// Reads the place of a name of this section from the first byte of its position on, up to the space after it. The position
 /// has to be below the header's count of the section.
-pub fn read_place<F: ByteFeed>(
-    f: &mut F,
+pub fn read_place<R: Source>(
+    buffer: &mut InputBuffer,
+    r: &mut R,
     header: &Header,
     section: NamedSection,
     first: u8,
 ) -> Result<Place, LexError>
-    ensures exact { Gives LexUnlessTransient (λ place. place.position)
-        (F.coming f.old) (F.coming f.new) result
+    ensures exact { Gives LexTells (λ place. place.position)
+        (feed R.left R.failed R.pulls buffer.old r.old)
+        (feed R.left R.failed R.pulls buffer.new r.new) result
         (parse_if (parse_position first)
         (λ n. nat_lt n (count_of (numbers_of header.now) (letter_of_section section)))) }
     ensures section { IfOk result (λ place. place.section ≡ section) }
-    ensures stream { IsErrOf result LexError.Stream → F.failed f.new ≡ true }
-    ensures same { F.source_name f.new ≡ F.source_name f.old }
-    ensures fewer { OnOk result (F.turns f.new < F.turns f.old) }
 {
-    let position = position(f, first)?;
+    let position = position(buffer, r, first)?;
     if position >= section.count(header) {
         return Err(LexError::Shape);
     }

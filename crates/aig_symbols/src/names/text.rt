@@ -1,28 +1,30 @@
 //! A name's bytes, and the comment.
 
-ghost use Rattle.std.specs.Prelude.{◌≡◌, ◌<◌, List, ℕ, IsErrOf, OnErr, OnOk, true, false, string_bytes};
-ghost use Rattle.std.specs.Io.KnownBytes.{Consumes, IsAtEnd};
+ghost use Rattle.std.specs.Prelude.{string_bytes};
 ghost use Rattle.std.specs.Str.{is_utf8};
 ghost use Rattle.aig_parsing.specs.Parse.{parse_if, parse_text};
-ghost use Rattle.aig_lexer.specs.Faults.{LexUnlessTransient};
-ghost use Rattle.aig_lexer.specs.Takes.{Gives, Makes};
-ghost use Rattle.aig_symbols.specs.NameFaults.{NameUnlessTransient};
+ghost use Rattle.aig_lexer.specs.Faults.{LexTells};
+ghost use Rattle.aig_lexer.specs.Takes.{Gives, Makes, feed};
+ghost use Rattle.aig_symbols.specs.NameFaults.{NameTells};
+ghost use Rattle.aig_symbols.specs.NameSteps.{TakesRest};
 
 use super::error::NameError;
-use aig_base::StreamFault;
-use aig_lexer::{ByteFeed, LexError};
+use aig_base::{Source, StreamFault};
+use aig_lexer::{InputBuffer, LexError};
 use std::alloc::Global;
 
 /// Reads the bytes of a name, up to the line feed, which is not one of them.
-fn name_bytes<F: ByteFeed>(alloc: Global, f: &mut F) -> Result<Vec<u8>, NameError>
-    ensures exact { Gives NameUnlessTransient (λ text. text.items)
-        (F.coming f.old) (F.coming f.new) result parse_text }
-    ensures stream { IsErrOf result NameError.Stream → F.failed f.new ≡ true }
-    ensures same { F.source_name f.new ≡ F.source_name f.old }
-    ensures fewer { OnOk result (F.turns f.new < F.turns f.old) }
+fn name_bytes<R: Source>(
+    alloc: Global,
+    buffer: &mut InputBuffer,
+    r: &mut R,
+) -> Result<Vec<u8>, NameError>
+    ensures { Gives NameTells (λ text. text.items)
+        (feed R.left R.failed R.pulls buffer.old r.old)
+        (feed R.left R.failed R.pulls buffer.new r.new) result parse_text }
 {
     let mut text = Vec::new(alloc);
-    while let Some(b) = f.next()? {
+    while let Some(b) = buffer.next(r)? {
         if b == b'\n' {
             return Ok(text);
         }
@@ -32,26 +34,26 @@ fn name_bytes<F: ByteFeed>(alloc: Global, f: &mut F) -> Result<Vec<u8>, NameErro
 }
 
 /// Reads a name that is kept, up to the line feed: it has to be UTF-8.
-pub fn kept_text<F: ByteFeed>(alloc: Global, f: &mut F) -> Result<String, NameError>
-    ensures exact { Gives NameUnlessTransient (λ text. string_bytes text)
-        (F.coming f.old) (F.coming f.new) result (parse_if parse_text is_utf8) }
-    ensures stream { IsErrOf result NameError.Stream → F.failed f.new ≡ true }
-    ensures same { F.source_name f.new ≡ F.source_name f.old }
-    ensures fewer { OnOk result (F.turns f.new < F.turns f.old) }
+pub fn kept_text<R: Source>(
+    alloc: Global,
+    buffer: &mut InputBuffer,
+    r: &mut R,
+) -> Result<String, NameError>
+    ensures { Gives NameTells (λ text. string_bytes text)
+        (feed R.left R.failed R.pulls buffer.old r.old)
+        (feed R.left R.failed R.pulls buffer.new r.new) result (parse_if parse_text is_utf8) }
 {
-    let bytes = name_bytes(alloc, f)?;
+    let bytes = name_bytes(alloc, buffer, r)?;
     String::from_utf8(bytes).map_err(|_| NameError::Shape)
 }
 
 /// Reads a name that is dropped, up to the line feed, and holds none of it.
-pub fn skip_text<F: ByteFeed>(f: &mut F) -> Result<(), LexError>
-    ensures exact { Makes LexUnlessTransient (λ _ _. Unit {0})
-        (F.coming f.old) (F.coming f.new) result parse_text }
-    ensures stream { IsErrOf result LexError.Stream → F.failed f.new ≡ true }
-    ensures same { F.source_name f.new ≡ F.source_name f.old }
-    ensures fewer { OnOk result (F.turns f.new < F.turns f.old) }
+pub fn skip_text<R: Source>(buffer: &mut InputBuffer, r: &mut R) -> Result<(), LexError>
+    ensures { Makes LexTells (λ _ _. Unit {0})
+        (feed R.left R.failed R.pulls buffer.old r.old)
+        (feed R.left R.failed R.pulls buffer.new r.new) result parse_text }
 {
-    while let Some(b) = f.next()? {
+    while let Some(b) = buffer.next(r)? {
         if b == b'\n' {
             return Ok(());
         }
@@ -60,13 +62,10 @@ pub fn skip_text<F: ByteFeed>(f: &mut F) -> Result<(), LexError>
 }
 
 /// Reads up to the end of the stream.
-pub fn skip_rest<F: ByteFeed>(f: &mut F) -> Result<(), StreamFault>
-    ensures taken { OnOk result
-        ((taken : List ℕ) × Consumes (F.coming f.old) (F.coming f.new) taken) }
-    ensures whole { OnOk result ((F.failed f.new ≡ false) × IsAtEnd (F.coming f.new)) }
-    ensures stream { OnErr result (F.failed f.new ≡ true) }
-    ensures same { F.source_name f.new ≡ F.source_name f.old }
+pub fn skip_rest<R: Source>(buffer: &mut InputBuffer, r: &mut R) -> Result<(), StreamFault>
+    ensures { TakesRest (feed R.left R.failed R.pulls buffer.old r.old)
+        (feed R.left R.failed R.pulls buffer.new r.new) result }
 {
-    while let Some(_) = f.next()? {}
+    while let Some(_) = buffer.next(r)? {}
     Ok(())
 }

@@ -3,6 +3,6 @@ use Rattle.aig_parsing.specs.Parse.{header_from, parse_header_numbers, parse_kin
 use Rattle.aig_lexer.proofs.Taking.{takes_both}
 use Rattle.aig_lexer.proofs.header.header_line.Goals as goal
 
-pub returns-clause-exact : goal.returns-clause-exact
-returns-clause-exact g c =
-    takes_both parse_kind (λ (_ : FileKind). parse_header_numbers) _ _ _ c.in_ok-kind.kind (header_from c.in_ok-greatest.field-0) c.in_ok-kind.ensures.exact c.in_ok-greatest.ensures.exact
+pub returns : goal.returns
+returns g c =
+    takes_both parse_kind (λ (_ : FileKind). parse_header_numbers) _ _ _ c.in_ok-kind.kind (header_from c.in_ok-greatest.field-0) c.in_ok-kind.ensures c.in_ok-greatest.ensures

@@ -1,9 +1,7 @@
-use Rattle.std.proofs.Common.{take}
+use Rattle.aig_parsing.specs.Parse.{parse_delta}
+use Rattle.aig_lexer.proofs.Taking.{takes_front}
 use Rattle.aig_lexer.proofs.lexer.delta.Goals as goal
 
-pub returns-in-Some-clause-exact : goal.returns-in-Some-clause-exact
-returns-in-Some-clause-exact g c = record {
-  taken = take c.in-Some.count c.window.result.now;
-  reads = c.in-Some.ensures.reads;
-  consumed = rw (← c.window.ensures) at c.consume.ensures.bytes;
-}
+pub returns-in-Some : goal.returns-in-Some
+returns-in-Some g c =
+    takes_front g.R.Source.left g.R.Source.failed g.R.Source.pulls parse_delta c.window.result.now c.args.buffer.now _ c.in-Some.count _ c.in-Some.difference c.window.ensures c.consume.ensures c.in-Some.ensures.reads

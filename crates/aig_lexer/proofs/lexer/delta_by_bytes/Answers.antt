@@ -1,22 +1,21 @@
-use Rattle.std.proofs.Common.{◌∙◌, ◌+◌, ◌-◌, ◌*◌, ◌%◌, ℕ, None, refl, sym, ap, arith}
+use Rattle.std.proofs.Common.{◌∙◌, ◌+◌, ◌-◌, ◌*◌, ◌%◌, ℕ, None, sym, ap, arith}
 use Rattle.std.proofs.lemmas.Grind.{pow_more}
 use Rattle.aig_parsing.specs.Parse.{parse_delta}
+use Rattle.aig_lexer.specs.Takes.{feed}
 use Rattle.aig_lexer.proofs.Deltas.{groups_following, delta_starts, delta_ends, delta_gives, delta_overflows, delta_goes, delta_too_long, group_fits, place_fits}
 use Rattle.aig_lexer.proofs.Going.{goes_start, goes_byte, goes_end, goes_done, goes_nowhere, goes_same}
 use Rattle.aig_lexer.proofs.lexer.delta_by_bytes.Goals as goal
 
 pub loop-init : goal.loop-init
 loop-init g c = record {
-  goes_on = goes_same parse_delta parse_delta (groups_following 0 1 5) _ (g.F.ByteFeed.coming c.args.f.now) (goes_start parse_delta (g.F.ByteFeed.coming c.args.f.now)) delta_starts;
+  goes_on = goes_same parse_delta parse_delta (groups_following 0 1 5) _ (feed g.R.Source.left g.R.Source.failed g.R.Source.pulls c.args.buffer.now c.args.r.now) (goes_start parse_delta _) delta_starts;
   small = omega arith;
   place = omega arith;
-  fewer = omega arith;
-  same = refl;
 }
 
-pub returns-in_default-clause-exact : goal.returns-in_default-clause-exact
-returns-in_default-clause-exact g c =
-    goes_end parse_delta (groups_following c.loop.difference c.loop.place (5 - c.loop.counter)) _ _ (g.F.ByteFeed.coming c.next.new.self) c.in_ok-b.field-0 c.loop.invariant.goes_on c.in_ok-b.ensures.byte c.in_default.is (c.in_ok-b.ensures.end c.in_default.is).0 (delta_ends c.loop.difference c.loop.place c.loop.counter c.loop-test.true)
+pub returns-in_default : goal.returns-in_default
+returns-in_default g c =
+    goes_end parse_delta (groups_following c.loop.difference c.loop.place (5 - c.loop.counter)) _ _ _ c.in_ok-b.field-0 c.loop.invariant.goes_on c.in_ok-b.ensures.steps c.in_default.is (delta_ends c.loop.difference c.loop.place c.loop.counter c.loop-test.true)
 
 pub overflow_mul-difference : goal.overflow_mul-difference
 overflow_mul-difference g c =
@@ -26,16 +25,16 @@ pub overflow_add-difference : goal.overflow_add-difference
 overflow_add-difference g c =
     omega (arith, group_fits c.loop.difference c.loop.place c.in-Some.b c.loop.invariant.small, place_fits c.loop.place c.loop.counter c.loop-test.true c.loop.invariant.place)
 
-pub returns-then-difference-clause-exact : goal.returns-then-difference-clause-exact
-returns-then-difference-clause-exact g c =
-    goes_nowhere parse_delta _ (g.F.ByteFeed.coming c.next.new.self)
-    (goes_byte parse_delta (groups_following c.loop.difference c.loop.place (5 - c.loop.counter)) (λ bs. None) _ _ _ c.in_ok-b.field-0 c.in-Some.b c.loop.invariant.goes_on c.in_ok-b.ensures.byte c.in-Some.is
+pub returns-then-difference : goal.returns-then-difference
+returns-then-difference g c =
+    goes_nowhere parse_delta _ _
+    (goes_byte parse_delta (groups_following c.loop.difference c.loop.place (5 - c.loop.counter)) (λ bs. None) _ _ _ c.in_ok-b.field-0 c.in-Some.b c.loop.invariant.goes_on c.in_ok-b.ensures.steps c.in-Some.is
     (λ bs. delta_overflows c.loop.difference c.loop.place c.loop.counter c.in-Some.b bs c.loop-test.true c.if-b-lt128.true (omega arith)))
 
-pub returns-then-b-lt128-clause-exact : goal.returns-then-b-lt128-clause-exact
-returns-then-b-lt128-clause-exact g c =
-    goes_done parse_delta (c.loop.difference + c.loop.place * (c.in-Some.b % 128)) _ (g.F.ByteFeed.coming c.next.new.self)
-    (goes_byte parse_delta (groups_following c.loop.difference c.loop.place (5 - c.loop.counter)) _ _ _ _ c.in_ok-b.field-0 c.in-Some.b c.loop.invariant.goes_on c.in_ok-b.ensures.byte c.in-Some.is
+pub returns-then-b-lt128 : goal.returns-then-b-lt128
+returns-then-b-lt128 g c =
+    goes_done parse_delta (c.loop.difference + c.loop.place * (c.in-Some.b % 128)) _ _
+    (goes_byte parse_delta (groups_following c.loop.difference c.loop.place (5 - c.loop.counter)) _ _ _ _ c.in_ok-b.field-0 c.in-Some.b c.loop.invariant.goes_on c.in_ok-b.ensures.steps c.in-Some.is
     (λ bs. delta_gives c.loop.difference c.loop.place c.loop.counter c.in-Some.b bs c.loop-test.true c.if-b-lt128.true (omega arith)))
 
 pub overflow_mul-place : goal.overflow_mul-place
@@ -43,15 +42,13 @@ overflow_mul-place g c = omega (arith, place_fits c.loop.place c.loop.counter c.
 
 pub loop-preserved : goal.loop-preserved
 loop-preserved g c = record {
-  goes_on = goes_byte parse_delta (groups_following c.loop.difference c.loop.place (5 - c.loop.counter)) (groups_following (c.loop.difference + c.loop.place * (c.in-Some.b % 128)) (c.loop.place * 128) (5 - (c.loop.counter + 1))) _ _ _ c.in_ok-b.field-0 c.in-Some.b c.loop.invariant.goes_on c.in_ok-b.ensures.byte c.in-Some.is
+  goes_on = goes_byte parse_delta (groups_following c.loop.difference c.loop.place (5 - c.loop.counter)) (groups_following (c.loop.difference + c.loop.place * (c.in-Some.b % 128)) (c.loop.place * 128) (5 - (c.loop.counter + 1))) _ _ _ c.in_ok-b.field-0 c.in-Some.b c.loop.invariant.goes_on c.in_ok-b.ensures.steps c.in-Some.is
       (λ bs. delta_goes c.loop.difference c.loop.place c.loop.counter c.in-Some.b bs c.loop-test.true (omega arith) (omega arith));
   small = group_fits c.loop.difference c.loop.place c.in-Some.b c.loop.invariant.small;
   place = ap (λ (p : ℕ). p * 128) c.loop.invariant.place ∙ sym (pow_more 128 c.loop.counter);
-  fewer = omega (arith, rw c.in-Some.is at c.in_ok-b.ensures.fewer, c.loop.invariant.fewer);
-  same = c.next.ensures.same ∙ c.loop.invariant.same;
 }
 
-pub returns-clause-exact : goal.returns-clause-exact
-returns-clause-exact g c =
-    goes_nowhere parse_delta _ (g.F.ByteFeed.coming c.loop.f)
-    (goes_same parse_delta (groups_following c.loop.difference c.loop.place (5 - c.loop.counter)) (λ bs. None) _ (g.F.ByteFeed.coming c.loop.f) c.loop.invariant.goes_on (delta_too_long c.loop.difference c.loop.place c.loop.counter (omega arith)))
+pub returns : goal.returns
+returns g c =
+    goes_nowhere parse_delta _ (feed g.R.Source.left g.R.Source.failed g.R.Source.pulls c.loop.buffer c.loop.r)
+    (goes_same parse_delta (groups_following c.loop.difference c.loop.place (5 - c.loop.counter)) (λ bs. None) _ (feed g.R.Source.left g.R.Source.failed g.R.Source.pulls c.loop.buffer c.loop.r) c.loop.invariant.goes_on (delta_too_long c.loop.difference c.loop.place c.loop.counter (omega arith)))

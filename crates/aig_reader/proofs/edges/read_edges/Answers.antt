@@ -1,39 +1,32 @@
-use Rattle.std.proofs.Common.{◌≡◌, ◌∙◌, ◌∷◌, ◌++◌, [], ℕ, subst, arith}
+use Rattle.std.proofs.Common.{◌≡◌, ◌∷◌, ◌++◌, [], arith}
 use Rattle.std.proofs.lemmas.Result.{err_from_is_err_and}
-use Rattle.aig_parsing.specs.Parse.{parse_ended, parse_if, parse_entries}
+use Rattle.aig_parsing.specs.Parse.{parse_ended, parse_if}
 use Rattle.aig_ordering.specs.Lists.{edge_from}
-use Rattle.aig_lexer.specs.Takes.{Takes, Misses}
-use Rattle.aig_reader.proofs.Entries.{takes_more, misses_more, made_push}
+use Rattle.aig_lexer.proofs.Taking.{takes_nothing}
+use Rattle.aig_reader.proofs.Entries.{takes_every, takes_more, misses_more, made_push}
 use Rattle.aig_reader.proofs.TestedLines.{on_line-weaker}
 use Rattle.aig_reader.proofs.edges.read_edges.Goals as goal
 use Rattle.aig_format.specs.Fits.{is_literal}
 
-pub returns-in_err-edge-clause-exact : goal.returns-in_err-edge-clause-exact
-returns-in_err-edge-clause-exact g c =
+pub loop-init : goal.loop-init
+loop-init g c = ([], c.new-edges.ensures.items, takes_nothing _ [])
+
+pub returns-in_err-edge : goal.returns-in_err-edge
+returns-in_err-edge g c =
     let p = err_from_is_err_and c.from_residual.result c.from_residual.ensures.1 in
-    let h = c.loop.invariant.made in
+    let h = c.loop.invariant in
     let count = c.args.count in
     let line = parse_if (parse_ended 10) (is_literal c.args.greatest) in
-    rw (p.1, p.2) (on_line-weaker c.in_err-edge.field-0.0 _ _
-    (λ (k : Misses line (g.F.ByteFeed.coming c.loop.f)). misses_more (λ _. line) c.loop.counter count _ _ h.0 c.loop-test.true h.2 k)
-    c.in_err-edge.ensures.exact)
+    rw (p.1, p.2) (on_line-weaker c.in_err-edge.field-0.0 _ _ _ (misses_more (λ _. line) c.loop.counter count _ _ h.0 c.loop-test.true h.2) c.in_err-edge.ensures)
 
 pub loop-preserved : goal.loop-preserved
-loop-preserved g c = record {
-  made =
-      let h = c.loop.invariant.made in
-      let k = c.in_ok-edge.ensures.exact in
-      (h.0 ++ k.0 ∷ [], made_push edge_from h.0 k.0 _ _ _ h.1 k.1 c.in_ok-push.ensures.items, takes_more (λ _. parse_if (parse_ended 10) (is_literal c.args.greatest)) c.loop.counter _ _ _ h.0 k.0 h.2 k.2);
-  same = c.edge_line.ensures.same ∙ c.loop.invariant.same;
-}
+loop-preserved g c =
+    let h = c.loop.invariant in
+    let k = c.in_ok-edge.ensures in
+    (h.0 ++ k.0 ∷ [], made_push edge_from h.0 k.0 _ _ _ h.1 k.1 c.in_ok-push.ensures.items, takes_more (λ _. parse_if (parse_ended 10) (is_literal c.args.greatest)) c.loop.counter _ _ _ h.0 k.0 h.2 k.2)
 
-pub returns-clause-exact : goal.returns-clause-exact
-returns-clause-exact g c =
+pub returns : goal.returns
+returns g c =
     let all : c.loop.counter ≡ c.args.count = omega arith in
-    let h = c.loop.invariant.made in
-    let count = c.args.count in
-    let line = parse_if (parse_ended 10) (is_literal c.args.greatest) in (
-      h.0,
-      h.1,
-      subst (λ (n : ℕ). Takes (parse_entries (λ _. line) [] n) (g.F.ByteFeed.coming c.args.f.now) (g.F.ByteFeed.coming c.loop.f) h.0) all h.2,
-    )
+    let h = c.loop.invariant in
+    (h.0, h.1, takes_every (λ _. parse_if (parse_ended 10) (is_literal c.args.greatest)) c.loop.counter c.args.count _ _ h.0 all h.2)

@@ -18,7 +18,7 @@ returns-clause-exact g c = λ greatest leaves before h.
     let new = new_among leaves before gate.lhs (c.in_ok-define.ensures.new greatest literals h.defined) in (
       gate,
       more_gates greatest leaves before _ _ gate (c.in_ok-put.ensures.placed greatest leaves before h.placed first.1.1 new own.1) first.1.1,
-      takes_line kind 32 literals (parse_operands kind) gate_line_from (λ g. may_define kind greatest literals g.lhs && may_use kind greatest g) _ _ c.in_ok-lhs.lhs (c.in_ok-lhs.ensures.exact greatest literals h.defined) _ (c.in_ok-rhs0.rhs0, c.in_ok-rhs0.rhs1) c.in_ok-rhs0.ensures.exact
+      takes_line kind 32 literals (parse_operands kind) gate_line_from (λ g. may_define kind greatest literals g.lhs && may_use kind greatest g) _ _ c.in_ok-lhs.lhs (c.in_ok-lhs.ensures.exact greatest literals h.defined) _ (c.in_ok-rhs0.rhs0, c.in_ok-rhs0.rhs1) c.in_ok-rhs0.ensures
           (rw (first.0, usable) refl),
     )
 

@@ -6,9 +6,9 @@ use Rattle.aig_parsing.specs.Parse.{Parts}
 use Rattle.aig_parsing.proofs.SectionFacts.{lines_tell}
 use Rattle.aig_format.specs.declared.FileKind.{FileKind}
 use Rattle.aig_lexer.specs.Header.{numbers_of}
-use Rattle.aig_lexer.specs.Takes.{Misses, Takes}
+use Rattle.aig_lexer.specs.Takes.{Misses, Takes, feed}
 use Rattle.aig_reader.specs.declared.error.Section.TheVariants.{Inputs, Latches}
-use Rattle.aig_reader.specs.Faults.{ReadUnlessTransient, error_in, gate_error_in}
+use Rattle.aig_reader.specs.Faults.{ReadTells, error_in, gate_error_in}
 use Rattle.aig_reader.specs.Gates.{HasSpace}
 use Rattle.aig_reader.specs.Sections.{file_by}
 use Rattle.aig_reader.specs.Variables.{HasRoom}
@@ -52,7 +52,7 @@ read_gates-gates-requires-clause-room g c =
     left (header.greatest + 1) header.gates (room_left g (goal.at.read_gates-gates-requires-clause-room g c).In_ok-inputs)
 
 -- inputs and latches, as they were read
-leaves_of : (g : given.Over) (c : In_ok-latchs g) → LeavesRead c.args.header c.args.header.kind (g.F.ByteFeed.coming c.args.f.now) (g.F.ByteFeed.coming c.read_inputs-inputs.new.f) (g.F.ByteFeed.coming c.read_latches-latchs.new.f) c.read_latches-latchs.new.variables c.in_ok-inputs.inputs.items c.in_ok-latchs.latchs.items
+leaves_of : (g : given.Over) (c : In_ok-latchs g) → LeavesRead c.args.header c.args.header.kind (feed g.R.Source.left g.R.Source.failed g.R.Source.pulls c.args.buffer.now c.args.r.now) (feed g.R.Source.left g.R.Source.failed g.R.Source.pulls c.read_inputs-inputs.new.buffer c.read_inputs-inputs.new.r) (feed g.R.Source.left g.R.Source.failed g.R.Source.pulls c.read_latches-latchs.new.buffer c.read_latches-latchs.new.r) c.read_latches-latchs.new.variables c.in_ok-inputs.inputs.items c.in_ok-latchs.latchs.items
 leaves_of g c =
     let inputs = c.read_inputs-inputs.ensures in
     let latchs = c.read_latches-latchs.ensures in
@@ -70,7 +70,7 @@ returns-in_err-properties-clause-exact g c =
     let leaves = leaves_of g (goal.at.returns-in_err-properties-clause-exact g c).In_ok-latchs in
     let p = err_from_is_err_and c.from_residual-in_err-properties.result c.from_residual-in_err-properties.ensures.1 in
     let e = c.in_err-properties.field-0.0 in
-    rw (p.1, p.2) (on_refusal-weaker e _ _ (misses_properties kind (numbers_of header) _ _ leaves.literals leaves.takes_inputs _ leaves.lines leaves.takes_latchs) c.in_err-properties.ensures.exact)
+    rw (p.1, p.2) (on_refusal-weaker e _ _ _ (misses_properties kind (numbers_of header) _ _ leaves.literals leaves.takes_inputs _ leaves.lines leaves.takes_latchs) c.in_err-properties.ensures.exact)
 
 pub returns-in_err-gates-clause-exact : goal.returns-in_err-gates-clause-exact
 returns-in_err-gates-clause-exact g c =
@@ -85,8 +85,8 @@ returns-in_err-gates-clause-exact g c =
     let e = c.in_err-gates.field-0.0 in
     let missed = missed_in (gate_error_in kind) (in_gates kind) _ _ _ _ c.read_gates-gates.result c.gates_result.result e c.gates_result.ensures c.in_err-gates.was gates in
     let p = err_from_is_err_and c.from_residual-in_err-gates.result c.from_residual-in_err-gates.ensures.1 in
-    rw (p.1, p.2) (on_refusal-weaker e _ _ (misses_gates kind (numbers_of header) _ _ leaves.literals leaves.takes_inputs _ leaves.lines leaves.takes_latchs _ properties.0 properties.2)
-    (subst (λ (k : FileKind). ReadUnlessTransient e (Misses (parse_fitting_gates k (numbers_of header) (literals_with leaves.literals leaves.lines)) (g.F.ByteFeed.coming c.read_properties.new.f))) (latchs.kind ∙ inputs.kind ∙ start) missed))
+    rw (p.1, p.2) (on_refusal-weaker e _ _ _ (misses_gates kind (numbers_of header) _ _ leaves.literals leaves.takes_inputs _ leaves.lines leaves.takes_latchs _ properties.0 properties.2)
+    (subst (λ (k : FileKind). ReadTells e (Misses (parse_fitting_gates k (numbers_of header) (literals_with leaves.literals leaves.lines)) (feed g.R.Source.left g.R.Source.failed g.R.Source.pulls c.read_properties.new.buffer c.read_properties.new.r)) (g.R.Source.failed c.read_gates-gates.new.r)) (latchs.kind ∙ inputs.kind ∙ start) missed))
 
 pub returns-clause-exact : goal.returns-clause-exact
 returns-clause-exact g c =
@@ -101,8 +101,8 @@ returns-clause-exact g c =
     let defined = literals_with leaves.literals leaves.lines in
     let gates = made_in (gate_error_in kind) (in_gates kind) _ _ _ _ c.read_gates-gates.result c.gates_result.result c.in_ok-gates.gates c.gates_result.ensures c.in_ok-gates.was (c.read_gates-gates.ensures.exact defined leaves.defined) in
     let same = latchs.kind ∙ inputs.kind ∙ start in
-    let hg : Takes (parse_fitting_gates kind ns defined) (g.F.ByteFeed.coming c.read_properties.new.f) (g.F.ByteFeed.coming c.read_gates-gates.new.f) gates.0 =
-    subst (λ (k : FileKind). Takes (parse_fitting_gates k ns defined) (g.F.ByteFeed.coming c.read_properties.new.f) (g.F.ByteFeed.coming c.read_gates-gates.new.f) gates.0) same gates.2 in
+    let hg : Takes (parse_fitting_gates kind ns defined) (feed g.R.Source.left g.R.Source.failed g.R.Source.pulls c.read_properties.new.buffer c.read_properties.new.r) (feed g.R.Source.left g.R.Source.failed g.R.Source.pulls c.read_gates-gates.new.buffer c.read_gates-gates.new.r) gates.0 =
+    subst (λ (k : FileKind). Takes (parse_fitting_gates k ns defined) (feed g.R.Source.left g.R.Source.failed g.R.Source.pulls c.read_properties.new.buffer c.read_properties.new.r) (feed g.R.Source.left g.R.Source.failed g.R.Source.pulls c.read_gates-gates.new.buffer c.read_gates-gates.new.r) gates.0) same gates.2 in
     let x = properties.0 in
     let y : Parts = record { inputs = leaves.literals; latches = leaves.lines; properties = x; gates = gates.0 } in
     let f = file_by header y in

@@ -7,18 +7,18 @@ use Rattle.aig_circuit.specs.declared.node.AigLatch.{AigLatch}
 use Rattle.aig_parsing.specs.Parse.{file_from}
 use Rattle.aig_parsing.specs.ParseTested.{parse_fitting_header}
 use Rattle.aig_lexer.specs.Header.{numbers_of}
+use Rattle.aig_lexer.specs.Takes.{feed}
 use Rattle.aig_lexer.proofs.Taking.{takes_both}
 use Rattle.aig_symbols.specs.Names.{kept_names, tail_of}
-use Rattle.aig_reader.specs.Faults.{name_error_of}
 use Rattle.aig_reader.proofs.Accepting.{Body, refused_header, refused_section, refused_names, section_fault, sections_of, accepted, accepts}
 use Rattle.aig_reader.proofs.FileCircuit.{circuit_is, nodes_distinct}
-use Rattle.aig_reader.proofs.ReadNames.{names_fault, names_in, no_names_in, no_names_left, on_ok_in}
+use Rattle.aig_reader.proofs.ReadNames.{names_fault, names_in, no_names_in, no_names_left}
 use Rattle.aig_reader.proofs.reader.read_file.Goals as goal
 
 pub returns-in_err-header-clause-exact : goal.returns-in_err-header-clause-exact
 returns-in_err-header-clause-exact g c =
     let p = err_from_is_err_and c.from_residual.result c.from_residual.ensures.1 in
-    rw (p.1, p.2) (refused_header _ c.args.limit _ c.in_err-header.field-0.0 c.in_err-header.ensures.exact c.in_err-header.ensures.too_many)
+    rw (p.1, p.2) (refused_header _ c.args.limit (feed g.R.Source.left g.R.Source.failed g.R.Source.pulls c.args.buffer.now c.args.r.now) c.in_err-header.field-0.0 _ c.in_err-header.ensures.exact c.in_err-header.ensures.too_many)
 
 pub returns-in_err-sections-clause-exact : goal.returns-in_err-sections-clause-exact
 returns-in_err-sections-clause-exact g c =
@@ -26,7 +26,7 @@ returns-in_err-sections-clause-exact g c =
     let e = c.in_err-sections.field-0.0 in
     let header = c.in_ok-header.header in
     rw (p.1, p.2)
-    (refused_section _ header c.args.limit _ _ (header.kind, numbers_of header) e c.in_ok-header.ensures.exact c.in_err-sections.ensures.exact (section_fault e c.in_err-sections.ensures.fault) c.in_ok-header.ensures.too_many)
+    (refused_section _ header c.args.limit _ _ (header.kind, numbers_of header) e _ c.in_ok-header.ensures.exact c.in_err-sections.ensures.exact (section_fault e c.in_err-sections.ensures.fault) c.in_ok-header.ensures.too_many)
 
 pub read_names-names-requires-clause-distinct : goal.read_names-names-requires-clause-distinct
 read_names-names-requires-clause-distinct g c =
@@ -46,8 +46,8 @@ returns-in_err-names-clause-exact g c =
     let body : Body = ((header.kind, numbers_of header), made.0) in
     let taken = takes_both (parse_fitting_header c.args.limit) sections_of _ _ _ (header.kind, numbers_of header) made.0 c.in_ok-header.ensures.exact made.2 in
     rw (p.1, p.2)
-    (refused_names _ header c.args.limit _ _ body e taken
-    (no_names_in _ _ _ (tail_of (numbers_of header)) c.read_names-names.result c.names_result.result c.names_result.ensures c.read_names-names.ensures.exact e c.in_err-names.was)
+    (refused_names _ header c.args.limit _ _ body e _ taken
+    (no_names_in _ _ _ (tail_of (numbers_of header)) c.read_names-names.result c.names_result.result c.names_result.ensures c.read_names-names.ensures e c.in_err-names.was)
     (names_fault c.read_names-names.result c.names_result.result e c.names_result.ensures c.in_err-names.was) c.in_ok-header.ensures.too_many)
 
 pub returns-clause-circuit : goal.returns-clause-circuit
@@ -56,7 +56,7 @@ returns-clause-circuit g c =
     let made = c.in_ok-sections.ensures.exact in
     let body : Body = ((header.kind, numbers_of header), made.0) in
     let taken = takes_both (parse_fitting_header c.args.limit) sections_of _ _ _ (header.kind, numbers_of header) made.0 c.in_ok-header.ensures.exact made.2 in
-    let names = names_in _ _ _ (tail_of (numbers_of header)) c.read_names-names.result c.names_result.result c.names_result.ensures c.read_names-names.ensures.exact c.in_ok-names.names c.in_ok-names.was in
+    let names = names_in _ _ _ (tail_of (numbers_of header)) c.read_names-names.result c.names_result.result c.names_result.ensures c.read_names-names.ensures c.in_ok-names.names c.in_ok-names.was in
     let fits = accepted c.args.limit _ _ body taken names.0 names.2 names.3 in
     let s = c.in_ok-sections.sections in
     let map = names_of c.in_ok-names.names.entries in
@@ -66,10 +66,16 @@ returns-clause-circuit g c =
       bytes = taken.taken ++ names.2;
       holds = fits;
       means = c.with_names.ensures ∙ circuit_is body names.0 s map made.1 kept;
-      taken = Consumes-trans _ _ _ taken.taken names.2 taken.consumed names.4;
+      taken = Consumes-trans _ _ _ taken.taken names.2 taken.advances.consumed names.4.consumed;
     }
+
+pub returns-clause-whole : goal.returns-clause-whole
+returns-clause-whole g c =
+    let header = c.in_ok-header.header in
+    let names = names_in _ _ _ (tail_of (numbers_of header)) c.read_names-names.result c.names_result.result c.names_result.ensures c.read_names-names.ensures c.in_ok-names.names c.in_ok-names.was in
+    (names.4.sound, names.4.at_end)
 
 pub returns-clause-exact : goal.returns-clause-exact
 returns-clause-exact g c =
-    let end = on_ok_in name_error_of _ c.read_names-names.result c.names_result.result c.in_ok-names.names c.names_result.ensures c.in_ok-names.was c.read_names-names.ensures.whole in
-    accepts _ c.in_ok-header.header c.args.limit _ _ c.with_names.result (returns-clause-circuit g c) end.1 c.in_ok-header.ensures.too_many
+    let whole = returns-clause-whole g c in
+    accepts _ c.in_ok-header.header c.args.limit _ _ c.with_names.result (returns-clause-circuit g c) whole.1 c.in_ok-header.ensures.too_many

@@ -1,11 +1,9 @@
-use Rattle.std.proofs.Common.{◌≡◌, ◌≤◌}
+use Rattle.std.proofs.Common.{◌≤◌}
+use Rattle.aig_lexer.specs.Takes.{feed}
 use Rattle.aig_refutation.proofs.step.read_clause.Given as goal
 
 abbrev pub invariant-loop-word : goal.invariant-loop-word
-invariant-loop-word g l = record {
-  same : g.F.ByteFeed.source_name l.f ≡ g.F.ByteFeed.source_name l.fn.f;
-  fewer : g.F.ByteFeed.turns l.f ≤ g.F.ByteFeed.turns l.fn.f;
-}
+invariant-loop-word g l = (feed g.R.Source.left g.R.Source.failed g.R.Source.pulls l.buffer l.r).most ≤ (feed g.R.Source.left g.R.Source.failed g.R.Source.pulls l.fn.buffer l.fn.r).most
 
 abbrev pub decreases-loop-word : goal.decreases-loop-word
-decreases-loop-word g l = g.F.ByteFeed.turns l.f
+decreases-loop-word g l = (feed g.R.Source.left g.R.Source.failed g.R.Source.pulls l.buffer l.r).most

@@ -1,56 +1,50 @@
-use Rattle.std.proofs.Common.{◌∙◌, ◌∷◌, not, nat_eq, true, false, Some, refl, subst}
+use Rattle.std.proofs.Common.{◌∷◌, not, nat_eq, true, false, Some, refl, subst}
 use Rattle.std.proofs.lemmas.Result.{err_from_is_err_and}
-use Rattle.aig_lexer.specs.Takes.{Misses}
+use Rattle.aig_lexer.specs.Takes.{feed, Misses}
 use Rattle.aig_lexer.proofs.Going.{GoesOn, goes_byte, goes_call, goes_done, goes_same, goes_start, goes_wrong}
 use Rattle.aig_lexer.proofs.Taking.{misses_where}
 use Rattle.aig_witness.specs.Reading.{parse_next, parse_witness}
 use Rattle.aig_witness.specs.Witness.{said_by}
-use Rattle.aig_witness.proofs.Going.{comment_begins, next_from, next_starts, nothing_left, on_witness-weaker, witness_found, witness_missed}
+use Rattle.aig_witness.proofs.Going.{comment_begins, next_from, next_starts, nothing_left, witness-weaker, witness_found, witness_missed}
 use Rattle.aig_witness.proofs.reading.read_witness.Goals as goal
 
 pub loop-b-init : goal.loop-b-init
 loop-b-init g c =
-    let now = g.F.ByteFeed.coming c.args.f.now in
-    record { goes_on = goes_same parse_next parse_next (next_from false) now now (goes_start parse_next now) next_starts; same = refl }
+    let now = feed g.R.Source.left g.R.Source.failed g.R.Source.pulls c.args.buffer.now c.args.r.now in
+    goes_same parse_next parse_next (next_from false) now now (goes_start parse_next now) next_starts
 
 pub loop-b-preserved-then-inside : goal.loop-b-preserved-then-inside
 loop-b-preserved-then-inside g c =
-    let inside = subst (λ i. GoesOn parse_next (g.F.ByteFeed.coming c.args.f.now) (next_from i) (g.F.ByteFeed.coming c.loop-b.f)) c.if-inside.true c.loop-b.invariant.goes_on in
-    record {
-      goes_on = goes_byte parse_next (next_from true) (next_from (not (nat_eq c.in-Some.b 10))) _ _ (g.F.ByteFeed.coming c.next.new.self) c.in_ok-b.field-0 c.in-Some.b inside c.in_ok-b.ensures.byte c.in-Some.is (λ bs. refl);
-      same = c.next.ensures.same ∙ c.loop-b.invariant.same;
-    }
+    let inside = subst (λ i. GoesOn parse_next (feed g.R.Source.left g.R.Source.failed g.R.Source.pulls c.args.buffer.now c.args.r.now) (next_from i) (feed g.R.Source.left g.R.Source.failed g.R.Source.pulls c.loop-b.buffer c.loop-b.r)) c.if-inside.true c.loop-b.invariant in
+    goes_byte parse_next (next_from true) (next_from (not (nat_eq c.in-Some.b 10))) _ _ (feed g.R.Source.left g.R.Source.failed g.R.Source.pulls c.next.new.self c.next.new.r) c.in_ok-b.field-0 c.in-Some.b inside c.in_ok-b.ensures.steps c.in-Some.is (λ bs. refl)
 
 pub loop-b-preserved : goal.loop-b-preserved
 loop-b-preserved g c =
-    let outside = subst (λ i. GoesOn parse_next (g.F.ByteFeed.coming c.args.f.now) (next_from i) (g.F.ByteFeed.coming c.loop-b.f)) c.if-inside.false c.loop-b.invariant.goes_on in
-    record {
-      goes_on = goes_byte parse_next (next_from false) (next_from true) _ _ (g.F.ByteFeed.coming c.next.new.self) c.in_ok-b.field-0 c.in-Some.b outside c.in_ok-b.ensures.byte c.in-Some.is (comment_begins c.in-Some.b c.if-b-eq99.true);
-      same = c.next.ensures.same ∙ c.loop-b.invariant.same;
-    }
+    let outside = subst (λ i. GoesOn parse_next (feed g.R.Source.left g.R.Source.failed g.R.Source.pulls c.args.buffer.now c.args.r.now) (next_from i) (feed g.R.Source.left g.R.Source.failed g.R.Source.pulls c.loop-b.buffer c.loop-b.r)) c.if-inside.false c.loop-b.invariant in
+    goes_byte parse_next (next_from false) (next_from true) _ _ (feed g.R.Source.left g.R.Source.failed g.R.Source.pulls c.next.new.self c.next.new.r) c.in_ok-b.field-0 c.in-Some.b outside c.in_ok-b.ensures.steps c.in-Some.is (comment_begins c.in-Some.b c.if-b-eq99.true)
 
-pub returns-else-b-eq99-clause-exact : goal.returns-else-b-eq99-clause-exact
-returns-else-b-eq99-clause-exact g c =
-    let outside = subst (λ i. GoesOn parse_next (g.F.ByteFeed.coming c.args.f.now) (next_from i) (g.F.ByteFeed.coming c.loop-b.f)) c.if-inside.false c.loop-b.invariant.goes_on in
-    let mid = g.F.ByteFeed.coming c.next.new.self in
-    let after = g.F.ByteFeed.coming c.read_after.new.f in
+pub returns-else-b-eq99 : goal.returns-else-b-eq99
+returns-else-b-eq99 g c =
+    let outside = subst (λ i. GoesOn parse_next (feed g.R.Source.left g.R.Source.failed g.R.Source.pulls c.args.buffer.now c.args.r.now) (next_from i) (feed g.R.Source.left g.R.Source.failed g.R.Source.pulls c.loop-b.buffer c.loop-b.r)) c.if-inside.false c.loop-b.invariant in
+    let mid = feed g.R.Source.left g.R.Source.failed g.R.Source.pulls c.next.new.self c.next.new.r in
+    let after = feed g.R.Source.left g.R.Source.failed g.R.Source.pulls c.read_after.new.buffer c.read_after.new.r in
     let b = c.in-Some.b in
     let w = said_by c.in_ok-witness.witness in
-    let begun = goes_byte parse_next (next_from false) (λ bs. next_from false (b ∷ bs)) _ _ mid c.in_ok-b.field-0 b outside c.in_ok-b.ensures.byte c.in-Some.is (λ bs. refl) in
+    let begun = goes_byte parse_next (next_from false) (λ bs. next_from false (b ∷ bs)) _ _ mid c.in_ok-b.field-0 b outside c.in_ok-b.ensures.steps c.in-Some.is (λ bs. refl) in
     goes_done parse_next (Some w) _ after
-    (goes_call parse_next (λ bs. parse_witness (b ∷ bs)) (λ bs. next_from false (b ∷ bs)) (λ bs. Some (Some w, bs)) _ mid after w begun c.in_ok-witness.ensures.exact (witness_found b c.if-b-eq99.false w))
+    (goes_call parse_next (λ bs. parse_witness (b ∷ bs)) (λ bs. next_from false (b ∷ bs)) (λ bs. Some (Some w, bs)) _ mid after w begun c.in_ok-witness.ensures (witness_found b c.if-b-eq99.false w))
 
-pub returns-in_err-witness-clause-exact : goal.returns-in_err-witness-clause-exact
-returns-in_err-witness-clause-exact g c =
+pub returns-in_err-witness : goal.returns-in_err-witness
+returns-in_err-witness g c =
     let p = err_from_is_err_and c.from_residual-in_err-witness.result c.from_residual-in_err-witness.ensures.1 in
-    let outside = subst (λ i. GoesOn parse_next (g.F.ByteFeed.coming c.args.f.now) (next_from i) (g.F.ByteFeed.coming c.loop-b.f)) c.if-inside.false c.loop-b.invariant.goes_on in
-    let mid = g.F.ByteFeed.coming c.next.new.self in
+    let outside = subst (λ i. GoesOn parse_next (feed g.R.Source.left g.R.Source.failed g.R.Source.pulls c.args.buffer.now c.args.r.now) (next_from i) (feed g.R.Source.left g.R.Source.failed g.R.Source.pulls c.loop-b.buffer c.loop-b.r)) c.if-inside.false c.loop-b.invariant in
+    let mid = feed g.R.Source.left g.R.Source.failed g.R.Source.pulls c.next.new.self c.next.new.r in
     let b = c.in-Some.b in
-    let begun = goes_byte parse_next (next_from false) (λ bs. next_from false (b ∷ bs)) _ _ mid c.in_ok-b.field-0 b outside c.in_ok-b.ensures.byte c.in-Some.is (λ bs. refl) in
-    rw (p.1, p.2) (on_witness-weaker c.in_err-witness.field-0.0 _ _
+    let begun = goes_byte parse_next (next_from false) (λ bs. next_from false (b ∷ bs)) _ _ mid c.in_ok-b.field-0 b outside c.in_ok-b.ensures.steps c.in-Some.is (λ bs. refl) in
+    rw (p.1, p.2) (witness-weaker c.in_err-witness.field-0.0 _ _ _
     (λ (m : Misses (λ bs. parse_witness (b ∷ bs)) mid). goes_wrong parse_next (λ bs. next_from false (b ∷ bs)) _ mid begun (misses_where (λ bs. parse_witness (b ∷ bs)) (λ bs. next_from false (b ∷ bs)) mid m (witness_missed b c.if-b-eq99.false)))
-    c.in_err-witness.ensures.exact)
+    c.in_err-witness.ensures)
 
-pub returns-clause-exact : goal.returns-clause-exact
-returns-clause-exact g c =
-    nothing_left c.loop-b.inside _ _ (g.F.ByteFeed.coming c.next.new.self) c.in_ok-b.field-0 c.loop-b.invariant.goes_on c.in_ok-b.ensures.byte c.in_default.is (c.in_ok-b.ensures.end c.in_default.is).0
+pub returns : goal.returns
+returns g c =
+    nothing_left c.loop-b.inside _ _ (feed g.R.Source.left g.R.Source.failed g.R.Source.pulls c.next.new.self c.next.new.r) c.in_ok-b.field-0 c.loop-b.invariant c.in_ok-b.ensures.steps c.in_default.is

@@ -34,7 +34,7 @@ returns-in_err-nodes-clause-exact c = λ f t.
     let p = err_from_is_err_and c.from_residual.result c.from_residual.ensures.1 in
     let e = c.in_err-nodes.field-0.0 in
     let here = (goal.at.returns-in_err-nodes-clause-exact c).After-numbered in
-    rw (p.1, p.2) (on_refusal-weaker e _ _
+    rw (p.1, p.2) (on_refusal-weaker e _ _ false
     (λ (no : (levels f && have_operands f) ≡ false). well_founded-is f (levels f) _ _ refl refl ∙ no_nodes (levels f) (knows_lists f) (have_operands f) no)
     (judged_err (levels f && have_operands f) (NodesAre f) c.numbered.result e (nodes_judged f here t) c.in_err-nodes.was))
 

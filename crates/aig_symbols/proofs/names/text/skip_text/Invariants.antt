@@ -1,15 +1,13 @@
-use Rattle.std.proofs.Common.{◌≡◌, ◌≤◌, ℕ, List}
+use Rattle.std.proofs.Common.{ℕ, List}
+use Rattle.aig_lexer.specs.Takes.{feed}
 use Rattle.aig_parsing.specs.Parse.{parse_text}
 use Rattle.aig_lexer.proofs.Going.{GoesOn}
 use Rattle.aig_symbols.proofs.Texts.{text_from}
 use Rattle.aig_symbols.proofs.names.text.skip_text.Given as goal
 
 abbrev pub invariant-loop-b : goal.invariant-loop-b
-invariant-loop-b g l = record {
-  goes_on : (front : List ℕ) × GoesOn parse_text (g.F.ByteFeed.coming l.fn.f) (text_from front) (g.F.ByteFeed.coming l.f);
-  fewer : g.F.ByteFeed.turns l.f ≤ g.F.ByteFeed.turns l.fn.f;
-  same : g.F.ByteFeed.source_name l.f ≡ g.F.ByteFeed.source_name l.fn.f;
-}
+invariant-loop-b g l =
+    (front : List ℕ) × GoesOn parse_text (feed g.R.Source.left g.R.Source.failed g.R.Source.pulls l.fn.buffer l.fn.r) (text_from front) (feed g.R.Source.left g.R.Source.failed g.R.Source.pulls l.buffer l.r)
 
 abbrev pub decreases-loop-b : goal.decreases-loop-b
-decreases-loop-b g l = g.F.ByteFeed.turns l.f
+decreases-loop-b g l = (feed g.R.Source.left g.R.Source.failed g.R.Source.pulls l.buffer l.r).most

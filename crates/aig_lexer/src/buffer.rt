@@ -1,0 +1,96 @@
+//! A buffer of bytes in front of a source.
+
+ghost use Rattle.std.specs.Prelude.{◌≡◌, ◌≤◌, [], List, ℕ, drop, length, slice_range, OnErr};
+ghost use Rattle.aig_lexer.specs.Bytes.{Fills, Pops};
+ghost use Rattle.aig_lexer.specs.Takes.{StepsOrFails, feed};
+
+use aig_base::{Source, StreamFault};
+use std::marker::Model;
+
+/// How many bytes a buffer has room for.
+const SIZE: usize = 4096;
+
+/// Bytes of a source, in order, that were pulled and not yet taken.
+#[derive(Drop)]
+pub struct InputBuffer {
+    bytes: [u8; SIZE],
+    at: usize,
+    end: usize,
+}
+
+impl Model for InputBuffer {
+    ghost Value = { List ℕ };
+
+    ghost view = { λ b. slice_range b.bytes b.at b.end };
+
+    ghost invariant = { λ b. (b.at ≤ b.end) × (b.end ≤ 4096) };
+}
+
+impl InputBuffer {
+    /// A buffer in which there is no byte.
+    pub fn new() -> Self
+        ensures { result ≡ [] }
+    {
+        InputBuffer {
+            bytes: [0; SIZE],
+            at: 0,
+            end: 0,
+        }
+    }
+
+    /// Takes the first byte, if there is one.
+    #[inline(always)]
+    fn pop(&mut self) -> Option<u8>
+        ensures { Pops self.old result self.new }
+    {
+        if self.at == self.end {
+            return None;
+        }
+        let byte = self.bytes[self.at];
+        self.at += 1;
+        Some(byte)
+    }
+
+    /// Pulls the next bytes of the source, where no byte is left. At its end there is none after that.
+    #[cold]
+    fn fill<R: Source>(&mut self, r: &mut R) -> Result<(), StreamFault>
+        requires { self.old ≡ [] }
+        ensures { Fills (feed R.left R.failed R.pulls self.old r.old)
+            (feed R.left R.failed R.pulls self.new r.new) result self.new }
+    {
+        self.at = 0;
+        self.end = 0;
+        self.end = r.pull(&mut self.bytes)?;
+        Ok(())
+    }
+
+    /// Takes the next byte, from the source where there is none in the buffer, or returns none at the end.
+    ///
+    /// Returns an error where a read failed. No byte is in the buffer after that, so that none is given again.
+    pub fn next<R: Source>(&mut self, r: &mut R) -> Result<Option<u8>, StreamFault>
+        ensures steps { StepsOrFails (feed R.left R.failed R.pulls self.old r.old)
+            (feed R.left R.failed R.pulls self.new r.new) result }
+        ensures empty { OnErr result (self.new ≡ []) }
+    {
+        if let Some(byte) = self.pop() {
+            return Ok(Some(byte));
+        }
+        self.fill(r)?;
+        Ok(self.pop())
+    }
+
+    /// Returns the bytes that are in the buffer, and takes none of them.
+    pub fn window(&self) -> &[u8]
+        ensures { result.now ≡ self.now }
+    {
+        &self.bytes[self.at..self.end]
+    }
+
+    /// Takes the first `count` bytes. Requires that there are so many in the buffer.
+    pub fn consume(&mut self, count: usize)
+        requires { count ≤ length self.old }
+        ensures { self.new ≡ drop count self.old }
+    {
+        self.at += count;
+    }
+}
