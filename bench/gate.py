@@ -1,14 +1,18 @@
 #!/usr/bin/env python3
-"""Measures the gate: gate.py run LOG [--jobs N] [NAME ..], and then gate.py table LOG ..; or gate.py watch LOG, beside tests/run
+"""Measures the gate: gate.py run LOG [--jobs N] [NAME ..], and then gate.py table LOG ..; or gate.py watch LOG, beside tests/run; or gate.py parts NAME
 
 `run` copies this tree, and proves each crate (or those that are named, and what they stand on) from nothing in the copy, callees
 first, N at once (1): the crate, its tests, and its edits that must fail. LOG gets a line for each of these with its processor time
 and peak memory, and a line for each function with the processor time between the end of the function before and its own, which the
 check tells as it goes. `table` prints logs as the tables of docs/GATE.md, where a later line stands for an earlier one. `watch` looks
 every second at the toolchain's processes, until there have been none for a minute, and logs what each crate's took in a run of the
-gate that goes on beside it: its proof, its tests, and its edits with the check that they begin with.
+gate that goes on beside it: its proof, its tests, and its edits with the check that they begin with. `parts` proves one crate of this
+tree anew, over libraries that are proved, and prints the processor time by kind of part, and the dearest parts and functions: a check
+writes a file for each part of a function's proof as it ends with it. What it kept of the crate before is removed first.
 """
 import argparse
+import bisect
+import collections
 import concurrent.futures
 import os
 import pathlib
@@ -177,6 +181,63 @@ def watch(path):
         log.say(f"{name}{part} rc=0 0s cpu={seconds:.0f}s")
 
 
+# ---- parts
+
+# A function's walk over its blocks, what is to be shown of it, how it is tied to what it calls, the answers by hand, and so on.
+KINDS = ("Lts", "Proof", "Tie", "Answers", "Statement", "Code", "Kinds", "Met", "Invariants")
+FILE = re.compile(r"(?:Rattle-)?(.*?)(?:\.decls)?\.oantt")
+
+
+def sampled(child):
+    """When and at which processor time a check was looked at, until it ends."""
+    times, seconds = [time.time()], [0.0]
+    while child.poll() is None:
+        times.append(time.time())
+        seconds.append(max(time_of_tree(child.pid), seconds[-1]))
+        time.sleep(0.05)
+    return times, seconds
+
+
+def kind_of(part):
+    """The kind of a part, by its name."""
+    last = part.rpartition(".")[2]
+    return last if last in KINDS else "what is stated" if "-specs" in part else "lemmas, the start and others"
+
+
+def took(folder, times, seconds):
+    """How long each part took, by when its file was written."""
+    parts, before = collections.Counter(), 0.0
+    for when, name in sorted((path.stat().st_mtime, FILE.fullmatch(path.name)[1]) for path in folder.rglob("*.oantt")):
+        now = seconds[min(bisect.bisect(times, when), len(seconds) - 1)]
+        parts[name] += now - before
+        before = now
+    return parts
+
+
+def function_of(part):
+    return part.rpartition(".")[0].partition("-proofs.")[2]
+
+
+def parts(name):
+    """Proves a crate anew, and prints what its parts took. Returns whether it is proved."""
+    folder = ROOT / "crates" / name
+    kept = folder / "out" / "incremental"
+    shutil.rmtree(kept, ignore_errors=True)
+    words = ["rt", "check", "--jobs", "1"]
+    with subprocess.Popen(words, cwd=folder, stdout=subprocess.DEVNULL, stderr=subprocess.DEVNULL) as child:
+        found = took(kept, *sampled(child))
+    kinds, functions = collections.Counter(), collections.Counter()
+    for part, seconds in found.items():
+        kinds[kind_of(part)] += seconds
+        if kind_of(part) in KINDS:
+            functions[function_of(part)] += seconds
+    for title, sums in (("kind of part", kinds), ("part", found), ("function", functions)):
+        print(f"\n| {title} | processor seconds |\n|---|---|")
+        for it, seconds in sums.most_common(DEAREST):
+            print(f"| `{it}` | {seconds:.1f} |")
+    return child.returncode == 0
+
+
 # ---- tables
 
 
@@ -223,12 +284,15 @@ def main():
     runs.add_argument("names", nargs="*")
     runs.add_argument("--jobs", type=int, default=1)
     verbs.add_parser("watch").add_argument("log")
+    verbs.add_parser("parts").add_argument("name")
     verbs.add_parser("table").add_argument("logs", nargs="+")
     given = parser.parse_args()
     if given.verb == "table":
         return table(given.logs)
     if given.verb == "watch":
         return watch(given.log)
+    if given.verb == "parts":
+        return 0 if parts(given.name) else 1
     return 0 if run(given.log, given.jobs, given.names) else 1
 
 

@@ -30,14 +30,12 @@ impl Aig {
     ///
     /// # Examples
     ///
-    /// The exclusive or of two inputs, with its inner gates and without:
+    /// The exclusive or of two inputs, with its inner gates and without; `read` reads a file by `Aig::from_aiger`:
     ///
     /// ```
-    /// let file = b"aag 5 2 0 1 3\n2\n4\n11\n6 4 2\n8 5 3\n10 9 7\n";
-    /// let mut source = FromRead::new(file.as_slice());
-    /// let aig = Aig::from_aiger(alloc, &mut source, 1 << 24)?;
-    /// assert_eq!(rt; aig.cnf(false)?.num_clauses(), 10);
-    /// assert_eq!(rt; aig.cnf(true)?.num_clauses(), 5);
+    /// let aig = read(alloc, b"aag 5 2 0 1 3\n2\n4\n11\n6 4 2\n8 5 3\n10 9 7\n")?;
+    /// let (plain, optimized) = (aig.cnf(false)?, aig.cnf(true)?);
+    /// assert_eq!(rt; (plain.num_clauses(), optimized.num_clauses()), (10, 5));
     /// ```
     pub fn cnf(&self, optimize: bool) -> Result<DagCnf, MemoryError>
         requires { length self.now.nodes ≤ 2 ^ 31 }

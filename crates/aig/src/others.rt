@@ -54,12 +54,10 @@ impl Aig {
     ///
     /// # Examples
     ///
-    /// Of two inputs the second is the output:
+    /// Of two inputs the second is the output; `read` reads a file by `Aig::from_aiger`:
     ///
     /// ```
-    /// let file = b"aag 2 2 0 1 0\n2\n4\n4\n";
-    /// let mut source = FromRead::new(file.as_slice());
-    /// let aig = Aig::from_aiger(alloc, &mut source, 1 << 24)?;
+    /// let aig = read(alloc, b"aag 2 2 0 1 0\n2\n4\n4\n")?;
     /// let (refined, old_numbers) = aig.coi_refine()?;
     /// assert_eq!(rt; refined.num_nodes(), 2);
     /// assert_eq!(rt; refined.outputs(), [AigEdge::from(1)].as_slice());
@@ -87,12 +85,10 @@ impl Aig {
     ///
     /// # Examples
     ///
-    /// Two ands of two inputs each:
+    /// Two ands of two inputs each; `read` reads a file by `Aig::from_aiger`:
     ///
     /// ```
-    /// let file = b"aag 3 2 0 1 1\n2\n4\n6\n6 4 2\n";
-    /// let mut source = FromRead::new(file.as_slice());
-    /// let mut both = Aig::from_aiger(alloc, &mut source, 1 << 24)?;
+    /// let mut both = read(alloc, b"aag 3 2 0 1 1\n2\n4\n6\n6 4 2\n")?;
     /// let copy = both.clone()?;
     /// both.merge(&copy)?;
     /// let (first, second) = (AigEdge::from(3), AigEdge::from(6));
@@ -231,12 +227,10 @@ impl Aig {
     ///
     /// # Examples
     ///
-    /// A latch that toggles, over two steps:
+    /// A latch that toggles, over two steps; `read` reads a file by `Aig::from_aiger`:
     ///
     /// ```
-    /// let file = b"aag 1 0 1 1 0\n2 3\n2\n";
-    /// let mut source = FromRead::new(file.as_slice());
-    /// let toggle = Aig::from_aiger(alloc, &mut source, 1 << 24)?;
+    /// let toggle = read(alloc, b"aag 1 0 1 1 0\n2 3\n2\n")?;
     /// let unrolled = toggle.unroll_to(1)?;
     /// let latch = AigEdge::from(1);
     /// assert_eq!(rt; unrolled.num_nodes(), 2);

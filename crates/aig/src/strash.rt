@@ -23,12 +23,11 @@ impl Aig {
     ///
     /// # Examples
     ///
-    /// Gates 3 and 4 are equal, and then gates 5 and 6 are:
+    /// Gates 3 and 4 are equal, and then gates 5 and 6 are; `read` reads a file by `Aig::from_aiger`:
     ///
     /// ```
     /// let file = b"aag 6 2 0 2 4\n2\n4\n10\n12\n6 4 2\n8 4 2\n10 6 2\n12 8 2\n";
-    /// let mut source = FromRead::new(file.as_slice());
-    /// let aig = Aig::from_aiger(alloc, &mut source, 1 << 24)?;
+    /// let aig = read(alloc, file)?;
     /// let hashed = aig.strash()?;
     /// let gate = AigEdge::from(4);
     /// assert_eq!(rt; (aig.num_nodes(), hashed.num_nodes()), (7, 5));

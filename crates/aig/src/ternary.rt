@@ -133,12 +133,10 @@ impl<'a> TernarySimulate<'a> {
     ///
     /// # Examples
     ///
-    /// A latch that toggles, from false:
+    /// A latch that toggles, from false; `read` reads a file by `Aig::from_aiger`:
     ///
     /// ```
-    /// let file = b"aag 1 0 1 1 0\n2 3\n2\n";
-    /// let mut source = FromRead::new(file.as_slice());
-    /// let toggle = Aig::from_aiger(alloc, &mut source, 1 << 24)?;
+    /// let toggle = read(alloc, b"aag 1 0 1 1 0\n2 3\n2\n")?;
     /// let latch = AigEdge::from(1);
     /// assert!(rt; toggle.latchs().len() == 1 && toggle.inputs().len() == 0 && toggle.has_edge(latch));
     /// let mut simulation = TernarySimulate::new(&toggle, vec![in alloc; Lbool::FALSE]?);

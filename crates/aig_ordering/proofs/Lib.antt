@@ -3,3 +3,4 @@ pub mod NodesIn
 pub mod Searching
 pub mod Leveling
 pub mod Written
+mod Examples

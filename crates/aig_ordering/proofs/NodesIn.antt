@@ -4,7 +4,7 @@ use Rattle.aig_circuit.specs.declared.node.AigNode.{AigNode}
 use Rattle.aig_circuit.specs.declared.node.AigNodeType.{AigNodeType}
 use Rattle.aig_format.specs.File.{File}
 use Rattle.aig_ordering.specs.declared.gates.Operands.{Operands}
-use Rattle.aig_ordering.specs.Gates.{kind_of_operands, node_in, nodes_in, nodes_in_from}
+use Rattle.aig_ordering.specs.Gates.{node_in, nodes_in, nodes_in_from}
 use Rattle.aig_ordering.specs.Lists.{kind_among}
 use Rattle.aig_ordering.specs.Tables.{AreNodesOf}
 use Rattle.aig_ordering.proofs.Tables.{count-nodes, node_at}

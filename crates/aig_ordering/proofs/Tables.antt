@@ -1,6 +1,6 @@
 -- The nodes of a file's variables, and what they tell of its gates.
 use Rattle.std.proofs.Common.{◌≡◌, ℕ, zero, suc, ◌+◌, ◌/◌, ◌<◌, ◌≤◌, max, Bool, true, false, cond, List, [], ◌∷◌, ◌++◌, length, map, get_or, replicate, Option, Some, None, refl, sym, ap, ◌∙◌, arith, inl, inr, ◌⊎◌}
-use Rattle.std.specs.Prelude.{◌==◌, ◌&&◌, is_some, slice_get, nat_lt, option_map}
+use Rattle.std.specs.Prelude.{◌==◌, ◌&&◌, is_some, nat_lt}
 use Rattle.std.specs.List.{AllByRecursion, list_all}
 use Rattle.std.proofs.lemmas.Bool.{and_parts, eqb-true, ne_eqb}
 use Rattle.std.proofs.lemmas.Option.{same_Some}
@@ -10,7 +10,7 @@ use Rattle.aig_circuit.specs.declared.node.AigNode.{AigNode}
 use Rattle.aig_circuit.specs.declared.node.AigNodeType.{AigNodeType}
 use Rattle.aig_circuit.specs.declared.node.AigNodeType.TheVariants.{False, Leaf, And}
 use Rattle.aig_circuit.specs.Edge.{literal_of}
-use Rattle.aig_circuit.specs.Node.{and_of, kind_at}
+use Rattle.aig_circuit.specs.Node.{and_of}
 use Rattle.aig_format.specs.File.{LatchLine, GateLine, File}
 use Rattle.aig_format.specs.Variables.{gate_of_variable}
 use Rattle.aig_format.specs.Levels.{has_level, level_of, HasLevel}
@@ -20,7 +20,7 @@ use Rattle.aig_format.proofs.Entries.{rec_parts, rec_unmap, rec_weaker}
 use Rattle.aig_format.proofs.Searches.{find_some, find_none}
 use Rattle.aig_format.proofs.Members.{length-numbers}
 use Rattle.aig_format.proofs.Levels.{level_of-gate, level_of-leaf, level_of-operands, levelled}
-use Rattle.aig_ordering.specs.Lists.{edge_from, kind_of_line, kind_among, node_from, nodes_in_row, nodes_of_variables}
+use Rattle.aig_ordering.specs.Lists.{edge_from, kind_of_line, kind_among, node_from, nodes_in_row}
 use Rattle.aig_ordering.specs.Tables.{AreNodesOf, HasOperands, all_have_levels, entry_value}
 use Rattle.aig_ordering.specs.Search.{Descends}
 use Rattle.aig_format.proofs.Rules.{definable_told}

@@ -2,3 +2,14 @@
 
 mod examples;
 mod streams;
+
+use aig::Aig;
+use aig_base::FromRead;
+use std::alloc::Global;
+use std::test::Fail;
+
+/// Reads a circuit, as the example of `Aig::from_aiger` does.
+fn read(alloc: Global, file: &[u8]) -> Result<Aig, Fail> {
+    let mut source = FromRead::new(file);
+    Ok(Aig::from_aiger(alloc, &mut source, 1 << 24)?)
+}

@@ -7,3 +7,4 @@ pub mod Small
 mod Differences
 pub mod Numbered
 mod Tables
+mod Examples

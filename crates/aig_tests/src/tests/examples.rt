@@ -1,5 +1,6 @@
 //! The examples of the docstrings of `aig` and `aig_encode`: `tests/examples.py` checks that each stands here, line for line.
 
+use crate::tests::read;
 use aig::{Aig, AigEdge, TernarySimulate};
 use aig_base::{FromRead, Lbool, Var};
 use aig_encode::{encode, query};
@@ -34,9 +35,7 @@ fn adds_a_gate_or_folds(rt: HostRuntime) -> Result<(), Fail> {
 #[test]
 fn refines_a_circuit(rt: HostRuntime) -> Result<(), Fail> {
     let alloc = rt.alloc();
-    let file = b"aag 2 2 0 1 0\n2\n4\n4\n";
-    let mut source = FromRead::new(file.as_slice());
-    let aig = Aig::from_aiger(alloc, &mut source, 1 << 24)?;
+    let aig = read(alloc, b"aag 2 2 0 1 0\n2\n4\n4\n")?;
     let (refined, old_numbers) = aig.coi_refine()?;
     assert_eq!(rt; refined.num_nodes(), 2);
     assert_eq!(rt; refined.outputs(), [AigEdge::from(1)].as_slice());
@@ -47,9 +46,7 @@ fn refines_a_circuit(rt: HostRuntime) -> Result<(), Fail> {
 #[test]
 fn appends_a_copy(rt: HostRuntime) -> Result<(), Fail> {
     let alloc = rt.alloc();
-    let file = b"aag 3 2 0 1 1\n2\n4\n6\n6 4 2\n";
-    let mut source = FromRead::new(file.as_slice());
-    let mut both = Aig::from_aiger(alloc, &mut source, 1 << 24)?;
+    let mut both = read(alloc, b"aag 3 2 0 1 1\n2\n4\n6\n6 4 2\n")?;
     let copy = both.clone()?;
     both.merge(&copy)?;
     let (first, second) = (AigEdge::from(3), AigEdge::from(6));
@@ -61,9 +58,7 @@ fn appends_a_copy(rt: HostRuntime) -> Result<(), Fail> {
 #[test]
 fn unrolls_a_toggle(rt: HostRuntime) -> Result<(), Fail> {
     let alloc = rt.alloc();
-    let file = b"aag 1 0 1 1 0\n2 3\n2\n";
-    let mut source = FromRead::new(file.as_slice());
-    let toggle = Aig::from_aiger(alloc, &mut source, 1 << 24)?;
+    let toggle = read(alloc, b"aag 1 0 1 1 0\n2 3\n2\n")?;
     let unrolled = toggle.unroll_to(1)?;
     let latch = AigEdge::from(1);
     assert_eq!(rt; unrolled.num_nodes(), 2);
@@ -75,8 +70,7 @@ fn unrolls_a_toggle(rt: HostRuntime) -> Result<(), Fail> {
 fn merges_equal_gates(rt: HostRuntime) -> Result<(), Fail> {
     let alloc = rt.alloc();
     let file = b"aag 6 2 0 2 4\n2\n4\n10\n12\n6 4 2\n8 4 2\n10 6 2\n12 8 2\n";
-    let mut source = FromRead::new(file.as_slice());
-    let aig = Aig::from_aiger(alloc, &mut source, 1 << 24)?;
+    let aig = read(alloc, file)?;
     let hashed = aig.strash()?;
     let gate = AigEdge::from(4);
     assert_eq!(rt; (aig.num_nodes(), hashed.num_nodes()), (7, 5));
@@ -87,20 +81,16 @@ fn merges_equal_gates(rt: HostRuntime) -> Result<(), Fail> {
 #[test]
 fn encodes_an_exclusive_or(rt: HostRuntime) -> Result<(), Fail> {
     let alloc = rt.alloc();
-    let file = b"aag 5 2 0 1 3\n2\n4\n11\n6 4 2\n8 5 3\n10 9 7\n";
-    let mut source = FromRead::new(file.as_slice());
-    let aig = Aig::from_aiger(alloc, &mut source, 1 << 24)?;
-    assert_eq!(rt; aig.cnf(false)?.num_clauses(), 10);
-    assert_eq!(rt; aig.cnf(true)?.num_clauses(), 5);
+    let aig = read(alloc, b"aag 5 2 0 1 3\n2\n4\n11\n6 4 2\n8 5 3\n10 9 7\n")?;
+    let (plain, optimized) = (aig.cnf(false)?, aig.cnf(true)?);
+    assert_eq!(rt; (plain.num_clauses(), optimized.num_clauses()), (10, 5));
     Ok(())
 }
 
 #[test]
 fn simulates_a_toggle(rt: HostRuntime) -> Result<(), Fail> {
     let alloc = rt.alloc();
-    let file = b"aag 1 0 1 1 0\n2 3\n2\n";
-    let mut source = FromRead::new(file.as_slice());
-    let toggle = Aig::from_aiger(alloc, &mut source, 1 << 24)?;
+    let toggle = read(alloc, b"aag 1 0 1 1 0\n2 3\n2\n")?;
     let latch = AigEdge::from(1);
     assert!(rt; toggle.latchs().len() == 1 && toggle.inputs().len() == 0 && toggle.has_edge(latch));
     let mut simulation = TernarySimulate::new(&toggle, vec![in alloc; Lbool::FALSE]?);

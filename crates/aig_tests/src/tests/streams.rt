@@ -1,5 +1,6 @@
 //! Readers and writers of std that fail.
 
+use crate::tests::read;
 use aig::{Aig, ReadError, WriteError};
 use aig_base::{FromRead, Sink, Source, StreamFault, ToWrite};
 use aig_encode::{EncodeError, encode, query};
@@ -131,7 +132,7 @@ fn tells_a_reader_that_breaks(rt: HostRuntime) {
 
 #[test]
 fn tells_a_writer_that_breaks(rt: HostRuntime) -> Result<(), Fail> {
-    let circuit = Aig::from_aiger(rt.alloc(), &mut FromRead::new(AND), LIMIT)?;
+    let circuit = read(rt.alloc(), AND)?;
     let fault = Err(WriteError::Stream);
     let mut broken = ToWrite::new(Interrupted);
     assert_eq!(rt; circuit.write_text(&mut broken), fault);
