@@ -9,7 +9,7 @@ mod comments;
 mod line;
 mod tool;
 
-use aig_base::{FromRead, ToWrite};
+use aig_base::{FromRead, Sink, Source, ToWrite};
 pub use command::{Command, parse};
 use std::fs::File;
 use std::io::{ErrorKind, Write};
@@ -42,6 +42,40 @@ fn open<R: Files>(rt: &R, path: &str) -> Result<FromRead<R::File>, CheckError> {
     }
 }
 
+/// Runs a command on the file that `r` reads and on the one that the words name beside it, and prints to `w`.
+fn run<R: Source, W: Sink>(
+    rt: &(impl Files + AllocGlobal),
+    words: &[String],
+    command: Command,
+    r: &mut R,
+    w: &mut W,
+) -> Result<(), CheckError>
+    requires words { needed_words command ≤ length words.now }
+    requires small { step_of command < 2 ^ 32 }
+{
+    let alloc = rt.alloc();
+    match command {
+        Command::Window { k, form, optimize } => print_window(alloc, k, form, optimize, r, w),
+        Command::Clauses { k, optimize } => print_clauses(alloc, k, optimize, r, w),
+        Command::Refuted { k, optimize } => {
+            let mut proof = open(rt, words[3].as_str())?;
+            print_refuted(alloc, k, optimize, r, &mut proof, w)
+        }
+        Command::Inductive { k, form, optimize } => {
+            let mut proof = open(rt, words[3].as_str())?;
+            print_inductive(alloc, k, form, optimize, r, &mut proof, w)
+        }
+        Command::Witness { k, optimize } => {
+            let mut solution = open(rt, words[3].as_str())?;
+            print_witness(alloc, k, optimize, r, &mut solution, w)
+        }
+        Command::Run => {
+            let mut witness = open(rt, words[2].as_str())?;
+            print_run(alloc, r, &mut witness, w)
+        }
+    }
+}
+
 /// Runs a command on the files that the words name, and prints to standard output.
 fn print(
     rt: &(impl Files + Print + AllocGlobal),
@@ -51,31 +85,9 @@ fn print(
     requires words { needed_words command ≤ length words.now }
     requires small { step_of command < 2 ^ 32 }
 {
-    let alloc = rt.alloc();
     let mut r = open(rt, words[1].as_str())?;
     let mut sink = ToWrite::new(io::writer(rt));
-    match command {
-        Command::Window { k, form, optimize } => {
-            print_window(alloc, k, form, optimize, &mut r, &mut sink)?;
-        }
-        Command::Clauses { k, optimize } => print_clauses(alloc, k, optimize, &mut r, &mut sink)?,
-        Command::Refuted { k, optimize } => {
-            let mut proof = open(rt, words[3].as_str())?;
-            print_refuted(alloc, k, optimize, &mut r, &mut proof, &mut sink)?;
-        }
-        Command::Inductive { k, form, optimize } => {
-            let mut proof = open(rt, words[3].as_str())?;
-            print_inductive(alloc, k, form, optimize, &mut r, &mut proof, &mut sink)?;
-        }
-        Command::Witness { k, optimize } => {
-            let mut solution = open(rt, words[3].as_str())?;
-            print_witness(alloc, k, optimize, &mut r, &mut solution, &mut sink)?;
-        }
-        Command::Run => {
-            let mut witness = open(rt, words[2].as_str())?;
-            print_run(alloc, &mut r, &mut witness, &mut sink)?;
-        }
-    }
+    run(rt, words, command, &mut r, &mut sink)?;
     match sink.into_inner().flush() {
         Ok(()) => Ok(()),
         Err(_) => Err(CheckError::Write),
