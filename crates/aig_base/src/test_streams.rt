@@ -179,15 +179,10 @@ impl Sink for Taker {
             return Err(StreamFault::Failed);
         }
         let n = piece.len().min(self.most).min(self.room);
-        match self.taken.extend_from_slice(&piece[..n]) {
-            Ok(()) => {
-                self.room -= n;
-                Ok(n)
-            }
-            Err(_) => {
-                self.failed = true;
-                Err(StreamFault::Failed)
-            }
+        if self.taken.extend_from_slice(&piece[..n]).is_err() {
+            unreachable!();
         }
+        self.room -= n;
+        Ok(n)
     }
 }

@@ -49,6 +49,13 @@ impl LitVvec {
         LitVvec::near(alloc, NearClauses::new())
     }
 
+    /// Returns one clause of one literal, and takes no memory.
+    pub(crate) fn unit(alloc: Global, lit: Lit) -> LitVvec
+        ensures { result ≡ (lit ∷ []) ∷ [] }
+    {
+        LitVvec::near(alloc, NearClauses::unit(lit))
+    }
+
     /// Returns a list of clauses that stand in it.
     fn near(alloc: Global, clauses: NearClauses) -> LitVvec
         ensures { result ≡ clauses }
@@ -213,9 +220,9 @@ fn with_inverses(alloc: Global, first: Lit, others: &[Lit]) -> Result<Vec<Lit>, 
     ensures { IfOk result (λ clause. clause.items ≡ first ∷ map inverse_lit others.now) }
 {
     let mut clause = Vec::with_capacity(alloc, others.len() + 1)?;
-    clause.push(first)?;
+    clause.push_reserved(first);
     for lit in others {
-        clause.push(!*lit)?;
+        clause.push_reserved(!*lit);
     }
     Ok(clause)
 }

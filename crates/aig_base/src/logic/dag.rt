@@ -43,10 +43,8 @@ impl DagCnf {
     pub fn new(alloc: Global) -> Result<DagCnf, MemoryError>
         ensures { IfOk result (λ dag. dag ≡ ((lit_to 0 false ∷ []) ∷ []) ∷ []) }
     {
-        let mut unit = LitVvec::new(alloc);
-        unit.push(&[!Var::new(0).lit()])?;
         let mut relations = Vec::new(alloc);
-        relations.push(unit)?;
+        relations.push(LitVvec::unit(alloc, !Var::new(0).lit()))?;
         Ok(DagCnf {
             relations,
             clauses: 1,

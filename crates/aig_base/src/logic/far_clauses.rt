@@ -5,7 +5,7 @@ ghost use Rattle.aig_base.specs.Cut.{start_of};
 
 use crate::logic::literal::Lit;
 use crate::memory::MemoryError;
-use std::alloc::Global;
+use std::alloc::{AllocError, Global};
 use std::marker::Model;
 
 /// Clauses in two vectors: their literals one after another, and where each clause ends.
@@ -47,7 +47,7 @@ impl FarClauses {
     {
         self.ends.reserve(1)?;
         self.literals.extend_from_slice(clause)?;
-        self.ends.push(self.literals.len())?;
+        self.ends.push_reserved(self.literals.len());
         Ok(())
     }
 
@@ -76,11 +76,7 @@ impl FarClauses {
         ensures ok { OnOk result (self.new ≡ self.old ++ other.now) }
         ensures err { OnErr result (self.new ≡ self.old) }
     {
-        if self.ends.is_empty() {
-            self.ends.reserve_exact(other.ends.len())?;
-        } else {
-            self.ends.reserve(other.ends.len())?;
-        }
+        make_room(&mut self.ends, other.ends.len())?;
         let before = self.literals.len();
         self.literals.extend_from_slice(&other.literals)?;
         append_shifted(&mut self.ends, &other.ends, before);
@@ -96,6 +92,18 @@ fn start(ends: &[usize], i: usize) -> usize
     if i == 0 { 0 } else { ends[i - 1] }
 }
 
+/// Makes room for more ends. An empty list takes just the memory that these need.
+fn make_room(ends: &mut Vec<usize>, more: usize) -> Result<(), AllocError>
+    ensures items { ends.new.items ≡ ends.old.items }
+    ensures room { OnOk result (vec_len ends.new + more ≤ vec_capacity ends.new) }
+{
+    if ends.is_empty() {
+        ends.reserve_exact(more)
+    } else {
+        ends.reserve(more)
+    }
+}
+
 /// Appends the ends of other clauses, which begin after `by` literals. There is room for them.
 fn append_shifted(ends: &mut Vec<usize>, others: &[usize], by: usize)
     requires room { vec_len ends.old + length others.now ≤ vec_capacity ends.old }
@@ -103,8 +111,6 @@ fn append_shifted(ends: &mut Vec<usize>, others: &[usize], by: usize)
     ensures { ends.new.items ≡ ends.old.items ++ map (λ end. by + end) others.now }
 {
     for end in others {
-        if ends.push(by + *end).is_err() {
-            unreachable!();
-        }
+        ends.push_reserved(by + *end);
     }
 }

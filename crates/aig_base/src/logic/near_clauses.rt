@@ -49,6 +49,18 @@ impl NearClauses {
         }
     }
 
+    /// Returns one clause of one literal.
+    pub(crate) fn unit(lit: Lit) -> NearClauses
+        ensures { result ≡ (lit ∷ []) ∷ [] }
+    {
+        NearClauses {
+            literals: [lit; MOST_LITERALS],
+            ends: [1; MOST_CLAUSES],
+            clauses: 1,
+            used: 1,
+        }
+    }
+
     /// Returns the clauses that `n` is the and of `a` and `b`.
     pub(crate) fn of_and(n: Lit, a: Lit, b: Lit) -> NearClauses
         ensures { result ≡ and_clauses n (a ∷ b ∷ []) }
