@@ -1,6 +1,7 @@
 -- Serves private clauses alone.
 -- What contracts see of the source and the sink that tests stand on.
-use Rattle.std.specs.Prelude.{ℕ, ◌-◌, Bool, List, Option, Some, drop, vec_len}
+use Rattle.std.specs.Prelude.{◌≡◌, ℕ, ◌+◌, ◌-◌, ◌<◌, ◌≤◌, Bool, false, List, Option, Some, drop, vec_len}
+use Rattle.std.specs.Option.{ForSome}
 use Rattle.aig_base.specs.declared.test_streams.Parts.{Parts}
 use Rattle.aig_base.specs.declared.test_streams.Taker.{Taker}
 
@@ -27,6 +28,15 @@ fails_after s = s.limit
 -- whether it has failed
 abbrev pub source_failed : Parts → Bool
 source_failed s = s.failed
+
+-- it gives so many bytes before its end and before it fails, none only at its end, and does not fail
+-- yet
+pub record IsRoom (s : Parts) (n : ℕ) : Type 0 where
+  pub sound : source_failed s ≡ false
+  pub within_left : given_of s + n ≤ vec_len s.bytes
+  pub within_limit : ForSome (fails_after s) (λ j. given_of s + n ≤ j)
+  pub unspent : ForSome (fails_after s) (λ j. given_of s < j)
+  pub at_end : n ≡ 0 → left_count s ≡ 0
 
 -- the bytes that it holds
 abbrev pub held_by : Taker → Option (List ℕ)

@@ -1,6 +1,6 @@
 //! A source and a sink for tests, which give and take bytes in parts and fail where they are told to.
 
-ghost use Rattle.std.specs.Prelude.{◌≡◌, ◌<◌, ◌≤◌, ◌+◌, ◌⊎◌, [], Some, false, take, length, vec_capacity, vec_len, IfOk, IsSomeAnd, IsTrue, IsErr, OnErr, is_err};
+ghost use Rattle.std.specs.Prelude.{◌≡◌, ◌<◌, ◌≤◌, ◌+◌, ◌⊎◌, [], Some, false, take, length, vec_capacity, vec_len, IfOk, IfNone, IfSome, IsSomeAnd, IsTrue, IsErr, OnErr, is_err};
 ghost use Rattle.std.specs.Io.KnownBytes.{Consumes, Appends, Keeps, IsAtEnd};
 ghost use Rattle.std.specs.Option.{ForSome};
 
@@ -21,7 +21,7 @@ pub struct Parts {
 }
 
 impl Parts {
-    ghost use Rattle.aig_base.specs.Devices.{left_of, given_of, most_given, fails_after, source_failed};
+    ghost use Rattle.aig_base.specs.Devices.{left_of, given_of, most_given, fails_after, source_failed, IsRoom};
 
     /// Returns a source of these bytes that gives at most `p` of them a call, and fails after `j` bytes where `j` is
     /// given.
@@ -45,6 +45,23 @@ impl Parts {
             most: p,
             limit: j,
             failed: false,
+        }
+    }
+
+    /// Returns how many bytes are left up to the end and to where it fails, or `None` where it has to fail.
+    fn room(&self) -> Option<usize>
+        ensures none { IfNone result (IsTrue (source_failed self.now)
+            ⊎ IsSomeAnd (fails_after self.now) (λ j. j ≤ given_of self.now)) }
+        ensures some { IfSome result (λ n. IsRoom self.now n) }
+    {
+        if self.failed {
+            return None;
+        }
+        let left = self.bytes.len() - self.given;
+        match self.limit {
+            None => Some(left),
+            Some(j) if self.given < j => Some(left.min(j - self.given)),
+            Some(_) => None,
         }
     }
 }
@@ -81,18 +98,10 @@ impl Source for Parts {
         ensures same_most { most_given self.new ≡ most_given self.old }
         ensures same_limit { fails_after self.new ≡ fails_after self.old }
     {
-        let left = self.bytes.len() - self.given;
-        let room = match self.limit {
-            None => left,
-            Some(j) if self.given < j => left.min(j - self.given),
-            Some(_) => {
-                self.failed = true;
-                return Err(StreamFault::Failed);
-            }
-        };
-        if self.failed {
+        let Some(room) = self.room() else {
+            self.failed = true;
             return Err(StreamFault::Failed);
-        }
+        };
         let n = room.min(self.most).min(buf.len());
         let end = self.given + n;
         buf[..n].copy_from_slice(&self.bytes[self.given..end]);
