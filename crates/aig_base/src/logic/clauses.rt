@@ -168,11 +168,18 @@ impl LitVvec {
             return Ok(LitVvec::near(alloc, NearClauses::of_and(n, *a, *b)));
         }
         let mut rel = LitVvec::new(alloc);
-        for lit in lits {
-            rel.push(&[!n, *lit])?;
-        }
-        rel.push(&with_inverses(alloc, n, lits)?)?;
+        rel.push_and(alloc, n, lits)?;
         Ok(rel)
+    }
+
+    /// Appends the clauses that `n` is the and of the literals. Where memory is refused it may have some of them.
+    fn push_and(&mut self, alloc: Global, n: Lit, lits: &[Lit]) -> Result<(), MemoryError>
+        ensures { OnOk result (self.new ≡ self.old ++ and_clauses n lits.now) }
+    {
+        for lit in lits {
+            self.push(&[!n, *lit])?;
+        }
+        self.push(&with_inverses(alloc, n, lits)?)
     }
 
     /// Returns the four clauses that hold exactly where `n` is the exclusive or of `x` and `y`.

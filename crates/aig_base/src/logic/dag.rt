@@ -88,12 +88,13 @@ impl DagCnf {
             (slice_index_or self.old (var_number var) [] ++ rel.now)) }
         ensures err { OnErr result (self.new ≡ self.old) }
     {
-        if rel.len() > MOST_CLAUSES - self.clauses {
+        let more = rel.len();
+        if more > MOST_CLAUSES - self.clauses {
             return Err(MemoryError::Memory);
         }
         let i = usize::from(var);
         self.relations[i].append(rel)?;
-        self.clauses += rel.len();
+        self.clauses += more;
         Ok(())
     }
 

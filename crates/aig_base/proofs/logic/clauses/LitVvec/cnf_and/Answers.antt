@@ -1,7 +1,6 @@
-use Rattle.std.proofs.Common.{◌≡◌, ◌<◌, ◌≤◌, ◌++◌, ◌∷◌, [], List, length, get_or, map, take, refl, sym, ap, ◌∙◌, arith}
-use Rattle.std.proofs.lemmas.List.{map_more, take_all}
+use Rattle.std.proofs.Common.{◌≡◌, ◌<◌, ◌≤◌, ◌++◌, ◌∷◌, [], List, length, get_or, refl, sym, ap, ◌∙◌, arith}
 use Rattle.aig_base.specs.declared.logic.literal.Lit.{Lit}
-use Rattle.aig_base.specs.Clauses.{inverse_lit, and_clauses}
+use Rattle.aig_base.specs.Clauses.{and_clauses}
 use Rattle.aig_base.proofs.Literals.{are_true-and_clauses}
 use Rattle.aig_base.proofs.logic.clauses.LitVvec.cnf_and.Goals as goal
 
@@ -19,24 +18,8 @@ returns-in-len2-clause-clauses c =
 pub returns-in-len2-clause-relation : goal.returns-in-len2-clause-relation
 returns-in-len2-clause-relation c = λ v. rw (returns-in-len2-clause-clauses c) (are_true-and_clauses v c.args.n c.args.lits.now)
 
-pub loop-lit-preserved : goal.loop-lit-preserved
-loop-lit-preserved c =
-    let implied : Lit → List Lit = λ lit. inverse_lit c.args.n ∷ lit ∷ [] in
-    let i = c.loop-lit.lit-index in
-    let lits = c.args.lits.now in
-    let lit : Lit = get_or lits i (record { code = 0 }) in
-    c.in_ok-push.ensures.ok
-    ∙ ap (λ rel. rel ++ (c.not.result ∷ lit ∷ []) ∷ []) c.loop-lit.invariant
-    ∙ ap (λ inverse. map implied (take i lits) ++ (inverse ∷ lit ∷ []) ∷ []) c.not.ensures
-    ∙ sym (map_more implied lits i (record { code = 0 }) c.loop-lit-test.true)
-
 pub returns-clause-clauses : goal.returns-clause-clauses
-returns-clause-clauses c =
-    let implied : Lit → List Lit = λ lit. inverse_lit c.args.n ∷ lit ∷ [] in
-    let lits = c.args.lits.now in
-    c.in_ok-push-2.ensures.ok
-    ∙ ap (λ rel. rel ++ c.deref.result.now ∷ []) (c.loop-lit.invariant ∙ ap (map implied) (take_all c.loop-lit.lit-index lits c.loop-lit-test.false))
-    ∙ ap (λ last. map implied lits ++ last ∷ []) (c.deref.ensures.value ∙ c.in_ok-with_inverses.ensures)
+returns-clause-clauses c = c.in_ok-push_and.ensures ∙ ap (λ rel. rel ++ and_clauses c.args.n c.args.lits.now) c.new-rel.ensures
 
 pub returns-clause-relation : goal.returns-clause-relation
 returns-clause-relation c = λ v. rw (returns-clause-clauses c) (are_true-and_clauses v c.args.n c.args.lits.now)

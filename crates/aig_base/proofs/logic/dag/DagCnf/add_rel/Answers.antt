@@ -1,7 +1,7 @@
-use Rattle.std.proofs.Common.{◌≡◌, ◌<◌, ◌≤◌, ◌^◌, ◌++◌, ℕ, ◌+◌, List, length, get_or, ap, sym, subst, ◌∙◌, arith}
+use Rattle.std.proofs.Common.{◌≡◌, ◌<◌, ◌≤◌, ◌^◌, ◌++◌, [], ℕ, ◌+◌, List, length, get_or, ap, sym, subst, ◌∙◌, arith}
 use Rattle.std.proofs.Math.ListN.{set, length-set}
 use Rattle.std.specs.List.{All}
-use Rattle.std.proofs.lemmas.List.{length-append}
+use Rattle.std.proofs.lemmas.List.{length-append, get_or_read}
 use Rattle.std.proofs.lemmas.List.Elements.{All-append, All-set}
 use Rattle.std.proofs.lemmas.List.Sums.{sum_by-set}
 use Rattle.aig_base.specs.declared.logic.literal.Lit.{Lit}
@@ -30,10 +30,19 @@ pub invariant_of-self-2 : goal.invariant_of-self-2
 invariant_of-self-2 c =
     let lists = c.self.inside.relations.items in
     let lt : c.from-i.result < length lists = omega (arith, c.from-i.ensures, ap length c.self.view_is, c.requires.var) in
-    let low : c.self.inside.clauses + length c.args.rel.now ≤ 2 ^ 63 = omega (arith, c.if-len-self.false, c.len.ensures.count, c.self.invariant.1.few) in
+    let low : c.self.inside.clauses + length c.args.rel.now ≤ 2 ^ 63 = omega (arith, c.if-more-self.false, c.len-more.ensures.count, c.self.invariant.1.few) in
     let at = c.index_mut.ensures.value in
     let more = c.in_ok-append.ensures.ok in
     let below : AreBelow (length lists) c.args.rel.now = rw (c.self.view_is) c.requires.rel in
     let lists_hold = related lists c.from-i.result _ c.append.new.self c.args.rel.now lt at more c.self.invariant.0 below in
     let count_holds = counted lists c.from-i.result c.self.inside.clauses _ c.append.new.self c.args.rel.now lt at more c.self.invariant.1 low in
-    (lists_hold, subst (IsCount (set lists c.from-i.result c.append.new.self)) (ap (λ n. c.self.inside.clauses + n) (sym c.len-2.ensures.count)) count_holds)
+    (lists_hold, subst (IsCount (set lists c.from-i.result c.append.new.self)) (ap (λ n. c.self.inside.clauses + n) (sym c.len-more.ensures.count)) count_holds)
+
+pub returns-clause-ok : goal.returns-clause-ok
+returns-clause-ok c =
+    let lists = c.self.inside.relations.items in
+    let rel = c.args.rel.now in
+    let lt : c.from-i.result < length lists = omega (arith, c.from-i.ensures, ap length c.self.view_is, c.requires.var) in
+    ap (set lists c.from-i.result) (c.in_ok-append.ensures.ok ∙ ap (λ old. old ++ rel) (get_or_read lists c.from-i.result c.index_mut.result.now lt c.index_mut.ensures.value []))
+    ∙ ap (λ (i : ℕ). set lists i (get_or lists i [] ++ rel)) c.from-i.ensures
+    ∙ ap (λ relations. set relations c.args.var (get_or relations c.args.var [] ++ rel)) c.self.view_is
