@@ -175,29 +175,45 @@ fn search_for(
     Ok(Some(search))
 }
 
-/// Checks steps up to the first empty clause.
+/// Takes the step, and those that are read after it, up to the first that adds the empty clause.
+fn take_steps<R: Source>(
+    buffer: &mut InputBuffer,
+    r: &mut R,
+    checker: &mut Checker,
+    search: &mut Option<Search>,
+    step: &mut Step,
+    variables: usize,
+) -> Result<(), RefutationError>
+    requires { variables ≤ 2 ^ 31 }
+    ensures refuted { OnOk result (¬ IsSatisfiable checker.old) }
+    ensures stream { IsErrOf result RefutationError.Stream → R.failed r.new ≡ true }
+{
+    'steps: while !take_step(checker, search, step)? {
+        if !step.read(buffer, r, variables)? {
+            return Err(RefutationError::Unfinished);
+        }
+    }
+    Ok(())
+}
+
+/// Checks steps up to the first that adds the empty clause.
 fn check_steps<R: Source>(
     alloc: Global,
     buffer: &mut InputBuffer,
     r: &mut R,
     variables: usize,
-    mut checker: Checker,
+    checker: &mut Checker,
 ) -> Result<(), RefutationError>
     requires { variables ≤ 2 ^ 31 }
-    ensures refuted { OnOk result (¬ IsSatisfiable checker) }
+    ensures refuted { OnOk result (¬ IsSatisfiable checker.old) }
     ensures stream { IsErrOf result RefutationError.Stream → R.failed r.new ≡ true }
 {
     let mut step = Step::new(alloc);
     if !step.read(buffer, r, variables)? {
         return Err(RefutationError::Unfinished);
     }
-    let mut search = search_for(alloc, &mut checker, &step)?;
-    'steps: while !take_step(&mut checker, &mut search, &mut step)? {
-        if !step.read(buffer, r, variables)? {
-            return Err(RefutationError::Unfinished);
-        }
-    }
-    Ok(())
+    let mut search = search_for(alloc, checker, &step)?;
+    take_steps(buffer, r, checker, &mut search, &mut step, variables)
 }
 
 /// Checks a proof that clauses can't be satisfied: the text of an LRAT or of a DRAT file, whose
@@ -229,7 +245,7 @@ pub fn check_refutation<R: Source>(
     // Stream only where a read failed in this call.
     ensures stream { IsErrOf result RefutationError.Stream → R.failed r.new ≡ true }
 {
-    let checker = number_clauses(alloc, cnf, further)?;
+    let mut checker = number_clauses(alloc, cnf, further)?;
     let mut buffer = InputBuffer::new();
-    check_steps(alloc, &mut buffer, r, cnf.num_vars(), checker)
+    check_steps(alloc, &mut buffer, r, cnf.num_vars(), &mut checker)
 }

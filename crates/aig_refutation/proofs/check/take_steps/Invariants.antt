@@ -1,6 +1,6 @@
 use Rattle.aig_lexer.specs.Takes.{feed}
 use Rattle.aig_refutation.specs.Formula.{ImpliesAll}
-use Rattle.aig_refutation.proofs.check.check_steps.Given as goal
+use Rattle.aig_refutation.proofs.check.take_steps.Given as goal
 
 abbrev pub invariant-steps : goal.invariant-steps
 invariant-steps g l = ImpliesAll l.fn.checker l.checker
