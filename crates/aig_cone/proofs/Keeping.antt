@@ -1,9 +1,10 @@
 -- What is kept is closed under operands and next edges, and holds all that the lists of the circuit speak of.
-use Rattle.std.proofs.Common.{◌≡◌, ℕ, zero, suc, ◌<◌, ◌≤◌, ◌↔◌, Bool, true, false, cond, Option, Some, None, List, [], ◌∷◌, ◌++◌, length, map, get_or, refl, sym, subst, ◌∙◌, arith, inl, inr}
+use Rattle.std.proofs.Common.{◌≡◌, ℕ, zero, suc, ◌+◌, ◌<◌, ◌≤◌, ◌↔◌, Bool, true, false, cond, Option, Some, None, List, [], ◌∷◌, ◌++◌, length, map, take, get_or, refl, sym, ap, subst, ◌∙◌, arith, append_assoc, append-nil, Vec, Global, inl, inr}
 use Rattle.std.specs.Prelude.{All, Contains, IfSome, option_to_list, ◌==◌}
 use Rattle.std.specs.List.{AllByRecursion, flat_map}
 use Rattle.std.proofs.lemmas.Bool.{cases_lt, eqb-true}
-use Rattle.std.proofs.lemmas.List.{map-append}
+use Rattle.std.proofs.lemmas.List.{map-append, take_more}
+use Rattle.std.proofs.lemmas.List.Concat.{flat_map-append}
 use Rattle.std.proofs.lemmas.List.Elements.{All-append, All-contains, All-contains_itself, All-from_recursion, All-map, All-weaker, Contains-append_left, Contains-append_right, Contains-get_or, recursion_from_All}
 use Rattle.std.proofs.lemmas.Option.{same_Some}
 use Rattle.aig_circuit.specs.declared.edge.AigEdge.{AigEdge}
@@ -174,10 +175,30 @@ module _ (c : Circuit) (kept : List ℕ) (is : IsCircuit c) (are : AreKept c kep
           let less = are.rising 0 (position_of kept 0) 0 low (position_of-within kept 0 S-0) in
           absurd (omega (arith, back 0 S-0))
 
+-- what one more element of a list appends
+pub appended_more : {X Y : Type 0} (F : List X → List Y) (f : X → List Y) → ((xs : List X) (x : X) → F (xs ++ x ∷ []) ≡ F xs ++ f x) → (xs : List X) (i : ℕ) (d : X) (start before after : List Y) → i < length xs → before ≡ start ++ F (take i xs) → after ≡ before ++ f (get_or xs i d) → after ≡ start ++ F (take (i + 1) xs)
+appended_more F f push xs i d start before after h so_far appended =
+    appended ∙ ap (λ ys. ys ++ f (get_or xs i d)) so_far ∙ append_assoc start (F (take i xs)) (f (get_or xs i d))
+    ∙ ap (λ ys. start ++ ys) (sym (push (take i xs) (get_or xs i d)) ∙ ap F (sym (take_more xs i d h)))
+
+pub mapped_more : {X Y : Type 0} (f : X → Y) (xs : List X) (i : ℕ) (d : X) (start before after : List Y) → i < length xs → before ≡ start ++ map f (take i xs) → after ≡ before ++ f (get_or xs i d) ∷ [] → after ≡ start ++ map f (take (i + 1) xs)
+mapped_more f = appended_more (map f) (λ x. f x ∷ []) (λ xs x. map-append f xs (x ∷ []))
+
+flat_map-push : {X Y : Type 0} (f : X → List Y) (xs : List X) (x : X) → flat_map f (xs ++ x ∷ []) ≡ flat_map f xs ++ f x
+flat_map-push f xs x = flat_map-append f xs (x ∷ []) ∙ ap (λ ys. flat_map f xs ++ ys) (append-nil (f x))
+
+-- the nodes of the edges of one set more
+pub set_nodes-push : (sets : List (Vec AigEdge Global)) (set : Vec AigEdge Global) → map (λ (e : AigEdge). e.node_id) (flat_map (λ (s : Vec AigEdge Global). s.items) (sets ++ set ∷ [])) ≡ map (λ (e : AigEdge). e.node_id) (flat_map (λ (s : Vec AigEdge Global). s.items) sets) ++ map (λ (e : AigEdge). e.node_id) set.items
+set_nodes-push sets set = ap (map (λ (e : AigEdge). e.node_id)) (flat_map-push (λ (s : Vec AigEdge Global). s.items) sets set) ∙ map-append (λ (e : AigEdge). e.node_id) (flat_map (λ (s : Vec AigEdge Global). s.items) sets) set.items
+
+-- the nodes of the initial edges of one latch more
+pub starts-push : (latchs : List AigLatch) (latch : AigLatch) → variable_nodes (initial_edges (latchs ++ latch ∷ [])) ≡ variable_nodes (initial_edges latchs) ++ variable_nodes (option_to_list latch.init)
+starts-push latchs latch = ap variable_nodes (flat_map-push (λ (l : AigLatch). option_to_list l.init) latchs latch) ∙ flat_map-append _ (initial_edges latchs) (option_to_list latch.init)
+
 -- list after list the roots are appended
-pub refining_roots-pushed : (c : Circuit) (r0 r1 r2 r3 r4 r5 r6 r7 : List ℕ) → r0 ≡ [] → r1 ≡ r0 ++ map (λ (e : AigEdge). e.node_id) c.properties.outputs → r2 ≡ r1 ++ map (λ (e : AigEdge). e.node_id) c.properties.bads → r3 ≡ r2 ++ map (λ (e : AigEdge). e.node_id) c.properties.constraints
-    → r4 ≡ r3 ++ map (λ (e : AigEdge). e.node_id) (flat_map (λ set. set) c.properties.justice) → r5 ≡ r4 ++ map (λ (e : AigEdge). e.node_id) c.properties.fairness → r6 ≡ r5 ++ latch_leaves c.latchs → r7 ≡ r6 ++ variable_nodes (initial_edges c.latchs) → r7 ≡ refining_roots c
-refining_roots-pushed c r0 r1 r2 r3 r4 r5 r6 r7 e0 e1 e2 e3 e4 e5 e6 e7 = rw (e7, e6, e5, e4, e3, e2, e1, e0) (simp map-append)
+pub refining_roots-pushed : (c : Circuit) (r0 r1 r2 r3 r4 r5 r6 r7 : List ℕ) → r1 ≡ r0 ++ map (λ (e : AigEdge). e.node_id) c.properties.outputs → r2 ≡ r1 ++ map (λ (e : AigEdge). e.node_id) c.properties.bads → r3 ≡ r2 ++ map (λ (e : AigEdge). e.node_id) c.properties.constraints
+    → r4 ≡ r3 ++ map (λ (e : AigEdge). e.node_id) (flat_map (λ set. set) c.properties.justice) → r5 ≡ r4 ++ map (λ (e : AigEdge). e.node_id) c.properties.fairness → r6 ≡ r5 ++ latch_leaves c.latchs → r7 ≡ r6 ++ variable_nodes (initial_edges c.latchs) → r7 ≡ r0 ++ refining_roots c
+refining_roots-pushed c r0 r1 r2 r3 r4 r5 r6 r7 e1 e2 e3 e4 e5 e6 e7 = rw (e7, e6, e5, e4, e3, e2, e1) (simp (map-append, append_assoc))
 
 -- the marked numbers of the cone are what is kept
 pub AreKept-marked : (c : Circuit) (marks : List Bool) (numbers : List ℕ) → AreMarked marks numbers → ((n : ℕ) → IsMarked marks n ↔ IsInCone c (refining_roots c) n) → AreKept c numbers

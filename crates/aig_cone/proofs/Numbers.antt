@@ -1,6 +1,6 @@
 -- The marked numbers, and the map of the kept ones.
 use Rattle.std.proofs.Common.{◌≡◌, ◌≢◌, ℕ, zero, suc, ◌+◌, ◌<◌, ◌≤◌, ◌⊎◌, ◌↔◌, Bool, true, false, cond, nat_cmp, nat_eq, Some, List, [], ◌∷◌, ◌++◌, length, take, get_or, sym, ap, subst, ◌∙◌, arith, inl, inr}
-use Rattle.std.specs.Prelude.{slice_get}
+use Rattle.std.specs.Prelude.{IsTrue, slice_get}
 use Rattle.std.specs.Ordering.{eq_by_cmp}
 use Rattle.std.specs.FinMap.{FinMap, get, insert, get-insert}
 use Rattle.std.proofs.lemmas.Bool.{cases_eq, cases_lt, eq-eqb, false≢true, ne_eqb}
@@ -44,6 +44,31 @@ marked-more marks i n = (forth, back)
         let low : n < i + 1 = omega arith in
         rw get_or-take (subst (IsMarked marks) (sym same) h)
 
+-- one mark more that isn't set
+marked-unset : (marks : List Bool) (i n : ℕ) → get_or marks i false ≡ false → IsMarked (take (i + 1) marks) n ↔ IsMarked (take i marks) n
+marked-unset marks i n unset = (
+  λ m. elim ((marked-more marks i n).0 m) [ inl was ↦ was | inr here ↦ absurd (false≢true (sym unset ∙ here.1)) ],
+  λ m. (marked-more marks i n).1 (inl m),
+)
+
+-- a set that gets the number of a mark that is set
+pub marked-put : (marks : List Bool) (i : ℕ) (had has : ℕ → Bool) → get_or marks i false ≡ true → ((q : ℕ) → has q ≡ cond (nat_eq i q) true (had q)) → ((q : ℕ) → IsTrue (had q) ↔ IsMarked (take i marks) q) → (q : ℕ) → IsTrue (has q) ↔ IsMarked (take (i + 1) marks) q
+marked-put marks i had has is put marked q = elim (cases_eq i q) [
+  | inl e ↦ (λ h. (marked-more marks i q).1 (inr (sym e, is)), λ m. put q ∙ ap (λ b. cond b true (had q)) (eq-eqb i q e))
+  | inr ne ↦
+      (let same : has q ≡ had q = put q ∙ ap (λ b. cond b true (had q)) (ne_eqb i q ne) in (
+        λ h. (marked-more marks i q).1 (inl ((marked q).0 (sym same ∙ h))),
+        λ m. elim ((marked-more marks i q).0 m) [ inl was ↦ same ∙ (marked q).1 was | inr here ↦ absurd (ne (sym here.0)) ],
+      ))
+]
+
+-- a set that stays where a mark isn't set
+pub marked-passed : (marks : List Bool) (i : ℕ) (had : ℕ → Bool) → get_or marks i false ≡ false → ((q : ℕ) → IsTrue (had q) ↔ IsMarked (take i marks) q) → (q : ℕ) → IsTrue (had q) ↔ IsMarked (take (i + 1) marks) q
+marked-passed marks i had unset marked q = (
+  λ h. (marked-unset marks i q unset).1 ((marked q).0 h),
+  λ m. (marked q).1 ((marked-unset marks i q unset).0 m),
+)
+
 pub AreMarked-push : (marks : List Bool) (i : ℕ) (before after : List ℕ) → i < length marks → get_or marks i false ≡ true → after ≡ before ++ i ∷ [] → AreMarked (take i marks) before → AreMarked (take (i + 1) marks) after
 AreMarked-push marks i before after h is pushed are = subst (AreMarked (take (i + 1) marks)) (sym pushed) (record {
   rising = all_pairs_push (λ m n. m < n) before i are.rising (λ k d low.
@@ -64,7 +89,7 @@ AreMarked-skip marks i before after h isnt same are = subst (AreMarked (take (i 
   rising = are.rising;
   exactly = λ n. (
     λ has. (marked-more marks i n).1 (inl ((are.exactly n).0 has)),
-    λ marked. elim ((marked-more marks i n).0 marked) [ inl was ↦ (are.exactly n).1 was | inr here ↦ absurd (false≢true (sym isnt ∙ here.1)) ],
+    λ marked. (are.exactly n).1 ((marked-unset marks i n isnt).0 marked),
   );
 })
 

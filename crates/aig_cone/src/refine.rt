@@ -1,6 +1,6 @@
 //! The circuit of a cone.
 
-ghost use Rattle.std.specs.Prelude.{◌≡◌, ◌<◌, ◌≤◌, ◌^◌, ◌++◌, ℕ, List, All, AllPairs, IfOk, OnOk, length, map};
+ghost use Rattle.std.specs.Prelude.{◌≡◌, ◌<◌, ◌≤◌, ◌^◌, ◌++◌, ℕ, List, All, AllPairs, IfOk, OnOk, length, map, option_to_list};
 ghost use Rattle.std.specs.List.{flat_map};
 ghost use Rattle.aig_circuit.specs.Circuit.{IsCircuit, latch_leaves};
 ghost use Rattle.aig_circuit.specs.Edges.{initial_edges};
@@ -26,16 +26,42 @@ pub fn coi_refine(
         × (lists_circuit made.0 ≡ refined kept circuit.now) × IsMapOf kept made.1) }
 {
     let kept = kept_numbers(alloc, circuit)?;
-    let numbers = places(alloc, &kept, circuit.nodes().len())?;
-    let lists = renumber(alloc, circuit, &numbers, &kept)?;
-    let old_numbers = old_numbers(alloc, &kept)?;
+    kept_part(alloc, circuit, &kept)
+}
+
+/// The circuit of the kept nodes, and the map that gives their old numbers.
+fn kept_part(
+    alloc: Global,
+    circuit: &CircuitView<'_>,
+    kept: &[usize],
+) -> Result<(CircuitLists, VarVMap), MemoryError>
+    requires circuit { IsCircuit circuit.now }
+    requires few { length circuit.now.nodes ≤ 2 ^ 31 }
+    requires kept { AreKept circuit.now kept.now }
+    ensures { IfOk result (λ made. (lists_circuit made.0 ≡ refined kept.now circuit.now)
+        × IsMapOf kept.now made.1) }
+{
+    let old_numbers = old_numbers(alloc, kept)?;
+    let lists = kept_lists(alloc, circuit, kept)?;
     Ok((lists, old_numbers))
+}
+
+/// The circuit of the kept nodes.
+fn kept_lists(
+    alloc: Global,
+    circuit: &CircuitView<'_>,
+    kept: &[usize],
+) -> Result<CircuitLists, MemoryError>
+    requires { AreKept circuit.now kept.now }
+    ensures { IfOk result (λ lists. lists_circuit lists ≡ refined kept.now circuit.now) }
+{
+    let numbers = places(alloc, kept, circuit.nodes().len())?;
+    renumber(alloc, circuit, &numbers, kept)
 }
 
 /// The numbers of the nodes that are kept, in rising order.
 fn kept_numbers(alloc: Global, circuit: &CircuitView<'_>) -> Result<Vec<usize>, MemoryError>
-    ensures kept { IfOk result (λ kept. AreKept circuit.now kept.items) }
-    ensures circuit { IsCircuit circuit.now }
+    ensures { IfOk result (λ kept. IsCircuit circuit.now × AreKept circuit.now kept.items) }
 {
     let roots = roots(alloc, circuit)?;
     let marks = cone_marks(alloc, circuit, &roots)?;
@@ -44,18 +70,26 @@ fn kept_numbers(alloc: Global, circuit: &CircuitView<'_>) -> Result<Vec<usize>, 
 
 /// The nodes of all properties, the leaves of all latches, and the nodes of the initial edges that aren't constant.
 fn roots(alloc: Global, circuit: &CircuitView<'_>) -> Result<Vec<usize>, MemoryError>
-    ensures roots { IfOk result (λ roots. roots.items ≡ refining_roots circuit.now) }
-    ensures circuit { IsCircuit circuit.now }
+    ensures { IfOk result (λ roots. IsCircuit circuit.now
+        × (roots.items ≡ refining_roots circuit.now)) }
 {
     let mut roots = Vec::new(alloc);
-    push_nodes(&mut roots, circuit.outputs())?;
-    push_nodes(&mut roots, circuit.bads())?;
-    push_nodes(&mut roots, circuit.constraints())?;
-    push_sets(&mut roots, circuit.justice())?;
-    push_nodes(&mut roots, circuit.fairness())?;
-    push_leaves(&mut roots, circuit.latchs())?;
-    push_starts(&mut roots, circuit.latchs())?;
+    push_roots(&mut roots, circuit)?;
     Ok(roots)
+}
+
+/// Appends these nodes.
+fn push_roots(roots: &mut Vec<usize>, circuit: &CircuitView<'_>) -> Result<(), MemoryError>
+    ensures { OnOk result (IsCircuit circuit.now
+        × (roots.new.items ≡ roots.old.items ++ refining_roots circuit.now)) }
+{
+    push_nodes(roots, circuit.outputs())?;
+    push_nodes(roots, circuit.bads())?;
+    push_nodes(roots, circuit.constraints())?;
+    push_sets(roots, circuit.justice())?;
+    push_nodes(roots, circuit.fairness())?;
+    push_leaves(roots, circuit.latchs())?;
+    push_starts(roots, circuit.latchs())
 }
 
 /// Appends the nodes of edges.
@@ -95,11 +129,20 @@ fn push_starts(roots: &mut Vec<usize>, latchs: &[AigLatch]) -> Result<(), Memory
         ≡ roots.old.items ++ variable_nodes (initial_edges latchs.now)) }
 {
     for latch in latchs {
-        if let Some(e) = latch.init()
-            && !e.is_const()
-        {
-            roots.push(e.node_id())?;
-        }
+        push_start(roots, latch.init())?;
+    }
+    Ok(())
+}
+
+/// Appends the node of an initial edge, if it is there and isn't constant.
+fn push_start(roots: &mut Vec<usize>, start: Option<AigEdge>) -> Result<(), MemoryError>
+    ensures { OnOk result (roots.new.items
+        ≡ roots.old.items ++ variable_nodes (option_to_list start)) }
+{
+    if let Some(e) = start
+        && !e.is_const()
+    {
+        roots.push(e.node_id())?;
     }
     Ok(())
 }
