@@ -1,12 +1,14 @@
 -- Marks that are set, and the marks of what is reached along operands.
-use Rattle.std.proofs.Common.{◌≡◌, ℕ, ◌+◌, ◌<◌, ◌≤◌, ◌⊎◌, ◌↔◌, Bool, true, List, [], ◌∷◌, ◌++◌, length, take, get_or, set, get_or-set_other, get_or-set_same, sym, ap, subst, ◌∙◌, arith, inl, inr}
+use Rattle.std.proofs.Common.{◌≡◌, ℕ, zero, suc, ◌+◌, ◌<◌, ◌≤◌, ◌⊎◌, ◌↔◌, Bool, true, false, Some, List, [], ◌∷◌, ◌++◌, length, take, get_or, set, get_or-set_other, get_or-set_same, length-set, replicate, sym, ap, subst, ◌∙◌, arith, inl, inr}
 use Rattle.std.specs.Prelude.{Contains}
-use Rattle.std.proofs.lemmas.Bool.{cases_eq, cases_lt}
+use Rattle.std.proofs.lemmas.Bool.{cases_eq, cases_lt, false≢true}
 use Rattle.std.proofs.lemmas.List.{take_more}
 use Rattle.std.proofs.lemmas.List.Elements.{Contains-append_left, Contains-push, Contains-push_cases}
+use Rattle.std.proofs.lemmas.Option.{same_Some}
+use Rattle.aig_circuit.specs.declared.edge.AigEdge.{AigEdge}
 use Rattle.aig_circuit.specs.declared.node.AigNodeType.TheVariants.{And}
 use Rattle.aig_circuit.specs.declared.node.AigNode.{AigNode}
-use Rattle.aig_circuit.specs.Node.{IsOrdered}
+use Rattle.aig_circuit.specs.Node.{IsOrdered, kind_at}
 use Rattle.aig_circuit.specs.Reach.{IsFanin, IsReached, root, step}
 use Rattle.aig_circuit.proofs.Trees.{kind_at-within}
 use Rattle.aig_circuit.specs.Marks.{IsMarked}
@@ -39,6 +41,30 @@ AddsMarks-same P Q a b same p n = (
 
 pub AddsMarks-none : (P : ℕ → Type 0) (a : List Bool) → ((n : ℕ) → ¬ P n) → AddsMarks a a P
 AddsMarks-none P a none n = (λ m. inl m, λ m. elim m [ inl old ↦ old | inr h ↦ absurd (none n h) ])
+
+-- nothing is marked to begin with
+pub none_marked : (count n : ℕ) → ¬ IsMarked (replicate count false) n
+none_marked zero n h = false≢true h
+none_marked (suc count) zero h = false≢true h
+none_marked (suc count) (suc n) h = none_marked count n h
+
+-- the operands of a gate are the nodes of its two edges
+pub operands_of : (nodes : List AigNode) (n : ℕ) (a b : AigEdge) → kind_at nodes n ≡ Some (And a b) → (k : ℕ) → ((k ≡ a.node_id) ⊎ (k ≡ b.node_id)) ↔ IsFanin nodes n k
+operands_of nodes n a b gate k = ((λ e. (a, b, gate, e)), back)
+  where
+    back : IsFanin nodes n k → (k ≡ a.node_id) ⊎ (k ≡ b.node_id)
+    back (x, y, kind, inl e) = let same = same_Some _ _ (sym kind ∙ gate) in inl (cc)
+    back (x, y, kind, inr e) = let same = same_Some _ _ (sym kind ∙ gate) in inr (cc)
+
+-- the operands of a marked gate
+pub AddsMarks-operands : (nodes : List AigNode) (marks : List Bool) (n : ℕ) (a b : AigEdge) → kind_at nodes n ≡ Some (And a b) → IsMarked marks n → a.node_id < length marks → b.node_id < length marks
+    → AddsMarks marks (set (set marks a.node_id true) b.node_id true) (λ k. IsMarked marks n × IsFanin nodes n k)
+AddsMarks-operands nodes marks n a b gate is low_a low_b =
+    let one = set marks a.node_id true in
+    AddsMarks-same (λ k. (k ≡ a.node_id) ⊎ (k ≡ b.node_id)) (λ k. IsMarked marks n × IsFanin nodes n k) marks (set one b.node_id true)
+    (λ k. ((λ which. (is, (operands_of nodes n a b gate k).0 which)), λ both. (operands_of nodes n a b gate k).1 both.1))
+    (AddsMarks-then (λ k. k ≡ a.node_id) (λ k. k ≡ b.node_id) marks one (set one b.node_id true)
+    (AddsMarks-set marks a.node_id low_a) (AddsMarks-set one b.node_id (omega (arith, length-set marks a.node_id true))))
 
 -- a list with one number more
 pub Contains-one_more : (xs : List ℕ) (x n : ℕ) → (Contains xs n ⊎ (n ≡ x)) ↔ Contains (xs ++ x ∷ []) n

@@ -17,7 +17,7 @@ use Rattle.aig_circuit.specs.Reach.{DependsOn, IsInCone, IsLatchNext, IsFanin, I
 use Rattle.aig_circuit.proofs.Trees.{kind_at-within}
 use Rattle.aig_circuit.specs.Marks.{IsMarked}
 use Rattle.aig_cone.specs.Marks.{AreNextStates, Visits}
-use Rattle.aig_cone.proofs.Marking.{AddsMarks-none, AddsMarks-same, AddsMarks-set, AddsMarks-then}
+use Rattle.aig_cone.proofs.Marking.{AddsMarks-none, AddsMarks-same, AddsMarks-set, AddsMarks-then, operands_of}
 
 -- ---- visits
 
@@ -72,12 +72,8 @@ Visits-same P Q a b s t same p = record {
 -- the operands of a gate
 pub Visits-operands : (nodes : List AigNode) (n : ℕ) (a b : AigEdge) (m0 m1 m2 : List Bool) (s0 s1 s2 : List ℕ) → kind_at nodes n ≡ Some (And a b) → Visits m0 m1 s0 s1 (λ k. k ≡ a.node_id) → Visits m1 m2 s1 s2 (λ k. k ≡ b.node_id) → Visits m0 m2 s0 s2 (IsFanin nodes n)
 Visits-operands nodes n a b m0 m1 m2 s0 s1 s2 gate first second =
-    Visits-same (λ k. (k ≡ a.node_id) ⊎ (k ≡ b.node_id)) (IsFanin nodes n) m0 m2 s0 s2 (λ k. ((λ e. (a, b, gate, e)), back k))
+    Visits-same (λ k. (k ≡ a.node_id) ⊎ (k ≡ b.node_id)) (IsFanin nodes n) m0 m2 s0 s2 (operands_of nodes n a b gate)
     (Visits-then (λ k. k ≡ a.node_id) (λ k. k ≡ b.node_id) m0 m1 m2 s0 s1 s2 first second)
-  where
-    back : (k : ℕ) → IsFanin nodes n k → (k ≡ a.node_id) ⊎ (k ≡ b.node_id)
-    back k (x, y, kind, inl e) = let same = same_Some _ _ (sym kind ∙ gate) in inl (cc)
-    back k (x, y, kind, inr e) = let same = same_Some _ _ (sym kind ∙ gate) in inr (cc)
 
 -- what isn't a gate has no operands
 pub Visits-no_operands : (nodes : List AigNode) (n : ℕ) (marks : List Bool) (stack : List ℕ) → ((a b : AigEdge) → kind_at nodes n ≢ Some (And a b)) → Visits marks marks stack stack (IsFanin nodes n)
