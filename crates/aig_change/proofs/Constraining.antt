@@ -3,8 +3,8 @@ use Rattle.std.proofs.Common.{◌≡◌, ◌≢◌, ◌↔◌, ℕ, zero, suc, �
 use Rattle.std.specs.Prelude.{All, Contains, IfSome, IsTrue}
 use Rattle.std.specs.List.{AllZip}
 use Rattle.std.proofs.lemmas.Bool.{eq-eqb, ne_eqb}
-use Rattle.std.proofs.lemmas.List.{take_more}
-use Rattle.std.proofs.lemmas.List.Elements.{All-append, All-filter, All-map, All-push, filter-append}
+use Rattle.std.proofs.lemmas.List.{take_at, take_more}
+use Rattle.std.proofs.lemmas.List.Elements.{All-append, All-nil, All-filter, All-map, All-push, filter-append}
 use Rattle.aig_circuit.specs.declared.edge.AigEdge.{AigEdge}
 use Rattle.aig_circuit.specs.declared.node.AigNode.{AigNode}
 use Rattle.aig_circuit.specs.declared.node.AigNodeType.TheVariants.{False, Leaf}
@@ -103,6 +103,21 @@ constrained_one old one two first equal implied not_first leaf_edge start latch 
           λ all holds. subst (λ (o : Option AigEdge). IfSome o (λ e. e.node_id ≢ 0 → edge_value old x e ≡ x latch.input)) (sym init_is) (λ other. both.0 (sym (implied_is x) ∙ all 0 implied (omega arith)) holds),
           λ opens. All-one (λ e. IsTrue (edge_value two x e)) implied (implied_is x ∙ both.1 (λ holds. subst (λ (o : Option AigEdge). IfSome o (λ e. e.node_id ≢ 0 → edge_value old x e ≡ x latch.input)) init_is (opens holds) differs)),
         )
+
+-- no constraint for no latch
+pub Constrains-none : (nodes : List AigNode) (first : AigEdge) (before : List AigEdge) → Constrains nodes nodes first [] before before
+Constrains-none nodes first before = record {
+  constrained = [];
+  appended = sym (append-nil before);
+  there = All-nil (IsInRange nodes);
+  says = λ x. ((λ all holds. All-nil (MeetsInit nodes x)), λ opens. All-nil (λ e. IsTrue (edge_value nodes x e)));
+  each = tt;
+  steps = refl;
+}
+
+-- what is appended leaves what was there
+pub first_kept : (before after added : List AigEdge) → after ≡ before ++ added → take (length before) after ≡ before
+first_kept before after added appended = ap (take (length before)) appended ∙ take_at before added (length before) refl
 
 -- the constraints of one latch more
 pub Constrains-push : (old mid new : List AigNode) (first : AigEdge) (latchs : List AigLatch) (latch : AigLatch) (before between after : List AigEdge)

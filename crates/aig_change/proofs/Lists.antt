@@ -1,5 +1,6 @@
 -- One list after another.
-use Rattle.std.proofs.Common.{◌≡◌, ℕ, zero, suc, ◌+◌, ◌<◌, Bool, ◌&&◌, List, [], ◌∷◌, ◌++◌, length, refl, ap, ◌∙◌, arith}
+use Rattle.std.proofs.Common.{◌≡◌, ℕ, zero, suc, ◌+◌, ◌<◌, ◌≤◌, Bool, ◌&&◌, List, [], ◌∷◌, ◌++◌, length, map, take, get_or, refl, sym, ap, ◌∙◌, arith, append_assoc, Vec, Global}
+use Rattle.std.proofs.lemmas.List.{map-append, map_more, take_all}
 use Rattle.std.specs.Prelude.{All, slice_get}
 use Rattle.std.specs.List.{AllZip, list_all}
 
@@ -38,3 +39,22 @@ AllZip-append R [] [] us vs zip more = more
 AllZip-append R [] (y ∷ ys) us vs zip more = elim zip [ ]
 AllZip-append R (x ∷ xs) [] us vs zip more = elim zip [ ]
 AllZip-append R (x ∷ xs) (y ∷ ys) us vs zip more = (zip.0, AllZip-append R xs ys us vs zip.1 more)
+
+-- one entry more that is pushed under its map
+pub mapped_more : {X Y : Type 0} (f : X → Y) (xs : List X) (i : ℕ) (d : X) (start before after : List Y) → i < length xs → before ≡ start ++ map f (take i xs) → after ≡ before ++ f (get_or xs i d) ∷ [] → after ≡ start ++ map f (take (i + 1) xs)
+mapped_more f xs i d start before after h so_far pushed =
+    pushed ∙ ap (λ ys. ys ++ f (get_or xs i d) ∷ []) so_far ∙ append_assoc start (map f (take i xs)) (f (get_or xs i d) ∷ []) ∙ ap (λ ys. start ++ ys) (sym (map_more f xs i d h))
+
+-- and once all are pushed
+pub mapped_all : {X Y : Type 0} (f : X → Y) (xs : List X) (i : ℕ) (start made : List Y) → length xs ≤ i → made ≡ start ++ map f (take i xs) → made ≡ start ++ map f xs
+mapped_all f xs i start made h so_far = so_far ∙ ap (λ ys. start ++ map f ys) (take_all i xs h)
+
+-- one set more whose entries are those of the next set under a map
+pub pushed_set : {E : Type 0} (f : List E → List E) (sets : List (Vec E Global)) (i : ℕ) (d made : Vec E Global) (start before after : List (Vec E Global)) → i < length sets → map (λ set. set.items) before ≡ map (λ set. set.items) start ++ map f (map (λ set. set.items) (take i sets)) → made.items ≡ f (get_or sets i d).items → after ≡ before ++ made ∷ []
+    → map (λ set. set.items) after ≡ map (λ set. set.items) start ++ map f (map (λ set. set.items) (take (i + 1) sets))
+pushed_set {E} f sets i d made start before after h so_far made_is pushed =
+    let items = λ (set : Vec E Global). set.items in
+    let more : map f (map items (take (i + 1) sets)) ≡ map f (map items (take i sets)) ++ f (get_or sets i d).items ∷ [] = ap (map f) (map_more items sets i d h) ∙ map-append f (map items (take i sets)) ((get_or sets i d).items ∷ []) in
+    ap (map items) pushed ∙ map-append items before (made ∷ [])
+    ∙ ap (λ es. map items before ++ es ∷ []) made_is ∙ ap (λ ys. ys ++ f (get_or sets i d).items ∷ []) so_far
+    ∙ append_assoc (map items start) (map f (map items (take i sets))) (f (get_or sets i d).items ∷ []) ∙ ap (λ ys. map items start ++ ys) (sym more)

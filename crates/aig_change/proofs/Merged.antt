@@ -11,9 +11,9 @@ use Rattle.aig_circuit.specs.declared.node.AigLatch.{AigLatch}
 use Rattle.aig_circuit.specs.Edge.{inverted_if}
 use Rattle.aig_circuit.specs.Tree.{edge_value}
 use Rattle.aig_circuit.specs.Circuit.{Circuit, IsCircuit, IsInRange, IsLatch, IsLeaf, latch_leaves, only_false}
-use Rattle.aig_circuit.specs.Properties.{AllProperties, append_properties, map_properties}
+use Rattle.aig_circuit.specs.Properties.{AllProperties, Properties, append_properties, map_properties}
 use Rattle.aig_circuit.specs.Runs.{IsRun, IsInitial}
-use Rattle.aig_circuit.specs.Renumber.{renumbered_edge, renumbered_latch}
+use Rattle.aig_circuit.specs.Renumber.{nodes_in_order, renumbered_edge, renumbered_latch}
 use Rattle.aig_circuit.proofs.Building.{Grows-kept, Grows-longer, edge_value-Grows}
 use Rattle.aig_circuit.proofs.Circuits.{AllPairs-append, init_grown, latch_leaves-leaves}
 use Rattle.aig_circuit.proofs.Listed.{AllProperties-append, AllProperties-map, AllProperties-weaker}
@@ -21,8 +21,9 @@ use Rattle.aig_circuit.proofs.Trees.{kind_at-within}
 use Rattle.aig_renumber.proofs.Circuits.{latch_leaves-map}
 use Rattle.aig_renumber.proofs.Places.{AllPairs-map_numbers, Contains-map_back}
 use Rattle.aig_circuit.proofs.Values.{edge_value-renumbered}
-use Rattle.aig_change.specs.Merge.{PairsRuns, merged, shifted}
+use Rattle.aig_change.specs.Merge.{PairsRuns, merged, numbers_but_0, shifted}
 use Rattle.aig_circuit.proofs.Lists.{All-first, All-second, AllZip-map, All-from_map}
+use Rattle.aig_change.proofs.Grown.{IsLatch-grown}
 use Rattle.aig_change.proofs.Lists.{AllZip-itself}
 use Rattle.aig_change.proofs.Merging.{AreNodes-joint, Grows-joint, IsOrdered-joint, Renumbers-joint, joint, kind-number, leaf-past, shifted-apart, shifted-back, shifted-past, shifted-within}
 use Rattle.aig_change.proofs.Values.{node_value-past}
@@ -43,7 +44,7 @@ module _ (first second : Circuit) (is : IsCircuit first) (other : IsCircuit seco
   leaf_kept n leaf = Grows-kept first.nodes new (Grows-joint first.nodes second.nodes is.nodes other.nodes) n (kind_at-within first.nodes n Leaf leaf) ∙ leaf
 
   latch_kept : (latch : AigLatch) → IsLatch first.nodes latch → IsLatch new latch
-  latch_kept latch h = record { leaf = leaf_kept latch.input h.leaf; next = let low = h.next in omega (arith, longer); init = init_grown first.nodes new latch.init longer h.init }
+  latch_kept latch h = IsLatch-grown first.nodes new latch (Grows-joint first.nodes second.nodes is.nodes other.nodes) h
 
   -- ---- the second circuit's entries
 
@@ -237,3 +238,13 @@ merged-only_false c =
     let r = append-nil c.properties.justice in
     let s = append-nil c.properties.fairness in
     λ i. record c { nodes = a i; inputs = b i; latchs = l i; properties = record { outputs = o i; bads = p i; constraints = q i; justice = r i; fairness = s i } }
+
+-- what is made over the lists of the first circuit
+pub merged_over : (lists first second : Circuit) → lists ≡ first → (count : ℕ) → count ≡ length first.nodes → (nodes : List AigNode) (inputs : List ℕ) (latchs : List AigLatch) (properties : Properties AigEdge)
+    → nodes ≡ lists.nodes ++ nodes_in_order second.nodes (shifted (length lists.nodes)) (length lists.nodes) (numbers_but_0 second.nodes)
+    → inputs ≡ lists.inputs ++ map (shifted count) second.inputs → latchs ≡ lists.latchs ++ map (renumbered_latch (shifted count)) second.latchs
+    → properties ≡ append_properties lists.properties (map_properties (renumbered_edge (shifted count)) second.properties)
+    → record lists { nodes = nodes; inputs = inputs; latchs = latchs; properties = properties } ≡ merged first second
+merged_over lists first second same count count_is nodes inputs latchs properties nodes_are inputs_are latchs_are properties_are =
+    let here : count ≡ length lists.nodes = count_is ∙ ap (λ (c : Circuit). length c.nodes) (sym same) in
+    rw (nodes_are, inputs_are, latchs_are, properties_are, here) (ap (λ c. merged c second) same)

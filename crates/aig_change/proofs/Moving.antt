@@ -107,16 +107,15 @@ module _ (old : Circuit) (is : IsCircuit old) (one two three four : List AigNode
 pub All-grown : (xs ys : List AigNode) (es : List AigEdge) → Grows xs ys → All (IsInRange xs) es → All (IsInRange ys) es
 All-grown xs ys es grows all k d h = let low = all k d h in omega (arith, Grows-longer xs ys grows)
 
--- what is built over a copy of the old circuit's lists
-pub moved_copy : (old lists : Circuit) → lists ≡ old → IsCircuit old → (zero one two three four : List AigNode) (id : ℕ) (leaf_edge constraint next : AigEdge) (latch : AigLatch) (latchs : List AigLatch) (bads outputs constraints : List AigEdge)
+-- what is built over the lists of a circuit
+pub moved_lists : (lists : Circuit) → IsCircuit lists → (zero one two three four : List AigNode) (id : ℕ) (leaf_edge constraint next : AigEdge) (latch : AigLatch) (latchs : List AigLatch) (bads outputs constraints : List AigEdge)
     → id ≡ length lists.nodes → zero ≡ with_node lists.nodes Leaf → AddsGates zero one → FoldsOrAddsAll zero lists.properties.constraints one constraint → JoinsByAnd zero one lists.properties.constraints constraint → leaf_edge ≡ edge_to id false
     → AddsGates one two → FoldsOrAdds one two leaf_edge constraint next → IsInRange two next → ((x : ℕ → Bool) → edge_value two x next ≡ (edge_value one x leaf_edge && edge_value one x constraint))
     → AddsGates two three → JoinsFirst two three next lists.properties.bads bads → AddsGates three four → JoinsFirst three four next lists.properties.outputs outputs
     → latch ≡ constraints_held_latch id next → latchs ≡ lists.latchs ++ latch ∷ [] → constraints ≡ []
     → IsCircuit (record lists { nodes = four; latchs = latchs; properties = record lists.properties { outputs = outputs; bads = bads; constraints = constraints } })
-    × FoldsConstraints old (record lists { nodes = four; latchs = latchs; properties = record lists.properties { outputs = outputs; bads = bads; constraints = constraints } })
-moved_copy old lists same is zero one two three four id leaf_edge constraint next latch latchs bads outputs constraints leaf_is zero_is first joins_rule joins edge_is second rule there value third joins_bads fourth joins_outputs latch_is latchs_are none =
-    let was : IsCircuit lists = subst IsCircuit (sym same) is in
+    × FoldsConstraints lists (record lists { nodes = four; latchs = latchs; properties = record lists.properties { outputs = outputs; bads = bads; constraints = constraints } })
+moved_lists lists was zero one two three four id leaf_edge constraint next latch latchs bads outputs constraints leaf_is zero_is first joins_rule joins edge_is second rule there value third joins_bads fourth joins_outputs latch_is latchs_are none =
     let builds : JoinsInSteps lists one two three four constraint next bads outputs = record {
       first = subst (λ z. AddsGates z one) zero_is first;
       joins_rule = subst (λ z. FoldsOrAddsAll z lists.properties.constraints one constraint) zero_is joins_rule;
@@ -136,5 +135,5 @@ moved_copy old lists same is zero one two three four id leaf_edge constraint nex
     ∙ ap (λ es. record lists { nodes = four; latchs = latchs; properties = record lists.properties { outputs = outputs; bads = bads; constraints = es } }) (sym none) in
     let moves = FoldsConstraints-built lists was one two three four constraint next bads outputs builds in (
       subst IsCircuit result (IsCircuit-built lists was one two three four constraint next bads outputs builds),
-      subst (λ c. FoldsConstraints c (record lists { nodes = four; latchs = latchs; properties = record lists.properties { outputs = outputs; bads = bads; constraints = constraints } })) same (subst (FoldsConstraints lists) result moves),
+      subst (FoldsConstraints lists) result moves,
     )

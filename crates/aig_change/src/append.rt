@@ -1,15 +1,16 @@
 //! The entries of one circuit after those of another.
 
-ghost use Rattle.std.specs.Prelude.{◌≡◌, ◌+◌, ◌<◌, ◌≤◌, ◌^◌, ◌++◌, IfOk, All, length, map, vec_len, vec_capacity};
+ghost use Rattle.std.specs.Prelude.{◌≡◌, ◌+◌, ◌<◌, ◌≤◌, ◌^◌, ◌++◌, IfOk, OnErr, OnOk, All, length, map, vec_len, vec_capacity};
 ghost use Rattle.aig_circuit.specs.Circuit.{AreNodes};
 ghost use Rattle.aig_circuit.specs.Renumber.{nodes_in_order, renumbered_edge, renumbered_latch};
-ghost use Rattle.aig_circuit.specs.View.{lists_circuit};
+ghost use Rattle.aig_circuit.specs.Properties.{append_properties, map_properties};
+ghost use Rattle.aig_circuit.specs.View.{HasRoomFor, lists_circuit, properties_of};
 ghost use Rattle.aig_renumber.specs.Numbers.{IsEdgeIn, IsLatchIn};
 ghost use Rattle.aig_change.specs.Append.{HasRoomForCircuit};
 ghost use Rattle.aig_change.specs.Merge.{numbers_but_0, shifted};
 
 use aig_base::MemoryError;
-use aig_circuit::{AigEdge, AigLatch, AigNode, CircuitLists, CircuitView};
+use aig_circuit::{AigEdge, AigLatch, AigNode, CircuitLists, CircuitView, Properties};
 use aig_renumber::{Numbering, renumbered_edge, renumbered_latch, renumbered_node};
 use std::alloc::Global;
 
@@ -41,8 +42,7 @@ pub(crate) fn reserve(lists: &mut CircuitLists, other: &CircuitView<'_>) -> Resu
     lists.nodes.reserve(other.nodes().len())?;
     lists.inputs.reserve(other.inputs().len())?;
     lists.latchs.reserve(other.latchs().len())?;
-    lists.properties.reserve(other.properties())?;
-    Ok(())
+    lists.properties.reserve(other.properties())
 }
 
 /// Appends inputs, for which there is room.
@@ -68,25 +68,77 @@ pub(crate) fn edges(all: &mut Vec<AigEdge>, numbers: &After, added: &[AigEdge])
     }
 }
 
-/// The sets with the edges under their new numbers.
+/// Appends sets with their edges under the new numbers. After an `Err` none is appended.
 pub(crate) fn sets(
+    all: &mut Vec<Vec<AigEdge>>,
+    numbers: &After,
+    added: &[Vec<AigEdge>],
+) -> Result<(), MemoryError>
+    requires { All (All (IsEdgeIn (λ n. n < numbers.now.size)))
+        (map (λ set. set.items) added.now) }
+    ensures ok { OnOk result (map (λ set. set.items) all.new.items
+        ≡ map (λ set. set.items) all.old.items
+        ++ map (map (renumbered_edge (shifted numbers.now.count)))
+        (map (λ set. set.items) added.now)) }
+    ensures err { OnErr result (all.new.items ≡ all.old.items) }
+{
+    let mut moved = Vec::with_capacity(*all.allocator(), added.len())?;
+    push_sets(&mut moved, numbers, added)?;
+    all.append(&mut moved)?;
+    Ok(())
+}
+
+/// Pushes the sets with their edges under the new numbers. After an `Err` some may be pushed.
+fn push_sets(
+    all: &mut Vec<Vec<AigEdge>>,
+    numbers: &After,
+    added: &[Vec<AigEdge>],
+) -> Result<(), MemoryError>
+    requires { All (All (IsEdgeIn (λ n. n < numbers.now.size)))
+        (map (λ set. set.items) added.now) }
+    ensures { OnOk result (map (λ set. set.items) all.new.items
+        ≡ map (λ set. set.items) all.old.items
+        ++ map (map (renumbered_edge (shifted numbers.now.count)))
+        (map (λ set. set.items) added.now)) }
+{
+    for set in added {
+        let moved = moved_set(*all.allocator(), numbers, set)?;
+        all.push(moved)?;
+    }
+    Ok(())
+}
+
+/// The edges under their new numbers.
+fn moved_set(
     alloc: Global,
     numbers: &After,
-    old: &[Vec<AigEdge>],
-) -> Result<Vec<Vec<AigEdge>>, MemoryError>
-    requires { All (All (IsEdgeIn (λ n. n < numbers.now.size)))
-        (map (λ set. set.items) old.now) }
-    ensures { IfOk result (λ new. map (λ set. set.items) new.items
-        ≡ map (map (renumbered_edge (shifted numbers.now.count)))
-        (map (λ set. set.items) old.now)) }
+    set: &[AigEdge],
+) -> Result<Vec<AigEdge>, MemoryError>
+    requires { All (IsEdgeIn (λ n. n < numbers.now.size)) set.now }
+    ensures { IfOk result (λ moved. moved.items
+        ≡ map (renumbered_edge (shifted numbers.now.count)) set.now) }
 {
-    let mut new = Vec::with_capacity(alloc, old.len())?;
-    for set in old {
-        let mut moved = Vec::with_capacity(alloc, set.len())?;
-        edges(&mut moved, numbers, set);
-        new.push(moved)?;
-    }
-    Ok(new)
+    let mut moved = Vec::with_capacity(alloc, set.len())?;
+    edges(&mut moved, numbers, set);
+    Ok(moved)
+}
+
+/// Appends the edges of the other circuit's properties but justice, for which there is room.
+pub(crate) fn properties(
+    all: &mut Properties<AigEdge>,
+    numbers: &After,
+    other: &CircuitView<'_>,
+)
+    requires size { numbers.now.size ≡ length other.now.nodes }
+    requires room { HasRoomFor all.old other.now.properties }
+    ensures { properties_of all.new ≡ record (append_properties (properties_of all.old)
+        (map_properties (renumbered_edge (shifted numbers.now.count)) other.now.properties))
+        { justice = (properties_of all.old).justice } }
+{
+    edges(&mut all.outputs, numbers, other.outputs());
+    edges(&mut all.bads, numbers, other.bads());
+    edges(&mut all.constraints, numbers, other.constraints());
+    edges(&mut all.fairness, numbers, other.fairness());
 }
 
 /// Appends latches, for which there is room.

@@ -29,20 +29,12 @@ pub fn merge(first: &mut CircuitLists, other: &CircuitView<'_>) -> Result<(), Me
         count: first.nodes.len(),
         size: other.nodes().len(),
     };
-    let mut justice = append::sets(other.allocator(), &numbers, other.justice())?;
     append::reserve(first, other)?;
-    first.properties.justice.append(&mut justice)?;
+    append::sets(&mut first.properties.justice, &numbers, other.justice())?;
     append::nodes(&mut first.nodes, other.nodes());
     append::inputs(&mut first.inputs, &numbers, other.inputs());
     append::latchs(&mut first.latchs, &numbers, other.latchs());
-    append::edges(&mut first.properties.outputs, &numbers, other.outputs());
-    append::edges(&mut first.properties.bads, &numbers, other.bads());
-    append::edges(
-        &mut first.properties.constraints,
-        &numbers,
-        other.constraints(),
-    );
-    append::edges(&mut first.properties.fairness, &numbers, other.fairness());
+    append::properties(&mut first.properties, &numbers, other);
     Ok(())
 }
 
@@ -53,8 +45,19 @@ pub fn aig_move(circuit: &CircuitView<'_>) -> Result<CircuitLists, MemoryError>
     ensures circuit { IfOk result (λ lists. IsCircuit (lists_circuit lists)) }
     ensures moves { IfOk result (λ lists. FoldsConstraints circuit.now (lists_circuit lists)) }
 {
-    let constraints = circuit.constraints();
     let mut lists = circuit.to_lists()?;
+    fold_constraints(&mut lists, circuit.constraints())?;
+    Ok(lists)
+}
+
+/// Joins the constraints, which are those of the lists, to the first bad and the first output edge, and leaves none. After
+/// refused memory part of it may be done.
+fn fold_constraints(lists: &mut CircuitLists, constraints: &[AigEdge]) -> Result<(), MemoryError>
+    requires circuit { IsCircuit (lists_circuit lists.old) }
+    requires constraints { constraints.now ≡ (lists_circuit lists.old).properties.constraints }
+    ensures { IfOk result (λ _. IsCircuit (lists_circuit lists.new)
+        × FoldsConstraints (lists_circuit lists.old) (lists_circuit lists.new)) }
+{
     let leaf = new_leaf_node(&mut lists.nodes)?;
     let constraint = new_ands_node(&mut lists.nodes, constraints)?;
     let next = new_and_node(&mut lists.nodes, AigEdge::from(leaf), constraint)?;
@@ -64,7 +67,7 @@ pub fn aig_move(circuit: &CircuitView<'_>) -> Result<CircuitLists, MemoryError>
     join_first(&mut lists.nodes, &mut lists.properties.bads, next)?;
     join_first(&mut lists.nodes, &mut lists.properties.outputs, next)?;
     lists.properties.constraints.clear();
-    Ok(lists)
+    Ok(())
 }
 
 /// Makes one bad edge of all, their or, and returns the old ones in order (crate aig, `compress_property`). After an

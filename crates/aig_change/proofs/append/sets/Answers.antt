@@ -1,8 +1,16 @@
-use Rattle.std.proofs.Common.{◌<◌}
-use Rattle.std.specs.Prelude.{All}
-use Rattle.aig_renumber.specs.Numbers.{IsEdgeIn}
-use Rattle.aig_renumber.proofs.Sets.{set_among}
+use Rattle.std.proofs.Common.{Vec, Global, List, ◌++◌, ◌∙◌, ap, map}
+use Rattle.std.proofs.lemmas.List.{map-append}
+use Rattle.aig_circuit.specs.declared.edge.AigEdge.{AigEdge}
+use Rattle.aig_circuit.specs.Renumber.{renumbered_edge}
+use Rattle.aig_change.specs.Merge.{shifted}
 use Rattle.aig_change.proofs.append.sets.Goals as goal
 
-pub edges-requires-clause-below : goal.edges-requires-clause-below
-edges-requires-clause-below c = set_among (All (IsEdgeIn (λ n. n < c.args.numbers.now.size))) c.args.old.now c.loop-set.set-index c.set-item.result c.deref.result.now c.loop-set-test.true c.set-item.is c.deref.ensures.value c.requires
+pub push_sets-requires : goal.push_sets-requires
+push_sets-requires c = c.requires
+
+pub returns-clause-ok : goal.returns-clause-ok
+returns-clause-ok c =
+    let items = λ (set : Vec AigEdge Global). set.items in
+    let moved = map (map (renumbered_edge (shifted c.args.numbers.now.count))) (map items c.args.added.now) in
+    let made = c.in_ok-push_sets.ensures ∙ ap (λ (start : List (Vec AigEdge Global)). map items start ++ moved) c.in_ok-moved.ensures.items in
+    ap (map items) c.in_ok-append.ensures.items ∙ map-append items c.args.all.now.items c.push_sets.new.all.items ∙ ap (λ sets. map items c.args.all.now.items ++ sets) made
