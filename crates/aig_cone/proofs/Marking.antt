@@ -66,6 +66,10 @@ AddsMarks-operands nodes marks n a b gate is low_a low_b =
     (AddsMarks-then (λ k. k ≡ a.node_id) (λ k. k ≡ b.node_id) marks one (set one b.node_id true)
     (AddsMarks-set marks a.node_id low_a) (AddsMarks-set one b.node_id (omega (arith, length-set marks a.node_id true))))
 
+-- the empty list has no number
+pub Contains-nothing : (n : ℕ) → ¬ Contains [] n
+Contains-nothing n (i, low, is) = omega arith
+
 -- a list with one number more
 pub Contains-one_more : (xs : List ℕ) (x n : ℕ) → (Contains xs n ⊎ (n ≡ x)) ↔ Contains (xs ++ x ∷ []) n
 Contains-one_more xs x n = (

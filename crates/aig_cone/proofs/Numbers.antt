@@ -1,17 +1,18 @@
 -- The marked numbers, and the map of the kept ones.
-use Rattle.std.proofs.Common.{◌≡◌, ◌≢◌, ℕ, zero, suc, ◌+◌, ◌<◌, ◌≤◌, ◌⊎◌, ◌↔◌, Bool, true, false, cond, nat_cmp, nat_eq, Some, List, [], ◌∷◌, ◌++◌, length, take, get_or, sym, ap, subst, ◌∙◌, arith, inl, inr}
-use Rattle.std.specs.Prelude.{IsTrue, slice_get}
+use Rattle.std.proofs.Common.{◌≡◌, ◌≢◌, ℕ, zero, suc, ◌+◌, ◌<◌, ◌≤◌, ◌⊎◌, ◌↔◌, Bool, true, false, cond, nat_cmp, nat_eq, Some, List, [], ◌∷◌, ◌++◌, length, take, get_or, get_or-set_other, get_or-set_same, replicate, set, sym, ap, subst, ◌∙◌, arith, inl, inr}
+use Rattle.std.specs.Prelude.{All, AllPairs, IsTrue, slice_get}
 use Rattle.std.specs.Ordering.{eq_by_cmp}
 use Rattle.std.specs.FinMap.{FinMap, get, insert, get-insert}
 use Rattle.std.proofs.lemmas.Bool.{cases_eq, cases_lt, eq-eqb, false≢true, ne_eqb}
 use Rattle.std.proofs.lemmas.Cmp.{nat_cmp_total}
-use Rattle.std.proofs.lemmas.List.{get_or-take, length-take}
-use Rattle.std.proofs.lemmas.List.Elements.{Contains-append_left, Contains-get_or, Contains-push, Contains-push_cases}
+use Rattle.std.proofs.lemmas.List.{get_or-replicate, get_or-take, length-replicate, length-take}
+use Rattle.std.proofs.lemmas.List.Elements.{All-set, Contains-append_left, Contains-get_or, Contains-push, Contains-push_cases}
 use Rattle.std.proofs.lemmas.List.Quantifiers.{all_pairs_push}
 use Rattle.std.proofs.lemmas.Option.{slice_get-get_or, slice_get_past}
 use Rattle.aig_base.proofs.Mapping.{same_test}
 use Rattle.aig_circuit.specs.Marks.{IsMarked}
 use Rattle.aig_cone.specs.Marks.{AreMarked}
+use Rattle.aig_cone.proofs.Marking.{Contains-nothing}
 
 -- a mark that is there
 pub marked_within : (marks : List Bool) (n : ℕ) → IsMarked marks n → n < length marks
@@ -69,6 +70,13 @@ marked-passed marks i had unset marked q = (
   λ m. (marked q).1 ((marked-unset marks i q unset).0 m),
 )
 
+-- of no mark
+pub AreMarked-none : AreMarked [] []
+AreMarked-none = record {
+  rising = λ i j d before low. absurd (omega arith);
+  exactly = λ n. ((λ has. absurd (Contains-nothing n has)), λ m. absurd (false≢true m));
+}
+
 pub AreMarked-push : (marks : List Bool) (i : ℕ) (before after : List ℕ) → i < length marks → get_or marks i false ≡ true → after ≡ before ++ i ∷ [] → AreMarked (take i marks) before → AreMarked (take (i + 1) marks) after
 AreMarked-push marks i before after h is pushed are = subst (AreMarked (take (i + 1) marks)) (sym pushed) (record {
   rising = all_pairs_push (λ m n. m < n) before i are.rising (λ k d low.
@@ -121,3 +129,24 @@ get-more kept i m h so_far n = get-insert nat_cmp_total m i (get_or kept i 0) n 
     at (inr ne) =
         let differs : nat_eq n i ≡ false = ne_eqb n i ne in
         ap (λ b. cond b (Some (get_or kept i 0)) (get m n)) (same_test n i ∙ differs) ∙ so_far n ∙ same_elsewhere ne (cases_lt n i)
+
+-- ---- the places of the kept numbers
+
+pub within-none : (kept : List ℕ) (count : ℕ) → 0 < length kept → All (λ n. n < length kept) (replicate count 0)
+within-none kept count some k d h = subst (λ n. n < length kept) (sym (get_or-replicate count k 0 d (omega (arith, length-replicate {A = ℕ} count 0)))) some
+
+pub within-put : (kept numbers : List ℕ) (n i : ℕ) → i < length kept → All (λ m. m < length kept) numbers → All (λ m. m < length kept) (set numbers n i)
+within-put kept numbers n i low all = All-set (λ m. m < length kept) numbers n i low all
+
+-- with the place of one kept number more each of them has its place
+pub places-put : (kept numbers : List ℕ) (i : ℕ) → AllPairs (λ m n. m < n) kept → All (λ n. n < length numbers) kept → i < length kept → ((k : ℕ) → k < i → get_or numbers (get_or kept k 0) 0 ≡ k) → (k : ℕ) → k < i + 1 → get_or (set numbers (get_or kept i 0) i) (get_or kept k 0) 0 ≡ k
+places-put kept numbers i rising there low places k h = elim (cases_eq k i) [
+  | inl e ↦
+      (let here : get_or kept i 0 < length numbers = there i 0 low in
+      rw e (get_or-set_same numbers (get_or kept i 0) i 0 here))
+  | inr ne ↦
+      (let before : k < i = omega arith in
+      let less = rising k i 0 before low in
+      let other : get_or kept k 0 ≢ get_or kept i 0 = λ same. absurd (omega arith) in
+      get_or-set_other numbers (get_or kept i 0) (get_or kept k 0) i 0 other ∙ places k before)
+]

@@ -1,8 +1,19 @@
-use Rattle.std.proofs.Common.{◌≡◌, List, ℕ, subst}
+use Rattle.std.proofs.Common.{◌≡◌, List, ℕ, subst, ◌∙◌}
+use Rattle.aig_circuit.specs.declared.node.AigNodeType.TheVariants.{False}
+use Rattle.aig_circuit.proofs.Trees.{kind_at-within}
 use Rattle.std.proofs.lemmas.Result.{on_ok_weaker}
 use Rattle.aig_cone.specs.Marks.{Visits}
 use Rattle.aig_cone.proofs.Searching.{IsInCone-reached, stacked-start}
 use Rattle.aig_cone.proofs.search.mark_cone.Goals as goal
+
+pub visit-requires : goal.visit-requires
+visit-requires c = rw c.requires.lengths (kind_at-within c.args.circuit.now.nodes 0 False c.requires.circuit.nodes.false_first)
+
+pub visit_all-requires : goal.visit_all-requires
+visit_all-requires c = rw (c.visit.auto.marks, c.requires.lengths) c.requires.there
+
+pub follow-requires-clause-lengths : goal.follow-requires-clause-lengths
+follow-requires-clause-lengths c = c.visit_all.auto.marks ∙ c.visit.auto.marks ∙ c.requires.lengths
 
 pub follow-requires-clause-stacked : goal.follow-requires-clause-stacked
 follow-requires-clause-stacked c n =

@@ -24,3 +24,8 @@ returns c =
     let whole : take c.loop-latch.latch-index c.latchs-latch-items.result.now ≡ c.args.circuit.now.latchs = take_all c.loop-latch.latch-index c.latchs-latch-items.result.now c.loop-latch-test.false ∙ c.latchs-latch-items.ensures.value in
     let all = subst (λ ls. HoldNext c.args.circuit.now.nodes ls c.loop-latch.table.items) whole c.loop-latch.invariant in
     record { count = all.count; exactly = all.exactly }
+
+pub index_mut-requires : goal.index_mut-requires
+index_mut-requires c =
+    let circuit = c.latchs-latch-items.ensures.circuit in
+    rw (c.input.ensures, c.loop-latch.table.ok.0, c.loop-latch.invariant.count) (leaf_within c.args.circuit.now.nodes c.latchs-latch-items.result.now c.loop-latch.latch-index _ c.loop-latch-test.true (rw c.latchs-latch-items.ensures.value circuit.latchs))

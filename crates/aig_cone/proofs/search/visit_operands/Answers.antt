@@ -1,4 +1,4 @@
-use Rattle.std.proofs.Common.{ℕ, ◌≡◌, sym, subst, ◌∙◌}
+use Rattle.std.proofs.Common.{ℕ, ◌≡◌, sym, subst, ◌∙◌, arith}
 use Rattle.std.proofs.lemmas.Option.{same_Some}
 use Rattle.aig_circuit.specs.declared.node.AigNodeType.TheVariants.{And}
 use Rattle.aig_cone.specs.Marks.{Visits}
@@ -26,3 +26,17 @@ returns-in_default c =
     let nodes = c.args.nodes.now in
     let kind = kind-of nodes c.args.id _ c.typ.result.now c.requires.there (sym c.typ.ensures) in
     Visits-no_operands nodes c.args.id c.args.marks.now c.args.stack.now.items (λ a b gate. c.in_default.not-And a b (same_Some _ _ (sym kind ∙ gate)))
+
+pub visit-requires : goal.visit-requires
+visit-requires c =
+    let a = c.in-And.fanin0 in
+    let b = c.in-And.fanin1 in
+    let gate = kind-of c.args.nodes.now c.args.id _ (And a b) c.requires.there (sym c.typ.ensures ∙ c.in-And.is) in
+    omega (arith, c.requires.sound.ordered.first_before c.args.id a b gate, c.node_id.ensures, c.requires.lengths, c.requires.there)
+
+pub visit-requires-in-And : goal.visit-requires-in-And
+visit-requires-in-And c =
+    let a = c.in-And.fanin0 in
+    let b = c.in-And.fanin1 in
+    let gate = kind-of c.args.nodes.now c.args.id _ (And a b) c.requires.there (sym c.typ.ensures ∙ c.in-And.is) in
+    omega (arith, c.requires.sound.ordered.second_before c.args.id a b gate, c.node_id-in-And.ensures, c.visit.auto.marks, c.requires.lengths, c.requires.there)
