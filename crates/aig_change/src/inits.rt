@@ -107,11 +107,12 @@ pub(crate) fn constrain_starts(
     let count = nodes.len();
     let before = constraints.len();
     let leaf = new_leaf_node(nodes)?;
-    let answer = constrain_all(nodes, constraints, AigEdge::from(leaf), latchs);
-    if answer.is_err() {
-        nodes.truncate(count);
-        constraints.truncate(before);
+    match constrain_all(nodes, constraints, AigEdge::from(leaf), latchs) {
+        Ok(()) => Ok(leaf),
+        Err(error) => {
+            nodes.truncate(count);
+            constraints.truncate(before);
+            Err(error)
+        }
     }
-    answer?;
-    Ok(leaf)
 }

@@ -1,14 +1,46 @@
-use Rattle.std.proofs.Common.{◌≡◌, Vec, Global, List, ◌++◌, ◌∙◌, ap, map}
+use Rattle.std.proofs.Common.{◌≡◌, ◌<◌, Vec, Global, List, ◌++◌, ◌∙◌, ap, length, map, subst, sym}
+use Rattle.std.specs.Prelude.{All}
 use Rattle.aig_circuit.specs.declared.edge.AigEdge.{AigEdge}
+use Rattle.aig_circuit.specs.declared.node.AigNode.{AigNode}
 use Rattle.aig_circuit.specs.Properties.{append_properties, map_properties}
 use Rattle.aig_circuit.specs.Renumber.{renumbered_edge}
 use Rattle.aig_circuit.specs.View.{lists_circuit, properties_of}
+use Rattle.aig_renumber.specs.Numbers.{IsLatchIn}
+use Rattle.aig_renumber.proofs.Circuits.{SpeaksOf-nodes}
 use Rattle.aig_change.specs.Merge.{shifted}
 use Rattle.aig_change.proofs.Merged.{merged_over}
 use Rattle.aig_change.proofs.changes.merge.Goals as goal
 
 pub sets-requires : goal.sets-requires
 sets-requires c = rw (c.nodes.ensures.value, c.justice.ensures.value) c.justice.ensures.circuit.properties.justice
+
+pub nodes-requires-3-clause-sound : goal.nodes-requires-3-clause-sound
+nodes-requires-3-clause-sound c = rw c.nodes-2.ensures.value c.nodes-2.ensures.circuit.nodes
+
+pub nodes-requires-3-clause-room : goal.nodes-requires-3-clause-room
+nodes-requires-3-clause-room c = rw c.nodes-2.ensures.value c.in_ok-reserve.ensures.room.nodes
+
+pub inputs-requires-2 : goal.inputs-requires-2
+inputs-requires-2 c = rw (c.nodes.ensures.value, c.inputs.ensures.value) (record {
+  below = (SpeaksOf-nodes c.args.other.now c.inputs.ensures.circuit).inputs;
+  room = c.in_ok-reserve.ensures.room.inputs;
+})
+
+pub latchs-requires-2-clause-below : goal.latchs-requires-2-clause-below
+latchs-requires-2-clause-below c =
+    subst (λ (nodes : List AigNode). All (IsLatchIn (λ n. n < length nodes)) c.latchs.result.now) (sym c.nodes.ensures.value)
+    (subst (All (IsLatchIn (λ n. n < length c.args.other.now.nodes))) (sym c.latchs.ensures.value) (SpeaksOf-nodes c.args.other.now c.latchs.ensures.circuit).latchs)
+
+pub latchs-requires-2-clause-room : goal.latchs-requires-2-clause-room
+latchs-requires-2-clause-room c = rw c.latchs.ensures.value c.in_ok-reserve.ensures.room.latchs
+
+pub properties-requires : goal.properties-requires
+properties-requires c =
+    let room = c.in_ok-reserve.ensures.room.properties in
+    record {
+      size = ap (λ (nodes : List AigNode). length nodes) c.nodes.ensures.value;
+      room = record { outputs = room.outputs; bads = room.bads; constraints = room.constraints; fairness = room.fairness };
+    }
 
 pub returns-clause-merged : goal.returns-clause-merged
 returns-clause-merged c =
