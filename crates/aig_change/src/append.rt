@@ -109,11 +109,7 @@ fn push_sets(
 }
 
 /// The edges under their new numbers.
-fn moved_set(
-    alloc: Global,
-    numbers: &After,
-    set: &[AigEdge],
-) -> Result<Vec<AigEdge>, MemoryError>
+fn moved_set(alloc: Global, numbers: &After, set: &[AigEdge]) -> Result<Vec<AigEdge>, MemoryError>
     requires { All (IsEdgeIn (λ n. n < numbers.now.size)) set.now }
     ensures { IfOk result (λ moved. moved.items
         ≡ map (renumbered_edge (shifted numbers.now.count)) set.now) }
@@ -124,11 +120,7 @@ fn moved_set(
 }
 
 /// Appends the edges of the other circuit's properties but justice, for which there is room.
-pub(crate) fn properties(
-    all: &mut Properties<AigEdge>,
-    numbers: &After,
-    other: &CircuitView<'_>,
-)
+pub(crate) fn properties(all: &mut Properties<AigEdge>, numbers: &After, other: &CircuitView<'_>)
     requires size { numbers.now.size ≡ length other.now.nodes }
     requires room { HasRoomFor all.old other.now.properties }
     ensures { properties_of all.new ≡ record (append_properties (properties_of all.old)

@@ -1,4 +1,4 @@
-use Rattle.std.proofs.Common.{ℕ, Vec, Global, ◌++◌, ◌∙◌, List, ap, append-nil, map, subst, sym}
+use Rattle.std.proofs.Common.{ℕ, Vec, Global, ◌++◌, ◌∙◌, List, ap, append-nil, map, sym}
 use Rattle.std.specs.List.{flat_map}
 use Rattle.std.proofs.lemmas.List.{take_all}
 use Rattle.aig_circuit.specs.declared.edge.AigEdge.{AigEdge}
