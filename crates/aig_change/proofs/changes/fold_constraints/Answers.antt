@@ -1,10 +1,10 @@
-use Rattle.std.proofs.Common.{◌≡◌, List, Some, sym, ap, subst, ◌∙◌}
+use Rattle.std.proofs.Common.{◌≡◌, List, Some, sym, ap, subst, ◌∙◌, arith}
 use Rattle.std.specs.Prelude.{All}
 use Rattle.aig_circuit.specs.declared.edge.AigEdge.{AigEdge}
 use Rattle.aig_circuit.specs.Build.{FoldsOrAddsAll, JoinsByAnd}
 use Rattle.aig_circuit.specs.Circuit.{IsInRange}
 use Rattle.aig_circuit.specs.View.{lists_circuit}
-use Rattle.aig_circuit.proofs.Building.{Grows-then}
+use Rattle.aig_circuit.proofs.Building.{Grows-longer, Grows-then}
 use Rattle.aig_change.specs.Changes.{constraints_held_latch}
 use Rattle.aig_change.proofs.Moving.{All-grown, moved_lists}
 use Rattle.aig_change.proofs.changes.fold_constraints.Goals as goal
@@ -15,8 +15,26 @@ new_ands_node-requires c = record {
   edges = subst (All (IsInRange c.new_leaf_node.new.nodes.items)) (sym c.requires.constraints) (All-grown _ _ _ c.in_ok-leaf.ensures.grows c.requires.circuit.properties.constraints);
 }
 
+pub new_and_node-requires-clause-sound : goal.new_and_node-requires-clause-sound
+new_and_node-requires-clause-sound c = c.in_ok-constraint.ensures.gates.grows.sound
+
+pub new_and_node-requires-clause-second : goal.new_and_node-requires-clause-second
+new_and_node-requires-clause-second c = c.in_ok-constraint.ensures.joins.there
+
+pub join_first-requires-clause-sound : goal.join_first-requires-clause-sound
+join_first-requires-clause-sound c = c.in_ok-next.ensures.gates.grows.sound
+
+pub join_first-requires-clause-next_edge : goal.join_first-requires-clause-next_edge
+join_first-requires-clause-next_edge c = c.in_ok-next.ensures.edge
+
 pub join_first-requires-clause-edges : goal.join_first-requires-clause-edges
 join_first-requires-clause-edges c = All-grown _ _ _ (Grows-then _ _ _ (Grows-then _ _ _ c.in_ok-leaf.ensures.grows c.in_ok-constraint.ensures.gates.grows) c.in_ok-next.ensures.gates.grows) c.requires.circuit.properties.bads
+
+pub join_first-requires-2-clause-sound : goal.join_first-requires-2-clause-sound
+join_first-requires-2-clause-sound c = c.in_ok-join_first.ensures.gates.grows.sound
+
+pub join_first-requires-2-clause-next_edge : goal.join_first-requires-2-clause-next_edge
+join_first-requires-2-clause-next_edge c = omega (arith, c.in_ok-next.ensures.edge, Grows-longer _ _ c.in_ok-join_first.ensures.gates.grows)
 
 pub join_first-requires-2-clause-edges : goal.join_first-requires-2-clause-edges
 join_first-requires-2-clause-edges c =

@@ -1,8 +1,22 @@
-use Rattle.std.proofs.Common.{◌∙◌, ap, sym}
+use Rattle.std.proofs.Common.{◌∙◌, ap, arith, sym}
+use Rattle.aig_circuit.specs.declared.node.AigNodeType.TheVariants.{Leaf}
 use Rattle.aig_circuit.specs.Edge.{edge_to}
-use Rattle.aig_circuit.proofs.Building.{AddsGates-then}
+use Rattle.aig_circuit.proofs.Building.{AddsGates-then, Grows-longer}
+use Rattle.aig_circuit.proofs.Trees.{kind_at-within}
 use Rattle.aig_change.proofs.Constraining.{constrained_one}
 use Rattle.aig_change.proofs.inits.constrain.Goals as goal
+
+pub new_or_node-requires-clause-sound : goal.new_or_node-requires-clause-sound
+new_or_node-requires-clause-sound c = c.in_ok-equal.ensures.gates.grows.sound
+
+pub new_or_node-requires-clause-second : goal.new_or_node-requires-clause-second
+new_or_node-requires-clause-second c = c.in_ok-equal.ensures.edge
+
+pub new_or_node-requires-clause-first : goal.new_or_node-requires-clause-first
+new_or_node-requires-clause-first c = rw c.not.ensures (omega (arith, c.requires.first_edge, Grows-longer _ _ c.in_ok-equal.ensures.gates.grows))
+
+pub new_eq_node-requires-clause-first : goal.new_eq_node-requires-clause-first
+new_eq_node-requires-clause-first c = rw (c.from.ensures, c.input.ensures) (kind_at-within c.args.nodes.now.items c.args.latch.input Leaf c.requires.latch.leaf)
 
 pub returns-in_ok-push-clause-gates : goal.returns-in_ok-push-clause-gates
 returns-in_ok-push-clause-gates c = AddsGates-then _ _ _ c.in_ok-equal.ensures.gates c.in_ok-implied.ensures.gates
