@@ -9,24 +9,19 @@ use Rattle.std.proofs.lemmas.Bool.Decides.{nat_tests}
 use Rattle.std.proofs.lemmas.List.{length-append, get_or_append_left, get_or-append-add}
 use Rattle.std.proofs.lemmas.List.Elements.{filter_map-append}
 use Rattle.std.proofs.lemmas.List.Folds.{list_any-append}
-use denote.Enum.Bare.{sameb}
 use Rattle.aig_base.proofs.Mapping.{same_test}
 use Rattle.aig_format.specs.File.{NameLine, HeaderNumbers}
 use Rattle.aig_format.specs.Fits.{same_place}
 use Rattle.aig_format.specs.Letters.{count_of, is_kept}
-use Rattle.aig_symbols.specs.contracts.names.section.NamedSection.{the_type}
-use Rattle.aig_symbols.specs.declared.names.place.Place.{Place}
 use Rattle.aig_symbols.specs.Names.{kept_name, kept_names, node_at}
-use Rattle.aig_symbols.specs.NamedSections.{letter_of_section}
 use Rattle.aig_symbols.specs.NameSteps.{with_name}
 use Rattle.aig_symbols.proofs.NameLines.{name_line, is_taken}
-use Rattle.aig_symbols.proofs.NamedSections.{same_letters}
 
 -- ---- places
 
 -- whether two places are one
-abbrev pub same_spot : Place → Place → Bool
-same_spot a b = sameb the_type a.section b.section && nat_eq a.position b.position
+abbrev pub same_spot : ℕ × ℕ → ℕ × ℕ → Bool
+same_spot a b = nat_eq a.0 b.0 && nat_eq a.1 b.1
 
 or_last : (x y : Bool) → cond x true y ≡ (y || (x || false))
 or_last true true = refl
@@ -35,13 +30,9 @@ or_last false true = refl
 or_last false false = refl
 
 -- one more place is taken
-pub taken_more : (names : List NameLine) (place q : Place) (name : List ℕ) → cond (same_spot place q) true (is_taken names (letter_of_section q.section) q.position) ≡ is_taken (names ++ name_line (letter_of_section place.section) place.position name ∷ []) (letter_of_section q.section) q.position
+pub taken_more : (names : List NameLine) (place q : ℕ × ℕ) (name : List ℕ) → cond (same_spot place q) true (is_taken names q) ≡ is_taken (names ++ name_line place name ∷ []) q
 taken_more names place q name =
-    let line = name_line (letter_of_section place.section) place.position name in
-    let wanted = name_line (letter_of_section q.section) q.position [] in
-    let taken = is_taken names (letter_of_section q.section) q.position in
-    ap (λ t. cond (t && nat_eq place.position q.position) true taken) (same_letters place.section q.section) ∙ or_last (same_place line wanted) taken
-    ∙ sym (list_any-append (λ m. same_place m wanted) names (line ∷ []))
+    or_last (same_spot place q) (is_taken names q) ∙ sym (list_any-append (λ m. same_place m (name_line q [])) names (name_line place name ∷ []))
 
 -- ---- positions
 
@@ -114,11 +105,11 @@ module _ (ns : HeaderNumbers) (inputs leaves : List ℕ) (all_inputs : length in
       apart : (s t : ℕ) → (s ≡ t → ⊥) → (s < t) ⊎ (t < s)
       apart s t ne = grind arith
 
-  same_place_true : (l m i j : ℕ) (name other : List ℕ) → (l ≡ m) × (i ≡ j) → same_place (name_line l i name) (name_line m j other) ≡ true
+  same_place_true : (l m i j : ℕ) (name other : List ℕ) → (l ≡ m) × (i ≡ j) → same_place (name_line (l, i) name) (name_line (m, j) other) ≡ true
   same_place_true l m i j name other e = grind (arith, nat_tests)
 
   -- different places have different nodes
-  nodes_apart : (l m i j a b : ℕ) → node_at inputs leaves l i ≡ Some a → node_at inputs leaves m j ≡ Some b → i < count_of ns l → j < count_of ns m → same_place (name_line l i []) (name_line m j []) ≡ false → b ≡ a → ⊥
+  nodes_apart : (l m i j a b : ℕ) → node_at inputs leaves l i ≡ Some a → node_at inputs leaves m j ≡ Some b → i < count_of ns l → j < count_of ns m → same_place (name_line (l, i) []) (name_line (m, j) []) ≡ false → b ≡ a → ⊥
   nodes_apart l m i j a b e f lt gt ne same =
       let s = stands l i a e lt in
       let t = stands m j b f gt in
@@ -129,10 +120,10 @@ module _ (ns : HeaderNumbers) (inputs leaves : List ℕ) (all_inputs : length in
   no_entry node (Some k) name es ne h = ap (λ t. cond t (Some name) (find nat_cmp node es)) (same_test node k ∙ ne_eqb node k (ne k refl)) ∙ h
 
   -- a node whose place is not taken has no name yet
-  fresh : (names : List NameLine) (l n node : ℕ) → AllByRecursion (IsWithin ns) names → node_at inputs leaves l n ≡ Some node → n < count_of ns l → is_taken names l n ≡ false → find nat_cmp node (filter_map (kept_name inputs leaves) names) ≡ None
+  fresh : (names : List NameLine) (l n node : ℕ) → AllByRecursion (IsWithin ns) names → node_at inputs leaves l n ≡ Some node → n < count_of ns l → is_taken names (l, n) ≡ false → find nat_cmp node (filter_map (kept_name inputs leaves) names) ≡ None
   fresh [] l n node all e lt free = refl
   fresh (m ∷ names) l n node all e lt free =
-      let parts = or_parts (same_place m (name_line l n [])) (is_taken names l n) free in
+      let parts = or_parts (same_place m (name_line (l, n) [])) (is_taken names (l, n)) free in
       no_entry node (node_at inputs leaves m.letter m.position) m.name (filter_map (kept_name inputs leaves) names)
       (λ k f. nodes_apart m.letter l m.position n k node f e all.0 lt parts.0)
       (fresh names l n node all.1 e lt parts.1)
@@ -143,9 +134,9 @@ module _ (ns : HeaderNumbers) (inputs leaves : List ℕ) (all_inputs : length in
   pushed (Some k) name es h = sym (from_entries_push nat_cmp_total nat_cmp-IsAntisymmetric es k name (h k refl))
 
   -- one more name
-  pub kept_more : (names : List NameLine) (l n : ℕ) (name : List ℕ) → AllByRecursion (IsWithin ns) names → n < count_of ns l → is_taken names l n ≡ false
-      → with_name (node_at inputs leaves l n) name (kept_names inputs leaves names) ≡ kept_names inputs leaves (names ++ name_line l n name ∷ [])
+  pub kept_more : (names : List NameLine) (l n : ℕ) (name : List ℕ) → AllByRecursion (IsWithin ns) names → n < count_of ns l → is_taken names (l, n) ≡ false
+      → with_name (node_at inputs leaves l n) name (kept_names inputs leaves names) ≡ kept_names inputs leaves (names ++ name_line (l, n) name ∷ [])
   kept_more names l n name all lt free =
       let es = filter_map (kept_name inputs leaves) names in
       pushed (node_at inputs leaves l n) name es (λ k e. fresh names l n k all e lt free)
-      ∙ ap (λ (fs : List (ℕ × List ℕ)). from_entries {R = nat_cmp} fs) (sym (filter_map-append (kept_name inputs leaves) names (name_line l n name ∷ [])))
+      ∙ ap (λ (fs : List (ℕ × List ℕ)). from_entries {R = nat_cmp} fs) (sym (filter_map-append (kept_name inputs leaves) names (name_line (l, n) name ∷ [])))

@@ -1,6 +1,5 @@
 pub mod Texts
-pub mod Positions
-pub mod NamedSections
+pub mod Places
 pub mod Starts
 pub mod Kept
 pub mod NameLines

@@ -8,12 +8,13 @@ use Rattle.aig_parsing.specs.Parse.{◌>>=◌, is_comment, parse_name, parse_tai
 use Rattle.aig_parsing.specs.ParseTested.{tests_name, parse_fitting_tail}
 use Rattle.aig_parsing.proofs.Numbers.{bind_some}
 use Rattle.aig_parsing.proofs.Names.{Reads-name, name_is_some, name_goes_on}
-use Rattle.aig_lexer.specs.Takes.{Feed, Advances, Ends, Takes}
+use Rattle.aig_lexer.specs.Takes.{Feed, Advances, Ends, Takes, Misses}
 use Rattle.aig_lexer.proofs.Feeds.{advances_none, advances_on, ends_on}
 use Rattle.aig_lexer.proofs.Going.{known_rest}
 use Rattle.aig_symbols.specs.Names.{tail_of}
-use Rattle.aig_symbols.specs.NameSteps.{IsNoTail}
-use Rattle.aig_symbols.proofs.NameLines.{line_at}
+use Rattle.aig_symbols.specs.NameSteps.{IsNoTail, parse_place}
+use Rattle.aig_symbols.proofs.NameLines.{line_at, line_parts, following_place}
+use Rattle.aig_symbols.proofs.Places.{place_no_comment}
 
 -- the names after these ones, up to the end
 abbrev pub tail_from : HeaderNumbers → List NameLine → List ℕ → Option (List NameLine)
@@ -116,11 +117,14 @@ tail_wrong ns names before now h k =
     known_rest before.coming now.coming h.taken (λ bytes. tail_of ns bytes ≡ None) (IsWrong ns names) h.advances.consumed k
     (λ rest w. h.goes rest ∙ ap (λ o. o >>= after names) (tail_line ns names rest w.0 ∙ ap (λ o. o >>= one_more ns (length rest) names) w.1))
 
-pub wrong_start : (ns : HeaderNumbers) (names : List NameLine) (now : Option (List ℕ)) → IfSome now IsNoTail → IfSome now (IsWrong ns names)
+pub wrong_start : (ns : HeaderNumbers) (names : List NameLine) (now : Option (List ℕ)) → IfSome now (IsNoTail ns) → IfSome now (IsWrong ns names)
 wrong_start ns names now h =
-    IfSome_then now h (λ bytes h. (h.no_comment, ap (λ (o : Option (NameLine × List ℕ)). o >>= λ n. cond (tests_name ns names n.0) (Some n) None) h.no_name))
+    IfSome_then now h (λ bytes h. (h.no_comment, line_parts ns names bytes ∙ ap (λ o. o >>= following_place names) h.no_place))
 
-pub wrong_line : (ns : HeaderNumbers) (names : List NameLine) (now mid : Option (List ℕ)) (l b : ℕ) → Consumes now mid (l ∷ b ∷ []) → is_comment (l ∷ b ∷ []) ≡ false → IfSome now (λ bytes. line_at ns names bytes ≡ None) → IfSome now (IsWrong ns names)
-wrong_line ns names None mid l b c is h = tt
-wrong_line ns names (Some bytes) None l b c is h = absurd c
-wrong_line ns names (Some bytes) (Some rest) l b c is h = (ap is_comment c ∙ is, h)
+pub wrong_line : (ns : HeaderNumbers) (names : List NameLine) (now mid : Feed) (place : ℕ × ℕ) → Takes (parse_place ns) now mid place → Misses (line_at ns names) now → IfSome now.coming (IsWrong ns names)
+wrong_line ns names now mid place k h = go now.coming mid.coming k.advances.consumed h
+  where
+    go : (o p : Option (List ℕ)) → Consumes o p k.taken → IfSome o (λ bytes. line_at ns names bytes ≡ None) → IfSome o (IsWrong ns names)
+    go None p c h = tt
+    go (Some bytes) None c h = absurd c
+    go (Some bytes) (Some rest) c h = (ap is_comment c ∙ place_no_comment ns (k.taken ++ rest) rest place (k.reads rest), h)

@@ -1,4 +1,3 @@
 pub mod NameFaults
 pub mod Names
-pub mod NamedSections
 pub mod NameSteps

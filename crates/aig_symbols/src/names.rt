@@ -9,52 +9,20 @@ ghost use Rattle.aig_lexer.specs.Header.{numbers_of};
 ghost use Rattle.aig_lexer.specs.Takes.{Makes, feed};
 ghost use Rattle.aig_symbols.specs.NameFaults.{NameTells};
 ghost use Rattle.aig_symbols.specs.Names.{EndsWith, kept_names, tail_of};
-ghost use Rattle.aig_symbols.specs.NameSteps.{NameStarts, with_name};
+ghost use Rattle.aig_symbols.specs.NameSteps.{with_name};
 
 mod error;
 mod place;
-mod section;
 mod text;
 
 use aig_base::Source;
 use aig_circuit::AigLatch;
-use aig_lexer::{Header, InputBuffer, LexError};
+use aig_lexer::{Header, InputBuffer};
 pub use error::NameError;
-use place::{named_node, read_place};
-use section::NamedSection;
-use std::alloc::Global;
+use place::{named_node, next_place};
+use std::alloc::{AllocFailed, Global};
 use std::collections::{HashMap, HashSet};
-use text::{kept_text, skip_rest, skip_text};
-
-/// Reads the letter of a name line and the byte after it, or up to the end of the stream where no name is left: the letter's
-/// section, and the byte.
-///
-/// A `c` that ends the stream or has no digit after it begins the comment.
-fn name_start<R: Source>(
-    buffer: &mut InputBuffer,
-    r: &mut R,
-) -> Result<Option<(NamedSection, u8)>, LexError>
-    ensures { NameStarts (feed R.left R.failed R.pulls buffer.old r.old)
-        (feed R.left R.failed R.pulls buffer.new r.new) result }
-{
-    let Some(letter) = buffer.next(r)? else {
-        return Ok(None);
-    };
-    let Some(second) = buffer.next(r)? else {
-        if letter == b'c' {
-            return Ok(None);
-        }
-        return Err(LexError::Shape);
-    };
-    if letter == b'c' && !second.is_ascii_digit() {
-        skip_rest(buffer, r)?;
-        return Ok(None);
-    }
-    match NamedSection::of_letter(letter) {
-        Some(section) => Ok(Some((section, second))),
-        None => Err(LexError::Shape),
-    }
-}
+use text::{kept_text, skip_text};
 
 /// Reads a name, and keeps it where it is that of a node.
 fn read_name<R: Source>(
@@ -71,12 +39,15 @@ fn read_name<R: Source>(
         (parse_if parse_text (λ name. not (is_some node) || is_utf8 name)) }
 {
     let Some(node) = node else {
-        skip_text(buffer, r)?;
-        return Ok(());
+        return skip_text(buffer, r);
     };
-    let text = kept_text(alloc, buffer, r)?;
-    names.insert(node, text)?;
-    Ok(())
+    match kept_text(alloc, buffer, r) {
+        Ok(text) => match names.insert(node, text) {
+            Ok(_) => Ok(()),
+            Err(AllocFailed { value: (_, _text) }) => Err(NameError::Memory),
+        },
+        Err(error) => Err(error),
+    }
 }
 
 /// Reads the names after the gates, and the comment after these, up to the end of the stream (AIGER format 20071012,
@@ -106,13 +77,20 @@ pub fn read_names<R: Source>(
 {
     let mut places = HashSet::new(alloc);
     let mut names = HashMap::new(alloc);
-    while let Some((section, first)) = name_start(buffer, r)? {
-        let place = read_place(buffer, r, header, section, first)?;
-        if !places.insert(place)? {
-            return Err(NameError::Shape);
+    loop {
+        let (letter, position) = match next_place(buffer, r, header) {
+            Ok(Some(place)) => place,
+            Ok(None) => return Ok(names),
+            Err(error) => return Err(error.into()),
+        };
+        match places.insert((letter, position)) {
+            Ok(true) => {}
+            Ok(false) => return Err(NameError::Shape),
+            Err(_) => return Err(NameError::Memory),
         }
-        let node = named_node(place, inputs, latchs);
-        read_name(alloc, buffer, r, node, &mut names)?;
+        let node = named_node(letter, position, inputs, latchs);
+        if let Err(error) = read_name(alloc, buffer, r, node, &mut names) {
+            return Err(error);
+        }
     }
-    Ok(names)
 }

@@ -3,37 +3,16 @@
 ghost use Rattle.std.specs.Prelude.{string_bytes};
 ghost use Rattle.std.specs.Str.{is_utf8};
 ghost use Rattle.aig_parsing.specs.Parse.{parse_if, parse_text};
-ghost use Rattle.aig_lexer.specs.Faults.{LexTells};
 ghost use Rattle.aig_lexer.specs.Takes.{Gives, Makes, feed};
 ghost use Rattle.aig_symbols.specs.NameFaults.{NameTells};
 ghost use Rattle.aig_symbols.specs.NameSteps.{TakesRest};
 
 use super::error::NameError;
 use aig_base::{Source, StreamFault};
-use aig_lexer::{InputBuffer, LexError};
+use aig_lexer::InputBuffer;
 use std::alloc::Global;
 
-/// Reads the bytes of a name, up to the line feed, which is not one of them.
-fn name_bytes<R: Source>(
-    alloc: Global,
-    buffer: &mut InputBuffer,
-    r: &mut R,
-) -> Result<Vec<u8>, NameError>
-    ensures { Gives NameTells (λ text. text.items)
-        (feed R.left R.failed R.pulls buffer.old r.old)
-        (feed R.left R.failed R.pulls buffer.new r.new) result parse_text }
-{
-    let mut text = Vec::new(alloc);
-    while let Some(b) = buffer.next(r)? {
-        if b == b'\n' {
-            return Ok(text);
-        }
-        text.push(b)?;
-    }
-    Err(NameError::Shape)
-}
-
-/// Reads a name that is kept, up to the line feed: it has to be UTF-8.
+/// Reads a name that is kept, up to the line feed, which is not of it: it has to be UTF-8.
 pub fn kept_text<R: Source>(
     alloc: Global,
     buffer: &mut InputBuffer,
@@ -43,22 +22,31 @@ pub fn kept_text<R: Source>(
         (feed R.left R.failed R.pulls buffer.old r.old)
         (feed R.left R.failed R.pulls buffer.new r.new) result (parse_if parse_text is_utf8) }
 {
-    let bytes = name_bytes(alloc, buffer, r)?;
-    String::from_utf8(bytes).map_err(|_| NameError::Shape)
+    let mut bytes = Vec::new(alloc);
+    loop {
+        match buffer.next(r) {
+            Ok(Some(b'\n')) => return String::from_utf8(bytes).map_err(|_| NameError::Shape),
+            Ok(Some(byte)) => bytes.push(byte)?,
+            Ok(None) => return Err(NameError::Shape),
+            Err(_) => return Err(NameError::Stream),
+        }
+    }
 }
 
 /// Reads a name that is dropped, up to the line feed, and holds none of it.
-pub fn skip_text<R: Source>(buffer: &mut InputBuffer, r: &mut R) -> Result<(), LexError>
-    ensures { Makes LexTells (λ _ _. Unit {0})
+pub fn skip_text<R: Source>(buffer: &mut InputBuffer, r: &mut R) -> Result<(), NameError>
+    ensures { Makes NameTells (λ _ _. Unit {0})
         (feed R.left R.failed R.pulls buffer.old r.old)
         (feed R.left R.failed R.pulls buffer.new r.new) result parse_text }
 {
-    while let Some(b) = buffer.next(r)? {
-        if b == b'\n' {
-            return Ok(());
+    loop {
+        match buffer.next(r) {
+            Ok(Some(b'\n')) => return Ok(()),
+            Ok(Some(_)) => {}
+            Ok(None) => return Err(NameError::Shape),
+            Err(_) => return Err(NameError::Stream),
         }
     }
-    Err(LexError::Shape)
 }
 
 /// Reads up to the end of the stream.
@@ -66,6 +54,11 @@ pub fn skip_rest<R: Source>(buffer: &mut InputBuffer, r: &mut R) -> Result<(), S
     ensures { TakesRest (feed R.left R.failed R.pulls buffer.old r.old)
         (feed R.left R.failed R.pulls buffer.new r.new) result }
 {
-    while let Some(_) = buffer.next(r)? {}
-    Ok(())
+    loop {
+        match buffer.next(r) {
+            Ok(Some(_)) => {}
+            Ok(None) => return Ok(()),
+            Err(fault) => return Err(fault),
+        }
+    }
 }

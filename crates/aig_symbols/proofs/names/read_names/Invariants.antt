@@ -7,9 +7,9 @@ use Rattle.aig_symbols.proofs.KeptNames.{same_spot}
 use Rattle.aig_symbols.proofs.SoFar.{SoFar}
 use Rattle.aig_symbols.proofs.names.read_names.Given as goal
 
-abbrev pub invariant-loop-names : goal.invariant-loop-names
-invariant-loop-names g l =
+abbrev pub invariant-loop-place : goal.invariant-loop-place
+invariant-loop-place g l =
     SoFar (numbers_of l.header) l.inputs (latch_leaves l.latchs) (feed g.R.Source.left g.R.Source.failed g.R.Source.pulls l.fn.buffer l.fn.r) (feed g.R.Source.left g.R.Source.failed g.R.Source.pulls l.buffer l.r) (contains same_spot l.places) (names_of l.names.entries)
 
-abbrev pub decreases-loop-names : goal.decreases-loop-names
-decreases-loop-names g l = (feed g.R.Source.left g.R.Source.failed g.R.Source.pulls l.buffer l.r).most
+abbrev pub decreases-loop-place : goal.decreases-loop-place
+decreases-loop-place g l = (feed g.R.Source.left g.R.Source.failed g.R.Source.pulls l.buffer l.r).most
