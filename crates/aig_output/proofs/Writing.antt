@@ -1,5 +1,5 @@
 -- A text that is written piece by piece.
-use Rattle.std.proofs.Common.{ℕ, ◌+◌, ◌<◌, ◌≤◌, List, [], ◌∷◌, ◌++◌, Result, Ok, Err, length, take, drop, get_or, sym, ap, subst, ◌∙◌, append-nil, append_assoc, take-append-drop, ◌≡◌}
+use Rattle.std.proofs.Common.{ℕ, ◌+◌, ◌<◌, ◌≤◌, List, [], ◌∷◌, ◌++◌, Result, Ok, Err, length, take, drop, get_or, refl, sym, ap, subst, ◌∙◌, append-nil, append_assoc, take-append-drop, ◌≡◌}
 use Rattle.std.specs.Prelude.{IsErr, OnErr, OnOk}
 use Rattle.std.specs.List.{flat_map}
 use Rattle.std.proofs.lemmas.List.{take_all, take_more}
@@ -69,6 +69,11 @@ module _ {S : Type 0} {wrote stopped : S → List ℕ → S → Type 0} (laws : 
   pub failed_turn : {X T U E : Type 0} {a b c : S} {e : E} {result : Result U E} (f : X → List ℕ) (xs : List X) (i : ℕ) (d : X) → i < length xs
       → wrote a (flat_map f (take i xs)) b → WroteOrStopped {T = T} {E = E} wrote stopped b (Err e) (f (get_or xs i d)) c → IsErr result → WroteOrStopped wrote stopped a result (flat_map f xs) c
   failed_turn {T = T} {e = e} f xs i d h so_far turn is = rw (flat_map_split f xs i d h) (failed_among {T = T} {e = e} (flat_map f (drop (i + 1) xs) ∷ []) so_far turn is)
+
+  -- the call for an entry failed, and other texts were to follow the list
+  pub failed_within : {X T U E : Type 0} {a b c : S} {e : E} {result : Result U E} (rest : List (List ℕ)) (f : X → List ℕ) (xs : List X) (i : ℕ) (d : X) → i < length xs
+      → wrote a (flat_map f (take i xs)) b → WroteOrStopped {T = T} {E = E} wrote stopped b (Err e) (f (get_or xs i d)) c → IsErr result → WroteOrStopped wrote stopped a result (then_texts (flat_map f xs) rest) c
+  failed_within {X} {T} {U} {E} {a} {b} {c} {e} rest f xs i d h so_far turn is = failed_first {T = T} {e = e} rest (failed_turn {T = T} {e = e} f xs i d h so_far turn refl) is
 
   calls_joined : (a : S) (parts : List (List ℕ)) (b : S) → FoldsTo wrote a parts b → wrote a (concat parts) b
   calls_joined a [] b same = subst (λ x. wrote a [] x) same (laws.none a)

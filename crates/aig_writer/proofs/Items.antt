@@ -1,21 +1,24 @@
 -- The sections of a file as a text for each entry of a list.
-use Rattle.std.proofs.Common.{◌≡◌, ℕ, List, [], ◌∷◌, ◌++◌, ◌*◌, length, map, refl, sym, ap, subst, ◌∙◌, append-nil, Option, Some, None, All, arith}
-use Rattle.std.specs.Prelude.{filter_map, option_to_list, Vec, vec_len}
+use Rattle.std.proofs.Common.{◌≡◌, ℕ, List, [], ◌∷◌, ◌++◌, ◌*◌, length, map, refl, sym, ap, ◌∙◌, append-nil, Option, Some, None, true, false, cond, inl, inr, arith}
+use Rattle.std.specs.Prelude.{filter_map, max, min, nat_lt, option_to_list, Vec, vec_len}
 use Rattle.std.specs.List.{cons_option, flat_map}
 use Rattle.std.specs.declared.alloc.Global.{Global}
-use Rattle.std.proofs.lemmas.List.{get_or-map, length-map}
+use Rattle.std.proofs.lemmas.Bool.{cases_lt}
+use Rattle.std.proofs.lemmas.Bool.Decides.{nat_tests}
 use Rattle.std.proofs.lemmas.List.Folds.{flat_map-map}
 use Rattle.aig_circuit.specs.declared.edge.AigEdge.{AigEdge}
 use Rattle.aig_circuit.specs.declared.node.AigNode.{AigNode}
 use Rattle.aig_circuit.specs.declared.node.AigLatch.{AigLatch}
+use Rattle.aig_circuit.specs.declared.node.AigNodeType.TheVariants.{And}
 use Rattle.aig_circuit.specs.Edge.{literal_of}
+use Rattle.aig_circuit.specs.Node.{and_of}
+use Rattle.aig_format.specs.File.{GateLine}
 use Rattle.aig_format.specs.declared.FileKind.{FileKind}
 use Rattle.aig_format.specs.Written.{line_text, lines_text, latch_text, gate_text}
 use Rattle.aig_format.specs.Circuit.{latch_line, gate_line}
-use Rattle.aig_writer.specs.Literals.{IsSmallEdge}
 use Rattle.aig_writer.specs.Parts.{edges_of_sets}
 use Rattle.aig_writer.specs.Numbering.{renumbered_node}
-use Rattle.aig_circuit.specs.Renumber.{renumbered_edge, renumbered_latch}
+use Rattle.aig_circuit.specs.Renumber.{renumbered_edge, renumbered_kind, renumbered_latch}
 
 abbrev pub input_line : ℕ → List ℕ
 input_line n = line_text (2 * n ∷ [])
@@ -81,8 +84,26 @@ pub set_sizes : (sets : List (Vec AigEdge Global)) → lines_text (map length (e
 set_sizes [] = refl
 set_sizes (set ∷ sets) = ap (λ l. size_line set ++ l) (set_sizes sets)
 
--- the sets' edges are small
-pub sets_small : (sets : List (Vec AigEdge Global)) → All (All IsSmallEdge) (map (λ (set : Vec AigEdge Global). set.items) sets) → All (λ (set : Vec AigEdge Global). All IsSmallEdge set.items) sets
-sets_small sets h = λ k d lt.
-    let same = get_or-map (λ (set : Vec AigEdge Global). set.items) sets k d d.items lt in
-    subst (All IsSmallEdge) same (h k d.items (let e = length-map sets (λ (set : Vec AigEdge Global). set.items) in omega arith))
+-- ---- a gate
+
+-- the greater literal of its operands comes first
+gate_ordered : (n : ℕ) (x y : AigEdge) → gate_line (record { node_id = n; typ = and_of x y }) ≡ Some (record { lhs = 2 * n; rhs0 = max (literal_of x) (literal_of y); rhs1 = min (literal_of x) (literal_of y) })
+gate_ordered n x y = elim (cases_lt (literal_of y) (literal_of x)) [
+  | inl less ↦ (
+      let test : nat_lt (literal_of y) (literal_of x) ≡ true = grind (arith, nat_tests) in
+      let greater : literal_of x ≡ max (literal_of x) (literal_of y) = omega arith in
+      let lesser : literal_of y ≡ min (literal_of x) (literal_of y) = omega arith in
+      ap (λ b. gate_line (record { node_id = n; typ = cond b (And y x) (And x y) })) test ∙ (λ i. Some (record { lhs = 2 * n; rhs0 = greater i; rhs1 = lesser i })))
+  | inr no_less ↦ (
+      let test : nat_lt (literal_of y) (literal_of x) ≡ false = grind (arith, nat_tests) in
+      let greater : literal_of y ≡ max (literal_of x) (literal_of y) = omega arith in
+      let lesser : literal_of x ≡ min (literal_of x) (literal_of y) = omega arith in
+      ap (λ b. gate_line (record { node_id = n; typ = cond b (And y x) (And x y) })) test ∙ (λ i. Some (record { lhs = 2 * n; rhs0 = greater i; rhs1 = lesser i })))
+]
+
+pub gate_text-at : (kind : FileKind) (number : ℕ → ℕ) (node : AigNode) (a b : AigEdge) → node.typ ≡ And a b
+    → text_of_gate kind (renumbered_node number node)
+    ≡ gate_text kind (record { lhs = 2 * number node.node_id; rhs0 = max (literal_of (renumbered_edge number a)) (literal_of (renumbered_edge number b)); rhs1 = min (literal_of (renumbered_edge number a)) (literal_of (renumbered_edge number b)) })
+gate_text-at kind number node a b is =
+    ap (λ typ. text_of_gate kind (record { node_id = number node.node_id; typ = renumbered_kind number (Some typ) })) is
+    ∙ ap (λ (o : Option GateLine). flat_map (gate_text kind) (option_to_list o)) (gate_ordered (number node.node_id) (renumbered_edge number a) (renumbered_edge number b)) ∙ append-nil _

@@ -1,11 +1,11 @@
 -- The file of a circuit whose nodes are written under other numbers.
-use Rattle.std.proofs.Common.{◌≡◌, ℕ, ◌+◌, ◌-◌, ◌*◌, ◌<◌, ◌≤◌, ◌^◌, suc, Bool, true, false, cond, Option, Some, None, List, [], ◌∷◌, ◌++◌, length, map, get_or, refl, sym, ap, subst, ◌∙◌, arith, length-append}
+use Rattle.std.proofs.Common.{◌≡◌, ℕ, ◌+◌, ◌-◌, ◌*◌, ◌<◌, ◌≤◌, ◌^◌, suc, Bool, true, false, cond, Option, Some, None, List, [], ◌∷◌, ◌++◌, length, map, get_or, refl, sym, ap, ◌∙◌, arith, length-append}
 use Rattle.std.specs.Prelude.{All, nat_lt, option_map, filter_map, option_to_list}
 use Rattle.std.specs.FinMap.{get, entries, get-entries, get-from_entries}
 use Rattle.std.specs.List.{cons_option}
 use Rattle.std.proofs.lemmas.Bool.Decides.{nat_tests}
 use Rattle.std.proofs.lemmas.Cmp.{nat_cmp_total}
-use Rattle.std.proofs.lemmas.Option.{same_Some, slice_get-get_or}
+use Rattle.std.proofs.lemmas.Option.{slice_get-get_or}
 use Rattle.std.proofs.lemmas.List.{get_or-append-add, length-map}
 use Rattle.std.proofs.lemmas.List.Elements.{All-map, All-weaker, filter_map-append}
 use Rattle.aig_circuit.specs.declared.edge.AigEdge.{AigEdge}
@@ -29,13 +29,12 @@ use Rattle.aig_format.specs.Circuit.{file_of, gate_line, latch_line, name_lines}
 use Rattle.aig_renumber.proofs.Agreeing.{circuits-agree}
 use Rattle.aig_renumber.proofs.Circuits.{SpeaksOf-nodes, latch_leaves-map}
 use Rattle.aig_renumber.proofs.Names.{find-number, names_in_circuit}
-use Rattle.aig_renumber.proofs.NodesInOrder.{number-apart, get-nodes_in_order}
+use Rattle.aig_renumber.proofs.NodesInOrder.{number-apart}
 use Rattle.aig_renumber.proofs.Order.{IsGate, Numbers-order, length-order, no_gates}
-use Rattle.aig_renumber.proofs.Placed.{AreAsLong-reencoded, IsCircuit-reencoded}
+use Rattle.aig_renumber.proofs.Placed.{AreAsLong-reencoded}
 use Rattle.aig_circuit.proofs.Lists.{map-agrees, map-same}
-use Rattle.aig_writer.specs.Literals.{FallsBelow, HasLiteral}
-use Rattle.aig_writer.specs.Numbering.{FitsBinary, IsBinaryNumbering, written_number, numbered_file, renumbered_node}
-use Rattle.aig_writer.proofs.Small.{FallsBelow-from_circuit}
+use Rattle.aig_writer.specs.Literals.{FallsBelow}
+use Rattle.aig_writer.specs.Numbering.{IsBinaryNumbering, written_number, numbered_file, renumbered_node}
 
 -- ---- lengths
 
@@ -271,29 +270,21 @@ module _ (c : Circuit) (is : IsCircuit c) (closed : IsClosed c) where
 
   -- ---- gates fall below one another under new numbers
 
-  node-reencoded : (k : ℕ) (d : AigNode) → k < length c.nodes → get_or (reencoded c).nodes (new_number c k) d ≡ renumbered_node (new_number c) (get_or c.nodes k d)
-  node-reencoded k d h =
+  at_most : (m : ℕ) (k : ℕ) (b : Bool) → m < k → 2 * m + cond b 1 0 ≤ 2 * k
+  at_most m k true h = omega arith
+  at_most m k false h = omega arith
+
+  pub numbered_falls : (table : List ℕ) → length c.nodes ≤ 2 ^ 31 → IsBinaryNumbering c table → All (FallsBelow table) c.nodes
+  numbered_falls table few has k d h =
       let numbers = Numbers-order c is closed in
       let node = get_or c.nodes k d in
-      let place = numbers.within k h in
-      let as_long = (AreAsLong-reencoded c is closed).nodes in
-      let within : new_number c k < length (reencoded c).nodes = omega (arith, length-order c is closed) in
-      let read = sym (slice_get-get_or (reencoded c).nodes (new_number c k) d within) ∙ get-nodes_in_order c.nodes (new_number c) 0 (order_of c) (new_number c k) place in
-      same_Some _ _ read
-      ∙ ap (λ n. record { node_id = 0 + new_number c k; typ = renumbered_kind (new_number c) (kind_at c.nodes n) }) (numbers.back k h)
-      ∙ ap (λ (o : Option AigNodeType). record { node_id = 0 + new_number c k; typ = renumbered_kind (new_number c) o }) (kind_read c is k d h)
-      ∙ ap (λ n. record { node_id = n; typ = renumbered_kind (new_number c) (Some node.typ) }) (let same = number_read c is k d h in let e : 0 + new_number c k ≡ new_number c k = omega arith in e ∙ ap (new_number c) (sym same))
-
-  falls-reencoded : length c.nodes ≤ 2 ^ 31 → All (λ node. FallsBelow (renumbered_node (new_number c) node)) c.nodes
-  falls-reencoded few k d h =
-      let as_long = (AreAsLong-reencoded c is closed).nodes in
-      let place = (Numbers-order c is closed).within k h in
-      subst FallsBelow (node-reencoded k d h) (FallsBelow-from_circuit (reencoded c) (IsCircuit-reencoded c is closed) (omega arith) (new_number c k) d (omega (arith, length-order c is closed)))
-
-pub numbered_falls : (c : Circuit) → IsCircuit c → (table : List ℕ) → FitsBinary c table → All (λ node. FallsBelow (renumbered_node (written_number table) node)) c.nodes
-numbered_falls c is table fits k d h =
-    subst FallsBelow (sym (nodes_agree c is (written_number table) (new_number c) fits.numbering.numbers k d h)) (falls-reencoded c is fits.closed fits.few k d h)
-
--- the numbers of a table are small
-pub table_small : (c : Circuit) (table : List ℕ) → length c.nodes ≤ 2 ^ 31 → IsBinaryNumbering c table → All HasLiteral table
-table_small c table few has = All-weaker (λ m. m < length c.nodes) HasLiteral (λ m h. omega arith) table has.within
+      let own : written_number table node.node_id ≡ new_number c k = ap (written_number table) (number_read c is k d h) ∙ has.numbers k h in
+      record {
+        own = omega (arith, numbers.within k h, length-order c is closed);
+        operands = λ a b typ.
+            let at = kind_read c is k d h ∙ ap Some typ in
+            let there = operands_within c is k d h a b typ in
+            let first = at_most (written_number table a.node_id) (written_number table node.node_id) a.compl (omega (arith, own, has.numbers a.node_id there.0, numbers.first_before k a b h at)) in
+            let second = at_most (written_number table b.node_id) (written_number table node.node_id) b.compl (omega (arith, own, has.numbers b.node_id there.1, numbers.second_before k a b h at)) in
+            (first, second);
+      }

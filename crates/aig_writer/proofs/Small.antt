@@ -1,95 +1,88 @@
--- A circuit's node numbers are below the count of its nodes.
-use Rattle.std.proofs.Common.{inl, inr, subst, ◌≡◌, ℕ, ◌+◌, ◌*◌, ◌^◌, ◌<◌, ◌≤◌, Bool, true, false, cond, Option, Some, None, List, length, get_or, ap, ◌∙◌, arith}
-use Rattle.std.specs.Prelude.{nat_lt, All, IfSome, option_map, slice_get}
-use Rattle.std.proofs.lemmas.Option.{slice_get-get_or}
-use Rattle.std.proofs.lemmas.List.Elements.{All-weaker}
-use Rattle.aig_circuit.specs.declared.edge.AigEdge.{AigEdge}
-use Rattle.aig_circuit.specs.declared.node.AigNodeType.TheVariants.{Leaf, And}
-use Rattle.aig_circuit.specs.declared.node.AigNode.{AigNode}
-use Rattle.aig_circuit.specs.Circuit.{Circuit, IsCircuit, AreNodes, IsLeaf, IsInRange, IsLatch}
+-- The literals of a circuit's nodes fit.
+use Rattle.std.proofs.Common.{inl, inr, ◌≡◌, ℕ, ◌^◌, ◌<◌, ◌≤◌, Option, Some, None, List, [], length, map, get_or, refl, sym, subst, ap, ◌∙◌, arith}
+use Rattle.std.specs.Prelude.{All, IfSome, Vec, option_map}
+use Rattle.std.specs.declared.alloc.Global.{Global}
 use Rattle.std.proofs.lemmas.Bool.{cases_lt}
-use Rattle.std.proofs.lemmas.List.{get_or_past}
+use Rattle.std.proofs.lemmas.List.{get_or_past, get_or-map, length-map}
+use Rattle.std.proofs.lemmas.List.Elements.{All-weaker}
+use Rattle.std.proofs.lemmas.Option.{slice_get-get_or}
+use Rattle.aig_circuit.specs.declared.edge.AigEdge.{AigEdge}
+use Rattle.aig_circuit.specs.declared.prop_list.PropList.{PropList}
+use Rattle.aig_circuit.specs.declared.prop_list.PropList.TheVariants.{Outputs, Bads, Constraints, Fairness}
+use Rattle.aig_circuit.specs.declared.node.AigNodeType.TheVariants.{Leaf}
+use Rattle.aig_circuit.specs.declared.node.AigNode.{AigNode}
 use Rattle.aig_circuit.specs.declared.node.AigLatch.{AigLatch}
-use Rattle.aig_circuit.specs.Edge.{literal_of}
-use Rattle.aig_circuit.specs.Node.{and_of}
-use Rattle.aig_circuit.specs.Renumber.{renumbered_edge, renumbered_latch}
-use Rattle.aig_writer.specs.Numbering.{written_number}
-use Rattle.aig_circuit.proofs.Listed.{AllProperties-weaker}
+use Rattle.aig_circuit.specs.Circuit.{Circuit, IsCircuit, IsClosed, IsInRange}
+use Rattle.aig_circuit.specs.PropLists.{edges_of}
 use Rattle.aig_circuit.proofs.Trees.{kind_at-within}
-use Rattle.aig_writer.specs.Literals.{FallsBelow, HasLiteral, IsSmallEdge, IsSmallLatch, IsSmallNode, HasSmallNumbers}
+use Rattle.aig_format.specs.declared.FileKind.TheVariants.{Text, Binary}
+use Rattle.aig_writer.specs.Forms.{FitsForm}
+use Rattle.aig_writer.specs.Literals.{HasLiteral, HasSmallNumbers, IsSmallEdge, IsSmallLatch, IsSmallNode}
+use Rattle.aig_writer.specs.Numbering.{IsBinaryNumbering}
 
-IsSmallNode-at : (nodes : List AigNode) → AreNodes nodes → length nodes ≤ 2 ^ 63 → All IsSmallNode nodes
-IsSmallNode-at nodes are few = λ k d h.
-    let here : slice_get nodes k ≡ Some (get_or nodes k d) = slice_get-get_or nodes k d h in
-    record {
-      own = let same = are.numbered k (get_or nodes k d) here in omega arith;
-      operands = λ a b typ.
-          let gate = ap (option_map (λ (node : AigNode). node.typ)) here ∙ ap Some typ in
-          let first = are.ordered.first_before k a b gate in
-          let second = are.ordered.second_before k a b gate in
-          (omega arith, omega arith);
-    }
+-- ---- what is to be written fits
 
-init_small : (nodes : List AigNode) (o : Option AigEdge) → length nodes ≤ 2 ^ 63 → IfSome o (IsInRange nodes) → IfSome o IsSmallEdge
-init_small nodes (Some e) few h = omega arith
-init_small nodes None few h = h
+pub FitsForm-text : (c : Circuit) → length c.nodes ≤ 2 ^ 63 → FitsForm Text c []
+FitsForm-text c few = record { small = λ n h. omega arith; text = λ is. refl; binary = λ is. cc }
 
-at_most : (k : ℕ) (e : AigEdge) (b : Bool) → e.node_id < k → 2 * e.node_id + cond b 1 0 ≤ 2 * k
-at_most k e true h = omega arith
-at_most k e false h = omega arith
+pub FitsForm-binary : (c : Circuit) (table : List ℕ) → IsClosed c → length c.nodes ≤ 2 ^ 31 → IsBinaryNumbering c table → FitsForm Binary c table
+FitsForm-binary c table closed few has = record {
+  small = λ n h. elim (cases_lt n (length table)) [
+    | inl within ↦ (let low = has.within n n within in omega arith)
+    | inr past ↦ (let same = get_or_past table n n past in let low : n < 2 ^ 63 = omega arith in rw same low)
+  ];
+  text = λ is. cc;
+  binary = λ is. record { closed = closed; few = few; numbering = has };
+}
 
--- the gates of a small circuit fall below one another
-pub FallsBelow-from_circuit : (c : Circuit) → IsCircuit c → length c.nodes ≤ 2 ^ 31 → All FallsBelow c.nodes
-FallsBelow-from_circuit c is few = λ k d h.
-    let here : slice_get c.nodes k ≡ Some (get_or c.nodes k d) = slice_get-get_or c.nodes k d h in
-    let same = is.nodes.numbered k (get_or c.nodes k d) here in
-    let gate = λ (a b : AigEdge) (typ : (get_or c.nodes k d).typ ≡ And a b). ap (option_map (λ (node : AigNode). node.typ)) here ∙ ap Some typ in
-    record {
-      own = omega arith;
-      second = λ a b typ. omega (arith, at_most k b b.compl (is.nodes.ordered.second_before k a b (gate a b typ)));
-      first = λ a b typ. is.nodes.ordered.in_order k a b (gate a b typ);
-    }
+-- ---- entries of a circuit
 
--- each literal of a circuit fits
-pub HasSmallNumbers-from_circuit : (c : Circuit) → IsCircuit c → length c.nodes ≤ 2 ^ 63 → HasSmallNumbers c
-HasSmallNumbers-from_circuit c is few =
-    let leaf : (n : ℕ) → IsLeaf c.nodes n → HasLiteral n = λ n h. omega (arith, kind_at-within c.nodes n Leaf h) in
-    let edge : (e : AigEdge) → IsInRange c.nodes e → IsSmallEdge e = λ e h. omega arith in
-    record {
-      nodes = IsSmallNode-at c.nodes is.nodes few;
-      inputs = All-weaker (IsLeaf c.nodes) HasLiteral leaf c.inputs is.inputs;
-      latchs = All-weaker (IsLatch c.nodes) IsSmallLatch (λ l h. record { leaf = leaf l.input h.leaf; next = edge l.next h.next; init = init_small c.nodes l.init few h.init }) c.latchs is.latchs;
-      properties = AllProperties-weaker (IsInRange c.nodes) IsSmallEdge edge c.properties is.properties;
-    }
+module _ (c : Circuit) (is : IsCircuit c) (table : List ℕ) (small : HasSmallNumbers c table) where
+  pub input_small : (inputs : List ℕ) (k : ℕ) → inputs ≡ c.inputs → k < length inputs → HasLiteral table (get_or inputs k 0)
+  input_small inputs k same h =
+      let low : k < length c.inputs = omega (arith, ap length same) in
+      subst (λ (ns : List ℕ). HasLiteral table (get_or ns k 0)) (sym same) (small (get_or c.inputs k 0) (kind_at-within c.nodes (get_or c.inputs k 0) Leaf (is.inputs k 0 low)))
 
--- ---- under other numbers
+  edges_small : (es : List AigEdge) → All (IsInRange c.nodes) es → All (IsSmallEdge table) es
+  edges_small es all = All-weaker (IsInRange c.nodes) (IsSmallEdge table) (λ e h. small e.node_id h) es all
 
-module _ (table : List ℕ) (all : All HasLiteral table) where
-  pub number_small : (n : ℕ) → HasLiteral n → HasLiteral (written_number table n)
-  number_small n small = elim (cases_lt n (length table)) [
-    | inl within ↦ all n n within
-    | inr past ↦ (let same = get_or_past table n n past in rw same small)
-  ]
+  pub list_small : (list : PropList) → All (IsSmallEdge table) (edges_of list c)
+  list_small Outputs = edges_small c.properties.outputs is.properties.outputs
+  list_small Bads = edges_small c.properties.bads is.properties.bads
+  list_small Constraints = edges_small c.properties.constraints is.properties.constraints
+  list_small Fairness = edges_small c.properties.fairness is.properties.fairness
 
-  pub edge_small : (e : AigEdge) → IsSmallEdge e → IsSmallEdge (renumbered_edge (written_number table) e)
-  edge_small e small = number_small e.node_id small
+  pub sets_small : (sets : List (Vec AigEdge Global)) → map (λ (set : Vec AigEdge Global). set.items) sets ≡ c.properties.justice → All (λ (set : Vec AigEdge Global). All (IsSmallEdge table) set.items) sets
+  sets_small sets same = λ k d lt.
+      let read = get_or-map (λ (set : Vec AigEdge Global). set.items) sets k d d.items lt in
+      let all : All (All (IsInRange c.nodes)) (map (λ (set : Vec AigEdge Global). set.items) sets) = rw same is.properties.justice in
+      edges_small (get_or sets k d).items (subst (All (IsInRange c.nodes)) read (all k d.items (let e = length-map sets (λ (set : Vec AigEdge Global). set.items) in omega arith)))
 
-  init_small_under : (o : Option AigEdge) → IfSome o IsSmallEdge → IfSome (option_map (renumbered_edge (written_number table)) o) IsSmallEdge
-  init_small_under (Some e) small = edge_small e small
-  init_small_under None small = small
+  init_small : (o : Option AigEdge) → IfSome o (IsInRange c.nodes) → IfSome o (IsSmallEdge table)
+  init_small (Some e) h = small e.node_id h
+  init_small None h = h
 
-  pub latch_small : (l : AigLatch) → IsSmallLatch l → IsSmallLatch (renumbered_latch (written_number table) l)
-  latch_small l small = record { leaf = number_small l.input small.leaf; next = edge_small l.next small.next; init = init_small_under l.init small.init }
+  pub latch_small : (latchs : List AigLatch) (k : ℕ) (d : AigLatch) → latchs ≡ c.latchs → k < length latchs → IsSmallLatch table (get_or latchs k d)
+  latch_small latchs k d same h =
+      let low : k < length c.latchs = omega (arith, ap length same) in
+      let l = get_or c.latchs k d in
+      let latch = is.latchs k d low in
+      subst (λ (ls : List AigLatch). IsSmallLatch table (get_or ls k d)) (sym same) (record {
+        leaf = small l.input (kind_at-within c.nodes l.input Leaf latch.leaf);
+        next = small l.next.node_id latch.next;
+        init = init_small l.init latch.init;
+      })
 
-  and_small : (x y : AigEdge) → IsSmallEdge x → IsSmallEdge y → (a b : AigEdge) → and_of x y ≡ And a b → IsSmallEdge a × IsSmallEdge b
-  and_small x y first second a b = by_order (nat_lt (literal_of y) (literal_of x))
-    where
-      by_order : (less : Bool) → cond less (And y x) (And x y) ≡ And a b → IsSmallEdge a × IsSmallEdge b
-      by_order true is = let e : y ≡ a = cc in let f : x ≡ b = cc in (subst IsSmallEdge e second, subst IsSmallEdge f first)
-      by_order false is = let e : x ≡ a = cc in let f : y ≡ b = cc in (subst IsSmallEdge e first, subst IsSmallEdge f second)
-
-  pub gate_small : (n : ℕ) (x y : AigEdge) → HasLiteral n → IsSmallEdge x → IsSmallEdge y → IsSmallNode (record { node_id = written_number table n; typ = and_of (renumbered_edge (written_number table) x) (renumbered_edge (written_number table) y) })
-  gate_small n x y own first second = record {
-    own = number_small n own;
-    operands = and_small (renumbered_edge (written_number table) x) (renumbered_edge (written_number table) y) (edge_small x first) (edge_small y second);
-  }
+  pub node_small : (nodes : List AigNode) (k : ℕ) (d : AigNode) → nodes ≡ c.nodes → k < length nodes → IsSmallNode table (get_or nodes k d)
+  node_small nodes k d same h =
+      let low : k < length c.nodes = omega (arith, ap length same) in
+      let node = get_or c.nodes k d in
+      let here = slice_get-get_or c.nodes k d low in
+      subst (λ (ns : List AigNode). IsSmallNode table (get_or ns k d)) (sym same) (record {
+        own = small node.node_id (let at = is.nodes.numbered k node here in omega arith);
+        operands = λ a b typ.
+            let gate = ap (option_map (λ (x : AigNode). x.typ)) here ∙ ap Some typ in
+            let first = is.nodes.ordered.first_before k a b gate in
+            let second = is.nodes.ordered.second_before k a b gate in
+            (small a.node_id (omega arith), small b.node_id (omega arith));
+      })

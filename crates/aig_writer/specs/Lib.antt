@@ -1,3 +1,4 @@
+pub mod Forms
 pub mod Literals
 pub mod Numbering
 pub mod Parts

@@ -1,6 +1,6 @@
 -- Serves private clauses alone.
 -- The numbers under which a circuit's nodes are written.
-use Rattle.std.specs.Prelude.{◌≡◌, ℕ, ◌+◌, ◌-◌, ◌^◌, ◌<◌, ◌≤◌, List, [], length, map, filter_map, Some, All, EachIndex, Contains, slice_index, slice_index_or}
+use Rattle.std.specs.Prelude.{◌≡◌, ℕ, ◌-◌, ◌^◌, ◌<◌, ◌≤◌, List, [], length, map, filter_map, Some, All, slice_index_or}
 use Rattle.aig_circuit.specs.declared.node.AigNode.{AigNode}
 use Rattle.aig_circuit.specs.Circuit.{Circuit, IsClosed}
 use Rattle.aig_circuit.specs.Reencode.{new_number}
@@ -38,14 +38,3 @@ pub record FitsBinary (c : Circuit) (table : List ℕ) : Type 0 where
   pub closed : IsClosed c
   pub few : length c.nodes ≤ 2 ^ 31
   pub numbering : IsBinaryNumbering c table
-
--- the numbers from `first` on, in order
-abbrev pub IsRowFrom : ℕ → List ℕ → Type 0
-IsRowFrom first ns = EachIndex ns (λ i. slice_index ns i ≡ first + i)
-
--- in the new table the nodes have the numbers from `first` on, and other nodes have those of the
--- old table
-pub record NumbersFrom (first : ℕ) (ids old new : List ℕ) : Type 0 where
-  pub count : length new ≡ length old
-  pub given : (i : ℕ) → i < length ids → slice_index new (slice_index ids i) ≡ first + i
-  pub others : (n : ℕ) → ¬ Contains ids n → slice_index new n ≡ slice_index old n

@@ -1,44 +1,20 @@
 //! Both forms of a circuit.
 
-ghost use Rattle.std.specs.Prelude.{◌≡◌, ◌≤◌, ◌^◌, All, length};
-ghost use Rattle.aig_circuit.specs.Circuit.{IsCircuit, IsClosed};
-ghost use Rattle.aig_format.specs.declared.FileKind.TheVariants.{Text};
-ghost use Rattle.aig_format.specs.Written.{file_text, properties_text};
+ghost use Rattle.std.specs.Prelude.{◌≤◌, ◌^◌, length};
+ghost use Rattle.aig_circuit.specs.Circuit.{IsClosed};
 ghost use Rattle.aig_format.specs.Circuit.{binary_of, text_of};
 ghost use Rattle.aig_output.specs.Sinks.{WritesOrStops};
 ghost use Rattle.aig_output.specs.Writing.{WritesPieces};
-ghost use Rattle.aig_writer.specs.Literals.{HasSmallNumbers, HasLiteral};
-ghost use Rattle.aig_writer.specs.Numbering.{FitsBinary, IsBinaryNumbering, written_number, numbered_file};
+ghost use Rattle.aig_writer.specs.Forms.{FitsForm, form_of};
+ghost use Rattle.aig_writer.specs.Numbering.{IsBinaryNumbering};
 
 use crate::header::write_header;
 use crate::names::write_names;
-use crate::sections::{
-    write_edges, write_gates, write_inputs, write_latches, write_set_sizes, write_sets,
-};
+use crate::sections::{write_gates, write_inputs, write_latches, write_properties};
 use aig_base::{Sink, StreamFault};
 use aig_circuit::CircuitView;
 use aig_format::FileKind;
 use aig_output::{BufferedSink, TextOut};
-
-/// Writes the outputs and the properties.
-fn write_properties<O: TextOut>(
-    out: &mut O,
-    numbers: &[usize],
-    circuit: &CircuitView<'_>,
-) -> Result<(), O::Error>
-    requires table { All HasLiteral numbers.now }
-    requires small { HasSmallNumbers circuit.now }
-    ensures { let text = properties_text
-        (numbered_file (written_number numbers.now) Text circuit.now).properties in
-        WritesPieces O.wrote O.stopped out.old result text out.new }
-{
-    write_edges(out, numbers, circuit.outputs())?;
-    write_edges(out, numbers, circuit.bads())?;
-    write_edges(out, numbers, circuit.constraints())?;
-    write_set_sizes(out, circuit.justice())?;
-    write_sets(out, numbers, circuit.justice())?;
-    write_edges(out, numbers, circuit.fairness())
-}
 
 /// Writes the header and the sections of the form of this kind.
 pub(crate) fn write_sections<O: TextOut>(
@@ -47,19 +23,14 @@ pub(crate) fn write_sections<O: TextOut>(
     numbers: &[usize],
     circuit: &CircuitView<'_>,
 ) -> Result<(), O::Error>
-    requires table { All HasLiteral numbers.now }
-    requires few { length circuit.now.nodes ≤ 2 ^ 63 }
-    requires binary { kind ≡ FileKind.Binary → FitsBinary circuit.now numbers.now }
-    ensures writes { let text = file_text
-        (numbered_file (written_number numbers.now) kind circuit.now) in
-        WritesPieces O.wrote O.stopped out.old result text out.new }
-    ensures circuit { IsCircuit circuit.now }
+    requires { FitsForm kind circuit.now numbers.now }
+    ensures { WritesPieces O.wrote O.stopped out.old result (form_of kind circuit.now) out.new }
 {
     write_header(out, kind, circuit)?;
-    write_inputs(out, kind, numbers, circuit.inputs())?;
-    write_latches(out, kind, numbers, circuit.latchs())?;
+    write_inputs(out, kind, numbers, circuit)?;
+    write_latches(out, kind, numbers, circuit)?;
     write_properties(out, numbers, circuit)?;
-    write_gates(out, kind, numbers, circuit.nodes())?;
+    write_gates(out, kind, numbers, circuit)?;
     write_names(out, circuit)
 }
 
@@ -70,13 +41,9 @@ fn write_form<W: Sink>(
     numbers: &[usize],
     circuit: &CircuitView<'_>,
 ) -> Result<(), StreamFault>
-    requires table { All HasLiteral numbers.now }
-    requires few { length circuit.now.nodes ≤ 2 ^ 63 }
-    requires binary { kind ≡ FileKind.Binary → FitsBinary circuit.now numbers.now }
-    ensures writes { let text = file_text
-        (numbered_file (written_number numbers.now) kind circuit.now) in
-        WritesOrStops W.held W.failed w.old result text w.new }
-    ensures circuit { IsCircuit circuit.now }
+    requires { FitsForm kind circuit.now numbers.now }
+    ensures { let form = form_of kind circuit.now in
+        WritesOrStops W.held W.failed w.old result form w.new }
 {
     let mut out = BufferedSink::new(w);
     write_sections(&mut out, kind, numbers, circuit)?;

@@ -1,8 +1,9 @@
-use Rattle.aig_format.specs.declared.FileKind.TheVariants.{Text}
 use Rattle.aig_output.proofs.Printing.{WritesStyledOnOk-from_pieces}
-use Rattle.aig_writer.proofs.Numbered.{own_file}
+use Rattle.aig_writer.proofs.Small.{FitsForm-text}
 use Rattle.aig_writer.proofs.display.fmt_text.Goals as goal
 
+pub write_sections-requires : goal.write_sections-requires
+write_sections-requires g c = FitsForm-text c.args.circuit.now c.requires
+
 pub returns : goal.returns
-returns g c =
-    WritesStyledOnOk-from_pieces _ (rw (own_file c.args.circuit.now c.write_sections.ensures.circuit Text) at c.write_sections.ensures.writes.ok)
+returns g c = WritesStyledOnOk-from_pieces _ c.write_sections.ensures.ok

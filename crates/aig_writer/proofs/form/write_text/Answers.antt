@@ -1,6 +1,5 @@
-use Rattle.aig_format.specs.declared.FileKind.TheVariants.{Text}
-use Rattle.aig_writer.proofs.Numbered.{own_file}
+use Rattle.aig_writer.proofs.Small.{FitsForm-text}
 use Rattle.aig_writer.proofs.form.write_text.Goals as goal
 
-pub returns : goal.returns
-returns g c = rw (own_file c.args.circuit.now c.write_form.ensures.circuit Text) at c.write_form.ensures.writes
+pub write_form-requires : goal.write_form-requires
+write_form-requires g c = FitsForm-text c.args.circuit.now c.requires

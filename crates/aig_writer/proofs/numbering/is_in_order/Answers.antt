@@ -1,15 +1,26 @@
-use Rattle.aig_writer.proofs.Tables.{reencoded-row}
+use Rattle.std.proofs.Common.{◌+◌, ap, arith, length, refl}
+use Rattle.std.proofs.lemmas.Bool.{false≢true}
+use Rattle.aig_writer.proofs.Tables.{row-at, row-turn, row_length}
 use Rattle.aig_writer.proofs.numbering.is_in_order.Goals as goal
 
-pub returns-then-are_inputs_in_order-clause-order : goal.returns-then-are_inputs_in_order-clause-order
-returns-then-are_inputs_in_order-clause-order c =
-    let both = reencoded-row c.args.circuit.now in
-    let first = rw c.inputs.ensures.value at (c.are_inputs_in_order.ensures.0 c.if-are_inputs_in_order.true) in
-    let second = rw (c.inputs-then-are_inputs_in_order.ensures.value, c.latchs.ensures.value) at c.are_latches_in_order.ensures in
-    (λ yes. both.0 (first, second.0 yes), λ order. second.1 (both.1 order).1)
+pub returns-then-input-inputs-clause-order : goal.returns-then-input-inputs-clause-order
+returns-then-input-inputs-clause-order c =
+    let circuit = c.args.circuit.now in
+    let i = c.loop-i-2.i in
+    let latchs = c.latchs-latch-items.ensures.value in
+    let at = row-at circuit c.latchs-latch-items.result.now i c.input.result _ latchs c.loop-i-2-test.true c.input.ensures in
+    let inputs = ap length c.inputs-inputs.ensures.value in
+    (λ yes. absurd (false≢true yes), λ order. absurd (omega (arith, order (length circuit.inputs + i) (omega (arith, row_length circuit, ap length latchs)))))
 
-pub returns-else-are_inputs_in_order-clause-order : goal.returns-else-are_inputs_in_order-clause-order
-returns-else-are_inputs_in_order-clause-order c =
-    let both = reencoded-row c.args.circuit.now in
-    let first = rw c.inputs.ensures.value at c.are_inputs_in_order.ensures in
-    (λ yes. (let no = c.if-are_inputs_in_order.false in let wrong = yes in cc), λ order. first.1 (both.1 order).0)
+pub loop-i-2-preserved : goal.loop-i-2-preserved
+loop-i-2-preserved c =
+    let circuit = c.args.circuit.now in
+    let i = c.loop-i-2.i in
+    let at = row-at circuit c.latchs-latch-items.result.now i c.input.result _ c.latchs-latch-items.ensures.value c.loop-i-2-test.true c.input.ensures in
+    row-turn circuit i c.input.result c.loop-i-2.invariant at (omega (arith, ap length c.inputs-inputs.ensures.value))
+
+pub returns-clause-order : goal.returns-clause-order
+returns-clause-order c =
+    let circuit = c.args.circuit.now in
+    let latchs = ap length c.latchs-latch-items.ensures.value in
+    (λ yes i h. c.loop-i-2.invariant i (omega (arith, row_length circuit)), λ order. refl)

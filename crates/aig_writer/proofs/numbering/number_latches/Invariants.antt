@@ -1,7 +1,0 @@
-use Rattle.std.proofs.Common.{take}
-use Rattle.aig_circuit.specs.Circuit.{latch_leaves}
-use Rattle.aig_writer.specs.Numbering.{NumbersFrom}
-use Rattle.aig_writer.proofs.numbering.number_latches.Given as goal
-
-abbrev pub invariant-loop-i : goal.invariant-loop-i
-invariant-loop-i l = NumbersFrom l.first (take l.i (latch_leaves l.latchs)) l.fn.numbers l.numbers
