@@ -4,9 +4,8 @@ ghost use Rattle.std.specs.Prelude.{◌≡◌};
 ghost use Rattle.aig_symbols.specs.NameFaults.{error_of};
 ghost use Rattle.aig_symbols.specs.declared.names.error.NameError.TheVariants as name;
 
-use aig_base::StreamFault;
 use aig_lexer::LexError;
-use std::alloc::{AllocError, AllocFailed};
+use std::alloc::AllocFailed;
 
 /// Why names are not read.
 #[derive(Clone, Copy, Debug, PartialEq, Eq)]
@@ -19,27 +18,11 @@ pub enum NameError {
     Shape,
 }
 
-impl From<AllocError> for NameError {
-    ghost from_gives = { λ _ r. r ≡ name.Memory };
-
-    fn from(_error: AllocError) -> NameError {
-        NameError::Memory
-    }
-}
-
 impl<T: Drop> From<AllocFailed<T>> for NameError {
     ghost from_gives = { λ _ r. r ≡ name.Memory };
 
     fn from(_error: AllocFailed<T>) -> NameError {
         NameError::Memory
-    }
-}
-
-impl From<StreamFault> for NameError {
-    ghost from_gives = { λ _ r. r ≡ name.Stream };
-
-    fn from(_fault: StreamFault) -> NameError {
-        NameError::Stream
     }
 }
 
