@@ -1,13 +1,14 @@
 -- The leaves after the first so many nodes, and the leaves that are no latch's: none stands twice.
-use Rattle.std.proofs.Common.{◌≡◌, ◌≢◌, ℕ, ◌+◌, ◌-◌, ◌<◌, ◌≤◌, Bool, true, Some, List, ◌++◌, length, map, get_or, drop, refl, sym, ap, subst, ◌∙◌, arith}
-use Rattle.std.specs.Prelude.{All, AllPairs, Contains, count_by, filter, option_map}
+use Rattle.std.proofs.Common.{◌≡◌, ◌≢◌, ℕ, ◌+◌, ◌-◌, ◌<◌, ◌≤◌, Bool, true, false, Some, List, ◌++◌, length, map, get_or, drop, refl, sym, ap, subst, ◌∙◌, arith}
+use Rattle.std.specs.Prelude.{◌↔◌, All, AllPairs, Contains, IsTrue, count_by, filter, option_map}
 use Rattle.std.proofs.lemmas.Option.{same_Some, slice_get-get_or}
 use Rattle.std.proofs.lemmas.List.{drop-append-le, drop_at, get_or-drop, length-drop, length-map, map-append}
 use Rattle.std.proofs.lemmas.List.Elements.{All-filter, All-map, Contains-get_or, filter-append, filter_passes}
 use Rattle.std.proofs.lemmas.List.Sums.{length-filter}
 use Rattle.std.proofs.lemmas.List.Kept.{AllPairs-filter}
 use Rattle.aig_circuit.specs.declared.node.AigNode.{AigNode}
-use Rattle.aig_circuit.specs.declared.node.AigNodeType.TheVariants.{False, Leaf}
+use Rattle.aig_circuit.specs.declared.node.AigNodeType.{AigNodeType}
+use Rattle.aig_circuit.specs.declared.node.AigNodeType.TheVariants.{And, False, Leaf}
 use Rattle.aig_circuit.specs.Build.{Grows}
 use Rattle.aig_circuit.specs.Circuit.{AreNodes, Circuit, IsLeaf}
 use Rattle.aig_circuit.specs.Runs.{is_leaf}
@@ -18,16 +19,24 @@ use Rattle.aig_circuit.proofs.Counting.{is_leaf-Leaf}
 use Rattle.aig_unroll.proofs.Others.{kept_all, number_in}
 
 -- a node's number
-abbrev number_of : AigNode → ℕ
+abbrev pub number_of : AigNode → ℕ
 number_of node = node.node_id
 
 -- the node is a leaf
-abbrev leaf_test : AigNode → Bool
+abbrev pub leaf_test : AigNode → Bool
 leaf_test node = is_leaf node.typ
 
 -- any node, where a list has no entry
 abbrev pub no_node : AigNode
 no_node = record { node_id = 0; typ = False }
+
+-- what says whether a kind is a leaf is the test
+pub told_leaf : (k : AigNodeType) (b : Bool) → IsTrue b ↔ (k ≡ Leaf) → is_leaf k ≡ b
+told_leaf Leaf b told = sym (told.1 refl)
+told_leaf False true told = cc (told.0 refl)
+told_leaf False false told = refl
+told_leaf (And x y) true told = cc (told.0 refl)
+told_leaf (And x y) false told = refl
 
 -- ---- the leaves of a list that grows
 

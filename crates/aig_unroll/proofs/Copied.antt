@@ -5,7 +5,7 @@ use Rattle.std.specs.List.{list_any}
 use Rattle.std.proofs.Math.ListN.{length-set}
 use Rattle.std.proofs.lemmas.Bool.{eq-eqb, eqb-true, true≢false, false_from_ne_true}
 use Rattle.std.proofs.lemmas.Option.{same_Some, slice_get-get_or}
-use Rattle.std.proofs.lemmas.List.{append-nil, drop_at, get_or-take, length-take, map-append}
+use Rattle.std.proofs.lemmas.List.{append-nil, drop_all, drop_at, get_or-take, length-take, map-append}
 use Rattle.std.proofs.lemmas.List.Elements.{All-contains, All-filter, All-map, filter_more}
 use Rattle.aig_circuit.specs.declared.edge.AigEdge.{AigEdge}
 use Rattle.aig_circuit.specs.declared.node.AigNode.{AigNode}
@@ -17,9 +17,9 @@ use Rattle.aig_circuit.specs.Tree.{edge_value, node_value}
 use Rattle.aig_circuit.specs.Circuit.{AreNodes, Circuit, IsCircuit, IsInRange, IsLeaf, latch_leaves}
 use Rattle.aig_circuit.specs.Build.{AddsGates, FoldsOrAdds, Grows, with_node}
 use Rattle.aig_circuit.specs.Runs.{is_leaf}
-use Rattle.aig_circuit.proofs.Building.{Grows-leaf, Grows-longer, Grows-then, edge_value-Grows}
+use Rattle.aig_circuit.proofs.Building.{Grows-itself, Grows-leaf, Grows-longer, Grows-then, edge_value-Grows}
 use Rattle.aig_circuit.proofs.Circuits.{latch_leaves-leaves}
-use Rattle.aig_circuit.proofs.Trees.{kind_at-within, node_value-and, node_value-false, node_value-leaf}
+use Rattle.aig_circuit.proofs.Trees.{kind_at-read, kind_at-within, node_value-and, node_value-false, node_value-leaf}
 use Rattle.aig_renumber.proofs.Kept.{is_in-back, is_in-there}
 use Rattle.aig_unroll.specs.Places.{is_other_leaf, leaves_after}
 use Rattle.aig_unroll.specs.Step.{Copies, CopiesBelow, MarksLatches, image_at, image_in, others_among, takes_no_node}
@@ -265,3 +265,35 @@ module _ (from : Circuit) (circuit : IsCircuit from) (old mid new : List AigNode
 pub at_most_one_more : (old new : List AigNode) (a b e : AigEdge) → FoldsOrAdds old new a b e → length new ≤ length old + 1
 at_most_one_more old new a b e (inl p) = let same : length new ≡ length old = ap length p.1 in omega arith
 at_most_one_more old new a b e (inr p) = let same : length new ≡ length old + 1 = ap length p.1.gate ∙ length-append old _ in omega arith
+
+-- ---- the first node, and a node that is read
+
+-- of no node the image is made yet
+pub copies_none : (from : Circuit) (old : List AigNode) (images : List AigEdge) → AreNodes old → length images ≡ length from.nodes → CopiesBelow from old old images images 0
+copies_none from old images sound count =
+    let none : leaves_after (length old) old ≡ [] = ap (λ l. map (λ (node : AigNode). node.node_id) (filter (λ (node : AigNode). is_leaf node.typ) l)) (drop_all (length old) old (omega arith)) in
+    record {
+      grows = Grows-itself old sound;
+      count = count;
+      there = λ n h. absurd (omega arith);
+      latches = λ n h. refl;
+      rest = λ n h. refl;
+      others = sym (ap (map (λ n. edge_to n false)) none);
+      value = λ y x leaves n h. absurd (omega arith);
+      size = omega arith;
+    }
+
+-- the kind that was read of a node
+pub kind_read : (nodes read : List AigNode) (n : ℕ) (k t : AigNodeType) → n < length nodes → read ≡ nodes → t ≡ (get_or read n no_node).typ → t ≡ k → kind_at nodes n ≡ Some k
+kind_read nodes read n k t there same typ is = kind_at-read nodes n no_node k there (sym is ∙ typ ∙ ap (λ l. (get_or l n no_node).typ) same)
+
+-- a new leaf is there
+pub leaf_in_range : (old new : List AigNode) (e : AigEdge) → e ≡ edge_to (length old) false → new ≡ with_node old Leaf → IsInRange new e
+leaf_in_range old new e edge adds = rw (edge, adds) (omega (arith, length-append old))
+
+-- the images of a gate's operands are made
+pub operands_there : (from : Circuit) (i : ℕ) (a b : AigEdge) (images : List AigEdge) → IsCircuit from → i < length from.nodes → length images ≡ length from.nodes → kind_at from.nodes i ≡ Some (And a b) → (a.node_id < length images) × (b.node_id < length images)
+operands_there from i a b images circuit there table is =
+    let first = circuit.nodes.ordered.first_before i a b is in
+    let second = circuit.nodes.ordered.second_before i a b is in
+    (omega arith, omega arith)

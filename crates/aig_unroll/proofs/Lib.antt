@@ -4,6 +4,7 @@ pub mod Values
 pub mod Lists
 pub mod NoStep
 pub mod Added
+pub mod Pushed
 pub mod NextStep
 pub mod MoreShown
 pub mod MoreSteps

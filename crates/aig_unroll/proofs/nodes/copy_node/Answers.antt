@@ -1,12 +1,17 @@
-use Rattle.std.proofs.Common.{◌&&◌, get_or, sym, ap, ◌∙◌}
-use Rattle.aig_circuit.specs.declared.node.AigNodeType.TheVariants.{And}
+use Rattle.std.proofs.Common.{◌&&◌, ◌<◌, ◌≤◌, ℕ, false, length, refl, ap, ◌∙◌, arith}
+use Rattle.aig_circuit.specs.declared.node.AigNodeType.TheVariants.{And, False, Leaf}
+use Rattle.aig_circuit.specs.Edge.{edge_to}
 use Rattle.aig_circuit.specs.Tree.{edge_value}
-use Rattle.aig_circuit.proofs.Trees.{kind_at-read}
-use Rattle.aig_unroll.specs.Step.Copies.{gate}
-use Rattle.aig_unroll.proofs.Added.{no_node}
-use Rattle.aig_unroll.specs.Step.{image_in}
-use Rattle.aig_unroll.proofs.Copied.{at_most_one_more}
+use Rattle.aig_circuit.proofs.Trees.{kind_at-within}
+use Rattle.aig_circuit.proofs.Building.{Grows-itself}
+use Rattle.aig_unroll.specs.Step.Copies.{false_node, gate, latch_leaf, other_leaf}
+use Rattle.aig_unroll.specs.Step.{image_at, image_in}
+use Rattle.aig_unroll.proofs.Copied.{at_most_one_more, kind_read, leaf_in_range, operands_there}
 use Rattle.aig_unroll.proofs.nodes.copy_node.Goals as goal
+
+-- below what is below
+below_start : (n start count : ℕ) → n < start → start ≤ count → n < count
+below_start n start count p q = omega arith
 
 pub returns-in_ok-new_and_node-in-And-clause-copies :
     goal.returns-in_ok-new_and_node-in-And-clause-copies
@@ -16,7 +21,81 @@ returns-in_ok-new_and_node-in-And-clause-copies c =
     let old = c.args.nodes.now.items in
     let new = c.new_and_node.new.nodes.items in
     let e = c.in_ok-new_and_node-in-And.field-0 in
-    let is = kind_at-read c.args.from.now.nodes c.args.id no_node (And a b) c.requires.there (sym c.in-And.is ∙ c.typ.ensures ∙ ap (λ l. (get_or l c.args.id no_node).typ) c.nodes.ensures.value) in
+    let is = kind_read c.args.from.now.nodes c.nodes.result.now c.args.id (And a b) c.typ.result.now c.requires.there c.nodes.ensures.value c.typ.ensures c.in-And.is in
     let ensures = c.in_ok-new_and_node-in-And.ensures in
     gate a b is ensures.gates (at_most_one_more old new c.image_of-first.result c.image_of-second.result e ensures.rule)
     (λ y. ensures.value y ∙ ap (λ f. edge_value old y f && edge_value old y c.image_of-second.result) c.image_of-first.ensures ∙ ap (λ f. edge_value old y (image_in c.args.images.now a) && edge_value old y f) c.image_of-second.ensures)
+
+pub returns-in-False-clause-copies : goal.returns-in-False-clause-copies
+returns-in-False-clause-copies c =
+    let is = kind_read c.args.from.now.nodes c.nodes.result.now c.args.id False c.typ.result.now c.requires.there c.nodes.ensures.value c.typ.ensures c.in-False.is in
+    false_node is c.constant.ensures refl
+
+pub returns-in-False-clause-edge : goal.returns-in-False-clause-edge
+returns-in-False-clause-edge c = rw c.constant.ensures (kind_at-within c.args.nodes.now.items 0 False c.requires.sound.false_first)
+
+pub returns-in-False-clause-grows : goal.returns-in-False-clause-grows
+returns-in-False-clause-grows c = Grows-itself c.args.nodes.now.items c.requires.sound
+
+pub returns-then-node_id-start-clause-copies : goal.returns-then-node_id-start-clause-copies
+returns-then-node_id-start-clause-copies c =
+    let is = kind_read c.args.from.now.nodes c.nodes.result.now c.args.id Leaf c.typ.result.now c.requires.there c.nodes.ensures.value c.typ.ensures c.in-Leaf.is in
+    latch_leaf is (rw c.node_id.ensures at c.if-node_id-start.true) refl refl
+
+pub returns-then-node_id-start-clause-edge : goal.returns-then-node_id-start-clause-edge
+returns-then-node_id-start-clause-edge c = below_start (image_at c.args.images.now c.args.id).node_id c.args.start (length c.args.nodes.now.items) (rw c.node_id.ensures at c.if-node_id-start.true) c.requires.start
+
+pub returns-then-node_id-start-clause-grows : goal.returns-then-node_id-start-clause-grows
+returns-then-node_id-start-clause-grows c = Grows-itself c.args.nodes.now.items c.requires.sound
+
+pub new_leaf_node-requires : goal.new_leaf_node-requires
+new_leaf_node-requires c = c.requires.sound
+
+pub returns-in_err-new_leaf_node-in-Leaf-clause-grows : goal.returns-in_err-new_leaf_node-in-Leaf-clause-grows
+returns-in_err-new_leaf_node-in-Leaf-clause-grows c = c.new_leaf_node.ensures.grows
+
+pub returns-in_ok-new_leaf_node-in-Leaf-clause-copies : goal.returns-in_ok-new_leaf_node-in-Leaf-clause-copies
+returns-in_ok-new_leaf_node-in-Leaf-clause-copies c =
+    let is = kind_read c.args.from.now.nodes c.nodes.result.now c.args.id Leaf c.typ.result.now c.requires.there c.nodes.ensures.value c.typ.ensures c.in-Leaf.is in
+    let ensures = c.in_ok-new_leaf_node-in-Leaf.ensures in
+    other_leaf is (rw c.node_id.ensures at c.if-node_id-start.false) (c.from.ensures ∙ ap (λ n. edge_to n false) ensures.number) ensures.ok
+
+pub returns-in_ok-new_leaf_node-in-Leaf-clause-edge : goal.returns-in_ok-new_leaf_node-in-Leaf-clause-edge
+returns-in_ok-new_leaf_node-in-Leaf-clause-edge c =
+    let ensures = c.in_ok-new_leaf_node-in-Leaf.ensures in
+    leaf_in_range c.args.nodes.now.items c.new_leaf_node.new.nodes.items c.from.result (c.from.ensures ∙ ap (λ n. edge_to n false) ensures.number) ensures.ok
+
+pub returns-in_ok-new_leaf_node-in-Leaf-clause-grows : goal.returns-in_ok-new_leaf_node-in-Leaf-clause-grows
+returns-in_ok-new_leaf_node-in-Leaf-clause-grows c = c.new_leaf_node.ensures.grows
+
+pub image_of-first-requires : goal.image_of-first-requires
+image_of-first-requires c =
+    let is = kind_read c.args.from.now.nodes c.nodes.result.now c.args.id (And c.in-And.fanin0 c.in-And.fanin1) c.typ.result.now c.requires.there c.nodes.ensures.value c.typ.ensures c.in-And.is in
+    (operands_there c.args.from.now c.args.id c.in-And.fanin0 c.in-And.fanin1 c.args.images.now c.nodes.ensures.circuit c.requires.there c.requires.table is).0
+
+pub image_of-second-requires : goal.image_of-second-requires
+image_of-second-requires c =
+    let is = kind_read c.args.from.now.nodes c.nodes.result.now c.args.id (And c.in-And.fanin0 c.in-And.fanin1) c.typ.result.now c.requires.there c.nodes.ensures.value c.typ.ensures c.in-And.is in
+    (operands_there c.args.from.now c.args.id c.in-And.fanin0 c.in-And.fanin1 c.args.images.now c.nodes.ensures.circuit c.requires.there c.requires.table is).1
+
+pub new_and_node-requires-clause-sound : goal.new_and_node-requires-clause-sound
+new_and_node-requires-clause-sound c = c.requires.sound
+
+pub new_and_node-requires-clause-first : goal.new_and_node-requires-clause-first
+new_and_node-requires-clause-first c =
+    let is = kind_read c.args.from.now.nodes c.nodes.result.now c.args.id (And c.in-And.fanin0 c.in-And.fanin1) c.typ.result.now c.requires.there c.nodes.ensures.value c.typ.ensures c.in-And.is in
+    rw c.image_of-first.ensures (c.requires.images c.in-And.fanin0.node_id (c.nodes.ensures.circuit.nodes.ordered.first_before c.args.id c.in-And.fanin0 c.in-And.fanin1 is))
+
+pub new_and_node-requires-clause-second : goal.new_and_node-requires-clause-second
+new_and_node-requires-clause-second c =
+    let is = kind_read c.args.from.now.nodes c.nodes.result.now c.args.id (And c.in-And.fanin0 c.in-And.fanin1) c.typ.result.now c.requires.there c.nodes.ensures.value c.typ.ensures c.in-And.is in
+    rw c.image_of-second.ensures (c.requires.images c.in-And.fanin1.node_id (c.nodes.ensures.circuit.nodes.ordered.second_before c.args.id c.in-And.fanin0 c.in-And.fanin1 is))
+
+pub returns-in_err-new_and_node-in-And-clause-grows : goal.returns-in_err-new_and_node-in-And-clause-grows
+returns-in_err-new_and_node-in-And-clause-grows c = c.new_and_node.ensures.gates.grows
+
+pub returns-in_ok-new_and_node-in-And-clause-edge : goal.returns-in_ok-new_and_node-in-And-clause-edge
+returns-in_ok-new_and_node-in-And-clause-edge c = c.in_ok-new_and_node-in-And.ensures.edge
+
+pub returns-in_ok-new_and_node-in-And-clause-grows : goal.returns-in_ok-new_and_node-in-And-clause-grows
+returns-in_ok-new_and_node-in-And-clause-grows c = c.new_and_node.ensures.gates.grows
