@@ -4,7 +4,7 @@
 //! their gate. Each edge that is given has its node in the list. The one error is refused memory, and after it the list
 //! is as it was.
 
-ghost use Rattle.std.specs.Prelude.{◌≡◌, ◌↔◌, ◌<◌, ◌&&◌, ◌||◌, ℕ, Bool, IsTrue, IfOk, IsOk, OnErr, All, length, map, not};
+ghost use Rattle.std.specs.Prelude.{◌≡◌, ◌↔◌, ◌<◌, ◌&&◌, ◌||◌, ℕ, Bool, IsTrue, IfOk, IsOk, MatchOption, OnErr, All, length, map, not};
 ghost use Rattle.aig_circuit.specs.declared.node.AigNodeType.TheVariants.{Leaf};
 ghost use Rattle.aig_circuit.specs.Edge.{inverse};
 ghost use Rattle.aig_circuit.specs.Build.{with_node, AddsGate, AddsGates, AddsGateForEach, AddsOneEach, Folds, FoldsOrAdds, FoldsOrAddsAll, FoldsOrAddsEq, Grows, JoinsByAnd, JoinsByOr};
@@ -72,22 +72,32 @@ pub fn new_and_node(
     ensures gates { AddsGates nodes.old.items nodes.new.items }
     ensures err { OnErr result (nodes.new.items ≡ nodes.old.items) }
 {
-    if fanin0 == AigEdge::constant(true) {
-        return Ok(fanin1);
-    }
-    if fanin1 == AigEdge::constant(true) {
-        return Ok(fanin0);
-    }
-    if fanin0 == AigEdge::constant(false) || fanin1 == AigEdge::constant(false) {
-        return Ok(AigEdge::constant(false));
-    }
-    if fanin0 == fanin1 {
-        return Ok(fanin0);
-    }
-    if fanin0 == !fanin1 {
-        return Ok(AigEdge::constant(false));
+    if let Some(folded) = folded_and(fanin0, fanin1) {
+        return Ok(folded);
     }
     trivial_new_and_node(nodes, fanin0, fanin1)
+}
+
+/// The edge that the and of two edges folds to, where they fold.
+fn folded_and(fanin0: AigEdge, fanin1: AigEdge) -> Option<AigEdge>
+    ensures { MatchOption result ((f : AigEdge) → ¬ Folds fanin0 fanin1 f) (λ e. Folds fanin0 fanin1 e) }
+{
+    if fanin0 == AigEdge::constant(true) {
+        return Some(fanin1);
+    }
+    if fanin1 == AigEdge::constant(true) {
+        return Some(fanin0);
+    }
+    if fanin0 == AigEdge::constant(false) || fanin1 == AigEdge::constant(false) {
+        return Some(AigEdge::constant(false));
+    }
+    if fanin0 == fanin1 {
+        return Some(fanin0);
+    }
+    if fanin0 == !fanin1 {
+        return Some(AigEdge::constant(false));
+    }
+    None
 }
 
 /// Adds one gate for the or of two edges, and returns the inverse of the edge to it: the gate is the and of their inverses

@@ -1,12 +1,17 @@
-use Rattle.std.proofs.Common.{false, true, take, get_or, refl, sym, subst, arith, ◌≡◌}
-use Rattle.std.proofs.lemmas.List.{take_more}
-use Rattle.std.proofs.lemmas.Grind.{common_steps}
+use Rattle.std.proofs.Common.{false, true, List, length, take, get_or, refl, sym, ap, subst, ◌∙◌, arith, ◌≡◌}
+use Rattle.std.proofs.lemmas.List.{take_all, take_more}
 use Rattle.aig_circuit.specs.declared.edge.AigEdge.{AigEdge}
 use Rattle.aig_circuit.specs.Edge.{edge_to}
-use Rattle.aig_circuit.specs.Build.{AddsGates, FoldsOrAdds}
+use Rattle.aig_circuit.specs.Build.{AddsGates, FoldsOrAdds, FoldsOrAddsAll, Grows, JoinsByAnd}
+use Rattle.aig_circuit.specs.Circuit.{IsInRange}
+use Rattle.aig_circuit.specs.declared.node.AigNode.{AigNode}
 use Rattle.aig_circuit.proofs.Building.{AddsGates-itself, take-Grows}
 use Rattle.aig_circuit.proofs.Joining.{AndSoFar-none, AndSoFar-push, joins_from_left_push, adds_none-true}
 use Rattle.aig_build.proofs.build.new_ands_node.Goals as goal
+
+-- an edge of the old nodes is one of the new ones
+still_there : (old new : List AigNode) (e : AigEdge) → Grows old new → IsInRange old e → IsInRange new e
+still_there old new e grows there = let longer = grows.longer in omega arith
 
 pub loop-fanin-init : goal.loop-fanin-init
 loop-fanin-init c = record {
@@ -30,7 +35,37 @@ loop-fanin-preserved c =
           (joins_from_left_push FoldsOrAdds c.args.nodes.now.items (edge_to 0 true) (take c.loop-fanin.fanin-index c.args.fanins.now) before after c.loop-fanin.all f c.in-Ok.e c.loop-fanin.invariant.rule c.in-Ok.ensures.rule);
     }
 
+pub new_and_node-requires-clause-sound : goal.new_and_node-requires-clause-sound
+new_and_node-requires-clause-sound c = c.loop-fanin.invariant.joined.gates.grows.sound
+
+pub new_and_node-requires-clause-first : goal.new_and_node-requires-clause-first
+new_and_node-requires-clause-first c = c.loop-fanin.invariant.joined.joins.there
+
+pub new_and_node-requires-clause-second : goal.new_and_node-requires-clause-second
+new_and_node-requires-clause-second c =
+    still_there c.args.nodes.now.items c.loop-fanin.nodes.items (get_or c.args.fanins.now c.loop-fanin.fanin-index (edge_to 0 false)) c.loop-fanin.invariant.joined.gates.grows (c.requires.edges c.loop-fanin.fanin-index (edge_to 0 false) c.loop-fanin-test.true)
+
+-- what stands after a refusal
+cut_back : (c : goal.After-truncate) → c.truncate.new.self.items ≡ c.args.nodes.now.items
+cut_back c =
+    let before : c.len-before.result ≡ length c.args.nodes.now.items = omega arith in
+    c.truncate.ensures.items ∙ ap (take c.len-before.result) c.in-Err.ensures.err ∙ ap (λ n. take n c.loop-fanin.nodes.items) before ∙ take-Grows c.args.nodes.now.items c.loop-fanin.nodes.items c.loop-fanin.invariant.joined.gates.grows
+
+pub returns-in-Err-clause-err : goal.returns-in-Err-clause-err
+returns-in-Err-clause-err c = cut_back c
+
 pub returns-in-Err-clause-gates : goal.returns-in-Err-clause-gates
-returns-in-Err-clause-gates c =
-    let same : c.truncate.new.self.items ≡ c.args.nodes.now.items = grind (arith, common_steps, take-Grows _ _ c.loop-fanin.invariant.joined.gates.grows) in
-    subst (AddsGates c.args.nodes.now.items) (sym same) (AddsGates-itself c.args.nodes.now.items c.requires.sound)
+returns-in-Err-clause-gates c = subst (AddsGates c.args.nodes.now.items) (sym (cut_back c)) (AddsGates-itself c.args.nodes.now.items c.requires.sound)
+
+pub returns-clause-rule : goal.returns-clause-rule
+returns-clause-rule c =
+    let whole = take_all c.loop-fanin.fanin-index c.args.fanins.now c.loop-fanin-test.false in
+    subst (λ l. FoldsOrAddsAll c.args.nodes.now.items l c.loop-fanin.nodes.items c.loop-fanin.all) whole c.loop-fanin.invariant.rule
+
+pub returns-clause-joins : goal.returns-clause-joins
+returns-clause-joins c =
+    let whole = take_all c.loop-fanin.fanin-index c.args.fanins.now c.loop-fanin-test.false in
+    subst (λ l. JoinsByAnd c.args.nodes.now.items c.loop-fanin.nodes.items l c.loop-fanin.all) whole c.loop-fanin.invariant.joined.joins
+
+pub returns-clause-gates : goal.returns-clause-gates
+returns-clause-gates c = c.loop-fanin.invariant.joined.gates
