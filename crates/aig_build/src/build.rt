@@ -189,11 +189,13 @@ pub fn new_eq_node(
     ensures err { OnErr result (nodes.new.items ≡ nodes.old.items) }
 {
     let before = nodes.len();
-    let answer = both_or_neither(nodes, fanin0, fanin1);
-    if answer.is_err() {
-        nodes.truncate(before);
+    match both_or_neither(nodes, fanin0, fanin1) {
+        Ok(equal) => Ok(equal),
+        Err(error) => {
+            nodes.truncate(before);
+            Err(error)
+        }
     }
-    answer
 }
 
 /// As `new_eq_node`, but a refused one leaves the gates that it added.

@@ -11,13 +11,13 @@ use Rattle.aig_circuit.specs.declared.view.CircuitLists.{CircuitLists}
 use Rattle.aig_circuit.specs.Edge.{edge_to, inverted_if}
 use Rattle.aig_circuit.specs.Node.{is_gate, kind_at}
 use Rattle.aig_circuit.specs.Tree.{edge_value, node_value}
-use Rattle.aig_circuit.specs.Circuit.{Circuit, IsInRange, IsLeaf, latch_leaves}
+use Rattle.aig_circuit.specs.Circuit.{Circuit, IsCircuit, IsInRange, IsLeaf, latch_leaves}
 use Rattle.aig_circuit.specs.Build.{AddsGates, Grows, with_node}
 use Rattle.aig_circuit.specs.Properties.{Properties, append_properties, map_properties}
 use Rattle.aig_circuit.specs.Runs.{next_edges}
 use Rattle.aig_circuit.specs.View.{HasRoomFor, lists_circuit, properties_of}
 use Rattle.aig_unroll.specs.Places.{is_other_leaf, leaves_after, other_leaves}
-use Rattle.aig_unroll.specs.Unroll.{starts_of}
+use Rattle.aig_unroll.specs.Unroll.{UnrollsBySteps, UnrollsTo, starts_of}
 
 -- ---- images
 
@@ -182,3 +182,11 @@ pub record IsPrepared (from : Circuit) (old new : CircuitLists) (images : List A
         };
   }
       ≡ record (lists_circuit old) { nodes = new.nodes.items }
+
+-- ---- all steps
+
+-- the circuit d is c with k steps more
+pub record IsUnrolled (c : Circuit) (k : ℕ) (d : Circuit) : Type 0 where
+  pub circuit : IsCircuit d
+  pub steps : UnrollsBySteps c k d
+  pub unrolls : UnrollsTo c k d

@@ -73,7 +73,7 @@ fn copy_node(
         AigNodeType::And(fanin0, fanin1) => {
             let first = image_of(images, fanin0);
             let second = image_of(images, fanin1);
-            Ok(new_and_node(nodes, first, second)?)
+            new_and_node(nodes, first, second)
         }
     }
 }

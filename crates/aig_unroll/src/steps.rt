@@ -5,7 +5,7 @@ ghost use Rattle.aig_circuit.specs.Build.{Grows};
 ghost use Rattle.aig_circuit.specs.Circuit.{BeginsWith, IsCircuit};
 ghost use Rattle.aig_circuit.specs.View.{lists_circuit};
 ghost use Rattle.aig_unroll.specs.Places.{size_by_counts};
-ghost use Rattle.aig_unroll.specs.Step.{IsPrepared};
+ghost use Rattle.aig_unroll.specs.Step.{IsPrepared, IsUnrolled};
 ghost use Rattle.aig_unroll.specs.Unroll.{UnrollsBySteps, UnrollsOnce, UnrollsTo};
 
 use crate::entries::{append_sets, append_step, reserve};
@@ -89,11 +89,24 @@ pub fn unroll_to(circuit: &CircuitView<'_>, k: usize) -> Result<CircuitLists, Me
     ensures none { IfOk result (λ lists. k ≡ 0 → lists_circuit lists ≡ circuit.now) }
 {
     let mut lists = circuit.to_lists()?;
+    add_steps(&mut lists, circuit, k)?;
+    Ok(lists)
+}
+
+/// Adds `k` steps of the circuit to its copy in `lists`. A refused one leaves the steps that it added.
+fn add_steps(
+    lists: &mut CircuitLists,
+    circuit: &CircuitView<'_>,
+    k: usize,
+) -> Result<(), MemoryError>
+    requires { lists_circuit lists.old ≡ circuit.now }
+    ensures { OnOk result (IsUnrolled circuit.now k (lists_circuit lists.new)) }
+{
     let mut images = step_table(circuit)?;
     for _step in 0..k {
-        unroll(&mut lists, circuit, &mut images)?;
+        unroll(lists, circuit, &mut images)?;
     }
-    Ok(lists)
+    Ok(())
 }
 
 /// Returns whether a circuit of so many nodes and latches has, with `k` steps more, at most `limit` nodes by the bound that

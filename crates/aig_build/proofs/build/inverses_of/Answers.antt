@@ -1,21 +1,20 @@
-use Rattle.std.proofs.Common.{◌++◌, [], ◌∷◌, false, map, take, get_or, sym, ap, ◌∙◌}
+use Rattle.std.proofs.Common.{◌≡◌, ℕ, ◌+◌, ◌<◌, ◌++◌, List, [], ◌∷◌, false, length, map, take, get_or, sym, ap, ◌∙◌}
 use Rattle.std.proofs.lemmas.List.{map-append, take_all, take_more}
 use Rattle.aig_circuit.specs.declared.edge.AigEdge.{AigEdge}
 use Rattle.aig_circuit.specs.Edge.{edge_to, inverse}
 use Rattle.aig_build.proofs.build.inverses_of.Goals as goal
 
+-- one edge more
+one_more : (edges inverses : List AigEdge) (i : ℕ) (e : AigEdge) → i < length edges → inverses ≡ map inverse (take i edges) → e ≡ inverse (get_or edges i (edge_to 0 false)) → inverses ++ (e ∷ []) ≡ map inverse (take (i + 1) edges)
+one_more edges inverses i e within so_far is =
+    ap (λ l. l ++ (e ∷ [])) so_far ∙ ap (λ (f : AigEdge). map inverse (take i edges) ++ (f ∷ [])) is
+    ∙ sym (ap (map inverse) (take_more edges i (edge_to 0 false) within) ∙ map-append inverse (take i edges) (get_or edges i (edge_to 0 false) ∷ []))
+
 pub loop-e-init : goal.loop-e-init
 loop-e-init c = c.in_ok-inverses.ensures.items
 
 pub loop-e-preserved : goal.loop-e-preserved
-loop-e-preserved c =
-    let i = c.loop-e.e-index in
-    let edges = c.args.edges.now in
-    let e = get_or edges i (edge_to 0 false) in
-    let done = map inverse (take i edges) in
-    c.in_ok-push.ensures.items ∙ ap (λ l. l ++ (c.not.result ∷ [])) c.loop-e.invariant
-    ∙ ap (λ (f : AigEdge). done ++ (f ∷ [])) c.not.ensures
-    ∙ sym (ap (map inverse) (take_more edges i (edge_to 0 false) c.loop-e-test.true) ∙ map-append inverse (take i edges) (e ∷ []))
+loop-e-preserved c = c.in_ok-push.ensures.items ∙ one_more c.args.edges.now c.loop-e.inverses.items c.loop-e.e-index c.not.result c.loop-e-test.true c.loop-e.invariant c.not.ensures
 
 pub returns : goal.returns
 returns c = c.loop-e.invariant ∙ ap (map inverse) (take_all c.loop-e.e-index c.args.edges.now c.loop-e-test.false)

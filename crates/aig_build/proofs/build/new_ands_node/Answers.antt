@@ -1,17 +1,12 @@
-use Rattle.std.proofs.Common.{false, true, List, length, take, get_or, refl, sym, ap, subst, ◌∙◌, arith, ◌≡◌}
+use Rattle.std.proofs.Common.{false, true, length, take, get_or, refl, sym, ap, subst, ◌∙◌, arith, ◌≡◌}
 use Rattle.std.proofs.lemmas.List.{take_all, take_more}
 use Rattle.aig_circuit.specs.declared.edge.AigEdge.{AigEdge}
 use Rattle.aig_circuit.specs.Edge.{edge_to}
-use Rattle.aig_circuit.specs.Build.{AddsGates, FoldsOrAdds, FoldsOrAddsAll, Grows, JoinsByAnd}
-use Rattle.aig_circuit.specs.Circuit.{IsInRange}
-use Rattle.aig_circuit.specs.declared.node.AigNode.{AigNode}
-use Rattle.aig_circuit.proofs.Building.{AddsGates-itself, take-Grows}
+use Rattle.aig_circuit.specs.Build.{AddsGates, FoldsOrAdds, FoldsOrAddsAll, JoinsByAnd}
+use Rattle.aig_circuit.proofs.Building.{AddsGates-itself}
 use Rattle.aig_circuit.proofs.Joining.{AndSoFar-none, AndSoFar-push, joins_from_left_push, adds_none-true}
+use Rattle.aig_build.proofs.Joined.{cut_back, still_there}
 use Rattle.aig_build.proofs.build.new_ands_node.Goals as goal
-
--- an edge of the old nodes is one of the new ones
-still_there : (old new : List AigNode) (e : AigEdge) → Grows old new → IsInRange old e → IsInRange new e
-still_there old new e grows there = let longer = grows.longer in omega arith
 
 pub loop-fanin-init : goal.loop-fanin-init
 loop-fanin-init c = record {
@@ -46,16 +41,16 @@ new_and_node-requires-clause-second c =
     still_there c.args.nodes.now.items c.loop-fanin.nodes.items (get_or c.args.fanins.now c.loop-fanin.fanin-index (edge_to 0 false)) c.loop-fanin.invariant.joined.gates.grows (c.requires.edges c.loop-fanin.fanin-index (edge_to 0 false) c.loop-fanin-test.true)
 
 -- what stands after a refusal
-cut_back : (c : goal.After-truncate) → c.truncate.new.self.items ≡ c.args.nodes.now.items
-cut_back c =
+refused : (c : goal.After-truncate) → c.truncate.new.self.items ≡ c.args.nodes.now.items
+refused c =
     let before : c.len-before.result ≡ length c.args.nodes.now.items = omega arith in
-    c.truncate.ensures.items ∙ ap (take c.len-before.result) c.in-Err.ensures.err ∙ ap (λ n. take n c.loop-fanin.nodes.items) before ∙ take-Grows c.args.nodes.now.items c.loop-fanin.nodes.items c.loop-fanin.invariant.joined.gates.grows
+    cut_back c.args.nodes.now.items c.loop-fanin.nodes.items c.truncate.new.self.items c.len-before.result c.loop-fanin.invariant.joined.gates.grows before (c.truncate.ensures.items ∙ ap (take c.len-before.result) c.in-Err.ensures.err)
 
 pub returns-in-Err-clause-err : goal.returns-in-Err-clause-err
-returns-in-Err-clause-err c = cut_back c
+returns-in-Err-clause-err c = refused c
 
 pub returns-in-Err-clause-gates : goal.returns-in-Err-clause-gates
-returns-in-Err-clause-gates c = subst (AddsGates c.args.nodes.now.items) (sym (cut_back c)) (AddsGates-itself c.args.nodes.now.items c.requires.sound)
+returns-in-Err-clause-gates c = subst (AddsGates c.args.nodes.now.items) (sym (refused c)) (AddsGates-itself c.args.nodes.now.items c.requires.sound)
 
 pub returns-clause-rule : goal.returns-clause-rule
 returns-clause-rule c =

@@ -1,15 +1,32 @@
-use Rattle.std.proofs.Common.{subst, sym, arith}
-use Rattle.std.proofs.lemmas.Grind.{common_steps}
+use Rattle.std.proofs.Common.{◌≡◌, ◌++◌, [], ◌∷◌, false, length, subst, sym, ap, ◌∙◌, arith, length-append}
+use Rattle.aig_circuit.specs.declared.node.AigNode.{AigNode}
+use Rattle.aig_circuit.specs.Edge.{edge_to}
+use Rattle.aig_circuit.specs.Node.{and_of}
 use Rattle.aig_circuit.specs.Build.{AddsGate, AddsGates}
-use Rattle.aig_circuit.proofs.Building.{value-AddsGate, AddsGates-with_node}
+use Rattle.aig_circuit.proofs.Building.{value-AddsGate, AddsGates-itself, AddsGates-with_node}
 use Rattle.aig_build.proofs.build.trivial_new_and_node.Goals as goal
 
+-- the gate is added
+adds : (c : goal.After-from) → AddsGate c.args.nodes.now.items c.push.new.self.items c.args.fanin0 c.args.fanin1 c.from.result
+adds c =
+    let old = c.args.nodes.now.items in
+    let id : c.len-id.result ≡ length old = omega arith in
+    record {
+      gate = c.in_ok-push.ensures.items ∙ ap (λ (node : AigNode). old ++ (node ∷ [])) c.gate_node.ensures ∙ ap (λ n. old ++ (record { node_id = n; typ = and_of c.args.fanin0 c.args.fanin1 } ∷ [])) id;
+      edge = c.from.ensures ∙ ap (λ n. edge_to n false) id;
+    }
+
+pub returns-clause-ok : goal.returns-clause-ok
+returns-clause-ok c = adds c
+
+pub returns-clause-edge : goal.returns-clause-edge
+returns-clause-edge c = rw ((adds c).edge, (adds c).gate) (omega (arith, length-append {A = AigNode}))
+
 pub returns-clause-value : goal.returns-clause-value
-returns-clause-value c =
-    let adds : AddsGate c.args.nodes.now.items c.push.new.self.items c.args.fanin0 c.args.fanin1 c.from.result = grind (arith, common_steps) in
-    value-AddsGate _ _ _ _ _ c.requires.sound c.requires.first c.requires.second adds
+returns-clause-value c = value-AddsGate _ _ _ _ _ c.requires.sound c.requires.first c.requires.second (adds c)
 
 pub returns-clause-gates : goal.returns-clause-gates
-returns-clause-gates c =
-    let adds : AddsGate c.args.nodes.now.items c.push.new.self.items c.args.fanin0 c.args.fanin1 c.from.result = grind (arith, common_steps) in
-    subst (AddsGates c.args.nodes.now.items) (sym adds.gate) (AddsGates-with_node c.args.nodes.now.items c.args.fanin0 c.args.fanin1 c.requires.sound c.requires.first c.requires.second)
+returns-clause-gates c = subst (AddsGates c.args.nodes.now.items) (sym (adds c).gate) (AddsGates-with_node c.args.nodes.now.items c.args.fanin0 c.args.fanin1 c.requires.sound c.requires.first c.requires.second)
+
+pub returns-in_err-push-clause-gates : goal.returns-in_err-push-clause-gates
+returns-in_err-push-clause-gates c = subst (AddsGates c.args.nodes.now.items) (sym c.in_err-push.ensures.items) (AddsGates-itself c.args.nodes.now.items c.requires.sound)

@@ -5,8 +5,9 @@ use Rattle.aig_circuit.specs.declared.node.AigNode.{AigNode}
 use Rattle.aig_circuit.specs.Edge.{edge_to}
 use Rattle.aig_circuit.specs.Circuit.{IsInRange}
 use Rattle.aig_circuit.specs.Build.{AddsGate, AddsGateForEach, AddsGates, JoinsByAnd, JoinsFromLeft}
-use Rattle.aig_circuit.proofs.Building.{AddsGates-itself, Grows-longer, take-Grows}
+use Rattle.aig_circuit.proofs.Building.{AddsGates-itself, Grows-longer}
 use Rattle.aig_circuit.proofs.Joining.{AndSoFar-one, AndSoFar-push, JoinsByAnd-none, joins_from_left_push}
+use Rattle.aig_build.proofs.Joined.{cut_back}
 use Rattle.aig_build.proofs.build.trivial_new_ands_node.Goals as goal
 
 -- one node for each edge after the first
@@ -56,16 +57,16 @@ pub trivial_new_and_node-requires-clause-first : goal.trivial_new_and_node-requi
 trivial_new_and_node-requires-clause-first c = c.loop-fanin.invariant.joined.joins.there
 
 -- what stands after a refusal
-cut_back : (c : goal.After-truncate) → c.truncate.new.self.items ≡ c.args.nodes.now.items
-cut_back c =
+refused : (c : goal.After-truncate) → c.truncate.new.self.items ≡ c.args.nodes.now.items
+refused c =
     let before : c.len-before.result ≡ length c.args.nodes.now.items = omega arith in
-    c.truncate.ensures.items ∙ ap (take c.len-before.result) c.in-Err.ensures.err ∙ ap (λ n. take n c.loop-fanin.nodes.items) before ∙ take-Grows c.args.nodes.now.items c.loop-fanin.nodes.items c.loop-fanin.invariant.joined.gates.grows
+    cut_back c.args.nodes.now.items c.loop-fanin.nodes.items c.truncate.new.self.items c.len-before.result c.loop-fanin.invariant.joined.gates.grows before (c.truncate.ensures.items ∙ ap (take c.len-before.result) c.in-Err.ensures.err)
 
 pub returns-in-Err-clause-err : goal.returns-in-Err-clause-err
-returns-in-Err-clause-err c = cut_back c
+returns-in-Err-clause-err c = refused c
 
 pub returns-in-Err-clause-gates : goal.returns-in-Err-clause-gates
-returns-in-Err-clause-gates c = subst (AddsGates c.args.nodes.now.items) (sym (cut_back c)) (AddsGates-itself c.args.nodes.now.items c.requires.sound)
+returns-in-Err-clause-gates c = subst (AddsGates c.args.nodes.now.items) (sym (refused c)) (AddsGates-itself c.args.nodes.now.items c.requires.sound)
 
 pub returns-clause-rule : goal.returns-clause-rule
 returns-clause-rule c =

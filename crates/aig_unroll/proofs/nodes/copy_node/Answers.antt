@@ -1,4 +1,5 @@
-use Rattle.std.proofs.Common.{◌&&◌, ◌<◌, ◌≤◌, ℕ, false, length, refl, ap, ◌∙◌, arith}
+use Rattle.std.proofs.Common.{Ok, Err, Result, ◌&&◌, ◌<◌, ◌≤◌, ℕ, false, length, refl, ap, ◌∙◌, arith}
+use Rattle.std.specs.Prelude.{IfOk}
 use Rattle.aig_circuit.specs.declared.node.AigNodeType.TheVariants.{And, False, Leaf}
 use Rattle.aig_circuit.specs.Edge.{edge_to}
 use Rattle.aig_circuit.specs.Tree.{edge_value}
@@ -13,18 +14,21 @@ use Rattle.aig_unroll.proofs.nodes.copy_node.Goals as goal
 below_start : (n start count : ℕ) → n < start → start ≤ count → n < count
 below_start n start count p q = omega arith
 
-pub returns-in_ok-new_and_node-in-And-clause-copies :
-    goal.returns-in_ok-new_and_node-in-And-clause-copies
-returns-in_ok-new_and_node-in-And-clause-copies c =
+-- what follows from two facts on an answer
+from_both : {X E : Type 0} (r : Result X E) (P Q R : X → Type 0) → ((x : X) → P x → Q x → R x) → IfOk r P → IfOk r Q → IfOk r R
+from_both (Ok x) P Q R both p q = both x p q
+from_both (Err e) P Q R both p q = tt
+
+pub returns-in-And-clause-copies : goal.returns-in-And-clause-copies
+returns-in-And-clause-copies c =
     let a = c.in-And.fanin0 in
     let b = c.in-And.fanin1 in
     let old = c.args.nodes.now.items in
     let new = c.new_and_node.new.nodes.items in
-    let e = c.in_ok-new_and_node-in-And.field-0 in
     let is = kind_read c.args.from.now.nodes c.nodes.result.now c.args.id (And a b) c.typ.result.now c.requires.there c.nodes.ensures.value c.typ.ensures c.in-And.is in
-    let ensures = c.in_ok-new_and_node-in-And.ensures in
-    gate a b is ensures.gates (at_most_one_more old new c.image_of-first.result c.image_of-second.result e ensures.rule)
-    (λ y. ensures.value y ∙ ap (λ f. edge_value old y f && edge_value old y c.image_of-second.result) c.image_of-first.ensures ∙ ap (λ f. edge_value old y (image_in c.args.images.now a) && edge_value old y f) c.image_of-second.ensures)
+    let ensures = c.new_and_node.ensures in
+    from_both c.new_and_node.result _ _ _ (λ e rule value. gate a b is ensures.gates (at_most_one_more old new c.image_of-first.result c.image_of-second.result e rule)
+    (λ y. value y ∙ ap (λ f. edge_value old y f && edge_value old y c.image_of-second.result) c.image_of-first.ensures ∙ ap (λ f. edge_value old y (image_in c.args.images.now a) && edge_value old y f) c.image_of-second.ensures)) ensures.rule ensures.value
 
 pub returns-in-False-clause-copies : goal.returns-in-False-clause-copies
 returns-in-False-clause-copies c =
@@ -91,11 +95,8 @@ new_and_node-requires-clause-second c =
     let is = kind_read c.args.from.now.nodes c.nodes.result.now c.args.id (And c.in-And.fanin0 c.in-And.fanin1) c.typ.result.now c.requires.there c.nodes.ensures.value c.typ.ensures c.in-And.is in
     rw c.image_of-second.ensures (c.requires.images c.in-And.fanin1.node_id (c.nodes.ensures.circuit.nodes.ordered.second_before c.args.id c.in-And.fanin0 c.in-And.fanin1 is))
 
-pub returns-in_err-new_and_node-in-And-clause-grows : goal.returns-in_err-new_and_node-in-And-clause-grows
-returns-in_err-new_and_node-in-And-clause-grows c = c.new_and_node.ensures.gates.grows
+pub returns-in-And-clause-edge : goal.returns-in-And-clause-edge
+returns-in-And-clause-edge c = c.new_and_node.ensures.edge
 
-pub returns-in_ok-new_and_node-in-And-clause-edge : goal.returns-in_ok-new_and_node-in-And-clause-edge
-returns-in_ok-new_and_node-in-And-clause-edge c = c.in_ok-new_and_node-in-And.ensures.edge
-
-pub returns-in_ok-new_and_node-in-And-clause-grows : goal.returns-in_ok-new_and_node-in-And-clause-grows
-returns-in_ok-new_and_node-in-And-clause-grows c = c.new_and_node.ensures.gates.grows
+pub returns-in-And-clause-grows : goal.returns-in-And-clause-grows
+returns-in-And-clause-grows c = c.new_and_node.ensures.gates.grows

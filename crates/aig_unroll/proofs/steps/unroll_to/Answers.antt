@@ -1,39 +1,19 @@
-use Rattle.std.proofs.Common.{◌≡◌, add-one, sym, subst, arith}
-use Rattle.aig_circuit.specs.Circuit.{IsCircuit}
+use Rattle.std.proofs.Common.{subst}
 use Rattle.aig_circuit.specs.View.{lists_circuit}
-use Rattle.aig_unroll.specs.Unroll.{UnrollsBySteps, UnrollsTo}
-use Rattle.aig_unroll.proofs.MoreSteps.{unrolls_more}
-use Rattle.aig_unroll.proofs.NoStep.{unrolls-none}
-use Rattle.aig_unroll.proofs.Stepped.{begins_unrolled}
+use Rattle.aig_unroll.specs.Unroll.{UnrollsBySteps}
 use Rattle.aig_unroll.proofs.steps.unroll_to.Goals as goal
 
-pub loop-step-init : goal.loop-step-init
-loop-step-init c =
-    let same = c.in_ok-lists.ensures.copy in
-    let circuit = c.in_ok-images.ensures.circuit in
-    record {
-      circuit = subst IsCircuit (sym same) circuit;
-      steps = same;
-      unrolls = subst (UnrollsTo c.args.circuit.now 0) (sym same) (unrolls-none c.args.circuit.now circuit);
-    }
+pub returns-clause-circuit : goal.returns-clause-circuit
+returns-clause-circuit c = c.in_ok-add_steps.ensures.circuit
 
-pub unroll-requires-clause-begins : goal.unroll-requires-clause-begins
-unroll-requires-clause-begins c = begins_unrolled c.args.circuit.now c.loop-step._step (lists_circuit c.loop-step.lists) c.loop-step.invariant.unrolls
-
-pub loop-step-preserved : goal.loop-step-preserved
-loop-step-preserved c =
-    let from = c.args.circuit.now in
-    let old = lists_circuit c.loop-step.lists in
-    let new = lists_circuit c.unroll.new.lists in
-    let before = c.loop-step.invariant in
-    let once = c.in_ok-unroll.ensures.unrolls in
-    record {
-      circuit = c.in_ok-unroll.ensures.circuit;
-      steps = subst (λ k. UnrollsBySteps from k new) (sym (add-one c.loop-step._step)) (old, before.steps, once);
-      unrolls = unrolls_more from old new c.loop-step._step c.in_ok-images.ensures.circuit before.circuit before.unrolls once;
-    }
+pub returns-clause-steps : goal.returns-clause-steps
+returns-clause-steps c = c.in_ok-add_steps.ensures.steps
 
 pub returns-clause-unrolls : goal.returns-clause-unrolls
-returns-clause-unrolls c =
-    let all : c.loop-step._step ≡ c.args.k = omega arith in
-    subst (λ k. UnrollsTo c.args.circuit.now k (lists_circuit c.loop-step.lists)) all c.loop-step.invariant.unrolls
+returns-clause-unrolls c = c.in_ok-add_steps.ensures.unrolls
+
+pub returns-clause-none : goal.returns-clause-none
+returns-clause-none c = λ none. subst (λ k. UnrollsBySteps c.args.circuit.now k (lists_circuit c.add_steps.new.lists)) none c.in_ok-add_steps.ensures.steps
+
+pub add_steps-requires : goal.add_steps-requires
+add_steps-requires c = c.in_ok-lists.ensures.copy
