@@ -96,3 +96,7 @@ next_images_more images others start latchs i d e new within inside leaves start
         let wide : i < length (next_edges others) = omega (arith, length-map others (λ (l : AigLatch). l.next)) in
         ap (take (i + 1)) (map-set (λ (l : AigLatch). l.next) latchs i new) ∙ take_more_set (next_edges latchs) i new.next long ∙ ap (λ l. l ++ new.next ∷ []) so_far ∙ ap (λ x. map (image_in images) (take i (next_edges others)) ++ x ∷ []) (next ∙ ap (image_in images) (sym (get_or-map (λ (l : AigLatch). l.next) others i e (edge_to 0 false) inside)))
         ∙ sym (ap (map (image_in images)) (take_more (next_edges others) i (edge_to 0 false) wide) ∙ map-append (image_in images) (take i (next_edges others)) _)
+
+-- as many latches as leaves of latches
+pub as_many_latchs : (some others : List AigLatch) → latch_leaves some ≡ latch_leaves others → length some ≡ length others
+as_many_latchs some others same = sym (length-map some (λ (l : AigLatch). l.input)) ∙ ap length same ∙ length-map others (λ (l : AigLatch). l.input)

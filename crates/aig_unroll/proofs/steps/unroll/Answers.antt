@@ -1,6 +1,10 @@
-use Rattle.std.proofs.Common.{◌≡◌, length, ap, arith}
+use Rattle.std.proofs.Common.{◌≡◌, List, length, take, sym, ap, subst, ◌∙◌, arith}
+use Rattle.aig_circuit.specs.declared.node.AigNode.{AigNode}
+use Rattle.aig_circuit.specs.Circuit.{Circuit}
+use Rattle.aig_circuit.proofs.Building.{take-Grows}
 use Rattle.aig_circuit.specs.View.{lists_circuit, names_of}
-use Rattle.aig_unroll.specs.Step.{AppendsImages, CopiesAll, IsPrepared}
+use Rattle.aig_unroll.specs.Step.{AppendsImages, CopiesAll, HasRoomForStep, IsPrepared}
+use Rattle.aig_unroll.proofs.Table.{as_many_latchs}
 use Rattle.aig_unroll.proofs.Stepped.{stepped_in_parts, stepped_is_circuit, stepped_unrolls}
 use Rattle.aig_unroll.proofs.steps.unroll.Goals as goal
 
@@ -22,3 +26,37 @@ returns-in-Ok-clause-circuit c = stepped_is_circuit c.args.from.now (lists_circu
 
 pub returns-in-Ok-clause-unrolls : goal.returns-in-Ok-clause-unrolls
 returns-in-Ok-clause-unrolls c = stepped_unrolls c.args.from.now (lists_circuit c.args.lists.now) (lists_circuit c.append_step.new.lists) c.add_nodes_and_reserve.new.images c.append_step.ensures.circuit c.requires.circuit (stepped c).0 (stepped c).1
+
+pub add_nodes_and_reserve-requires-clause-circuit : goal.add_nodes_and_reserve-requires-clause-circuit
+add_nodes_and_reserve-requires-clause-circuit c = c.requires.circuit
+
+pub add_nodes_and_reserve-requires-clause-begins : goal.add_nodes_and_reserve-requires-clause-begins
+add_nodes_and_reserve-requires-clause-begins c = c.requires.begins
+
+pub add_nodes_and_reserve-requires-clause-table : goal.add_nodes_and_reserve-requires-clause-table
+add_nodes_and_reserve-requires-clause-table c = c.requires.table
+
+pub append_step-requires-clause-room : goal.append_step-requires-clause-room
+append_step-requires-clause-room c =
+    let start : c.len-start.result ≡ length c.args.lists.now.nodes.items = omega arith in
+    subst (HasRoomForStep c.add_nodes_and_reserve.new.lists c.args.from.now) (sym start) c.in-Ok.ensures.ok.room
+
+pub append_step-requires-clause-start : goal.append_step-requires-clause-start
+append_step-requires-clause-start c =
+    let start : c.len-start.result ≡ length c.args.lists.now.nodes.items = omega arith in
+    rw start c.add_nodes_and_reserve.ensures.nodes.longer
+
+pub append_step-requires-clause-table : goal.append_step-requires-clause-table
+append_step-requires-clause-table c = c.in-Ok.ensures.ok.copies.count
+
+pub append_step-requires-clause-latchs : goal.append_step-requires-clause-latchs
+append_step-requires-clause-latchs c =
+    ap (λ (d : Circuit). length d.latchs) c.in-Ok.ensures.ok.same ∙ as_many_latchs c.args.lists.now.latchs.items c.args.from.now.latchs c.requires.begins.leaves
+
+pub returns-in-Err-clause-err : goal.returns-in-Err-clause-err
+returns-in-Err-clause-err c =
+    let start : c.len-start.result ≡ length c.args.lists.now.nodes.items = omega arith in
+    let mid = c.add_nodes_and_reserve.new.lists.nodes.items in
+    let cut = c.truncate.ensures.items ∙ ap (λ n. take n mid) start ∙ take-Grows c.args.lists.now.nodes.items mid c.add_nodes_and_reserve.ensures.nodes in
+    ap (λ (d : Circuit). record d { nodes = c.truncate.new.self.items }) c.in-Err.ensures.err
+    ∙ ap (λ (nodes : List AigNode). record (lists_circuit c.args.lists.now) { nodes = nodes }) cut
