@@ -1,10 +1,12 @@
-use Rattle.std.proofs.Common.{◌≡◌, ℕ, Bool, ◌&&◌}
-use Rattle.std.proofs.lemmas.Result.{IfOk-weaker}
+use Rattle.std.proofs.Common.{◌≡◌, ℕ, Bool, ◌&&◌, sym, subst}
+use Rattle.std.proofs.lemmas.Result.{IfOk-from_err, IfOk-weaker}
 use Rattle.aig_circuit.specs.Edge.{inverse}
 use Rattle.aig_circuit.specs.Tree.{edge_value}
 use Rattle.aig_circuit.specs.Build.{FoldsOrAdds}
 use Rattle.aig_circuit.proofs.Building.{AddsGates-then}
 use Rattle.aig_circuit.proofs.Joining.{value-both_or_neither}
+use Rattle.aig_circuit.specs.Circuit.{IsInRange}
+use Rattle.aig_build.proofs.Joined.{still_there}
 use Rattle.aig_build.proofs.build.both_or_neither.Goals as goal
 
 pub returns-clause-value : goal.returns-clause-value
@@ -31,3 +33,57 @@ returns-clause-rule c =
       is_neither = is_neither;
       is_either = is_either;
     }) c.new_or_node.ensures.rule
+
+pub new_and_node-requires-clause-sound : goal.new_and_node-requires-clause-sound
+new_and_node-requires-clause-sound c = c.requires.sound
+
+pub new_and_node-requires-clause-first : goal.new_and_node-requires-clause-first
+new_and_node-requires-clause-first c = c.requires.first
+
+pub new_and_node-requires-clause-second : goal.new_and_node-requires-clause-second
+new_and_node-requires-clause-second c = c.requires.second
+
+pub returns-in_err-both-clause-gates : goal.returns-in_err-both-clause-gates
+returns-in_err-both-clause-gates c = c.new_and_node.ensures.gates
+
+pub new_and_node-requires-2-clause-sound : goal.new_and_node-requires-2-clause-sound
+new_and_node-requires-2-clause-sound c = c.new_and_node.ensures.gates.grows.sound
+
+pub new_and_node-requires-2-clause-first : goal.new_and_node-requires-2-clause-first
+new_and_node-requires-2-clause-first c = subst (IsInRange c.new_and_node.new.nodes.items) (sym c.not.ensures) (still_there c.args.nodes.now.items c.new_and_node.new.nodes.items c.args.fanin0 c.new_and_node.ensures.gates.grows c.requires.first)
+
+pub new_and_node-requires-2-clause-second : goal.new_and_node-requires-2-clause-second
+new_and_node-requires-2-clause-second c = subst (IsInRange c.new_and_node.new.nodes.items) (sym c.not-2.ensures) (still_there c.args.nodes.now.items c.new_and_node.new.nodes.items c.args.fanin1 c.new_and_node.ensures.gates.grows c.requires.second)
+
+pub returns-in_err-neither-clause-gates : goal.returns-in_err-neither-clause-gates
+returns-in_err-neither-clause-gates c = AddsGates-then c.args.nodes.now.items c.new_and_node.new.nodes.items c.new_and_node-2.new.nodes.items c.new_and_node.ensures.gates c.new_and_node-2.ensures.gates
+
+pub new_or_node-requires-clause-sound : goal.new_or_node-requires-clause-sound
+new_or_node-requires-clause-sound c = c.new_and_node-2.ensures.gates.grows.sound
+
+pub new_or_node-requires-clause-first : goal.new_or_node-requires-clause-first
+new_or_node-requires-clause-first c = still_there c.new_and_node.new.nodes.items c.new_and_node-2.new.nodes.items c.in_ok-both.both c.new_and_node-2.ensures.gates.grows c.in_ok-both.ensures.edge
+
+pub new_or_node-requires-clause-second : goal.new_or_node-requires-clause-second
+new_or_node-requires-clause-second c = c.in_ok-neither.ensures.edge
+
+pub returns-clause-edge : goal.returns-clause-edge
+returns-clause-edge c = c.new_or_node.ensures.edge
+
+pub returns-in_err-both-clause-rule : goal.returns-in_err-both-clause-rule
+returns-in_err-both-clause-rule c = IfOk-from_err c.from_residual.result _ c.from_residual.ensures.0
+
+pub returns-in_err-both-clause-edge : goal.returns-in_err-both-clause-edge
+returns-in_err-both-clause-edge c = IfOk-from_err c.from_residual.result _ c.from_residual.ensures.0
+
+pub returns-in_err-both-clause-value : goal.returns-in_err-both-clause-value
+returns-in_err-both-clause-value c = IfOk-from_err c.from_residual.result _ c.from_residual.ensures.0
+
+pub returns-in_err-neither-clause-rule : goal.returns-in_err-neither-clause-rule
+returns-in_err-neither-clause-rule c = IfOk-from_err c.from_residual-in_err-neither.result _ c.from_residual-in_err-neither.ensures.0
+
+pub returns-in_err-neither-clause-edge : goal.returns-in_err-neither-clause-edge
+returns-in_err-neither-clause-edge c = IfOk-from_err c.from_residual-in_err-neither.result _ c.from_residual-in_err-neither.ensures.0
+
+pub returns-in_err-neither-clause-value : goal.returns-in_err-neither-clause-value
+returns-in_err-neither-clause-value c = IfOk-from_err c.from_residual-in_err-neither.result _ c.from_residual-in_err-neither.ensures.0

@@ -4,6 +4,7 @@ use Rattle.aig_circuit.specs.declared.edge.AigEdge.{AigEdge}
 use Rattle.aig_circuit.specs.Edge.{inverse}
 use Rattle.aig_circuit.specs.Build.{Folds, FoldsOrAdds}
 use Rattle.aig_circuit.proofs.Joining.{inverse_twice}
+use Rattle.aig_circuit.specs.Circuit.{IsInRange}
 use Rattle.aig_build.proofs.build.new_imply_node.Goals as goal
 
 pub returns-clause-rule : goal.returns-clause-rule
@@ -15,3 +16,21 @@ pub returns-clause-folds : goal.returns-clause-folds
 returns-clause-folds c =
     let same : inverse c.not.result ≡ c.args.fanin0 = ap inverse c.not.ensures ∙ inverse_twice c.args.fanin0 in
     λ f h. c.new_or_node.ensures.folds f (subst (λ (a : AigEdge). Folds a (inverse c.args.fanin1) f) (sym same) h)
+
+pub new_or_node-requires-clause-sound : goal.new_or_node-requires-clause-sound
+new_or_node-requires-clause-sound c = c.requires.sound
+
+pub new_or_node-requires-clause-first : goal.new_or_node-requires-clause-first
+new_or_node-requires-clause-first c = subst (IsInRange c.args.nodes.now.items) (sym c.not.ensures) c.requires.first
+
+pub new_or_node-requires-clause-second : goal.new_or_node-requires-clause-second
+new_or_node-requires-clause-second c = c.requires.second
+
+pub returns-clause-edge : goal.returns-clause-edge
+returns-clause-edge c = c.new_or_node.ensures.edge
+
+pub returns-clause-gates : goal.returns-clause-gates
+returns-clause-gates c = c.new_or_node.ensures.gates
+
+pub returns-clause-err : goal.returns-clause-err
+returns-clause-err c = c.new_or_node.ensures.err
