@@ -1,7 +1,5 @@
-use Rattle.std.proofs.Common.{◌≡◌, List, length, take, sym, ap, subst, ◌∙◌, arith}
-use Rattle.aig_circuit.specs.declared.node.AigNode.{AigNode}
+use Rattle.std.proofs.Common.{◌≡◌, length, sym, ap, subst, ◌∙◌, arith}
 use Rattle.aig_circuit.specs.Circuit.{Circuit}
-use Rattle.aig_circuit.proofs.Building.{take-Grows}
 use Rattle.aig_circuit.specs.View.{lists_circuit, names_of}
 use Rattle.aig_unroll.specs.Step.{AppendsImages, CopiesAll, HasRoomForStep, IsPrepared}
 use Rattle.aig_unroll.proofs.Table.{as_many_latchs}
@@ -52,11 +50,3 @@ append_step-requires-clause-table c = c.in-Ok.ensures.ok.copies.count
 pub append_step-requires-clause-latchs : goal.append_step-requires-clause-latchs
 append_step-requires-clause-latchs c =
     ap (λ (d : Circuit). length d.latchs) c.in-Ok.ensures.ok.same ∙ as_many_latchs c.args.lists.now.latchs.items c.args.from.now.latchs c.requires.begins.leaves
-
-pub returns-in-Err-clause-err : goal.returns-in-Err-clause-err
-returns-in-Err-clause-err c =
-    let start : c.len-start.result ≡ length c.args.lists.now.nodes.items = omega arith in
-    let mid = c.add_nodes_and_reserve.new.lists.nodes.items in
-    let cut = c.truncate.ensures.items ∙ ap (λ n. take n mid) start ∙ take-Grows c.args.lists.now.nodes.items mid c.add_nodes_and_reserve.ensures.nodes in
-    ap (λ (d : Circuit). record d { nodes = c.truncate.new.self.items }) c.in-Err.ensures.err
-    ∙ ap (λ (nodes : List AigNode). record (lists_circuit c.args.lists.now) { nodes = nodes }) cut
