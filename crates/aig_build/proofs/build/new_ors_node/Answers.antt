@@ -1,7 +1,7 @@
-use Rattle.std.proofs.Common.{◌≡◌, map, ap, sym, subst, ◌∙◌}
+use Rattle.std.proofs.Common.{◌≡◌, map, ◌∙◌}
 use Rattle.aig_circuit.specs.Edge.{inverse}
-use Rattle.aig_circuit.specs.Build.{FoldsOrAddsAll, JoinsByAnd}
-use Rattle.aig_circuit.proofs.Joining.{All-inverse, JoinsByOr-inverse, inverse_twice}
+use Rattle.aig_circuit.specs.Build.{JoinsByAnd}
+use Rattle.aig_circuit.proofs.Joining.{All-inverse, JoinsByOr-inverse}
 use Rattle.aig_circuit.proofs.Building.{AddsGates-itself}
 use Rattle.std.proofs.lemmas.Result.{IfOk-from_err}
 use Rattle.aig_build.proofs.build.new_ors_node.Goals as goal
@@ -39,12 +39,3 @@ returns-in_err-inverses-clause-joins c = IfOk-from_err c.from_residual.result _ 
 
 pub returns-in_err-new_ands_node-clause-joins : goal.returns-in_err-new_ands_node-clause-joins
 returns-in_err-new_ands_node-clause-joins c = IfOk-from_err c.from_residual-in_err-new_ands_node.result _ c.from_residual-in_err-new_ands_node.ensures.0
-
-pub returns-clause-rule : goal.returns-clause-rule
-returns-clause-rule c =
-    let old = c.args.nodes.now.items in
-    let new = c.new_ands_node.new.nodes.items in
-    let all = c.in_ok-new_ands_node.field-0 in
-    let edges = c.deref.ensures.value ∙ c.in_ok-inverses.ensures in
-    let back = ap inverse c.not.ensures ∙ inverse_twice all in
-    subst (FoldsOrAddsAll old (map inverse c.args.fanins.now) new) (sym back) (subst (λ l. FoldsOrAddsAll old l new all) edges c.in_ok-new_ands_node.ensures.rule)
