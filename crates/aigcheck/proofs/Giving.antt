@@ -1,7 +1,6 @@
 -- The words of a command.
-use Rattle.std.proofs.Common.{◌≡◌, ◌≢◌, ◌↔◌, ℕ, ◌+◌, ◌-◌, ◌<◌, ◌≤◌, Bool, true, false, eqb, List, [], ◌∷◌, length, map, get_or, drop, take, Option, Some, None, refl, sym, ap, subst, ◌∙◌, Global, arith}
+use Rattle.std.proofs.Common.{◌≡◌, ◌↔◌, ℕ, ◌+◌, ◌-◌, ◌<◌, ◌≤◌, Bool, true, false, List, [], ◌∷◌, length, map, get_or, drop, take, Option, Some, None, refl, sym, ap, subst, ◌∙◌, Global, arith}
 use Rattle.std.specs.Prelude.{IfSome, String, codes, string_bytes}
-use Rattle.std.proofs.lemmas.Bool.{false≢true}
 use Rattle.std.proofs.lemmas.List.{take_all}
 use Rattle.std.proofs.lemmas.Option.{same_Some}
 use Rattle.aig_format.specs.Text.{IsNumber}
@@ -103,43 +102,32 @@ following_word words_of make name k words given last are only so told tells x ha
       ap (λ y. Some (make y)) same ∙ ap (λ d. Some d) (sym h.1),
 )
 
-refuted_witness : codes "refuted" ≡ codes "witness" → ⊥
-refuted_witness is =
-    let same : true ≡ false = ap (λ (l : List ℕ). eqb (get_or l 0 0) 114) is in
-    false≢true (sym same)
-
-clauses_refuted : codes "clauses" ≡ codes "refuted" → ⊥
-clauses_refuted is =
-    let same : true ≡ false = ap (λ (l : List ℕ). eqb (get_or l 0 0) 99) is in
-    false≢true (sym same)
-
-clauses_witness : codes "clauses" ≡ codes "witness" → ⊥
-clauses_witness is =
-    let same : true ≡ false = ap (λ (l : List ℕ). eqb (get_or l 0 0) 99) is in
-    false≢true (sym same)
+-- the third letter of a name, in which those of commands that name a step differ
+abbrev third : List ℕ → ℕ
+third name = get_or name 2 0
 
 -- which commands have a name
 refuted_alone : (c : Command) (k : ℕ) (words : List (List ℕ)) → GiveLast (codes "refuted") k words c → (o : Bool) × (c ≡ commands.Refuted k o) × (proof : List ℕ) × (words ≡ proof ∷ clause_words o)
-refuted_alone (commands.Clauses n o) k words g = absurd (clauses_refuted (sym g.0))
-refuted_alone (commands.Window n form o) k words g = let is = g.0 in cc
+refuted_alone (commands.Clauses n o) k words g = absurd (omega (arith, ap third g.0))
+refuted_alone (commands.Window n form o) k words g = absurd (omega (arith, ap third g.0))
 refuted_alone (commands.Refuted n o) k words g = (o, ap (λ m. commands.Refuted m o) (sym g.1), g.2.0, g.2.1)
-refuted_alone (commands.Inductive n form o) k words g = let is = g.0 in cc
-refuted_alone (commands.Witness n o) k words g = absurd (refuted_witness g.0)
+refuted_alone (commands.Inductive n form o) k words g = absurd (omega (arith, ap third g.0))
+refuted_alone (commands.Witness n o) k words g = absurd (omega (arith, ap third g.0))
 refuted_alone commands.Run k words g = absurd g.2
 
 inductive_alone : (c : Command) (k : ℕ) (words : List (List ℕ)) → GiveLast (codes "inductive") k words c → (p : Window × Bool) × (c ≡ commands.Inductive k p.0 p.1) × (proof : List ℕ) × (words ≡ proof ∷ setting_words p.0 p.1)
-inductive_alone (commands.Clauses n o) k words g = let is = g.0 in cc
-inductive_alone (commands.Window n form o) k words g = let is = g.0 in cc
-inductive_alone (commands.Refuted n o) k words g = let is = g.0 in cc
+inductive_alone (commands.Clauses n o) k words g = absurd (omega (arith, ap third g.0))
+inductive_alone (commands.Window n form o) k words g = absurd (omega (arith, ap third g.0))
+inductive_alone (commands.Refuted n o) k words g = absurd (omega (arith, ap third g.0))
 inductive_alone (commands.Inductive n form o) k words g = ((form, o), ap (λ m. commands.Inductive m form o) (sym g.1), g.2.0, g.2.1)
-inductive_alone (commands.Witness n o) k words g = let is = g.0 in cc
+inductive_alone (commands.Witness n o) k words g = absurd (omega (arith, ap third g.0))
 inductive_alone commands.Run k words g = absurd g.2
 
 witness_alone : (c : Command) (k : ℕ) (words : List (List ℕ)) → GiveLast (codes "witness") k words c → (o : Bool) × (c ≡ commands.Witness k o) × (solution : List ℕ) × (words ≡ solution ∷ clause_words o)
-witness_alone (commands.Clauses n o) k words g = absurd (clauses_witness (sym g.0))
-witness_alone (commands.Window n form o) k words g = let is = g.0 in cc
-witness_alone (commands.Refuted n o) k words g = absurd (refuted_witness (sym g.0))
-witness_alone (commands.Inductive n form o) k words g = let is = g.0 in cc
+witness_alone (commands.Clauses n o) k words g = absurd (omega (arith, ap third g.0))
+witness_alone (commands.Window n form o) k words g = absurd (omega (arith, ap third g.0))
+witness_alone (commands.Refuted n o) k words g = absurd (omega (arith, ap third g.0))
+witness_alone (commands.Inductive n form o) k words g = absurd (omega (arith, ap third g.0))
 witness_alone (commands.Witness n o) k words g = (o, ap (λ m. commands.Witness m o) (sym g.1), g.2.0, g.2.1)
 witness_alone commands.Run k words g = absurd g.2
 

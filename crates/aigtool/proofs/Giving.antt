@@ -27,26 +27,50 @@ no_unrolling words first o is not m p h =
     let same = same_setting h.steps first p o (sym h.spelled ∙ is) in
     not m (subst (IsNumber m) same.0 h.number)
 
+-- the letter that begins the first word
+abbrev letter_of : List (List ℕ) → ℕ
+letter_of ((b ∷ bs) ∷ words) = b
+letter_of ([] ∷ words) = 0
+letter_of [] = 0
+
+-- the letter that begins a command's name
+abbrev letter : Command → ℕ
+letter commands.Text = 116
+letter commands.Binary = 98
+letter commands.Strash = 115
+letter (commands.Cnf k o) = 99
+letter (commands.Query k o) = 113
+
+begins : (words : List (List ℕ)) (c : Command) → Give words c → letter_of words ≡ letter c
+begins words commands.Text g = ap letter_of g.1
+begins words commands.Binary g = ap letter_of g.2
+begins words commands.Strash g = ap letter_of g.1
+begins words (commands.Cnf k o) g = ap letter_of g.2
+begins words (commands.Query k o) g = ap letter_of g.2
+
+begin_alike : (words : List (List ℕ)) (c d : Command) → Give words c → Give words d → letter c ≡ letter d
+begin_alike words c d g h = sym (begins words c g) ∙ begins words d h
+
 -- words give one command at the most
 pub one_command : (words : List (List ℕ)) (c d : Command) → Give words c → Give words d → c ≡ d
 one_command words commands.Text commands.Text g h = refl
-one_command words commands.Text commands.Binary g h = let is = sym g.1 ∙ h.2 in cc
-one_command words commands.Text commands.Strash g h = let is = sym g.1 ∙ h.1 in cc
-one_command words commands.Text (commands.Cnf m p) g h = let is = sym g.1 ∙ h.2 in cc
-one_command words commands.Text (commands.Query m p) g h = let is = sym g.1 ∙ h.2 in cc
-one_command words commands.Binary commands.Text g h = let is = sym g.2 ∙ h.1 in cc
+one_command words commands.Text commands.Binary g h = absurd (omega (arith, begin_alike words commands.Text commands.Binary g h))
+one_command words commands.Text commands.Strash g h = absurd (omega (arith, begin_alike words commands.Text commands.Strash g h))
+one_command words commands.Text (commands.Cnf m p) g h = absurd (omega (arith, begin_alike words commands.Text (commands.Cnf m p) g h))
+one_command words commands.Text (commands.Query m p) g h = absurd (omega (arith, begin_alike words commands.Text (commands.Query m p) g h))
+one_command words commands.Binary commands.Text g h = absurd (omega (arith, begin_alike words commands.Binary commands.Text g h))
 one_command words commands.Binary commands.Binary g h = refl
-one_command words commands.Binary commands.Strash g h = let is = sym g.2 ∙ h.1 in cc
-one_command words commands.Binary (commands.Cnf m p) g h = let is = sym g.2 ∙ h.2 in cc
-one_command words commands.Binary (commands.Query m p) g h = let is = sym g.2 ∙ h.2 in cc
-one_command words commands.Strash commands.Text g h = let is = sym g.1 ∙ h.1 in cc
-one_command words commands.Strash commands.Binary g h = let is = sym g.1 ∙ h.2 in cc
+one_command words commands.Binary commands.Strash g h = absurd (omega (arith, begin_alike words commands.Binary commands.Strash g h))
+one_command words commands.Binary (commands.Cnf m p) g h = absurd (omega (arith, begin_alike words commands.Binary (commands.Cnf m p) g h))
+one_command words commands.Binary (commands.Query m p) g h = absurd (omega (arith, begin_alike words commands.Binary (commands.Query m p) g h))
+one_command words commands.Strash commands.Text g h = absurd (omega (arith, begin_alike words commands.Strash commands.Text g h))
+one_command words commands.Strash commands.Binary g h = absurd (omega (arith, begin_alike words commands.Strash commands.Binary g h))
 one_command words commands.Strash commands.Strash g h = refl
-one_command words commands.Strash (commands.Cnf m p) g h = let is = sym g.1 ∙ h.2 in cc
-one_command words commands.Strash (commands.Query m p) g h = let is = sym g.1 ∙ h.2 in cc
-one_command words (commands.Cnf k o) commands.Text g h = let is = sym g.2 ∙ h.1 in cc
-one_command words (commands.Cnf k o) commands.Binary g h = let is = sym g.2 ∙ h.2 in cc
-one_command words (commands.Cnf k o) commands.Strash g h = let is = sym g.2 ∙ h.1 in cc
+one_command words commands.Strash (commands.Cnf m p) g h = absurd (omega (arith, begin_alike words commands.Strash (commands.Cnf m p) g h))
+one_command words commands.Strash (commands.Query m p) g h = absurd (omega (arith, begin_alike words commands.Strash (commands.Query m p) g h))
+one_command words (commands.Cnf k o) commands.Text g h = absurd (omega (arith, begin_alike words (commands.Cnf k o) commands.Text g h))
+one_command words (commands.Cnf k o) commands.Binary g h = absurd (omega (arith, begin_alike words (commands.Cnf k o) commands.Binary g h))
+one_command words (commands.Cnf k o) commands.Strash g h = absurd (omega (arith, begin_alike words (commands.Cnf k o) commands.Strash g h))
 one_command words (commands.Cnf k o) (commands.Cnf m p) g h =
     let is = sym g.2 ∙ h.2 in
     let rest : g.1 ≡ h.1 = cc in
@@ -54,11 +78,11 @@ one_command words (commands.Cnf k o) (commands.Cnf m p) g h =
     let one = same.0 in
     let two = same.1 in
     cc
-one_command words (commands.Cnf k o) (commands.Query m p) g h = let is = sym g.2 ∙ h.2 in cc
-one_command words (commands.Query k o) commands.Text g h = let is = sym g.2 ∙ h.1 in cc
-one_command words (commands.Query k o) commands.Binary g h = let is = sym g.2 ∙ h.2 in cc
-one_command words (commands.Query k o) commands.Strash g h = let is = sym g.2 ∙ h.1 in cc
-one_command words (commands.Query k o) (commands.Cnf m p) g h = let is = sym g.2 ∙ h.2 in cc
+one_command words (commands.Cnf k o) (commands.Query m p) g h = absurd (omega (arith, begin_alike words (commands.Cnf k o) (commands.Query m p) g h))
+one_command words (commands.Query k o) commands.Text g h = absurd (omega (arith, begin_alike words (commands.Query k o) commands.Text g h))
+one_command words (commands.Query k o) commands.Binary g h = absurd (omega (arith, begin_alike words (commands.Query k o) commands.Binary g h))
+one_command words (commands.Query k o) commands.Strash g h = absurd (omega (arith, begin_alike words (commands.Query k o) commands.Strash g h))
+one_command words (commands.Query k o) (commands.Cnf m p) g h = absurd (omega (arith, begin_alike words (commands.Query k o) (commands.Cnf m p) g h))
 one_command words (commands.Query k o) (commands.Query m p) g h =
     let is = sym g.2 ∙ h.2 in
     let rest : g.1 ≡ h.1 = cc in
@@ -129,17 +153,17 @@ words_of_pair (w ∷ x ∷ y ∷ ws) first second low high at next = absurd (ome
 
 module _ (words : List (List ℕ)) (file : List ℕ) (rest : List (List ℕ)) where
   pub by_cnf : (d : Command) → words ≡ codes "cnf" ∷ file ∷ rest → Give words d → (k : ℕ) × (o : Bool) × (d ≡ commands.Cnf k o) × IsUnrolling k o rest
-  by_cnf commands.Text is g = let same = sym g.1 ∙ is in cc
-  by_cnf commands.Binary is g = let same = sym g.2 ∙ is in cc
-  by_cnf commands.Strash is g = let same = sym g.1 ∙ is in cc
+  by_cnf commands.Text is g = absurd (omega (arith, sym (begins words commands.Text g) ∙ ap letter_of is))
+  by_cnf commands.Binary is g = absurd (omega (arith, sym (begins words commands.Binary g) ∙ ap letter_of is))
+  by_cnf commands.Strash is g = absurd (omega (arith, sym (begins words commands.Strash g) ∙ ap letter_of is))
   by_cnf (commands.Cnf k o) is g = let same = sym g.2 ∙ is in let these : g.1 ≡ rest = cc in (k, o, refl, subst (IsUnrolling k o) these g.3)
-  by_cnf (commands.Query k o) is g = let same = sym g.2 ∙ is in cc
+  by_cnf (commands.Query k o) is g = absurd (omega (arith, sym (begins words (commands.Query k o) g) ∙ ap letter_of is))
 
   pub by_query : (d : Command) → words ≡ codes "query" ∷ file ∷ rest → Give words d → (k : ℕ) × (o : Bool) × (d ≡ commands.Query k o) × IsUnrolling k o rest
-  by_query commands.Text is g = let same = sym g.1 ∙ is in cc
-  by_query commands.Binary is g = let same = sym g.2 ∙ is in cc
-  by_query commands.Strash is g = let same = sym g.1 ∙ is in cc
-  by_query (commands.Cnf k o) is g = let same = sym g.2 ∙ is in cc
+  by_query commands.Text is g = absurd (omega (arith, sym (begins words commands.Text g) ∙ ap letter_of is))
+  by_query commands.Binary is g = absurd (omega (arith, sym (begins words commands.Binary g) ∙ ap letter_of is))
+  by_query commands.Strash is g = absurd (omega (arith, sym (begins words commands.Strash g) ∙ ap letter_of is))
+  by_query (commands.Cnf k o) is g = absurd (omega (arith, sym (begins words (commands.Cnf k o) g) ∙ ap letter_of is))
   by_query (commands.Query k o) is g = let same = sym g.2 ∙ is in let these : g.1 ≡ rest = cc in (k, o, refl, subst (IsUnrolling k o) these g.3)
 
 -- nothing was given
