@@ -29,8 +29,8 @@ fails_after s = s.limit
 abbrev pub source_failed : Parts → Bool
 source_failed s = s.failed
 
--- it gives so many bytes before its end and before it fails, none only at its end, and does not fail
--- yet
+-- it gives so many bytes before its end and before it fails, none only at its end, and does not
+-- fail yet
 pub record IsRoom (s : Parts) (n : ℕ) : Type 0 where
   pub sound : source_failed s ≡ false
   pub within_left : given_of s + n ≤ vec_len s.bytes

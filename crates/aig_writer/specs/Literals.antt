@@ -33,8 +33,10 @@ pub record IsSmallNode (table : List ℕ) (node : AigNode) : Type 0 where
 pub record FallsBelow (table : List ℕ) (node : AigNode) : Type 0 where
   pub own : 2 * written_number table node.node_id < 2 ^ 32
   pub operands : (a b : AigEdge) → node.typ ≡ And a b
-      → (literal_of (renumbered_edge (written_number table) a) ≤ 2 * written_number table node.node_id)
-      × (literal_of (renumbered_edge (written_number table) b) ≤ 2 * written_number table node.node_id)
+      → (literal_of (renumbered_edge (written_number table) a)
+      ≤ 2 * written_number table node.node_id)
+      × (literal_of (renumbered_edge (written_number table) b)
+      ≤ 2 * written_number table node.node_id)
 
 -- the literal of each node fits
 abbrev pub HasSmallNumbers : Circuit → List ℕ → Type 0
