@@ -80,7 +80,8 @@ pub fn new_and_node(
 
 /// The edge that the and of two edges folds to, where they fold.
 fn folded_and(fanin0: AigEdge, fanin1: AigEdge) -> Option<AigEdge>
-    ensures { MatchOption result ((f : AigEdge) → ¬ Folds fanin0 fanin1 f) (λ e. Folds fanin0 fanin1 e) }
+    ensures { MatchOption result ((f : AigEdge) → ¬ Folds fanin0 fanin1 f)
+        (λ e. Folds fanin0 fanin1 e) }
 {
     if fanin0 == AigEdge::constant(true) {
         return Some(fanin1);
