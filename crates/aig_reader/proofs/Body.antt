@@ -11,7 +11,7 @@ use Rattle.aig_reader.specs.declared.error.LineError.{LineError}
 use Rattle.aig_reader.specs.declared.error.LineError.TheVariants.{Memory, Stream, Syntax, Literal}
 use Rattle.aig_reader.specs.declared.error.ReadError.{ReadError}
 use Rattle.aig_reader.specs.declared.error.ReadError.TheVariants as errors
-use Rattle.aig_reader.specs.Faults.{LineTells, ReadTells, error_in, gate_error_in, result_by}
+use Rattle.aig_reader.specs.Faults.{IsSectionFault, LineTells, ReadTells, error_in, gate_error_in, result_by}
 use Rattle.aig_lexer.specs.Takes.{Feed, Takes, Misses, Made, Makes}
 use Rattle.aig_lexer.proofs.Taking.{misses_first, misses_mapped, misses_next, takes_bind, takes_mapped}
 
@@ -30,6 +30,10 @@ in_section s Literal P failed h = h
 pub in_gates : (kind : FileKind) → Refuses (gate_error_in kind)
 in_gates Text e P failed h = elim e as (λ d. LineTells d P failed → ReadTells (gate_error_in Text d) P failed) [ Memory ↦ λ k. tt | Stream ↦ λ k. k | Syntax ↦ λ k. k | Literal ↦ λ k. k ] h
 in_gates Binary e P failed h = elim e as (λ d. LineTells d P failed → ReadTells (gate_error_in Binary d) P failed) [ Memory ↦ λ k. tt | Stream ↦ λ k. k | Syntax ↦ λ k. k | Literal ↦ λ k. k ] h
+
+pub gate_fault : (kind : FileKind) (e : LineError) → IsSectionFault (gate_error_in kind e)
+gate_fault Text e = elim e as (λ d. IsSectionFault (gate_error_in Text d)) [ Memory ↦ tt | Stream ↦ tt | Syntax ↦ tt | Literal ↦ tt ]
+gate_fault Binary e = elim e as (λ d. IsSectionFault (gate_error_in Binary d)) [ Memory ↦ tt | Stream ↦ tt | Syntax ↦ tt | Literal ↦ tt ]
 
 -- ---- answers
 

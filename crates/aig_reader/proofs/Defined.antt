@@ -1,5 +1,5 @@
 -- The variables that are defined so far.
-use Rattle.std.proofs.Common.{◌≡◌, ◌≢◌, ℕ, ◌+◌, ◌*◌, ◌/◌, ◌<◌, ◌≤◌, true, false, ◌||◌, List, [], ◌∷◌, ◌++◌, Result, Ok, Err, IfOk, refl, sym, ap, ◌∙◌, arith}
+use Rattle.std.proofs.Common.{◌≡◌, ◌≢◌, ℕ, ◌+◌, ◌*◌, ◌/◌, ◌^◌, ◌<◌, ◌≤◌, true, false, ◌||◌, List, [], ◌∷◌, ◌++◌, length, Result, Ok, Err, refl, subst, sym, ap, ◌∙◌, arith}
 use Rattle.std.specs.Prelude.{◌==◌, nat_eq, not}
 use Rattle.std.specs.List.{AllByRecursion, list_any}
 use Rattle.std.proofs.lemmas.Bool.{and_parts, eqb-false, leb-false, ne_eqb}
@@ -9,13 +9,15 @@ use Rattle.aig_format.specs.Fits.{IsDefinable, is_definable}
 use Rattle.aig_format.specs.Variables.{is_known}
 use Rattle.aig_format.proofs.Entries.{rec_append, rec_both, rec_parts, rec_weaker}
 use Rattle.aig_format.proofs.Numbers.{half_differs}
-use Rattle.aig_parsing.specs.ParseTested.{defines}
+use Rattle.aig_format.specs.declared.FileKind.{FileKind}
+use Rattle.aig_format.specs.declared.FileKind.TheVariants.{Text}
+use Rattle.aig_parsing.specs.ParseTested.{defines, may_define}
 use Rattle.aig_parsing.proofs.Entries.{Decides-new}
 use Rattle.aig_format.proofs.Rules.{definable_from, definable_told, even_literal}
 use Rattle.aig_reader.specs.Bits.{bit_is_set}
 use Rattle.aig_reader.specs.declared.error.LineError.{LineError}
 use Rattle.aig_reader.specs.declared.variables.Marks.{Marks}
-use Rattle.aig_reader.specs.Variables.{AreCounted, AreDefined, AreMarks, IsNewAmong, Tested, is_marked}
+use Rattle.aig_reader.specs.Variables.{AreCounted, AreDefined, AreMarks, HasNext, IsNewAmong, IsNext, Tested, is_marked}
 use Rattle.aig_reader.specs.declared.variables.DefinedVariables.{DefinedVariables}
 use Rattle.aig_reader.specs.declared.variables.DefinedVariables.TheVariants as kinds
 use Rattle.aig_reader.proofs.Entries.{length_push}
@@ -30,10 +32,15 @@ new_among greatest before e definable h =
     (λ y p. eqb-false (y / 2) (e / 2) (half_differs y e (even_literal greatest y p.0) (even_literal greatest e d.0) p.1)) before
     (rec_both (IsDefinable greatest) (λ y. (y == e) ≡ false) before definable ((Decides-new nat_eq e before).0 d.1))
 
-pub marked_new : (result : Result ℕ LineError) (marks : Marks) (P : ℕ → List ℕ → ℕ → Type 0) (e : ℕ) → ((greatest : ℕ) (before : List ℕ) → AreMarks greatest marks before → Tested (defines greatest before e) (P greatest before) result)
-    → IfOk result (λ _. (greatest : ℕ) (before : List ℕ) → AreMarks greatest marks before → IsNewAmong before e)
-marked_new (Ok id) marks P e exact = λ greatest before h. new_among greatest before e h.definable (exact greatest before h).0
-marked_new (Err fault) marks P e exact = tt
+-- what marking a literal tells, of all that is defined
+pub defines_marked : (marks new : Marks) (e : ℕ) (result : Result ℕ LineError) → ((greatest : ℕ) (before : List ℕ) → AreMarks greatest marks before → Tested (defines greatest before e) (λ id. (id ≡ e / 2) × AreMarks greatest new (before ++ e ∷ [])) result)
+    → (kind : FileKind) (greatest : ℕ) (before : List ℕ) → AreDefined kind greatest (kinds.Text marks) before → Tested (may_define kind greatest before e) (λ id. (id ≡ e / 2) × AreDefined kind greatest (kinds.Text new) (before ++ e ∷ [])) result
+defines_marked marks new e result exact kind greatest before h = rw h.0 (go result (exact greatest before h.1))
+  where
+    go : (result : Result ℕ LineError) → Tested (defines greatest before e) (λ id. (id ≡ e / 2) × AreMarks greatest new (before ++ e ∷ [])) result
+        → Tested (may_define Text greatest before e) (λ id. (id ≡ e / 2) × AreDefined Text greatest (kinds.Text new) (before ++ e ∷ [])) result
+    go (Ok id) t = (t.0, (t.1.0, (refl, t.1.1)))
+    go (Err fault) t = t
 
 -- ---- in binary files
 
@@ -47,8 +54,30 @@ counted_more count e before h is =
       );
     }
 
-pub counted_new : (count e : ℕ) (before : List ℕ) → AreCounted count before → e ≡ 2 * (count + 1) → IsNewAmong before e
+counted_new : (count e : ℕ) (before : List ℕ) → AreCounted count before → e ≡ 2 * (count + 1) → IsNewAmong before e
 counted_new count e before h is = rec_weaker (IsDefinable count) (λ d. d / 2 ≢ e / 2) (λ d p same. let high = (definable_told count d p).2 in omega (arith, high, same, is)) before h.below
+
+-- ---- in both
+
+-- a literal that is defined after others is that of another variable
+pub new_literal : (kind : FileKind) (greatest : ℕ) (variables : DefinedVariables) (before : List ℕ) (e : ℕ) → AreDefined kind greatest variables before → IsNext variables e → may_define kind greatest before e ≡ true → IsNewAmong before e
+new_literal kind greatest (kinds.Text marks) before e h next may = new_among greatest before e h.1.definable (subst (λ (k : FileKind). may_define k greatest before e ≡ true) h.0 may)
+new_literal kind greatest (kinds.Binary count) before e h next may = counted_new count e before h.1 next
+
+-- where there was room for it, its variable is one from 1 to the greatest
+pub last_literal : (kind : FileKind) (greatest : ℕ) (variables : DefinedVariables) (before : List ℕ) (e : ℕ) → AreDefined kind greatest variables (before ++ e ∷ []) → length before < greatest → (2 ≤ e) × (e / 2 ≤ greatest)
+last_literal kind greatest (kinds.Text marks) before e h room =
+    let t = definable_told greatest e (rec_parts (IsDefinable greatest) before (e ∷ []) h.1.definable).1.0 in
+    (t.1, omega (arith, t.2))
+last_literal kind greatest (kinds.Binary count) before e h room =
+    let t = definable_told count e (rec_parts (IsDefinable count) before (e ∷ []) h.1.below).1.0 in
+    let all = h.1.all in
+    (t.1, omega (arith, t.2, all, length_push before e, room))
+
+-- and the next one is a number of 32 bits
+pub has_next : (kind : FileKind) (greatest : ℕ) (variables : DefinedVariables) (before : List ℕ) → AreDefined kind greatest variables before → length before < greatest → greatest < 2 ^ 31 → HasNext variables
+has_next kind greatest (kinds.Text marks) before h room few = tt
+has_next kind greatest (kinds.Binary count) before h room few = let all = h.1.all in omega (arith, all, room, few)
 
 -- ---- all marks
 
@@ -64,14 +93,12 @@ marked_is greatest v (e ∷ es) all =
 pub known_at : (f : File) (marks : Marks) (v : ℕ) → AreMarks f.greatest marks (defined f) → v ≤ f.greatest → (v == 0 || bit_is_set marks.marked.items v) ≡ is_known f v
 known_at f marks v h low = ap (λ b. v == 0 || b) (h.marked v low ∙ marked_is f.greatest v (defined f) h.definable)
 
--- ---- in both
-
 -- a variable without a mark, below that of the last literal, is that of none of them
-pub unmarked_none : (greatest : ℕ) (variables : DefinedVariables) (v : ℕ) (before : List ℕ) (e : ℕ) → AreDefined greatest variables (before ++ e ∷ []) → v < e / 2 → is_marked variables v ≡ false → list_any (λ e. e / 2 == v) (before ++ e ∷ []) ≡ false
-unmarked_none greatest (kinds.Text marks) v before e h low none =
-    let last = (definable_told greatest e (rec_parts (IsDefinable greatest) before (e ∷ []) h.definable).1.0).2 in
-    sym (marked_is greatest v (before ++ e ∷ []) h.definable) ∙ sym (h.marked v (omega (arith, low, last))) ∙ none
-unmarked_none greatest (kinds.Binary count) v before e h low none = none_beyond (before ++ e ∷ []) h.below
+pub unmarked_none : (kind : FileKind) (greatest : ℕ) (variables : DefinedVariables) (v : ℕ) (before : List ℕ) (e : ℕ) → AreDefined kind greatest variables (before ++ e ∷ []) → v < e / 2 → is_marked variables v ≡ false → list_any (λ e. e / 2 == v) (before ++ e ∷ []) ≡ false
+unmarked_none kind greatest (kinds.Text marks) v before e h low none =
+    let last = (definable_told greatest e (rec_parts (IsDefinable greatest) before (e ∷ []) h.1.definable).1.0).2 in
+    sym (marked_is greatest v (before ++ e ∷ []) h.1.definable) ∙ sym (h.1.marked v (omega (arith, low, last))) ∙ none
+unmarked_none kind greatest (kinds.Binary count) v before e h low none = none_beyond (before ++ e ∷ []) h.1.below
   where
     above : count < v
     above = let le = leb-false v count none in omega arith

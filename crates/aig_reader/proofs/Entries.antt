@@ -90,7 +90,7 @@ module _ {A : Type 0} (p : List A → List ℕ → Option (A × List ℕ)) where
   takes_every i n b a xs all h = subst (λ (k : ℕ). Takes (parse_entries p [] k) b a xs) all h
 
   -- as many as were asked for
-  takes_count : (n : ℕ) (b a : Feed) (xs : List A) → Takes (parse_entries p [] n) b a xs → length xs ≡ n
+  pub takes_count : (n : ℕ) (b a : Feed) (xs : List A) → Takes (parse_entries p [] n) b a xs → length xs ≡ n
   takes_count n b a xs h = count_is n [] (h.taken ++ []) [] xs (h.reads [])
 
 pub length_push : {A : Type 0} (xs : List A) (x : A) → length (xs ++ x ∷ []) ≡ length xs + 1

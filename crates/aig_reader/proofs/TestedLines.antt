@@ -1,15 +1,16 @@
 -- A line whose numbers are tested.
 use Rattle.std.proofs.Common.{◌≡◌, ℕ, Bool, false, List, Option, Result, Ok, Err, sym, subst}
 use Rattle.std.proofs.lemmas.Bool.{false≢true}
-use Rattle.aig_parsing.specs.Parse.{◌>>=◌}
+use Rattle.aig_parsing.specs.Parse.{◌>>=◌, parse_if}
 use Rattle.aig_reader.specs.declared.error.LineError.{LineError}
 use Rattle.aig_reader.specs.declared.error.LineError.TheVariants.{Memory, Stream, Syntax, Literal}
 use Rattle.aig_lexer.specs.declared.error.LexError.{LexError}
 use Rattle.aig_lexer.specs.declared.error.LexError.TheVariants as lex
 use Rattle.aig_lexer.specs.Faults.{LexTells}
 use Rattle.aig_lexer.specs.Takes.{Feed, Takes, Makes}
-use Rattle.aig_lexer.proofs.Taking.{misses_next, takes_bind}
+use Rattle.aig_lexer.proofs.Taking.{misses_next, misses_test, takes_bind, takes_tested}
 use Rattle.aig_reader.specs.Faults.{LineTells, line_error_of}
+use Rattle.aig_reader.specs.Variables.{Tested}
 
 pub on_line-weaker : (e : LineError) (P Q : Type 0) (failed : Bool) → (P → Q) → LineTells e P failed → LineTells e Q failed
 on_line-weaker Memory P Q failed f h = tt
@@ -28,6 +29,11 @@ on_line-unfailed Memory P Q failed f h = tt
 on_line-unfailed Stream P Q failed f h = absurd (false≢true h)
 on_line-unfailed Syntax P Q failed f h = f h
 on_line-unfailed Literal P Q failed f h = f h
+
+-- a value that is made where what was read passes a test
+pub makes_tested : {X A : Type 0} (IsOf : X → A → Type 0) (p : List ℕ → Option (A × List ℕ)) (test : A → Bool) (b a : Feed) (x : A) (r : Result X LineError) → Takes p b a x → Tested (test x) (λ y. IsOf y x) r → Makes LineTells IsOf b a r (parse_if p test)
+makes_tested IsOf p test b a x (Ok y) taken h = (x, h.1, takes_tested p test b a x taken h.0)
+makes_tested IsOf p test b a x (Err e) taken h = on_line-unfailed e _ _ a.failed (λ (no : test x ≡ false). misses_test p test b a x taken no) h
 
 -- a call that reads on after what was taken
 pub makes_next : {X Y Z : Type 0} (IsOf : X → Z → Type 0) (p : List ℕ → Option (Y × List ℕ)) (next : Y × List ℕ → Option (Z × List ℕ)) (b m a : Feed) (y z : Y) (r : Result X LineError) → Takes p b m y → z ≡ y

@@ -1,12 +1,13 @@
 -- Serves private clauses alone.
 -- Gates that are read one after the other.
-use Rattle.std.specs.Prelude.{All, ◌≡◌, ℕ, ◌/◌, ◌^◌, ◌<◌, ◌≤◌, Bool, true, false, List, [], ◌∷◌, ◌++◌, length, map, nat_eq, Option, Some, None, vec_len}
+use Rattle.std.specs.Prelude.{All, ◌≡◌, ℕ, ◌+◌, ◌/◌, ◌^◌, ◌<◌, ◌≤◌, Bool, true, false, List, [], ◌∷◌, ◌++◌, length, map, nat_eq, Option, Some, None, vec_len}
 use Rattle.std.specs.List.{AllByRecursion, IsDistinct}
 use Rattle.aig_circuit.specs.declared.node.AigNode.{AigNode}
 use Rattle.aig_circuit.specs.declared.node.AigNodeType.{AigNodeType}
 use Rattle.aig_circuit.specs.declared.node.AigNodeType.TheVariants.{False, Leaf, And}
 use Rattle.aig_circuit.specs.Edge.{literal_of}
 use Rattle.aig_circuit.specs.Node.{and_of}
+use Rattle.aig_format.specs.declared.FileKind.{FileKind}
 use Rattle.aig_format.specs.File.{GateLine}
 use Rattle.aig_format.specs.Fits.{IsDefinable}
 use Rattle.aig_format.specs.Numbering.{are_in_order}
@@ -110,14 +111,15 @@ abbrev pub IsHeld : ℕ → List ℕ → List GateLine → GateStore → Type 0
 IsHeld greatest leaves gates (held.InOrder rising) = AreInOrder gates rising
 IsHeld greatest leaves gates (held.Shuffled table) = IsNeverCompact greatest leaves gates
 
--- after these leaves, these gates are held
+-- after these leaves, these gates are held, in no more room than there are variables
 pub record ArePlaced (greatest : ℕ) (leaves : List ℕ) (gates : List GateLine) (held : GateStore)
     : Type 0 where
   pub nodes : AreHeld gates held
   pub form : IsHeld greatest leaves gates held
+  pub space : HasSpace (greatest + 1) held
 
 -- after these leaves and gates: the variables, and where the gates are held
-pub record AreGates (greatest : ℕ) (leaves : List ℕ) (gates : List GateLine)
+pub record AreGates (kind : FileKind) (greatest : ℕ) (leaves : List ℕ) (gates : List GateLine)
     (variables : DefinedVariables) (held : GateStore) : Type 0 where
-  pub defined : AreDefined greatest variables (leaves ++ literals_of gates)
+  pub defined : AreDefined kind greatest variables (leaves ++ literals_of gates)
   pub placed : ArePlaced greatest leaves gates held

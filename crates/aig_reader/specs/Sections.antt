@@ -1,6 +1,6 @@
 -- Serves private clauses alone.
 -- The sections of a file, with each variable as its own number.
-use Rattle.std.specs.Prelude.{◌≡◌, ℕ, ◌+◌, ◌^◌, ◌<◌, ◌≤◌, ◌&&◌, true, List, [], ◌++◌, length, map, nat_eq}
+use Rattle.std.specs.Prelude.{◌≡◌, ℕ, ◌^◌, ◌<◌, ◌≤◌, ◌&&◌, true, List, [], ◌++◌, length, map, nat_eq}
 use Rattle.std.specs.List.{AllByRecursion, IsDistinct}
 use Rattle.std.specs.Ordering.{nat_cmp}
 use Rattle.std.specs.FinMap.{FinMap}
@@ -17,9 +17,9 @@ use Rattle.aig_ordering.specs.Lists.{latch_of_line, variable_of_literal}
 use Rattle.aig_reader.specs.declared.lines.Lines.{Lines}
 use Rattle.aig_reader.specs.declared.sections.Lists.{Lists}
 use Rattle.aig_reader.specs.declared.sections.Sections.{Sections}
-use Rattle.aig_reader.specs.Gates.{ArePlaced, HasSpace, is_in_order}
+use Rattle.aig_reader.specs.Gates.{ArePlaced, is_in_order}
 use Rattle.aig_reader.specs.Properties.{ArePropertiesOf}
-use Rattle.aig_reader.specs.Variables.{AreDefined, file_kind}
+use Rattle.aig_reader.specs.Variables.{AreDefined}
 
 -- the file of a header and these sections, with no names
 abbrev pub file_by : Header → Parts → File
@@ -46,11 +46,9 @@ pub record AreLinesOf (f : File) (lines : Lines) : Type 0 where
   pub good : HasGoodLines f
   pub greatest : lines.greatest ≡ f.greatest
   pub few : f.greatest < 2 ^ 31
-  pub kind : file_kind lines.variables ≡ f.kind
-  pub defined : AreDefined f.greatest lines.variables (defined f)
+  pub defined : AreDefined f.kind f.greatest lines.variables (defined f)
   pub lists : AreListsByVariable lines.lists f
   pub gates : ArePlaced f.greatest (f.inputs ++ map (λ l. l.literal) f.latches) f.gates lines.gates
-  pub space : HasSpace (f.greatest + 1) lines.gates
   pub compact : (lines.is_complete && is_in_order lines.gates) ≡ is_compact f
 
 -- the circuit of these sections, with these names

@@ -1,22 +1,16 @@
 -- Serves private clauses alone.
 -- The variables that are defined so far, and what a test of a literal returns.
-use Rattle.std.specs.Prelude.{◌≡◌, ◌≢◌, ℕ, ◌+◌, ◌*◌, ◌/◌, ◌%◌, ◌<◌, ◌≤◌, ◌==◌, ◌⊎◌, Bool, true, false, List, length, nat_le, Result, Ok, Err}
+use Rattle.std.specs.Prelude.{◌≡◌, ◌≢◌, ℕ, ◌+◌, ◌*◌, ◌/◌, ◌^◌, ◌<◌, ◌≤◌, ◌==◌, Bool, true, false, List, length, nat_le, Result, Ok, Err}
 use Rattle.std.specs.List.{AllByRecursion, list_any}
 use Rattle.aig_format.specs.Fits.{IsDefinable}
 use Rattle.aig_format.specs.declared.FileKind.{FileKind}
 use Rattle.aig_format.specs.declared.FileKind.TheVariants.{Text, Binary}
 use Rattle.aig_reader.specs.Bits.{bit_is_set}
 use Rattle.aig_reader.specs.declared.error.LineError.{LineError}
-use Rattle.aig_reader.specs.declared.error.LineError.TheVariants.{Literal, Memory}
 use Rattle.aig_reader.specs.declared.variables.Marks.{Marks}
 use Rattle.aig_reader.specs.declared.variables.DefinedVariables.{DefinedVariables}
 use Rattle.aig_reader.specs.declared.variables.DefinedVariables.TheVariants as kinds
 use Rattle.aig_reader.specs.Faults.{LineTells}
-
--- the kind of the file
-abbrev pub file_kind : DefinedVariables → FileKind
-file_kind (kinds.Text marks) = Text
-file_kind (kinds.Binary count) = Binary
 
 -- these literals may be defined, and the marks of the variables up to the greatest tell which of
 -- them they define
@@ -31,30 +25,27 @@ pub record AreCounted (count : ℕ) (literals : List ℕ) : Type 0 where
   pub all : length literals ≡ count
   pub below : AllByRecursion (IsDefinable count) literals
 
--- these literals are defined; in a binary file their count tells which they are
-abbrev pub AreDefined : ℕ → DefinedVariables → List ℕ → Type 0
-AreDefined greatest (kinds.Text marks) literals = AreMarks greatest marks literals
-AreDefined greatest (kinds.Binary count) literals = AreCounted count literals
+-- these literals are defined in a file of this kind; in a binary file their count tells which they
+-- are
+abbrev pub AreDefined : FileKind → ℕ → DefinedVariables → List ℕ → Type 0
+AreDefined kind greatest (kinds.Text marks) literals =
+    (kind ≡ Text) × AreMarks greatest marks literals
+AreDefined kind greatest (kinds.Binary count) literals = (kind ≡ Binary) × AreCounted count literals
 
 -- whether this variable, which is not 0, is defined
 abbrev pub is_marked : DefinedVariables → ℕ → Bool
 is_marked (kinds.Text marks) v = bit_is_set marks.marked.items v
 is_marked (kinds.Binary count) v = nat_le v count
 
--- there are `size` variables, the false one counted, and in a binary file k more of them can be
--- defined
-abbrev pub HasRoom : ℕ → DefinedVariables → ℕ → Type 0
-HasRoom size (kinds.Text marks) k = marks.greatest + 1 ≡ size
-HasRoom size (kinds.Binary count) k = count + k < size
+-- in a binary file the literal of the next variable is a number of 32 bits
+abbrev pub HasNext : DefinedVariables → Type 0
+HasNext (kinds.Text marks) = Unit {0}
+HasNext (kinds.Binary count) = count + 1 < 2 ^ 31
 
 -- in a binary file the literal is that of the next variable
 abbrev pub IsNext : DefinedVariables → ℕ → Type 0
 IsNext (kinds.Text marks) e = Unit {0}
 IsNext (kinds.Binary count) e = e ≡ 2 * (count + 1)
-
--- an even literal of one of `size` variables, but not of the false one
-abbrev pub IsOwn : ℕ → ℕ → Type 0
-IsOwn size e = (e % 2 ≡ 0) × (2 ≤ e) × (e / 2 < size)
 
 -- the literal's variable is that of none of these literals
 abbrev pub IsNewAmong : List ℕ → ℕ → Type 0
@@ -64,7 +55,3 @@ IsNewAmong before e = AllByRecursion (λ d. d / 2 ≢ e / 2) before
 abbrev pub Tested : {X : Type 0} → Bool → (X → Type 0) → Result X LineError → Type 0
 Tested test P (Ok x) = (test ≡ true) × P x
 Tested test P (Err e) = LineTells e (test ≡ false) false
-
--- memory, or a bad literal
-abbrev pub IsLiteralFault : LineError → Type 0
-IsLiteralFault e = (e ≡ Memory) ⊎ (e ≡ Literal)

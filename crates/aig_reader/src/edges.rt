@@ -1,6 +1,6 @@
 //! Edges, and lines of one edge each.
 
-ghost use Rattle.std.specs.Prelude.{◌≡◌, map, IfErr};
+ghost use Rattle.std.specs.Prelude.{◌≡◌, map};
 ghost use Rattle.aig_format.specs.Fits.{is_literal};
 ghost use Rattle.aig_parsing.specs.ParseTested.{parse_literals};
 ghost use Rattle.aig_parsing.specs.Parse.{parse_ended, parse_if};
@@ -18,8 +18,7 @@ use std::alloc::Global;
 
 /// The edge of a literal, which is that of a variable up to the greatest.
 pub fn edge_within(greatest: u32, literal: u32) -> Result<AigEdge, LineError>
-    ensures exact { Tested (is_literal greatest literal) (λ e. e ≡ edge_from literal) result }
-    ensures fault { IfErr result (λ e. e ≡ LineError.Literal) }
+    ensures { Tested (is_literal greatest literal) (λ e. e ≡ edge_from literal) result }
 {
     if literal / 2 > greatest {
         return Err(LineError::Literal);

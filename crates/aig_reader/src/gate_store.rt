@@ -5,6 +5,7 @@ ghost use Rattle.aig_format.specs.File.{GateLine};
 ghost use Rattle.aig_format.specs.Numbering.{is_above_operands};
 ghost use Rattle.aig_ordering.specs.Gates.{nodes_in};
 ghost use Rattle.aig_reader.specs.Gates.{AreFirstNodes, ArePlaced, HasSpace, is_in_order, line_of, literals_of};
+ghost use Rattle.aig_format.specs.declared.FileKind.{FileKind};
 ghost use Rattle.aig_reader.specs.Variables.{AreDefined, IsNewAmong, is_marked};
 
 use crate::nodes::{add_leaves, first_node, put_gate, reserve_nodes};
@@ -80,9 +81,8 @@ impl InOrder {
 impl GateStore {
     /// No gates.
     pub fn new(alloc: Global) -> Result<Self, AllocError>
-        ensures placed { IfOk result
+        ensures { IfOk result
             (λ gates. (greatest : ℕ) (leaves : List ℕ) → ArePlaced greatest leaves [] gates) }
-        ensures space { IfOk result (λ gates. (size : ℕ) → 1 ≤ size → HasSpace size gates) }
     {
         Ok(GateStore::InOrder(InOrder {
             nodes: first_node(alloc)?,
@@ -99,17 +99,14 @@ impl GateStore {
         lhs: u32,
         operands: Operands,
     ) -> Result<(), AllocError>
-        requires space { (size : ℕ) × (size ≤ 2 ^ 31) × (lhs / 2 < size) × HasSpace size self.old }
-        requires placed { (greatest : ℕ) × (leaves : List ℕ) × (before : List GateLine)
-            × ArePlaced greatest leaves before self.old }
-        ensures placed { (greatest : ℕ) (leaves : List ℕ) (before : List GateLine)
+        requires { (greatest : ℕ) × (leaves : List ℕ) × (before : List GateLine)
+            × (greatest < 2 ^ 31) × (lhs / 2 ≤ greatest) × ArePlaced greatest leaves before self.old }
+        ensures { (kind : FileKind) (greatest : ℕ) (leaves : List ℕ) (before : List GateLine)
             → ArePlaced greatest leaves before self.old
-            → AreDefined greatest variables.now ((leaves ++ literals_of before) ++ lhs ∷ [])
-            → IsNewAmong (literals_of before) lhs → 2 ≤ lhs
+            → AreDefined kind greatest variables.now ((leaves ++ literals_of before) ++ lhs ∷ [])
+            → IsNewAmong (literals_of before) lhs → 2 ≤ lhs → lhs / 2 ≤ greatest
             → OnOk result
             (ArePlaced greatest leaves (before ++ line_of lhs operands ∷ []) self.new) }
-        ensures space { OnOk result
-            ((size : ℕ) → lhs / 2 < size → HasSpace size self.old → HasSpace size self.new) }
     {
         match self {
             GateStore::InOrder(rising) => {

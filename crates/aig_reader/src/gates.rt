@@ -1,22 +1,22 @@
 //! Gates: in a text file a line each, in a binary file two differences each.
 
-ghost use Rattle.std.specs.Prelude.{◌≡◌, ℕ, ◌+◌, ◌^◌, ◌<◌, ◌≤◌, [], ◌∷◌, ◌++◌, List, IfOk};
-ghost use Rattle.aig_parsing.specs.ParseTested.{may_use, parse_fitting_gates, parse_gate_entry};
+ghost use Rattle.std.specs.Prelude.{◌≡◌, ℕ, ◌+◌, ◌^◌, ◌<◌, ◌≤◌, [], ◌∷◌, ◌++◌, List, length};
+ghost use Rattle.aig_parsing.specs.ParseTested.{may_use, parse_gate_entry};
+ghost use Rattle.aig_format.specs.declared.FileKind.{FileKind};
 ghost use Rattle.aig_format.specs.declared.FileKind.TheVariants.{Binary};
 ghost use Rattle.aig_format.specs.File.{GateLine};
 ghost use Rattle.aig_lexer.specs.Faults.{LexTells};
-ghost use Rattle.aig_lexer.specs.Header.{numbers_of};
 ghost use Rattle.aig_lexer.specs.Takes.{Gives, Makes, feed};
 ghost use Rattle.aig_reader.specs.Faults.{LineTells};
-ghost use Rattle.aig_reader.specs.Gates.{AreGates, HasSpace, line_of};
-ghost use Rattle.aig_reader.specs.Variables.{AreDefined, HasRoom, file_kind};
-ghost use Rattle.aig_parsing.specs.Parse.{parse_operands};
+ghost use Rattle.aig_reader.specs.Gates.{AreGates, line_of, literals_of};
+ghost use Rattle.aig_reader.specs.Variables.{AreDefined};
+ghost use Rattle.aig_parsing.specs.Parse.{parse_entries, parse_operands};
 
 use crate::error::LineError;
 use crate::gate_store::GateStore;
 use crate::variables::DefinedVariables;
 use aig_base::Source;
-use aig_lexer::{Header, InputBuffer, LexError, delta, pair};
+use aig_lexer::{InputBuffer, LexError, delta, pair};
 use aig_ordering::Operands;
 use std::alloc::Global;
 
@@ -45,10 +45,11 @@ fn operands<R: Source>(
     variables: &DefinedVariables,
     lhs: u32,
 ) -> Result<(u32, u32), LexError>
-    ensures { Gives LexTells (λ x. (x.0, x.1))
+    ensures { (kind : FileKind) (greatest : ℕ) (before : List ℕ)
+        → AreDefined kind greatest variables.now before
+        → Gives LexTells (λ x. (x.0, x.1))
         (feed R.left R.failed R.pulls buffer.old r.old)
-        (feed R.left R.failed R.pulls buffer.new r.new) result
-        (parse_operands (file_kind variables.now) lhs) }
+        (feed R.left R.failed R.pulls buffer.new r.new) result (parse_operands kind lhs) }
 {
     match variables {
         DefinedVariables::Text(_) => pair(buffer, r),
@@ -59,8 +60,9 @@ fn operands<R: Source>(
 /// Whether a gate's operands may be used: in a text file each literal of a variable up to the greatest, in a binary file where the
 /// first is below the gate's literal.
 fn are_usable(variables: &DefinedVariables, lhs: u32, operands: Operands) -> bool
-    ensures { (greatest : ℕ) (before : List ℕ) → AreDefined greatest variables.now before
-        → result ≡ may_use (file_kind variables.now) greatest (line_of lhs operands) }
+    ensures { (kind : FileKind) (greatest : ℕ) (before : List ℕ)
+        → AreDefined kind greatest variables.now before
+        → result ≡ may_use kind greatest (line_of lhs operands) }
 {
     match variables {
         DefinedVariables::Text(marks) => {
@@ -78,22 +80,17 @@ fn gate_line<R: Source>(
     variables: &mut DefinedVariables,
     gates: &mut GateStore,
 ) -> Result<(), LineError>
-    requires space { (size : ℕ) × (size ≤ 2 ^ 31) × HasRoom size variables.old 1
-        × HasSpace size gates.old }
-    requires gates { (greatest : ℕ) × (leaves : List ℕ) × (before : List GateLine)
-        × AreGates greatest leaves before variables.old gates.old }
-    ensures exact { (greatest : ℕ) (leaves : List ℕ) (before : List GateLine)
-        → AreGates greatest leaves before variables.old gates.old
+    requires { (kind : FileKind) × (greatest : ℕ) × (leaves : List ℕ) × (before : List GateLine)
+        × (greatest < 2 ^ 31) × (length (leaves ++ literals_of before) < greatest)
+        × AreGates kind greatest leaves before variables.old gates.old }
+    ensures { (kind : FileKind) (greatest : ℕ) (leaves : List ℕ) (before : List GateLine)
+        → length (leaves ++ literals_of before) < greatest
+        → AreGates kind greatest leaves before variables.old gates.old
         → Makes LineTells
-        (λ _ gate. AreGates greatest leaves (before ++ gate ∷ []) variables.new gates.new)
+        (λ _ gate. AreGates kind greatest leaves (before ++ gate ∷ []) variables.new gates.new)
         (feed R.left R.failed R.pulls buffer.old r.old)
         (feed R.left R.failed R.pulls buffer.new r.new) result
-        (parse_gate_entry (file_kind variables.old) greatest leaves before) }
-    ensures space { IfOk result (λ _. (size : ℕ) → HasRoom size variables.old 1
-        → HasSpace size gates.old → HasSpace size gates.new) }
-    ensures room { IfOk result
-        (λ _. (size k : ℕ) → HasRoom size variables.old (k + 1) → HasRoom size variables.new k) }
-    ensures kind { file_kind variables.new ≡ file_kind variables.old }
+        (parse_gate_entry kind greatest leaves before) }
 {
     let lhs = variables.own_literal(buffer, r, b' ')?;
     let (rhs0, rhs1) = operands(buffer, r, variables, lhs)?;
@@ -111,23 +108,21 @@ pub fn read_gates<R: Source>(
     alloc: Global,
     buffer: &mut InputBuffer,
     r: &mut R,
-    header: Header,
+    count: u32,
     variables: &mut DefinedVariables,
 ) -> Result<GateStore, LineError>
-    requires few { header.greatest < 2 ^ 31 }
-    requires room { HasRoom (header.greatest + 1) variables.old header.gates }
-    requires defined { (leaves : List ℕ) × AreDefined header.greatest variables.old leaves }
-    ensures exact { (leaves : List ℕ) → AreDefined header.greatest variables.old leaves
+    requires { (kind : FileKind) × (greatest : ℕ) × (leaves : List ℕ) × (greatest < 2 ^ 31)
+        × (length leaves + count ≤ greatest) × AreDefined kind greatest variables.old leaves }
+    ensures { (kind : FileKind) (greatest : ℕ) (leaves : List ℕ)
+        → length leaves + count ≤ greatest → AreDefined kind greatest variables.old leaves
         → Makes LineTells
-        (λ held gates. AreGates header.greatest leaves gates variables.new held)
+        (λ held gates. AreGates kind greatest leaves gates variables.new held)
         (feed R.left R.failed R.pulls buffer.old r.old)
         (feed R.left R.failed R.pulls buffer.new r.new) result
-        (parse_fitting_gates (file_kind variables.old) (numbers_of header) leaves) }
-    ensures space { IfOk result (HasSpace (header.greatest + 1)) }
-    ensures kind { file_kind variables.new ≡ file_kind variables.old }
+        (parse_entries (parse_gate_entry kind greatest leaves) [] count) }
 {
     let mut gates = GateStore::new(alloc)?;
-    for _ in 0..header.gates {
+    for _ in 0..count {
         gate_line(alloc, buffer, r, variables, &mut gates)?;
     }
     Ok(gates)

@@ -1,17 +1,18 @@
 //! Inputs: in a text file a line each, in a binary file the first variables.
 
-ghost use Rattle.std.specs.Prelude.{◌≡◌, ℕ, ◌+◌, ◌^◌, ◌<◌, ◌≤◌, List, [], ◌∷◌, ◌++◌, map, vec_len, IfOk};
-ghost use Rattle.aig_parsing.specs.ParseTested.{parse_fitting_inputs, parse_input_entry};
-ghost use Rattle.aig_lexer.specs.Header.{numbers_of};
+ghost use Rattle.std.specs.Prelude.{◌≡◌, ℕ, ◌^◌, ◌<◌, ◌≤◌, List, [], ◌∷◌, ◌++◌, map};
+ghost use Rattle.aig_format.specs.declared.FileKind.{FileKind};
+ghost use Rattle.aig_parsing.specs.Parse.{parse_entries};
+ghost use Rattle.aig_parsing.specs.ParseTested.{parse_input_entry};
 ghost use Rattle.aig_lexer.specs.Takes.{Makes, feed};
 ghost use Rattle.aig_reader.specs.Faults.{LineTells};
 ghost use Rattle.aig_ordering.specs.Lists.{variable_of_literal};
-ghost use Rattle.aig_reader.specs.Variables.{AreDefined, HasRoom, file_kind};
+ghost use Rattle.aig_reader.specs.Variables.{AreDefined, HasNext};
 
 use crate::error::LineError;
 use crate::variables::DefinedVariables;
 use aig_base::Source;
-use aig_lexer::{FileKind, Header, InputBuffer};
+use aig_lexer::InputBuffer;
 use std::alloc::Global;
 
 /// Reads an input, and defines its variable.
@@ -20,16 +21,14 @@ fn input_line<R: Source>(
     r: &mut R,
     variables: &mut DefinedVariables,
 ) -> Result<usize, LineError>
-    requires { (size : ℕ) × (size ≤ 2 ^ 31) × HasRoom size variables.old 1 }
-    ensures exact { (greatest : ℕ) (before : List ℕ) → AreDefined greatest variables.old before
+    requires { HasNext variables.old }
+    ensures { (kind : FileKind) (greatest : ℕ) (before : List ℕ)
+        → AreDefined kind greatest variables.old before
         → Makes LineTells (λ id literal. (id ≡ variable_of_literal literal)
-        × AreDefined greatest variables.new (before ++ literal ∷ []))
+        × AreDefined kind greatest variables.new (before ++ literal ∷ []))
         (feed R.left R.failed R.pulls buffer.old r.old)
         (feed R.left R.failed R.pulls buffer.new r.new) result
-        (parse_input_entry (file_kind variables.old) greatest before) }
-    ensures room { IfOk result
-        (λ _. (size k : ℕ) → HasRoom size variables.old (k + 1) → HasRoom size variables.new k) }
-    ensures kind { file_kind variables.new ≡ file_kind variables.old }
+        (parse_input_entry kind greatest before) }
 {
     let literal = variables.own_literal(buffer, r, b'\n')?;
     variables.define(literal)
@@ -40,29 +39,25 @@ pub fn read_inputs<R: Source>(
     alloc: Global,
     buffer: &mut InputBuffer,
     r: &mut R,
-    header: Header,
+    count: u32,
     variables: &mut DefinedVariables,
 ) -> Result<Vec<usize>, LineError>
-    requires few { header.greatest < 2 ^ 31 }
-    requires room { HasRoom (header.greatest + 1) variables.old header.inputs }
-    ensures exact { AreDefined header.greatest variables.old []
+    requires { (kind : FileKind) × (greatest : ℕ) × (greatest < 2 ^ 31) × (count ≤ greatest)
+        × AreDefined kind greatest variables.old [] }
+    ensures { (kind : FileKind) (greatest : ℕ) → AreDefined kind greatest variables.old []
         → Makes LineTells
         (λ inputs literals. (inputs.items ≡ map variable_of_literal literals)
-        × AreDefined header.greatest variables.new literals)
+        × AreDefined kind greatest variables.new literals)
         (feed R.left R.failed R.pulls buffer.old r.old)
         (feed R.left R.failed R.pulls buffer.new r.new) result
-        (parse_fitting_inputs (file_kind variables.old) (numbers_of header)) }
-    ensures count { IfOk result (λ inputs. vec_len inputs ≡ header.inputs) }
-    ensures room { IfOk result (λ _. (size k : ℕ) → HasRoom size variables.old (k + header.inputs)
-        → HasRoom size variables.new k) }
-    ensures kind { file_kind variables.new ≡ file_kind variables.old }
+        (parse_entries (parse_input_entry kind greatest) [] count) }
 {
-    let unread = match header.kind {
-        FileKind::Text => 0,
-        FileKind::Binary => header.inputs as usize,
+    let unread = match variables {
+        DefinedVariables::Text(_) => 0,
+        DefinedVariables::Binary(_) => count as usize,
     };
     let mut inputs = Vec::with_capacity(alloc, unread)?;
-    for _ in 0..header.inputs {
+    for _ in 0..count {
         let input = input_line(buffer, r, variables)?;
         inputs.push(input)?;
     }

@@ -60,12 +60,19 @@ pub fn read_lines<R: Source>(
     ensures fault { IfErr result IsSectionFault }
 {
     let mut variables = DefinedVariables::new(alloc, header.kind, header.greatest);
-    let inputs = read_inputs(alloc, buffer, r, header, &mut variables);
+    let inputs = read_inputs(alloc, buffer, r, header.inputs, &mut variables);
     let inputs = Section::Inputs.result_of(inputs)?;
-    let latchs = read_latches(alloc, buffer, r, header, &mut variables);
+    let latchs = read_latches(
+        alloc,
+        buffer,
+        r,
+        header.latches,
+        header.greatest,
+        &mut variables,
+    );
     let latchs = Section::Latches.result_of(latchs)?;
     let properties = read_properties(alloc, buffer, r, header)?;
-    let gates = read_gates(alloc, buffer, r, header, &mut variables);
+    let gates = read_gates(alloc, buffer, r, header.gates, &mut variables);
     let gates = gates_result(header.kind, gates)?;
     Ok(Lines {
         lists: Lists {

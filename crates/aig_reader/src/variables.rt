@@ -1,13 +1,14 @@
 //! The variables of a file.
 
-ghost use Rattle.std.specs.Prelude.{◌≡◌, ℕ, ◌+◌, ◌/◌, ◌^◌, ◌<◌, ◌≤◌, List, [], ◌∷◌, ◌++◌, IfErr, IfOk, MatchOption, OnOk, false, true, vec_len};
+ghost use Rattle.std.specs.Prelude.{◌≡◌, ℕ, ◌+◌, ◌/◌, ◌^◌, ◌<◌, ◌≤◌, List, [], ◌∷◌, ◌++◌, IfOk, MatchOption, OnOk, false, true, vec_len};
 ghost use Rattle.aig_parsing.specs.ParseTested.{defines, may_define};
 ghost use Rattle.aig_lexer.specs.Faults.{LexTells};
 ghost use Rattle.aig_lexer.specs.Takes.{Gives, feed};
+ghost use Rattle.aig_format.specs.declared.FileKind.{FileKind};
 ghost use Rattle.aig_format.specs.File.{File, defined};
 ghost use Rattle.aig_ordering.specs.Tables.{AreKnownOf};
 ghost use Rattle.aig_reader.specs.Bits.{bit_is_set};
-ghost use Rattle.aig_reader.specs.Variables.{AreDefined, AreMarks, HasRoom, IsLiteralFault, IsNewAmong, IsNext, IsOwn, Tested, is_marked, file_kind};
+ghost use Rattle.aig_reader.specs.Variables.{AreDefined, AreMarks, HasNext, IsNext, Tested, is_marked};
 ghost use Rattle.aig_parsing.specs.Parse.{parse_own};
 
 use crate::bits::{has_bit, set_bit};
@@ -56,13 +57,9 @@ impl Marks {
             → Tested (defines greatest before literal)
             (λ id. (id ≡ literal / 2) × AreMarks greatest self.new (before ++ literal ∷ []))
             result }
-        ensures fault { IfErr result IsLiteralFault }
-        ensures own { IfOk result (λ _. IsOwn (self.old.greatest + 1) literal) }
-        ensures greatest { self.new.greatest ≡ self.old.greatest }
         // A literal of no variable takes no room: there are words up to that of the greatest one.
         ensures within { vec_len self.old.marked ≤ self.old.greatest / 64 + 1
             → vec_len self.new.marked ≤ self.old.greatest / 64 + 1 }
-        ensures id { IfOk result (λ id. id ≡ literal / 2) }
     {
         let variable = literal as usize / 2;
         if literal % 2 != 0 || variable == 0 || variable > self.greatest as usize {
@@ -94,9 +91,7 @@ impl Marks {
 impl DefinedVariables {
     /// The variables up to a greatest one in a file of this kind. None is defined.
     pub fn new(alloc: Global, kind: FileKind, greatest: u32) -> Self
-        ensures defined { AreDefined greatest result [] }
-        ensures kind { file_kind result ≡ kind }
-        ensures room { HasRoom (greatest + 1) result greatest }
+        ensures { AreDefined kind greatest result [] }
     {
         match kind {
             FileKind::Text => DefinedVariables::Text(Marks {
@@ -114,12 +109,12 @@ impl DefinedVariables {
         r: &mut R,
         end: u8,
     ) -> Result<u32, LexError>
-        requires { (size : ℕ) × (size ≤ 2 ^ 31) × HasRoom size self.now 1 }
-        ensures exact { (greatest : ℕ) (before : List ℕ) → AreDefined greatest self.now before
+        requires { HasNext self.now }
+        ensures exact { (kind : FileKind) (greatest : ℕ) (before : List ℕ)
+            → AreDefined kind greatest self.now before
             → Gives LexTells (λ e. e)
             (feed R.left R.failed R.pulls buffer.old r.old)
-            (feed R.left R.failed R.pulls buffer.new r.new) result
-            (parse_own (file_kind self.now) end before) }
+            (feed R.left R.failed R.pulls buffer.new r.new) result (parse_own kind end before) }
         ensures next { IfOk result (λ e. IsNext self.now e) }
     {
         match self {
@@ -132,18 +127,11 @@ impl DefinedVariables {
     #[inline(always)]
     pub fn define(&mut self, literal: u32) -> Result<usize, LineError>
         requires { IsNext self.old literal }
-        ensures exact { (greatest : ℕ) (before : List ℕ) → AreDefined greatest self.old before
-            → Tested (may_define (file_kind self.old) greatest before literal)
-            (λ id. (id ≡ literal / 2) × AreDefined greatest self.new (before ++ literal ∷ []))
+        ensures { (kind : FileKind) (greatest : ℕ) (before : List ℕ)
+            → AreDefined kind greatest self.old before
+            → Tested (may_define kind greatest before literal)
+            (λ id. (id ≡ literal / 2) × AreDefined kind greatest self.new (before ++ literal ∷ []))
             result }
-        ensures fault { IfErr result IsLiteralFault }
-        ensures own { IfOk result (λ _. (size : ℕ) → HasRoom size self.old 1 → IsOwn size literal) }
-        ensures new { IfOk result (λ _. (greatest : ℕ) (before : List ℕ)
-            → AreDefined greatest self.old before → IsNewAmong before literal) }
-        ensures id { IfOk result (λ id. id ≡ literal / 2) }
-        ensures room { IfOk result
-            (λ _. (size k : ℕ) → HasRoom size self.old (k + 1) → HasRoom size self.new k) }
-        ensures kind { file_kind self.new ≡ file_kind self.old }
     {
         match self {
             DefinedVariables::Text(marks) => marks.mark(literal),

@@ -1,26 +1,55 @@
-use Rattle.std.proofs.Common.{◌∙◌, ◌++◌, refl, sym, ◌&&◌}
+use Rattle.std.proofs.Common.{◌∙◌, ◌++◌, ◌&&◌, ℕ, Bool, List, refl, sym}
+use Rattle.std.proofs.lemmas.Result.{err_from_is_err_and}
+use Rattle.aig_format.specs.declared.FileKind.{FileKind}
+use Rattle.aig_format.specs.File.{GateLine}
 use Rattle.aig_parsing.specs.ParseTested.{may_define, may_use}
+use Rattle.aig_lexer.specs.Takes.{feed}
 use Rattle.aig_reader.specs.Gates.{literals_of}
-use Rattle.aig_reader.specs.Variables.{file_kind}
+use Rattle.aig_reader.proofs.Defined.{has_next, last_literal, new_literal}
 use Rattle.aig_reader.proofs.GateLines.{more_gates, new_among}
-use Rattle.aig_reader.proofs.OwnLines.{takes_line}
+use Rattle.aig_reader.proofs.OwnLines.{misses_own, misses_rest, takes_line}
+use Rattle.aig_reader.proofs.TestedLines.{on_line-from_shape}
 use Rattle.aig_reader.proofs.gates.gate_line.Goals as goal
 use Rattle.aig_parsing.specs.Parse.{gate_line_from, parse_operands}
 
-pub returns-clause-exact : goal.returns-clause-exact
-returns-clause-exact g c = λ greatest leaves before h.
-    let kind = file_kind c.args.variables.now in
-    let literals = leaves ++ literals_of before in
-    let gate = gate_line_from (c.in_ok-lhs.lhs, (c.in_ok-rhs0.rhs0, c.in_ok-rhs0.rhs1)) in
-    let first = c.in_ok-define.ensures.exact greatest literals h.defined in
-    let usable = sym (c.are_usable.ensures greatest literals h.defined) ∙ c.if-not-are_usable.false in
-    let own = c.in_ok-define.ensures.own c.requires.space.0 c.requires.space.2 in
-    let new = new_among leaves before gate.lhs (c.in_ok-define.ensures.new greatest literals h.defined) in (
-      gate,
-      more_gates greatest leaves before _ _ gate (c.in_ok-put.ensures.placed greatest leaves before h.placed first.1.1 new own.1) first.1.1,
-      takes_line kind 32 literals (parse_operands kind) gate_line_from (λ g. may_define kind greatest literals g.lhs && may_use kind greatest g) _ _ c.in_ok-lhs.lhs (c.in_ok-lhs.ensures.exact greatest literals h.defined) _ (c.in_ok-rhs0.rhs0, c.in_ok-rhs0.rhs1) c.in_ok-rhs0.ensures
-          (rw (first.0, usable) refl),
-    )
+abbrev tests : FileKind → ℕ → List ℕ → GateLine → Bool
+tests kind greatest literals g = may_define kind greatest literals g.lhs && may_use kind greatest g
 
-pub returns-clause-space : goal.returns-clause-space
-returns-clause-space g c = λ size room space. c.in_ok-put.ensures.space size (c.in_ok-define.ensures.own size room).2 space
+pub own_literal-requires : goal.own_literal-requires
+own_literal-requires g c = let r = c.requires in has_next r.0 r.1 _ (r.2 ++ literals_of r.3) r.6.defined r.5 r.4
+
+pub put-requires : goal.put-requires
+put-requires g c =
+    let r = c.requires in
+    let defined = c.in_ok-define.ensures r.0 r.1 (r.2 ++ literals_of r.3) r.6.defined in
+    let last = last_literal r.0 r.1 _ (r.2 ++ literals_of r.3) c.in_ok-lhs.lhs defined.1.1 r.5 in
+    (r.1, r.2, r.3, r.4, last.1, r.6.placed)
+
+pub returns-in_err-lhs : goal.returns-in_err-lhs
+returns-in_err-lhs g c = λ kind greatest leaves before room h.
+    let p = err_from_is_err_and c.from_residual.result c.from_residual.ensures.1 in
+    let literals = leaves ++ literals_of before in
+    rw (p.1, p.2) (on_line-from_shape c.in_err-lhs.field-0.0 _ _ _ (misses_own kind 32 literals (parse_operands kind) gate_line_from (tests kind greatest literals) (feed g.R.Source.left g.R.Source.failed g.R.Source.pulls c.args.buffer.now c.args.r.now)) (c.in_err-lhs.ensures.exact kind greatest literals h.defined))
+
+pub returns-in_err-rhs0 : goal.returns-in_err-rhs0
+returns-in_err-rhs0 g c = λ kind greatest leaves before room h.
+    let p = err_from_is_err_and c.from_residual-in_err-rhs0.result c.from_residual-in_err-rhs0.ensures.1 in
+    let literals = leaves ++ literals_of before in
+    let own = c.in_ok-lhs.ensures.exact kind greatest literals h.defined in
+    rw (p.1, p.2) (on_line-from_shape c.in_err-rhs0.field-0.0 _ _ _ (misses_rest kind 32 literals (parse_operands kind) gate_line_from (tests kind greatest literals) _ _ c.in_ok-lhs.lhs own) (c.in_err-rhs0.ensures kind greatest literals h.defined))
+
+pub returns : goal.returns
+returns g c = λ kind greatest leaves before room h.
+    let literals = leaves ++ literals_of before in
+    let lhs = c.in_ok-lhs.lhs in
+    let rest : ℕ × ℕ = (c.in_ok-rhs0.rhs0, c.in_ok-rhs0.rhs1) in
+    let gate = gate_line_from (lhs, rest) in
+    let own = c.in_ok-lhs.ensures.exact kind greatest literals h.defined in
+    let first = c.in_ok-define.ensures kind greatest literals h.defined in
+    let usable = sym (c.are_usable.ensures kind greatest literals h.defined) ∙ c.if-not-are_usable.false in
+    let last = last_literal kind greatest _ literals lhs first.1.1 room in
+    let new = new_among leaves before lhs (new_literal kind greatest _ literals lhs h.defined c.in_ok-lhs.ensures.next first.0) in (
+      gate,
+      more_gates kind greatest leaves before _ _ gate (c.in_ok-put.ensures kind greatest leaves before h.placed first.1.1 new last.0 last.1) first.1.1,
+      takes_line kind 32 literals (parse_operands kind) gate_line_from (tests kind greatest literals) _ _ lhs own _ rest (c.in_ok-rhs0.ensures kind greatest literals h.defined) (rw (first.0, usable) refl),
+    )

@@ -24,7 +24,7 @@ module _ (c : After-deref) (f : File) (h : AreLinesOf f c.args.self) where
       nodes_placed f h.good (nodes_in gates.items) (c.in_ok-gates.ensures.nodes f.greatest _ f.gates h.gates) all
 
   known_are : AreKnownOf f c.deref.result.now
-  known_are = rw c.deref.ensures.value (c.in_ok-known-in-Text.ensures f (rw c.in-Text.is at h.defined))
+  known_are = let d = rw c.in-Text.is at h.defined in rw c.deref.ensures.value (c.in_ok-known-in-Text.ensures f d.1)
 
   well_founded : is_compact f ≡ false
   well_founded = sym h.compact ∙ elim c.else-is_complete.branch [
@@ -41,4 +41,5 @@ by_level-requires-clause-tables c = (c.requires.0, tables_are c c.requires.0 c.r
 pub returns-clause-exact : goal.returns-clause-exact
 returns-clause-exact c = λ f h.
     let here = (goal.at.returns-clause-exact c).After-deref in
-    well_founded_judged f c.by_level.result (sym h.kind ∙ rw c.in-Text.is refl) (well_founded here f h) (c.by_level.ensures.exact f (tables_are here f h))
+    let d = rw c.in-Text.is at h.defined in
+    well_founded_judged f c.by_level.result d.0 (well_founded here f h) (c.by_level.ensures.exact f (tables_are here f h))
