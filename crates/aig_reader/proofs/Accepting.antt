@@ -14,10 +14,9 @@ use Rattle.aig_circuit.specs.declared.view.CircuitLists.{CircuitLists}
 use Rattle.aig_symbols.specs.Names.{tail_of}
 use Rattle.aig_reader.specs.declared.error.ReadError.{ReadError}
 use Rattle.aig_reader.specs.declared.error.ReadError.TheVariants as errors
-use Rattle.aig_reader.specs.Faults.{IsSectionFault, ReadTells}
+use Rattle.aig_reader.specs.Faults.{ReadTells, SectionTells}
 use Rattle.aig_reader.specs.Reading.{AreListsOf, IsReadAs, ReadsExactly, UnlessTransient}
 use Rattle.aig_lexer.specs.Takes.{Feed, Takes, Misses}
-use Rattle.aig_reader.proofs.Body.{on_refusal-weaker}
 use Rattle.aig_lexer.proofs.Going.{known_rest}
 use Rattle.aig_lexer.proofs.Taking.{misses_either, misses_both}
 
@@ -100,6 +99,17 @@ refused_known T limit (Some bytes) e failed h k =
     refusal T CircuitLists e (parse_fitting limit bytes ≡ None) (IsErrOf (fault T e) errors.TooMany ↔ (too_many_at limit bytes ≡ true)) (ReadsExactly AreListsOf limit (fault CircuitLists e) bytes) failed
     (λ none tells. refuses limit bytes e none (told T e _ tells)) h k
 
+on_refusal-weaker : (e : ReadError) (P Q : Type 0) (failed : Bool) → (P → Q) → ReadTells e P failed → ReadTells e Q failed
+on_refusal-weaker errors.Memory P Q failed f h = tt
+on_refusal-weaker errors.Stream P Q failed f h = h
+on_refusal-weaker errors.Header P Q failed f h = f h
+on_refusal-weaker errors.TooMany P Q failed f h = f h
+on_refusal-weaker (errors.Syntax s) P Q failed f h = f h
+on_refusal-weaker (errors.Literal s) P Q failed f h = f h
+on_refusal-weaker errors.Delta P Q failed f h = f h
+on_refusal-weaker errors.Name P Q failed f h = f h
+on_refusal-weaker errors.Open P Q failed f h = f h
+
 -- the header is refused
 pub refused_header : (T : Type 0) (limit : ℕ) (before : Feed) (e : ReadError) (failed : Bool) → ReadTells e (Misses (parse_fitting_header limit) before) failed
     → IfSome before.coming (λ bytes. UnlessTransient (fault T e) (IsErrOf (fault T e) errors.TooMany ↔ (too_many_at limit bytes ≡ true))) → ReadsKnown (fault CircuitLists e) limit before.coming
@@ -110,8 +120,26 @@ refused_header T limit before e failed h k =
 not_too_many : (T : Type 0) (x : T) (P : Type 0) → ◌≡◌ {A = Result T ReadError} (Ok x) (Err errors.TooMany) ↔ P → P → ⊥
 not_too_many T x P h p = let same = h.1 p in absurd cc
 
-pub section_fault : (e : ReadError) → IsSectionFault e → e ≢ errors.TooMany
-section_fault e h is = subst IsSectionFault is h
+-- what a fault of a section tells of the file, and which it is not
+in_file : (e : ReadError) (P Q : Type 0) (failed : Bool) → (P → Q) → SectionTells e P failed → ReadTells e Q failed
+in_file errors.Memory P Q failed f h = tt
+in_file errors.Stream P Q failed f h = h
+in_file errors.Header P Q failed f h = absurd h
+in_file errors.TooMany P Q failed f h = absurd h
+in_file (errors.Syntax s) P Q failed f h = f h
+in_file (errors.Literal s) P Q failed f h = f h
+in_file errors.Delta P Q failed f h = f h
+in_file errors.Name P Q failed f h = absurd h
+in_file errors.Open P Q failed f h = absurd h
+
+section_fault : (e : ReadError) (P : Type 0) (failed : Bool) → SectionTells e P failed → e ≢ errors.TooMany
+section_fault e P failed h is = subst (λ (d : ReadError). SectionTells d P failed) is h
+
+pub section_not_open : (e : ReadError) (P : Type 0) (failed : Bool) → SectionTells e P failed → e ≢ errors.Open
+section_not_open e P failed h is = subst (λ (d : ReadError). SectionTells d P failed) is h
+
+pub section_stream : (e : ReadError) (P : Type 0) (failed : Bool) → SectionTells e P failed → e ≡ errors.Stream → failed ≡ true
+section_stream e P failed h is = subst (λ (d : ReadError). SectionTells d P failed) is h
 
 -- where a header was taken and no file is read, a fault that isn't TooMany is told
 refused_following : (T : Type 0) (header : T) (limit : ℕ) (before : Option (List ℕ)) (e : ReadError) (failed : Bool) → ReadTells e (IfSome before (λ bytes. parse_fitting limit bytes ≡ None)) failed → e ≢ errors.TooMany
@@ -122,11 +150,11 @@ refused_following T header limit (Some bytes) e failed h other k =
     (λ none t. refuses limit bytes e none (λ is. absurd (other is), λ p. absurd (not_too_many T header _ k p))) h (always CircuitLists e)
 
 -- a section is refused
-pub refused_section : (T : Type 0) (header : T) (limit : ℕ) (before m : Feed) (h : FileKind × HeaderNumbers) (e : ReadError) (failed : Bool) → Takes (parse_fitting_header limit) before m h → ReadTells e (Misses (sections_of h) m) failed → e ≢ errors.TooMany
+pub refused_section : (T : Type 0) (header : T) (limit : ℕ) (before m : Feed) (h : FileKind × HeaderNumbers) (e : ReadError) (failed : Bool) → Takes (parse_fitting_header limit) before m h → SectionTells e (Misses (sections_of h) m) failed
     → IfSome before.coming (λ bytes. ◌≡◌ {A = Result T ReadError} (Ok header) (Err errors.TooMany) ↔ (too_many_at limit bytes ≡ true)) → ReadsKnown (fault CircuitLists e) limit before.coming
-refused_section T header limit before m h e failed taken missed other k =
+refused_section T header limit before m h e failed taken missed k =
     refused_following T header limit before.coming e failed
-    (on_refusal-weaker e _ _ failed (λ (none : Misses (sections_of h) m). no_files limit before (misses_both (parse_fitting_header limit) sections_of before m h taken none)) missed) other k
+    (in_file e _ _ failed (λ (none : Misses (sections_of h) m). no_files limit before (misses_both (parse_fitting_header limit) sections_of before m h taken none)) missed) (section_fault e _ failed missed) k
 
 -- the names are refused
 pub refused_names : (T : Type 0) (header : T) (limit : ℕ) (before m : Feed) (body : Body) (e : ReadError) (failed : Bool) → Takes (parse_fitting_body limit) before m body → ReadTells e (IfSome m.coming (λ bytes. tail_of body.0.1 bytes ≡ None)) failed → e ≢ errors.TooMany

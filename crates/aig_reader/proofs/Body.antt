@@ -11,7 +11,7 @@ use Rattle.aig_reader.specs.declared.error.LineError.{LineError}
 use Rattle.aig_reader.specs.declared.error.LineError.TheVariants.{Memory, Stream, Syntax, Literal}
 use Rattle.aig_reader.specs.declared.error.ReadError.{ReadError}
 use Rattle.aig_reader.specs.declared.error.ReadError.TheVariants as errors
-use Rattle.aig_reader.specs.Faults.{IsSectionFault, LineTells, ReadTells, error_in, gate_error_in, result_by}
+use Rattle.aig_reader.specs.Faults.{LineTells, SectionTells, error_in, gate_error_in, result_by}
 use Rattle.aig_lexer.specs.Takes.{Feed, Takes, Misses, Made, Makes}
 use Rattle.aig_lexer.proofs.Taking.{misses_first, misses_mapped, misses_next, takes_bind, takes_mapped}
 
@@ -19,7 +19,7 @@ use Rattle.aig_lexer.proofs.Taking.{misses_first, misses_mapped, misses_next, ta
 
 -- a fault of a line that refuses is one of the file that refuses
 abbrev Refuses : (LineError → ReadError) → Type 1
-Refuses fault = (e : LineError) (P : Type 0) (failed : Bool) → LineTells e P failed → ReadTells (fault e) P failed
+Refuses fault = (e : LineError) (P : Type 0) (failed : Bool) → LineTells e P failed → SectionTells (fault e) P failed
 
 pub in_section : (s : Section) → Refuses (error_in s)
 in_section s Memory P failed h = tt
@@ -28,25 +28,21 @@ in_section s Syntax P failed h = h
 in_section s Literal P failed h = h
 
 pub in_gates : (kind : FileKind) → Refuses (gate_error_in kind)
-in_gates Text e P failed h = elim e as (λ d. LineTells d P failed → ReadTells (gate_error_in Text d) P failed) [ Memory ↦ λ k. tt | Stream ↦ λ k. k | Syntax ↦ λ k. k | Literal ↦ λ k. k ] h
-in_gates Binary e P failed h = elim e as (λ d. LineTells d P failed → ReadTells (gate_error_in Binary d) P failed) [ Memory ↦ λ k. tt | Stream ↦ λ k. k | Syntax ↦ λ k. k | Literal ↦ λ k. k ] h
-
-pub gate_fault : (kind : FileKind) (e : LineError) → IsSectionFault (gate_error_in kind e)
-gate_fault Text e = elim e as (λ d. IsSectionFault (gate_error_in Text d)) [ Memory ↦ tt | Stream ↦ tt | Syntax ↦ tt | Literal ↦ tt ]
-gate_fault Binary e = elim e as (λ d. IsSectionFault (gate_error_in Binary d)) [ Memory ↦ tt | Stream ↦ tt | Syntax ↦ tt | Literal ↦ tt ]
+in_gates Text e P failed h = elim e as (λ d. LineTells d P failed → SectionTells (gate_error_in Text d) P failed) [ Memory ↦ λ k. tt | Stream ↦ λ k. k | Syntax ↦ λ k. k | Literal ↦ λ k. k ] h
+in_gates Binary e P failed h = elim e as (λ d. LineTells d P failed → SectionTells (gate_error_in Binary d) P failed) [ Memory ↦ λ k. tt | Stream ↦ λ k. k | Syntax ↦ λ k. k | Literal ↦ λ k. k ] h
 
 -- ---- answers
 
-pub on_refusal-weaker : (e : ReadError) (P Q : Type 0) (failed : Bool) → (P → Q) → ReadTells e P failed → ReadTells e Q failed
-on_refusal-weaker errors.Memory P Q failed f h = tt
-on_refusal-weaker errors.Stream P Q failed f h = h
-on_refusal-weaker errors.Header P Q failed f h = f h
-on_refusal-weaker errors.TooMany P Q failed f h = f h
-on_refusal-weaker (errors.Syntax s) P Q failed f h = f h
-on_refusal-weaker (errors.Literal s) P Q failed f h = f h
-on_refusal-weaker errors.Delta P Q failed f h = f h
-on_refusal-weaker errors.Name P Q failed f h = f h
-on_refusal-weaker errors.Open P Q failed f h = f h
+pub on_section-weaker : (e : ReadError) (P Q : Type 0) (failed : Bool) → (P → Q) → SectionTells e P failed → SectionTells e Q failed
+on_section-weaker errors.Memory P Q failed f h = tt
+on_section-weaker errors.Stream P Q failed f h = h
+on_section-weaker errors.Header P Q failed f h = h
+on_section-weaker errors.TooMany P Q failed f h = h
+on_section-weaker (errors.Syntax s) P Q failed f h = f h
+on_section-weaker (errors.Literal s) P Q failed f h = f h
+on_section-weaker errors.Delta P Q failed f h = f h
+on_section-weaker errors.Name P Q failed f h = h
+on_section-weaker errors.Open P Q failed f h = h
 
 -- what a result is, by what it is seen as
 pub ok_in : {X E : Type 0} (fault : E → ReadError) (lines : Result X E) (result : Result X ReadError) (x : X) → result ≡ result_by fault lines → result ≡ Ok x → lines ≡ Ok x
@@ -61,16 +57,16 @@ module _ {X Y : Type 0} (fault : LineError → ReadError) (refuses : Refuses fau
   pub made_in : (lines : Result X LineError) (result : Result X ReadError) (x : X) → result ≡ result_by fault lines → result ≡ Ok x → Makes LineTells IsOf b a lines read → Made IsOf b a x read
   made_in lines result x is was h = subst (λ (r : Result X LineError). Makes LineTells IsOf b a r read) (ok_in fault lines result x is was) h
 
-  pub missed_in : (lines : Result X LineError) (result : Result X ReadError) (e : ReadError) → result ≡ result_by fault lines → result ≡ Err e → Makes LineTells IsOf b a lines read → ReadTells e (Misses read b) a.failed
+  pub missed_in : (lines : Result X LineError) (result : Result X ReadError) (e : ReadError) → result ≡ result_by fault lines → result ≡ Err e → Makes LineTells IsOf b a lines read → SectionTells e (Misses read b) a.failed
   missed_in lines result e is was h =
       let k = err_in fault lines result e is was in
-      subst (λ (d : ReadError). ReadTells d (Misses read b) a.failed) k.2 (refuses k.0 (Misses read b) a.failed (subst (λ (r : Result X LineError). Makes LineTells IsOf b a r read) k.1 h))
+      subst (λ (d : ReadError). SectionTells d (Misses read b) a.failed) k.2 (refuses k.0 (Misses read b) a.failed (subst (λ (r : Result X LineError). Makes LineTells IsOf b a r read) k.1 h))
 
   -- an answer whose fault is seen otherwise
-  pub makes_in : (lines : Result X LineError) (result : Result X ReadError) → result ≡ result_by fault lines → Makes LineTells IsOf b a lines read → Makes ReadTells IsOf b a result read
-  makes_in lines result is h = subst (λ (r : Result X ReadError). Makes ReadTells IsOf b a r read) (sym is) (go lines h)
+  pub makes_in : (lines : Result X LineError) (result : Result X ReadError) → result ≡ result_by fault lines → Makes LineTells IsOf b a lines read → Makes SectionTells IsOf b a result read
+  makes_in lines result is h = subst (λ (r : Result X ReadError). Makes SectionTells IsOf b a r read) (sym is) (go lines h)
     where
-      go : (lines : Result X LineError) → Makes LineTells IsOf b a lines read → Makes ReadTells IsOf b a (result_by fault lines) read
+      go : (lines : Result X LineError) → Makes LineTells IsOf b a lines read → Makes SectionTells IsOf b a (result_by fault lines) read
       go (Ok x) h = h
       go (Err e) h = refuses e (Misses read b) a.failed h
 
@@ -91,6 +87,9 @@ module _ (ns : HeaderNumbers) where
 
   abbrev following_outputs : List ℕ → List ℕ → Option (Properties ℕ × List ℕ)
   following_outputs outputs bytes = literals ns.bads bytes >>= λ d. following_bads outputs d.0 d.1
+
+  pub misses_outputs : (b : Feed) → Misses (literals ns.outputs) b → Misses (parse_fitting_properties ns) b
+  misses_outputs b h = misses_first (literals ns.outputs) (λ x. following_outputs x.0 x.1) b h
 
   module _ (b o : Feed) (outputs : List ℕ) (ho : Takes (literals ns.outputs) b o outputs) where
     after_outputs : Misses (following_outputs outputs) o → Misses (parse_fitting_properties ns) b
@@ -117,10 +116,10 @@ module _ (ns : HeaderNumbers) where
         misses_justice h = after_constraints (misses_first (parse_literal_justice ns.greatest ns.justice) next_sets c h)
 
         module _ (j : Feed) (sets : List (List ℕ)) (hj : Takes (parse_literal_justice ns.greatest ns.justice) c j sets) where
-          pub misses_fairness : Misses (literals ns.fairness) j → Misses (parse_fitting_properties ns) b
+          misses_fairness : Misses (literals ns.fairness) j → Misses (parse_fitting_properties ns) b
           misses_fairness h = after_constraints (misses_next (parse_literal_justice ns.greatest ns.justice) next_sets c j sets hj (misses_mapped _ (literals ns.fairness) j h))
 
-          pub takes_properties : (a : Feed) (fairness : List ℕ) → Takes (literals ns.fairness) j a fairness
+          takes_properties : (a : Feed) (fairness : List ℕ) → Takes (literals ns.fairness) j a fairness
               → Takes (parse_fitting_properties ns) b a (record { outputs = outputs; bads = bads; constraints = constraints; justice = sets; fairness = fairness })
           takes_properties a fairness h =
               takes_bind (literals ns.outputs) (λ x. following_outputs x.0 x.1) b o a outputs _ ho
@@ -128,6 +127,13 @@ module _ (ns : HeaderNumbers) where
               (takes_bind (literals ns.constraints) (λ c. following_constraints outputs bads c.0 c.1) d c a constraints _ hc
               (takes_bind (parse_literal_justice ns.greatest ns.justice) next_sets c j a sets _ hj
               (takes_mapped _ (literals ns.fairness) j a fairness h))))
+
+          -- the last of them is read
+          pub makes_properties : {X : Type 0} (IsOf : X → Properties ℕ → Type 0) (Are : X → List ℕ → Type 0)
+              → ((x : X) (fairness : List ℕ) → Are x fairness → IsOf x (record { outputs = outputs; bads = bads; constraints = constraints; justice = sets; fairness = fairness })) → (a : Feed) (result : Result X ReadError)
+              → Makes SectionTells Are j a result (literals ns.fairness) → Makes SectionTells IsOf b a result (parse_fitting_properties ns)
+          makes_properties IsOf Are made a (Ok x) h = (record { outputs = outputs; bads = bads; constraints = constraints; justice = sets; fairness = h.0 }, made x h.0 h.1, takes_properties a h.0 h.2)
+          makes_properties IsOf Are made a (Err e) h = on_section-weaker e _ _ a.failed misses_fairness h
 
 -- ---- all sections
 
@@ -144,9 +150,15 @@ module _ (kind : FileKind) (ns : HeaderNumbers) where
   abbrev following_inputs : List ℕ → List ℕ → Option (Parts × List ℕ)
   following_inputs inputs bytes = parse_fitting_latches kind ns inputs bytes >>= λ l. following_latches inputs l.0 l.1
 
+  pub misses_inputs : (b : Feed) → Misses (parse_fitting_inputs kind ns) b → Misses (parse_section_lines kind ns) b
+  misses_inputs b h = misses_first (parse_fitting_inputs kind ns) (λ i. following_inputs i.0 i.1) b h
+
   module _ (b i : Feed) (inputs : List ℕ) (hi : Takes (parse_fitting_inputs kind ns) b i inputs) where
     after_inputs : Misses (following_inputs inputs) i → Misses (parse_section_lines kind ns) b
     after_inputs h = misses_next (parse_fitting_inputs kind ns) (λ i. following_inputs i.0 i.1) b i inputs hi h
+
+    pub misses_latches : Misses (parse_fitting_latches kind ns inputs) i → Misses (parse_section_lines kind ns) b
+    misses_latches h = after_inputs (misses_first (parse_fitting_latches kind ns inputs) (λ l. following_latches inputs l.0 l.1) i h)
 
     module _ (l : Feed) (latches : List LatchLine) (hl : Takes (parse_fitting_latches kind ns inputs) i l latches) where
       after_latches : Misses (following_latches inputs latches) l → Misses (parse_section_lines kind ns) b
@@ -156,13 +168,20 @@ module _ (kind : FileKind) (ns : HeaderNumbers) where
       misses_properties h = after_latches (misses_first (parse_fitting_properties ns) (λ x. following_properties inputs latches x.0 x.1) l h)
 
       module _ (p : Feed) (x : Properties ℕ) (hp : Takes (parse_fitting_properties ns) l p x) where
-        pub misses_gates : Misses (gates inputs latches) p → Misses (parse_section_lines kind ns) b
+        misses_gates : Misses (gates inputs latches) p → Misses (parse_section_lines kind ns) b
         misses_gates h = after_latches (misses_next (parse_fitting_properties ns) (λ x. following_properties inputs latches x.0 x.1) l p x hp (misses_mapped _ (gates inputs latches) p h))
 
-        pub takes_sections : (a : Feed) (gs : List GateLine) → Takes (gates inputs latches) p a gs
+        takes_sections : (a : Feed) (gs : List GateLine) → Takes (gates inputs latches) p a gs
             → Takes (parse_section_lines kind ns) b a (record { inputs = inputs; latches = latches; properties = x; gates = gs })
         takes_sections a gs h =
             takes_bind (parse_fitting_inputs kind ns) (λ i. following_inputs i.0 i.1) b i a inputs _ hi
             (takes_bind (parse_fitting_latches kind ns inputs) (λ l. following_latches inputs l.0 l.1) i l a latches _ hl
             (takes_bind (parse_fitting_properties ns) (λ x. following_properties inputs latches x.0 x.1) l p a x _ hp
             (takes_mapped _ (gates inputs latches) p a gs h)))
+
+        -- the last of them is read
+        pub makes_sections : {X : Type 0} (IsOf : X → Parts → Type 0) (Are : X → List GateLine → Type 0) (a : Feed)
+            → ((y : X) (gs : List GateLine) → Are y gs → Takes (parse_section_lines kind ns) b a (record { inputs = inputs; latches = latches; properties = x; gates = gs }) → IsOf y (record { inputs = inputs; latches = latches; properties = x; gates = gs }))
+            → (result : Result X ReadError) → Makes SectionTells Are p a result (gates inputs latches) → Makes SectionTells IsOf b a result (parse_section_lines kind ns)
+        makes_sections IsOf Are a made (Ok y) h = let taken = takes_sections a h.0 h.2 in (record { inputs = inputs; latches = latches; properties = x; gates = h.0 }, made y h.0 h.1 taken, taken)
+        makes_sections IsOf Are a made (Err e) h = on_section-weaker e _ _ a.failed misses_gates h

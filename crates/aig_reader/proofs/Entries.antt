@@ -145,5 +145,5 @@ module _ (greatest : ℕ) (sizes : List ℕ) (i : ℕ) (b m : Feed) (front : Lis
       (sets_is_entries greatest sizes)
 
 -- one more value, made of one more entry
-pub made_push : {A B : Type 0} (f : A → B) (xs : List A) (x : A) (old new : List B) (y : B) → old ≡ map f xs → y ≡ f x → new ≡ old ++ y ∷ [] → new ≡ map f (xs ++ x ∷ [])
-made_push f xs x old new y h e is = is ∙ rw (h, e) (sym (map_push f xs x))
+pub made_push : {A B : Type 0} (f : A → B) (front : List B) (xs : List A) (x : A) (old new : List B) (y : B) → old ≡ front ++ map f xs → y ≡ f x → new ≡ old ++ y ∷ [] → new ≡ front ++ map f (xs ++ x ∷ [])
+made_push {B = B} f front xs x old new y h e is = is ∙ rw (h, e) (append_assoc front (map f xs) (f x ∷ []) ∙ ap (λ (ys : List B). front ++ ys) (sym (map_push f xs x)))

@@ -11,7 +11,7 @@ use Rattle.aig_ordering.specs.declared.error.OrderError.TheVariants.{Memory, Var
 use Rattle.aig_ordering.specs.Tables.{JudgedOrder}
 use Rattle.aig_reader.specs.declared.error.ReadError.{ReadError}
 use Rattle.aig_reader.specs.declared.error.Section.{Section}
-use Rattle.aig_reader.specs.Faults.{ReadTells, order_error_in, result_by}
+use Rattle.aig_reader.specs.Faults.{SectionTells, order_error_in, result_by}
 use Rattle.aig_format.specs.Fits.{uses_known}
 use Rattle.aig_reader.specs.Numbered.{Judged, have_operands, knows, knows_lists, knows_properties}
 
@@ -21,7 +21,7 @@ module _ {X : Type 0} (test : Bool) (P : X → Type 0) where
   pub judged_ok : (result : Result X ReadError) (x : X) → Judged test P result → result ≡ Ok x → (test ≡ true) × P x
   judged_ok result x h was = subst (λ (r : Result X ReadError). Judged test P r) was h
 
-  pub judged_err : (result : Result X ReadError) (e : ReadError) → Judged test P result → result ≡ Err e → ReadTells e (test ≡ false) false
+  pub judged_err : (result : Result X ReadError) (e : ReadError) → Judged test P result → result ≡ Err e → SectionTells e (test ≡ false) false
   judged_err result e h was = subst (λ (r : Result X ReadError). Judged test P r) was h
 
   -- a judgement of lists, as one of their section

@@ -1,7 +1,6 @@
 -- What is known once the inputs and the latches were read.
-use Rattle.std.proofs.Common.{◌≡◌, ◌++◌, ◌+◌, [], ℕ, List, Result, Ok, Vec, length, map, ap, length-append, ◌∙◌}
+use Rattle.std.proofs.Common.{◌≡◌, ◌++◌, ◌+◌, [], ℕ, List, Result, Ok, length, map, ap, length-append, ◌∙◌}
 use Rattle.std.proofs.lemmas.List.{length-map}
-use Rattle.std.specs.declared.alloc.Global.{Global}
 use Rattle.aig_circuit.specs.declared.node.AigLatch.{AigLatch}
 use Rattle.aig_parsing.specs.Parse.{parse_entries}
 use Rattle.aig_parsing.specs.ParseTested.{parse_input_entry, parse_latch_entry}
@@ -39,21 +38,21 @@ pub record LatchesRead (header : Header) (inputs : List ℕ) (before after : Fee
   pub count : length (literals_with inputs lines) ≡ length inputs + header.latches
 
 module _ (header : Header) (b a : Feed) (v : DefinedVariables) where
-  pub inputs_read : (lines : Result (Vec ℕ Global) LineError) (result : Result (Vec ℕ Global) ReadError) (inputs : Vec ℕ Global) → result ≡ result_by (error_in Inputs) lines → result ≡ Ok inputs
-      → Makes LineTells (λ (xs : Vec ℕ Global) literals. (xs.items ≡ map variable_of_literal literals) × AreDefined header.kind header.greatest v literals) b a lines (parse_entries (parse_input_entry header.kind header.greatest) [] header.inputs)
-      → InputsRead header b a v inputs.items
-  inputs_read lines result inputs is was made =
-      let h = made_in (error_in Inputs) (in_section Inputs) _ _ _ _ lines result inputs is was made in
-      record { literals = h.0; are = h.1.0; defined = h.1.1; takes = h.2; count = takes_count (parse_input_entry header.kind header.greatest) header.inputs b a h.0 h.2 }
+  pub inputs_read : {X : Type 0} (lines : Result X LineError) (result : Result X ReadError) (x : X) (old new : List ℕ) → result ≡ result_by (error_in Inputs) lines → result ≡ Ok x → old ≡ []
+      → Makes LineTells (λ (_ : X) literals. (new ≡ old ++ map variable_of_literal literals) × AreDefined header.kind header.greatest v literals) b a lines (parse_entries (parse_input_entry header.kind header.greatest) [] header.inputs)
+      → InputsRead header b a v new
+  inputs_read lines result x old new is was none made =
+      let h = made_in (error_in Inputs) (in_section Inputs) _ _ _ _ lines result x is was made in
+      record { literals = h.0; are = h.1.0 ∙ ap (λ (front : List ℕ). front ++ map variable_of_literal h.0) none; defined = h.1.1; takes = h.2; count = takes_count (parse_input_entry header.kind header.greatest) header.inputs b a h.0 h.2 }
 
-  pub latches_read : (inputs : List ℕ) (lines : Result (Vec AigLatch Global) LineError) (result : Result (Vec AigLatch Global) ReadError) (latchs : Vec AigLatch Global) → result ≡ result_by (error_in Latches) lines → result ≡ Ok latchs
-      → Makes LineTells (λ (xs : Vec AigLatch Global) ls. (xs.items ≡ map latch_of_line ls) × AreDefined header.kind header.greatest v (literals_with inputs ls)) b a lines (parse_entries (parse_latch_entry header.kind header.greatest inputs) [] header.latches)
-      → LatchesRead header inputs b a v latchs.items
-  latches_read inputs lines result latchs is was made =
-      let h = made_in (error_in Latches) (in_section Latches) _ _ _ _ lines result latchs is was made in
+  pub latches_read : {X : Type 0} (inputs : List ℕ) (lines : Result X LineError) (result : Result X ReadError) (x : X) (old new : List AigLatch) → result ≡ result_by (error_in Latches) lines → result ≡ Ok x → old ≡ []
+      → Makes LineTells (λ (_ : X) ls. (new ≡ old ++ map latch_of_line ls) × AreDefined header.kind header.greatest v (literals_with inputs ls)) b a lines (parse_entries (parse_latch_entry header.kind header.greatest inputs) [] header.latches)
+      → LatchesRead header inputs b a v new
+  latches_read inputs lines result x old new is was none made =
+      let h = made_in (error_in Latches) (in_section Latches) _ _ _ _ lines result x is was made in
       record {
         lines = h.0;
-        are = h.1.0;
+        are = h.1.0 ∙ ap (λ (front : List AigLatch). front ++ map latch_of_line h.0) none;
         defined = h.1.1;
         takes = h.2;
         count = length-append inputs (map (λ (l : LatchLine). l.literal) h.0) ∙ ap (λ (n : ℕ). length inputs + n) (length-map h.0 (λ (l : LatchLine). l.literal) ∙ takes_count (parse_latch_entry header.kind header.greatest inputs) header.latches b a h.0 h.2);

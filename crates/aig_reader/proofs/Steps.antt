@@ -1,5 +1,5 @@
 -- The sections that were read, as those of the file's circuit.
-use Rattle.std.proofs.Common.{◌≡◌, ◌+◌, ◌*◌, ◌/◌, ◌≤◌, Bool, true, false, ◌||◌, ◌&&◌, List, [], ◌++◌, length, Result, Ok, Err, IfOk, IfErr, vec_len, ap, sym, subst, ◌∙◌, arith, leb-true}
+use Rattle.std.proofs.Common.{◌≡◌, ◌+◌, ◌*◌, ◌/◌, ◌≤◌, Bool, true, false, ◌||◌, ◌&&◌, List, [], ◌++◌, length, Result, Ok, Err, IfOk, vec_len, ap, sym, subst, ◌∙◌, arith, leb-true}
 use Rattle.std.specs.List.{list_all}
 use Rattle.std.proofs.lemmas.Bool.{false≢true}
 use Rattle.std.proofs.lemmas.List.{length-map}
@@ -21,7 +21,7 @@ use Rattle.aig_lexer.proofs.Taking.{misses_test, takes_tested}
 use Rattle.aig_reader.specs.declared.error.ReadError.{ReadError}
 use Rattle.aig_reader.specs.declared.error.ReadError.TheVariants as errors
 use Rattle.aig_reader.specs.declared.sections.Sections.{Sections}
-use Rattle.aig_reader.specs.Faults.{IsNumberFault, IsSectionFault, ReadTells}
+use Rattle.aig_reader.specs.Faults.{SectionTells}
 use Rattle.aig_reader.specs.Numbered.{AreListsByNumber, IsCircuitOf, Judged}
 use Rattle.aig_circuit.specs.declared.node.AigNode.{AigNode}
 use Rattle.aig_reader.specs.Gates.{AreFirstNodes}
@@ -32,16 +32,16 @@ use Rattle.aig_format.specs.Fits.{has_enough, is_accepted_order, is_literal, use
 use Rattle.aig_format.proofs.Entries.{rec_weaker, length-defined, on_used}
 
 -- a fault that no failed read made tells the same, whether a read failed or not
-on_refusal-unfailed : (e : ReadError) (P Q : Type 0) (failed : Bool) → (P → Q) → ReadTells e P false → ReadTells e Q failed
-on_refusal-unfailed errors.Memory P Q failed f h = tt
-on_refusal-unfailed errors.Stream P Q failed f h = absurd (false≢true h)
-on_refusal-unfailed errors.Header P Q failed f h = f h
-on_refusal-unfailed errors.TooMany P Q failed f h = f h
-on_refusal-unfailed (errors.Syntax s) P Q failed f h = f h
-on_refusal-unfailed (errors.Literal s) P Q failed f h = f h
-on_refusal-unfailed errors.Delta P Q failed f h = f h
-on_refusal-unfailed errors.Name P Q failed f h = f h
-on_refusal-unfailed errors.Open P Q failed f h = f h
+on_section-unfailed : (e : ReadError) (P Q : Type 0) (failed : Bool) → (P → Q) → SectionTells e P false → SectionTells e Q failed
+on_section-unfailed errors.Memory P Q failed f h = tt
+on_section-unfailed errors.Stream P Q failed f h = absurd (false≢true h)
+on_section-unfailed errors.Header P Q failed f h = h
+on_section-unfailed errors.TooMany P Q failed f h = h
+on_section-unfailed (errors.Syntax s) P Q failed f h = f h
+on_section-unfailed (errors.Literal s) P Q failed f h = f h
+on_section-unfailed errors.Delta P Q failed f h = f h
+on_section-unfailed errors.Name P Q failed f h = h
+on_section-unfailed errors.Open P Q failed f h = h
 
 module _ (header : Header) (x : Parts) (b a : Feed) (taken : Takes (parse_section_lines header.kind (numbers_of header)) b a x) where
   abbrev keeps : Parts → Bool
@@ -49,9 +49,9 @@ module _ (header : Header) (x : Parts) (b a : Feed) (taken : Takes (parse_sectio
 
   -- numbered sections, or a refusal, after the last gate
   pub numbered_made : (result : Result Sections ReadError) → Judged (keeps x) (IsCircuitOf (file_by header x)) result
-      → Makes ReadTells (λ (sections : Sections) y. IsCircuitOf (file_by header y) sections) b a result (parse_fitting_sections header.kind (numbers_of header))
+      → Makes SectionTells (λ (sections : Sections) y. IsCircuitOf (file_by header y) sections) b a result (parse_fitting_sections header.kind (numbers_of header))
   numbered_made (Ok sections) h = (x, h.1, takes_tested (parse_section_lines header.kind (numbers_of header)) keeps b a x taken h.0)
-  numbered_made (Err e) h = on_refusal-unfailed e _ _ a.failed (λ (no : keeps x ≡ false). misses_test (parse_section_lines header.kind (numbers_of header)) keeps b a x taken no) h
+  numbered_made (Err e) h = on_section-unfailed e _ _ a.failed (λ (no : keeps x ≡ false). misses_test (parse_section_lines header.kind (numbers_of header)) keeps b a x taken no) h
 
   module _ (good : has_enough header.kind (numbers_of header) ≡ true) where
     abbrev counts : HasCounts header.kind (numbers_of header) x
@@ -68,22 +68,6 @@ module _ (header : Header) (x : Parts) (b a : Feed) (taken : Takes (parse_sectio
         let all = ap length (latchs_is (file_by header x) sections h.1) ∙ length-map x.latches (latch_of (file_by header x)) in
         omega (arith, all, counts.latches, sections.lists.latchs.ok.0)
     latchs_count (Err e) h = tt
-
--- a fault of numbers is one of sections
-number_fault : (e : ReadError) → IsNumberFault e → IsSectionFault e
-number_fault errors.Memory h = tt
-number_fault (errors.Literal s) h = tt
-number_fault errors.Stream h = tt
-number_fault errors.Header h = h
-number_fault errors.TooMany h = h
-number_fault (errors.Syntax s) h = tt
-number_fault errors.Delta h = tt
-number_fault errors.Name h = h
-number_fault errors.Open h = h
-
-pub number_faults : (result : Result Sections ReadError) → IfErr result IsNumberFault → IfErr result IsSectionFault
-number_faults (Ok sections) h = tt
-number_faults (Err e) h = number_fault e h
 
 -- ---- the two ways to number
 
@@ -107,10 +91,10 @@ module _ (f : File) where
       by_kind Binary = compact
 
   -- else it is tested whether the file is well-founded
-  pub well_founded_judged : (result : Result Sections ReadError) → f.kind ≡ Text → is_compact f ≡ false → Judged (uses_known f && list_all (has_level f) f.gates) (IsCircuitOf f) result → Judged (is_accepted_order f.kind f) (IsCircuitOf f) result
-  well_founded_judged result text well_founded h =
+  pub well_founded_judged : {X : Type 0} (P : X → Type 0) (result : Result X ReadError) → f.kind ≡ Text → is_compact f ≡ false → Judged (uses_known f && list_all (has_level f) f.gates) P result → Judged (is_accepted_order f.kind f) P result
+  well_founded_judged P result text well_founded h =
       let well_founded_rules = uses_known f && list_all (has_level f) f.gates in
-      subst (λ b. Judged b (IsCircuitOf f) result) (sym (ap (λ k. is_accepted_order k f) text ∙ ap (λ b. b || well_founded_rules) well_founded)) h
+      subst (λ b. Judged b P result) (sym (ap (λ k. is_accepted_order k f) text ∙ ap (λ b. b || well_founded_rules) well_founded)) h
 
   -- nodes and lists under the numbers of variables are the circuit's
   pub numbered_circuit : (sections : Sections) → sections.nodes.items ≡ (circuit_of f).nodes → AreListsByNumber f sections.lists → IsCircuitOf f sections

@@ -40,6 +40,15 @@ ReadTells errors.Memory P failed = Unit {0}
 ReadTells errors.Stream P failed = failed ≡ true
 ReadTells e P failed = P
 
+-- the same, of the sections after the header line, which have no other faults
+abbrev pub SectionTells : ReadError → Type 0 → Bool → Type 0
+SectionTells errors.Memory P failed = Unit {0}
+SectionTells errors.Stream P failed = failed ≡ true
+SectionTells (errors.Syntax section) P failed = P
+SectionTells (errors.Literal section) P failed = P
+SectionTells errors.Delta P failed = P
+SectionTells e P failed = ⊥
+
 -- a fault in a line
 abbrev pub line_error_of : LexError → LineError
 line_error_of lex.Stream = line.Stream
@@ -80,18 +89,3 @@ order_error_in section order.Variable = errors.Literal section
 abbrev pub result_by : {T E : Type 0} → (E → ReadError) → Result T E → Result T ReadError
 result_by fault (Ok x) = Ok x
 result_by fault (Err e) = Err (fault e)
-
--- a fault that the sections after the header line may have
-abbrev pub IsSectionFault : ReadError → Type 0
-IsSectionFault errors.Memory = Unit {0}
-IsSectionFault errors.Stream = Unit {0}
-IsSectionFault (errors.Syntax section) = Unit {0}
-IsSectionFault (errors.Literal section) = Unit {0}
-IsSectionFault errors.Delta = Unit {0}
-IsSectionFault e = ⊥
-
--- memory, or a literal of a variable that has no number
-abbrev pub IsNumberFault : ReadError → Type 0
-IsNumberFault errors.Memory = Unit {0}
-IsNumberFault (errors.Literal section) = Unit {0}
-IsNumberFault e = ⊥

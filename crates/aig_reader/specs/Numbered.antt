@@ -21,7 +21,7 @@ use Rattle.aig_renumber.specs.Numbers.{IsEdgeIn, IsLatchIn}
 use Rattle.aig_reader.specs.declared.error.ReadError.{ReadError}
 use Rattle.aig_reader.specs.declared.sections.Lists.{Lists}
 use Rattle.aig_reader.specs.declared.sections.Sections.{Sections}
-use Rattle.aig_reader.specs.Faults.{ReadTells}
+use Rattle.aig_reader.specs.Faults.{SectionTells}
 use Rattle.aig_reader.specs.Sections.{AreListsByVariable, HasGoodLines, circuit_with}
 
 -- ---- tests, and what they allow
@@ -29,7 +29,7 @@ use Rattle.aig_reader.specs.Sections.{AreListsByVariable, HasGoodLines, circuit_
 -- a value where the test is passed, and else a fault that tells that it isn't; no read failed
 abbrev pub Judged : {X : Type 0} → Bool → (X → Type 0) → Result X ReadError → Type 0
 Judged test P (Ok x) = (test ≡ true) × P x
-Judged test P (Err e) = ReadTells e (test ≡ false) false
+Judged test P (Err e) = SectionTells e (test ≡ false) false
 
 -- whether the variables of these literals are 0 or defined
 abbrev pub knows : File → List ℕ → Bool

@@ -1,10 +1,11 @@
 -- Serves private clauses alone.
 -- The sections of a file, with each variable as its own number.
-use Rattle.std.specs.Prelude.{◌≡◌, ℕ, ◌^◌, ◌<◌, ◌≤◌, ◌&&◌, true, List, [], ◌++◌, length, map, nat_eq}
+use Rattle.std.specs.Prelude.{◌≡◌, ℕ, ◌^◌, ◌<◌, ◌≤◌, ◌&&◌, Bool, true, List, [], ◌++◌, length, map, nat_eq}
 use Rattle.std.specs.List.{AllByRecursion, IsDistinct}
 use Rattle.std.specs.Ordering.{nat_cmp}
 use Rattle.std.specs.FinMap.{FinMap}
 use Rattle.aig_circuit.specs.Circuit.{Circuit}
+use Rattle.aig_circuit.specs.Properties.{no_properties}
 use Rattle.aig_circuit.specs.View.{properties_of}
 use Rattle.aig_format.specs.declared.FileKind.TheVariants.{Binary}
 use Rattle.aig_format.specs.File.{File, defined, used}
@@ -14,7 +15,8 @@ use Rattle.aig_parsing.specs.Parse.{Parts, file_from}
 use Rattle.aig_lexer.specs.declared.header.Header.{Header}
 use Rattle.aig_lexer.specs.Header.{numbers_of}
 use Rattle.aig_ordering.specs.Lists.{latch_of_line, variable_of_literal}
-use Rattle.aig_reader.specs.declared.lines.Lines.{Lines}
+use Rattle.aig_reader.specs.declared.gate_store.GateStore.{GateStore}
+use Rattle.aig_reader.specs.declared.variables.DefinedVariables.{DefinedVariables}
 use Rattle.aig_reader.specs.declared.sections.Lists.{Lists}
 use Rattle.aig_reader.specs.declared.sections.Sections.{Sections}
 use Rattle.aig_reader.specs.Gates.{ArePlaced, is_in_order}
@@ -24,6 +26,12 @@ use Rattle.aig_reader.specs.Variables.{AreDefined}
 -- the file of a header and these sections, with no names
 abbrev pub file_by : Header → Parts → File
 file_by header x = file_from ((header.kind, numbers_of header), x) []
+
+-- there are no entries yet
+pub record AreEmpty (lists : Lists) : Type 0 where
+  pub inputs : lists.inputs.items ≡ []
+  pub latchs : lists.latchs.items ≡ []
+  pub properties : properties_of lists.properties ≡ no_properties
 
 -- the lists have the entries of the file's sections, each variable as its own number
 pub record AreListsByVariable (lists : Lists) (f : File) : Type 0 where
@@ -41,15 +49,15 @@ pub record HasGoodLines (f : File) : Type 0 where
   pub binary : f.kind ≡ Binary → is_compact f ≡ true
 
 -- the lines of the file's sections were read: lists and gates by variable, what is defined, and
--- whether any variable is missing
-pub record AreLinesOf (f : File) (lines : Lines) : Type 0 where
+-- whether no variable is missing
+pub record AreLinesOf (f : File) (complete : Bool) (entries : Lists) (variables : DefinedVariables)
+    (held : GateStore) : Type 0 where
   pub good : HasGoodLines f
-  pub greatest : lines.greatest ≡ f.greatest
   pub few : f.greatest < 2 ^ 31
-  pub defined : AreDefined f.kind f.greatest lines.variables (defined f)
-  pub lists : AreListsByVariable lines.lists f
-  pub gates : ArePlaced f.greatest (f.inputs ++ map (λ l. l.literal) f.latches) f.gates lines.gates
-  pub compact : (lines.is_complete && is_in_order lines.gates) ≡ is_compact f
+  pub defined : AreDefined f.kind f.greatest variables (defined f)
+  pub lists : AreListsByVariable entries f
+  pub gates : ArePlaced f.greatest (f.inputs ++ map (λ l. l.literal) f.latches) f.gates held
+  pub compact : (complete && is_in_order held) ≡ is_compact f
 
 -- the circuit of these sections, with these names
 abbrev pub circuit_with : Sections → FinMap nat_cmp (List ℕ) → Circuit

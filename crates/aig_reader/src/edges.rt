@@ -1,6 +1,6 @@
 //! Edges, and lines of one edge each.
 
-ghost use Rattle.std.specs.Prelude.{◌≡◌, map};
+ghost use Rattle.std.specs.Prelude.{◌≡◌, ◌++◌, map};
 ghost use Rattle.aig_format.specs.Fits.{is_literal};
 ghost use Rattle.aig_parsing.specs.ParseTested.{parse_literals};
 ghost use Rattle.aig_parsing.specs.Parse.{parse_ended, parse_if};
@@ -14,7 +14,6 @@ use aig_base::Source;
 use aig_circuit::AigEdge;
 use aig_lexer::{InputBuffer, ended};
 use aig_ordering::edge_of;
-use std::alloc::Global;
 
 /// The edge of a literal, which is that of a variable up to the greatest.
 pub fn edge_within(greatest: u32, literal: u32) -> Result<AigEdge, LineError>
@@ -41,23 +40,22 @@ fn edge_line<R: Source>(
     edge_within(greatest, literal)
 }
 
-/// Reads so many lines of one literal each. `greatest` is the greatest variable.
+/// Reads so many lines of one literal each, and appends their edges. `greatest` is the greatest variable.
 pub fn read_edges<R: Source>(
-    alloc: Global,
     buffer: &mut InputBuffer,
     r: &mut R,
     count: u32,
     greatest: u32,
-) -> Result<Vec<AigEdge>, LineError>
+    edges: &mut Vec<AigEdge>,
+) -> Result<(), LineError>
     ensures { Makes LineTells
-        (λ edges literals. edges.items ≡ map edge_from literals)
+        (λ _ literals. edges.new.items ≡ edges.old.items ++ map edge_from literals)
         (feed R.left R.failed R.pulls buffer.old r.old)
         (feed R.left R.failed R.pulls buffer.new r.new) result (parse_literals greatest count) }
 {
-    let mut edges = Vec::new(alloc);
     for _ in 0..count {
         let edge = edge_line(buffer, r, greatest)?;
         edges.push(edge)?;
     }
-    Ok(edges)
+    Ok(())
 }

@@ -13,7 +13,6 @@ use crate::error::LineError;
 use crate::variables::DefinedVariables;
 use aig_base::Source;
 use aig_lexer::InputBuffer;
-use std::alloc::Global;
 
 /// Reads an input, and defines its variable.
 fn input_line<R: Source>(
@@ -34,19 +33,19 @@ fn input_line<R: Source>(
     variables.define(literal)
 }
 
-/// Reads the inputs, and defines their variables. Memory is reserved for those that have no lines alone.
+/// Reads the inputs, defines their variables, and appends these. Memory is reserved for those that have no lines alone.
 pub fn read_inputs<R: Source>(
-    alloc: Global,
     buffer: &mut InputBuffer,
     r: &mut R,
     count: u32,
     variables: &mut DefinedVariables,
-) -> Result<Vec<usize>, LineError>
+    inputs: &mut Vec<usize>,
+) -> Result<(), LineError>
     requires { (kind : FileKind) × (greatest : ℕ) × (greatest < 2 ^ 31) × (count ≤ greatest)
         × AreDefined kind greatest variables.old [] }
     ensures { (kind : FileKind) (greatest : ℕ) → AreDefined kind greatest variables.old []
         → Makes LineTells
-        (λ inputs literals. (inputs.items ≡ map variable_of_literal literals)
+        (λ _ literals. (inputs.new.items ≡ inputs.old.items ++ map variable_of_literal literals)
         × AreDefined kind greatest variables.new literals)
         (feed R.left R.failed R.pulls buffer.old r.old)
         (feed R.left R.failed R.pulls buffer.new r.new) result
@@ -56,10 +55,10 @@ pub fn read_inputs<R: Source>(
         DefinedVariables::Text(_) => 0,
         DefinedVariables::Binary(_) => count as usize,
     };
-    let mut inputs = Vec::with_capacity(alloc, unread)?;
+    inputs.reserve(unread)?;
     for _ in 0..count {
         let input = input_line(buffer, r, variables)?;
         inputs.push(input)?;
     }
-    Ok(inputs)
+    Ok(())
 }

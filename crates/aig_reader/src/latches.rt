@@ -18,7 +18,6 @@ use crate::variables::DefinedVariables;
 use aig_base::Source;
 use aig_circuit::{AigEdge, AigLatch};
 use aig_lexer::{InputBuffer, next_line};
-use std::alloc::Global;
 
 /// The initial edge of a latch with this literal and reset: false where the reset is 0 or none, true where it is 1, and none where it is the latch's literal.
 fn initial_edge(literal: u32, reset: Option<u32>) -> Result<Option<AigEdge>, LineError>
@@ -61,28 +60,28 @@ fn latch_line<R: Source>(
     Ok(AigLatch::new(input, next, init))
 }
 
-/// Reads the latches, and defines their variables. `greatest` is the greatest variable.
+/// Reads the latches, defines their variables, and appends them. `greatest` is the greatest variable.
 pub fn read_latches<R: Source>(
-    alloc: Global,
     buffer: &mut InputBuffer,
     r: &mut R,
     count: u32,
     greatest: u32,
     variables: &mut DefinedVariables,
-) -> Result<Vec<AigLatch>, LineError>
+    latchs: &mut Vec<AigLatch>,
+) -> Result<(), LineError>
     requires { (kind : FileKind) × (inputs : List ℕ) × (greatest < 2 ^ 31)
         × (length inputs + count ≤ greatest) × AreDefined kind greatest variables.old inputs }
     ensures { (kind : FileKind) (inputs : List ℕ) → AreDefined kind greatest variables.old inputs
-        → Makes LineTells (λ latchs lines. (latchs.items ≡ map latch_of_line lines)
+        → Makes LineTells
+        (λ _ lines. (latchs.new.items ≡ latchs.old.items ++ map latch_of_line lines)
         × AreDefined kind greatest variables.new (inputs ++ map (λ l. l.literal) lines))
         (feed R.left R.failed R.pulls buffer.old r.old)
         (feed R.left R.failed R.pulls buffer.new r.new) result
         (parse_entries (parse_latch_entry kind greatest inputs) [] count) }
 {
-    let mut latchs = Vec::new(alloc);
     for _ in 0..count {
         let latch = latch_line(buffer, r, greatest, variables)?;
         latchs.push(latch)?;
     }
-    Ok(latchs)
+    Ok(())
 }

@@ -1,7 +1,7 @@
 //! The numbers of nodes. Where no variable is missing and the gates rise, each above its operands, a variable is its own number;
 //! else the defined variables are numbered by level and, within a level, in rising order.
 
-ghost use Rattle.std.specs.Prelude.{◌≡◌, ◌≤◌, ◌^◌, ◌&&◌, false, true, vec_len, IfErr, MatchOption};
+ghost use Rattle.std.specs.Prelude.{◌≡◌, ◌≤◌, ◌^◌, ◌&&◌, false, true, vec_len, MatchOption};
 ghost use Rattle.std.specs.List.{list_all};
 ghost use Rattle.aig_format.specs.Circuit.{circuit_of};
 ghost use Rattle.aig_format.specs.File.{File};
@@ -11,13 +11,12 @@ ghost use Rattle.aig_format.specs.Fits.{is_accepted_order, uses_known};
 ghost use Rattle.aig_ordering.specs.Gates.{nodes_in};
 ghost use Rattle.aig_ordering.specs.Numbers.{has_number};
 ghost use Rattle.aig_ordering.specs.Tables.{AreKnownOf, AreNodesOf, JudgedOrder};
-ghost use Rattle.aig_reader.specs.Faults.{IsNumberFault};
 ghost use Rattle.aig_reader.specs.Numbered.{AreNumbersOf, AreRenumbered, AreTablesOf, HaveNumbers, IsCircuitOf, Judged, have_operands, lists_pass};
 ghost use Rattle.aig_reader.specs.Sections.{AreLinesOf, HasGoodLines};
 
 use crate::error::{ReadError, Section};
-use crate::lines::Lines;
-use crate::sections::{Lists, Sections};
+use crate::gate_store::GateStore;
+use crate::sections::Lists;
 use crate::variables::DefinedVariables;
 use aig_circuit::AigNode;
 use aig_ordering::{Operands, OrderError, Ordered, Recorded, nodes, order_by_level};
@@ -85,18 +84,18 @@ impl Lists {
         renumber_properties(numbers, &mut self.properties);
     }
 
-    /// The sections with the defined variables by level. `known` tells of each variable whether it is 0 or defined.
+    /// Numbers the defined variables by level, and returns the nodes. `known` tells of each variable whether it is 0 or defined.
     fn by_level(
-        mut self,
+        &mut self,
         alloc: Global,
         gates: Vec<Option<Operands>>,
         known: &[bool],
-    ) -> Result<Sections, ReadError>
-        requires tables { (f : File) × AreTablesOf f gates.items known.now self }
+    ) -> Result<Vec<AigNode>, ReadError>
+        requires tables { (f : File) × AreTablesOf f gates.items known.now self.old }
         requires few { vec_len gates ≤ 2 ^ 31 }
-        ensures exact { (f : File) → AreTablesOf f gates.items known.now self
-            → Judged (uses_known f && list_all (has_level f) f.gates) (IsCircuitOf f) result }
-        ensures fault { IfErr result IsNumberFault }
+        ensures { (f : File) → AreTablesOf f gates.items known.now self.old
+            → Judged (uses_known f && list_all (has_level f) f.gates)
+            (λ nodes. IsCircuitOf f (record { nodes = nodes; lists = self.new })) result }
     {
         let nodes = number_nodes(alloc, gates, known);
         let (nodes, table) = Section::Gates.numbered(nodes)?;
@@ -105,35 +104,35 @@ impl Lists {
             return Err(ReadError::Literal(section));
         }
         self.renumber(&numbers);
-        Ok(Sections { nodes, lists: self })
+        Ok(nodes)
     }
-}
 
-impl Lines {
-    /// The sections under the numbers of nodes. Refuses what is used and not defined, and gates that stand on themselves.
-    pub fn numbered(self, alloc: Global) -> Result<Sections, ReadError>
-        requires { (f : File) × AreLinesOf f self }
-        ensures exact { (f : File) → AreLinesOf f self
-            → Judged (is_accepted_order f.kind f) (IsCircuitOf f) result }
-        ensures fault { IfErr result IsNumberFault }
+    /// Puts the lists under the numbers of nodes, and returns the nodes. Refuses what is used and not defined, and gates that
+    /// stand on themselves. `greatest` is the greatest variable, and `is_complete` tells whether no variable is missing.
+    pub fn number(
+        &mut self,
+        alloc: Global,
+        gates: GateStore,
+        variables: &DefinedVariables,
+        greatest: u32,
+        is_complete: bool,
+    ) -> Result<Vec<AigNode>, ReadError>
+        requires { (f : File) × (greatest ≡ f.greatest)
+            × AreLinesOf f is_complete self.old variables.now gates }
+        ensures { (f : File) → greatest ≡ f.greatest
+            → AreLinesOf f is_complete self.old variables.now gates
+            → Judged (is_accepted_order f.kind f)
+            (λ nodes. IsCircuitOf f (record { nodes = nodes; lists = self.new })) result }
     {
-        let Lines {
-            lists,
-            gates,
-            variables,
-            greatest,
-            is_complete,
-        } = self;
         let len = greatest as usize + 1;
         if is_complete && gates.is_in_order() {
-            let nodes = gates.into_nodes(len)?;
-            return Ok(Sections { nodes, lists });
+            return Ok(gates.into_nodes(len)?);
         }
         let gates = gates.into_table(alloc, len)?;
         let known = match variables {
             DefinedVariables::Text(marks) => marks.known(alloc)?,
             DefinedVariables::Binary(_) => unreachable!(),
         };
-        lists.by_level(alloc, gates, &known)
+        self.by_level(alloc, gates, &known)
     }
 }

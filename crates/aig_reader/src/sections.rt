@@ -2,9 +2,10 @@
 
 ghost use Rattle.std.specs.Prelude.{◌≡◌};
 ghost use Rattle.aig_circuit.specs.View.{lists_circuit, names_of};
-ghost use Rattle.aig_reader.specs.Sections.{circuit_with};
+ghost use Rattle.aig_reader.specs.Sections.{AreEmpty, circuit_with};
 
 use aig_circuit::{AigEdge, AigLatch, AigNode, CircuitLists, Properties};
+use std::alloc::Global;
 use std::collections::HashMap;
 
 /// The lists of a file's sections.
@@ -25,6 +26,19 @@ pub struct Sections {
     pub nodes: Vec<AigNode>,
     /// The lists.
     pub lists: Lists,
+}
+
+impl Lists {
+    /// No entries.
+    pub fn new(alloc: Global) -> Self
+        ensures { AreEmpty result }
+    {
+        Lists {
+            inputs: Vec::new(alloc),
+            latchs: Vec::new(alloc),
+            properties: Properties::new(alloc),
+        }
+    }
 }
 
 impl Sections {

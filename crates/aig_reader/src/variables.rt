@@ -74,15 +74,14 @@ impl Marks {
     }
 
     /// For each variable up to the greatest, whether it is 0 or defined.
-    pub fn known(self, alloc: Global) -> Result<Vec<bool>, AllocError>
-        ensures { (f : File) → AreMarks f.greatest self (defined f)
+    pub fn known(&self, alloc: Global) -> Result<Vec<bool>, AllocError>
+        ensures { (f : File) → AreMarks f.greatest self.now (defined f)
             → IfOk result (λ known. AreKnownOf f known.items) }
     {
-        let Marks { greatest, marked } = self;
-        let len = greatest as usize + 1;
+        let len = self.greatest as usize + 1;
         let mut known = Vec::with_capacity(alloc, len)?;
         for variable in 0..len {
-            known.push(variable == 0 || has_bit(&marked, variable))?;
+            known.push(variable == 0 || has_bit(&self.marked, variable))?;
         }
         Ok(known)
     }

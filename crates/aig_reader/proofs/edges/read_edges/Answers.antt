@@ -1,4 +1,4 @@
-use Rattle.std.proofs.Common.{◌≡◌, ◌∷◌, ◌++◌, [], arith}
+use Rattle.std.proofs.Common.{◌≡◌, ◌∷◌, ◌++◌, [], sym, append-nil, arith}
 use Rattle.std.proofs.lemmas.Result.{err_from_is_err_and}
 use Rattle.aig_parsing.specs.Parse.{parse_ended, parse_if}
 use Rattle.aig_ordering.specs.Lists.{edge_from}
@@ -9,7 +9,7 @@ use Rattle.aig_reader.proofs.edges.read_edges.Goals as goal
 use Rattle.aig_format.specs.Fits.{is_literal}
 
 pub loop-init : goal.loop-init
-loop-init g c = ([], c.new-edges.ensures.items, takes_nothing _ [])
+loop-init g c = ([], sym (append-nil c.args.edges.now.items), takes_nothing _ [])
 
 pub returns-in_err-edge : goal.returns-in_err-edge
 returns-in_err-edge g c =
@@ -23,7 +23,7 @@ pub loop-preserved : goal.loop-preserved
 loop-preserved g c =
     let h = c.loop.invariant in
     let k = c.in_ok-edge.ensures in
-    (h.0 ++ k.0 ∷ [], made_push edge_from h.0 k.0 _ _ _ h.1 k.1 c.in_ok-push.ensures.items, takes_more (λ _. parse_if (parse_ended 10) (is_literal c.args.greatest)) c.loop.counter _ _ _ h.0 k.0 h.2 k.2)
+    (h.0 ++ k.0 ∷ [], made_push edge_from _ h.0 k.0 _ _ _ h.1 k.1 c.in_ok-push.ensures.items, takes_more (λ _. parse_if (parse_ended 10) (is_literal c.args.greatest)) c.loop.counter _ _ _ h.0 k.0 h.2 k.2)
 
 pub returns : goal.returns
 returns g c =

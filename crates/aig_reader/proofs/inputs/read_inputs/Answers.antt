@@ -1,4 +1,4 @@
-use Rattle.std.proofs.Common.{◌≡◌, ◌∷◌, ◌++◌, [], arith}
+use Rattle.std.proofs.Common.{◌≡◌, ◌∙◌, ◌∷◌, ◌++◌, [], sym, append-nil, arith}
 use Rattle.std.proofs.lemmas.Result.{err_from_is_err_and}
 use Rattle.aig_parsing.specs.ParseTested.{parse_input_entry}
 use Rattle.aig_lexer.proofs.Taking.{takes_nothing}
@@ -17,7 +17,7 @@ input_line-requires g c =
     has_next kind greatest _ h.0 h.1.1 (omega (arith, count, c.loop-test.true, c.requires.3)) c.requires.2
 
 pub loop-init : goal.loop-init
-loop-init g c = λ kind greatest defined. ([], (c.in_ok-inputs.ensures.items, defined), takes_nothing _ [])
+loop-init g c = λ kind greatest defined. ([], (c.reserve.ensures.items ∙ sym (append-nil c.args.inputs.now.items), defined), takes_nothing _ [])
 
 pub returns-in_err-input : goal.returns-in_err-input
 returns-in_err-input g c = λ kind greatest defined.
@@ -30,7 +30,7 @@ loop-preserved g c = λ kind greatest defined.
     let h = c.loop.invariant kind greatest defined in
     let k = c.in_ok-input.ensures kind greatest h.0 h.1.1 in (
       h.0 ++ k.0 ∷ [],
-      (made_push variable_of_literal h.0 k.0 _ _ _ h.1.0 k.1.0 c.in_ok-push.ensures.items, k.1.1),
+      (made_push variable_of_literal _ h.0 k.0 _ _ _ h.1.0 k.1.0 c.in_ok-push.ensures.items, k.1.1),
       takes_more (parse_input_entry kind greatest) c.loop.counter _ _ _ h.0 k.0 h.2 k.2,
     )
 

@@ -1,5 +1,5 @@
-use Rattle.std.proofs.Common.{◌≡◌, [], map}
-use Rattle.aig_lexer.specs.Takes.{Made, feed}
+use Rattle.std.proofs.Common.{◌≡◌, ℕ, List, [], ◌++◌, map}
+use Rattle.aig_lexer.specs.Takes.{Takes, feed}
 use Rattle.aig_ordering.specs.Lists.{edge_from}
 use Rattle.aig_reader.proofs.Entries.{set_at}
 use Rattle.aig_reader.proofs.justice.read_sets.Given as goal
@@ -8,4 +8,4 @@ use Rattle.aig_parsing.specs.Parse.{parse_entries}
 abbrev pub invariant-loop-size : goal.invariant-loop-size
 invariant-loop-size g l =
     let at = feed g.R.Source.left g.R.Source.failed g.R.Source.pulls in
-    Made (λ sets literals. map (λ set. set.items) sets.items ≡ map (map edge_from) literals) (at l.fn.buffer l.fn.r) (at l.buffer l.r) l.sets (parse_entries (set_at l.greatest l.sizes) [] l.size-index)
+    (literals : List (List ℕ)) × (map (λ set. set.items) l.sets.items ≡ map (λ set. set.items) l.fn.sets.items ++ map (map edge_from) literals) × Takes (parse_entries (set_at l.greatest l.sizes) [] l.size-index) (at l.fn.buffer l.fn.r) (at l.buffer l.r) literals

@@ -1,4 +1,4 @@
-use Rattle.std.proofs.Common.{◌≡◌, ◌∷◌, ◌++◌, [], refl, arith}
+use Rattle.std.proofs.Common.{◌≡◌, ◌∷◌, ◌++◌, [], sym, append-nil, append_assoc, arith}
 use Rattle.std.proofs.lemmas.Result.{err_from_is_err_and}
 use Rattle.aig_parsing.specs.Parse.{parse_ended}
 use Rattle.aig_lexer.proofs.Taking.{takes_nothing}
@@ -7,7 +7,7 @@ use Rattle.aig_reader.proofs.TestedLines.{on_line-from_shape}
 use Rattle.aig_reader.proofs.justice.read_sizes.Goals as goal
 
 pub loop-init : goal.loop-init
-loop-init g c = ([], c.new-sizes.ensures.items, takes_nothing _ [])
+loop-init g c = ([], sym (append-nil c.args.sizes.now.items), takes_nothing _ [])
 
 pub returns-in_err-size : goal.returns-in_err-size
 returns-in_err-size g c =
@@ -20,7 +20,7 @@ pub loop-preserved : goal.loop-preserved
 loop-preserved g c =
     let h = c.loop.invariant in
     let size = c.in_ok-size.size in
-    (h.0 ++ size ∷ [], rw (c.in_ok-push.ensures.items, h.1) refl, takes_more (λ _. parse_ended 10) c.loop.counter _ _ _ h.0 size h.2 c.in_ok-size.ensures)
+    (h.0 ++ size ∷ [], rw (c.in_ok-push.ensures.items, h.1) (append_assoc _ h.0 (size ∷ [])), takes_more (λ _. parse_ended 10) c.loop.counter _ _ _ h.0 size h.2 c.in_ok-size.ensures)
 
 pub returns : goal.returns
 returns g c =

@@ -32,7 +32,7 @@ latch_line-requires g c =
     has_next kind greatest _ (inputs ++ map literal_of h.0) h.1.1 (omega (arith, size, c.loop-test.true, c.requires.3)) c.requires.2
 
 pub loop-init : goal.loop-init
-loop-init g c = λ kind inputs defined. ([], (c.new-latchs.ensures.items, subst (AreDefined kind c.args.greatest c.args.variables.now) (sym (append-nil inputs)) defined), takes_nothing _ [])
+loop-init g c = λ kind inputs defined. ([], (sym (append-nil c.args.latchs.now.items), subst (AreDefined kind c.args.greatest c.args.variables.now) (sym (append-nil inputs)) defined), takes_nothing _ [])
 
 pub returns-in_err-latch : goal.returns-in_err-latch
 returns-in_err-latch g c = λ kind inputs defined.
@@ -45,7 +45,7 @@ loop-preserved g c = λ kind inputs defined.
     let h = c.loop.invariant kind inputs defined in
     let k = c.in_ok-latch.ensures kind inputs h.0 h.1.1 in (
       h.0 ++ k.0 ∷ [],
-      (made_push latch_of_line h.0 k.0 _ _ _ h.1.0 k.1.0 c.in_ok-push.ensures.items, defined_push kind c.args.greatest _ inputs h.0 k.0 k.1.1),
+      (made_push latch_of_line _ h.0 k.0 _ _ _ h.1.0 k.1.0 c.in_ok-push.ensures.items, defined_push kind c.args.greatest _ inputs h.0 k.0 k.1.1),
       takes_more (parse_latch_entry kind c.args.greatest inputs) c.loop.counter _ _ _ h.0 k.0 h.2 k.2,
     )
 

@@ -10,7 +10,7 @@ use Rattle.aig_lexer.specs.Header.{numbers_of}
 use Rattle.aig_lexer.specs.Takes.{feed}
 use Rattle.aig_lexer.proofs.Taking.{takes_both}
 use Rattle.aig_symbols.specs.Names.{kept_names, tail_of}
-use Rattle.aig_reader.proofs.Accepting.{Body, refused_header, refused_section, refused_names, section_fault, sections_of, accepted, accepts}
+use Rattle.aig_reader.proofs.Accepting.{Body, refused_header, refused_section, refused_names, sections_of, accepted, accepts}
 use Rattle.aig_reader.proofs.FileCircuit.{circuit_is, nodes_distinct}
 use Rattle.aig_reader.proofs.ReadNames.{names_fault, names_in, no_names_in, no_names_left}
 use Rattle.aig_reader.proofs.reader.read_file.Goals as goal
@@ -26,7 +26,7 @@ returns-in_err-sections-clause-exact g c =
     let e = c.in_err-sections.field-0.0 in
     let header = c.in_ok-header.header in
     rw (p.1, p.2)
-    (refused_section _ header c.args.limit _ _ (header.kind, numbers_of header) e _ c.in_ok-header.ensures.exact c.in_err-sections.ensures.exact (section_fault e c.in_err-sections.ensures.fault) c.in_ok-header.ensures.too_many)
+    (refused_section _ header c.args.limit _ _ (header.kind, numbers_of header) e _ c.in_ok-header.ensures.exact c.in_err-sections.ensures.exact c.in_ok-header.ensures.too_many)
 
 pub read_names-names-requires-clause-distinct : goal.read_names-names-requires-clause-distinct
 read_names-names-requires-clause-distinct g c =

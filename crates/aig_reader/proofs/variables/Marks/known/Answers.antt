@@ -8,5 +8,5 @@ returns c = λ f h.
     let done : c.loop-variable.variable ≡ f.greatest + 1 = omega arith in
     record {
       count = c.loop-variable.invariant.0 ∙ done;
-      each = λ v low. c.loop-variable.invariant.1 v (omega (arith, done, low)) ∙ known_at f c.args.self v h low;
+      each = λ v low. c.loop-variable.invariant.1 v (omega (arith, done, low)) ∙ known_at f c.args.self.now v h low;
     }

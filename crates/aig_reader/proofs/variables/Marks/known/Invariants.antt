@@ -4,4 +4,4 @@ use Rattle.aig_reader.specs.Bits.{bit_is_set}
 use Rattle.aig_reader.proofs.variables.Marks.known.Given as goal
 
 abbrev pub invariant-loop-variable : goal.invariant-loop-variable
-invariant-loop-variable l = (length l.known.items ≡ l.variable) × ((v : ℕ) → v < l.variable → slice_index_or l.known.items v false ≡ (v == 0 || bit_is_set l.marked.items v))
+invariant-loop-variable l = (length l.known.items ≡ l.variable) × ((v : ℕ) → v < l.variable → slice_index_or l.known.items v false ≡ (v == 0 || bit_is_set l.self.marked.items v))
