@@ -11,6 +11,7 @@ pub mod TableGates
 pub mod ByLevel
 pub mod Numbered
 pub mod Body
+pub mod HeaderLines
 pub mod Accepting
 pub mod FileCircuit
 pub mod Steps

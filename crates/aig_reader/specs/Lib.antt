@@ -1,5 +1,6 @@
 pub mod Bits
 pub mod Faults
+pub mod Headers
 pub mod Reading
 pub mod Variables
 pub mod Gates

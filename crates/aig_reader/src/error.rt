@@ -5,13 +5,12 @@ ghost use Rattle.aig_reader.specs.Faults.{error_in, gate_error_in, header_error_
 ghost use Rattle.aig_reader.specs.declared.error.LineError.TheVariants as line;
 ghost use Rattle.aig_reader.specs.declared.error.ReadError.TheVariants as errors;
 
-use aig_base::StreamFault;
 use aig_lexer::{FileKind, LexError};
 use aig_ordering::OrderError;
 use aig_symbols::NameError;
 use std::alloc::{AllocError, AllocFailed};
+use std::error::Error;
 use std::fmt;
-use thiserror::Error;
 
 /// A section of a file, as an error names it. It is printed by its name, in small letters and in the plural.
 #[derive(Clone, Copy, Debug, PartialEq, Eq)]
@@ -52,40 +51,53 @@ impl fmt::Display for Section {
 }
 
 /// Why a file is refused.
-#[derive(Clone, Copy, Debug, PartialEq, Eq, Error)]
+#[derive(Clone, Copy, Debug, PartialEq, Eq)]
 pub enum ReadError {
     /// Memory was refused.
-    #[error("out of memory")]
     Memory,
     /// A read failed in this call.
-    #[error("read failed")]
     Stream,
     /// The first line isn't a good header line.
-    #[error("bad header line")]
     Header,
     /// The header line is good, and the file has more variables than the limit allows.
-    #[error("too many variables")]
     TooMany,
     /// A line of the section is malformed or cut, or has a number past 2^32 - 1.
-    #[error("bad line in {0}")]
     Syntax(Section),
     /// A number of the section is no literal that may stand there.
-    #[error("bad literal in {0}")]
     Literal(Section),
     /// A gate of a binary file is cut, or its differences aren't allowed.
-    #[error("bad difference")]
     Delta,
     /// A name line is malformed or cut, is for no entry or for one that has a name, or names an input or a latch by
     /// bytes that aren't UTF-8.
-    #[error("bad name line")]
     Name,
     /// The path can't be opened.
-    #[error("cannot open")]
     Open,
 }
 
+impl fmt::Display for ReadError {
+    fn fmt<W: fmt::Write>(&self, f: &mut fmt::Formatter<W>) -> fmt::Result {
+        f.write_str(match self {
+            ReadError::Memory => "out of memory",
+            ReadError::Stream => "read failed",
+            ReadError::Header => "bad header line",
+            ReadError::TooMany => "too many variables",
+            ReadError::Syntax(_) => "bad line in ",
+            ReadError::Literal(_) => "bad literal in ",
+            ReadError::Delta => "bad difference",
+            ReadError::Name => "bad name line",
+            ReadError::Open => "cannot open",
+        })?;
+        match self {
+            ReadError::Syntax(section) | ReadError::Literal(section) => section.fmt(f),
+            _ => Ok(()),
+        }
+    }
+}
+
+impl Error for ReadError {}
+
 /// Why a line of a section is not read.
-#[derive(Clone, Copy, Debug, PartialEq, Eq)]
+#[derive(Clone, Copy)]
 pub enum LineError {
     /// Memory ran out.
     Memory,
@@ -132,21 +144,14 @@ impl From<AllocError> for ReadError {
     }
 }
 
-impl From<StreamFault> for ReadError {
-    ghost from_gives = { λ _ r. r ≡ errors.Stream };
-
-    fn from(_fault: StreamFault) -> ReadError {
-        ReadError::Stream
-    }
-}
-
-/// This fault in the header line.
-pub fn in_header(fault: LexError) -> ReadError
-    ensures { result ≡ header_error_of fault }
+/// What reading the header line gave.
+pub fn header_result<T>(header: Result<T, LexError>) -> Result<T, ReadError>
+    ensures { result ≡ result_by header_error_of header }
 {
-    match fault {
-        LexError::Stream => ReadError::Stream,
-        LexError::Shape => ReadError::Header,
+    match header {
+        Ok(value) => Ok(value),
+        Err(LexError::Stream) => Err(ReadError::Stream),
+        Err(LexError::Shape) => Err(ReadError::Header),
     }
 }
 

@@ -1,15 +1,12 @@
 //! The header line.
 
-ghost use Rattle.std.specs.Prelude.{◌≡◌, ◌+◌, ◌≤◌, ◌↔◌, true, IfOk, IfSome, IsErrOf};
+ghost use Rattle.std.specs.Prelude.{◌≡◌, ◌+◌, ◌≤◌, true, IfOk};
 ghost use Rattle.aig_format.specs.Fits.{has_enough};
-ghost use Rattle.aig_parsing.specs.ParseTested.{parse_fitting_header};
-ghost use Rattle.aig_parsing.specs.Parse.{too_many_at};
 ghost use Rattle.aig_lexer.specs.Header.{numbers_of};
-ghost use Rattle.aig_lexer.specs.Takes.{Gives, feed};
-ghost use Rattle.aig_reader.specs.Faults.{ReadTells};
-ghost use Rattle.aig_reader.specs.Reading.{UnlessTransient};
+ghost use Rattle.aig_lexer.specs.Takes.{feed};
+ghost use Rattle.aig_reader.specs.Headers.{ReadsHeader};
 
-use crate::error::{ReadError, in_header};
+use crate::error::{ReadError, header_result};
 use aig_base::Source;
 use aig_lexer::{FileKind, Header, InputBuffer, header_line};
 
@@ -33,18 +30,11 @@ pub fn read_header<R: Source>(
     r: &mut R,
     limit: usize,
 ) -> Result<Header, ReadError>
-    ensures exact { Gives ReadTells (λ h. (h.kind, numbers_of h))
-        (feed R.left R.failed R.pulls buffer.old r.old)
-        (feed R.left R.failed R.pulls buffer.new r.new) result (parse_fitting_header limit) }
-    ensures too_many { IfSome (feed R.left R.failed R.pulls buffer.old r.old).coming
-        (λ bytes. UnlessTransient result
-        (IsErrOf result ReadError.TooMany ↔ (too_many_at limit bytes ≡ true))) }
-    ensures within { IfOk result (λ h. h.greatest + 1 ≤ limit) }
-    ensures good { IfOk result (λ h. has_enough h.kind (numbers_of h) ≡ true) }
+    ensures exact { ReadsHeader limit (feed R.left R.failed R.pulls buffer.old r.old)
+        (feed R.left R.failed R.pulls buffer.new r.new) result }
     ensures enough { IfOk result (λ h. h.inputs + h.latches + h.gates ≤ h.greatest) }
-    ensures never_open { IsErrOf result ReadError.Open → ⊥ }
 {
-    let header = header_line(buffer, r).map_err(in_header)?;
+    let header = header_result(header_line(buffer, r))?;
     if !is_great_enough(header) {
         return Err(ReadError::Header);
     }

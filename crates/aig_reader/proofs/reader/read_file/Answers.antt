@@ -1,4 +1,4 @@
-use Rattle.std.proofs.Common.{◌≡◌, ◌∙◌, ◌++◌, [], ℕ, List, ap}
+use Rattle.std.proofs.Common.{◌≡◌, ◌∙◌, ◌++◌, [], ℕ, List, ap, arith}
 use Rattle.std.proofs.KnownBytes.{Consumes-trans}
 use Rattle.std.proofs.lemmas.Result.{err_from_is_err_and}
 use Rattle.aig_circuit.specs.Circuit.{latch_leaves}
@@ -11,6 +11,7 @@ use Rattle.aig_lexer.specs.Takes.{feed}
 use Rattle.aig_lexer.proofs.Taking.{takes_both}
 use Rattle.aig_symbols.specs.Names.{kept_names, tail_of}
 use Rattle.aig_reader.proofs.Accepting.{Body, refused_header, refused_section, refused_names, sections_of, accepted, accepts}
+use Rattle.aig_reader.proofs.HeaderLines.{header_good, header_small, header_within}
 use Rattle.aig_reader.proofs.FileCircuit.{circuit_is, nodes_distinct}
 use Rattle.aig_reader.proofs.ReadNames.{names_fault, names_in, no_names_in, no_names_left}
 use Rattle.aig_reader.proofs.reader.read_file.Goals as goal
@@ -18,7 +19,13 @@ use Rattle.aig_reader.proofs.reader.read_file.Goals as goal
 pub returns-in_err-header-clause-exact : goal.returns-in_err-header-clause-exact
 returns-in_err-header-clause-exact g c =
     let p = err_from_is_err_and c.from_residual.result c.from_residual.ensures.1 in
-    rw (p.1, p.2) (refused_header _ c.args.limit (feed g.R.Source.left g.R.Source.failed g.R.Source.pulls c.args.buffer.now c.args.r.now) c.in_err-header.field-0.0 _ c.in_err-header.ensures.exact c.in_err-header.ensures.too_many)
+    rw (p.1, p.2) (refused_header c.args.limit (feed g.R.Source.left g.R.Source.failed g.R.Source.pulls c.args.buffer.now c.args.r.now) (feed g.R.Source.left g.R.Source.failed g.R.Source.pulls c.read_header.new.buffer c.read_header.new.r) c.in_err-header.field-0.0 c.in_err-header.ensures.exact)
+
+pub read_sections-requires-clause-few : goal.read_sections-requires-clause-few
+read_sections-requires-clause-few g c = omega (arith, header_within c.args.limit _ _ _ c.in_ok-header.ensures.exact, c.requires)
+
+pub read_sections-requires-clause-good : goal.read_sections-requires-clause-good
+read_sections-requires-clause-good g c = header_good c.args.limit _ _ _ c.in_ok-header.ensures.exact
 
 pub returns-in_err-sections-clause-exact : goal.returns-in_err-sections-clause-exact
 returns-in_err-sections-clause-exact g c =
@@ -26,7 +33,7 @@ returns-in_err-sections-clause-exact g c =
     let e = c.in_err-sections.field-0.0 in
     let header = c.in_ok-header.header in
     rw (p.1, p.2)
-    (refused_section _ header c.args.limit _ _ (header.kind, numbers_of header) e _ c.in_ok-header.ensures.exact c.in_err-sections.ensures.exact c.in_ok-header.ensures.too_many)
+    (refused_section c.args.limit _ _ (header.kind, numbers_of header) e _ c.in_ok-header.ensures.exact c.in_err-sections.ensures.exact (header_small c.args.limit _ _ _ c.in_ok-header.ensures.exact))
 
 pub read_names-names-requires-clause-distinct : goal.read_names-names-requires-clause-distinct
 read_names-names-requires-clause-distinct g c =
@@ -46,9 +53,9 @@ returns-in_err-names-clause-exact g c =
     let body : Body = ((header.kind, numbers_of header), made.0) in
     let taken = takes_both (parse_fitting_header c.args.limit) sections_of _ _ _ (header.kind, numbers_of header) made.0 c.in_ok-header.ensures.exact made.2 in
     rw (p.1, p.2)
-    (refused_names _ header c.args.limit _ _ body e _ taken
+    (refused_names c.args.limit _ _ body e _ taken
     (no_names_in _ _ _ (tail_of (numbers_of header)) c.read_names-names.result c.names_result.result c.names_result.ensures c.read_names-names.ensures e c.in_err-names.was)
-    (names_fault c.read_names-names.result c.names_result.result e c.names_result.ensures c.in_err-names.was) c.in_ok-header.ensures.too_many)
+    (names_fault c.read_names-names.result c.names_result.result e c.names_result.ensures c.in_err-names.was) (header_small c.args.limit _ _ _ c.in_ok-header.ensures.exact))
 
 pub returns-clause-circuit : goal.returns-clause-circuit
 returns-clause-circuit g c =
@@ -78,4 +85,4 @@ returns-clause-whole g c =
 pub returns-clause-exact : goal.returns-clause-exact
 returns-clause-exact g c =
     let whole = returns-clause-whole g c in
-    accepts _ c.in_ok-header.header c.args.limit _ _ c.with_names.result (returns-clause-circuit g c) whole.1 c.in_ok-header.ensures.too_many
+    accepts c.args.limit _ _ c.with_names.result (returns-clause-circuit g c) whole.1 (header_small c.args.limit _ _ _ c.in_ok-header.ensures.exact)

@@ -1,0 +1,85 @@
+-- The header line, with its tests.
+use Rattle.std.proofs.Common.{◌≡◌, ◌∙◌, ℕ, ◌+◌, ◌≤◌, Bool, true, false, cond, List, [], ◌++◌, Option, Some, None, Result, Ok, Err, IfSome, ap, subst, ltb, leb, refl}
+use Rattle.std.specs.Prelude.{◌&&◌}
+use Rattle.std.proofs.lemmas.Bool.{and_parts, leb-true, le-ltb}
+use Rattle.std.proofs.lemmas.Option.{IfSome_then, same_Some}
+use Rattle.aig_format.specs.declared.FileKind.{FileKind}
+use Rattle.aig_format.specs.File.{HeaderNumbers}
+use Rattle.aig_format.specs.Fits.{has_enough}
+use Rattle.aig_parsing.specs.Parse.{◌>>=◌, parse_header, too_many_at, too_many_of}
+use Rattle.aig_parsing.specs.ParseTested.{fits_header, parse_fitting_header}
+use Rattle.aig_parsing.proofs.Numbers.{bind_some}
+use Rattle.aig_lexer.specs.declared.header.Header.{Header}
+use Rattle.aig_lexer.specs.declared.error.LexError.{LexError}
+use Rattle.aig_lexer.specs.declared.error.LexError.TheVariants.{Stream, Shape}
+use Rattle.aig_lexer.specs.Faults.{LexTells}
+use Rattle.aig_lexer.specs.Header.{numbers_of}
+use Rattle.aig_lexer.specs.Takes.{Feed, Gives, Misses, Takes}
+use Rattle.aig_lexer.proofs.Going.{known_after}
+use Rattle.aig_reader.specs.declared.error.ReadError.{ReadError}
+use Rattle.aig_reader.specs.Faults.{header_error_of, result_by}
+use Rattle.aig_reader.specs.Headers.{HasNoHeader, ReadsHeader}
+use Rattle.aig_reader.proofs.Body.{err_in, ok_in}
+
+-- a header, and what stands after it
+abbrev Read : Type 0
+Read = (FileKind × HeaderNumbers) × List ℕ
+
+abbrev passes : ℕ → Read → Option Read
+passes limit x = cond (fits_header limit x.0) (Some x) None
+
+-- a header line that isn't read
+unread : (limit : ℕ) (before after : Feed) (fault : LexError) → LexTells fault (Misses parse_header before) after.failed → ReadsHeader limit before after (Err (header_error_of fault))
+unread limit before after Stream h = h
+unread limit before after Shape h = IfSome_then before.coming h (λ bytes none. (ap (λ (o : Option Read). o >>= passes limit) none, ap (too_many_of limit) none))
+
+abbrev GivesHeader : Feed → Feed → Result Header LexError → Type 0
+GivesHeader before after line = Gives LexTells (λ (h : Header). (h.kind, numbers_of h)) before after line parse_header
+
+module _ (before after : Feed) (line : Result Header LexError) (result : Result Header ReadError) (is : result ≡ result_by header_error_of line) (given : GivesHeader before after line) where
+  pub unread_header : (limit : ℕ) (e : ReadError) → result ≡ Err e → ReadsHeader limit before after (Err e)
+  unread_header limit e was =
+      let k = err_in header_error_of line result e is was in
+      subst (λ (d : ReadError). ReadsHeader limit before after (Err d)) k.2 (unread limit before after k.0 (subst (GivesHeader before after) k.1 given))
+
+  pub header_taken : (h : Header) → result ≡ Ok h → Takes parse_header before after (h.kind, numbers_of h)
+  header_taken h was = subst (GivesHeader before after) (ok_in header_error_of line result h is was) given
+
+-- one that is read and fails a test
+pub no_header : (limit : ℕ) (before after : Feed) (x : FileKind × HeaderNumbers) (many : Bool) → Takes parse_header before after x → fits_header limit x ≡ false → (has_enough x.0 x.1 && ltb limit (x.1.greatest + 1)) ≡ many
+    → IfSome before.coming (HasNoHeader limit many)
+no_header limit before after x many taken fails is =
+    known_after before.coming after.coming taken.taken (HasNoHeader limit many) taken.advances.consumed
+    (λ rest. (
+      ap (λ (o : Option Read). o >>= passes limit) (taken.reads rest) ∙ ap (λ (b : Bool). cond b (Some (x, rest)) None) fails,
+      ap (too_many_of limit) (taken.reads rest) ∙ is,
+    ))
+
+-- ---- one that passes
+
+fits_read : (limit : ℕ) (x : FileKind × HeaderNumbers) (rest : List ℕ) (y : Read) → passes limit y ≡ Some (x, rest) → (y ≡ (x, rest)) × (fits_header limit x ≡ true)
+fits_read limit x rest y h = by_test (fits_header limit y.0) refl h
+  where
+    by_test : (b : Bool) → fits_header limit y.0 ≡ b → cond b (Some y) None ≡ Some (x, rest) → (y ≡ (x, rest)) × (fits_header limit x ≡ true)
+    by_test true is h = let same = same_Some y (x, rest) h in (same, subst (λ (z : Read). fits_header limit z.0 ≡ true) same is)
+    by_test false is h = absurd cc
+
+module _ (limit : ℕ) (before after : Feed) (x : FileKind × HeaderNumbers) (taken : Takes (parse_fitting_header limit) before after x) where
+  fits : (has_enough x.0 x.1 ≡ true) × (leb (x.1.greatest + 1) limit ≡ true)
+  fits =
+      let y = bind_some (parse_header (taken.taken ++ [])) (passes limit) (x, []) (taken.reads []) in
+      and_parts (has_enough x.0 x.1) (leb (x.1.greatest + 1) limit) (fits_read limit x [] y.0 y.2).1
+
+  pub header_good : has_enough x.0 x.1 ≡ true
+  header_good = fits.0
+
+  pub header_within : x.1.greatest + 1 ≤ limit
+  header_within = leb-true (x.1.greatest + 1) limit fits.1
+
+  -- it doesn't pass the limit
+  pub header_small : IfSome before.coming (λ bytes. too_many_at limit bytes ≡ false)
+  header_small =
+      known_after before.coming after.coming taken.taken (λ bytes. too_many_at limit bytes ≡ false) taken.advances.consumed
+      (λ rest.
+      let y = bind_some (parse_header (taken.taken ++ rest)) (passes limit) (x, rest) (taken.reads rest) in
+      ap (too_many_of limit) (y.1 ∙ ap (λ (z : Read). Some z) (fits_read limit x rest y.0 y.2).0) ∙ rw (header_good, le-ltb limit (x.1.greatest + 1) header_within) refl)
