@@ -156,25 +156,16 @@ pub fn header_result<T>(header: Result<T, LexError>) -> Result<T, ReadError>
 }
 
 impl Section {
-    /// This fault in a line of this section.
-    fn fault_of(self, fault: LineError) -> ReadError
-        ensures { result ≡ error_in self fault }
-    {
-        match fault {
-            LineError::Memory => ReadError::Memory,
-            LineError::Stream => ReadError::Stream,
-            LineError::Syntax => ReadError::Syntax(self),
-            LineError::Literal => ReadError::Literal(self),
-        }
-    }
-
     /// What reading lines of this section gave.
     pub(crate) fn result_of<T>(self, lines: Result<T, LineError>) -> Result<T, ReadError>
         ensures { result ≡ result_by (error_in self) lines }
     {
         match lines {
             Ok(value) => Ok(value),
-            Err(fault) => Err(self.fault_of(fault)),
+            Err(LineError::Memory) => Err(ReadError::Memory),
+            Err(LineError::Stream) => Err(ReadError::Stream),
+            Err(LineError::Syntax) => Err(ReadError::Syntax(self)),
+            Err(LineError::Literal) => Err(ReadError::Literal(self)),
         }
     }
 

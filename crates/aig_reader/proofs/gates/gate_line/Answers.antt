@@ -1,4 +1,5 @@
-use Rattle.std.proofs.Common.{◌∙◌, ◌++◌, ◌&&◌, ℕ, Bool, List, refl, sym}
+use Rattle.std.proofs.Common.{◌∙◌, ◌++◌, ◌≡◌, ◌&&◌, ℕ, Bool, false, List, refl, sym}
+use Rattle.std.proofs.lemmas.Bool.{and_right}
 use Rattle.std.proofs.lemmas.Result.{err_from_is_err_and}
 use Rattle.aig_format.specs.declared.FileKind.{FileKind}
 use Rattle.aig_format.specs.File.{GateLine}
@@ -7,8 +8,8 @@ use Rattle.aig_lexer.specs.Takes.{feed}
 use Rattle.aig_reader.specs.Gates.{literals_of}
 use Rattle.aig_reader.proofs.Defined.{has_next, last_literal, new_literal}
 use Rattle.aig_reader.proofs.GateLines.{more_gates, new_among}
-use Rattle.aig_reader.proofs.OwnLines.{misses_own, misses_rest, takes_line}
-use Rattle.aig_reader.proofs.TestedLines.{on_line-from_shape}
+use Rattle.aig_reader.proofs.OwnLines.{misses_line, misses_own, misses_rest, takes_line}
+use Rattle.aig_reader.proofs.TestedLines.{on_line-from_shape, on_line-unfailed}
 use Rattle.aig_reader.proofs.gates.gate_line.Goals as goal
 use Rattle.aig_parsing.specs.Parse.{gate_line_from, parse_operands}
 
@@ -37,6 +38,25 @@ returns-in_err-rhs0 g c = λ kind greatest leaves before room h.
     let literals = leaves ++ literals_of before in
     let own = c.in_ok-lhs.ensures.exact kind greatest literals h.defined in
     rw (p.1, p.2) (on_line-from_shape c.in_err-rhs0.field-0.0 _ _ _ (misses_rest kind 32 literals (parse_operands kind) gate_line_from (tests kind greatest literals) _ _ c.in_ok-lhs.lhs own) (c.in_err-rhs0.ensures kind greatest literals h.defined))
+
+pub returns-then-not-are_usable : goal.returns-then-not-are_usable
+returns-then-not-are_usable g c = λ kind greatest leaves before room h.
+    let literals = leaves ++ literals_of before in
+    let rest : ℕ × ℕ = (c.in_ok-rhs0.rhs0, c.in_ok-rhs0.rhs1) in
+    let own = c.in_ok-lhs.ensures.exact kind greatest literals h.defined in
+    let unusable = sym (c.are_usable.ensures kind greatest literals h.defined) ∙ c.if-not-are_usable.true in
+    misses_line kind 32 literals (parse_operands kind) gate_line_from (tests kind greatest literals) _ _ c.in_ok-lhs.lhs own _ rest (c.in_ok-rhs0.ensures kind greatest literals h.defined) (and_right (may_define kind greatest literals c.in_ok-lhs.lhs) _ unusable)
+
+pub returns-in_err-define : goal.returns-in_err-define
+returns-in_err-define g c = λ kind greatest leaves before room h.
+    let p = err_from_is_err_and c.from_residual-in_err-define.result c.from_residual-in_err-define.ensures.1 in
+    let literals = leaves ++ literals_of before in
+    let rest : ℕ × ℕ = (c.in_ok-rhs0.rhs0, c.in_ok-rhs0.rhs1) in
+    let own = c.in_ok-lhs.ensures.exact kind greatest literals h.defined in
+    rw (p.1, p.2) (on_line-unfailed c.in_err-define.field-0.0 _ _ _
+    (λ (no : may_define kind greatest literals c.in_ok-lhs.lhs ≡ false).
+    misses_line kind 32 literals (parse_operands kind) gate_line_from (tests kind greatest literals) _ _ c.in_ok-lhs.lhs own _ rest (c.in_ok-rhs0.ensures kind greatest literals h.defined) (rw no refl))
+    (c.in_err-define.ensures kind greatest literals h.defined))
 
 pub returns : goal.returns
 returns g c = λ kind greatest leaves before room h.
