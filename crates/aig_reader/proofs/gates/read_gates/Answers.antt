@@ -27,9 +27,9 @@ gate_line-requires g c =
 
 pub loop-init : goal.loop-init
 loop-init g c = λ kind greatest leaves room defined. (
-    [],
-    record { defined = subst (AreDefined kind greatest c.args.variables.now) (sym (append-nil leaves)) defined; placed = c.in_ok-gates.ensures greatest leaves },
-    takes_nothing _ [],
+  [],
+  record { defined = subst (AreDefined kind greatest c.args.variables.now) (sym (append-nil leaves)) defined; placed = c.in_ok-gates.ensures greatest leaves },
+  takes_nothing _ [],
 )
 
 pub returns-in_err-gate_line : goal.returns-in_err-gate_line
