@@ -1,5 +1,5 @@
 -- What reading the names gave.
-use Rattle.std.proofs.Common.{◌≡◌, ◌≢◌, ℕ, Bool, List, [], Option, Some, None, Result, Ok, Err, IfSome, IfOk, refl, subst}
+use Rattle.std.proofs.Common.{◌≡◌, ◌≢◌, ℕ, Bool, List, [], Option, Some, None, Result, Ok, Err, IfSome, refl, subst}
 use Rattle.aig_format.specs.File.{HeaderNumbers}
 use Rattle.aig_lexer.specs.Takes.{Feed, Ends}
 use Rattle.aig_symbols.specs.declared.names.error.NameError.{NameError}
@@ -37,10 +37,6 @@ module _ {X Y : Type 0} (IsOf : X → Y → Type 0) (b a : Feed) (read : List �
       let k = err_in name_error_of lines result e is was in
       let P = IfSome b.coming (λ bytes. read bytes ≡ None) in
       subst (λ (d : ReadError). ReadTells d P a.failed) k.2 (in_names k.0 P a.failed (subst (λ (r : Result X NameError). EndsWith NameTells IsOf b a r read) k.1 h))
-
--- what holds of an answer that is there
-pub if_ok_in : {X E : Type 0} (fault : E → ReadError) (P : X → Type 0) (lines : Result X E) (result : Result X ReadError) (x : X) → result ≡ result_by fault lines → result ≡ Ok x → IfOk lines P → P x
-if_ok_in {X} {E} fault P lines result x is was h = subst (λ (r : Result X E). IfOk r P) (ok_in fault lines result x is was) h
 
 pub names_fault : {X : Type 0} (lines : Result X NameError) (result : Result X ReadError) (e : ReadError) → result ≡ result_by name_error_of lines → result ≡ Err e → e ≢ errors.TooMany
 names_fault lines result e is was same =
