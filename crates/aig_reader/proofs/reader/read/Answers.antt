@@ -1,6 +1,6 @@
-use Rattle.std.proofs.Common.{◌≡◌, ◌∙◌, List, ℕ, ap}
+use Rattle.std.proofs.Common.{◌≡◌}
 use Rattle.std.specs.Io.KnownBytes.{prepend_known}
-use Rattle.std.proofs.lemmas.Iterator.Adapters.{option_map_id}
+use Rattle.std.proofs.KnownBytes.{prepend_known-nil}
 use Rattle.std.proofs.lemmas.Result.{IfOk-weaker}
 use Rattle.aig_format.specs.Fits.{Accepts}
 use Rattle.aig_reader.specs.Reading.{AreListsOf}
@@ -11,7 +11,7 @@ use Rattle.aig_reader.proofs.reader.read.Given as given
 
 -- nothing is held at first
 at_first : (g : given.Over) (c : After-new-buffer g) → prepend_known c.new-buffer.result (g.R.Source.left c.args.r.now) ≡ g.R.Source.left c.args.r.now
-at_first g c = ap (λ (held : List ℕ). prepend_known held (g.R.Source.left c.args.r.now)) c.new-buffer.ensures ∙ option_map_id (g.R.Source.left c.args.r.now)
+at_first g c = rw c.new-buffer.ensures (prepend_known-nil (g.R.Source.left c.args.r.now))
 
 pub returns-clause-circuit : goal.returns-clause-circuit
 returns-clause-circuit g c =
