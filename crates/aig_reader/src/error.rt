@@ -9,8 +9,8 @@ use aig_lexer::{FileKind, LexError};
 use aig_ordering::OrderError;
 use aig_symbols::NameError;
 use std::alloc::{AllocError, AllocFailed};
-use std::error::Error;
 use std::fmt;
+use thiserror::Error;
 
 /// A section of a file, as an error names it. It is printed by its name, in small letters and in the plural.
 #[derive(Clone, Copy, Debug, PartialEq, Eq)]
@@ -51,50 +51,37 @@ impl fmt::Display for Section {
 }
 
 /// Why a file is refused.
-#[derive(Clone, Copy, Debug, PartialEq, Eq)]
+#[derive(Clone, Copy, Debug, PartialEq, Eq, Error)]
 pub enum ReadError {
     /// Memory was refused.
+    #[error("out of memory")]
     Memory,
     /// A read failed in this call.
+    #[error("read failed")]
     Stream,
     /// The first line isn't a good header line.
+    #[error("bad header line")]
     Header,
     /// The header line is good, and the file has more variables than the limit allows.
+    #[error("too many variables")]
     TooMany,
     /// A line of the section is malformed or cut, or has a number past 2^32 - 1.
+    #[error("bad line in {0}")]
     Syntax(Section),
     /// A number of the section is no literal that may stand there.
+    #[error("bad literal in {0}")]
     Literal(Section),
     /// A gate of a binary file is cut, or its differences aren't allowed.
+    #[error("bad difference")]
     Delta,
     /// A name line is malformed or cut, is for no entry or for one that has a name, or names an input or a latch by
     /// bytes that aren't UTF-8.
+    #[error("bad name line")]
     Name,
     /// The path can't be opened.
+    #[error("cannot open")]
     Open,
 }
-
-impl fmt::Display for ReadError {
-    fn fmt<W: fmt::Write>(&self, f: &mut fmt::Formatter<W>) -> fmt::Result {
-        f.write_str(match self {
-            ReadError::Memory => "out of memory",
-            ReadError::Stream => "read failed",
-            ReadError::Header => "bad header line",
-            ReadError::TooMany => "too many variables",
-            ReadError::Syntax(_) => "bad line in ",
-            ReadError::Literal(_) => "bad literal in ",
-            ReadError::Delta => "bad difference",
-            ReadError::Name => "bad name line",
-            ReadError::Open => "cannot open",
-        })?;
-        match self {
-            ReadError::Syntax(section) | ReadError::Literal(section) => section.fmt(f),
-            _ => Ok(()),
-        }
-    }
-}
-
-impl Error for ReadError {}
 
 /// Why a line of a section is not read.
 #[derive(Clone, Copy)]
