@@ -44,7 +44,7 @@ module _ (n : ℕ) where
           All-from_recursion (All IsBelow) clauses (first, (second, tt))
 
   -- the latch's leaf and its initial edge are there
-  abbrev IsThere : AigLatch → Type 0
+  abbrev pub IsThere : AigLatch → Type 0
   IsThere l = (l.input < n) × IfSome l.init (λ e. e.node_id < n)
 
   start : (l : AigLatch) → IsThere l → AreBelow n (start_clauses l)
@@ -69,9 +69,17 @@ further_start : (nodes : List AigNode) (n : ℕ) → length nodes ≤ n → (o :
 further_start nodes n longer None there = tt
 further_start nodes n longer (Some e) there = omega (arith, longer, there)
 
+-- leaves of latches and their initial edges are there among more nodes
+pub latchs_there : (c : Circuit) → IsCircuit c → (n : ℕ) → length c.nodes ≤ n → All (IsThere n) c.latchs
+latchs_there c is n longer =
+    All-weaker (IsLatch c.nodes) (IsThere n) (λ l h. (omega (arith, longer, kind_at-within c.nodes l.input Leaf h.leaf), further_start c.nodes n longer l.init h.init)) c.latchs is.latchs
+
+-- edges that are there are there among more nodes
+pub edges_there : (nodes : List AigNode) (n : ℕ) → length nodes ≤ n → (es : List AigEdge) → All (IsInRange nodes) es → All (λ e. e.node_id < n) es
+edges_there nodes n longer es all = All-weaker (IsInRange nodes) (λ e. e.node_id < n) (λ e h. omega (arith, longer, h)) es all
+
 pub query_below : (c : Circuit) (k : ℕ) (unrolled : Circuit) → IsCircuit c → IsCircuit unrolled → length c.nodes ≤ length unrolled.nodes → AreBelow (length unrolled.nodes) (query_clauses c k unrolled)
 query_below c k unrolled is made longer =
     let n = length unrolled.nodes in
-    let leaves = All-weaker (IsLatch c.nodes) (IsThere n) (λ l h. (omega (arith, longer, kind_at-within c.nodes l.input Leaf h.leaf), further_start c.nodes n longer l.init h.init)) c.latchs is.latchs in
-    let both = All-append (All (λ lit. variable_of lit < n)) (flat_map start_clauses c.latchs) (unit_clauses unrolled.properties.constraints) (starts n c.latchs leaves) (units n unrolled.properties.constraints made.properties.constraints) in
+    let both = All-append (All (λ lit. variable_of lit < n)) (flat_map start_clauses c.latchs) (unit_clauses unrolled.properties.constraints) (starts n c.latchs (latchs_there c is n longer)) (units n unrolled.properties.constraints made.properties.constraints) in
     All-append (All (λ lit. variable_of lit < n)) (flat_map start_clauses c.latchs ++ unit_clauses unrolled.properties.constraints) (map lit_of (last_bads c k unrolled) ∷ []) both (any n (last_bads c k unrolled) (All-drop (λ (e : AigEdge). e.node_id < n) (k * length c.properties.bads) unrolled.properties.bads made.properties.bads))

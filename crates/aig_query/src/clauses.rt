@@ -27,8 +27,8 @@ fn push_value(extra: &mut LitVvec, node: usize, edge: AigEdge) -> Result<(), Mem
 
 /// Appends for each latch with an initial edge the clauses that its leaf has that edge's value.
 fn push_starts(extra: &mut LitVvec, latchs: &[AigLatch]) -> Result<(), MemoryError>
-    requires leaves { All (λ latch. latch.input < 2 ^ 31) latchs.now }
-    requires starts { All (λ latch. IfSome latch.init (λ e. e.node_id < 2 ^ 31)) latchs.now }
+    requires { All (λ latch. (latch.input < 2 ^ 31)
+        × IfSome latch.init (λ e. e.node_id < 2 ^ 31)) latchs.now }
     ensures { OnOk result (extra.new ≡ extra.old ++ flat_map start_clauses latchs.now) }
 {
     for latch in latchs {
@@ -59,9 +59,29 @@ pub fn push_any(alloc: Global, extra: &mut LitVvec, edges: &[AigEdge]) -> Result
 {
     let mut clause = Vec::with_capacity(alloc, edges.len())?;
     for edge in edges {
-        clause.push(edge.to_lit())?;
+        clause.push_reserved(edge.to_lit());
     }
     extra.push(&clause)
+}
+
+/// Appends the clauses of initial edges, of constraints, and of bad edges.
+fn push_query(
+    alloc: Global,
+    extra: &mut LitVvec,
+    latchs: &[AigLatch],
+    constraints: &[AigEdge],
+    bads: &[AigEdge],
+) -> Result<(), MemoryError>
+    requires latchs { All (λ latch. (latch.input < 2 ^ 31)
+        × IfSome latch.init (λ e. e.node_id < 2 ^ 31)) latchs.now }
+    requires constraints { All (λ e. e.node_id < 2 ^ 31) constraints.now }
+    requires bads { All (λ e. e.node_id < 2 ^ 31) bads.now }
+    ensures { OnOk result (extra.new ≡ extra.old ++ flat_map start_clauses latchs.now
+        ++ unit_clauses constraints.now ++ map lit_of bads.now ∷ []) }
+{
+    push_starts(extra, latchs)?;
+    push_units(extra, constraints)?;
+    push_any(alloc, extra, bads)
 }
 
 /// Returns the clauses that ask for a run from an initial state of the circuit on which every constraint holds at each of the steps 0
@@ -86,11 +106,15 @@ pub fn query_clauses(
     // They are of variables that are there.
     ensures below { IfOk result (AreBelow (length unrolled.now.nodes)) }
 {
-    let mut extra = LitVvec::new(alloc);
-    push_starts(&mut extra, circuit.latchs())?;
-    push_units(&mut extra, unrolled.constraints())?;
     let bads = unrolled.bads();
     let first = k * circuit.bads().len();
-    push_any(alloc, &mut extra, &bads[first..])?;
+    let mut extra = LitVvec::new(alloc);
+    push_query(
+        alloc,
+        &mut extra,
+        circuit.latchs(),
+        unrolled.constraints(),
+        &bads[first..],
+    )?;
     Ok(extra)
 }
