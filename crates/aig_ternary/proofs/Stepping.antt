@@ -3,9 +3,9 @@ use Rattle.std.proofs.Common.{◌≡◌, ◌≢◌, ℕ, zero, suc, ◌+◌, ◌
 use Rattle.std.specs.Prelude.{All, AllPairs, ◌==◌}
 use Rattle.std.proofs.Math.Path.{fun_ext}
 use Rattle.std.proofs.Math.ListN.{length-set}
-use Rattle.std.proofs.Math.Seq.{drop-cons}
+use Rattle.std.proofs.Math.Seq.{append_snoc, drop-cons}
 use Rattle.std.proofs.lemmas.Bool.{eqb-true, eqb-false}
-use Rattle.std.proofs.lemmas.List.{ext_get_or, get_or-map, get_or_default, length-map, length-replicate}
+use Rattle.std.proofs.lemmas.List.{append-nil, drop_all, ext_get_or, get_or-map, get_or_default, length-map, length-replicate}
 use Rattle.std.proofs.lemmas.Option.{slice_get-get_or}
 use Rattle.aig_base.specs.declared.logic.three.Lbool.{Lbool}
 use Rattle.aig_base.specs.declared.logic.three.Lbool.TheVariants.{FALSE, NONE}
@@ -20,7 +20,7 @@ use Rattle.aig_circuit.proofs.Circuits.{AreLeaves-of_circuit}
 use Rattle.aig_circuit.proofs.Trees.{kind_at-within, tree_of-and, tree_of-false, tree_of-leaf}
 use Rattle.aig_ternary.specs.Step.{simulation_at, value_by, with_given}
 use Rattle.aig_ternary.proofs.Known.{value_is}
-use Rattle.aig_ternary.specs.Ternary.{Simulation, given_values, next_state, stepped_all, values_in, three_edge_value, three_node_value, three_value_of_tree, three_values, value_for}
+use Rattle.aig_ternary.specs.Ternary.{Simulation, given_values, next_state, stepped, stepped_all, value_in, values_in, three_edge_value, three_node_value, three_value_of_tree, three_values, value_for}
 
 -- ---- values that are written at leaves
 
@@ -155,6 +155,33 @@ next_state-read c is x (latch ∷ latchs) all =
 pub record StepsTo (e : AigEdge) (steps : List (List Lbool)) (from : Simulation) (before : List Lbool) (now : Simulation) (answers : List Lbool) (left : List (List Lbool)) : Type 0 where
   pub moved : stepped_all now left ≡ stepped_all from steps
   pub answered : answers ++ values_in e now left ≡ before ++ values_in e from steps
+
+-- what is left of a list is its next element and what is left then
+pub drop_next : {X : Type 0} (xs : List X) (i : ℕ) (d : X) → i < length xs → drop i xs ≡ get_or xs i d ∷ drop (i + 1) xs
+drop_next xs i d h = rw (add-one, drop-cons xs i d)
+
+-- after one more step
+pub StepsTo-next : {steps : List (List Lbool)} {from : Simulation} {before : List Lbool} (e : AigEdge) (now next : Simulation) (answers longer : List Lbool) (v : Lbool) (left : List (List Lbool)) (inputs : List Lbool) (rest : List (List Lbool))
+    → left ≡ inputs ∷ rest → next ≡ stepped now inputs → v ≡ value_in next e → longer ≡ answers ++ v ∷ [] → StepsTo e steps from before now answers left → StepsTo e steps from before next longer rest
+StepsTo-next e now next answers longer v left inputs rest split moves value pushed so_far = record {
+  moved = ap (λ s. stepped_all s rest) moves ∙ sym (ap (stepped_all now) split) ∙ so_far.moved;
+  answered =
+      ap (λ (all : List Lbool). all ++ values_in e next rest) pushed
+      ∙ append_snoc answers v (values_in e next rest)
+      ∙ ap (λ (w : Lbool). answers ++ (w ∷ values_in e next rest)) value
+      ∙ ap (λ (s : Simulation). answers ++ (value_in s e ∷ values_in e s rest)) moves
+      ∙ sym (ap (λ (all : List (List Lbool)). answers ++ values_in e now all) split)
+      ∙ so_far.answered;
+}
+
+-- after all of them
+pub StepsTo-end : {X : Type 0} {e : AigEdge} {steps : List (List Lbool)} {from now : Simulation} {before answers : List Lbool} (i : ℕ) (inputs : List X) (list : X → List Lbool) → length inputs ≤ i
+    → StepsTo e steps from before now answers (map list (drop i inputs)) → (now ≡ stepped_all from steps) × (answers ≡ before ++ values_in e from steps)
+StepsTo-end {e = e} {now = now} {answers = answers} i inputs list h so_far =
+    let none = ap (map list) (drop_all i inputs h) in (
+      sym (ap (stepped_all now) none) ∙ so_far.moved,
+      sym (append-nil answers) ∙ sym (ap (λ (left : List (List Lbool)). answers ++ values_in e now left) none) ∙ so_far.answered,
+    )
 
 -- the values of an earlier step don't matter
 pub stepped_all-anew : (c : Circuit) (state values others : List Lbool) (steps : List (List Lbool)) → 0 < length steps → stepped_all (record { circuit = c; state = state; values = values }) steps ≡ stepped_all (record { circuit = c; state = state; values = others }) steps

@@ -11,6 +11,12 @@ use Rattle.aig_ternary.specs.Ternary.{given_values}
 use Rattle.aig_ternary.proofs.Stepping.{given-read, three_values-by_number}
 use Rattle.aig_ternary.proofs.step.value_circuit.Goals as goal
 
+pub write_inputs-requires-clause-leaves : goal.write_inputs-requires-clause-leaves
+write_inputs-requires-clause-leaves c =
+    let circuit = c.args.circuit.now in
+    let count : length c.args.values.now ≡ length circuit.nodes = omega (arith, ap length c.requires.unknown, length-replicate (length circuit.nodes) NONE) in
+    rw c.inputs.ensures.value (λ k d h. omega (arith, kind_at-within circuit.nodes _ Leaf (c.inputs.ensures.circuit.inputs k d h)))
+
 pub write_state-requires-clause-leaves : goal.write_state-requires-clause-leaves
 write_state-requires-clause-leaves c =
     let circuit = c.args.circuit.now in

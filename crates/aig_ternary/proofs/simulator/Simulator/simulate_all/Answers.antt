@@ -1,4 +1,5 @@
-use Rattle.std.proofs.Common.{Vec, Global, length, map, ap, ap₂, subst, ◌∙◌, arith, ◌++◌}
+use Rattle.std.proofs.Common.{◌≡◌, ◌<◌, List, [], Vec, Global, length, map, refl, sym, ap, ap₂, subst, ◌∙◌, arith, ◌++◌}
+use Rattle.std.specs.Prelude.{◌⊎◌}
 use Rattle.std.proofs.lemmas.List.{length-map, with_items_is}
 use Rattle.aig_base.specs.declared.logic.three.Lbool.{Lbool}
 use Rattle.aig_ternary.specs.Step.{simulation_at}
@@ -35,3 +36,25 @@ returns-clause-ok c =
     let values = with_items_is c.resize.new.self c.steps.new.values (omega (arith, c.resize.new.self.ok.0, ap length c.deref_mut-2.ensures.value)) in
     ap₂ (simulation_at inside.circuit) state values
     ∙ moved-anew inside.circuit c.deref_mut.result.now c.deref_mut-2.result.now inside.values.items c.args.self.now now steps (grind (arith, length-map c.args.inputs.now list)) same c.steps.ensures.moved
+
+pub steps-requires : goal.steps-requires
+steps-requires c =
+    let count = ap (λ (s : Simulation). length s.circuit.inputs) c.self.view_is in
+    record {
+      inputs = λ k d h. c.requires.lengths k d h ∙ sym count;
+      edge = subst (λ (s : Simulation). c.args.e.node_id < length s.circuit.nodes) (sym c.self.view_is) c.requires.edge;
+      state = ap length c.deref_mut.ensures.value ∙ c.self.invariant.0;
+      values = omega (arith, c.resize.new.self.ok.0, c.in_ok-resize.ensures.len, ap length c.nodes.ensures.value, ap length c.deref_mut-2.ensures.value);
+      room = omega (arith, c.in_ok-answers.ensures.len, c.in_ok-answers.ensures.capacity);
+    }
+
+pub returns-clause-none : goal.returns-clause-none
+returns-clause-none c = λ h. refl
+
+pub returns-clause-circuit : goal.returns-clause-circuit
+returns-clause-circuit c = ap (λ (s : Simulation). s.circuit) c.self.view_is
+
+pub invariant_of-self : goal.invariant_of-self
+invariant_of-self c =
+    let nodes = c.self.inside.circuit.nodes in
+    (c.self.invariant.0, subst (λ (items : List Lbool). (items ≡ []) ⊎ (length items ≡ length nodes)) (sym c.in_err-resize.ensures.items) c.self.invariant.1)
