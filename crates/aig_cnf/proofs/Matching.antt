@@ -1,6 +1,7 @@
 -- The exclusive or and if-then-else by the operands of the inner gates.
-use Rattle.std.proofs.Common.{◌≡◌, ◌≢◌, ℕ, Bool, true, Option, Some, None, List, sym, ap, subst, ◌∙◌}
-use Rattle.std.specs.Prelude.{MatchOption, unwrap_or}
+use Rattle.std.proofs.Common.{◌≡◌, ◌≢◌, ℕ, Bool, true, false, Option, Some, None, List, sym, ap, subst, ◌∙◌}
+use Rattle.std.specs.Prelude.{◌↔◌, IsTrue, MatchOption, unwrap_or}
+use Rattle.std.proofs.lemmas.Bool.{false≢true}
 use Rattle.aig_circuit.specs.declared.edge.AigEdge.{AigEdge}
 use Rattle.aig_circuit.specs.declared.node.AigNodeType.TheVariants.{And}
 use Rattle.aig_circuit.specs.declared.node.AigNode.{AigNode}
@@ -9,7 +10,7 @@ use Rattle.aig_circuit.specs.Node.{kind_at}
 use Rattle.aig_circuit.proofs.Joining.{inverse_twice}
 use Rattle.aig_cnf.specs.declared.form.Form.{Form}
 use Rattle.aig_cnf.specs.declared.form.Form.TheVariants.{AndOf, XorOf, IteOf}
-use Rattle.aig_cnf.specs.Cnf.{HasForm, xor, ite, other, IsXor, IsIte, Inner, Chooses}
+use Rattle.aig_cnf.specs.Cnf.{HasForm, xor, ite, other, IsXor, IsIte, Inner, Chooses, by_0_0, by_0_1, by_1_0, by_1_1}
 use Rattle.aig_cnf.specs.Patterns.{AreOpposite, AreApart, HasPattern, is_xor, is_ite}
 use Rattle.aig_cnf.proofs.Unique.{operands_unique, of_operands, chooses_unique}
 
@@ -61,6 +62,27 @@ apart_as_chosen c t e c' t' e' same apart =
 
 pub not_apart : (p0 p1 q0 q1 c t e : AigEdge) → Chooses p0 p1 q0 q1 c t e → ¬ AreApart c t e → (c' t' e' : AigEdge) → Chooses p0 p1 q0 q1 c' t' e' → ¬ AreApart c' t' e'
 not_apart p0 p1 q0 q1 c t e chooses none c' t' e' also apart = none (apart_as_chosen c t e c' t' e' (chooses_unique p0 p1 q0 q1 c t e c' t' e' chooses also) apart)
+
+-- what a test that fails tests for isn't so
+pub fails : {P : Type 0} {test : Bool} → IsTrue test ↔ P → test ≡ false → ¬ P
+fails tells off holds = false≢true (sym off ∙ tells.1 holds)
+
+-- nothing is chosen where no edge of the one pair is the inverse of one of the other
+pub none_chosen : (p0 p1 q0 q1 : AigEdge) → p0 ≢ inverse q0 → p0 ≢ inverse q1 → p1 ≢ inverse q0 → p1 ≢ inverse q1 → (c t e : AigEdge) → ¬ Chooses p0 p1 q0 q1 c t e
+none_chosen p0 p1 q0 q1 n00 n01 n10 n11 _ _ _ (by_0_0 h) = n00 h
+none_chosen p0 p1 q0 q1 n00 n01 n10 n11 _ _ _ (by_0_1 _ h) = n01 h
+none_chosen p0 p1 q0 q1 n00 n01 n10 n11 _ _ _ (by_1_0 _ _ h) = n10 h
+none_chosen p0 p1 q0 q1 n00 n01 n10 n11 _ _ _ (by_1_1 _ _ _ h) = n11 h
+
+-- there is no pattern where the one edge names no inner gate
+pub no_first : (nodes : List AigNode) (a b : AigEdge) → ((p q : AigEdge) → ¬ Inner nodes a p q) → (form : Form) → ¬ HasPattern nodes a b form
+no_first nodes a b none _ (is_xor {x = x} {y = y} f) = none x y f.first
+no_first nodes a b none _ (is_ite _ f) = none f.p0 f.p1 f.first
+
+-- nor where the other names none
+pub no_second : (nodes : List AigNode) (a b : AigEdge) → ((p q : AigEdge) → ¬ Inner nodes b p q) → (form : Form) → ¬ HasPattern nodes a b form
+no_second nodes a b none _ (is_xor {x = x} {y = y} f) = none (inverse x) (inverse y) f.second
+no_second nodes a b none _ (is_ite _ f) = none f.q0 f.q1 f.second
 
 -- there is no pattern where neither test succeeds
 pub no_pattern : (nodes : List AigNode) (a b p0 p1 q0 q1 : AigEdge) → Inner nodes a p0 p1 → Inner nodes b q0 q1 → ¬ AreOpposite p0 p1 q0 q1 → ((c t e : AigEdge) → Chooses p0 p1 q0 q1 c t e → ¬ AreApart c t e) → (form : Form) → ¬ HasPattern nodes a b form

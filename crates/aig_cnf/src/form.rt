@@ -1,7 +1,8 @@
 //! The forms of gates.
 
-ghost use Rattle.std.specs.Prelude.{◌<◌, ◌↔◌, IsTrue, length, MatchOption};
+ghost use Rattle.std.specs.Prelude.{◌≡◌, ◌<◌, ◌↔◌, IsTrue, length, MatchOption};
 ghost use Rattle.aig_circuit.specs.Circuit.{IsInRange};
+ghost use Rattle.aig_circuit.specs.Edge.{inverse};
 ghost use Rattle.aig_circuit.specs.Node.{IsOrdered};
 ghost use Rattle.aig_cnf.specs.Cnf.{Chooses, HasForm, Inner};
 ghost use Rattle.aig_cnf.specs.Patterns.{AreApart, AreOpposite, HasPattern};
@@ -9,7 +10,7 @@ ghost use Rattle.aig_cnf.specs.Patterns.{AreApart, AreOpposite, HasPattern};
 use aig_circuit::{AigEdge, AigNode, AigNodeType};
 
 /// What the clauses of a gate say of its value.
-#[derive(Clone, Copy, Debug)]
+#[derive(Clone, Copy)]
 pub enum Form {
     /// It is the and of two edges.
     AndOf(AigEdge, AigEdge),
@@ -34,11 +35,18 @@ fn find_inner(nodes: &[AigNode], e: AigEdge) -> Option<(AigEdge, AigEdge)>
     }
 }
 
+/// Whether the first edge is the inverse of the second.
+fn is_inverse(p: AigEdge, q: AigEdge) -> bool
+    ensures { IsTrue result ↔ (p ≡ inverse q) }
+{
+    p == !q
+}
+
 /// Whether the first pair of edges is the inverse of the second, and names two nodes.
 fn are_opposite(p0: AigEdge, p1: AigEdge, q0: AigEdge, q1: AigEdge) -> bool
     ensures { IsTrue result ↔ AreOpposite p0 p1 q0 q1 }
 {
-    p0 == !q0 && p1 == !q1 && p0.node_id() != p1.node_id()
+    is_inverse(p0, q0) && is_inverse(p1, q1) && p0.node_id() != p1.node_id()
 }
 
 /// The edge on which two pairs choose, and what they choose between, if an edge of the one is the inverse of one of the
@@ -47,13 +55,13 @@ fn choose(p0: AigEdge, p1: AigEdge, q0: AigEdge, q1: AigEdge) -> Option<(AigEdge
     ensures { MatchOption result ((c t e : AigEdge) → ¬ Chooses p0 p1 q0 q1 c t e)
         (λ edges. Chooses p0 p1 q0 q1 edges.0 edges.1 edges.2) }
 {
-    if p0 == !q0 {
+    if is_inverse(p0, q0) {
         Some((p0, !p1, !q1))
-    } else if p0 == !q1 {
+    } else if is_inverse(p0, q1) {
         Some((p0, !p1, !q0))
-    } else if p1 == !q0 {
+    } else if is_inverse(p1, q0) {
         Some((p1, !p0, !q1))
-    } else if p1 == !q1 {
+    } else if is_inverse(p1, q1) {
         Some((p1, !p0, !q0))
     } else {
         None

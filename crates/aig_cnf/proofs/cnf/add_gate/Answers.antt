@@ -43,3 +43,7 @@ returns-in_ok-add_rel-clause-clauses c =
 pub returns-else-marks-id-clause-clauses : goal.returns-else-marks-id-clause-clauses
 returns-else-marks-id-clause-clauses c =
     ([], nothing_added c.args.lists.now c.args.id, search rules)
+
+pub mark_form-requires : goal.mark_form-requires
+mark_form-requires c = λ k d h.
+    omega (arith, c.requires.marks, c.requires.there, edges_below c.args.nodes.now c.requires.sound.ordered c.args.optimize c.args.id c.in-Some.form c.in-Some.ensures k d h)

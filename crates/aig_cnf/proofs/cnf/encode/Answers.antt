@@ -1,8 +1,9 @@
-use Rattle.std.proofs.Common.{◌≡◌, ◌+◌, ◌-◌, ◌<◌, Bool, false, List, ◌++◌, drop, get_or, length, take, refl, sym, subst, ap, arith}
+use Rattle.std.proofs.Common.{◌≡◌, ◌+◌, ◌-◌, ◌<◌, Bool, false, List, ◌++◌, drop, get_or, length, take, refl, sym, subst, ap, ◌∙◌, arith}
 use Rattle.std.proofs.Math.Seq.{take-append_seam}
 use Rattle.aig_circuit.proofs.Trees.{kind_at-within}
 use Rattle.aig_circuit.specs.declared.node.AigNode.{AigNode}
 use Rattle.aig_circuit.specs.declared.node.AigNodeType.TheVariants.{False}
+use Rattle.aig_circuit.specs.Circuit.{AreNodes}
 use Rattle.aig_circuit.specs.Edges.{roots_of}
 use Rattle.aig_cnf.specs.Marks.{AddsNeededMarks, AreClausesOf}
 use Rattle.aig_cnf.proofs.Adding.{AddedDownTo, AddedDownTo-start, AddedDownTo-step, AddedDownTo-all}
@@ -91,4 +92,15 @@ loop-id-preserved c =
           (AddedDownTo-step nodes optimize old new c.loop-id.lists c.add_gate.new.lists id more.0
           ordered added (λ e. absurd (omega (arith, e))) (omega (arith, ap length same)) marks more.1
           here);
+    }
+
+pub add_gate-requires : goal.add_gate-requires
+add_gate-requires c =
+    let same = c.nodes-nodes.ensures.value in
+    record {
+      sound = subst AreNodes (sym same) c.nodes-nodes.ensures.circuit.nodes;
+      there = omega (arith, c.loop-id-test.true, c.loop-id.auto.id);
+      few = omega (arith, c.requires, ap length same);
+      lists = c.loop-id.invariant.added.count ∙ sym (ap length same);
+      marks = ap length c.deref_mut.ensures.value ∙ c.loop-id.invariant.marked.count ∙ sym (ap length same);
     }
