@@ -14,6 +14,7 @@ use Rattle.aig_unroll.specs.Places.{size_by_counts, unrolled_size}
 use Rattle.aig_unroll.specs.Unroll.{UnrollsTo}
 use Rattle.aig_answers.specs.declared.error.AnswerError.{AnswerError}
 use Rattle.aig_answers.specs.declared.windows.WindowClauses.{WindowClauses}
+use Rattle.aig_answers.specs.Answers.{window_size}
 use Rattle.aig_certify.proofs.Below.{window_below}
 use Rattle.aig_certify.specs.declared.window.Window.{Window}
 use Rattle.aig_certify.specs.declared.window.Window.TheVariants.{Plain, Distinct}
@@ -52,13 +53,10 @@ row_length edges l s there =
     let row : (s + 1) * l ≡ s * l + l = omega (arith, add-mul s 1 l) in
     length-take-le l (drop (s * l) edges) (simp length-drop (omega (arith, row, there)))
 
-pub same_size : (form : Window) (c : Circuit) (k : ℕ) → unrolled_size (watched form c) k ≡ unrolled_size c k
-same_size Plain c k = refl
-same_size Distinct c k = refl
-
-pub same_free : (form : Window) (c : Circuit) (k : ℕ) → count_free form (watched form c) k ≡ count_free form c k
-same_free Plain c k = refl
-same_free Distinct c k = refl
+-- the outputs take no room
+pub same_room : (form : Window) (c : Circuit) (k : ℕ) → window_size form (watched form c) k ≡ window_size form c k
+same_room Plain c k = refl
+same_room Distinct c k = refl
 
 -- the unrolled circuit has the bad edges of all steps
 pub bads_count : (c u : Circuit) (k : ℕ) → UnrollsTo c k u → length u.properties.bads ≡ (k + 1) * length c.properties.bads

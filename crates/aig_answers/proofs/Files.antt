@@ -28,6 +28,60 @@ use Rattle.aig_answers.specs.Answers.{AsksNothing, IsCrowded, IsExactly, IsOfCir
 pub err_of : {T E : Type 0} (e x : E) → e ≡ x → IsErrOf {T = T} (Err e) x
 err_of {T} {E} e x is = let error : E → Result T E = λ y. Err y in ap error is
 
+-- ---- errors that are not each other
+
+encode_of : (T : Type 0) (e x : EncodeError) → IsErrOf {T = T} (Err (errors.Encode e)) (errors.Encode x) → e ≡ x
+encode_of T e x is = cc
+
+read_of : (T : Type 0) (e x : ReadError) → IsErrOf {T = T} (Err (errors.Encode (encode.Read e))) (errors.Encode (encode.Read x)) → e ≡ x
+read_of T e x is = cc
+
+encode_not_bads : (T : Type 0) (e : EncodeError) → IsErrOf {T = T} (Err (errors.Encode e)) errors.NoBads → ⊥
+encode_not_bads T e is = cc
+
+encode_not_room : (T : Type 0) (e : EncodeError) → IsErrOf {T = T} (Err (errors.Encode e)) errors.TooLarge → ⊥
+encode_not_room T e is = cc
+
+bads_not_encode : (T : Type 0) (e : EncodeError) → IsErrOf {T = T} (Err errors.NoBads) (errors.Encode e) → ⊥
+bads_not_encode T e is = cc
+
+room_not_encode : (T : Type 0) (e : EncodeError) → IsErrOf {T = T} (Err errors.TooLarge) (errors.Encode e) → ⊥
+room_not_encode T e is = cc
+
+room_not_bads : (T : Type 0) → IsErrOf {T = T} (Err errors.TooLarge) errors.NoBads → ⊥
+room_not_bads T is = cc
+
+memory_not_large : (T : Type 0) → IsErrOf {T = T} (Err (errors.Encode encode.Memory)) (errors.Encode encode.TooLarge) → ⊥
+memory_not_large T is = cc
+
+memory_not_read : (T : Type 0) (e : ReadError) → IsErrOf {T = T} (Err (errors.Encode encode.Memory)) (errors.Encode (encode.Read e)) → ⊥
+memory_not_read T e is = cc
+
+large_not_memory : (T : Type 0) → IsErrOf {T = T} (Err (errors.Encode encode.TooLarge)) (errors.Encode encode.Memory) → ⊥
+large_not_memory T is = cc
+
+large_not_read : (T : Type 0) (e : ReadError) → IsErrOf {T = T} (Err (errors.Encode encode.TooLarge)) (errors.Encode (encode.Read e)) → ⊥
+large_not_read T e is = cc
+
+read_not_memory : (T : Type 0) (e : ReadError) → IsErrOf {T = T} (Err (errors.Encode (encode.Read e))) (errors.Encode encode.Memory) → ⊥
+read_not_memory T e is = cc
+
+read_not_large : (T : Type 0) (e : ReadError) → IsErrOf {T = T} (Err (errors.Encode (encode.Read e))) (errors.Encode encode.TooLarge) → ⊥
+read_not_large T e is = cc
+
+error_of : (T : Type 0) (e x : AnswerError) → IsErrOf {T = T} (Err e) x → e ≡ x
+error_of T e x is = cc
+
+-- a refusal is the same one, whatever would have been answered
+same_refusal : (A B : Type 0) (e x : AnswerError) → IsErrOf {T = B} (Err e) x → IsErrOf {T = A} (Err e) x
+same_refusal A B e x is = err_of e x (error_of B e x is)
+
+-- no number is within a limit that it passes
+not_within : (size limit : ℕ) → size ≤ limit → limit < size → ⊥
+not_within size limit low high = omega arith
+
+-- ---- bad literals
+
 -- a file whose circuit has no bad edge has no bad literal
 pub no_bads : (f : File) (bads : List ℕ) → map (edge_of f) bads ≡ [] → bads ≡ []
 no_bads f [] is = refl
@@ -44,6 +98,15 @@ some_told f c bads empty of same told not_empty none =
     let is_nil : bads ≡ [] = same ∙ ap (λ (d : Circuit). d.properties.bads) of ∙ ap (map (edge_of f)) none in
     let is_empty : empty ≡ true = told ∙ ap (λ (es : List AigEdge). length es == 0) is_nil in
     false≢true (sym not_empty ∙ is_empty)
+
+-- a circuit of a file has no bad edge exactly where the file has no bad literal
+pub bads_alike : (f : File) (c : Circuit) (bads : List AigEdge) → c ≡ circuit_of f → bads ≡ c.properties.bads → (bads ≡ []) ↔ (f.properties.bads ≡ [])
+bads_alike f c bads of same = (
+  λ none. no_bads f f.properties.bads (sym (ap (λ (d : Circuit). d.properties.bads) of) ∙ sym same ∙ none),
+  λ none. same ∙ ap (λ (d : Circuit). d.properties.bads) of ∙ ap (map (edge_of f)) none,
+)
+
+-- ---- what is told of a file
 
 -- what is meant, where only the file matters
 abbrev pub OfFile : File → Unit {0} → Type 0
@@ -64,18 +127,12 @@ module _ {R : Type 0} (left : R → Option (List ℕ)) (failed : R → Bool) (li
       → TellsOfFile {T = T} left failed limit k (Err (errors.Encode e)) r rest
   refused_alike {X} Means e exact memory large stream opened = record {
     exact = refused_again X (Unit {0}) Means OfFile limit k e (left r) exact;
-    memory = λ is. memory (err_of e encode.Memory (inner is));
-    large = λ is. large (err_of e encode.TooLarge (inner is));
-    no_bads = λ is. absurd (apart is);
-    stream = λ is. stream (err_of e (encode.Read read.Stream) (inner is));
-    never_open = λ is. opened (err_of e (encode.Read read.Open) (inner is));
+    memory = λ is. memory (err_of e encode.Memory (encode_of T e encode.Memory is));
+    large = λ is. large (err_of e encode.TooLarge (encode_of T e encode.TooLarge is));
+    no_bads = λ is. absurd (encode_not_bads T e is);
+    stream = λ is. stream (err_of e (encode.Read read.Stream) (encode_of T e (encode.Read read.Stream) is));
+    never_open = λ is. opened (err_of e (encode.Read read.Open) (encode_of T e (encode.Read read.Open) is));
   }
-    where
-      inner : {x : EncodeError} → IsErrOf {T = T} (Err (errors.Encode e)) (errors.Encode x) → e ≡ x
-      inner is = cc
-
-      apart : IsErrOf {T = T} (Err (errors.Encode e)) errors.NoBads → ⊥
-      apart is = cc
 
   -- the file is a good one
   module _ (result : Result T AnswerError) (good : of_file result ≡ Ok tt) (other : (e : EncodeError) → IsErrOf result (errors.Encode e) → ⊥) (none : IsErrOf result errors.NoBads → ConsumedFile (AsksNothing limit k) (left r) (left rest)) where
@@ -97,24 +154,12 @@ module _ {R : Type 0} (left : R → Option (List ℕ)) (failed : R → Bool) (li
       → TellsOfFile {T = T} left failed limit k (Err (errors.Encode (encode.Read e))) r rest
   refused_reading e exact stream opened = record {
     exact = refused_in_reading Circuit (Unit {0}) IsFileCircuit OfFile limit k e (left r) exact;
-    memory = λ is. absurd (not_memory is);
-    large = λ is. absurd (not_large is);
-    no_bads = λ is. absurd (not_bads is);
-    stream = λ is. stream (err_of e read.Stream (inner is));
-    never_open = λ is. opened (err_of e read.Open (inner is));
+    memory = λ is. absurd (read_not_memory T e is);
+    large = λ is. absurd (read_not_large T e is);
+    no_bads = λ is. absurd (encode_not_bads T (encode.Read e) is);
+    stream = λ is. stream (err_of e read.Stream (read_of T e read.Stream is));
+    never_open = λ is. opened (err_of e read.Open (read_of T e read.Open is));
   }
-    where
-      inner : {x : ReadError} → IsErrOf {T = T} (Err (errors.Encode (encode.Read e))) (errors.Encode (encode.Read x)) → e ≡ x
-      inner is = cc
-
-      not_memory : IsErrOf {T = T} (Err (errors.Encode (encode.Read e))) (errors.Encode encode.Memory) → ⊥
-      not_memory is = cc
-
-      not_large : IsErrOf {T = T} (Err (errors.Encode (encode.Read e))) (errors.Encode encode.TooLarge) → ⊥
-      not_large is = cc
-
-      not_bads : IsErrOf {T = T} (Err (errors.Encode (encode.Read e))) errors.NoBads → ⊥
-      not_bads is = cc
 
   -- a circuit was read, and asked for its window
   module _ (c : Circuit) (file : IsReadAs (λ bytes. Accepts bytes limit) IsFileCircuit (left r) (left rest) c) (exact : Reads Circuit (Unit {0}) IsFileCircuit OfFile limit k (Ok c) (left r)) where
@@ -147,25 +192,39 @@ module _ {R : Type 0} (left : R → Option (List ℕ)) (failed : R → Bool) (li
 
     pub window_told : (result : Result T AnswerError) → IsErrOf result (errors.Encode encode.TooLarge) ↔ (limit < unrolled_size c k) → (IsErrOf result errors.NoBads → c.properties.bads ≡ []) → IfErr result IsOfCircuit → TellsOfFile left failed limit k result r rest
     window_told (Ok x) large none err =
-        let low = within_limit limit (unrolled_size c k) (Ok x) large (λ is. cc) in
-        file_good (Ok x) refl (λ e is. cc) (λ is. cc) (within_told low)
+        let low = within_limit limit (unrolled_size c k) (Ok x) large (no_refusal T AnswerError x (errors.Encode encode.TooLarge)) in
+        file_good (Ok x) refl (λ e. no_refusal T AnswerError x (errors.Encode e)) (λ is. absurd (no_refusal T AnswerError x errors.NoBads is)) (within_told low)
     window_told (Err errors.NoBads) large none err =
-        let low = within_limit limit (unrolled_size c k) (Err errors.NoBads) large (λ is. cc) in
-        file_good (Err errors.NoBads) refl (λ e is. cc) (λ is. took_nothing low (none refl)) (within_told low)
+        let low = within_limit limit (unrolled_size c k) (Err errors.NoBads) large (bads_not_encode T encode.TooLarge) in
+        file_good (Err errors.NoBads) refl (bads_not_encode T) (λ is. took_nothing low (none refl)) (within_told low)
     window_told (Err errors.TooLarge) large none err =
-        let low = within_limit limit (unrolled_size c k) (Err errors.TooLarge) large (λ is. cc) in
-        file_good (Err errors.TooLarge) refl (λ e is. cc) (λ is. cc) (within_told low)
+        let low = within_limit limit (unrolled_size c k) (Err errors.TooLarge) large (room_not_encode T encode.TooLarge) in
+        file_good (Err errors.TooLarge) refl (room_not_encode T) (λ is. absurd (room_not_bads T is)) (within_told low)
     window_told (Err (errors.Refutation e)) large none err = absurd err
     window_told (Err (errors.Encode encode.Memory)) large none err =
-        let low = within_limit limit (unrolled_size c k) (Err (errors.Encode encode.Memory)) large (λ is. cc) in
-        record { exact = told (left r); memory = λ is. took_within low; large = λ is. cc; no_bads = λ is. cc; stream = λ is. cc; never_open = λ is. cc }
+        let low = within_limit limit (unrolled_size c k) (Err (errors.Encode encode.Memory)) large (memory_not_large T) in
+        record {
+          exact = told (left r);
+          memory = λ is. took_within low;
+          large = λ is. absurd (memory_not_large T is);
+          no_bads = λ is. absurd (encode_not_bads T encode.Memory is);
+          stream = λ is. absurd (memory_not_read T read.Stream is);
+          never_open = memory_not_read T read.Open;
+        }
       where
         told : (known : Option (List ℕ)) → Tells OfFile limit k (Err encode.Memory) known
         told None = tt
         told (Some bytes) = tt
     window_told (Err (errors.Encode encode.TooLarge)) large none err =
         let high = large.0 refl in
-        record { exact = large_told high; memory = λ is. cc; large = λ is. took_beyond high; no_bads = λ is. cc; stream = λ is. cc; never_open = λ is. cc }
+        record {
+          exact = large_told high;
+          memory = λ is. absurd (large_not_memory T is);
+          large = λ is. took_beyond high;
+          no_bads = λ is. absurd (encode_not_bads T encode.TooLarge is);
+          stream = λ is. absurd (large_not_read T read.Stream is);
+          never_open = large_not_read T read.Open;
+        }
     window_told (Err (errors.Encode (encode.Read e))) large none err = absurd err
 
 -- a refusal tells the same of the file, whatever would have been answered
@@ -178,15 +237,12 @@ same_part A B (errors.Refutation e) = refl
 pub told_again : {R : Type 0} (left : R → Option (List ℕ)) (failed : R → Bool) (limit k : ℕ) (r rest : R) (A B : Type 0) (e : AnswerError) → TellsOfFile {T = A} left failed limit k (Err e) r rest → TellsOfFile {T = B} left failed limit k (Err e) r rest
 told_again left failed limit k r rest A B e told = record {
   exact = subst (λ of. Tells OfFile limit k of (left r)) (same_part A B e) told.exact;
-  memory = λ is. told.memory (same is);
-  large = λ is. told.large (same is);
-  no_bads = λ is. told.no_bads (same is);
-  stream = λ is. told.stream (same is);
-  never_open = λ is. told.never_open (same is);
+  memory = λ is. told.memory (same_refusal A B e (errors.Encode encode.Memory) is);
+  large = λ is. told.large (same_refusal A B e (errors.Encode encode.TooLarge) is);
+  no_bads = λ is. told.no_bads (same_refusal A B e errors.NoBads is);
+  stream = λ is. told.stream (same_refusal A B e (errors.Encode (encode.Read read.Stream)) is);
+  never_open = λ is. told.never_open (same_refusal A B e (errors.Encode (encode.Read read.Open)) is);
 }
-  where
-    same : {x : AnswerError} → IsErrOf {T = B} (Err e) x → IsErrOf {T = A} (Err e) x
-    same {x} is = let this : e ≡ x = cc in err_of e x this
 
 -- ---- an error, exactly
 
@@ -249,15 +305,9 @@ module _ {R : Type 0} (left : R → Option (List ℕ)) (error : AnswerError) (Is
   pub refused_exactly : (A B : Type 0) (e : AnswerError) → IsExactly {T = A} left error IsSuch (Err e) r → IsExactly {T = B} left error IsSuch (Err e) r
   refused_exactly A B e told = by (left r) told
     where
-      back : IsErrOf {T = B} (Err e) error → IsErrOf {T = A} (Err e) error
-      back is = let this : e ≡ error = cc in err_of e error this
-
-      forth : IsErrOf {T = A} (Err e) error → IsErrOf {T = B} (Err e) error
-      forth is = let this : e ≡ error = cc in err_of e error this
-
       by : (known : Option (List ℕ)) → Known {T = A} (Err e) known → Known {T = B} (Err e) known
       by None h = tt
-      by (Some bytes) h = subst (λ of. EncodeUnlessTransient of (IsErrOf {T = B} (Err e) error ↔ ((f : File) × IsSuch bytes f))) (same_part A B e) (unless_so (of_file {T = A} (Err e)) _ _ (λ told. (λ is. told.0 (back is), λ such. forth (told.1 such))) h)
+      by (Some bytes) h = subst (λ of. EncodeUnlessTransient of (IsErrOf {T = B} (Err e) error ↔ ((f : File) × IsSuch bytes f))) (same_part A B e) (unless_so (of_file {T = A} (Err e)) _ _ (λ told. (λ is. told.0 (same_refusal A B e error is), λ such. same_refusal B A e error (told.1 such))) h)
 
   -- a file that reading refused is no such file
   pub unread_exactly : (T : Type 0) (limit k : ℕ) (e : ReadError) → ((bytes : List ℕ) (f : File) → IsSuch bytes f → Accepts bytes limit f) → (IsErrOf {T = T} (Err (errors.Encode (encode.Read e))) error → ⊥)
@@ -306,12 +356,9 @@ module _ {R : Type 0} (left : R → Option (List ℕ)) (form : Window) (limit k 
   -- the file was refused
   pub refused_room : (e : ReadError) → Reads Circuit (Unit {0}) IsFileCircuit OfFile limit (k + 1) (Err e) (left r) → TellsOfRoom {T = T} left form limit k (Err (errors.Encode (encode.Read e))) r rest
   refused_room e exact = record {
-    exact = unread_exactly left errors.TooLarge (IsCrowded form limit k) r T limit (k + 1) e (crowded_is_read form limit k) apart exact;
-    only = λ is. absurd (apart is);
+    exact = unread_exactly left errors.TooLarge (IsCrowded form limit k) r T limit (k + 1) e (crowded_is_read form limit k) (encode_not_room T (encode.Read e)) exact;
+    only = λ is. absurd (encode_not_room T (encode.Read e) is);
   }
-    where
-      apart : IsErrOf {T = T} (Err (errors.Encode (encode.Read e))) errors.TooLarge → ⊥
-      apart is = cc
 
   -- a circuit was read
   module _ (c : Circuit) (result : Result T AnswerError) (room : IsErrOf result errors.TooLarge ↔ ((unrolled_size c (k + 1) ≤ limit) × (c.properties.bads ≢ []) × (limit < window_size form c k))) where
@@ -320,7 +367,7 @@ module _ {R : Type 0} (left : R → Option (List ℕ)) (form : Window) (limit k 
         let told = room.0 large in (
           (
             (accepts, subst (λ d. unrolled_size d (k + 1) ≤ limit) is told.0),
-            λ none. told.1 (ap (λ (d : Circuit). d.properties.bads) is ∙ ap (map (edge_of f)) none),
+            λ none. told.1 ((bads_alike f c c.properties.bads is refl).1 none),
           ),
           subst (λ d. limit < window_size form d k) is told.2,
         )
@@ -328,7 +375,7 @@ module _ {R : Type 0} (left : R → Option (List ℕ)) (form : Window) (limit k 
     crowded_told : (bytes : List ℕ) (f : File) → c ≡ circuit_of f → IsCrowded form limit k bytes f → IsErrOf result errors.TooLarge
     crowded_told bytes f is crowded = room.1 (
       subst (λ d. unrolled_size d (k + 1) ≤ limit) (sym is) crowded.0.0.1,
-      λ none. crowded.0.1 (no_bads f f.properties.bads (sym (ap (λ (d : Circuit). d.properties.bads) is) ∙ none)),
+      λ none. crowded.0.1 ((bads_alike f c c.properties.bads is refl).0 none),
       subst (λ d. limit < window_size form d k) (sym is) crowded.1,
     )
 
@@ -346,20 +393,10 @@ module _ {R : Type 0} (left : R → Option (List ℕ)) (form : Window) (limit k 
 pub room_told_again : {R : Type 0} (left : R → Option (List ℕ)) (form : Window) (limit k : ℕ) (r rest : R) (A B : Type 0) (e : AnswerError) → TellsOfRoom {T = A} left form limit k (Err e) r rest → TellsOfRoom {T = B} left form limit k (Err e) r rest
 room_told_again left form limit k r rest A B e told = record {
   exact = refused_exactly left errors.TooLarge (IsCrowded form limit k) r A B e told.exact;
-  only = λ is. told.only (back is);
+  only = λ is. told.only (same_refusal A B e errors.TooLarge is);
 }
-  where
-    back : IsErrOf {T = B} (Err e) errors.TooLarge → IsErrOf {T = A} (Err e) errors.TooLarge
-    back is = let this : e ≡ errors.TooLarge = cc in err_of e errors.TooLarge this
 
 -- ---- nothing asked
-
--- an answer and a refused proof are no such refusal
-pub answer_asks : (T : Type 0) (x : T) → IsErrOf {T = T} (Ok x) errors.NoBads → ⊥
-answer_asks T x = no_refusal T AnswerError x errors.NoBads
-
-pub proof_asks : (T : Type 0) (e : RefutationError) → IsErrOf {T = T} (Err (errors.Refutation e)) errors.NoBads → ⊥
-proof_asks T e is = cc
 
 nothing_is_within : (limit k : ℕ) (bytes : List ℕ) (f : File) → AsksNothing limit k bytes f → IsWithin limit k bytes f
 nothing_is_within limit k bytes f nothing = nothing.0
@@ -372,13 +409,10 @@ module _ {R : Type 0} (left : R → Option (List ℕ)) (limit k : ℕ) (r : R) (
   pub refused_nothing : {X : Type 0} (Means : File → X → Type 0) (e : EncodeError) → Tells Means limit k (Err e) (left r) → IsExactly {T = T} left errors.NoBads (AsksNothing limit k) (Err (errors.Encode e)) r
   refused_nothing {X} Means e exact = by (left r) (refused_again X (Unit {0}) Means OfFile limit k e (left r) exact)
     where
-      apart : IsErrOf {T = T} (Err (errors.Encode e)) errors.NoBads → ⊥
-      apart is = cc
-
       by : (known : Option (List ℕ)) → Tells OfFile limit k (Err e) known
           → IfSome known (λ bytes. EncodeUnlessTransient {T = Unit {0}} (Err e) (IsErrOf {T = T} (Err (errors.Encode e)) errors.NoBads ↔ ((f : File) × AsksNothing limit k bytes f)))
       by None h = tt
-      by (Some bytes) h = unless_so {T = Unit {0}} (Err e) _ _ (λ told. (λ is. absurd (apart is), λ nothing. absurd (told.accepted.each nothing.0 nothing.1.0))) h
+      by (Some bytes) h = unless_so {T = Unit {0}} (Err e) _ _ (λ told. (λ is. absurd (encode_not_bads T e is), λ nothing. absurd (told.accepted.each nothing.0 nothing.1.0))) h
 
   -- the file was answered
   pub answered_nothing : {X : Type 0} (Means : File → X → Type 0) (x : X) (result : Result T AnswerError) → ((f : File) → Means f x → IsErrOf result errors.NoBads ↔ (f.properties.bads ≡ []))
@@ -389,10 +423,7 @@ module _ {R : Type 0} (left : R → Option (List ℕ)) (limit k : ℕ) (r : R) (
   -- a file was read whose circuit is asked for its window
   module _ (c : Circuit) (exact : Reads Circuit (Unit {0}) IsFileCircuit OfFile limit k (Ok c) (left r)) where
     bads_told : (f : File) → c ≡ circuit_of f → (c.properties.bads ≡ []) ↔ (f.properties.bads ≡ [])
-    bads_told f is = (
-      λ none. no_bads f f.properties.bads (sym (ap (λ (d : Circuit). d.properties.bads) is) ∙ none),
-      λ none. ap (λ (d : Circuit). d.properties.bads) is ∙ ap (map (edge_of f)) none,
-    )
+    bads_told f is = bads_alike f c c.properties.bads is refl
 
     by_bads : (result : Result T AnswerError) → unrolled_size c k ≤ limit → IsErrOf result errors.NoBads ↔ (c.properties.bads ≡ []) → IsExactly left errors.NoBads (AsksNothing limit k) result r
     by_bads result low told = read_exactly left errors.NoBads (AsksNothing limit k) r result limit k c (nothing_is_read limit k) (λ bytes f accepts is. (
@@ -402,8 +433,8 @@ module _ {R : Type 0} (left : R → Option (List ℕ)) (limit k : ℕ) (r : R) (
 
     too_large : limit < unrolled_size c k → IsExactly {T = T} left errors.NoBads (AsksNothing limit k) (Err (errors.Encode encode.TooLarge)) r
     too_large high = read_exactly left errors.NoBads (AsksNothing limit k) r (Err (errors.Encode encode.TooLarge)) limit k c (nothing_is_read limit k) (λ bytes f accepts is. (
-      λ error. cc,
-      λ nothing. let low : unrolled_size c k ≤ limit = subst (λ d. unrolled_size d k ≤ limit) (sym is) nothing.0.1 in absurd (omega (arith, low, high)),
+      λ error. absurd (encode_not_bads T encode.TooLarge error),
+      λ nothing. absurd (not_within (unrolled_size c k) limit (subst (λ d. unrolled_size d k ≤ limit) (sym is) nothing.0.1) high),
     )) exact
 
     no_memory : IsExactly {T = T} left errors.NoBads (AsksNothing limit k) (Err (errors.Encode encode.Memory)) r
@@ -415,9 +446,9 @@ module _ {R : Type 0} (left : R → Option (List ℕ)) (limit k : ℕ) (r : R) (
 
     pub window_nothing : (result : Result T AnswerError) → IsErrOf result (errors.Encode encode.TooLarge) ↔ (limit < unrolled_size c k) → (IsErrOf result errors.NoBads → c.properties.bads ≡ []) → (IsOk result → c.properties.bads ≢ []) → (IsErrOf result errors.TooLarge → c.properties.bads ≢ [])
         → IfErr result IsOfCircuit → IsExactly left errors.NoBads (AsksNothing limit k) result r
-    window_nothing (Ok x) large none some crowded err = by_bads (Ok x) (within_limit limit (unrolled_size c k) (Ok x) large (λ is. cc)) (λ is. cc, λ empty. absurd (some refl empty))
-    window_nothing (Err errors.NoBads) large none some crowded err = by_bads (Err errors.NoBads) (within_limit limit (unrolled_size c k) (Err errors.NoBads) large (λ is. cc)) (none, λ empty. refl)
-    window_nothing (Err errors.TooLarge) large none some crowded err = by_bads (Err errors.TooLarge) (within_limit limit (unrolled_size c k) (Err errors.TooLarge) large (λ is. cc)) (λ is. cc, λ empty. absurd (crowded refl empty))
+    window_nothing (Ok x) large none some crowded err = by_bads (Ok x) (within_limit limit (unrolled_size c k) (Ok x) large (no_refusal T AnswerError x (errors.Encode encode.TooLarge))) (λ is. absurd (no_refusal T AnswerError x errors.NoBads is), λ empty. absurd (some refl empty))
+    window_nothing (Err errors.NoBads) large none some crowded err = by_bads (Err errors.NoBads) (within_limit limit (unrolled_size c k) (Err errors.NoBads) large (bads_not_encode T encode.TooLarge)) (none, λ empty. refl)
+    window_nothing (Err errors.TooLarge) large none some crowded err = by_bads (Err errors.TooLarge) (within_limit limit (unrolled_size c k) (Err errors.TooLarge) large (room_not_encode T encode.TooLarge)) (λ is. absurd (room_not_bads T is), λ empty. absurd (crowded refl empty))
     window_nothing (Err (errors.Refutation e)) large none some crowded err = absurd err
     window_nothing (Err (errors.Encode encode.Memory)) large none some crowded err = no_memory
     window_nothing (Err (errors.Encode encode.TooLarge)) large none some crowded err = too_large (large.0 refl)

@@ -10,12 +10,13 @@ ghost use Rattle.aig_unroll.specs.Places.{unrolled_size};
 ghost use Rattle.aig_unroll.specs.Unroll.{UnrollsTo};
 
 use crate::error::AnswerError;
+use crate::refuting::refute;
 use aig::Aig;
 use aig_base::{DagCnf, LitVvec, Source};
 use aig_certify::refuted_circuit_queries_have_no_witness;
 use aig_encode::EncodeError;
 use aig_query::query_clauses;
-use aig_refutation::{RefutationError, check_refutation};
+use aig_refutation::RefutationError;
 use aig_runs::circuit_queries_ask;
 use std::alloc::Global;
 
@@ -104,6 +105,5 @@ pub fn check_query_of<P: Source>(
         return Err(AnswerError::NoBads);
     }
     let asked = query_of(alloc, circuit, limit, k, optimize)?;
-    check_refutation(alloc, &asked.clauses, &asked.further, proof)?;
-    Ok(())
+    refute(alloc, &asked.clauses, &asked.further, proof)
 }

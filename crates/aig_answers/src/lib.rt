@@ -6,6 +6,7 @@ mod clauses;
 mod distinct;
 mod error;
 mod reduction;
+mod refuting;
 mod step;
 mod windows;
 

@@ -1,16 +1,40 @@
 //! No bad state at a step.
 
-ghost use Rattle.std.specs.Prelude.{◌≡◌, ◌^◌, ◌≤◌, IfOk, IsErrOf, IsTrue};
+ghost use Rattle.std.specs.Prelude.{◌≡◌, ◌^◌, ◌≤◌, ◌↔◌, ◌++◌, [], IfOk, IsErrOf, IsTrue, OnOk};
 ghost use Rattle.aig_answers.specs.Answers.{AsksNothing, IsAsked, IsExactly, IsOfFileAlone, TellsOfFile};
+ghost use Rattle.aig_base.specs.Formula.{IsSatisfiable, clauses_in};
 ghost use Rattle.aig_certify.specs.Safety.{IsSafeAt};
 ghost use Rattle.aig_reader.specs.Reading.{IsReadAs};
 
 use crate::error::AnswerError;
-use aig_base::Source;
+use crate::refuting::refute;
+use aig::AigEdge;
+use aig_base::{DagCnf, LitVvec, Source};
 use aig_certify::refuted_queries_have_no_witness;
 use aig_encode::query;
-use aig_refutation::{RefutationError, check_refutation};
+use aig_refutation::RefutationError;
 use std::alloc::Global;
+
+/// Checks a proof that clauses can't be satisfied, unless there are no bad edges, so that nothing is asked.
+fn check_asked<P: Source>(
+    alloc: Global,
+    bads: &[AigEdge],
+    clauses: &DagCnf,
+    further: &LitVvec,
+    proof: &mut P,
+) -> Result<(), AnswerError>
+    ensures refuted { OnOk result (¬ IsSatisfiable (clauses_in clauses.now ++ further.now)) }
+    ensures none { IsErrOf result AnswerError.NoBads ↔ (bads.now ≡ []) }
+    ensures only { IsOfFileAlone result → IsErrOf result AnswerError.NoBads }
+    ensures unread { IsOfFileAlone result → proof.new ≡ proof.old }
+    ensures stream { IsErrOf result (AnswerError.Refutation RefutationError.Stream)
+        → IsTrue (P.failed proof.new) }
+{
+    if bads.is_empty() {
+        return Err(AnswerError::NoBads);
+    }
+    refute(alloc, clauses, further, proof)
+}
 
 /// Reads a circuit from the bytes of an AIGER file, and checks a proof, in the LRAT or the DRAT format, that the clauses of its
 /// query for step `k` can't be satisfied: then no run from an initial state reaches a bad state at that step. Requires
@@ -42,9 +66,6 @@ pub fn check_step<R: Source, P: Source>(
 {
     refuted_queries_have_no_witness();
     let asked = query(alloc, r, limit, k, optimize)?;
-    if asked.encoded.circuit.bads().is_empty() {
-        return Err(AnswerError::NoBads);
-    }
-    check_refutation(alloc, &asked.encoded.clauses, &asked.extra, proof)?;
-    Ok(())
+    let bads = asked.encoded.circuit.bads();
+    check_asked(alloc, bads, &asked.encoded.clauses, &asked.extra, proof)
 }

@@ -6,18 +6,21 @@ ghost use Rattle.aig_answers.specs.Answers.{AsksNothing, IsAsked, IsExactly, IsO
 ghost use Rattle.aig_base.specs.Clauses.{AreBelow};
 ghost use Rattle.aig_certify.specs.Induction.{IsKInductive};
 ghost use Rattle.aig_certify.specs.WindowClauses.{AsksWindow, count_free, states_clauses, watched};
+ghost use Rattle.aig_circuit.specs.Circuit.{Circuit};
 ghost use Rattle.aig_reader.specs.Reading.{IsReadAs};
 ghost use Rattle.aig_format.specs.Circuit.{circuit_of};
 ghost use Rattle.aig_unroll.specs.Places.{unrolled_size};
+ghost use Rattle.aig_unroll.specs.Unroll.{UnrollsTo};
 
 use crate::clauses::window_clauses;
 use crate::distinct::{pairs_of, push_distinct};
 use crate::error::AnswerError;
+use crate::refuting::refute;
 use aig::{Aig, AigEdge, PropList};
 use aig_base::{DagCnf, LitVvec, MemoryError, Source};
 use aig_certify::{Window, refuted_windows_are_inductive};
 use aig_encode::EncodeError;
-use aig_refutation::{RefutationError, check_refutation};
+use aig_refutation::RefutationError;
 use std::alloc::Global;
 
 /// The clauses that ask for a window of steps with a bad state first at its end.
@@ -91,10 +94,52 @@ fn tell_apart(
     }
 }
 
-/// The clauses of a window of a circuit, unless they may pass the limit.
+/// The clauses of a window of a circuit, of which the further steps were made. Where states are to be told apart, they are
+/// outputs of it.
+fn clauses_of(
+    alloc: Global,
+    circuit: &Aig,
+    k: usize,
+    unrolled: &Aig,
+    optimize: bool,
+    form: Window,
+) -> Result<WindowClauses, MemoryError>
+    requires steps { k < 2 ^ 32 }
+    requires unrolls { UnrollsTo circuit.now (k + 1) unrolled.now }
+    requires room { length unrolled.now.nodes + count_free form circuit.now k ≤ 2 ^ 31 }
+    requires watched { (c : Circuit) × (circuit.now ≡ watched form c) }
+    ensures { IfOk result (λ made. (c : Circuit) → circuit.now ≡ watched form c
+        → AsksWindow form c k optimize made.clauses made.further) }
+{
+    let clauses = unrolled.cnf(optimize)?;
+    let further = window_clauses(alloc, circuit, k, unrolled)?;
+    let mut made = WindowClauses { clauses, further };
+    tell_apart(alloc, &mut made, circuit, k, unrolled, form)?;
+    Ok(made)
+}
+
+/// The clauses of a window of a circuit. Where states are to be told apart, they are outputs of it.
+fn make_window(
+    alloc: Global,
+    circuit: &Aig,
+    k: usize,
+    optimize: bool,
+    form: Window,
+) -> Result<WindowClauses, MemoryError>
+    requires steps { k < 2 ^ 32 }
+    requires room { window_size form circuit.now k ≤ 2 ^ 31 }
+    requires watched { (c : Circuit) × (circuit.now ≡ watched form c) }
+    ensures { IfOk result (λ made. (c : Circuit) → circuit.now ≡ watched form c
+        → AsksWindow form c k optimize made.clauses made.further) }
+{
+    let unrolled = circuit.unroll_to(k + 1)?;
+    clauses_of(alloc, circuit, k, &unrolled, optimize, form)
+}
+
+/// The clauses of a window of a circuit, unless they may pass the limit. The circuit's outputs are used, whatever they are.
 fn ask_window(
     alloc: Global,
-    mut circuit: Aig,
+    circuit: &mut Aig,
     limit: usize,
     k: usize,
     optimize: bool,
@@ -103,14 +148,14 @@ fn ask_window(
     requires few { limit ≤ 2 ^ 31 }
     requires steps { k < 2 ^ 32 }
     ensures asks { IfOk result
-        (λ made. AsksWindow form circuit k optimize made.clauses made.further) }
-    ensures some { IsOk result → circuit.properties.bads ≢ [] }
-    ensures none { IsErrOf result AnswerError.NoBads → circuit.properties.bads ≡ [] }
+        (λ made. AsksWindow form circuit.old k optimize made.clauses made.further) }
+    ensures some { IsOk result → circuit.old.properties.bads ≢ [] }
+    ensures none { IsErrOf result AnswerError.NoBads → circuit.old.properties.bads ≡ [] }
     ensures large { IsErrOf result (AnswerError.Encode EncodeError.TooLarge)
-        ↔ (limit < unrolled_size circuit (k + 1)) }
+        ↔ (limit < unrolled_size circuit.old (k + 1)) }
     ensures room { IsErrOf result AnswerError.TooLarge
-        ↔ ((unrolled_size circuit (k + 1) ≤ limit) × (circuit.properties.bads ≢ [])
-        × (limit < window_size form circuit k)) }
+        ↔ ((unrolled_size circuit.old (k + 1) ≤ limit) × (circuit.old.properties.bads ≢ [])
+        × (limit < window_size form circuit.old k)) }
     ensures err { IfErr result IsOfCircuit }
 {
     if !aig_unroll::is_size_within(circuit.num_nodes(), circuit.latchs().len(), k + 1, limit) {
@@ -119,16 +164,11 @@ fn ask_window(
     if circuit.bads().is_empty() {
         return Err(AnswerError::NoBads);
     }
-    if !has_room(&circuit, k, form, limit) {
+    if !has_room(circuit, k, form, limit) {
         return Err(AnswerError::TooLarge);
     }
-    watch(&mut circuit, form)?;
-    let unrolled = circuit.unroll_to(k + 1)?;
-    let clauses = unrolled.cnf(optimize)?;
-    let further = window_clauses(alloc, &circuit, k, &unrolled)?;
-    let mut made = WindowClauses { clauses, further };
-    tell_apart(alloc, &mut made, &circuit, k, &unrolled, form)?;
-    Ok(made)
+    watch(circuit, form)?;
+    Ok(make_window(alloc, circuit, k, optimize, form)?)
 }
 
 /// Reads a circuit from the bytes of an AIGER file, and makes the clauses that ask for a run of `k + 2` steps, from any
@@ -167,8 +207,8 @@ pub fn window<R: Source>(
     ensures whole { OnOk result ((R.failed r.new ≡ false) × IsAtEnd (R.left r.new)) }
     ensures alone { IfErr result IsOfWindow }
 {
-    let circuit = Aig::from_aiger(alloc, r, limit)?;
-    ask_window(alloc, circuit, limit, k, optimize, form)
+    let mut circuit = Aig::from_aiger(alloc, r, limit)?;
+    ask_window(alloc, &mut circuit, limit, k, optimize, form)
 }
 
 /// Reads a circuit from the bytes of an AIGER file, and checks a proof, in the LRAT or the DRAT format, that the clauses of
@@ -200,6 +240,5 @@ pub fn check_window<R: Source, P: Source>(
 {
     refuted_windows_are_inductive();
     let asked = window(alloc, r, limit, k, optimize, form)?;
-    check_refutation(alloc, &asked.clauses, &asked.further, proof)?;
-    Ok(())
+    refute(alloc, &asked.clauses, &asked.further, proof)
 }

@@ -1,0 +1,26 @@
+//! Proofs that clauses can't be satisfied.
+
+ghost use Rattle.std.specs.Prelude.{◌≡◌, ◌++◌, IsErrOf, IsTrue, OnOk};
+ghost use Rattle.aig_answers.specs.Answers.{IsOfFileAlone};
+ghost use Rattle.aig_base.specs.Formula.{IsSatisfiable, clauses_in};
+
+use crate::error::AnswerError;
+use aig_base::{DagCnf, LitVvec, Source};
+use aig_refutation::{RefutationError, check_refutation};
+use std::alloc::Global;
+
+/// Checks a proof that clauses can't be satisfied. The one error is that of the proof.
+pub(crate) fn refute<P: Source>(
+    alloc: Global,
+    clauses: &DagCnf,
+    further: &LitVvec,
+    proof: &mut P,
+) -> Result<(), AnswerError>
+    ensures refuted { OnOk result (¬ IsSatisfiable (clauses_in clauses.now ++ further.now)) }
+    ensures read { ¬ IsOfFileAlone result }
+    ensures stream { IsErrOf result (AnswerError.Refutation RefutationError.Stream)
+        → IsTrue (P.failed proof.new) }
+{
+    check_refutation(alloc, clauses, further, proof)?;
+    Ok(())
+}
