@@ -40,13 +40,9 @@ watch_step old now made i latchs leaf e d of same is low before step =
 pub cut_row : (edges : List AigEdge) (l s : ℕ) → take l (take (length edges - s * l) (drop (s * l) edges)) ≡ state_at l edges s
 cut_row edges l s = ap (take l) (take_all (length edges - s * l) (drop (s * l) edges) (simp length-drop (omega arith)))
 
-pub pair_cut : (made old : List (List Lit)) (m n l s t : ℕ) (edges : List AigEdge)
-    → made ≡ old ++ pair_clauses m (take l (take (length edges - s * l) (drop (s * l) edges))) (take l (take (length edges - t * l) (drop (t * l) edges))) → m ≡ n
-    → made ≡ old ++ pair_clauses n (state_at l edges s) (state_at l edges t)
-pair_cut made old m n l s t edges step is =
-    let first = take l (take (length edges - s * l) (drop (s * l) edges)) in
-    let second = take l (take (length edges - t * l) (drop (t * l) edges)) in
-    step ∙ ap (λ i. old ++ pair_clauses i first second) is ∙ ap (λ row. old ++ pair_clauses n row second) (cut_row edges l s) ∙ ap (λ row. old ++ pair_clauses n (state_at l edges s) row) (cut_row edges l t)
+pub pair_cut : (made old : List (List Lit)) (m n l s t : ℕ) (edges xs ys : List AigEdge) → made ≡ old ++ pair_clauses m xs ys → m ≡ n → xs ≡ state_at l edges s → ys ≡ state_at l edges t → made ≡ old ++ pair_clauses n (state_at l edges s) (state_at l edges t)
+pair_cut made old m n l s t edges xs ys step is first second =
+    step ∙ ap (λ i. old ++ pair_clauses i xs ys) is ∙ ap (λ row. old ++ pair_clauses n row ys) first ∙ ap (λ row. old ++ pair_clauses n (state_at l edges s) row) second
 
 pub row_length : (edges : List AigEdge) (l s : ℕ) → (s + 1) * l ≤ length edges → length (state_at l edges s) ≡ l
 row_length edges l s there =

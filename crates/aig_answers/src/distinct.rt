@@ -3,7 +3,7 @@
 ghost use Rattle.std.specs.Prelude.{◌≡◌, ◌+◌, ◌*◌, ◌<◌, ◌≤◌, ◌^◌, ◌++◌, ◌∷◌, [], All, OnOk, false, length, replicate};
 ghost use Rattle.aig_base.specs.Clauses.{lit_to, var_number};
 ghost use Rattle.aig_circuit.specs.Edge.{inverse, lit_of};
-ghost use Rattle.aig_certify.specs.WindowClauses.{apart_clauses, count_pairs, distinct_clauses, pair_clauses};
+ghost use Rattle.aig_certify.specs.WindowClauses.{apart_clauses, count_pairs, distinct_clauses, pair_clauses, state_at};
 
 use aig::AigEdge;
 use aig_base::{DagCnf, Lit, LitVvec, MemoryError, Var};
@@ -66,6 +66,15 @@ fn push_pair(
     further.push(some)
 }
 
+/// The edges of the state at step `t`.
+fn state_of(edges: &[AigEdge], latchs: usize, t: usize) -> &[AigEdge]
+    requires { (t + 1) * latchs ≤ length edges.now }
+    ensures state { result.now ≡ state_at latchs edges.now t }
+    ensures count { length result.now ≡ latchs }
+{
+    &edges[t * latchs..][..latchs]
+}
+
 /// Appends the clauses that the state at step `t` differs from each before it. A state has `latchs` edges, and stands after
 /// those before it.
 fn push_apart(
@@ -83,9 +92,9 @@ fn push_apart(
     ensures further { OnOk result (further.new ≡ further.old
         ++ apart_clauses (length clauses.old) latchs edges.now t t) }
 {
-    let state = &edges[t * latchs..][..latchs];
+    let state = state_of(edges, latchs, t);
     for s in 0..t {
-        let before = &edges[s * latchs..][..latchs];
+        let before = state_of(edges, latchs, s);
         push_pair(clauses, further, some, before, state)?;
     }
     Ok(())

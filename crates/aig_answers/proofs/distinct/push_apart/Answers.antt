@@ -1,9 +1,37 @@
-use Rattle.std.proofs.Common.{◌≡◌, suc, ◌+◌, ◌*◌, ◌≤◌, ◌++◌, length, ap, ◌∙◌, arith}
+use Rattle.std.proofs.Common.{◌≡◌, suc, ◌+◌, ◌*◌, ◌<◌, ◌≤◌, ◌^◌, ◌++◌, length, ap, sym, ◌∙◌, arith}
 use Rattle.std.proofs.Math.Nat.{add-mul, mul-le-mul_right}
+use Rattle.std.proofs.lemmas.List.Elements.{All-drop, All-same, All-take}
+use Rattle.aig_circuit.specs.declared.edge.AigEdge.{AigEdge}
 use Rattle.aig_certify.specs.WindowClauses.{apart_clauses, pair_clauses, state_at}
-use Rattle.aig_answers.proofs.Asking.{cut_row, pair_cut, row_length}
+use Rattle.aig_answers.proofs.Asking.{pair_cut}
 use Rattle.aig_answers.proofs.Growing.{free, free_length, free_step, more_step}
 use Rattle.aig_answers.proofs.distinct.push_apart.Goals as goal
+
+pub state_of-before-requires : goal.state_of-before-requires
+state_of-before-requires c =
+    let rows : (c.loop-s.s + 1) * c.args.latchs ≤ (c.args.t + 1) * c.args.latchs = mul-le-mul_right c.args.latchs (omega arith) in
+    omega (arith, rows, c.requires.there)
+
+pub push_pair-requires-clause-room : goal.push_pair-requires-clause-room
+push_pair-requires-clause-room c =
+    let s = c.loop-s.s in
+    let l = c.args.latchs in
+    let at = ap length c.loop-s.invariant.clauses ∙ free_length c.args.clauses.now (s * l) in
+    let rows : (s + 1) * l ≤ c.args.t * l = mul-le-mul_right l (omega arith) in
+    omega (arith, at, rows, add-mul s 1 l, c.state_of-before.ensures.count, c.requires.room)
+
+pub push_pair-requires-clause-long : goal.push_pair-requires-clause-long
+push_pair-requires-clause-long c = c.state_of-state.ensures.count ∙ sym c.state_of-before.ensures.count
+
+pub push_pair-requires-clause-xs : goal.push_pair-requires-clause-xs
+push_pair-requires-clause-xs c =
+    let Few = λ (e : AigEdge). e.node_id < 2 ^ 31 in
+    All-same Few _ (state_at c.args.latchs c.args.edges.now c.loop-s.s) c.state_of-before.ensures.state (All-take Few _ _ (All-drop Few _ _ c.requires.edges))
+
+pub push_pair-requires-clause-ys : goal.push_pair-requires-clause-ys
+push_pair-requires-clause-ys c =
+    let Few = λ (e : AigEdge). e.node_id < 2 ^ 31 in
+    All-same Few _ (state_at c.args.latchs c.args.edges.now c.args.t) c.state_of-state.ensures.state (All-take Few _ _ (All-drop Few _ _ c.requires.edges))
 
 pub loop-s-preserved : goal.loop-s-preserved
 loop-s-preserved c =
@@ -14,14 +42,11 @@ loop-s-preserved c =
     let edges = c.args.edges.now in
     let before = c.loop-s.invariant in
     let next : suc s ≡ s + 1 = omega arith in
-    let lower : (s + 1) * l ≤ (t + 1) * l = mul-le-mul_right l (omega arith) in
-    let there : (s + 1) * l ≤ length edges = omega (arith, lower, c.requires.there) in
     let at : length c.loop-s.clauses ≡ n + s * l = ap length before.clauses ∙ free_length c.args.clauses.now (s * l) in
-    let long = ap length (cut_row edges l s) ∙ row_length edges l s there in
     let rows : s * l + l ≡ (s + 1) * l = omega (arith, add-mul s 1 l) in
-    let pair = pair_cut _ c.loop-s.further _ (n + s * l) l s t edges c.in_ok-push_pair.ensures.further at in
+    let pair = pair_cut _ c.loop-s.further _ (n + s * l) l s t edges _ _ c.in_ok-push_pair.ensures.further at c.state_of-before.ensures.state c.state_of-state.ensures.state in
     record {
-      clauses = free_step _ c.args.clauses.now c.loop-s.clauses (s * l) l before.clauses (c.in_ok-push_pair.ensures.clauses ∙ ap (λ m. c.loop-s.clauses ++ free m) long) ∙ ap (λ m. c.args.clauses.now ++ free m) rows;
+      clauses = free_step _ c.args.clauses.now c.loop-s.clauses (s * l) l before.clauses (c.in_ok-push_pair.ensures.clauses ∙ ap (λ m. c.loop-s.clauses ++ free m) c.state_of-before.ensures.count) ∙ ap (λ m. c.args.clauses.now ++ free m) rows;
       further =
           more_step _ c.args.further.now c.loop-s.further (apart_clauses n l edges t s) (pair_clauses (n + s * l) (state_at l edges s) (state_at l edges t)) before.further pair
           ∙ ap (λ m. c.args.further.now ++ apart_clauses n l edges t m) next;
