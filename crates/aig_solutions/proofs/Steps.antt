@@ -1,8 +1,8 @@
 -- Rows of values, one for each step, and the bad edges of the last.
-use Rattle.std.proofs.Common.{◌≡◌, ℕ, ◌+◌, ◌*◌, ◌<◌, Bool, false, List, [], ◌∷◌, ◌++◌, length, slice_get, Some, refl, sym, ap, subst, ◌∙◌, arith}
+use Rattle.std.proofs.Common.{◌≡◌, ℕ, ◌+◌, ◌*◌, ◌<◌, Bool, false, List, [], ◌∷◌, ◌++◌, length, map, take, get_or, slice_get, Some, refl, sym, ap, subst, ◌∙◌, arith}
 use Rattle.std.specs.Prelude.{Vec}
 use Rattle.std.specs.declared.alloc.Global.{Global}
-use Rattle.std.proofs.lemmas.List.{map-append}
+use Rattle.std.proofs.lemmas.List.{map-append, take_more}
 use borrow.Author.Count.{below_more}
 use Rattle.aig_base.specs.declared.logic.three.Lbool.{Lbool}
 use Rattle.aig_circuit.specs.declared.edge.AigEdge.{AigEdge}
@@ -29,6 +29,12 @@ rows_more row_at t old made row rows is here =
     length_more : (xs : List (List Lbool)) (x : List Lbool) → length (xs ++ x ∷ []) ≡ length xs + 1
     length_more [] x = refl
     length_more (y ∷ ys) x = let more = length_more ys x in omega arith
+
+-- one value more
+pub map_more : {A : Type 0} (f : A → Lbool) (made old : List Lbool) (xs : List A) (i : ℕ) (d : A) (y : Lbool) → i < length xs → old ≡ map f (take i xs) → made ≡ old ++ y ∷ [] → y ≡ f (get_or xs i d) → made ≡ map f (take (i + 1) xs)
+map_more f made old xs i d y low before step is =
+    let more : map f (take (i + 1) xs) ≡ map f (take i xs) ++ f (get_or xs i d) ∷ [] = ap (map f) (take_more xs i d low) ∙ map-append f (take i xs) (get_or xs i d ∷ []) in
+    step ∙ ap (λ list. list ++ y ∷ []) before ∙ ap (λ v. map f (take i xs) ++ v ∷ []) is ∙ sym more
 
 -- ---- bad edges
 

@@ -42,18 +42,17 @@ fn next_byte<R: Source>(buffer: &mut InputBuffer, r: &mut R) -> Result<u8, Solut
 /// The most bytes that are read of the line of an answer.
 const LONGEST: usize = 16;
 
-/// What stands in a line after its first byte.
-fn rest_of_line<R: Source>(
-    alloc: Global,
+/// Appends what stands in a line after its first byte.
+fn push_rest_of_line<R: Source>(
     buffer: &mut InputBuffer,
     r: &mut R,
-) -> Result<Vec<u8>, SolutionError>
+    rest: &mut Vec<u8>,
+) -> Result<(), SolutionError>
     ensures stream { IsErrOf result SolutionError.Stream → R.failed r.new ≡ true }
 {
-    let mut rest = Vec::with_capacity(alloc, LONGEST)?;
     while let Some(b) = buffer.next(r)? {
         if b == b'\n' {
-            return Ok(rest);
+            return Ok(());
         }
         if rest.len() == LONGEST {
             return Err(SolutionError::Answer);
@@ -63,19 +62,10 @@ fn rest_of_line<R: Source>(
     Err(SolutionError::Answer)
 }
 
-/// Reads the line of an answer, after comments. Other answers than `SATISFIABLE` are refused.
-fn read_answer<R: Source>(
-    alloc: Global,
-    buffer: &mut InputBuffer,
-    r: &mut R,
-) -> Result<(), SolutionError>
-    ensures stream { IsErrOf result SolutionError.Stream → R.failed r.new ≡ true }
+/// Whether the answer is `SATISFIABLE`, by what stands in its line after the first byte.
+fn accept_answer(rest: &[u8]) -> Result<(), SolutionError>
+    ensures { IsErrOf result SolutionError.Stream → ⊥ }
 {
-    if first_byte(buffer, r)? != Some(b's') {
-        return Err(SolutionError::Answer);
-    }
-    let line = rest_of_line(alloc, buffer, r)?;
-    let rest = line.as_slice();
     if rest == b" SATISFIABLE".as_slice() {
         Ok(())
     } else if rest == b" UNSATISFIABLE".as_slice() {
@@ -85,6 +75,21 @@ fn read_answer<R: Source>(
     } else {
         Err(SolutionError::Answer)
     }
+}
+
+/// Reads the line of an answer, after comments, into no bytes. Other answers than `SATISFIABLE` are refused.
+fn read_answer<R: Source>(
+    buffer: &mut InputBuffer,
+    r: &mut R,
+    line: &mut Vec<u8>,
+) -> Result<(), SolutionError>
+    ensures stream { IsErrOf result SolutionError.Stream → R.failed r.new ≡ true }
+{
+    if first_byte(buffer, r)? != Some(b's') {
+        return Err(SolutionError::Answer);
+    }
+    push_rest_of_line(buffer, r, line)?;
+    accept_answer(line.as_slice())
 }
 
 /// A literal of a solution, and the byte after it.
@@ -219,7 +224,7 @@ pub fn read_solution<R: Source>(
     ensures stream { IsErrOf result SolutionError.Stream → IsTrue (R.failed r.new) }
 {
     let mut buffer = InputBuffer::new();
-    read_answer(alloc, &mut buffer, r)?;
+    read_answer(&mut buffer, r, &mut Vec::with_capacity(alloc, LONGEST)?)?;
     let mut values = vec![in alloc; Lbool::NONE; variables]?;
     read_lines(&mut buffer, r, &mut values)?;
     Ok(values)

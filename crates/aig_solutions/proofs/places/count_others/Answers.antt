@@ -1,14 +1,28 @@
-use Rattle.std.proofs.Common.{◌<◌, ◌+◌, false, length, arith, sym, ap, ◌∙◌}
+use Rattle.std.proofs.Common.{◌<◌, ◌+◌, false, length, take, arith, sym, ap, ◌∙◌}
 use Rattle.std.proofs.lemmas.Bool.{false≢true}
 use Rattle.std.proofs.lemmas.Grind.{common_steps}
+use Rattle.std.proofs.lemmas.List.{length-take-le}
+use Rattle.std.proofs.lemmas.List.Sums.{count_by-le-length}
 use Rattle.aig_circuit.specs.declared.node.AigNode.{AigNode}
 use Rattle.aig_circuit.specs.declared.node.AigNodeType.TheVariants.{False}
+use Rattle.aig_unroll.specs.Places.{is_other_leaf}
 use Rattle.aig_solutions.proofs.Turning.{count_inner, count_latch, count_other}
 use Rattle.aig_solutions.proofs.places.count_others.Goals.{then-is_leaf+then-not-marks-i, else-is_leaf, else-is_leaf-via-then-is_leaf+else-not-marks-i, else-is_leaf-via-else-is_leaf}
 use Rattle.aig_solutions.proofs.places.count_others.Goals as goal
 
 abbrev none : AigNode
 none = record { node_id = 0; typ = False }
+
+pub bounds-marks-i : goal.bounds-marks-i
+bounds-marks-i c = omega (arith, c.requires.count, ap length c.nodes-nodes.ensures.value, c.loop-i-test.true)
+
+pub overflow_add-count : goal.overflow_add-count
+overflow_add-count c =
+    let i = c.loop-i.i in
+    let nodes = c.nodes-nodes.result.now in
+    let few = count_by-le-length (is_other_leaf c.args.circuit.now) (take i nodes) in
+    let long = length-take-le i nodes (omega (arith, c.loop-i-test.true)) in
+    omega (arith, c.loop-i.invariant.so_far, few, long, c.loop-i-test.true, c.nodes-nodes.type_inv.0)
 
 pub loop-i-preserved : goal.loop-i-preserved
 loop-i-preserved c =

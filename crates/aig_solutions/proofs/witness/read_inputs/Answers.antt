@@ -1,5 +1,10 @@
+use Rattle.std.proofs.Common.{ap, get_or, ◌∙◌}
 use Rattle.std.proofs.lemmas.List.Elements.{Contains-get_or}
+use Rattle.aig_circuit.specs.Circuit.{Circuit}
+use Rattle.aig_unroll.specs.Places.{place_at}
 use Rattle.aig_unroll.proofs.Others.{inputs_are_others}
+use Rattle.aig_solutions.specs.Solutions.{value_at}
+use Rattle.aig_solutions.proofs.Steps.{map_more}
 use Rattle.aig_solutions.proofs.witness.read_inputs.Goals as goal
 
 pub place-requires-clause-leaf : goal.place-requires-clause-leaf
@@ -7,3 +12,12 @@ place-requires-clause-leaf c =
     let circuit = c.args.circuit.now in
     let has = rw c.inputs-inputs.ensures.value at (Contains-get_or c.inputs-inputs.result.now c.loop-n.n-index 0 c.loop-n-test.true) in
     rw (c.requires.places, c.inputs-inputs.ensures.value) (inputs_are_others circuit c.inputs-inputs.ensures.circuit _ has)
+
+pub loop-n-preserved : goal.loop-n-preserved
+loop-n-preserved c =
+    let values = c.args.values.now in
+    let unrolled = c.args.unrolled.now in
+    let t = c.args.t in
+    let n = get_or c.inputs-inputs.result.now c.loop-n.n-index 0 in
+    let place = c.place.ensures ∙ ap (λ (d : Circuit). place_at d unrolled t n) c.requires.places in
+    map_more (λ m. value_at values (place_at c.args.circuit.now unrolled t m)) _ _ c.inputs-inputs.result.now c.loop-n.n-index 0 _ c.loop-n-test.true c.loop-n.invariant c.in_ok-push.ensures.items (c.value_of.ensures ∙ ap (value_at values) place)

@@ -21,3 +21,6 @@ pub slice_bounds-first_true-start : goal.slice_bounds-first_true-start
 slice_bounds-first_true-start c =
     let room = bads_room _ _ c.args.k c.bads.result.now c.bads-bads.result.now c.requires.steps c.bads.ensures.value c.bads-bads.ensures.value in
     omega (arith, room)
+
+pub read_steps-requires-clause-step : goal.read_steps-requires-clause-step
+read_steps-requires-clause-step c = omega (arith, c.requires.steps.inputs)
