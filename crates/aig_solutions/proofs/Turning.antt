@@ -1,13 +1,18 @@
 -- The turns of leaves among those that are no latch's.
-use Rattle.std.proofs.Common.{◌≡◌, ◌≢◌, ℕ, zero, suc, ◌+◌, ◌-◌, ◌*◌, ◌<◌, ◌≤◌, Bool, true, false, cond, not, eqb, ◌&&◌, List, [], ◌∷◌, length, map, get_or, take, refl, sym, ap, subst, ◌∙◌, arith, add-one}
-use Rattle.std.specs.Prelude.{◌==◌, Contains, count_by, filter}
+use Rattle.std.proofs.Common.{◌≡◌, ◌≢◌, ℕ, zero, suc, ◌+◌, ◌-◌, ◌*◌, ◌<◌, ◌≤◌, Bool, true, false, cond, not, eqb, ◌&&◌, ◌||◌, List, [], ◌∷◌, length, map, get_or, take, refl, sym, ap, subst, ◌∙◌, arith, add-one}
+use Rattle.std.specs.Prelude.{◌==◌, All, Contains, count_by, filter}
 use Rattle.std.specs.List.{list_any}
-use Rattle.std.proofs.lemmas.Bool.{and_from, eq-eqb, false_from_ne_true, ne_eqb}
-use Rattle.std.proofs.lemmas.List.Elements.{All-contains, All-filter, Contains-get_or, filter_passes}
+use Rattle.std.proofs.Math.ListN.{set}
+use Rattle.std.proofs.lemmas.Bool.{and_from, eq-eqb, eqb-true, false_from_ne_true, false≢true, ne_eqb}
+use Rattle.std.proofs.lemmas.Grind.{get_or-set_at}
+use Rattle.std.proofs.lemmas.List.{get_or-set_other, map-append, take_more}
+use Rattle.std.proofs.lemmas.List.Folds.{list_any-append}
+use Rattle.std.proofs.lemmas.List.Elements.{All-contains, All-filter, All-get_or, Contains-get_or, filter_passes}
 use Rattle.std.proofs.lemmas.List.Sums.{count_by_more_no, count_by_more_yes, length-filter}
 use Rattle.std.proofs.lemmas.Option.{slice_get-get_or}
+use Rattle.aig_circuit.specs.declared.node.AigLatch.{AigLatch}
 use Rattle.aig_circuit.specs.declared.node.AigNode.{AigNode}
-use Rattle.aig_circuit.specs.Circuit.{AreNodes, Circuit, IsLeaf, latch_leaves}
+use Rattle.aig_circuit.specs.Circuit.{AreNodes, Circuit, IsLatch, IsLeaf, latch_leaves}
 use Rattle.aig_circuit.specs.declared.node.AigNodeType.TheVariants.{Leaf}
 use Rattle.aig_circuit.specs.Runs.{is_leaf}
 use Rattle.aig_circuit.proofs.Counting.{is_leaf-Leaf}
@@ -78,6 +83,40 @@ turns_from c turns total are counts all = record {
         let zero_more : 0 + i ≡ i = omega arith in
         subst (λ m. get_or turns m 0 ≡ position_of (other_leaves c) m) same
         (counts.each i there.1 ∙ sym (length-filter test (take i c.nodes)) ∙ sym place ∙ ap (position_of (other_leaves c)) zero_more)
+
+-- ---- marks
+
+-- the leaf of a latch is a node
+pub latch_within : (nodes : List AigNode) (latchs : List AigLatch) (i : ℕ) (d : AigLatch) → All (IsLatch nodes) latchs → i < length latchs → (get_or latchs i d).input < length nodes
+latch_within nodes latchs i d all low = let is = All-get_or (IsLatch nodes) latchs i d low all in kind_at-within nodes (get_or latchs i d).input Leaf is.leaf
+
+-- one latch more is marked
+pub mark_more : (marks : List Bool) (latchs : List AigLatch) (i x n size : ℕ) (e : AigLatch) (d : Bool) → i < length latchs → x ≡ (get_or latchs i e).input → length marks ≡ size → n < size → get_or marks n d ≡ is_in (latch_leaves (take i latchs)) n
+    → get_or (set marks x true) n d ≡ is_in (latch_leaves (take (i + 1) latchs)) n
+mark_more marks latchs i x n size e d low at count within before =
+    by_test (x == n) refl ∙ ap (λ m. is_in (latch_leaves (take i latchs)) n || (m == n || false)) at ∙ sym more
+  where
+    more : is_in (latch_leaves (take (i + 1) latchs)) n ≡ (is_in (latch_leaves (take i latchs)) n || ((get_or latchs i e).input == n || false))
+    more =
+        ap (λ ls. is_in (latch_leaves ls) n) (take_more latchs i e low)
+        ∙ ap (λ ns. is_in ns n) (map-append (λ (latch : AigLatch). latch.input) (take i latchs) (get_or latchs i e ∷ []))
+        ∙ list_any-append (λ m. m == n) (latch_leaves (take i latchs)) ((get_or latchs i e).input ∷ [])
+
+    or_true : (b : Bool) → (b || (true || false)) ≡ true
+    or_true true = refl
+    or_true false = refl
+
+    or_false : (b : Bool) → (b || (false || false)) ≡ b
+    or_false true = refl
+    or_false false = refl
+
+    by_test : (b : Bool) → (x == n) ≡ b → get_or (set marks x true) n d ≡ (is_in (latch_leaves (take i latchs)) n || (x == n || false))
+    by_test true is =
+        let same : n ≡ x = sym (eqb-true x n is) in
+        get_or-set_at marks x n true d same (omega (arith, same, count, within)) ∙ sym (ap (λ b. is_in (latch_leaves (take i latchs)) n || (b || false)) is ∙ or_true (is_in (latch_leaves (take i latchs)) n))
+    by_test false is =
+        let other : n ≢ x = λ same. false≢true (sym is ∙ eq-eqb x n (sym same)) in
+        get_or-set_other marks x n true d other ∙ before ∙ sym (ap (λ b. is_in (latch_leaves (take i latchs)) n || (b || false)) is ∙ or_false (is_in (latch_leaves (take i latchs)) n))
 
 -- ---- counting
 
