@@ -1,5 +1,5 @@
 -- Answers of a proof, and of one that is read only where something is asked.
-use Rattle.std.proofs.Common.{◌≡◌, ◌↔◌, List, Result, Ok, Err, refl, sym, subst}
+use Rattle.std.proofs.Common.{◌≡◌, ◌↔◌, Result, Ok, Err, refl, sym, subst}
 use Rattle.std.specs.Prelude.{IfErr, IfOk, IsErrOf, OnOk}
 use Rattle.aig_encode.specs.declared.error.EncodeError.{EncodeError}
 use Rattle.aig_encode.proofs.Exactly.{no_refusal}

@@ -15,7 +15,6 @@ use Rattle.aig_reader.specs.Reading.{IsReadAs, ReadsWhere}
 use Rattle.aig_unroll.specs.Places.{unrolled_size}
 use Rattle.aig.specs.Reading.{IsFileCircuit}
 use Rattle.aig_certify.specs.declared.window.Window.{Window}
-use Rattle.aig_refutation.specs.declared.error.RefutationError.{RefutationError}
 use Rattle.aig_encode.specs.declared.error.EncodeError.{EncodeError}
 use Rattle.aig_encode.specs.declared.error.EncodeError.TheVariants as encode
 use Rattle.aig_encode.specs.Encoding.{IsBeyond, IsWithin, ConsumedFile, EncodeUnlessTransient}

@@ -1,7 +1,5 @@
 use Rattle.std.proofs.lemmas.Result.{on_ok_weaker}
-use Rattle.aig_encode.specs.declared.error.EncodeError.TheVariants as encode
-use Rattle.aig_answers.specs.declared.error.AnswerError.TheVariants as errors
-use Rattle.aig_answers.proofs.Checked.{not_alone, proof_answers}
+use Rattle.aig_answers.proofs.Checked.{proof_answers}
 use Rattle.aig_answers.proofs.circuits.check_query_of.Goals as goal
 
 pub returns-clause-answer : goal.returns-clause-answer

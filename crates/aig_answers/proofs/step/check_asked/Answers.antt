@@ -1,8 +1,7 @@
-use Rattle.std.proofs.Common.{sym, ap, refl, ◌∙◌, length, true, []}
+use Rattle.std.proofs.Common.{◌≡◌, List, length, true, sym, ap, ◌∙◌}
 use Rattle.std.specs.Prelude.{◌==◌}
 use Rattle.std.proofs.lemmas.Bool.{false≢true}
 use Rattle.aig_circuit.specs.declared.edge.AigEdge.{AigEdge}
-use Rattle.std.proofs.Common.{◌≡◌, List}
 use Rattle.aig_answers.specs.declared.error.AnswerError.TheVariants as errors
 use Rattle.aig_answers.proofs.Checked.{not_alone}
 use Rattle.aig_answers.proofs.step.check_asked.Goals as goal

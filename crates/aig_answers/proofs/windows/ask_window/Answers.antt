@@ -1,5 +1,4 @@
 use Rattle.std.proofs.Common.{◌+◌, ap, ◌∙◌, arith}
-use Rattle.aig_circuit.specs.Circuit.{Circuit}
 use Rattle.aig_answers.specs.Answers.{window_size}
 use Rattle.aig_answers.proofs.Asking.{same_room, within_told}
 use Rattle.aig_answers.proofs.windows.ask_window.Goals as goal
