@@ -37,32 +37,39 @@ watch_step old now made i latchs leaf e d of same is low before step =
     step ∙ ap (λ (c : Circuit). record c { properties = record c.properties { outputs = c.properties.outputs ++ e ∷ [] } }) before ∙ ap (λ es. record old { properties = record old.properties { outputs = es } }) (sym more)
 
 -- the edges of a state, as they are cut out
-pub cut_row : (edges : List AigEdge) (l s : ℕ) → take l (take (length edges - s * l) (drop (s * l) edges)) ≡ state_at l edges s
+pub cut_row : (edges : List AigEdge) (l s : ℕ)
+    → take l (take (length edges - s * l) (drop (s * l) edges)) ≡ state_at l edges s
 cut_row edges l s = ap (take l) (take_all (length edges - s * l) (drop (s * l) edges) (simp length-drop (omega arith)))
 
-pub pair_cut : (made old : List (List Lit)) (m n l s t : ℕ) (edges xs ys : List AigEdge) → made ≡ old ++ pair_clauses m xs ys → m ≡ n → xs ≡ state_at l edges s → ys ≡ state_at l edges t → made ≡ old ++ pair_clauses n (state_at l edges s) (state_at l edges t)
+pub pair_cut : (made old : List (List Lit)) (m n l s t : ℕ) (edges xs ys : List AigEdge)
+    → made ≡ old ++ pair_clauses m xs ys → m ≡ n → xs ≡ state_at l edges s → ys ≡ state_at l edges t
+    → made ≡ old ++ pair_clauses n (state_at l edges s) (state_at l edges t)
 pair_cut made old m n l s t edges xs ys step is first second =
     step ∙ ap (λ i. old ++ pair_clauses i xs ys) is ∙ ap (λ row. old ++ pair_clauses n row ys) first ∙ ap (λ row. old ++ pair_clauses n (state_at l edges s) row) second
 
-pub row_length : (edges : List AigEdge) (l s : ℕ) → (s + 1) * l ≤ length edges → length (state_at l edges s) ≡ l
+pub row_length : (edges : List AigEdge) (l s : ℕ) → (s + 1) * l ≤ length edges
+    → length (state_at l edges s) ≡ l
 row_length edges l s there =
     let row : (s + 1) * l ≡ s * l + l = omega (arith, add-mul s 1 l) in
     length-take-le l (drop (s * l) edges) (simp length-drop (omega (arith, row, there)))
 
 -- the outputs take no room
-pub same_room : (form : Window) (c : Circuit) (k : ℕ) → window_size form (watched form c) k ≡ window_size form c k
+pub same_room : (form : Window) (c : Circuit) (k : ℕ)
+    → window_size form (watched form c) k ≡ window_size form c k
 same_room Plain c k = refl
 same_room Distinct c k = refl
 
 -- the unrolled circuit has the bad edges of all steps
-pub bads_count : (c u : Circuit) (k : ℕ) → UnrollsTo c k u → length u.properties.bads ≡ (k + 1) * length c.properties.bads
+pub bads_count : (c u : Circuit) (k : ℕ) → UnrollsTo c k u
+    → length u.properties.bads ≡ (k + 1) * length c.properties.bads
 bads_count c u k unrolls =
     let y : ℕ → Bool = λ n. false in
     let r = unrolls.run_of y in
     (unrolls.same y r.0 r.1 r.2).properties.bads.count
 
 -- and the states
-pub states_count : (form : Window) (c u : Circuit) (k : ℕ) → UnrollsTo (watched form c) k u → form ≡ Distinct → length u.properties.outputs ≡ (k + 1) * length (watched form c).latchs
+pub states_count : (form : Window) (c u : Circuit) (k : ℕ) → UnrollsTo (watched form c) k u
+    → form ≡ Distinct → length u.properties.outputs ≡ (k + 1) * length (watched form c).latchs
 states_count Plain c u k unrolls is = cc
 states_count Distinct c u k unrolls is =
     let y : ℕ → Bool = λ n. false in
@@ -80,10 +87,16 @@ module _ (c : Circuit) (k : ℕ) (optimize : Bool) (u : Circuit) (clauses : List
       record { unrolled = u; clauses = clauses; is_circuit = is; steps = steps; has_clauses = has; fixes = fixes; satisfied = satisfied; relations = relations; exact = exact; further_exact = also }
 
 -- what a test of the bound tells
-pub within_told : (c : Circuit) (k limit n : ℕ) (latchs : List AigLatch) (test : Bool) → n ≡ length c.nodes → latchs ≡ c.latchs → (IsTrue test ↔ (size_by_counts n (length latchs) k ≤ limit)) → IsTrue test → unrolled_size c k ≤ limit
+pub within_told : (c : Circuit) (k limit n : ℕ) (latchs : List AigLatch) (test : Bool)
+    → n ≡ length c.nodes → latchs ≡ c.latchs
+    → (IsTrue test ↔ (size_by_counts n (length latchs) k ≤ limit)) → IsTrue test
+    → unrolled_size c k ≤ limit
 within_told c k limit n latchs test is_n is_latchs told holds =
     subst (λ m. size_by_counts m (length c.latchs) k ≤ limit) is_n (subst (λ (ls : List AigLatch). size_by_counts n (length ls) k ≤ limit) is_latchs (told.0 holds))
 
-pub below_told : (form : Window) (c : Circuit) (k : ℕ) (optimize : Bool) (r : Result WindowClauses AnswerError) → IfOk r (λ made. AsksWindow form c k optimize made.clauses made.further) → IfOk r (λ made. AreBelow (length made.clauses) made.further)
+pub below_told : (form : Window) (c : Circuit) (k : ℕ) (optimize : Bool)
+    (r : Result WindowClauses AnswerError)
+    → IfOk r (λ made. AsksWindow form c k optimize made.clauses made.further)
+    → IfOk r (λ made. AreBelow (length made.clauses) made.further)
 below_told form c k optimize (Ok made) is = window_below form c k optimize made.clauses made.further is
 below_told form c k optimize (Err e) is = tt

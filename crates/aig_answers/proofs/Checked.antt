@@ -12,7 +12,8 @@ pub not_alone : (result : Result Unit AnswerError) (e : AnswerError) → ¬ IsOf
 not_alone result e read alone is = read (subst (λ (r : Result Unit AnswerError). IsOfFileAlone r) (sym is) alone)
 
 -- the answer of a proof says nothing of the file
-pub proof_good : (result : Result Unit AnswerError) → ¬ IsOfFileAlone result → of_file result ≡ Ok tt
+pub proof_good : (result : Result Unit AnswerError) → ¬ IsOfFileAlone result
+    → of_file result ≡ Ok tt
 proof_good (Ok u) read = refl
 proof_good (Err (errors.Encode e)) read = absurd (read tt)
 proof_good (Err errors.NoBads) read = refl
@@ -20,7 +21,8 @@ proof_good (Err errors.TooLarge) read = refl
 proof_good (Err (errors.Refutation e)) read = refl
 
 -- and it is one of a circuit's query
-pub proof_answers : (result : Result Unit AnswerError) → ¬ IsOfFileAlone result → IfErr result IsOfCircuitQuery
+pub proof_answers : (result : Result Unit AnswerError) → ¬ IsOfFileAlone result
+    → IfErr result IsOfCircuitQuery
 proof_answers (Ok u) read = tt
 proof_answers (Err (errors.Encode e)) read = absurd (read tt)
 proof_answers (Err errors.NoBads) read = tt
@@ -33,14 +35,17 @@ encode_asks : (e : EncodeError) → IsErrOf {T = Unit} (Err (errors.Encode e)) e
 encode_asks e is = cc
 
 -- the one answer that is of the file alone is that nothing is asked
-pub asked_good : (result : Result Unit AnswerError) → (IsOfFileAlone result → IsErrOf result errors.NoBads) → of_file result ≡ Ok tt
+pub asked_good : (result : Result Unit AnswerError)
+    → (IsOfFileAlone result → IsErrOf result errors.NoBads) → of_file result ≡ Ok tt
 asked_good (Ok u) only = refl
 asked_good (Err (errors.Encode e)) only = absurd (encode_asks e (only tt))
 asked_good (Err errors.NoBads) only = refl
 asked_good (Err errors.TooLarge) only = refl
 asked_good (Err (errors.Refutation e)) only = refl
 
-pub asked_apart : (result : Result Unit AnswerError) → (IsOfFileAlone result → IsErrOf result errors.NoBads) → (e : EncodeError) → IsErrOf result (errors.Encode e) → ⊥
+pub asked_apart : (result : Result Unit AnswerError)
+    → (IsOfFileAlone result → IsErrOf result errors.NoBads) → (e : EncodeError)
+    → IsErrOf result (errors.Encode e) → ⊥
 asked_apart (Ok u) only e is = no_refusal Unit AnswerError u (errors.Encode e) is
 asked_apart (Err (errors.Encode x)) only e is = encode_asks x (only tt)
 asked_apart (Err errors.NoBads) only e is = cc
@@ -48,6 +53,8 @@ asked_apart (Err errors.TooLarge) only e is = cc
 asked_apart (Err (errors.Refutation x)) only e is = cc
 
 -- a proof that was accepted is one of something that is asked
-pub asked_answers : (result : Result Unit AnswerError) (Nothing Refuted : Type 0) (Answers : Unit {0} → Type 0) → IsErrOf result errors.NoBads ↔ Nothing → ((u : Unit {0}) → ¬ Nothing → Refuted → Answers u) → OnOk result Refuted → IfOk result Answers
+pub asked_answers : (result : Result Unit AnswerError) (Nothing Refuted : Type 0)
+    (Answers : Unit {0} → Type 0) → IsErrOf result errors.NoBads ↔ Nothing
+    → ((u : Unit {0}) → ¬ Nothing → Refuted → Answers u) → OnOk result Refuted → IfOk result Answers
 asked_answers (Ok u) Nothing Refuted Answers none so refuted = so u (λ nothing. no_refusal Unit AnswerError u errors.NoBads (none.1 nothing)) refuted
 asked_answers (Err e) Nothing Refuted Answers none so refuted = tt

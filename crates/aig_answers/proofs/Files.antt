@@ -87,19 +87,22 @@ no_bads f [] is = refl
 no_bads f (e ∷ es) is = cc
 
 -- whether there are bad edges tells whether there are bad literals
-pub none_told : (f : File) (c : Circuit) (bads : List AigEdge) (empty : Bool) → c ≡ circuit_of f → bads ≡ c.properties.bads → empty ≡ (length bads == 0) → empty ≡ true → f.properties.bads ≡ []
+pub none_told : (f : File) (c : Circuit) (bads : List AigEdge) (empty : Bool) → c ≡ circuit_of f
+    → bads ≡ c.properties.bads → empty ≡ (length bads == 0) → empty ≡ true → f.properties.bads ≡ []
 none_told f c bads empty of same told is_empty =
     let zero : length bads ≡ 0 = eqb-true (length bads) 0 (sym told ∙ is_empty) in
     no_bads f f.properties.bads (sym (ap (λ (d : Circuit). d.properties.bads) of) ∙ sym same ∙ nil_from_length bads zero)
 
-pub some_told : (f : File) (c : Circuit) (bads : List AigEdge) (empty : Bool) → c ≡ circuit_of f → bads ≡ c.properties.bads → empty ≡ (length bads == 0) → empty ≡ false → f.properties.bads ≢ []
+pub some_told : (f : File) (c : Circuit) (bads : List AigEdge) (empty : Bool) → c ≡ circuit_of f
+    → bads ≡ c.properties.bads → empty ≡ (length bads == 0) → empty ≡ false → f.properties.bads ≢ []
 some_told f c bads empty of same told not_empty none =
     let is_nil : bads ≡ [] = same ∙ ap (λ (d : Circuit). d.properties.bads) of ∙ ap (map (edge_of f)) none in
     let is_empty : empty ≡ true = told ∙ ap (λ (es : List AigEdge). length es == 0) is_nil in
     false≢true (sym not_empty ∙ is_empty)
 
 -- a circuit of a file has no bad edge exactly where the file has no bad literal
-pub bads_alike : (f : File) (c : Circuit) (bads : List AigEdge) → c ≡ circuit_of f → bads ≡ c.properties.bads → (bads ≡ []) ↔ (f.properties.bads ≡ [])
+pub bads_alike : (f : File) (c : Circuit) (bads : List AigEdge) → c ≡ circuit_of f
+    → bads ≡ c.properties.bads → (bads ≡ []) ↔ (f.properties.bads ≡ [])
 bads_alike f c bads of same = (
   λ none. no_bads f f.properties.bads (sym (ap (λ (d : Circuit). d.properties.bads) of) ∙ sym same ∙ none),
   λ none. same ∙ ap (λ (d : Circuit). d.properties.bads) of ∙ ap (map (edge_of f)) none,
@@ -112,7 +115,9 @@ abbrev pub OfFile : File → Unit {0} → Type 0
 OfFile f u = Unit {0}
 
 -- what isn't refused as too large is within the limit
-within_limit : {T : Type 0} (limit size : ℕ) (result : Result T AnswerError) → IsErrOf result (errors.Encode encode.TooLarge) ↔ (limit < size) → (IsErrOf result (errors.Encode encode.TooLarge) → ⊥) → size ≤ limit
+within_limit : {T : Type 0} (limit size : ℕ) (result : Result T AnswerError)
+    → IsErrOf result (errors.Encode encode.TooLarge) ↔ (limit < size)
+    → (IsErrOf result (errors.Encode encode.TooLarge) → ⊥) → size ≤ limit
 within_limit limit size result large not = elim (cases_lt limit size) [
   | inl high ↦ absurd (not (large.1 high))
   | inr low ↦ low
@@ -135,7 +140,8 @@ module _ {R : Type 0} (left : R → Option (List ℕ)) (failed : R → Bool) (li
 
   -- the file is a good one
   module _ (result : Result T AnswerError) (good : of_file result ≡ Ok tt) (other : (e : EncodeError) → IsErrOf result (errors.Encode e) → ⊥) (none : IsErrOf result errors.NoBads → ConsumedFile (AsksNothing limit k) (left r) (left rest)) where
-    pub file_good : Tells OfFile limit k (Ok tt) (left r) → TellsOfFile left failed limit k result r rest
+    pub file_good : Tells OfFile limit k (Ok tt) (left r)
+        → TellsOfFile left failed limit k result r rest
     file_good exact = record {
       exact = subst (λ of. Tells OfFile limit k of (left r)) (sym good) exact;
       memory = λ is. absurd (other encode.Memory is);
@@ -145,7 +151,8 @@ module _ {R : Type 0} (left : R → Option (List ℕ)) (failed : R → Bool) (li
       never_open = other (encode.Read read.Open);
     }
 
-    pub answered_alike : {X : Type 0} (Means : File → X → Type 0) (x : X) → Tells Means limit k (Ok x) (left r) → TellsOfFile left failed limit k result r rest
+    pub answered_alike : {X : Type 0} (Means : File → X → Type 0) (x : X)
+        → Tells Means limit k (Ok x) (left r) → TellsOfFile left failed limit k result r rest
     answered_alike {X} Means x exact = file_good (answered_again X (Unit {0}) Means OfFile limit k x tt (left r) (λ f bytes within means. tt) exact)
 
   -- reading refused the file
@@ -162,20 +169,25 @@ module _ {R : Type 0} (left : R → Option (List ℕ)) (failed : R → Bool) (li
 
   -- a circuit was read, and asked for its window
   module _ (c : Circuit) (file : IsReadAs (λ bytes. Accepts bytes limit) IsFileCircuit (left r) (left rest) c) (exact : Reads Circuit (Unit {0}) IsFileCircuit OfFile limit k (Ok c) (left r)) where
-    low_of : unrolled_size c k ≤ limit → (f : File) → c ≡ circuit_of f → unrolled_size (circuit_of f) k ≤ limit
+    low_of : unrolled_size c k ≤ limit → (f : File) → c ≡ circuit_of f
+        → unrolled_size (circuit_of f) k ≤ limit
     low_of low f is = subst (λ d. unrolled_size d k ≤ limit) is low
 
     within_told : unrolled_size c k ≤ limit → Tells OfFile limit k (Ok tt) (left r)
     within_told low = by (left r) exact
       where
-        by : (known : Option (List ℕ)) → Reads Circuit (Unit {0}) IsFileCircuit OfFile limit k (Ok c) known → Tells OfFile limit k (Ok tt) known
+        by : (known : Option (List ℕ))
+            → Reads Circuit (Unit {0}) IsFileCircuit OfFile limit k (Ok c) known
+            → Tells OfFile limit k (Ok tt) known
         by None h = tt
         by (Some bytes) h = answered Circuit (Unit {0}) IsFileCircuit OfFile limit k c tt bytes (low_of low) (λ f fits is. tt) h
 
     large_told : limit < unrolled_size c k → Tells OfFile limit k (Err encode.TooLarge) (left r)
     large_told high = by (left r) exact
       where
-        by : (known : Option (List ℕ)) → Reads Circuit (Unit {0}) IsFileCircuit OfFile limit k (Ok c) known → Tells OfFile limit k (Err encode.TooLarge) known
+        by : (known : Option (List ℕ))
+            → Reads Circuit (Unit {0}) IsFileCircuit OfFile limit k (Ok c) known
+            → Tells OfFile limit k (Err encode.TooLarge) known
         by None h = tt
         by (Some bytes) h = refused_as_large Circuit (Unit {0}) IsFileCircuit OfFile limit k c bytes (λ f is. subst (λ d. limit < unrolled_size d k) is high) h
 
@@ -185,11 +197,15 @@ module _ {R : Type 0} (left : R → Option (List ℕ)) (failed : R → Bool) (li
     took_beyond : limit < unrolled_size c k → ConsumedFile (IsBeyond limit k) (left r) (left rest)
     took_beyond high = (file.file, file.bytes, (file.holds, subst (λ d. limit < unrolled_size d k) file.means high), file.taken)
 
-    took_nothing : unrolled_size c k ≤ limit → c.properties.bads ≡ [] → ConsumedFile (AsksNothing limit k) (left r) (left rest)
+    took_nothing : unrolled_size c k ≤ limit → c.properties.bads ≡ []
+        → ConsumedFile (AsksNothing limit k) (left r) (left rest)
     took_nothing low none =
         (file.file, file.bytes, ((file.holds, low_of low file.file file.means), no_bads file.file file.file.properties.bads (subst (λ (d : Circuit). d.properties.bads ≡ []) file.means none)), file.taken)
 
-    pub window_told : (result : Result T AnswerError) → IsErrOf result (errors.Encode encode.TooLarge) ↔ (limit < unrolled_size c k) → (IsErrOf result errors.NoBads → c.properties.bads ≡ []) → IfErr result IsOfCircuit → TellsOfFile left failed limit k result r rest
+    pub window_told : (result : Result T AnswerError)
+        → IsErrOf result (errors.Encode encode.TooLarge) ↔ (limit < unrolled_size c k)
+        → (IsErrOf result errors.NoBads → c.properties.bads ≡ []) → IfErr result IsOfCircuit
+        → TellsOfFile left failed limit k result r rest
     window_told (Ok x) large none err =
         let low = within_limit limit (unrolled_size c k) (Ok x) large (no_refusal T AnswerError x (errors.Encode encode.TooLarge)) in
         file_good (Ok x) refl (λ e. no_refusal T AnswerError x (errors.Encode e)) (λ is. absurd (no_refusal T AnswerError x errors.NoBads is)) (within_told low)
@@ -246,7 +262,8 @@ told_again left failed limit k r rest A B e told = record {
 -- ---- an error, exactly
 
 -- what holds is told
-pub unless_holds : {T : Type 0} (r : Result T EncodeError) (P : Type 0) → P → EncodeUnlessTransient r P
+pub unless_holds : {T : Type 0} (r : Result T EncodeError) (P : Type 0) → P
+    → EncodeUnlessTransient r P
 unless_holds (Ok x) P holds = holds
 unless_holds (Err encode.Memory) P holds = tt
 unless_holds (Err encode.TooLarge) P holds = holds
@@ -261,7 +278,8 @@ unless_holds (Err (encode.Read read.Name)) P holds = holds
 unless_holds (Err (encode.Read read.Open)) P holds = holds
 
 -- what follows from what was told is told
-unless_so : {T : Type 0} (r : Result T EncodeError) (P Q : Type 0) → (P → Q) → EncodeUnlessTransient r P → EncodeUnlessTransient r Q
+unless_so : {T : Type 0} (r : Result T EncodeError) (P Q : Type 0) → (P → Q)
+    → EncodeUnlessTransient r P → EncodeUnlessTransient r Q
 unless_so (Ok x) P Q so told = so told
 unless_so (Err encode.Memory) P Q so told = tt
 unless_so (Err encode.TooLarge) P Q so told = so told
@@ -293,7 +311,9 @@ module _ {R : Type 0} (left : R → Option (List ℕ)) (error : AnswerError) (Is
   Known result known = IfSome known (λ bytes. EncodeUnlessTransient (of_file result) (IsErrOf result error ↔ ((f : File) × IsSuch bytes f)))
 
   -- where the clauses were made, a proof of them doesn't change what was told
-  pub made_exactly : {X T : Type 0} (x : X) (result : Result T AnswerError) → (IsErrOf result error → ⊥) → IsExactly left error IsSuch (Ok x) r → IsExactly left error IsSuch result r
+  pub made_exactly : {X T : Type 0} (x : X) (result : Result T AnswerError)
+      → (IsErrOf result error → ⊥) → IsExactly left error IsSuch (Ok x) r
+      → IsExactly left error IsSuch result r
   made_exactly {X} {T} x result other told = by (left r) told
     where
       by : (known : Option (List ℕ)) → Known {T = X} (Ok x) known → Known result known
@@ -332,7 +352,8 @@ module _ {R : Type 0} (left : R → Option (List ℕ)) (error : AnswerError) (Is
       → Reads Circuit (Unit {0}) IsFileCircuit OfFile limit k (Ok c) (left r) → IsExactly left error IsSuch result r
   read_exactly result limit k c good told exact = by (left r) exact
     where
-      by : (known : Option (List ℕ)) → Reads Circuit (Unit {0}) IsFileCircuit OfFile limit k (Ok c) known → Known result known
+      by : (known : Option (List ℕ))
+          → Reads Circuit (Unit {0}) IsFileCircuit OfFile limit k (Ok c) known → Known result known
       by None h = tt
       by (Some bytes) h = taken_exactly result bytes (Accepts bytes limit) IsFileCircuit c (good bytes) (told bytes) h.accepted
 
@@ -348,7 +369,8 @@ module _ {R : Type 0} (left : R → Option (List ℕ)) (error : AnswerError) (Is
 
 -- ---- room
 
-crowded_is_read : (form : Window) (limit k : ℕ) (bytes : List ℕ) (f : File) → IsCrowded form limit k bytes f → Accepts bytes limit f
+crowded_is_read : (form : Window) (limit k : ℕ) (bytes : List ℕ) (f : File)
+    → IsCrowded form limit k bytes f → Accepts bytes limit f
 crowded_is_read form limit k bytes f crowded = crowded.0.0.0
 
 module _ {R : Type 0} (left : R → Option (List ℕ)) (form : Window) (limit k : ℕ) (r rest : R) (T : Type 0) where
@@ -361,7 +383,8 @@ module _ {R : Type 0} (left : R → Option (List ℕ)) (form : Window) (limit k 
 
   -- a circuit was read
   module _ (c : Circuit) (result : Result T AnswerError) (room : IsErrOf result errors.TooLarge ↔ ((unrolled_size c (k + 1) ≤ limit) × (c.properties.bads ≢ []) × (limit < window_size form c k))) where
-    crowded_file : (bytes : List ℕ) (f : File) → Accepts bytes limit f → c ≡ circuit_of f → IsErrOf result errors.TooLarge → IsCrowded form limit k bytes f
+    crowded_file : (bytes : List ℕ) (f : File) → Accepts bytes limit f → c ≡ circuit_of f
+        → IsErrOf result errors.TooLarge → IsCrowded form limit k bytes f
     crowded_file bytes f accepts is large =
         let told = room.0 large in (
           (
@@ -371,21 +394,26 @@ module _ {R : Type 0} (left : R → Option (List ℕ)) (form : Window) (limit k 
           subst (λ d. limit < window_size form d k) is told.2,
         )
 
-    crowded_told : (bytes : List ℕ) (f : File) → c ≡ circuit_of f → IsCrowded form limit k bytes f → IsErrOf result errors.TooLarge
+    crowded_told : (bytes : List ℕ) (f : File) → c ≡ circuit_of f → IsCrowded form limit k bytes f
+        → IsErrOf result errors.TooLarge
     crowded_told bytes f is crowded = room.1 (
       subst (λ d. unrolled_size d (k + 1) ≤ limit) (sym is) crowded.0.0.1,
       λ none. crowded.0.1 ((bads_alike f c c.properties.bads is refl).0 none),
       subst (λ d. limit < window_size form d k) (sym is) crowded.1,
     )
 
-    pub window_room : IsReadAs (λ bytes. Accepts bytes limit) IsFileCircuit (left r) (left rest) c → Reads Circuit (Unit {0}) IsFileCircuit OfFile limit (k + 1) (Ok c) (left r) → TellsOfRoom left form limit k result r rest
+    pub window_room : IsReadAs (λ bytes. Accepts bytes limit) IsFileCircuit (left r) (left rest) c
+        → Reads Circuit (Unit {0}) IsFileCircuit OfFile limit (k + 1) (Ok c) (left r)
+        → TellsOfRoom left form limit k result r rest
     window_room file exact = record {
       exact = read_exactly left errors.TooLarge (IsCrowded form limit k) r result limit (k + 1) c (crowded_is_read form limit k) (λ bytes f accepts is. (crowded_file bytes f accepts is, crowded_told bytes f is)) exact;
       only = λ is. (file.file, file.bytes, crowded_file file.bytes file.file file.holds file.means is, file.taken);
     }
 
   -- where the clauses were made, a proof of them doesn't change what was told
-  pub room_again : {X : Type 0} (x : X) (result : Result T AnswerError) → (IsErrOf result errors.TooLarge → ⊥) → TellsOfRoom left form limit k (Ok x) r rest → TellsOfRoom left form limit k result r rest
+  pub room_again : {X : Type 0} (x : X) (result : Result T AnswerError)
+      → (IsErrOf result errors.TooLarge → ⊥) → TellsOfRoom left form limit k (Ok x) r rest
+      → TellsOfRoom left form limit k result r rest
   room_again x result other told = record { exact = made_exactly left errors.TooLarge (IsCrowded form limit k) r x result other told.exact; only = λ is. absurd (other is) }
 
 -- a refusal tells the same, whatever would have been answered
@@ -397,10 +425,12 @@ room_told_again left form limit k r rest A B e told = record {
 
 -- ---- nothing asked
 
-nothing_is_within : (limit k : ℕ) (bytes : List ℕ) (f : File) → AsksNothing limit k bytes f → IsWithin limit k bytes f
+nothing_is_within : (limit k : ℕ) (bytes : List ℕ) (f : File) → AsksNothing limit k bytes f
+    → IsWithin limit k bytes f
 nothing_is_within limit k bytes f nothing = nothing.0
 
-nothing_is_read : (limit k : ℕ) (bytes : List ℕ) (f : File) → AsksNothing limit k bytes f → Accepts bytes limit f
+nothing_is_read : (limit k : ℕ) (bytes : List ℕ) (f : File) → AsksNothing limit k bytes f
+    → Accepts bytes limit f
 nothing_is_read limit k bytes f nothing = nothing.0.0
 
 module _ {R : Type 0} (left : R → Option (List ℕ)) (limit k : ℕ) (r : R) (T : Type 0) where
@@ -424,7 +454,9 @@ module _ {R : Type 0} (left : R → Option (List ℕ)) (limit k : ℕ) (r : R) (
     bads_told : (f : File) → c ≡ circuit_of f → (c.properties.bads ≡ []) ↔ (f.properties.bads ≡ [])
     bads_told f is = bads_alike f c c.properties.bads is refl
 
-    by_bads : (result : Result T AnswerError) → unrolled_size c k ≤ limit → IsErrOf result errors.NoBads ↔ (c.properties.bads ≡ []) → IsExactly left errors.NoBads (AsksNothing limit k) result r
+    by_bads : (result : Result T AnswerError) → unrolled_size c k ≤ limit
+        → IsErrOf result errors.NoBads ↔ (c.properties.bads ≡ [])
+        → IsExactly left errors.NoBads (AsksNothing limit k) result r
     by_bads result low told = read_exactly left errors.NoBads (AsksNothing limit k) r result limit k c (nothing_is_read limit k) (λ bytes f accepts is. (
       λ error. ((accepts, subst (λ d. unrolled_size d k ≤ limit) is low), (bads_told f is).0 (told.0 error)),
       λ nothing. told.1 ((bads_told f is).1 nothing.1),

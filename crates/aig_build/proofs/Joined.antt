@@ -10,11 +10,13 @@ use Rattle.aig_circuit.proofs.Building.{take-Grows}
 use Rattle.aig_circuit.proofs.Joining.{edge_value-inverse}
 
 -- nodes that have grown, and are cut back to so many as there were, are the old ones
-pub cut_back : (old mid new : List AigNode) (count : ℕ) → Grows old mid → count ≡ length old → new ≡ take count mid → new ≡ old
+pub cut_back : (old mid new : List AigNode) (count : ℕ) → Grows old mid → count ≡ length old
+    → new ≡ take count mid → new ≡ old
 cut_back old mid new count grows before cut = cut ∙ ap (λ n. take n mid) before ∙ take-Grows old mid grows
 
 -- an edge of the old nodes is one of the new ones
-pub still_there : (old new : List AigNode) (e : AigEdge) → Grows old new → IsInRange old e → IsInRange new e
+pub still_there : (old new : List AigNode) (e : AigEdge) → Grows old new → IsInRange old e
+    → IsInRange new e
 still_there old new e grows there = let longer = grows.longer in omega arith
 
 -- not both inverses is either

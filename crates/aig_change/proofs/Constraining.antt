@@ -40,11 +40,15 @@ implies_says false q A says = (λ h is. cc, λ h. refl)
 
 -- an initial edge to an old node says the same over grown nodes
 module _ (old new : List AigNode) (are : AreNodes old) (grows : Grows old new) (x : ℕ → Bool) (v : Bool) where
-  open_forth : (o : Option AigEdge) → IfSome o (IsInRange old) → IfSome o (λ e. e.node_id ≢ 0 → edge_value new x e ≡ v) → IfSome o (λ e. e.node_id ≢ 0 → edge_value old x e ≡ v)
+  open_forth : (o : Option AigEdge) → IfSome o (IsInRange old)
+      → IfSome o (λ e. e.node_id ≢ 0 → edge_value new x e ≡ v)
+      → IfSome o (λ e. e.node_id ≢ 0 → edge_value old x e ≡ v)
   open_forth (Some e) s h = λ differs. sym (edge_value-Grows old new are grows x e s) ∙ h differs
   open_forth None s h = tt
 
-  open_back : (o : Option AigEdge) → IfSome o (IsInRange old) → IfSome o (λ e. e.node_id ≢ 0 → edge_value old x e ≡ v) → IfSome o (λ e. e.node_id ≢ 0 → edge_value new x e ≡ v)
+  open_back : (o : Option AigEdge) → IfSome o (IsInRange old)
+      → IfSome o (λ e. e.node_id ≢ 0 → edge_value old x e ≡ v)
+      → IfSome o (λ e. e.node_id ≢ 0 → edge_value new x e ≡ v)
   open_back (Some e) s h = λ differs. edge_value-Grows old new are grows x e s ∙ h differs
   open_back None s h = tt
 
@@ -88,16 +92,20 @@ constrained_one old one two first equal implied not_first leaf_edge start latch 
     variable : is_variable latch.init ≡ true
     variable = ap is_variable init_is ∙ ap not (ne_eqb start.node_id 0 differs)
 
-    implied_is : (x : ℕ → Bool) → edge_value two x implied ≡ (not (edge_value old x first) || edge_value one x equal)
+    implied_is : (x : ℕ → Bool)
+        → edge_value two x implied ≡ (not (edge_value old x first) || edge_value one x equal)
     implied_is x = value x ∙ ap (λ b. b || edge_value one x equal) (ap (edge_value one x) not_is ∙ edge_value-inverse one x first ∙ ap not (edge_value-Grows old one are gates.grows x first there))
 
     leaf_is : (x : ℕ → Bool) → edge_value old x leaf_edge ≡ x latch.input
     leaf_is x = ap (edge_value old x) edge_is ∙ node_value-leaf old x latch.input is.leaf
 
-    equal_says : (x : ℕ → Bool) → IsTrue (edge_value one x equal) ↔ (edge_value old x start ≡ x latch.input)
+    equal_says : (x : ℕ → Bool)
+        → IsTrue (edge_value one x equal) ↔ (edge_value old x start ≡ x latch.input)
     equal_says x = (λ h. sym ((says x).0 h) ∙ leaf_is x, λ e. (says x).1 (leaf_is x ∙ sym e))
 
-    says_one : (x : ℕ → Bool) → All (λ e. IsTrue (edge_value two x e)) (implied ∷ []) ↔ (edge_value old x first ≡ true → MeetsInit old x latch)
+    says_one : (x : ℕ → Bool)
+        → All (λ e. IsTrue (edge_value two x e)) (implied ∷ [])
+        ↔ (edge_value old x first ≡ true → MeetsInit old x latch)
     says_one x =
         let both = implies_says (edge_value old x first) (edge_value one x equal) (edge_value old x start ≡ x latch.input) (equal_says x) in (
           λ all holds. subst (λ (o : Option AigEdge). IfSome o (λ e. e.node_id ≢ 0 → edge_value old x e ≡ x latch.input)) (sym init_is) (λ other. both.0 (sym (implied_is x) ∙ all 0 implied (omega arith)) holds),
@@ -105,7 +113,8 @@ constrained_one old one two first equal implied not_first leaf_edge start latch 
         )
 
 -- no constraint for no latch
-pub Constrains-none : (nodes : List AigNode) (first : AigEdge) (before : List AigEdge) → Constrains nodes nodes first [] before before
+pub Constrains-none : (nodes : List AigNode) (first : AigEdge) (before : List AigEdge)
+    → Constrains nodes nodes first [] before before
 Constrains-none nodes first before = record {
   constrained = [];
   appended = sym (append-nil before);
@@ -116,7 +125,8 @@ Constrains-none nodes first before = record {
 }
 
 -- what is appended leaves what was there
-pub first_kept : (before after added : List AigEdge) → after ≡ before ++ added → take (length before) after ≡ before
+pub first_kept : (before after added : List AigEdge) → after ≡ before ++ added
+    → take (length before) after ≡ before
 first_kept before after added appended = ap (take (length before)) appended ∙ take_at before added (length before) refl
 
 -- the constraints of one latch more
@@ -163,11 +173,13 @@ Constrains-turn old mid new first latchs i d before between after are there is h
 
 -- ---- the whole change
 
-leaves_kept : (latchs : List AigLatch) → latch_leaves (map with_constant_start latchs) ≡ latch_leaves latchs
+leaves_kept : (latchs : List AigLatch)
+    → latch_leaves (map with_constant_start latchs) ≡ latch_leaves latchs
 leaves_kept [] = refl
 leaves_kept (l ∷ ls) = ap (λ ns. l.input ∷ ns) (leaves_kept ls)
 
-constant_there : (nodes : List AigNode) (o : Option AigEdge) → IfSome o (IsInRange nodes) → IfSome (constant_start o) (IsInRange nodes)
+constant_there : (nodes : List AigNode) (o : Option AigEdge) → IfSome o (IsInRange nodes)
+    → IfSome (constant_start o) (IsInRange nodes)
 constant_there nodes None h = tt
 constant_there nodes (Some e) h = by_test (eqb e.node_id 0)
   where
@@ -238,7 +250,8 @@ plain_start None h = refl
 plain_start (Some e) h = ap (λ b. cond b (Some e) None) (eq-eqb e.node_id 0 h)
 
 -- where all initial edges are constant, nothing changes
-pub ConstrainsInits-plain : (c : Circuit) → IsCircuit c → All HasConstantInit c.latchs → ConstrainsInits c c
+pub ConstrainsInits-plain : (c : Circuit) → IsCircuit c → All HasConstantInit c.latchs
+    → ConstrainsInits c c
 ConstrainsInits-plain c is plain = record {
   leaf = None;
   latchs = sym (append-nil (map with_constant_start c.latchs) ∙ map-same with_constant_start c.latchs (λ k d h. ap (λ (o : Option AigEdge). record { input = (get_or c.latchs k d).input; next = (get_or c.latchs k d).next; init = o }) (plain_start (get_or c.latchs k d).init (plain k d h))));

@@ -54,16 +54,20 @@ module _ (first second : Circuit) (is : IsCircuit first) (other : IsCircuit seco
   edge_moved : (e : AigEdge) → IsInRange second.nodes e → IsInRange new (renumbered_edge number e)
   edge_moved e h = shifted-within first.nodes second.nodes is.nodes other.nodes e.node_id h
 
-  init_moved : (o : Option AigEdge) → IfSome o (IsInRange second.nodes) → IfSome (option_map (renumbered_edge number) o) (IsInRange new)
+  init_moved : (o : Option AigEdge) → IfSome o (IsInRange second.nodes)
+      → IfSome (option_map (renumbered_edge number) o) (IsInRange new)
   init_moved (Some e) h = edge_moved e h
   init_moved None h = tt
 
-  latch_moved : (latch : AigLatch) → IsLatch second.nodes latch → IsLatch new (renumbered_latch number latch)
+  latch_moved : (latch : AigLatch) → IsLatch second.nodes latch
+      → IsLatch new (renumbered_latch number latch)
   latch_moved latch h = record { leaf = leaf_moved latch.input h.leaf; next = edge_moved latch.next h.next; init = init_moved latch.init h.init }
 
   -- ---- both
 
-  properties_joined : AllProperties (IsInRange new) (append_properties first.properties (map_properties (renumbered_edge number) second.properties))
+  properties_joined : AllProperties (IsInRange new)
+      (append_properties first.properties
+      (map_properties (renumbered_edge number) second.properties))
   properties_joined = AllProperties-append (IsInRange new) first.properties (map_properties (renumbered_edge number) second.properties)
       (AllProperties-weaker (IsInRange first.nodes) (IsInRange new) (λ e h. omega (arith, longer)) first.properties is.properties)
       (AllProperties-map (IsInRange new) (renumbered_edge number) second.properties (AllProperties-weaker (IsInRange second.nodes) (λ e. IsInRange new (renumbered_edge number e)) edge_moved second.properties other.properties))
@@ -72,7 +76,9 @@ module _ (first second : Circuit) (is : IsCircuit first) (other : IsCircuit seco
   leaves_apart : (m n : ℕ) → IsLeaf first.nodes m → IsLeaf second.nodes n → m ≢ number n
   leaves_apart m n p q e = absurd (omega (arith, e, kind_at-within first.nodes m Leaf p, leaf-past first.nodes second.nodes is.nodes other.nodes n q))
 
-  numbers_apart : (ms ns : List ℕ) → All (IsLeaf first.nodes) ms → All (IsLeaf second.nodes) ns → AllPairs (λ m n. m ≢ n) ms → AllPairs (λ m n. m ≢ n) ns → AllPairs (λ m n. m ≢ n) (ms ++ map number ns)
+  numbers_apart : (ms ns : List ℕ) → All (IsLeaf first.nodes) ms → All (IsLeaf second.nodes) ns
+      → AllPairs (λ m n. m ≢ n) ms → AllPairs (λ m n. m ≢ n) ns
+      → AllPairs (λ m n. m ≢ n) (ms ++ map number ns)
   numbers_apart ms ns p q differ apart = AllPairs-append (λ m n. m ≢ n) ms (map number ns) differ
       (AllPairs-map_numbers (λ n. IsLeaf second.nodes n) number ns (λ m n s t e. shifted-apart first.nodes second.nodes is.nodes other.nodes m n e) q apart)
       (λ k d h. All-map (λ n. get_or ms k d ≢ n) number ns (λ i c l. leaves_apart (get_or ms k d) (get_or ns i c) (p k d h) (q i c l)))
@@ -80,7 +86,8 @@ module _ (first second : Circuit) (is : IsCircuit first) (other : IsCircuit seco
   abbrev latches : List AigLatch
   latches = first.latchs ++ map (renumbered_latch number) second.latchs
 
-  leaves_joined : latch_leaves latches ≡ latch_leaves first.latchs ++ map number (latch_leaves second.latchs)
+  leaves_joined : latch_leaves latches
+      ≡ latch_leaves first.latchs ++ map number (latch_leaves second.latchs)
   leaves_joined = map-append (λ (latch : AigLatch). latch.input) first.latchs (map (renumbered_latch number) second.latchs) ∙ ap (λ ns. latch_leaves first.latchs ++ ns) (latch_leaves-map number second.latchs)
 
   abbrev inputs : List ℕ
@@ -94,7 +101,8 @@ module _ (first second : Circuit) (is : IsCircuit first) (other : IsCircuit seco
         leaves_apart n from.0 leaf (All-contains (IsLeaf second.nodes) second.inputs from.0 other.inputs from.1) (sym from.2))
   ]
 
-  second_no_input : (n : ℕ) → IsLeaf second.nodes n → ¬ Contains second.inputs n → ¬ Contains inputs (number n)
+  second_no_input : (n : ℕ) → IsLeaf second.nodes n → ¬ Contains second.inputs n
+      → ¬ Contains inputs (number n)
   second_no_input n leaf none has = elim (Contains-append_cases first.inputs (map number second.inputs) (number n) has) [
     | inl old ↦ leaves_apart (number n) n (All-contains (IsLeaf first.nodes) first.inputs (number n) is.inputs old) leaf refl
     | inr moved ↦ (
@@ -102,7 +110,8 @@ module _ (first second : Circuit) (is : IsCircuit first) (other : IsCircuit seco
         none (subst (Contains second.inputs) (shifted-apart first.nodes second.nodes is.nodes other.nodes from.0 n from.2) from.1))
   ]
 
-  apart_joined : All (λ n. ¬ Contains inputs n) (latch_leaves first.latchs ++ map number (latch_leaves second.latchs))
+  apart_joined : All (λ n. ¬ Contains inputs n)
+      (latch_leaves first.latchs ++ map number (latch_leaves second.latchs))
   apart_joined =
       let old = latch_leaves-leaves first is in
       let moved = latch_leaves-leaves second other in
@@ -129,21 +138,25 @@ module _ (first second : Circuit) (is : IsCircuit first) (other : IsCircuit seco
 
   -- ---- values
 
-  first_value : (z : ℕ → Bool) (e : AigEdge) → IsInRange first.nodes e → edge_value new z e ≡ edge_value first.nodes z e
+  first_value : (z : ℕ → Bool) (e : AigEdge) → IsInRange first.nodes e
+      → edge_value new z e ≡ edge_value first.nodes z e
   first_value z e h = edge_value-Grows first.nodes new is.nodes (Grows-joint first.nodes second.nodes is.nodes other.nodes) z e h
 
-  second_value : (z : ℕ → Bool) (e : AigEdge) → IsInRange second.nodes e → edge_value new z (renumbered_edge number e) ≡ edge_value second.nodes (λ n. z (number n)) e
+  second_value : (z : ℕ → Bool) (e : AigEdge) → IsInRange second.nodes e
+      → edge_value new z (renumbered_edge number e) ≡ edge_value second.nodes (λ n. z (number n)) e
   second_value z e h =
       edge_value-renumbered second.nodes new (λ n. n < length second.nodes) number other.nodes.ordered (IsOrdered-joint first.nodes second.nodes is.nodes other.nodes) (Renumbers-joint first.nodes second.nodes is.nodes other.nodes)
       (λ n. z (number n)) z (λ n s leaf. refl) e h
 
   -- an edge to no node has one to no node, and both are false
-  past_value : (z : ℕ → Bool) (e : AigEdge) → length second.nodes ≤ e.node_id → edge_value new z (renumbered_edge number e) ≡ edge_value second.nodes (λ n. z (number n)) e
+  past_value : (z : ℕ → Bool) (e : AigEdge) → length second.nodes ≤ e.node_id
+      → edge_value new z (renumbered_edge number e) ≡ edge_value second.nodes (λ n. z (number n)) e
   past_value z e h = ap (inverted_if e.compl) (
       node_value-past new z (number e.node_id) (shifted-past first.nodes second.nodes is.nodes other.nodes e.node_id h)
       ∙ sym (node_value-past second.nodes (λ n. z (number n)) e.node_id h))
 
-  any_value : (z : ℕ → Bool) (e : AigEdge) → edge_value new z (renumbered_edge number e) ≡ edge_value second.nodes (λ n. z (number n)) e
+  any_value : (z : ℕ → Bool) (e : AigEdge)
+      → edge_value new z (renumbered_edge number e) ≡ edge_value second.nodes (λ n. z (number n)) e
   any_value z e = elim (cases_lt e.node_id (length second.nodes)) [ inl h ↦ second_value z e h | inr h ↦ past_value z e h ]
 
   -- ---- runs
@@ -151,7 +164,9 @@ module _ (first second : Circuit) (is : IsCircuit first) (other : IsCircuit seco
   Moves : List AigNode → (ℕ → Bool) → (ℕ → Bool) → AigLatch → Type 0
   Moves nodes x y latch = y latch.input ≡ edge_value nodes x latch.next
 
-  runs_merged : (last : ℕ) (z : ℕ → ℕ → Bool) → IsRun (merged first second) last z ↔ (IsRun first last z × IsRun second last (λ t n. z t (number n)))
+  runs_merged : (last : ℕ) (z : ℕ → ℕ → Bool)
+      → IsRun (merged first second) last z
+      ↔ (IsRun first last z × IsRun second last (λ t n. z t (number n)))
   runs_merged last z = (
     λ run. (
       λ t h k d l.
@@ -168,23 +183,31 @@ module _ (first second : Circuit) (is : IsCircuit first) (other : IsCircuit seco
         (λ k d l. both.1 t h k d l ∙ sym (any_value (z t) (get_or second.latchs k d).next))),
   )
 
-  first_forth : (z : ℕ → Bool) (n : ℕ) (o : Option AigEdge) → IfSome o (IsInRange first.nodes) → IfSome o (λ e. edge_value new z e ≡ z n) → IfSome o (λ e. edge_value first.nodes z e ≡ z n)
+  first_forth : (z : ℕ → Bool) (n : ℕ) (o : Option AigEdge) → IfSome o (IsInRange first.nodes)
+      → IfSome o (λ e. edge_value new z e ≡ z n) → IfSome o (λ e. edge_value first.nodes z e ≡ z n)
   first_forth z n (Some e) s h = sym (first_value z e s) ∙ h
   first_forth z n None s h = tt
 
-  first_back : (z : ℕ → Bool) (n : ℕ) (o : Option AigEdge) → IfSome o (IsInRange first.nodes) → IfSome o (λ e. edge_value first.nodes z e ≡ z n) → IfSome o (λ e. edge_value new z e ≡ z n)
+  first_back : (z : ℕ → Bool) (n : ℕ) (o : Option AigEdge) → IfSome o (IsInRange first.nodes)
+      → IfSome o (λ e. edge_value first.nodes z e ≡ z n) → IfSome o (λ e. edge_value new z e ≡ z n)
   first_back z n (Some e) s h = first_value z e s ∙ h
   first_back z n None s h = tt
 
-  second_forth : (z : ℕ → Bool) (n : ℕ) (o : Option AigEdge) → IfSome (option_map (renumbered_edge number) o) (λ e. edge_value new z e ≡ z (number n)) → IfSome o (λ e. edge_value second.nodes (λ m. z (number m)) e ≡ z (number n))
+  second_forth : (z : ℕ → Bool) (n : ℕ) (o : Option AigEdge)
+      → IfSome (option_map (renumbered_edge number) o) (λ e. edge_value new z e ≡ z (number n))
+      → IfSome o (λ e. edge_value second.nodes (λ m. z (number m)) e ≡ z (number n))
   second_forth z n (Some e) h = sym (any_value z e) ∙ h
   second_forth z n None h = tt
 
-  second_back : (z : ℕ → Bool) (n : ℕ) (o : Option AigEdge) → IfSome o (λ e. edge_value second.nodes (λ m. z (number m)) e ≡ z (number n)) → IfSome (option_map (renumbered_edge number) o) (λ e. edge_value new z e ≡ z (number n))
+  second_back : (z : ℕ → Bool) (n : ℕ) (o : Option AigEdge)
+      → IfSome o (λ e. edge_value second.nodes (λ m. z (number m)) e ≡ z (number n))
+      → IfSome (option_map (renumbered_edge number) o) (λ e. edge_value new z e ≡ z (number n))
   second_back z n (Some e) h = any_value z e ∙ h
   second_back z n None h = tt
 
-  starts_merged : (z : ℕ → Bool) → IsInitial (merged first second) z ↔ (IsInitial first z × IsInitial second (λ n. z (number n)))
+  starts_merged : (z : ℕ → Bool)
+      → IsInitial (merged first second) z
+      ↔ (IsInitial first z × IsInitial second (λ n. z (number n)))
   starts_merged z = (
     λ start. (
       λ k d l.

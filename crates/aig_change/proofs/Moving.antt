@@ -40,13 +40,15 @@ module _ (old : Circuit) (is : IsCircuit old) (one two three four : List AigNode
   to_four : AddsGates (with_node old.nodes Leaf) four
   to_four = AddsGates-then (with_node old.nodes Leaf) three four to_three b.fourth
 
-  grown : (nodes : List AigNode) → AddsGates (with_node old.nodes Leaf) nodes → AddsLeaf old.nodes nodes leaf
+  grown : (nodes : List AigNode) → AddsGates (with_node old.nodes Leaf) nodes
+      → AddsLeaf old.nodes nodes leaf
   grown nodes adds = AddsLeaf-gates old.nodes nodes is.nodes adds
 
   two_to_four : Grows two four
   two_to_four = (AddsGates-then two three four b.third b.fourth).grows
 
-  constraint_is : (x : ℕ → Bool) → edge_value one x constraint ≡ list_all (edge_value old.nodes x) old.properties.constraints
+  constraint_is : (x : ℕ → Bool)
+      → edge_value one x constraint ≡ list_all (edge_value old.nodes x) old.properties.constraints
   constraint_is x = b.joins.value x ∙ list_all-agrees (edge_value (with_node old.nodes Leaf) x) (edge_value old.nodes x) old.properties.constraints
       (λ k d h. edge_value-Grows old.nodes (with_node old.nodes Leaf) is.nodes (Grows-leaf old.nodes is.nodes) x (get_or old.properties.constraints k d) (is.properties.constraints k d h))
 
@@ -104,7 +106,8 @@ module _ (old : Circuit) (is : IsCircuit old) (one two three four : List AigNode
       assumption (latched, properties)
 
 -- edges to old nodes are in range of grown ones
-pub All-grown : (xs ys : List AigNode) (es : List AigEdge) → Grows xs ys → All (IsInRange xs) es → All (IsInRange ys) es
+pub All-grown : (xs ys : List AigNode) (es : List AigEdge) → Grows xs ys → All (IsInRange xs) es
+    → All (IsInRange ys) es
 All-grown xs ys es grows all k d h = let low = all k d h in omega (arith, Grows-longer xs ys grows)
 
 -- what is built over the lists of a circuit

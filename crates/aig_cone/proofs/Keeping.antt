@@ -25,16 +25,20 @@ use Rattle.aig_cone.specs.Refine.{AreKept, refining_roots, variable_nodes}
 use Rattle.aig_circuit.specs.Edges.{initial_edges, property_edges}
 
 -- what holds of the roots and goes on along steps holds of all that is reached
-pub reached_within : {Step : ℕ → ℕ → Type 0} {roots : List ℕ} (P : ℕ → Type 0) → ((n : ℕ) → Contains roots n → P n) → ((n m : ℕ) → P n → Step n m → P m) → (n : ℕ) → IsReached Step roots n → P n
+pub reached_within : {Step : ℕ → ℕ → Type 0} {roots : List ℕ} (P : ℕ → Type 0)
+    → ((n : ℕ) → Contains roots n → P n) → ((n m : ℕ) → P n → Step n m → P m) → (n : ℕ)
+    → IsReached Step roots n → P n
 reached_within P at_roots along n (root {n = k} h) = at_roots k h
 reached_within P at_roots along n (step {n = k} {m = m} h s) = along k m (reached_within P at_roots along k h) s
 
 -- an entry of one of the lists is an entry of all
-flat_has : {X Y : Type 0} (f : X → List Y) (xs : List X) (P : Y → Type 0) → AllByRecursion P (flat_map f xs) → AllByRecursion (λ x. AllByRecursion P (f x)) xs
+flat_has : {X Y : Type 0} (f : X → List Y) (xs : List X) (P : Y → Type 0)
+    → AllByRecursion P (flat_map f xs) → AllByRecursion (λ x. AllByRecursion P (f x)) xs
 flat_has f [] P all = tt
 flat_has f (x ∷ xs) P all = let r = parts (f x) (flat_map f xs) all in (r.0, flat_has f xs P r.1)
   where
-    parts : (ys zs : List _) → AllByRecursion P (ys ++ zs) → AllByRecursion P ys × AllByRecursion P zs
+    parts : (ys zs : List _) → AllByRecursion P (ys ++ zs)
+        → AllByRecursion P ys × AllByRecursion P zs
     parts [] zs all = (tt, all)
     parts (y ∷ ys) zs all = let r = parts ys zs all.1 in ((all.0, r.0), r.1)
 
@@ -60,11 +64,14 @@ module _ (c : Circuit) (is : IsCircuit c) where
   along n m h (inl (a, b, kind, inr to)) = let low = is.nodes.ordered.second_before n a b kind in omega arith
   along n m h (inr (latch, has, from, to)) = let there = (latch_at latch has).next in omega arith
 
-  starts_within : (ls : List AigLatch) → All (IsLatch c.nodes) ls → AllByRecursion Within (flat_map (λ (e : AigEdge). cond (e.node_id == 0) [] (e.node_id ∷ [])) (initial_edges ls))
+  starts_within : (ls : List AigLatch) → All (IsLatch c.nodes) ls
+      → AllByRecursion Within
+      (flat_map (λ (e : AigEdge). cond (e.node_id == 0) [] (e.node_id ∷ [])) (initial_edges ls))
   starts_within [] all = tt
   starts_within (l ∷ ls) all = at l.init (all 0 l (omega arith)).init (starts_within ls (λ k d h. all (suc k) d (omega arith)))
     where
-      one : (b : Bool) (n : ℕ) (rest : List ℕ) → Within n → AllByRecursion Within rest → AllByRecursion Within (cond b [] (n ∷ []) ++ rest)
+      one : (b : Bool) (n : ℕ) (rest : List ℕ) → Within n → AllByRecursion Within rest
+          → AllByRecursion Within (cond b [] (n ∷ []) ++ rest)
       one true n rest h all = all
       one false n rest h all = (h, all)
 
@@ -94,7 +101,8 @@ module _ (c : Circuit) (kept : List ℕ) (is : IsCircuit c) (are : AreKept c kep
   pub S-0 : S 0
   S-0 = (are.exactly 0).1 (inl refl)
 
-  pub S-operands : (n : ℕ) (a b : AigEdge) → S n → kind_at c.nodes n ≡ Some (And a b) → S a.node_id × S b.node_id
+  pub S-operands : (n : ℕ) (a b : AigEdge) → S n → kind_at c.nodes n ≡ Some (And a b)
+      → S a.node_id × S b.node_id
   S-operands n a b s kind = elim ((are.exactly n).0 s) [
     | inl zero_is ↦ absurd (not_both (same_Some _ _ (sym (subst (λ m. kind_at c.nodes m ≡ Some (And a b)) zero_is kind) ∙ is.nodes.false_first)))
     | inr h ↦ (S-reached a.node_id (step h (inl (a, b, kind, inl refl))), S-reached b.node_id (step h (inl (a, b, kind, inr refl))))
@@ -119,22 +127,32 @@ module _ (c : Circuit) (kept : List ℕ) (is : IsCircuit c) (are : AreKept c kep
       let in_starts = recursion_from_All (Contains (starts c)) (starts c) (All-contains_itself (starts c)) in
       each (initial_edges c.latchs) (flat_has (λ (e : AigEdge). cond (e.node_id == 0) [] (e.node_id ∷ [])) (initial_edges c.latchs) (Contains (starts c)) in_starts)
     where
-      one : (e : AigEdge) (b : Bool) → (e.node_id == 0) ≡ b → AllByRecursion (Contains (starts c)) (cond b [] (e.node_id ∷ [])) → IsEdgeIn S e
+      one : (e : AigEdge) (b : Bool) → (e.node_id == 0) ≡ b
+          → AllByRecursion (Contains (starts c)) (cond b [] (e.node_id ∷ [])) → IsEdgeIn S e
       one e true is_zero all = subst S (sym (eqb-true e.node_id 0 is_zero)) S-0
       one e false differs all = S-root e.node_id (Contains-append_right ((properties c) ++ latch_leaves c.latchs) (starts c) e.node_id all.0)
 
-      each : (es : List AigEdge) → AllByRecursion (λ (e : AigEdge). AllByRecursion (Contains (starts c)) (cond (e.node_id == 0) [] (e.node_id ∷ []))) es → AllByRecursion (λ (e : AigEdge). IsEdgeIn S e) es
+      each : (es : List AigEdge)
+          → AllByRecursion
+          (λ (e : AigEdge). AllByRecursion (Contains (starts c))
+          (cond (e.node_id == 0) [] (e.node_id ∷ []))) es
+          → AllByRecursion (λ (e : AigEdge). IsEdgeIn S e) es
       each [] all = tt
       each (e ∷ es) all = (one e (e.node_id == 0) refl all.0, each es all.1)
 
   pub S-latchs : All (IsLatchIn S) c.latchs
   S-latchs = All-from_recursion (IsLatchIn S) c.latchs (each c.latchs (recursion_from_All (Contains c.latchs) c.latchs (All-contains_itself c.latchs)) (flat_has (λ (latch : AigLatch). option_to_list latch.init) c.latchs (λ (e : AigEdge). IsEdgeIn S e) S-starts))
     where
-      init_in : (o : Option AigEdge) → AllByRecursion (λ (e : AigEdge). IsEdgeIn S e) (option_to_list o) → IfSome o (IsEdgeIn S)
+      init_in : (o : Option AigEdge)
+          → AllByRecursion (λ (e : AigEdge). IsEdgeIn S e) (option_to_list o)
+          → IfSome o (IsEdgeIn S)
       init_in (Some e) all = all.0
       init_in None all = tt
 
-      each : (ls : List AigLatch) → AllByRecursion (Contains c.latchs) ls → AllByRecursion (λ (latch : AigLatch). AllByRecursion (λ (e : AigEdge). IsEdgeIn S e) (option_to_list latch.init)) ls → AllByRecursion (IsLatchIn S) ls
+      each : (ls : List AigLatch) → AllByRecursion (Contains c.latchs) ls
+          → AllByRecursion
+          (λ (latch : AigLatch). AllByRecursion (λ (e : AigEdge). IsEdgeIn S e)
+          (option_to_list latch.init)) ls → AllByRecursion (IsLatchIn S) ls
       each [] has all = tt
       each (l ∷ ls) has all =
           let leaf = Contains-map (λ (latch : AigLatch). latch.input) c.latchs l has.0 in
@@ -176,23 +194,36 @@ module _ (c : Circuit) (kept : List ℕ) (is : IsCircuit c) (are : AreKept c kep
           absurd (omega (arith, back 0 S-0))
 
 -- what one more element of a list appends
-pub appended_more : {X Y : Type 0} (F : List X → List Y) (f : X → List Y) → ((xs : List X) (x : X) → F (xs ++ x ∷ []) ≡ F xs ++ f x) → (xs : List X) (i : ℕ) (d : X) (start before after : List Y) → i < length xs → before ≡ start ++ F (take i xs) → after ≡ before ++ f (get_or xs i d) → after ≡ start ++ F (take (i + 1) xs)
+pub appended_more : {X Y : Type 0} (F : List X → List Y) (f : X → List Y)
+    → ((xs : List X) (x : X) → F (xs ++ x ∷ []) ≡ F xs ++ f x)
+    → (xs : List X) (i : ℕ) (d : X) (start before after : List Y) → i < length xs
+    → before ≡ start ++ F (take i xs) → after ≡ before ++ f (get_or xs i d)
+    → after ≡ start ++ F (take (i + 1) xs)
 appended_more F f push xs i d start before after h so_far appended =
     appended ∙ ap (λ ys. ys ++ f (get_or xs i d)) so_far ∙ append_assoc start (F (take i xs)) (f (get_or xs i d))
     ∙ ap (λ ys. start ++ ys) (sym (push (take i xs) (get_or xs i d)) ∙ ap F (sym (take_more xs i d h)))
 
-pub mapped_more : {X Y : Type 0} (f : X → Y) (xs : List X) (i : ℕ) (d : X) (start before after : List Y) → i < length xs → before ≡ start ++ map f (take i xs) → after ≡ before ++ f (get_or xs i d) ∷ [] → after ≡ start ++ map f (take (i + 1) xs)
+pub mapped_more : {X Y : Type 0} (f : X → Y) (xs : List X) (i : ℕ) (d : X)
+    (start before after : List Y) → i < length xs → before ≡ start ++ map f (take i xs)
+    → after ≡ before ++ f (get_or xs i d) ∷ [] → after ≡ start ++ map f (take (i + 1) xs)
 mapped_more f = appended_more (map f) (λ x. f x ∷ []) (λ xs x. map-append f xs (x ∷ []))
 
-flat_map-push : {X Y : Type 0} (f : X → List Y) (xs : List X) (x : X) → flat_map f (xs ++ x ∷ []) ≡ flat_map f xs ++ f x
+flat_map-push : {X Y : Type 0} (f : X → List Y) (xs : List X) (x : X)
+    → flat_map f (xs ++ x ∷ []) ≡ flat_map f xs ++ f x
 flat_map-push f xs x = flat_map-append f xs (x ∷ []) ∙ ap (λ ys. flat_map f xs ++ ys) (append-nil (f x))
 
 -- the nodes of the edges of one set more
-pub set_nodes-push : (sets : List (Vec AigEdge Global)) (set : Vec AigEdge Global) → map (λ (e : AigEdge). e.node_id) (flat_map (λ (s : Vec AigEdge Global). s.items) (sets ++ set ∷ [])) ≡ map (λ (e : AigEdge). e.node_id) (flat_map (λ (s : Vec AigEdge Global). s.items) sets) ++ map (λ (e : AigEdge). e.node_id) set.items
+pub set_nodes-push : (sets : List (Vec AigEdge Global)) (set : Vec AigEdge Global)
+    → map (λ (e : AigEdge). e.node_id)
+    (flat_map (λ (s : Vec AigEdge Global). s.items) (sets ++ set ∷ []))
+    ≡ map (λ (e : AigEdge). e.node_id) (flat_map (λ (s : Vec AigEdge Global). s.items) sets)
+    ++ map (λ (e : AigEdge). e.node_id) set.items
 set_nodes-push sets set = ap (map (λ (e : AigEdge). e.node_id)) (flat_map-push (λ (s : Vec AigEdge Global). s.items) sets set) ∙ map-append (λ (e : AigEdge). e.node_id) (flat_map (λ (s : Vec AigEdge Global). s.items) sets) set.items
 
 -- the nodes of the initial edges of one latch more
-pub starts-push : (latchs : List AigLatch) (latch : AigLatch) → variable_nodes (initial_edges (latchs ++ latch ∷ [])) ≡ variable_nodes (initial_edges latchs) ++ variable_nodes (option_to_list latch.init)
+pub starts-push : (latchs : List AigLatch) (latch : AigLatch)
+    → variable_nodes (initial_edges (latchs ++ latch ∷ []))
+    ≡ variable_nodes (initial_edges latchs) ++ variable_nodes (option_to_list latch.init)
 starts-push latchs latch = ap variable_nodes (flat_map-push (λ (l : AigLatch). option_to_list l.init) latchs latch) ∙ flat_map-append _ (initial_edges latchs) (option_to_list latch.init)
 
 -- list after list the roots are appended
@@ -201,28 +232,33 @@ pub refining_roots-pushed : (c : Circuit) (r0 r1 r2 r3 r4 r5 r6 r7 : List ℕ) �
 refining_roots-pushed c r0 r1 r2 r3 r4 r5 r6 r7 e1 e2 e3 e4 e5 e6 e7 = rw (e7, e6, e5, e4, e3, e2, e1) (simp (map-append, append_assoc))
 
 -- the marked numbers of the cone are what is kept
-pub AreKept-marked : (c : Circuit) (marks : List Bool) (numbers : List ℕ) → AreMarked marks numbers → ((n : ℕ) → IsMarked marks n ↔ IsInCone c (refining_roots c) n) → AreKept c numbers
+pub AreKept-marked : (c : Circuit) (marks : List Bool) (numbers : List ℕ) → AreMarked marks numbers
+    → ((n : ℕ) → IsMarked marks n ↔ IsInCone c (refining_roots c) n) → AreKept c numbers
 AreKept-marked c marks numbers are same = record {
   rising = are.rising;
   exactly = λ n. ((λ has. (same n).0 ((are.exactly n).0 has)), λ h. (are.exactly n).1 ((same n).1 h));
 }
 
 -- every root is a node
-pub refining_roots_within : (c : Circuit) → IsCircuit c → All (λ n. n < length c.nodes) (refining_roots c)
+pub refining_roots_within : (c : Circuit) → IsCircuit c
+    → All (λ n. n < length c.nodes) (refining_roots c)
 refining_roots_within c is k d h = roots_within c is (get_or (refining_roots c) k d) (Contains-get_or (refining_roots c) k d h)
 
 -- the kept are some, the first of them is 0, and they are no more than the nodes
-pub kept-first : (c : Circuit) (kept : List ℕ) → IsCircuit c → AreKept c kept → (0 < length kept) × (get_or kept 0 0 ≡ 0)
+pub kept-first : (c : Circuit) (kept : List ℕ) → IsCircuit c → AreKept c kept
+    → (0 < length kept) × (get_or kept 0 0 ≡ 0)
 kept-first c kept is are =
     let numbers = Numbers-kept c kept is are in
     let has = (are.exactly 0).1 (inl refl) in
     let place : position_of kept 0 ≡ 0 = numbers.false_first in
     (omega (arith, position_of-within kept 0 has), subst (λ i. get_or kept i 0 ≡ 0) place (get_or-position_of kept 0 has))
 
-pub kept-there : (c : Circuit) (kept : List ℕ) → IsCircuit c → AreKept c kept → All (λ n. n < length c.nodes) kept
+pub kept-there : (c : Circuit) (kept : List ℕ) → IsCircuit c → AreKept c kept
+    → All (λ n. n < length c.nodes) kept
 kept-there c kept is are k d h = S-there c kept is are (get_or kept k d) (Contains-get_or kept k d h)
 
-pub kept-few : (c : Circuit) (kept : List ℕ) → IsCircuit c → AreKept c kept → length kept ≤ length c.nodes
+pub kept-few : (c : Circuit) (kept : List ℕ) → IsCircuit c → AreKept c kept
+    → length kept ≤ length c.nodes
 kept-few c kept is are =
     elim (cases_lt (length c.nodes) (length kept)) [
       | inl more ↦ absurd (let high = rising_from 0 kept are.rising (λ k d h. omega arith) (length c.nodes) more in let low = kept-there c kept is are (length c.nodes) 0 more in omega (arith, high, low))

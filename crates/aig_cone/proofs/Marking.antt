@@ -15,13 +15,15 @@ use Rattle.aig_circuit.specs.Marks.{IsMarked}
 use Rattle.aig_cone.specs.Marks.{AddsMarks}
 
 -- a mark that is set, and the others as they were
-pub AddsMarks-set : (marks : List Bool) (i : ℕ) → i < length marks → AddsMarks marks (set marks i true) (λ n. n ≡ i)
+pub AddsMarks-set : (marks : List Bool) (i : ℕ) → i < length marks
+    → AddsMarks marks (set marks i true) (λ n. n ≡ i)
 AddsMarks-set marks i h n = elim (cases_eq n i) [
   | inl e ↦ (λ m. inr e, λ m. rw (e, get_or-set_same))
   | inr ne ↦ (λ m. inl (rw get_or-set_other at m), λ m. elim m [ inl old ↦ rw get_or-set_other old | inr e ↦ absurd (ne e) ])
 ]
 
-pub AddsMarks-then : (P Q : ℕ → Type 0) (a b c : List Bool) → AddsMarks a b P → AddsMarks b c Q → AddsMarks a c (λ n. P n ⊎ Q n)
+pub AddsMarks-then : (P Q : ℕ → Type 0) (a b c : List Bool) → AddsMarks a b P → AddsMarks b c Q
+    → AddsMarks a c (λ n. P n ⊎ Q n)
 AddsMarks-then P Q a b c p q n = (
   λ m. elim ((q n).0 m) [
     | inl in_b ↦ elim ((p n).0 in_b) [ inl in_a ↦ inl in_a | inr h ↦ inr (inl h) ]
@@ -33,7 +35,8 @@ AddsMarks-then P Q a b c p q n = (
   ],
 )
 
-pub AddsMarks-same : (P Q : ℕ → Type 0) (a b : List Bool) → ((n : ℕ) → P n ↔ Q n) → AddsMarks a b P → AddsMarks a b Q
+pub AddsMarks-same : (P Q : ℕ → Type 0) (a b : List Bool) → ((n : ℕ) → P n ↔ Q n) → AddsMarks a b P
+    → AddsMarks a b Q
 AddsMarks-same P Q a b same p n = (
   λ m. elim ((p n).0 m) [ inl old ↦ inl old | inr h ↦ inr ((same n).0 h) ],
   λ m. elim m [ inl old ↦ (p n).1 (inl old) | inr h ↦ (p n).1 (inr ((same n).1 h)) ],
@@ -49,7 +52,8 @@ none_marked (suc count) zero h = false≢true h
 none_marked (suc count) (suc n) h = none_marked count n h
 
 -- the operands of a gate are the nodes of its two edges
-pub operands_of : (nodes : List AigNode) (n : ℕ) (a b : AigEdge) → kind_at nodes n ≡ Some (And a b) → (k : ℕ) → ((k ≡ a.node_id) ⊎ (k ≡ b.node_id)) ↔ IsFanin nodes n k
+pub operands_of : (nodes : List AigNode) (n : ℕ) (a b : AigEdge) → kind_at nodes n ≡ Some (And a b)
+    → (k : ℕ) → ((k ≡ a.node_id) ⊎ (k ≡ b.node_id)) ↔ IsFanin nodes n k
 operands_of nodes n a b gate k = ((λ e. (a, b, gate, e)), back)
   where
     back : IsFanin nodes n k → (k ≡ a.node_id) ⊎ (k ≡ b.node_id)
@@ -71,13 +75,15 @@ pub Contains-nothing : (n : ℕ) → ¬ Contains [] n
 Contains-nothing n (i, low, is) = omega arith
 
 -- a list with one number more
-pub Contains-one_more : (xs : List ℕ) (x n : ℕ) → (Contains xs n ⊎ (n ≡ x)) ↔ Contains (xs ++ x ∷ []) n
+pub Contains-one_more : (xs : List ℕ) (x n : ℕ)
+    → (Contains xs n ⊎ (n ≡ x)) ↔ Contains (xs ++ x ∷ []) n
 Contains-one_more xs x n = (
   λ m. elim m [ inl had ↦ Contains-append_left xs (x ∷ []) n had | inr e ↦ rw e (Contains-push xs x) ],
   λ m. elim (Contains-push_cases xs x n m) [ inl had ↦ inl had | inr e ↦ inr (sym e) ],
 )
 
-pub Contains-more : (xs : List ℕ) (i d x : ℕ) → i < length xs → get_or xs i d ≡ x → (n : ℕ) → (Contains (take i xs) n ⊎ (n ≡ x)) ↔ Contains (take (i + 1) xs) n
+pub Contains-more : (xs : List ℕ) (i d x : ℕ) → i < length xs → get_or xs i d ≡ x → (n : ℕ)
+    → (Contains (take i xs) n ⊎ (n ≡ x)) ↔ Contains (take (i + 1) xs) n
 Contains-more xs i d x h is n =
     let more : take (i + 1) xs ≡ take i xs ++ x ∷ [] = take_more xs i d h ∙ ap (λ y. take i xs ++ y ∷ []) is in
     let one = Contains-one_more (take i xs) x n in
@@ -98,14 +104,18 @@ operand_below nodes o n m (a, b, kind, inr is) = let low = o.second_before n a b
 gate_within : (nodes : List AigNode) (n m : ℕ) → IsFanin nodes n m → n < length nodes
 gate_within nodes n m (a, b, kind, which) = kind_at-within nodes n (And a b) kind
 
-pub MarkedDownTo-start : (nodes : List AigNode) (roots : List ℕ) (old new : List Bool) → ((n : ℕ) → ¬ IsMarked old n) → AddsMarks old new (Contains roots) → MarkedDownTo nodes roots new (length nodes)
+pub MarkedDownTo-start : (nodes : List AigNode) (roots : List ℕ) (old new : List Bool)
+    → ((n : ℕ) → ¬ IsMarked old n) → AddsMarks old new (Contains roots)
+    → MarkedDownTo nodes roots new (length nodes)
 MarkedDownTo-start nodes roots old new none marked = record {
   only = λ n m. elim ((marked n).0 m) [ inl was ↦ absurd (none n was) | inr h ↦ root h ];
   roots_marked = λ n h. (marked n).1 (inr h);
   closed = λ n m h is operand. let low = gate_within nodes n m operand in absurd (omega arith);
 }
 
-pub MarkedDownTo-step : (nodes : List AigNode) (roots : List ℕ) (old new : List Bool) (i : ℕ) → IsOrdered nodes → MarkedDownTo nodes roots old (i + 1) → AddsMarks old new (λ n. IsMarked old i × IsFanin nodes i n) → MarkedDownTo nodes roots new i
+pub MarkedDownTo-step : (nodes : List AigNode) (roots : List ℕ) (old new : List Bool) (i : ℕ)
+    → IsOrdered nodes → MarkedDownTo nodes roots old (i + 1)
+    → AddsMarks old new (λ n. IsMarked old i × IsFanin nodes i n) → MarkedDownTo nodes roots new i
 MarkedDownTo-step nodes roots old new i o d marked = record {
   only = λ n m. elim ((marked n).0 m) [ inl was ↦ d.only n was | inr p ↦ step (d.only i p.0) p.1 ];
   roots_marked = λ n h. (marked n).1 (inl (d.roots_marked n h));
@@ -126,6 +136,8 @@ MarkedDownTo-step nodes roots old new i o d marked = record {
 }
 
 -- all that is reached is marked in the end
-pub reached_is_marked : (nodes : List AigNode) (roots : List ℕ) (marks : List Bool) → MarkedDownTo nodes roots marks 0 → (n : ℕ) → IsReached (IsFanin nodes) roots n → IsMarked marks n
+pub reached_is_marked : (nodes : List AigNode) (roots : List ℕ) (marks : List Bool)
+    → MarkedDownTo nodes roots marks 0 → (n : ℕ) → IsReached (IsFanin nodes) roots n
+    → IsMarked marks n
 reached_is_marked nodes roots marks d n (root h) = d.roots_marked n h
 reached_is_marked nodes roots marks d n (step {n = k} reached operand) = d.closed k n (omega arith) (reached_is_marked nodes roots marks d k reached) operand

@@ -22,7 +22,9 @@ use Rattle.aig_cone.proofs.Marking.{AddsMarks-none, AddsMarks-same, AddsMarks-se
 -- ---- visits
 
 -- a node that wasn't marked
-pub Visits-set : (marks : List Bool) (stack stacked : List ℕ) (i : ℕ) → i < length marks → get_or marks i false ≡ false → stacked ≡ stack ++ i ∷ [] → Visits marks (set marks i true) stack stacked (λ n. n ≡ i)
+pub Visits-set : (marks : List Bool) (stack stacked : List ℕ) (i : ℕ) → i < length marks
+    → get_or marks i false ≡ false → stacked ≡ stack ++ i ∷ []
+    → Visits marks (set marks i true) stack stacked (λ n. n ≡ i)
 Visits-set marks stack stacked i h was put = record {
   marks = AddsMarks-set marks i h;
   kept = λ n had. rw put (Contains-append_left stack (i ∷ []) n had);
@@ -36,7 +38,8 @@ Visits-set marks stack stacked i h was put = record {
       omega (arith, less, one, long);
 }
 
-pub Visits-none : (P : ℕ → Type 0) (marks : List Bool) (stack : List ℕ) → ((n : ℕ) → ¬ P n) → Visits marks marks stack stack P
+pub Visits-none : (P : ℕ → Type 0) (marks : List Bool) (stack : List ℕ) → ((n : ℕ) → ¬ P n)
+    → Visits marks marks stack stack P
 Visits-none P marks stack none = record {
   marks = AddsMarks-none P marks none;
   kept = λ n had. had;
@@ -45,7 +48,8 @@ Visits-none P marks stack none = record {
   once = refl;
 }
 
-pub Visits-then : (P Q : ℕ → Type 0) (a b c : List Bool) (s t u : List ℕ) → Visits a b s t P → Visits b c t u Q → Visits a c s u (λ n. P n ⊎ Q n)
+pub Visits-then : (P Q : ℕ → Type 0) (a b c : List Bool) (s t u : List ℕ) → Visits a b s t P
+    → Visits b c t u Q → Visits a c s u (λ n. P n ⊎ Q n)
 Visits-then P Q a b c s t u p q = record {
   marks = AddsMarks-then P Q a b c p.marks q.marks;
   kept = λ n had. q.kept n (p.kept n had);
@@ -60,7 +64,8 @@ Visits-then P Q a b c s t u p q = record {
   once = q.once ∙ p.once;
 }
 
-pub Visits-same : (P Q : ℕ → Type 0) (a b : List Bool) (s t : List ℕ) → ((n : ℕ) → P n ↔ Q n) → Visits a b s t P → Visits a b s t Q
+pub Visits-same : (P Q : ℕ → Type 0) (a b : List Bool) (s t : List ℕ) → ((n : ℕ) → P n ↔ Q n)
+    → Visits a b s t P → Visits a b s t Q
 Visits-same P Q a b s t same p = record {
   marks = AddsMarks-same P Q a b same p.marks;
   kept = p.kept;
@@ -70,17 +75,25 @@ Visits-same P Q a b s t same p = record {
 }
 
 -- the operands of a gate
-pub Visits-operands : (nodes : List AigNode) (n : ℕ) (a b : AigEdge) (m0 m1 m2 : List Bool) (s0 s1 s2 : List ℕ) → kind_at nodes n ≡ Some (And a b) → Visits m0 m1 s0 s1 (λ k. k ≡ a.node_id) → Visits m1 m2 s1 s2 (λ k. k ≡ b.node_id) → Visits m0 m2 s0 s2 (IsFanin nodes n)
+pub Visits-operands : (nodes : List AigNode) (n : ℕ) (a b : AigEdge) (m0 m1 m2 : List Bool)
+    (s0 s1 s2 : List ℕ) → kind_at nodes n ≡ Some (And a b)
+    → Visits m0 m1 s0 s1 (λ k. k ≡ a.node_id) → Visits m1 m2 s1 s2 (λ k. k ≡ b.node_id)
+    → Visits m0 m2 s0 s2 (IsFanin nodes n)
 Visits-operands nodes n a b m0 m1 m2 s0 s1 s2 gate first second =
     Visits-same (λ k. (k ≡ a.node_id) ⊎ (k ≡ b.node_id)) (IsFanin nodes n) m0 m2 s0 s2 (operands_of nodes n a b gate)
     (Visits-then (λ k. k ≡ a.node_id) (λ k. k ≡ b.node_id) m0 m1 m2 s0 s1 s2 first second)
 
 -- what isn't a gate has no operands
-pub Visits-no_operands : (nodes : List AigNode) (n : ℕ) (marks : List Bool) (stack : List ℕ) → ((a b : AigEdge) → kind_at nodes n ≢ Some (And a b)) → Visits marks marks stack stack (IsFanin nodes n)
+pub Visits-no_operands : (nodes : List AigNode) (n : ℕ) (marks : List Bool) (stack : List ℕ)
+    → ((a b : AigEdge) → kind_at nodes n ≢ Some (And a b))
+    → Visits marks marks stack stack (IsFanin nodes n)
 Visits-no_operands nodes n marks stack none = Visits-none (IsFanin nodes n) marks stack (λ m (a, b, kind, which). none a b kind)
 
 -- the node that the table gives
-pub Visits-given : (table : List (Option ℕ)) (n next : ℕ) (old new : List Bool) (stack stacked : List ℕ) → get_or table n None ≡ Some next → Visits old new stack stacked (λ k. k ≡ next) → Visits old new stack stacked (λ m. get_or table n None ≡ Some m)
+pub Visits-given : (table : List (Option ℕ)) (n next : ℕ) (old new : List Bool)
+    (stack stacked : List ℕ) → get_or table n None ≡ Some next
+    → Visits old new stack stacked (λ k. k ≡ next)
+    → Visits old new stack stacked (λ m. get_or table n None ≡ Some m)
 Visits-given table n next old new stack stacked given v =
     Visits-same (λ k. k ≡ next) (λ m. get_or table n None ≡ Some m) old new stack stacked (λ m. ((λ e. given ∙ ap Some (sym e)), λ e. same_Some _ _ (sym e ∙ given))) v
 
@@ -93,7 +106,8 @@ pub record Following (c : Circuit) (roots : List ℕ) (marks : List Bool) (stack
   pub stacked : (n : ℕ) → Contains stack n → IsMarked marks n
   pub closed : (n m : ℕ) → IsMarked marks n → DependsOn c n m → Contains stack n ⊎ IsMarked marks m
 
-pub Following-start : (c : Circuit) (roots : List ℕ) (marks : List Bool) → ((n : ℕ) → IsMarked marks n ↔ Contains roots n) → Following c roots marks roots
+pub Following-start : (c : Circuit) (roots : List ℕ) (marks : List Bool)
+    → ((n : ℕ) → IsMarked marks n ↔ Contains roots n) → Following c roots marks roots
 Following-start c roots marks same = record {
   only = λ n m. root ((same n).0 m);
   roots_marked = λ n h. (same n).1 h;
@@ -102,7 +116,10 @@ Following-start c roots marks same = record {
 }
 
 -- the node on top is followed
-pub Following-step : (c : Circuit) (roots : List ℕ) (old new : List Bool) (stack popped stacked : List ℕ) (id : ℕ) → Following c roots old stack → stack ≡ popped ++ id ∷ [] → Visits old new popped stacked (DependsOn c id) → Following c roots new stacked
+pub Following-step : (c : Circuit) (roots : List ℕ) (old new : List Bool)
+    (stack popped stacked : List ℕ) (id : ℕ) → Following c roots old stack
+    → stack ≡ popped ++ id ∷ [] → Visits old new popped stacked (DependsOn c id)
+    → Following c roots new stacked
 Following-step c roots old new stack popped stacked id f top v = record {
   only = λ n m. elim ((v.marks n).0 m) [ inl was ↦ f.only n was | inr before ↦ step (f.only id top_marked) before ];
   roots_marked = λ n h. (v.marks n).1 (inl (f.roots_marked n h));
@@ -125,11 +142,14 @@ Following-step c roots old new stack popped stacked id f top v = record {
     below : (n : ℕ) → Contains popped n → IsMarked old n
     below n had = f.stacked n (rw top (Contains-append_left popped (id ∷ []) n had))
 
-pub kind-of : (nodes : List AigNode) (n : ℕ) (d : AigNode) (kind : AigNodeType) → n < length nodes → (get_or nodes n d).typ ≡ kind → kind_at nodes n ≡ Some kind
+pub kind-of : (nodes : List AigNode) (n : ℕ) (d : AigNode) (kind : AigNodeType) → n < length nodes
+    → (get_or nodes n d).typ ≡ kind → kind_at nodes n ≡ Some kind
 kind-of nodes n d kind h is = ap (option_map (λ (x : AigNode). x.typ)) (slice_get-get_or nodes n d h) ∙ ap Some is
 
 -- with nothing on the stack all that is reached is marked
-pub Following-end : (c : Circuit) (roots : List ℕ) (marks : List Bool) (stack : List ℕ) → Following c roots marks stack → stack ≡ [] → (n : ℕ) → IsMarked marks n ↔ IsReached (DependsOn c) roots n
+pub Following-end : (c : Circuit) (roots : List ℕ) (marks : List Bool) (stack : List ℕ)
+    → Following c roots marks stack → stack ≡ [] → (n : ℕ)
+    → IsMarked marks n ↔ IsReached (DependsOn c) roots n
 Following-end c roots marks stack f none n = (f.only n, all n)
   where
     all : (n : ℕ) → IsReached (DependsOn c) roots n → IsMarked marks n
@@ -150,7 +170,9 @@ none_before_0 c is m (inr (latch, has, from, to)) =
     cc
 
 -- what is reached from 0 and the roots is the cone of the roots
-pub IsInCone-reached : (c : Circuit) (roots all : List ℕ) → IsCircuit c → ((n : ℕ) → Contains all n ↔ ((n ≡ 0) ⊎ Contains roots n)) → (n : ℕ) → IsReached (DependsOn c) all n ↔ IsInCone c roots n
+pub IsInCone-reached : (c : Circuit) (roots all : List ℕ) → IsCircuit c
+    → ((n : ℕ) → Contains all n ↔ ((n ≡ 0) ⊎ Contains roots n)) → (n : ℕ)
+    → IsReached (DependsOn c) all n ↔ IsInCone c roots n
 IsInCone-reached c roots all is same n = (forth n, back n)
   where
     forth : (n : ℕ) → IsReached (DependsOn c) all n → IsInCone c roots n
@@ -183,11 +205,13 @@ none_there zero n = refl
 none_there (suc count) zero = refl
 none_there (suc count) (suc n) = none_there count n
 
-pub none_alone : (C : Option ℕ → Type 0) → ((n : ℕ) → ¬ C (Some n)) → (o : Option ℕ) → C o → o ≡ None
+pub none_alone : (C : Option ℕ → Type 0) → ((n : ℕ) → ¬ C (Some n)) → (o : Option ℕ) → C o
+    → o ≡ None
 none_alone C not_some None h = refl
 none_alone C not_some (Some n) h = absurd (not_some n h)
 
-pub HoldNext-start : (nodes : List AigNode) (table : List (Option ℕ)) → table ≡ replicate (length nodes) None → HoldNext nodes [] table
+pub HoldNext-start : (nodes : List AigNode) (table : List (Option ℕ))
+    → table ≡ replicate (length nodes) None → HoldNext nodes [] table
 HoldNext-start nodes table nothing = record {
   count = ap length nothing ∙ length-replicate (length nodes) None;
   exactly = λ n m. (
@@ -223,13 +247,15 @@ module _ (nodes : List AigNode) (latchs : List AigLatch) (i : ℕ) (d : AigLatch
       let last : get_or (latch_leaves latchs) i 0 ≡ latch.input = get_or-map input latchs i d 0 h in
       distinct k i 0 low_i second (first ∙ same ∙ sym last)
 
-  forth_here : (n m : ℕ) → n ≡ latch.input → get_or now n None ≡ Some m → IsLatchNext (take (i + 1) latchs) n m
+  forth_here : (n m : ℕ) → n ≡ latch.input → get_or now n None ≡ Some m
+      → IsLatchNext (take (i + 1) latchs) n m
   forth_here n m e is =
       let set_to : get_or now n None ≡ Some latch.next.node_id = rw (e, get_or-set_same) refl in
       let same : latch.next.node_id ≡ m = same_Some _ _ (sym set_to ∙ is) in
       (latch, rw more (Contains-push (take i latchs) latch), e, sym same)
 
-  back_here : (n m : ℕ) → n ≡ latch.input → IsLatchNext (take (i + 1) latchs) n m → get_or now n None ≡ Some m
+  back_here : (n m : ℕ) → n ≡ latch.input → IsLatchNext (take (i + 1) latchs) n m
+      → get_or now n None ≡ Some m
   back_here n m e (other, has, from, to) =
       let set_to : get_or now n None ≡ Some latch.next.node_id = rw (e, get_or-set_same) refl in
       elim (Contains-push_cases (take i latchs) latch other (subst (λ ls. Contains ls other) more has)) [
@@ -237,27 +263,31 @@ module _ (nodes : List AigNode) (latchs : List AigLatch) (i : ℕ) (d : AigLatch
         | inr is ↦ set_to ∙ ap (λ (l : AigLatch). Some l.next.node_id) is ∙ ap Some (sym to)
       ]
 
-  forth_other : (n m : ℕ) → n ≢ latch.input → get_or now n None ≡ Some m → IsLatchNext (take (i + 1) latchs) n m
+  forth_other : (n m : ℕ) → n ≢ latch.input → get_or now n None ≡ Some m
+      → IsLatchNext (take (i + 1) latchs) n m
   forth_other n m ne is =
       let old : get_or table n None ≡ Some m = rw get_or-set_other at is in
       let r = (so_far.exactly n m).0 old in
       (r.0, rw more (Contains-append_left (take i latchs) (latch ∷ []) r.0 r.1), r.2, r.3)
 
-  back_other : (n m : ℕ) → n ≢ latch.input → IsLatchNext (take (i + 1) latchs) n m → get_or now n None ≡ Some m
+  back_other : (n m : ℕ) → n ≢ latch.input → IsLatchNext (take (i + 1) latchs) n m
+      → get_or now n None ≡ Some m
   back_other n m ne (other, has, from, to) =
       elim (Contains-push_cases (take i latchs) latch other (subst (λ ls. Contains ls other) more has)) [
         | inl earlier ↦ rw get_or-set_other ((so_far.exactly n m).1 (other, earlier, from, to))
         | inr is ↦ absurd (ne (from ∙ ap (λ (l : AigLatch). l.input) (sym is)))
       ]
 
-  pub HoldNext-step : HoldNext nodes (take (i + 1) latchs) (set table (get_or latchs i d).input (Some (get_or latchs i d).next.node_id))
+  pub HoldNext-step : HoldNext nodes (take (i + 1) latchs)
+      (set table (get_or latchs i d).input (Some (get_or latchs i d).next.node_id))
   HoldNext-step = record {
     count = length-set table latch.input (Some latch.next.node_id) ∙ so_far.count;
     exactly = λ n m. elim (cases_eq n latch.input) [ inl e ↦ (forth_here n m e, back_here n m e) | inr ne ↦ (forth_other n m ne, back_other n m ne) ];
   }
 
 -- what stands in the table is a node
-pub next_within : (c : Circuit) (table : List (Option ℕ)) → IsCircuit c → AreNextStates c table → (n m : ℕ) → get_or table n None ≡ Some m → m < length c.nodes
+pub next_within : (c : Circuit) (table : List (Option ℕ)) → IsCircuit c → AreNextStates c table
+    → (n m : ℕ) → get_or table n None ≡ Some m → m < length c.nodes
 next_within c table is are n m h =
     let r = (are.exactly n m).0 h in
     let latch = subst (λ (l : AigLatch). IsLatch c.nodes l) r.1.2 (is.latchs r.1.0 r.0 r.1.1) in
@@ -265,7 +295,9 @@ next_within c table is are n m h =
     omega (arith, r.3)
 
 -- what comes before a node
-pub Visits-before : (c : Circuit) (table : List (Option ℕ)) → AreNextStates c table → (n : ℕ) (m0 m1 m2 : List Bool) (s0 s1 s2 : List ℕ) → Visits m0 m1 s0 s1 (IsFanin c.nodes n) → Visits m1 m2 s1 s2 (λ m. get_or table n None ≡ Some m) → Visits m0 m2 s0 s2 (DependsOn c n)
+pub Visits-before : (c : Circuit) (table : List (Option ℕ)) → AreNextStates c table
+    → (n : ℕ) (m0 m1 m2 : List Bool) (s0 s1 s2 : List ℕ) → Visits m0 m1 s0 s1 (IsFanin c.nodes n)
+    → Visits m1 m2 s1 s2 (λ m. get_or table n None ≡ Some m) → Visits m0 m2 s0 s2 (DependsOn c n)
 Visits-before c table are n m0 m1 m2 s0 s1 s2 operands next =
     Visits-same (λ m. IsFanin c.nodes n m ⊎ (get_or table n None ≡ Some m)) (DependsOn c n) m0 m2 s0 s2 (λ m. (
       λ h. elim h [ inl operand ↦ inl operand | inr given ↦ inr ((are.exactly n m).0 given) ],
@@ -290,7 +322,8 @@ stacked-start old first marks stack second roots none zero_visited all_visited n
     )
 
 -- a latch's leaf is there
-pub leaf_within : (nodes : List AigNode) (latchs : List AigLatch) (i : ℕ) (d : AigLatch) → i < length latchs → All (IsLatch nodes) latchs → (get_or latchs i d).input < length nodes
+pub leaf_within : (nodes : List AigNode) (latchs : List AigLatch) (i : ℕ) (d : AigLatch)
+    → i < length latchs → All (IsLatch nodes) latchs → (get_or latchs i d).input < length nodes
 leaf_within nodes latchs i d h all = let latch = all i d h in kind_at-within nodes (get_or latchs i d).input Leaf latch.leaf
 
 pub nothing_on : (stack : List ℕ) → length stack ≡ 0 → stack ≡ []

@@ -11,11 +11,13 @@ use Rattle.aig_ordering.proofs.Tables.{count-nodes, node_at}
 
 -- ---- the nodes of a table
 
-length-from : (v : ℕ) (gates : List (Option Operands)) → length (nodes_in_from v gates) ≡ length gates
+length-from : (v : ℕ) (gates : List (Option Operands))
+    → length (nodes_in_from v gates) ≡ length gates
 length-from v [] = refl
 length-from v (gate ∷ gates) = ap suc (length-from (v + 1) gates)
 
-at_from : (w v : ℕ) (gates : List (Option Operands)) (d : AigNode) (e : Option Operands) → v < length gates → get_or (nodes_in_from w gates) v d ≡ node_in (w + v) (get_or gates v e)
+at_from : (w v : ℕ) (gates : List (Option Operands)) (d : AigNode) (e : Option Operands)
+    → v < length gates → get_or (nodes_in_from w gates) v d ≡ node_in (w + v) (get_or gates v e)
 at_from w v [] d e h = absurd (omega arith)
 at_from w zero (gate ∷ gates) d e h = let same : w ≡ w + 0 = omega arith in ap (λ u. node_in u gate) same
 at_from w (suc v) (gate ∷ gates) d e h =
@@ -27,7 +29,8 @@ pub length-nodes_in : (gates : List (Option Operands)) → length (nodes_in gate
 length-nodes_in gates = length-from 0 gates
 
 -- the node at a place is that of the gate there
-pub nodes_in-at : (gates : List (Option Operands)) (v : ℕ) (d : AigNode) (e : Option Operands) → v < length gates → get_or (nodes_in gates) v d ≡ node_in v (get_or gates v e)
+pub nodes_in-at : (gates : List (Option Operands)) (v : ℕ) (d : AigNode) (e : Option Operands)
+    → v < length gates → get_or (nodes_in gates) v d ≡ node_in v (get_or gates v e)
 nodes_in-at gates v d e h = let same : 0 + v ≡ v = omega arith in at_from 0 v gates d e h ∙ ap (λ u. node_in u (get_or gates v e)) same
 
 module _ (f : File) (gates : List (Option Operands)) (are : AreNodesOf f (nodes_in gates)) where
@@ -36,7 +39,9 @@ module _ (f : File) (gates : List (Option Operands)) (are : AreNodesOf f (nodes_
   count-gates = sym (length-nodes_in gates) ∙ count-nodes f (nodes_in gates) are
 
   -- and tells its kind
-  pub kind_told : (v : ℕ) (e : Option Operands) (node : AigNode) (kind : AigNodeType) → v < length gates → node ≡ node_in v (get_or gates v e) → kind ≡ node.typ → kind_among f.gates v ≡ kind
+  pub kind_told : (v : ℕ) (e : Option Operands) (node : AigNode) (kind : AigNodeType)
+      → v < length gates → node ≡ node_in v (get_or gates v e) → kind ≡ node.typ
+      → kind_among f.gates v ≡ kind
   kind_told v e node kind h is has =
       let typ = λ (n : AigNode). n.typ in
       sym (ap typ (node_at f (nodes_in gates) are v node (omega (arith, length-nodes_in gates)))) ∙ ap typ (nodes_in-at gates v node e h) ∙ sym (has ∙ ap typ is)

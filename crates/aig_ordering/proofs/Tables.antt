@@ -36,7 +36,8 @@ entry_value-below zero k is = absurd cc
 entry_value-below (suc entry) k is = let same = same_Some _ _ is in omega (arith, same)
 
 -- and no greater than any number above that
-pub entry_value-least : (entry bound : ℕ) → ((k : ℕ) → entry_value entry ≡ Some k → k < bound) → entry ≤ bound
+pub entry_value-least : (entry bound : ℕ) → ((k : ℕ) → entry_value entry ≡ Some k → k < bound)
+    → entry ≤ bound
 entry_value-least zero bound within = omega arith
 entry_value-least (suc entry) bound within = within entry refl
 
@@ -51,7 +52,8 @@ entry_value-nothing (suc n) (suc v) = entry_value-nothing n v
 pub length-row : (gates : List GateLine) (n v : ℕ) → length (nodes_in_row gates n v) ≡ n
 length-row gates n v = length-map (numbers_from n v) (node_from gates) ∙ length-numbers n v
 
-at_row : (gates : List GateLine) (n w i : ℕ) (d : AigNode) → i < n → get_or (nodes_in_row gates n w) i d ≡ node_from gates (w + i)
+at_row : (gates : List GateLine) (n w i : ℕ) (d : AigNode) → i < n
+    → get_or (nodes_in_row gates n w) i d ≡ node_from gates (w + i)
 at_row gates zero w i d h = absurd (omega arith)
 at_row gates (suc n) w zero d h = let e : w ≡ w + 0 = omega arith in ap (node_from gates) e
 at_row gates (suc n) w (suc i) d h = let e : w + 1 + i ≡ w + suc i = omega arith in at_row gates n (w + 1) i d (omega arith) ∙ ap (node_from gates) e
@@ -62,19 +64,23 @@ at_row gates (suc n) w (suc i) d h = let e : w + 1 + i ≡ w + suc i = omega ari
 pub record GateAt (f : File) (v : ℕ) (a b : AigEdge) : Type 0 where
   pub gate : GateLine
   pub found : gate_of_variable f v ≡ Some gate
-  pub operands : ((a.node_id ≡ gate.rhs0 / 2) × (b.node_id ≡ gate.rhs1 / 2)) ⊎ ((a.node_id ≡ gate.rhs1 / 2) × (b.node_id ≡ gate.rhs0 / 2))
+  pub operands : ((a.node_id ≡ gate.rhs0 / 2) × (b.node_id ≡ gate.rhs1 / 2))
+      ⊎ ((a.node_id ≡ gate.rhs1 / 2) × (b.node_id ≡ gate.rhs0 / 2))
 
-and_parts_of : (p q a b : AigEdge) → and_of p q ≡ And a b → ((a ≡ p) × (b ≡ q)) ⊎ ((a ≡ q) × (b ≡ p))
+and_parts_of : (p q a b : AigEdge) → and_of p q ≡ And a b
+    → ((a ≡ p) × (b ≡ q)) ⊎ ((a ≡ q) × (b ≡ p))
 and_parts_of p q a b is = by_test (nat_lt (literal_of q) (literal_of p)) is
   where
-    by_test : (t : Bool) → cond t (And q p) (And p q) ≡ And a b → ((a ≡ p) × (b ≡ q)) ⊎ ((a ≡ q) × (b ≡ p))
+    by_test : (t : Bool) → cond t (And q p) (And p q) ≡ And a b
+        → ((a ≡ p) × (b ≡ q)) ⊎ ((a ≡ q) × (b ≡ p))
     by_test true is = inr (cc, cc)
     by_test false is = inl (cc, cc)
 
 pub gate_at : (f : File) (v : ℕ) (a b : AigEdge) → kind_among f.gates v ≡ And a b → GateAt f v a b
 gate_at f v a b is = by_zero (v == 0) is
   where
-    by_gate : (o : Option GateLine) → gate_of_variable f v ≡ o → kind_of_line o ≡ And a b → GateAt f v a b
+    by_gate : (o : Option GateLine) → gate_of_variable f v ≡ o → kind_of_line o ≡ And a b
+        → GateAt f v a b
     by_gate None none is = absurd cc
     by_gate (Some g) found is =
         let node = λ (e : AigEdge). e.node_id in
@@ -84,11 +90,13 @@ gate_at f v a b is = by_zero (v == 0) is
           operands = elim (and_parts_of (edge_from g.rhs0) (edge_from g.rhs1) a b is) [ inl p ↦ inl (ap node p.0, ap node p.1) | inr p ↦ inr (ap node p.0, ap node p.1) ];
         }
 
-    by_zero : (t : Bool) → cond t False (kind_of_line (gate_of_variable f v)) ≡ And a b → GateAt f v a b
+    by_zero : (t : Bool) → cond t False (kind_of_line (gate_of_variable f v)) ≡ And a b
+        → GateAt f v a b
     by_zero true is = absurd cc
     by_zero false is = by_gate (gate_of_variable f v) refl is
 
-no_and : (p q : AigEdge) (kind : AigNodeType) → and_of p q ≡ kind → (kind ≡ False) ⊎ (kind ≡ Leaf) → ⊥
+no_and : (p q : AigEdge) (kind : AigNodeType) → and_of p q ≡ kind → (kind ≡ False) ⊎ (kind ≡ Leaf)
+    → ⊥
 no_and p q kind is other = by_test (nat_lt (literal_of q) (literal_of p)) is
   where
     by_kind : (r s : AigEdge) → And r s ≡ kind → (kind ≡ False) ⊎ (kind ≡ Leaf) → ⊥
@@ -119,10 +127,12 @@ module _ (f : File) (nodes : List AigNode) (are : AreNodesOf f nodes) where
       (rec_unmap (IsDefinable f.greatest) (λ (g : GateLine). g.lhs) f.gates (rec_parts (IsDefinable f.greatest) literals (map (λ (g : GateLine). g.lhs) f.gates) are.definable).1))
 
   -- a variable that is no gate has level 0
-  pub leaf_level : (v : ℕ) → (kind_among f.gates v ≡ False) ⊎ (kind_among f.gates v ≡ Leaf) → level_of f v ≡ Some 0
+  pub leaf_level : (v : ℕ) → (kind_among f.gates v ≡ False) ⊎ (kind_among f.gates v ≡ Leaf)
+      → level_of f v ≡ Some 0
   leaf_level v is = by_zero (v == 0) refl
     where
-      by_gate : (v == 0) ≡ false → (o : Option GateLine) → gate_of_variable f v ≡ o → level_of f v ≡ Some 0
+      by_gate : (v == 0) ≡ false → (o : Option GateLine) → gate_of_variable f v ≡ o
+          → level_of f v ≡ Some 0
       by_gate some None none = level_of-leaf f v none
       by_gate some (Some g) found = absurd (no_and (edge_from g.rhs0) (edge_from g.rhs1) (kind_among f.gates v) (sym (ap (λ b. cond b False (kind_of_line (gate_of_variable f v))) some ∙ ap kind_of_line found)) is)
 
@@ -139,7 +149,8 @@ module _ (f : File) (nodes : List AigNode) (are : AreNodesOf f nodes) where
         let second = s.1 in
         elim at.operands [ inl p ↦ (let x = p.0 in let y = p.1 in (omega arith, omega arith)) | inr p ↦ (let x = p.0 in let y = p.1 in (omega arith, omega arith)) ]
 
-    down : (u k w j : ℕ) → u ≡ w → level_of f w ≡ Some j → j < k → (i : ℕ) × (level_of f u ≡ Some i) × (i < k)
+    down : (u k w j : ℕ) → u ≡ w → level_of f w ≡ Some j → j < k
+        → (i : ℕ) × (level_of f u ≡ Some i) × (i < k)
     down u k w j same is less = (j, ap (level_of f) same ∙ is, less)
 
     -- a gate stands above its operands
@@ -164,7 +175,8 @@ module _ (f : File) (nodes : List AigNode) (are : AreNodesOf f nodes) where
     )
 
     -- and its level is one more than theirs
-    pub gate_level : (i j : ℕ) → level_of f a.node_id ≡ Some i → level_of f b.node_id ≡ Some j → level_of f v ≡ Some (max i j + 1)
+    pub gate_level : (i j : ℕ) → level_of f a.node_id ≡ Some i → level_of f b.node_id ≡ Some j
+        → level_of f v ≡ Some (max i j + 1)
     gate_level i j first second = elim at.operands [
       | inl p ↦ level_of-operands f v i j at.gate at.found (ap (level_of f) (sym p.0) ∙ first) (ap (level_of f) (sym p.1) ∙ second)
       | inr p ↦ (let e : max j i + 1 ≡ max i j + 1 = omega arith in level_of-operands f v j i at.gate at.found (ap (level_of f) (sym p.1) ∙ second) (ap (level_of f) (sym p.0) ∙ first) ∙ ap Some e)
@@ -172,29 +184,36 @@ module _ (f : File) (nodes : List AigNode) (are : AreNodesOf f nodes) where
 
 -- ---- levels of all gates
 
-all_levels : (f : File) (gs : List GateLine) → list_all (has_level f) gs ≡ true → AllByRecursion (HasLevel f) gs
+all_levels : (f : File) (gs : List GateLine) → list_all (has_level f) gs ≡ true
+    → AllByRecursion (HasLevel f) gs
 all_levels f [] h = tt
 all_levels f (g ∷ gs) h = let p = and_parts (has_level f g) (list_all (has_level f) gs) h in (p.0, all_levels f gs p.1)
 
-pub all_levels-entry_value : (f : File) → all_have_levels f ≡ true → (v : ℕ) → (k : ℕ) × (level_of f v ≡ Some k)
+pub all_levels-entry_value : (f : File) → all_have_levels f ≡ true → (v : ℕ)
+    → (k : ℕ) × (level_of f v ≡ Some k)
 all_levels-entry_value f h = levelled f (all_levels f f.gates h)
 
 -- a variable without a level refutes that all gates have one
-pub some_level_missing : (f : File) (v : ℕ) → ((k : ℕ) → level_of f v ≡ Some k → ⊥) → all_have_levels f ≡ false
+pub some_level_missing : (f : File) (v : ℕ) → ((k : ℕ) → level_of f v ≡ Some k → ⊥)
+    → all_have_levels f ≡ false
 some_level_missing f v none = by_test (all_have_levels f) refl
   where
     by_test : (b : Bool) → all_have_levels f ≡ b → all_have_levels f ≡ false
     by_test true is = let has = all_levels-entry_value f is v in absurd (none has.0 has.1)
     by_test false is = is
 
-each_level : (f : File) (gs : List GateLine) → ((v : ℕ) → v ≤ f.greatest → (k : ℕ) × (level_of f v ≡ Some k)) → AllByRecursion (λ (g : GateLine). g.lhs / 2 ≤ f.greatest) gs → list_all (has_level f) gs ≡ true
+each_level : (f : File) (gs : List GateLine)
+    → ((v : ℕ) → v ≤ f.greatest → (k : ℕ) × (level_of f v ≡ Some k))
+    → AllByRecursion (λ (g : GateLine). g.lhs / 2 ≤ f.greatest) gs
+    → list_all (has_level f) gs ≡ true
 each_level f [] has all = refl
 each_level f (g ∷ gs) has all =
     let h = has (g.lhs / 2) all.0 in
     ap (λ (o : Option ℕ). is_some o && list_all (has_level f) gs) h.1 ∙ each_level f gs has all.1
 
 -- where each variable of the file has a level, all gates have
-pub all_levels-tested : (f : File) (nodes : List AigNode) → AreNodesOf f nodes → ((v : ℕ) → v ≤ f.greatest → (k : ℕ) × (level_of f v ≡ Some k)) → all_have_levels f ≡ true
+pub all_levels-tested : (f : File) (nodes : List AigNode) → AreNodesOf f nodes
+    → ((v : ℕ) → v ≤ f.greatest → (k : ℕ) × (level_of f v ≡ Some k)) → all_have_levels f ≡ true
 all_levels-tested f nodes are has =
     let literals = f.inputs ++ map (λ (l : LatchLine). l.literal) f.latches in
     each_level f f.gates has

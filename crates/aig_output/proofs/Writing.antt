@@ -16,12 +16,14 @@ then_texts s [] = s
 then_texts s (t ∷ ts) = then_texts (s ++ t) ts
 
 -- the text of the entries before i + 1 is that of those before i, and that of entry i
-pub flat_map_turn : {X : Type 0} (f : X → List ℕ) (xs : List X) (i : ℕ) (d : X) → i < length xs → flat_map f (take (i + 1) xs) ≡ flat_map f (take i xs) ++ f (get_or xs i d)
+pub flat_map_turn : {X : Type 0} (f : X → List ℕ) (xs : List X) (i : ℕ) (d : X) → i < length xs
+    → flat_map f (take (i + 1) xs) ≡ flat_map f (take i xs) ++ f (get_or xs i d)
 flat_map_turn f xs i d h =
     ap (flat_map f) (take_more xs i d h) ∙ flat_map-append f (take i xs) (get_or xs i d ∷ []) ∙ ap (λ l. flat_map f (take i xs) ++ l) (append-nil (f (get_or xs i d)))
 
 -- the text of all entries is that of the entries before i + 1, and that of the rest
-flat_map_split : {X : Type 0} (f : X → List ℕ) (xs : List X) (i : ℕ) (d : X) → i < length xs → flat_map f xs ≡ (flat_map f (take i xs) ++ f (get_or xs i d)) ++ flat_map f (drop (i + 1) xs)
+flat_map_split : {X : Type 0} (f : X → List ℕ) (xs : List X) (i : ℕ) (d : X) → i < length xs
+    → flat_map f xs ≡ (flat_map f (take i xs) ++ f (get_or xs i d)) ++ flat_map f (drop (i + 1) xs)
 flat_map_split f xs i d h =
     ap (flat_map f) (sym (take-append-drop (i + 1) xs)) ∙ flat_map-append f (take (i + 1) xs) (drop (i + 1) xs) ∙ ap (λ l. l ++ flat_map f (drop (i + 1) xs)) (flat_map_turn f xs i d h)
 
@@ -44,14 +46,16 @@ pub record WritingLaws {S : Type 0} (wrote stopped : S → List ℕ → S → Ty
 
 module _ {S : Type 0} {wrote stopped : S → List ℕ → S → Type 0} (laws : WritingLaws wrote stopped) where
   -- a text was written, and then that of a last call
-  pub then_call : {T E : Type 0} {a b c : S} {s t : List ℕ} {result : Result T E} → wrote a s b → WroteOrStopped wrote stopped b result t c → WroteOrStopped wrote stopped a result (s ++ t) c
+  pub then_call : {T E : Type 0} {a b c : S} {s t : List ℕ} {result : Result T E} → wrote a s b
+      → WroteOrStopped wrote stopped b result t c → WroteOrStopped wrote stopped a result (s ++ t) c
   then_call first second = record { ok = on_ok_weaker _ (laws.join _ _ _ _ _ first) second.ok; err = on_err_weaker _ (laws.stop _ _ _ _ _ first) second.err }
 
   -- no text was to be written
   pub nothing_done : {T E : Type 0} {a : S} {u : T} → WroteOrStopped {T = T} {E = E} wrote stopped a (Ok u) [] a
   nothing_done = record { ok = laws.none _; err = tt }
 
-  follow : {a b : S} (s : List ℕ) (ts : List (List ℕ)) → stopped a s b → stopped a (then_texts s ts) b
+  follow : {a b : S} (s : List ℕ) (ts : List (List ℕ)) → stopped a s b
+      → stopped a (then_texts s ts) b
   follow s [] h = h
   follow s (t ∷ ts) h = follow (s ++ t) ts (laws.before _ _ s t h)
 
@@ -75,7 +79,8 @@ module _ {S : Type 0} {wrote stopped : S → List ℕ → S → Type 0} (laws : 
       → wrote a (flat_map f (take i xs)) b → WroteOrStopped {T = T} {E = E} wrote stopped b (Err e) (f (get_or xs i d)) c → IsErr result → WroteOrStopped wrote stopped a result (then_texts (flat_map f xs) rest) c
   failed_within {X} {T} {U} {E} {a} {b} {c} {e} rest f xs i d h so_far turn is = failed_first {T = T} {e = e} rest (failed_turn {T = T} {e = e} f xs i d h so_far turn refl) is
 
-  calls_joined : (a : S) (parts : List (List ℕ)) (b : S) → FoldsTo wrote a parts b → wrote a (concat parts) b
+  calls_joined : (a : S) (parts : List (List ℕ)) (b : S) → FoldsTo wrote a parts b
+      → wrote a (concat parts) b
   calls_joined a [] b same = subst (λ x. wrote a [] x) same (laws.none a)
   calls_joined a (s ∷ parts) b calls = laws.join a calls.0 b s (concat parts) calls.1 (calls_joined calls.0 parts b calls.2)
 
@@ -84,7 +89,8 @@ module _ {S : Type 0} {wrote stopped : S → List ℕ → S → Type 0} (laws : 
   all_written {a} {b} w = subst (λ text. wrote a text b) w.whole (calls_joined a w.parts b w.calls)
 
   -- and some, before one that failed, a beginning
-  pub some_written : {a b : S} {text : List ℕ} → StopsInCalls wrote stopped a text b → stopped a text b
+  pub some_written : {a b : S} {text : List ℕ} → StopsInCalls wrote stopped a text b
+      → stopped a text b
   some_written {a} {b} w =
       subst (λ text. stopped a text b) (sym w.split) (laws.before a b _ w.rest (laws.stop a w.at b w.front w.piece (all_written w.written) w.fails))
 
@@ -116,7 +122,9 @@ module _ {S : Type 0} {wrote stopped : S → List ℕ → S → Type 0} where
   }
 
   -- one piece
-  pub one_piece : {T E : Type 0} {a b : S} {s : List ℕ} (result : Result T E) → OnOk result (wrote a s b) → OnErr result (stopped a s b) → WritesPieces wrote stopped a result s b
+  pub one_piece : {T E : Type 0} {a b : S} {s : List ℕ} (result : Result T E)
+      → OnOk result (wrote a s b) → OnErr result (stopped a s b)
+      → WritesPieces wrote stopped a result s b
   one_piece {a = a} {b = b} {s = s} result ok err = record {
     ok = on_ok_weaker result (writes_in_calls_single wrote a s b) ok;
     err = on_err_weaker result (λ (fails : stopped a s b). record {
@@ -131,7 +139,8 @@ module _ {S : Type 0} {wrote stopped : S → List ℕ → S → Type 0} where
   }
 
 -- one text was written, and then another
-pub then_text : {S : Type 0} {wrote : S → List ℕ → S → Type 0} {a b c : S} {s t : List ℕ} → WritesInCalls wrote a s b → WritesInCalls wrote b t c → WritesInCalls wrote a (s ++ t) c
+pub then_text : {S : Type 0} {wrote : S → List ℕ → S → Type 0} {a b c : S} {s t : List ℕ}
+    → WritesInCalls wrote a s b → WritesInCalls wrote b t c → WritesInCalls wrote a (s ++ t) c
 then_text {wrote = wrote} first second = writes_in_calls_append wrote _ _ _ _ _ first second
 
 -- the text of one more entry was written

@@ -35,7 +35,10 @@ module _ (n : ℕ) where
   value : (v : ℕ) (e : AigEdge) → v < n → e.node_id < n → AreBelow n (value_clauses v e)
   value v e lt also = by_test (e.node_id == 0)
     where
-      by_test : (b : Bool) → AreBelow n (cond b ((lit_to v e.compl ∷ []) ∷ []) ((lit_to v false ∷ lit_of e ∷ []) ∷ (lit_to v true ∷ lit_of (inverse e) ∷ []) ∷ []))
+      by_test : (b : Bool)
+          → AreBelow n
+          (cond b ((lit_to v e.compl ∷ []) ∷ [])
+          ((lit_to v false ∷ lit_of e ∷ []) ∷ (lit_to v true ∷ lit_of (inverse e) ∷ []) ∷ []))
       by_test true = unit v e.compl lt
       by_test false =
           let clauses : List (List Lit) = (lit_to v false ∷ lit_of e ∷ []) ∷ (lit_to v true ∷ lit_of (inverse e) ∷ []) ∷ [] in
@@ -54,7 +57,8 @@ module _ (n : ℕ) where
       by_init None lt = nothing
       by_init (Some e) lt = value l.input e there.0 lt
 
-  starts : (latchs : List AigLatch) → All IsThere latchs → AreBelow n (flat_map start_clauses latchs)
+  starts : (latchs : List AigLatch) → All IsThere latchs
+      → AreBelow n (flat_map start_clauses latchs)
   starts [] all = nothing
   starts (l ∷ ls) all = All-append (All IsBelow) (start_clauses l) (flat_map start_clauses ls) (start l (all 0 l (omega arith))) (starts ls (All-tail IsThere l ls all))
 
@@ -65,20 +69,25 @@ module _ (n : ℕ) where
   any es all = All-from_recursion (All IsBelow) (map lit_of es ∷ []) (All-map IsBelow lit_of es (All-weaker (λ e. e.node_id < n) (λ e. IsBelow (lit_of e)) edge es all), tt)
 
 -- an initial edge that is there is there among more nodes
-further_start : (nodes : List AigNode) (n : ℕ) → length nodes ≤ n → (o : Option AigEdge) → IfSome o (IsInRange nodes) → IfSome o (λ e. e.node_id < n)
+further_start : (nodes : List AigNode) (n : ℕ) → length nodes ≤ n → (o : Option AigEdge)
+    → IfSome o (IsInRange nodes) → IfSome o (λ e. e.node_id < n)
 further_start nodes n longer None there = tt
 further_start nodes n longer (Some e) there = omega (arith, longer, there)
 
 -- leaves of latches and their initial edges are there among more nodes
-pub latchs_there : (c : Circuit) → IsCircuit c → (n : ℕ) → length c.nodes ≤ n → All (IsThere n) c.latchs
+pub latchs_there : (c : Circuit) → IsCircuit c → (n : ℕ) → length c.nodes ≤ n
+    → All (IsThere n) c.latchs
 latchs_there c is n longer =
     All-weaker (IsLatch c.nodes) (IsThere n) (λ l h. (omega (arith, longer, kind_at-within c.nodes l.input Leaf h.leaf), further_start c.nodes n longer l.init h.init)) c.latchs is.latchs
 
 -- edges that are there are there among more nodes
-pub edges_there : (nodes : List AigNode) (n : ℕ) → length nodes ≤ n → (es : List AigEdge) → All (IsInRange nodes) es → All (λ e. e.node_id < n) es
+pub edges_there : (nodes : List AigNode) (n : ℕ) → length nodes ≤ n → (es : List AigEdge)
+    → All (IsInRange nodes) es → All (λ e. e.node_id < n) es
 edges_there nodes n longer es all = All-weaker (IsInRange nodes) (λ e. e.node_id < n) (λ e h. omega (arith, longer, h)) es all
 
-pub query_below : (c : Circuit) (k : ℕ) (unrolled : Circuit) → IsCircuit c → IsCircuit unrolled → length c.nodes ≤ length unrolled.nodes → AreBelow (length unrolled.nodes) (query_clauses c k unrolled)
+pub query_below : (c : Circuit) (k : ℕ) (unrolled : Circuit) → IsCircuit c → IsCircuit unrolled
+    → length c.nodes ≤ length unrolled.nodes
+    → AreBelow (length unrolled.nodes) (query_clauses c k unrolled)
 query_below c k unrolled is made longer =
     let n = length unrolled.nodes in
     let both = All-append (All (λ lit. variable_of lit < n)) (flat_map start_clauses c.latchs) (unit_clauses unrolled.properties.constraints) (starts n c.latchs (latchs_there c is n longer)) (units n unrolled.properties.constraints made.properties.constraints) in

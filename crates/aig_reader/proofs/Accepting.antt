@@ -39,7 +39,8 @@ TellsTooMany limit e bytes = (e ≡ errors.TooMany) ↔ (too_many_at limit bytes
 same_fault : (T : Type 0) (e : ReadError) → IsErrOf (fault T e) errors.TooMany → e ≡ errors.TooMany
 same_fault T e h = cc
 
-refuses : (limit : ℕ) (bytes : List ℕ) (e : ReadError) → parse_fitting limit bytes ≡ None → TellsTooMany limit e bytes → ReadsExactly AreListsOf limit (fault CircuitLists e) bytes
+refuses : (limit : ℕ) (bytes : List ℕ) (e : ReadError) → parse_fitting limit bytes ≡ None
+    → TellsTooMany limit e bytes → ReadsExactly AreListsOf limit (fault CircuitLists e) bytes
 refuses limit bytes e none tells = record {
   accepted = record { each = λ f is. let same = sym none ∙ fitting_complete limit bytes f is in absurd cc; only = λ ok. absurd cc };
   too_many = (λ h. (too_many_exact bytes limit).0 (tells.0 (same_fault CircuitLists e h)), λ h. ap (fault CircuitLists) (tells.1 ((too_many_exact bytes limit).1 h)));
@@ -50,11 +51,13 @@ abbrev IsSmall : ℕ → List ℕ → Type 0
 IsSmall limit bytes = too_many_at limit bytes ≡ false
 
 -- another fault, where the header line doesn't pass the limit
-other_fault : (limit : ℕ) (bytes : List ℕ) (e : ReadError) → e ≢ errors.TooMany → IsSmall limit bytes → TellsTooMany limit e bytes
+other_fault : (limit : ℕ) (bytes : List ℕ) (e : ReadError) → e ≢ errors.TooMany
+    → IsSmall limit bytes → TellsTooMany limit e bytes
 other_fault limit bytes e other small = (λ is. absurd (other is), λ many. absurd (false≢true (sym small ∙ many)))
 
 -- a fault that refuses, with what it tells
-refusal : (e : ReadError) (P R : Type 0) (failed : Bool) → (P → R) → ReadTells e P failed → UnlessTransient (fault CircuitLists e) R
+refusal : (e : ReadError) (P R : Type 0) (failed : Bool) → (P → R) → ReadTells e P failed
+    → UnlessTransient (fault CircuitLists e) R
 refusal errors.Memory P R failed f h = tt
 refusal errors.Stream P R failed f h = tt
 refusal errors.Header P R failed f h = f h
@@ -73,11 +76,13 @@ ReadsKnown result limit before = IfSome before (λ bytes. UnlessTransient result
 abbrev with_names : Body × List ℕ → Option File
 with_names b = tail_of b.0.0.1 b.1 >>= λ names. Some (file_from b.0 names)
 
-file_is : (limit : ℕ) (bytes : List ℕ) → parse_fitting limit bytes ≡ (parse_fitting_body limit bytes >>= with_names)
+file_is : (limit : ℕ) (bytes : List ℕ)
+    → parse_fitting limit bytes ≡ (parse_fitting_body limit bytes >>= with_names)
 unfolding parse_file
 file_is limit bytes = refl
 
-no_file : (limit : ℕ) (bytes : List ℕ) → parse_fitting_body limit bytes ≡ None → parse_fitting limit bytes ≡ None
+no_file : (limit : ℕ) (bytes : List ℕ) → parse_fitting_body limit bytes ≡ None
+    → parse_fitting limit bytes ≡ None
 no_file limit bytes h = file_is limit bytes ∙ ap (λ (o : Option (Body × List ℕ)). o >>= with_names) h
 
 -- the sections, by what the header line says
@@ -88,10 +93,12 @@ sections_of h = parse_fitting_sections h.0 h.1
 abbrev body_from : (FileKind × HeaderNumbers) × List ℕ → Option (Body × List ℕ)
 body_from h = sections_of h.0 h.1 >>= λ x. Some ((h.0, x.0), x.1)
 
-no_files : (limit : ℕ) (before : Feed) → Misses (parse_fitting_body limit) before → IfSome before.coming (λ bytes. parse_fitting limit bytes ≡ None)
+no_files : (limit : ℕ) (before : Feed) → Misses (parse_fitting_body limit) before
+    → IfSome before.coming (λ bytes. parse_fitting limit bytes ≡ None)
 no_files limit before h = IfSome_then before.coming h (no_file limit)
 
-on_refusal-weaker : (e : ReadError) (P Q : Type 0) (failed : Bool) → (P → Q) → ReadTells e P failed → ReadTells e Q failed
+on_refusal-weaker : (e : ReadError) (P Q : Type 0) (failed : Bool) → (P → Q) → ReadTells e P failed
+    → ReadTells e Q failed
 on_refusal-weaker errors.Memory P Q failed f h = tt
 on_refusal-weaker errors.Stream P Q failed f h = h
 on_refusal-weaker errors.Header P Q failed f h = f h
@@ -103,7 +110,8 @@ on_refusal-weaker errors.Name P Q failed f h = f h
 on_refusal-weaker errors.Open P Q failed f h = f h
 
 -- the header is refused
-pub refused_header : (limit : ℕ) (before after : Feed) (e : ReadError) → ReadsHeader limit before after (Err e) → ReadsKnown (fault CircuitLists e) limit before.coming
+pub refused_header : (limit : ℕ) (before after : Feed) (e : ReadError)
+    → ReadsHeader limit before after (Err e) → ReadsKnown (fault CircuitLists e) limit before.coming
 refused_header limit before after errors.Stream h = by_bytes before.coming
   where
     by_bytes : (o : Option (List ℕ)) → ReadsKnown (fault CircuitLists errors.Stream) limit o
@@ -123,7 +131,8 @@ refused_header limit before after errors.Name h = absurd h
 refused_header limit before after errors.Open h = absurd h
 
 -- what a fault of a section tells of the file, and which it is not
-in_file : (e : ReadError) (P Q : Type 0) (failed : Bool) → (P → Q) → SectionTells e P failed → ReadTells e Q failed
+in_file : (e : ReadError) (P Q : Type 0) (failed : Bool) → (P → Q) → SectionTells e P failed
+    → ReadTells e Q failed
 in_file errors.Memory P Q failed f h = tt
 in_file errors.Stream P Q failed f h = h
 in_file errors.Header P Q failed f h = absurd h
@@ -134,11 +143,15 @@ in_file errors.Delta P Q failed f h = f h
 in_file errors.Name P Q failed f h = absurd h
 in_file errors.Open P Q failed f h = absurd h
 
-section_fault : (e : ReadError) (P : Type 0) (failed : Bool) → SectionTells e P failed → e ≢ errors.TooMany
+section_fault : (e : ReadError) (P : Type 0) (failed : Bool) → SectionTells e P failed
+    → e ≢ errors.TooMany
 section_fault e P failed h is = subst (λ (d : ReadError). SectionTells d P failed) is h
 
 -- where a header was taken and no file is read, a fault that isn't TooMany is told
-refused_following : (limit : ℕ) (before : Option (List ℕ)) (e : ReadError) (failed : Bool) → ReadTells e (IfSome before (λ bytes. parse_fitting limit bytes ≡ None)) failed → e ≢ errors.TooMany → IfSome before (IsSmall limit) → ReadsKnown (fault CircuitLists e) limit before
+refused_following : (limit : ℕ) (before : Option (List ℕ)) (e : ReadError) (failed : Bool)
+    → ReadTells e (IfSome before (λ bytes. parse_fitting limit bytes ≡ None)) failed
+    → e ≢ errors.TooMany → IfSome before (IsSmall limit)
+    → ReadsKnown (fault CircuitLists e) limit before
 refused_following limit None e failed h other small = tt
 refused_following limit (Some bytes) e failed h other small =
     refusal e (parse_fitting limit bytes ≡ None) (ReadsExactly AreListsOf limit (fault CircuitLists e) bytes) failed (λ none. refuses limit bytes e none (other_fault limit bytes e other small)) h
@@ -163,18 +176,22 @@ refused_names limit before m body e failed taken missed other k =
 -- ---- acceptance
 
 -- the file that was read
-pub accepted : (limit : ℕ) (before m : Feed) (body : Body) (h : Takes (parse_fitting_body limit) before m body) (names : List NameLine) (tail : List ℕ) → tail_of body.0.1 tail ≡ Some names → Accepts (h.taken ++ tail) limit (file_from body names)
+pub accepted : (limit : ℕ) (before m : Feed) (body : Body)
+    (h : Takes (parse_fitting_body limit) before m body) (names : List NameLine) (tail : List ℕ)
+    → tail_of body.0.1 tail ≡ Some names → Accepts (h.taken ++ tail) limit (file_from body names)
 accepted limit before m body h names tail is =
     fitting_sound limit (h.taken ++ tail) (file_from body names)
     (file_is limit (h.taken ++ tail) ∙ ap (λ (o : Option (Body × List ℕ)). o >>= with_names) (h.reads tail) ∙ ap (λ (o : Option (List NameLine)). o >>= λ ns. Some (file_from body ns)) is)
 
 -- two facts of known bytes
-both_known : (before : Option (List ℕ)) (P Q R : List ℕ → Type 0) → IfSome before P → IfSome before Q → ((bytes : List ℕ) → P bytes → Q bytes → R bytes) → IfSome before R
+both_known : (before : Option (List ℕ)) (P Q R : List ℕ → Type 0) → IfSome before P
+    → IfSome before Q → ((bytes : List ℕ) → P bytes → Q bytes → R bytes) → IfSome before R
 both_known None P Q R p q f = tt
 both_known (Some bytes) P Q R p q f = f bytes p q
 
 -- bytes are one file that is accepted
-one_file : (limit : ℕ) (bytes : List ℕ) (f g : File) → Accepts bytes limit f → Accepts bytes limit g → f ≡ g
+one_file : (limit : ℕ) (bytes : List ℕ) (f g : File) → Accepts bytes limit f → Accepts bytes limit g
+    → f ≡ g
 one_file limit bytes f g p q = same_Some f g (sym (fitting_complete limit bytes f p) ∙ fitting_complete limit bytes g q)
 
 -- what was read of known bytes

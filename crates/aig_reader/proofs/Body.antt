@@ -33,7 +33,8 @@ in_gates Binary e P failed h = elim e as (λ d. LineTells d P failed → Section
 
 -- ---- answers
 
-pub on_section-weaker : (e : ReadError) (P Q : Type 0) (failed : Bool) → (P → Q) → SectionTells e P failed → SectionTells e Q failed
+pub on_section-weaker : (e : ReadError) (P Q : Type 0) (failed : Bool) → (P → Q)
+    → SectionTells e P failed → SectionTells e Q failed
 on_section-weaker errors.Memory P Q failed f h = tt
 on_section-weaker errors.Stream P Q failed f h = h
 on_section-weaker errors.Header P Q failed f h = h
@@ -45,28 +46,39 @@ on_section-weaker errors.Name P Q failed f h = h
 on_section-weaker errors.Open P Q failed f h = h
 
 -- what a result is, by what it is seen as
-pub ok_in : {X E : Type 0} (fault : E → ReadError) (lines : Result X E) (result : Result X ReadError) (x : X) → result ≡ result_by fault lines → result ≡ Ok x → lines ≡ Ok x
+pub ok_in : {X E : Type 0} (fault : E → ReadError) (lines : Result X E)
+    (result : Result X ReadError) (x : X) → result ≡ result_by fault lines → result ≡ Ok x
+    → lines ≡ Ok x
 ok_in {X} {E} fault (Ok y) result x is was = let same : ◌≡◌ {A = Result X ReadError} (Ok y) (Ok x) = sym is ∙ was in cc
 ok_in fault (Err e) result x is was = let same = sym is ∙ was in absurd cc
 
-pub err_in : {X E : Type 0} (fault : E → ReadError) (lines : Result X E) (result : Result X ReadError) (e : ReadError) → result ≡ result_by fault lines → result ≡ Err e → (k : E) × (lines ≡ Err k) × (fault k ≡ e)
+pub err_in : {X E : Type 0} (fault : E → ReadError) (lines : Result X E)
+    (result : Result X ReadError) (e : ReadError) → result ≡ result_by fault lines
+    → result ≡ Err e → (k : E) × (lines ≡ Err k) × (fault k ≡ e)
 err_in fault (Ok y) result e is was = let same = sym is ∙ was in absurd cc
 err_in {X} {E} fault (Err k) result e is was = let same : ◌≡◌ {A = Result X ReadError} (Err (fault k)) (Err e) = sym is ∙ was in (k, refl, cc)
 
 module _ {X Y : Type 0} (fault : LineError → ReadError) (refuses : Refuses fault) (IsOf : X → Y → Type 0) (b a : Feed) (read : List ℕ → Option (Y × List ℕ)) where
-  pub made_in : (lines : Result X LineError) (result : Result X ReadError) (x : X) → result ≡ result_by fault lines → result ≡ Ok x → Makes LineTells IsOf b a lines read → Made IsOf b a x read
+  pub made_in : (lines : Result X LineError) (result : Result X ReadError) (x : X)
+      → result ≡ result_by fault lines → result ≡ Ok x → Makes LineTells IsOf b a lines read
+      → Made IsOf b a x read
   made_in lines result x is was h = subst (λ (r : Result X LineError). Makes LineTells IsOf b a r read) (ok_in fault lines result x is was) h
 
-  pub missed_in : (lines : Result X LineError) (result : Result X ReadError) (e : ReadError) → result ≡ result_by fault lines → result ≡ Err e → Makes LineTells IsOf b a lines read → SectionTells e (Misses read b) a.failed
+  pub missed_in : (lines : Result X LineError) (result : Result X ReadError) (e : ReadError)
+      → result ≡ result_by fault lines → result ≡ Err e → Makes LineTells IsOf b a lines read
+      → SectionTells e (Misses read b) a.failed
   missed_in lines result e is was h =
       let k = err_in fault lines result e is was in
       subst (λ (d : ReadError). SectionTells d (Misses read b) a.failed) k.2 (refuses k.0 (Misses read b) a.failed (subst (λ (r : Result X LineError). Makes LineTells IsOf b a r read) k.1 h))
 
   -- an answer whose fault is seen otherwise
-  pub makes_in : (lines : Result X LineError) (result : Result X ReadError) → result ≡ result_by fault lines → Makes LineTells IsOf b a lines read → Makes SectionTells IsOf b a result read
+  pub makes_in : (lines : Result X LineError) (result : Result X ReadError)
+      → result ≡ result_by fault lines → Makes LineTells IsOf b a lines read
+      → Makes SectionTells IsOf b a result read
   makes_in lines result is h = subst (λ (r : Result X ReadError). Makes SectionTells IsOf b a r read) (sym is) (go lines h)
     where
-      go : (lines : Result X LineError) → Makes LineTells IsOf b a lines read → Makes SectionTells IsOf b a (result_by fault lines) read
+      go : (lines : Result X LineError) → Makes LineTells IsOf b a lines read
+          → Makes SectionTells IsOf b a (result_by fault lines) read
       go (Ok x) h = h
       go (Err e) h = refuses e (Misses read b) a.failed h
 
@@ -76,7 +88,8 @@ module _ (ns : HeaderNumbers) where
   abbrev literals : ℕ → List ℕ → Option (List ℕ × List ℕ)
   literals = parse_literals ns.greatest
 
-  abbrev following_justice : List ℕ → List ℕ → List ℕ → List (List ℕ) → List ℕ → Option (Properties ℕ × List ℕ)
+  abbrev following_justice : List ℕ → List ℕ → List ℕ → List (List ℕ) → List ℕ
+      → Option (Properties ℕ × List ℕ)
   following_justice outputs bads constraints justice = parse_map (λ fairness. record { outputs = outputs; bads = bads; constraints = constraints; justice = justice; fairness = fairness }) (literals ns.fairness)
 
   abbrev following_constraints : List ℕ → List ℕ → List ℕ → List ℕ → Option (Properties ℕ × List ℕ)
@@ -88,7 +101,8 @@ module _ (ns : HeaderNumbers) where
   abbrev following_outputs : List ℕ → List ℕ → Option (Properties ℕ × List ℕ)
   following_outputs outputs bytes = literals ns.bads bytes >>= λ d. following_bads outputs d.0 d.1
 
-  pub misses_outputs : (b : Feed) → Misses (literals ns.outputs) b → Misses (parse_fitting_properties ns) b
+  pub misses_outputs : (b : Feed) → Misses (literals ns.outputs) b
+      → Misses (parse_fitting_properties ns) b
   misses_outputs b h = misses_first (literals ns.outputs) (λ x. following_outputs x.0 x.1) b h
 
   module _ (b o : Feed) (outputs : List ℕ) (ho : Takes (literals ns.outputs) b o outputs) where
@@ -102,17 +116,20 @@ module _ (ns : HeaderNumbers) where
       after_bads : Misses (following_bads outputs bads) d → Misses (parse_fitting_properties ns) b
       after_bads h = after_outputs (misses_next (literals ns.bads) (λ d. following_bads outputs d.0 d.1) o d bads hd h)
 
-      pub misses_constraints : Misses (literals ns.constraints) d → Misses (parse_fitting_properties ns) b
+      pub misses_constraints : Misses (literals ns.constraints) d
+          → Misses (parse_fitting_properties ns) b
       misses_constraints h = after_bads (misses_first (literals ns.constraints) (λ c. following_constraints outputs bads c.0 c.1) d h)
 
       module _ (c : Feed) (constraints : List ℕ) (hc : Takes (literals ns.constraints) d c constraints) where
         abbrev next_sets : List (List ℕ) × List ℕ → Option (Properties ℕ × List ℕ)
         next_sets j = following_justice outputs bads constraints j.0 j.1
 
-        after_constraints : Misses (following_constraints outputs bads constraints) c → Misses (parse_fitting_properties ns) b
+        after_constraints : Misses (following_constraints outputs bads constraints) c
+            → Misses (parse_fitting_properties ns) b
         after_constraints h = after_bads (misses_next (literals ns.constraints) (λ c. following_constraints outputs bads c.0 c.1) d c constraints hc h)
 
-        pub misses_justice : Misses (parse_literal_justice ns.greatest ns.justice) c → Misses (parse_fitting_properties ns) b
+        pub misses_justice : Misses (parse_literal_justice ns.greatest ns.justice) c
+            → Misses (parse_fitting_properties ns) b
         misses_justice h = after_constraints (misses_first (parse_literal_justice ns.greatest ns.justice) next_sets c h)
 
         module _ (j : Feed) (sets : List (List ℕ)) (hj : Takes (parse_literal_justice ns.greatest ns.justice) c j sets) where
@@ -141,7 +158,8 @@ module _ (kind : FileKind) (ns : HeaderNumbers) where
   abbrev gates : List ℕ → List LatchLine → List ℕ → Option (List GateLine × List ℕ)
   gates inputs latches = parse_fitting_gates kind ns (inputs ++ map (λ l. l.literal) latches)
 
-  abbrev following_properties : List ℕ → List LatchLine → Properties ℕ → List ℕ → Option (Parts × List ℕ)
+  abbrev following_properties : List ℕ → List LatchLine → Properties ℕ → List ℕ
+      → Option (Parts × List ℕ)
   following_properties inputs latches properties = parse_map (λ gs. record { inputs = inputs; latches = latches; properties = properties; gates = gs }) (gates inputs latches)
 
   abbrev following_latches : List ℕ → List LatchLine → List ℕ → Option (Parts × List ℕ)
@@ -150,21 +168,25 @@ module _ (kind : FileKind) (ns : HeaderNumbers) where
   abbrev following_inputs : List ℕ → List ℕ → Option (Parts × List ℕ)
   following_inputs inputs bytes = parse_fitting_latches kind ns inputs bytes >>= λ l. following_latches inputs l.0 l.1
 
-  pub misses_inputs : (b : Feed) → Misses (parse_fitting_inputs kind ns) b → Misses (parse_section_lines kind ns) b
+  pub misses_inputs : (b : Feed) → Misses (parse_fitting_inputs kind ns) b
+      → Misses (parse_section_lines kind ns) b
   misses_inputs b h = misses_first (parse_fitting_inputs kind ns) (λ i. following_inputs i.0 i.1) b h
 
   module _ (b i : Feed) (inputs : List ℕ) (hi : Takes (parse_fitting_inputs kind ns) b i inputs) where
     after_inputs : Misses (following_inputs inputs) i → Misses (parse_section_lines kind ns) b
     after_inputs h = misses_next (parse_fitting_inputs kind ns) (λ i. following_inputs i.0 i.1) b i inputs hi h
 
-    pub misses_latches : Misses (parse_fitting_latches kind ns inputs) i → Misses (parse_section_lines kind ns) b
+    pub misses_latches : Misses (parse_fitting_latches kind ns inputs) i
+        → Misses (parse_section_lines kind ns) b
     misses_latches h = after_inputs (misses_first (parse_fitting_latches kind ns inputs) (λ l. following_latches inputs l.0 l.1) i h)
 
     module _ (l : Feed) (latches : List LatchLine) (hl : Takes (parse_fitting_latches kind ns inputs) i l latches) where
-      after_latches : Misses (following_latches inputs latches) l → Misses (parse_section_lines kind ns) b
+      after_latches : Misses (following_latches inputs latches) l
+          → Misses (parse_section_lines kind ns) b
       after_latches h = after_inputs (misses_next (parse_fitting_latches kind ns inputs) (λ l. following_latches inputs l.0 l.1) i l latches hl h)
 
-      pub misses_properties : Misses (parse_fitting_properties ns) l → Misses (parse_section_lines kind ns) b
+      pub misses_properties : Misses (parse_fitting_properties ns) l
+          → Misses (parse_section_lines kind ns) b
       misses_properties h = after_latches (misses_first (parse_fitting_properties ns) (λ x. following_properties inputs latches x.0 x.1) l h)
 
       module _ (p : Feed) (x : Properties ℕ) (hp : Takes (parse_fitting_properties ns) l p x) where

@@ -25,7 +25,8 @@ use Rattle.aig_reader.proofs.Entries.{length_push}
 -- ---- in text files
 
 -- a literal that may be defined after others has another variable
-new_among : (greatest : ℕ) (before : List ℕ) (e : ℕ) → AllByRecursion (IsDefinable greatest) before → defines greatest before e ≡ true → IsNewAmong before e
+new_among : (greatest : ℕ) (before : List ℕ) (e : ℕ) → AllByRecursion (IsDefinable greatest) before
+    → defines greatest before e ≡ true → IsNewAmong before e
 new_among greatest before e definable h =
     let d = and_parts (is_definable greatest e) (not (list_any (λ d. d == e) before)) h in
     rec_weaker (λ y. IsDefinable greatest y × ((y == e) ≡ false)) (λ y. y / 2 ≢ e / 2)
@@ -44,7 +45,8 @@ defines_marked marks new e result exact kind greatest before h = rw h.0 (go resu
 
 -- ---- in binary files
 
-pub counted_more : (count e : ℕ) (before : List ℕ) → AreCounted count before → e ≡ 2 * (count + 1) → AreCounted (count + 1) (before ++ e ∷ [])
+pub counted_more : (count e : ℕ) (before : List ℕ) → AreCounted count before → e ≡ 2 * (count + 1)
+    → AreCounted (count + 1) (before ++ e ∷ [])
 counted_more count e before h is =
     record {
       all = length_push before e ∙ ap (λ n. n + 1) h.all;
@@ -54,18 +56,23 @@ counted_more count e before h is =
       );
     }
 
-counted_new : (count e : ℕ) (before : List ℕ) → AreCounted count before → e ≡ 2 * (count + 1) → IsNewAmong before e
+counted_new : (count e : ℕ) (before : List ℕ) → AreCounted count before → e ≡ 2 * (count + 1)
+    → IsNewAmong before e
 counted_new count e before h is = rec_weaker (IsDefinable count) (λ d. d / 2 ≢ e / 2) (λ d p same. let high = (definable_told count d p).2 in omega (arith, high, same, is)) before h.below
 
 -- ---- in both
 
 -- a literal that is defined after others is that of another variable
-pub new_literal : (kind : FileKind) (greatest : ℕ) (variables : DefinedVariables) (before : List ℕ) (e : ℕ) → AreDefined kind greatest variables before → IsNext variables e → may_define kind greatest before e ≡ true → IsNewAmong before e
+pub new_literal : (kind : FileKind) (greatest : ℕ) (variables : DefinedVariables) (before : List ℕ)
+    (e : ℕ) → AreDefined kind greatest variables before → IsNext variables e
+    → may_define kind greatest before e ≡ true → IsNewAmong before e
 new_literal kind greatest (kinds.Text marks) before e h next may = new_among greatest before e h.1.definable (subst (λ (k : FileKind). may_define k greatest before e ≡ true) h.0 may)
 new_literal kind greatest (kinds.Binary count) before e h next may = counted_new count e before h.1 next
 
 -- where there was room for it, its variable is one from 1 to the greatest
-pub last_literal : (kind : FileKind) (greatest : ℕ) (variables : DefinedVariables) (before : List ℕ) (e : ℕ) → AreDefined kind greatest variables (before ++ e ∷ []) → length before < greatest → (2 ≤ e) × (e / 2 ≤ greatest)
+pub last_literal : (kind : FileKind) (greatest : ℕ) (variables : DefinedVariables) (before : List ℕ)
+    (e : ℕ) → AreDefined kind greatest variables (before ++ e ∷ []) → length before < greatest
+    → (2 ≤ e) × (e / 2 ≤ greatest)
 last_literal kind greatest (kinds.Text marks) before e h room =
     let t = definable_told greatest e (rec_parts (IsDefinable greatest) before (e ∷ []) h.1.definable).1.0 in
     (t.1, omega (arith, t.2))
@@ -75,14 +82,17 @@ last_literal kind greatest (kinds.Binary count) before e h room =
     (t.1, omega (arith, t.2, all, length_push before e, room))
 
 -- and the next one is a number of 32 bits
-pub has_next : (kind : FileKind) (greatest : ℕ) (variables : DefinedVariables) (before : List ℕ) → AreDefined kind greatest variables before → length before < greatest → greatest < 2 ^ 31 → HasNext variables
+pub has_next : (kind : FileKind) (greatest : ℕ) (variables : DefinedVariables) (before : List ℕ)
+    → AreDefined kind greatest variables before → length before < greatest → greatest < 2 ^ 31
+    → HasNext variables
 has_next kind greatest (kinds.Text marks) before h room few = tt
 has_next kind greatest (kinds.Binary count) before h room few = let all = h.1.all in omega (arith, all, room, few)
 
 -- ---- all marks
 
 -- of even literals one is that of a variable where half of it is
-marked_is : (greatest v : ℕ) (es : List ℕ) → AllByRecursion (IsDefinable greatest) es → list_any (λ e. e == 2 * v) es ≡ list_any (λ e. e / 2 == v) es
+marked_is : (greatest v : ℕ) (es : List ℕ) → AllByRecursion (IsDefinable greatest) es
+    → list_any (λ e. e == 2 * v) es ≡ list_any (λ e. e / 2 == v) es
 marked_is greatest v [] all = refl
 marked_is greatest v (e ∷ es) all =
     let even = even_literal greatest e all.0 in
@@ -90,11 +100,14 @@ marked_is greatest v (e ∷ es) all =
     ap (λ b. b || list_any (λ e. e == 2 * v) es) same ∙ ap (λ b. (e / 2 == v) || b) (marked_is greatest v es all.1)
 
 -- whether a variable is 0 or marked tells whether it is known
-pub known_at : (f : File) (marks : Marks) (v : ℕ) → AreMarks f.greatest marks (defined f) → v ≤ f.greatest → (v == 0 || bit_is_set marks.marked.items v) ≡ is_known f v
+pub known_at : (f : File) (marks : Marks) (v : ℕ) → AreMarks f.greatest marks (defined f)
+    → v ≤ f.greatest → (v == 0 || bit_is_set marks.marked.items v) ≡ is_known f v
 known_at f marks v h low = ap (λ b. v == 0 || b) (h.marked v low ∙ marked_is f.greatest v (defined f) h.definable)
 
 -- a variable without a mark, below that of the last literal, is that of none of them
-pub unmarked_none : (kind : FileKind) (greatest : ℕ) (variables : DefinedVariables) (v : ℕ) (before : List ℕ) (e : ℕ) → AreDefined kind greatest variables (before ++ e ∷ []) → v < e / 2 → is_marked variables v ≡ false → list_any (λ e. e / 2 == v) (before ++ e ∷ []) ≡ false
+pub unmarked_none : (kind : FileKind) (greatest : ℕ) (variables : DefinedVariables) (v : ℕ)
+    (before : List ℕ) (e : ℕ) → AreDefined kind greatest variables (before ++ e ∷ []) → v < e / 2
+    → is_marked variables v ≡ false → list_any (λ e. e / 2 == v) (before ++ e ∷ []) ≡ false
 unmarked_none kind greatest (kinds.Text marks) v before e h low none =
     let last = (definable_told greatest e (rec_parts (IsDefinable greatest) before (e ∷ []) h.1.definable).1.0).2 in
     sym (marked_is greatest v (before ++ e ∷ []) h.1.definable) ∙ sym (h.1.marked v (omega (arith, low, last))) ∙ none
@@ -103,6 +116,7 @@ unmarked_none kind greatest (kinds.Binary count) v before e h low none = none_be
     above : count < v
     above = let le = leb-false v count none in omega arith
 
-    none_beyond : (es : List ℕ) → AllByRecursion (IsDefinable count) es → list_any (λ e. e / 2 == v) es ≡ false
+    none_beyond : (es : List ℕ) → AllByRecursion (IsDefinable count) es
+        → list_any (λ e. e / 2 == v) es ≡ false
     none_beyond [] all = refl
     none_beyond (e ∷ es) all = let high = (definable_told count e all.0).2 in rw (ne_eqb (e / 2) v (λ is. omega (arith, is, high, above)), none_beyond es all.1) refl

@@ -28,11 +28,15 @@ module _ {A : Type 0} (p : List A → List ℕ → Option (A × List ℕ)) where
   abbrev next_at : List A → List A × List ℕ → Option (A × List ℕ)
   next_at front y = p (front ++ y.0) y.1
 
-  next_is : (front : List A) (y xs : List A) (z : A) (r rest : List ℕ) (o : Option (A × List ℕ)) → lines (z ∷ y) r ≡ lines xs rest → next_at front (xs, rest) ≡ o → p ((front ++ z ∷ []) ++ y) r ≡ o
+  next_is : (front : List A) (y xs : List A) (z : A) (r rest : List ℕ) (o : Option (A × List ℕ))
+      → lines (z ∷ y) r ≡ lines xs rest → next_at front (xs, rest) ≡ o
+      → p ((front ++ z ∷ []) ++ y) r ≡ o
   next_is front y xs z r rest o same k =
       ap (λ (ys : List A). p ys r) (append_assoc front (z ∷ []) y) ∙ subst (λ (w : List A × List ℕ). next_at front w ≡ o) (sym same) k
 
-  next_first : (front : List A) (bs : List ℕ) (xs : List A) (rest : List ℕ) (o : Option (A × List ℕ)) → lines [] bs ≡ lines xs rest → next_at front (xs, rest) ≡ o → p front bs ≡ o
+  next_first : (front : List A) (bs : List ℕ) (xs : List A) (rest : List ℕ)
+      (o : Option (A × List ℕ)) → lines [] bs ≡ lines xs rest → next_at front (xs, rest) ≡ o
+      → p front bs ≡ o
   next_first front bs xs rest o same k =
       ap (λ (ys : List A). p ys bs) (sym (append-nil front)) ∙ subst (λ (w : List A × List ℕ). next_at front w ≡ o) (sym same) k
 
@@ -49,7 +53,9 @@ module _ {A : Type 0} (p : List A → List ℕ → Option (A × List ℕ)) where
       ∙ ap (λ (o : Option (List A × List ℕ)). o >>= put_first y.0.0) (one_more i (front ++ y.0.0 ∷ []) y.0.1 ys.0.1 last ys.0.0 x ys.1 (next_is front ys.0.0 xs y.0.0 ys.0.1 rest (Some (x, last)) same k))
       ∙ ap (λ (w : List A × List ℕ). Some (w.0 ++ x ∷ [], last)) same
 
-  no_more : (i n : ℕ) (front : List A) (bs rest : List ℕ) (xs : List A) → i < n → parse_entries p front i bs ≡ Some (xs, rest) → next_at front (xs, rest) ≡ None → parse_entries p front n bs ≡ None
+  no_more : (i n : ℕ) (front : List A) (bs rest : List ℕ) (xs : List A) → i < n
+      → parse_entries p front i bs ≡ Some (xs, rest) → next_at front (xs, rest) ≡ None
+      → parse_entries p front n bs ≡ None
   no_more i zero front bs rest xs lt h k = absurd (omega arith)
   no_more zero (suc n) front bs rest xs lt h k =
       let same : lines [] bs ≡ lines xs rest = same_Some _ _ h in
@@ -61,7 +67,8 @@ module _ {A : Type 0} (p : List A → List ℕ → Option (A × List ℕ)) where
       ap (λ (o : Option (A × List ℕ)). o >>= lines_after front n) y.1
       ∙ ap (λ (o : Option (List A × List ℕ)). o >>= put_first y.0.0) (no_more i n (front ++ y.0.0 ∷ []) y.0.1 ys.0.1 ys.0.0 (omega arith) ys.1 (next_is front ys.0.0 xs y.0.0 ys.0.1 rest None same k))
 
-  count_is : (n : ℕ) (front : List A) (bs rest : List ℕ) (xs : List A) → parse_entries p front n bs ≡ Some (xs, rest) → length xs ≡ n
+  count_is : (n : ℕ) (front : List A) (bs rest : List ℕ) (xs : List A)
+      → parse_entries p front n bs ≡ Some (xs, rest) → length xs ≡ n
   count_is zero front bs rest xs h = let same : lines [] bs ≡ lines xs rest = same_Some _ _ h in ap (λ (w : List A × List ℕ). length w.0) (sym same)
   count_is (suc n) front bs rest xs h =
       let y = bind_some (p front bs) (lines_after front n) (xs, rest) h in
@@ -70,7 +77,9 @@ module _ {A : Type 0} (p : List A → List ℕ → Option (A × List ℕ)) where
       ap (λ (w : List A × List ℕ). length w.0) (sym same) ∙ ap suc (count_is n (front ++ y.0.0 ∷ []) y.0.1 ys.0.1 ys.0.0 ys.1)
 
   -- one more entry
-  pub takes_more : (i : ℕ) (b m a : Feed) (xs : List A) (x : A) → Takes (parse_entries p [] i) b m xs → Takes (p xs) m a x → Takes (parse_entries p [] (i + 1)) b a (xs ++ x ∷ [])
+  pub takes_more : (i : ℕ) (b m a : Feed) (xs : List A) (x : A)
+      → Takes (parse_entries p [] i) b m xs → Takes (p xs) m a x
+      → Takes (parse_entries p [] (i + 1)) b a (xs ++ x ∷ [])
   takes_more i b m a xs x h k = record {
     taken = h.taken ++ k.taken;
     reads = λ rest. ap (λ (bs : List ℕ). parse_entries p [] (i + 1) bs) (append_assoc h.taken k.taken rest)
@@ -80,17 +89,20 @@ module _ {A : Type 0} (p : List A → List ℕ → Option (A × List ℕ)) where
   }
 
   -- an entry that isn't there
-  pub misses_more : (i n : ℕ) (b m : Feed) (xs : List A) → i < n → Takes (parse_entries p [] i) b m xs → Misses (p xs) m → Misses (parse_entries p [] n) b
+  pub misses_more : (i n : ℕ) (b m : Feed) (xs : List A) → i < n
+      → Takes (parse_entries p [] i) b m xs → Misses (p xs) m → Misses (parse_entries p [] n) b
   misses_more i n b m xs lt h k =
       known_rest b.coming m.coming h.taken (λ bs. parse_entries p [] n bs ≡ None) (λ bs. p xs bs ≡ None) h.advances.consumed k
       (λ rest e. no_more i n [] (h.taken ++ rest) rest xs lt (h.reads rest) e)
 
   -- all entries
-  pub takes_every : (i n : ℕ) (b a : Feed) (xs : List A) → i ≡ n → Takes (parse_entries p [] i) b a xs → Takes (parse_entries p [] n) b a xs
+  pub takes_every : (i n : ℕ) (b a : Feed) (xs : List A) → i ≡ n
+      → Takes (parse_entries p [] i) b a xs → Takes (parse_entries p [] n) b a xs
   takes_every i n b a xs all h = subst (λ (k : ℕ). Takes (parse_entries p [] k) b a xs) all h
 
   -- as many as were asked for
-  pub takes_count : (n : ℕ) (b a : Feed) (xs : List A) → Takes (parse_entries p [] n) b a xs → length xs ≡ n
+  pub takes_count : (n : ℕ) (b a : Feed) (xs : List A) → Takes (parse_entries p [] n) b a xs
+      → length xs ≡ n
   takes_count n b a xs h = count_is n [] (h.taken ++ []) [] xs (h.reads [])
 
 pub length_push : {A : Type 0} (xs : List A) (x : A) → length (xs ++ x ∷ []) ≡ length xs + 1
@@ -103,7 +115,10 @@ set_at greatest sizes front = parse_literals greatest (get_or sizes (length fron
 middle_is : (xs ys : List ℕ) (y n : ℕ) → length xs ≡ n → get_or (xs ++ y ∷ ys) n 0 ≡ y
 middle_is xs ys y n h = subst (λ (k : ℕ). get_or (xs ++ y ∷ ys) k 0 ≡ y) h (get_or-append_seam xs y ys 0)
 
-sets_following : (greatest : ℕ) (done sizes : List ℕ) (front : List (List ℕ)) (bs : List ℕ) → length done ≡ length front → parse_entries (set_at greatest (done ++ sizes)) front (length sizes) bs ≡ parse_literal_sets greatest sizes bs
+sets_following : (greatest : ℕ) (done sizes : List ℕ) (front : List (List ℕ)) (bs : List ℕ)
+    → length done ≡ length front
+    → parse_entries (set_at greatest (done ++ sizes)) front (length sizes) bs
+    ≡ parse_literal_sets greatest sizes bs
 unfolding parse_sets
 sets_following greatest done [] front bs h = refl
 sets_following greatest done (n ∷ sizes) front bs h =
@@ -118,7 +133,9 @@ sets_following greatest done (n ∷ sizes) front bs h =
     go (Some x) rest = ap (λ (r : Option (List (List ℕ) × List ℕ)). r >>= put_first x.0) (rest x)
 
 -- sets of these sizes
-sets_is_entries : (greatest : ℕ) (sizes : List ℕ) (bs : List ℕ) → parse_entries (set_at greatest sizes) [] (length sizes) bs ≡ parse_literal_sets greatest sizes bs
+sets_is_entries : (greatest : ℕ) (sizes : List ℕ) (bs : List ℕ)
+    → parse_entries (set_at greatest sizes) [] (length sizes) bs
+    ≡ parse_literal_sets greatest sizes bs
 sets_is_entries greatest sizes bs = sets_following greatest [] sizes [] bs refl
 
 module _ (greatest : ℕ) (sizes : List ℕ) (i : ℕ) (b m : Feed) (front : List (List ℕ)) (h : Takes (parse_entries (set_at greatest sizes) [] i) b m front) where
@@ -127,11 +144,14 @@ module _ (greatest : ℕ) (sizes : List ℕ) (i : ℕ) (b m : Feed) (front : Lis
   next_size = ap (λ (k : ℕ). get_or sizes k 0) (sym (takes_count (set_at greatest sizes) i b m front h))
 
   -- one more set
-  pub takes_set : (a : Feed) (set : List ℕ) → Takes (parse_literals greatest (get_or sizes i 0)) m a set → Takes (parse_entries (set_at greatest sizes) [] (i + 1)) b a (front ++ set ∷ [])
+  pub takes_set : (a : Feed) (set : List ℕ)
+      → Takes (parse_literals greatest (get_or sizes i 0)) m a set
+      → Takes (parse_entries (set_at greatest sizes) [] (i + 1)) b a (front ++ set ∷ [])
   takes_set a set k = takes_more (set_at greatest sizes) i b m a front set h (subst (λ (n : ℕ). Takes (parse_literals greatest n) m a set) next_size k)
 
   -- a set that isn't there
-  pub misses_set : i < length sizes → Misses (parse_literals greatest (get_or sizes i 0)) m → Misses (parse_literal_sets greatest sizes) b
+  pub misses_set : i < length sizes → Misses (parse_literals greatest (get_or sizes i 0)) m
+      → Misses (parse_literal_sets greatest sizes) b
   misses_set lt k =
       misses_same (parse_entries (set_at greatest sizes) [] (length sizes)) (parse_literal_sets greatest sizes) b
       (misses_more (set_at greatest sizes) i (length sizes) b m front lt h (subst (λ (n : ℕ). Misses (parse_literals greatest n) m) next_size k))
@@ -145,5 +165,7 @@ module _ (greatest : ℕ) (sizes : List ℕ) (i : ℕ) (b m : Feed) (front : Lis
       (sets_is_entries greatest sizes)
 
 -- one more value, made of one more entry
-pub made_push : {A B : Type 0} (f : A → B) (front : List B) (xs : List A) (x : A) (old new : List B) (y : B) → old ≡ front ++ map f xs → y ≡ f x → new ≡ old ++ y ∷ [] → new ≡ front ++ map f (xs ++ x ∷ [])
+pub made_push : {A B : Type 0} (f : A → B) (front : List B) (xs : List A) (x : A) (old new : List B)
+    (y : B) → old ≡ front ++ map f xs → y ≡ f x → new ≡ old ++ y ∷ []
+    → new ≡ front ++ map f (xs ++ x ∷ [])
 made_push {B = B} f front xs x old new y h e is = is ∙ rw (h, e) (append_assoc front (map f xs) (f x ∷ []) ∙ ap (λ (ys : List B). front ++ ys) (sym (map_push f xs x)))

@@ -28,11 +28,13 @@ last_push n x [] = refl
 last_push n x (y ∷ ys) = last_push y x ys
 
 -- numbers rise with one more where it is above the last
-is_increasing_following : (n x : ℕ) (xs : List ℕ) → is_increasing (n ∷ (xs ++ x ∷ [])) ≡ is_increasing (n ∷ xs) && ltb (last_or n xs) x
+is_increasing_following : (n x : ℕ) (xs : List ℕ)
+    → is_increasing (n ∷ (xs ++ x ∷ [])) ≡ is_increasing (n ∷ xs) && ltb (last_or n xs) x
 is_increasing_following n x [] = and-true (ltb n x)
 is_increasing_following n x (y ∷ ys) = ap (λ (b : Bool). ltb n y && b) (is_increasing_following y x ys) ∙ sym (and_assoc (ltb n y) (is_increasing (y ∷ ys)) (ltb (last_or y ys) x))
 
-is_increasing_push : (x : ℕ) (xs : List ℕ) → 0 < x → is_increasing (xs ++ x ∷ []) ≡ is_increasing xs && ltb (last_or 0 xs) x
+is_increasing_push : (x : ℕ) (xs : List ℕ) → 0 < x
+    → is_increasing (xs ++ x ∷ []) ≡ is_increasing xs && ltb (last_or 0 xs) x
 is_increasing_push x [] some = sym (lt-ltb 0 x some)
 is_increasing_push x (y ∷ ys) some = is_increasing_following y x ys
 
@@ -43,7 +45,9 @@ four true false false d = refl
 four false b c d = refl
 
 -- gates are in order with one more where it is next
-pub order_push : (gates : List GateLine) (g : GateLine) → 0 < g.lhs → are_in_order (gates ++ g ∷ []) ≡ are_in_order gates && (ltb (last_or 0 (literals_of gates)) g.lhs && is_above_operands g)
+pub order_push : (gates : List GateLine) (g : GateLine) → 0 < g.lhs
+    → are_in_order (gates ++ g ∷ []) ≡ are_in_order gates
+    && (ltb (last_or 0 (literals_of gates)) g.lhs && is_above_operands g)
 order_push gates g some =
     let lefts = literals_of gates in
     let all = list_all is_above_operands gates in
@@ -58,7 +62,8 @@ module _ (greatest : ℕ) (leaves : List ℕ) (before : List GateLine) (lhs : �
   abbrev g : GateLine
   g = line_of lhs operands
 
-  order_with : (old : InOrder) → AreInOrder before old → are_in_order (before ++ g ∷ []) ≡ ltb old.last lhs && is_above_operands g
+  order_with : (old : InOrder) → AreInOrder before old
+      → are_in_order (before ++ g ∷ []) ≡ ltb old.last lhs && is_above_operands g
   order_with old h = order_push before g (omega arith) ∙ rw (h.in_order, sym h.last) refl
 
   -- gates that rise still do with the next one
@@ -89,7 +94,9 @@ module _ (greatest : ℕ) (leaves : List ℕ) (before : List GateLine) (lhs : �
       record { nodes = nodes; space = space; form = well_founded_skipped greatest leaves before g v low below (ap (list_any (λ e. e / 2 == v)) (sym row) ∙ none) }
 
   -- a file that is well-founded alone does with one gate more
-  pub still_in_table : (old new : Table) → ArePlaced greatest leaves before (held.Shuffled old) → HoldsPending (before ++ g ∷ []) new → HasSpace (greatest + 1) (held.Shuffled new) → ArePlaced greatest leaves (before ++ g ∷ []) (held.Shuffled new)
+  pub still_in_table : (old new : Table) → ArePlaced greatest leaves before (held.Shuffled old)
+      → HoldsPending (before ++ g ∷ []) new → HasSpace (greatest + 1) (held.Shuffled new)
+      → ArePlaced greatest leaves (before ++ g ∷ []) (held.Shuffled new)
   still_in_table old new h nodes space = record { nodes = nodes; space = space; form = well_founded_more greatest leaves before g h.form }
 
 -- ---- one more gate
@@ -104,5 +111,6 @@ more_gates kind greatest leaves before variables held g placed defined =
     }
 
 -- a literal that is new after leaves and gates is new among those of the gates
-pub new_among : (leaves : List ℕ) (before : List GateLine) (e : ℕ) → IsNewAmong (leaves ++ literals_of before) e → IsNewAmong (literals_of before) e
+pub new_among : (leaves : List ℕ) (before : List GateLine) (e : ℕ)
+    → IsNewAmong (leaves ++ literals_of before) e → IsNewAmong (literals_of before) e
 new_among leaves before e new = (rec_parts (λ d. d / 2 ≢ e / 2) leaves (literals_of before) new).1

@@ -29,7 +29,9 @@ abbrev passes : ℕ → Read → Option Read
 passes limit x = cond (fits_header limit x.0) (Some x) None
 
 -- a header line that isn't read
-unread : (limit : ℕ) (before after : Feed) (fault : LexError) → LexTells fault (Misses parse_header before) after.failed → ReadsHeader limit before after (Err (header_error_of fault))
+unread : (limit : ℕ) (before after : Feed) (fault : LexError)
+    → LexTells fault (Misses parse_header before) after.failed
+    → ReadsHeader limit before after (Err (header_error_of fault))
 unread limit before after Stream h = h
 unread limit before after Shape h = IfSome_then before.coming h (λ bytes none. (ap (λ (o : Option Read). o >>= passes limit) none, ap (too_many_of limit) none))
 
@@ -37,12 +39,14 @@ abbrev GivesHeader : Feed → Feed → Result Header LexError → Type 0
 GivesHeader before after line = Gives LexTells (λ (h : Header). (h.kind, numbers_of h)) before after line parse_header
 
 module _ (before after : Feed) (line : Result Header LexError) (result : Result Header ReadError) (is : result ≡ result_by header_error_of line) (given : GivesHeader before after line) where
-  pub unread_header : (limit : ℕ) (e : ReadError) → result ≡ Err e → ReadsHeader limit before after (Err e)
+  pub unread_header : (limit : ℕ) (e : ReadError) → result ≡ Err e
+      → ReadsHeader limit before after (Err e)
   unread_header limit e was =
       let k = err_in header_error_of line result e is was in
       subst (λ (d : ReadError). ReadsHeader limit before after (Err d)) k.2 (unread limit before after k.0 (subst (GivesHeader before after) k.1 given))
 
-  pub header_taken : (h : Header) → result ≡ Ok h → Takes parse_header before after (h.kind, numbers_of h)
+  pub header_taken : (h : Header) → result ≡ Ok h
+      → Takes parse_header before after (h.kind, numbers_of h)
   header_taken h was = subst (GivesHeader before after) (ok_in header_error_of line result h is was) given
 
 -- one that is read and fails a test
@@ -57,10 +61,12 @@ no_header limit before after x many taken fails is =
 
 -- ---- one that passes
 
-fits_read : (limit : ℕ) (x : FileKind × HeaderNumbers) (rest : List ℕ) (y : Read) → passes limit y ≡ Some (x, rest) → (y ≡ (x, rest)) × (fits_header limit x ≡ true)
+fits_read : (limit : ℕ) (x : FileKind × HeaderNumbers) (rest : List ℕ) (y : Read)
+    → passes limit y ≡ Some (x, rest) → (y ≡ (x, rest)) × (fits_header limit x ≡ true)
 fits_read limit x rest y h = by_test (fits_header limit y.0) refl h
   where
-    by_test : (b : Bool) → fits_header limit y.0 ≡ b → cond b (Some y) None ≡ Some (x, rest) → (y ≡ (x, rest)) × (fits_header limit x ≡ true)
+    by_test : (b : Bool) → fits_header limit y.0 ≡ b → cond b (Some y) None ≡ Some (x, rest)
+        → (y ≡ (x, rest)) × (fits_header limit x ≡ true)
     by_test true is h = let same = same_Some y (x, rest) h in (same, subst (λ (z : Read). fits_header limit z.0 ≡ true) same is)
     by_test false is h = absurd cc
 

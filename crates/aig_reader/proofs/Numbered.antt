@@ -18,23 +18,30 @@ use Rattle.aig_reader.specs.Numbered.{Judged, have_operands, knows, knows_lists,
 -- ---- answers
 
 module _ {X : Type 0} (test : Bool) (P : X → Type 0) where
-  pub judged_ok : (result : Result X ReadError) (x : X) → Judged test P result → result ≡ Ok x → (test ≡ true) × P x
+  pub judged_ok : (result : Result X ReadError) (x : X) → Judged test P result → result ≡ Ok x
+      → (test ≡ true) × P x
   judged_ok result x h was = subst (λ (r : Result X ReadError). Judged test P r) was h
 
-  pub judged_err : (result : Result X ReadError) (e : ReadError) → Judged test P result → result ≡ Err e → SectionTells e (test ≡ false) false
+  pub judged_err : (result : Result X ReadError) (e : ReadError) → Judged test P result
+      → result ≡ Err e → SectionTells e (test ≡ false) false
   judged_err result e h was = subst (λ (r : Result X ReadError). Judged test P r) was h
 
   -- a judgement of lists, as one of their section
-  by_lists : (section : Section) (lists : Result X OrderError) → JudgedOrder test P lists → Judged test P (result_by (order_error_in section) lists)
+  by_lists : (section : Section) (lists : Result X OrderError) → JudgedOrder test P lists
+      → Judged test P (result_by (order_error_in section) lists)
   by_lists section (Ok x) h = h
   by_lists section (Err Memory) h = tt
   by_lists section (Err Variable) h = h
 
-  pub judged_by : (section : Section) (lists : Result X OrderError) (result : Result X ReadError) → JudgedOrder test P lists → result ≡ result_by (order_error_in section) lists → Judged test P result
+  pub judged_by : (section : Section) (lists : Result X OrderError) (result : Result X ReadError)
+      → JudgedOrder test P lists → result ≡ result_by (order_error_in section) lists
+      → Judged test P result
   judged_by section lists result h is = subst (λ (r : Result X ReadError). Judged test P r) (sym is) (by_lists section lists h)
 
 -- an answer judged by the same test, and by what it then says
-pub rejudged : {X : Type 0} (s t : Bool) (P Q : X → Type 0) → s ≡ t → ((x : X) → t ≡ true → P x → Q x) → (result : Result X OrderError) → JudgedOrder s P result → JudgedOrder t Q result
+pub rejudged : {X : Type 0} (s t : Bool) (P Q : X → Type 0) → s ≡ t
+    → ((x : X) → t ≡ true → P x → Q x) → (result : Result X OrderError) → JudgedOrder s P result
+    → JudgedOrder t Q result
 rejudged s t P Q same says (Ok x) h = let passed : t ≡ true = sym same ∙ h.0 in (passed, says x passed h.1)
 rejudged s t P Q same says (Err Memory) h = tt
 rejudged s t P Q same says (Err Variable) h = sym same ∙ h
@@ -54,7 +61,8 @@ module _ (f : File) where
   joined : (xs ys : List ℕ) → knows f (xs ++ ys) ≡ knows f xs && knows f ys
   joined xs ys = list_all-append knows_one xs ys
 
-  pub knows_properties-is : knows_properties f ≡ knows f p.outputs && knows f p.bads && knows f p.constraints && knows f sets && knows f p.fairness
+  pub knows_properties-is : knows_properties f ≡ knows f p.outputs && knows f p.bads
+      && knows f p.constraints && knows f sets && knows f p.fairness
   knows_properties-is =
       joined (p.outputs ++ p.bads ++ p.constraints ++ sets) p.fairness
       ∙ ap (λ b. b && knows f p.fairness) (joined (p.outputs ++ p.bads ++ p.constraints) sets ∙ ap (λ b. b && knows f sets) (joined (p.outputs ++ p.bads) p.constraints ∙ ap (λ b. b && knows f p.constraints) (joined p.outputs p.bads)))
@@ -66,7 +74,8 @@ module _ (f : File) where
       joined (nexts ++ entries_of p) operands ∙ ap (λ b. b && knows f operands) (joined nexts (entries_of p))
 
   -- the test of a well-founded file, from those of lists and operands
-  pub well_founded-is : (levels l o : Bool) → knows_lists f ≡ l → have_operands f ≡ o → (uses_known f && levels) ≡ (l && o) && levels
+  pub well_founded-is : (levels l o : Bool) → knows_lists f ≡ l → have_operands f ≡ o
+      → (uses_known f && levels) ≡ (l && o) && levels
   well_founded-is levels l o hl ho = ap (λ b. b && levels) (uses_known-is ∙ ap (λ b. b && have_operands f) hl ∙ ap (λ b. l && b) ho)
 
 -- a test of levels and operands that fails

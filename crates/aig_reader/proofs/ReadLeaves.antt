@@ -26,7 +26,8 @@ pub record InputsRead (header : Header) (before after : Feed) (variables : Defin
   pub literals : List ℕ
   pub are : inputs ≡ map variable_of_literal literals
   pub defined : AreDefined header.kind header.greatest variables literals
-  pub takes : Takes (parse_entries (parse_input_entry header.kind header.greatest) [] header.inputs) before after literals
+  pub takes : Takes (parse_entries (parse_input_entry header.kind header.greatest) [] header.inputs)
+      before after literals
   pub count : length literals ≡ header.inputs
 
 -- those of the latches after them
@@ -34,7 +35,9 @@ pub record LatchesRead (header : Header) (inputs : List ℕ) (before after : Fee
   pub lines : List LatchLine
   pub are : latchs ≡ map latch_of_line lines
   pub defined : AreDefined header.kind header.greatest variables (literals_with inputs lines)
-  pub takes : Takes (parse_entries (parse_latch_entry header.kind header.greatest inputs) [] header.latches) before after lines
+  pub takes : Takes
+      (parse_entries (parse_latch_entry header.kind header.greatest inputs) [] header.latches)
+      before after lines
   pub count : length (literals_with inputs lines) ≡ length inputs + header.latches
 
 module _ (header : Header) (b a : Feed) (v : DefinedVariables) where

@@ -32,7 +32,8 @@ use Rattle.aig_format.specs.Fits.{has_enough, is_accepted_order, is_literal, use
 use Rattle.aig_format.proofs.Entries.{rec_weaker, length-defined, on_used}
 
 -- a fault that no failed read made tells the same, whether a read failed or not
-on_section-unfailed : (e : ReadError) (P Q : Type 0) (failed : Bool) → (P → Q) → SectionTells e P false → SectionTells e Q failed
+on_section-unfailed : (e : ReadError) (P Q : Type 0) (failed : Bool) → (P → Q)
+    → SectionTells e P false → SectionTells e Q failed
 on_section-unfailed errors.Memory P Q failed f h = tt
 on_section-unfailed errors.Stream P Q failed f h = absurd (false≢true h)
 on_section-unfailed errors.Header P Q failed f h = h
@@ -57,13 +58,17 @@ module _ (header : Header) (x : Parts) (b a : Feed) (taken : Takes (parse_sectio
     abbrev counts : HasCounts header.kind (numbers_of header) x
     counts = (lines_tell header.kind (numbers_of header) x (taken.taken ++ []) [] good (taken.reads [])).counts
 
-    pub inputs_count : (result : Result Sections ReadError) → Judged (keeps x) (IsCircuitOf (file_by header x)) result → IfOk result (λ sections. vec_len sections.lists.inputs ≡ header.inputs)
+    pub inputs_count : (result : Result Sections ReadError)
+        → Judged (keeps x) (IsCircuitOf (file_by header x)) result
+        → IfOk result (λ sections. vec_len sections.lists.inputs ≡ header.inputs)
     inputs_count (Ok sections) h =
         let all = ap length (inputs_is (file_by header x) sections h.1) ∙ length-map x.inputs (λ e. node_of_variable (file_by header x) (e / 2)) in
         omega (arith, all, counts.inputs, sections.lists.inputs.ok.0)
     inputs_count (Err e) h = tt
 
-    pub latchs_count : (result : Result Sections ReadError) → Judged (keeps x) (IsCircuitOf (file_by header x)) result → IfOk result (λ sections. vec_len sections.lists.latchs ≡ header.latches)
+    pub latchs_count : (result : Result Sections ReadError)
+        → Judged (keeps x) (IsCircuitOf (file_by header x)) result
+        → IfOk result (λ sections. vec_len sections.lists.latchs ≡ header.latches)
     latchs_count (Ok sections) h =
         let all = ap length (latchs_is (file_by header x) sections h.1) ∙ length-map x.latches (latch_of (file_by header x)) in
         omega (arith, all, counts.latches, sections.lists.latchs.ok.0)
@@ -73,7 +78,8 @@ module _ (header : Header) (x : Parts) (b a : Feed) (taken : Takes (parse_sectio
 
 module _ (f : File) where
   -- the nodes of the file's variables, where its gates are in their places
-  pub nodes_placed : HasGoodLines f → (nodes : List AigNode) → AreFirstNodes f.gates nodes → length nodes ≡ f.greatest + 1 → AreNodesOf f nodes
+  pub nodes_placed : HasGoodLines f → (nodes : List AigNode) → AreFirstNodes f.gates nodes
+      → length nodes ≡ f.greatest + 1 → AreNodesOf f nodes
   nodes_placed good nodes h all = record {
     placed = first_all f.greatest f.gates nodes h all;
     definable = good.definable;
@@ -82,7 +88,9 @@ module _ (f : File) where
   }
 
   -- in a compact file the lines' sections are the circuit's
-  pub compact_judged : (sections : Sections) → HasGoodLines f → AreListsByVariable sections.lists f → AreFirstNodes f.gates sections.nodes.items → vec_len sections.nodes ≡ f.greatest + 1 → is_compact f ≡ true → (is_accepted_order f.kind f ≡ true) × IsCircuitOf f sections
+  pub compact_judged : (sections : Sections) → HasGoodLines f → AreListsByVariable sections.lists f
+      → AreFirstNodes f.gates sections.nodes.items → vec_len sections.nodes ≡ f.greatest + 1
+      → is_compact f ≡ true → (is_accepted_order f.kind f ≡ true) × IsCircuitOf f sections
   compact_judged sections good lists nodes all compact =
       (by_kind f.kind, compact_circuit f good compact sections lists (first_all f.greatest f.gates sections.nodes.items nodes (omega (arith, all, sections.nodes.ok.0))))
     where
@@ -91,13 +99,17 @@ module _ (f : File) where
       by_kind Binary = compact
 
   -- else it is tested whether the file is well-founded
-  pub well_founded_judged : {X : Type 0} (P : X → Type 0) (result : Result X ReadError) → f.kind ≡ Text → is_compact f ≡ false → Judged (uses_known f && list_all (has_level f) f.gates) P result → Judged (is_accepted_order f.kind f) P result
+  pub well_founded_judged : {X : Type 0} (P : X → Type 0) (result : Result X ReadError)
+      → f.kind ≡ Text → is_compact f ≡ false
+      → Judged (uses_known f && list_all (has_level f) f.gates) P result
+      → Judged (is_accepted_order f.kind f) P result
   well_founded_judged P result text well_founded h =
       let well_founded_rules = uses_known f && list_all (has_level f) f.gates in
       subst (λ b. Judged b P result) (sym (ap (λ k. is_accepted_order k f) text ∙ ap (λ b. b || well_founded_rules) well_founded)) h
 
   -- nodes and lists under the numbers of variables are the circuit's
-  pub numbered_circuit : (sections : Sections) → sections.nodes.items ≡ (circuit_of f).nodes → AreListsByNumber f sections.lists → IsCircuitOf f sections
+  pub numbered_circuit : (sections : Sections) → sections.nodes.items ≡ (circuit_of f).nodes
+      → AreListsByNumber f sections.lists → IsCircuitOf f sections
   numbered_circuit sections nodes h = λ names.
       let inputs = h.inputs in let latchs = h.latchs in let properties = h.properties in
       λ i. record { nodes = nodes i; inputs = inputs i; latchs = latchs i; properties = properties i; names = names }

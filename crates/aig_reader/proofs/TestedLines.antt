@@ -12,26 +12,31 @@ use Rattle.aig_lexer.proofs.Taking.{misses_next, misses_test, takes_bind, takes_
 use Rattle.aig_reader.specs.Faults.{LineTells, line_error_of}
 use Rattle.aig_reader.specs.Variables.{Tested}
 
-pub on_line-weaker : (e : LineError) (P Q : Type 0) (failed : Bool) → (P → Q) → LineTells e P failed → LineTells e Q failed
+pub on_line-weaker : (e : LineError) (P Q : Type 0) (failed : Bool) → (P → Q) → LineTells e P failed
+    → LineTells e Q failed
 on_line-weaker Memory P Q failed f h = tt
 on_line-weaker Stream P Q failed f h = h
 on_line-weaker Syntax P Q failed f h = f h
 on_line-weaker Literal P Q failed f h = f h
 
 -- a malformed word, as a fault in a line
-pub on_line-from_shape : (e : LexError) (P Q : Type 0) (failed : Bool) → (P → Q) → LexTells e P failed → LineTells (line_error_of e) Q failed
+pub on_line-from_shape : (e : LexError) (P Q : Type 0) (failed : Bool) → (P → Q)
+    → LexTells e P failed → LineTells (line_error_of e) Q failed
 on_line-from_shape lex.Stream P Q failed f h = h
 on_line-from_shape lex.Shape P Q failed f h = f h
 
 -- a fault that no failed read made tells the same, whether a read failed or not
-pub on_line-unfailed : (e : LineError) (P Q : Type 0) (failed : Bool) → (P → Q) → LineTells e P false → LineTells e Q failed
+pub on_line-unfailed : (e : LineError) (P Q : Type 0) (failed : Bool) → (P → Q)
+    → LineTells e P false → LineTells e Q failed
 on_line-unfailed Memory P Q failed f h = tt
 on_line-unfailed Stream P Q failed f h = absurd (false≢true h)
 on_line-unfailed Syntax P Q failed f h = f h
 on_line-unfailed Literal P Q failed f h = f h
 
 -- a value that is made where what was read passes a test
-pub makes_tested : {X A : Type 0} (IsOf : X → A → Type 0) (p : List ℕ → Option (A × List ℕ)) (test : A → Bool) (b a : Feed) (x : A) (r : Result X LineError) → Takes p b a x → Tested (test x) (λ y. IsOf y x) r → Makes LineTells IsOf b a r (parse_if p test)
+pub makes_tested : {X A : Type 0} (IsOf : X → A → Type 0) (p : List ℕ → Option (A × List ℕ))
+    (test : A → Bool) (b a : Feed) (x : A) (r : Result X LineError) → Takes p b a x
+    → Tested (test x) (λ y. IsOf y x) r → Makes LineTells IsOf b a r (parse_if p test)
 makes_tested IsOf p test b a x (Ok y) taken h = (x, h.1, takes_tested p test b a x taken h.0)
 makes_tested IsOf p test b a x (Err e) taken h = on_line-unfailed e _ _ a.failed (λ (no : test x ≡ false). misses_test p test b a x taken no) h
 
@@ -43,6 +48,7 @@ makes_next {X} {Y} {Z} IsOf p next b m a y z r h is = go r
     taken : Takes p b m z
     taken = subst (λ (x : Y). Takes p b m x) (sym is) h
 
-    go : (r : Result X LineError) → Makes LineTells IsOf m a r (λ bs. next (z, bs)) → Makes LineTells IsOf b a r (λ bs. p bs >>= next)
+    go : (r : Result X LineError) → Makes LineTells IsOf m a r (λ bs. next (z, bs))
+        → Makes LineTells IsOf b a r (λ bs. p bs >>= next)
     go (Ok x) k = (k.0, k.1, takes_bind p next b m a z k.0 taken k.2)
     go (Err e) k = on_line-weaker e _ _ a.failed (misses_next p next b m z taken) k

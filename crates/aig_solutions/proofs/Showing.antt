@@ -53,13 +53,15 @@ get_below (n ∷ ns) zero m all some = all 0 0 (omega arith)
 get_below (n ∷ ns) (suc i) m all some = get_below ns i m (λ k d h. all (suc k) d (omega arith)) some
 
 -- what is related to what the second entries are mapped to
-zip_right : {A B C : Type 0} (g : B → C) (R : A → C → Type 0) (xs : List A) (ys : List B) → AllZip (λ x y. R x (g y)) xs ys → AllZip R xs (map g ys)
+zip_right : {A B C : Type 0} (g : B → C) (R : A → C → Type 0) (xs : List A) (ys : List B)
+    → AllZip (λ x y. R x (g y)) xs ys → AllZip R xs (map g ys)
 zip_right g R [] [] zip = tt
 zip_right g R [] (y ∷ ys) zip = absurd zip
 zip_right g R (x ∷ xs) [] zip = absurd zip
 zip_right g R (x ∷ xs) (y ∷ ys) zip = (zip.0, zip_right g R xs ys zip.1)
 
-zip_unright : {A B C : Type 0} (g : B → C) (R : A → C → Type 0) (xs : List A) (ys : List B) → AllZip R xs (map g ys) → AllZip (λ x y. R x (g y)) xs ys
+zip_unright : {A B C : Type 0} (g : B → C) (R : A → C → Type 0) (xs : List A) (ys : List B)
+    → AllZip R xs (map g ys) → AllZip (λ x y. R x (g y)) xs ys
 zip_unright g R [] [] zip = tt
 zip_unright g R [] (y ∷ ys) zip = absurd zip
 zip_unright g R (x ∷ xs) [] zip = absurd zip
@@ -85,7 +87,8 @@ module _ (f : File) (limit k : ℕ) (optimize : Bool) (c u : Circuit) (clauses :
   place_below (suc t) n leaf = get_below u.inputs _ (length u.nodes) (λ i d h. kind_at-within u.nodes _ Leaf (is.inputs i d h)) (kind_at-within u.nodes 0 False is.nodes.false_first)
 
   -- the leaf values of a run are the given ones
-  state_given : (run : ℕ → ℕ → Bool) → HasLeafValues f c u k v run → AllZip (λ (l : LatchLine) known. Agrees known (run 0 (l.literal / 2))) f.latches w.state
+  state_given : (run : ℕ → ℕ → Bool) → HasLeafValues f c u k v run
+      → AllZip (λ (l : LatchLine) known. Agrees known (run 0 (l.literal / 2))) f.latches w.state
   state_given run leaves =
       let Gives = λ (l : LatchLine) (known : Lbool). Agrees known (run 0 (l.literal / 2)) in
       let Has = λ (l : LatchLine) (latch : AigLatch). run 0 (l.literal / 2) ≡ v latch.input in
@@ -95,7 +98,9 @@ module _ (f : File) (limit k : ℕ) (optimize : Bool) (c u : Circuit) (clauses :
       (zip_weaker Has (λ l latch. Gives l (read latch)) (IsLatch c.nodes) f.latches c.latchs
       (λ l latch there same. subst (λ (known : Lbool). Gives l known) (sym (of latch.input (leaf_below latch.input there.leaf))) (known_agrees (v latch.input) (run 0 (l.literal / 2)) same)) circuit.latchs leaves.latches))
 
-  inputs_given : (run : ℕ → ℕ → Bool) → HasLeafValues f c u k v run → (t : ℕ) (line : List Lbool) → slice_get w.steps t ≡ Some line → AllZip (λ (e : ℕ) known. Agrees known (run t (e / 2))) f.inputs line
+  inputs_given : (run : ℕ → ℕ → Bool) → HasLeafValues f c u k v run → (t : ℕ) (line : List Lbool)
+      → slice_get w.steps t ≡ Some line
+      → AllZip (λ (e : ℕ) known. Agrees known (run t (e / 2))) f.inputs line
   inputs_given run leaves t line there =
       let short = slice_get_within w.steps t line there in
       let low : t ≤ k = omega (arith, short, says.steps.count) in
@@ -161,7 +166,8 @@ module _ (f : File) (limit k : ℕ) (optimize : Bool) (c u : Circuit) (clauses :
       sym found.2 ∙ known_true (edge_in v edge) (sym known ∙ ap (edge_at values) (sym named) ∙ says.bad.here)
 
   -- and on each run with the given values
-  true_always : (run : ℕ → ℕ → Bool) → IsMachineRun f k run → HasLeafValues f c u k v run → value_of_literal (run k) e ≡ true
+  true_always : (run : ℕ → ℕ → Bool) → IsMachineRun f k run → HasLeafValues f c u k v run
+      → value_of_literal (run k) e ≡ true
   true_always run is_run leaves =
       let known : IsKnown f e = (used_by_section (IsKnown f) f (used_known f limit fits)).properties.bads w.bad 0 bad_below in
       sym (literal_same (one.run k) (run k) e (one.only run is_run leaves k (e / 2) (omega arith) known)) ∙ true_once

@@ -17,7 +17,9 @@ pub record AreRows (row_at : ℕ → List Lbool) (t : ℕ) (rows : List (List Lb
   pub each : (s : ℕ) → s < t → slice_get rows s ≡ Some (row_at s)
 
 -- one row more
-pub rows_more : (row_at : ℕ → List Lbool) (t : ℕ) (old made : List (Vec Lbool Global)) (row : Vec Lbool Global) → AreRows row_at t (rows_of old) → made ≡ old ++ row ∷ [] → row.items ≡ row_at t → AreRows row_at (t + 1) (rows_of made)
+pub rows_more : (row_at : ℕ → List Lbool) (t : ℕ) (old made : List (Vec Lbool Global))
+    (row : Vec Lbool Global) → AreRows row_at t (rows_of old) → made ≡ old ++ row ∷ []
+    → row.items ≡ row_at t → AreRows row_at (t + 1) (rows_of made)
 rows_more row_at t old made row rows is here =
     let whole : rows_of made ≡ rows_of old ++ row_at t ∷ [] = ap rows_of is ∙ map-append (λ (list : Vec Lbool Global). list.items) old (row ∷ []) ∙ ap (λ r. rows_of old ++ r ∷ []) here in
     let last : t ≡ length (rows_of old) + 0 = omega (arith, rows.count) in
@@ -31,7 +33,9 @@ rows_more row_at t old made row rows is here =
     length_more (y ∷ ys) x = let more = length_more ys x in omega arith
 
 -- one value more
-pub map_more : {A : Type 0} (f : A → Lbool) (made old : List Lbool) (xs : List A) (i : ℕ) (d : A) (y : Lbool) → i < length xs → old ≡ map f (take i xs) → made ≡ old ++ y ∷ [] → y ≡ f (get_or xs i d) → made ≡ map f (take (i + 1) xs)
+pub map_more : {A : Type 0} (f : A → Lbool) (made old : List Lbool) (xs : List A) (i : ℕ) (d : A)
+    (y : Lbool) → i < length xs → old ≡ map f (take i xs) → made ≡ old ++ y ∷ []
+    → y ≡ f (get_or xs i d) → made ≡ map f (take (i + 1) xs)
 map_more f made old xs i d y low before step is =
     let more : map f (take (i + 1) xs) ≡ map f (take i xs) ++ f (get_or xs i d) ∷ [] = ap (map f) (take_more xs i d low) ∙ map-append f (take i xs) (get_or xs i d ∷ []) in
     step ∙ ap (λ list. list ++ y ∷ []) before ∙ ap (λ v. map f (take i xs) ++ v ∷ []) is ∙ sym more
@@ -39,7 +43,8 @@ map_more f made old xs i d y low before step is =
 -- ---- bad edges
 
 -- those of step k are the last of so many
-pub bads_room : (c u : Circuit) (k : ℕ) (old new : List AigEdge) → UnrollsTo c k u → old ≡ c.properties.bads → new ≡ u.properties.bads → k * length old + length old ≡ length new
+pub bads_room : (c u : Circuit) (k : ℕ) (old new : List AigEdge) → UnrollsTo c k u
+    → old ≡ c.properties.bads → new ≡ u.properties.bads → k * length old + length old ≡ length new
 bads_room c u k old new unrolls is_old is_new =
     let y : ℕ → Bool = λ n. false in
     let r = unrolls.run_of y in

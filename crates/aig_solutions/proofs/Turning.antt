@@ -53,7 +53,8 @@ position_of-passing test (x ∷ xs) first (suc k) d numbered h passes =
     by_test false so_far = ap (position_of rest) next ∙ so_far
 
 -- what is counted are turns
-pub turns_from : (c : Circuit) (turns : List ℕ) (total : ℕ) → AreNodes c.nodes → CountsOthers c turns → total ≡ count_by (is_other_leaf c) c.nodes → HasTurns c turns total
+pub turns_from : (c : Circuit) (turns : List ℕ) (total : ℕ) → AreNodes c.nodes
+    → CountsOthers c turns → total ≡ count_by (is_other_leaf c) c.nodes → HasTurns c turns total
 turns_from c turns total are counts all = record {
   all = all ∙ sym (length-filter test c.nodes) ∙ sym (many (filter test c.nodes));
   count = counts.count;
@@ -63,7 +64,8 @@ turns_from c turns total are counts all = record {
     test : AigNode → Bool
     test = is_other_leaf c
 
-    many : (nodes : List AigNode) → length (map (λ (node : AigNode). node.node_id) nodes) ≡ length nodes
+    many : (nodes : List AigNode)
+        → length (map (λ (node : AigNode). node.node_id) nodes) ≡ length nodes
     many [] = refl
     many (x ∷ xs) = ap suc (many xs)
 
@@ -87,7 +89,8 @@ turns_from c turns total are counts all = record {
 -- ---- marks
 
 -- the leaf of a latch is a node
-pub latch_within : (nodes : List AigNode) (latchs : List AigLatch) (i : ℕ) (d : AigLatch) → All (IsLatch nodes) latchs → i < length latchs → (get_or latchs i d).input < length nodes
+pub latch_within : (nodes : List AigNode) (latchs : List AigLatch) (i : ℕ) (d : AigLatch)
+    → All (IsLatch nodes) latchs → i < length latchs → (get_or latchs i d).input < length nodes
 latch_within nodes latchs i d all low = let is = All-get_or (IsLatch nodes) latchs i d low all in kind_at-within nodes (get_or latchs i d).input Leaf is.leaf
 
 -- one latch more is marked
@@ -96,7 +99,8 @@ pub mark_more : (marks : List Bool) (latchs : List AigLatch) (i x n size : ℕ) 
 mark_more marks latchs i x n size e d low at count within before =
     by_test (x == n) refl ∙ ap (λ m. is_in (latch_leaves (take i latchs)) n || (m == n || false)) at ∙ sym more
   where
-    more : is_in (latch_leaves (take (i + 1) latchs)) n ≡ (is_in (latch_leaves (take i latchs)) n || ((get_or latchs i e).input == n || false))
+    more : is_in (latch_leaves (take (i + 1) latchs)) n
+        ≡ (is_in (latch_leaves (take i latchs)) n || ((get_or latchs i e).input == n || false))
     more =
         ap (λ ls. is_in (latch_leaves ls) n) (take_more latchs i e low)
         ∙ ap (λ ns. is_in ns n) (map-append (λ (latch : AigLatch). latch.input) (take i latchs) (get_or latchs i e ∷ []))
@@ -110,7 +114,9 @@ mark_more marks latchs i x n size e d low at count within before =
     or_false true = refl
     or_false false = refl
 
-    by_test : (b : Bool) → (x == n) ≡ b → get_or (set marks x true) n d ≡ (is_in (latch_leaves (take i latchs)) n || (x == n || false))
+    by_test : (b : Bool) → (x == n) ≡ b
+        → get_or (set marks x true) n d
+        ≡ (is_in (latch_leaves (take i latchs)) n || (x == n || false))
     by_test true is =
         let same : n ≡ x = sym (eqb-true x n is) in
         get_or-set_at marks x n true d same (omega (arith, same, count, within)) ∙ sym (ap (λ b. is_in (latch_leaves (take i latchs)) n || (b || false)) is ∙ or_true (is_in (latch_leaves (take i latchs)) n))
@@ -128,7 +134,8 @@ module _ (c : Circuit) (marks : List Bool) (are : AreNodes c.nodes) (is : MarksL
   so_many n = count_by (is_other_leaf c) (take n c.nodes)
 
   -- its mark says whether it is a latch's leaf
-  marked : (b : Bool) → get_or marks i e ≡ b → list_any (λ n. n == node.node_id) (latch_leaves c.latchs) ≡ b
+  marked : (b : Bool) → get_or marks i e ≡ b
+      → list_any (λ n. n == node.node_id) (latch_leaves c.latchs) ≡ b
   marked b m = ap (is_in (latch_leaves c.latchs)) (are.numbered i node (slice_get-get_or c.nodes i d h)) ∙ sym (is.each i e h) ∙ m
 
   pub count_other : node.typ ≡ Leaf → get_or marks i e ≡ false → so_many (i + 1) ≡ so_many i + 1
@@ -149,7 +156,8 @@ module _ (c : Circuit) (marks : List Bool) (are : AreNodes c.nodes) (is : MarksL
 -- ---- places
 
 -- the turn of a leaf at a step is within the inputs
-turn_within : (t m turn before all : ℕ) → t ≢ 0 → before + t * m ≤ all → turn < m → before + (t - 1) * m + turn < all
+turn_within : (t m turn before all : ℕ) → t ≢ 0 → before + t * m ≤ all → turn < m
+    → before + (t - 1) * m + turn < all
 turn_within zero m turn before all some step lt = absurd (some refl)
 turn_within (suc s) m turn before all some step lt = let less : suc s - 1 ≡ s = omega arith in rw less (omega arith)
 
@@ -166,13 +174,18 @@ module _ (c d u : Circuit) (turns : List ℕ) (total t n : ℕ) (same : d ≡ c)
   total_is : total ≡ length (other_leaves c)
   total_is = has.all ∙ ap (λ (x : Circuit). length (other_leaves x)) same
 
-  pub place_within : (inputs : List ℕ) → inputs ≡ d.inputs → length inputs + (t - 1) * total + get_or turns n 0 < length u.inputs
+  pub place_within : (inputs : List ℕ) → inputs ≡ d.inputs
+      → length inputs + (t - 1) * total + get_or turns n 0 < length u.inputs
   place_within inputs are =
       rw (are, same, total_is, turn_is) (turn_within t (length (other_leaves c)) (position_of (other_leaves c) n) (length c.inputs) (length u.inputs) later step (position_of-within (other_leaves c) n leaf))
 
-  pub place_is : (inputs : List ℕ) → inputs ≡ d.inputs → get_or u.inputs (length inputs + (t - 1) * total + get_or turns n 0) 0 ≡ place_at c u t n
+  pub place_is : (inputs : List ℕ) → inputs ≡ d.inputs
+      → get_or u.inputs (length inputs + (t - 1) * total + get_or turns n 0) 0 ≡ place_at c u t n
   place_is inputs are = rw (are, same, total_is, turn_is) (by_step t later)
     where
-      by_step : (s : ℕ) → s ≢ 0 → get_or u.inputs (length c.inputs + (s - 1) * length (other_leaves c) + position_of (other_leaves c) n) 0 ≡ place_at c u s n
+      by_step : (s : ℕ) → s ≢ 0
+          → get_or u.inputs
+          (length c.inputs + (s - 1) * length (other_leaves c) + position_of (other_leaves c) n)
+          0 ≡ place_at c u s n
       by_step zero some = absurd (some refl)
       by_step (suc s) some = let less : suc s - 1 ≡ s = omega arith in rw less refl

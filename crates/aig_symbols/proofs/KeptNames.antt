@@ -30,7 +30,9 @@ or_last false true = refl
 or_last false false = refl
 
 -- one more place is taken
-pub taken_more : (names : List NameLine) (place q : ℕ × ℕ) (name : List ℕ) → cond (same_spot place q) true (is_taken names q) ≡ is_taken (names ++ name_line place name ∷ []) q
+pub taken_more : (names : List NameLine) (place q : ℕ × ℕ) (name : List ℕ)
+    → cond (same_spot place q) true (is_taken names q)
+    ≡ is_taken (names ++ name_line place name ∷ []) q
 taken_more names place q name =
     or_last (same_spot place q) (is_taken names q) ∙ sym (list_any-append (λ m. same_place m (name_line q [])) names (name_line place name ∷ []))
 
@@ -40,17 +42,22 @@ taken_more names place q name =
 abbrev pub IsWithin : HeaderNumbers → NameLine → Type 0
 IsWithin ns n = n.position < count_of ns n.letter
 
-pub within_more : (ns : HeaderNumbers) (names : List NameLine) (n : NameLine) → AllByRecursion (IsWithin ns) names → IsWithin ns n → AllByRecursion (IsWithin ns) (names ++ n ∷ [])
+pub within_more : (ns : HeaderNumbers) (names : List NameLine) (n : NameLine)
+    → AllByRecursion (IsWithin ns) names → IsWithin ns n
+    → AllByRecursion (IsWithin ns) (names ++ n ∷ [])
 within_more ns [] n h k = (k, tt)
 within_more ns (m ∷ names) n h k = (h.0, within_more ns names n h.1 k)
 
 -- ---- nodes
 
 -- only names of inputs and latches have nodes
-pub node_is_kept : (inputs leaves : List ℕ) (l n : ℕ) → is_some (node_at inputs leaves l n) ≡ is_kept l
+pub node_is_kept : (inputs leaves : List ℕ) (l n : ℕ)
+    → is_some (node_at inputs leaves l n) ≡ is_kept l
 node_is_kept inputs leaves l n = go (eqb l 105) (eqb l 108)
   where
-    go : (i j : Bool) → is_some (cond i (Some (slice_index inputs n)) (cond j (Some (slice_index leaves n)) None)) ≡ (i || j)
+    go : (i j : Bool)
+        → is_some (cond i (Some (slice_index inputs n)) (cond j (Some (slice_index leaves n)) None))
+        ≡ (i || j)
     go true j = refl
     go false true = refl
     go false false = refl
@@ -66,13 +73,16 @@ module _ (ns : HeaderNumbers) (inputs leaves : List ℕ) (all_inputs : length in
     is : get_or (inputs ++ leaves) at 0 ≡ node
     place : ((l ≡ 105) × (at ≡ n) × (n < length inputs)) ⊎ ((l ≡ 108) × (at ≡ length inputs + n))
 
-  stands : (l n node : ℕ) → node_at inputs leaves l n ≡ Some node → n < count_of ns l → Stands l n node
+  stands : (l n node : ℕ) → node_at inputs leaves l n ≡ Some node → n < count_of ns l
+      → Stands l n node
   stands l n node e lt = go (eqb l 105) (eqb l 108) refl refl e
     where
       within : (m : ℕ) → l ≡ m → n < count_of ns m
       within m is = subst (λ k. n < count_of ns k) is lt
 
-      go : (i j : Bool) → eqb l 105 ≡ i → eqb l 108 ≡ j → cond i (Some (slice_index inputs n)) (cond j (Some (slice_index leaves n)) None) ≡ Some node → Stands l n node
+      go : (i j : Bool) → eqb l 105 ≡ i → eqb l 108 ≡ j
+          → cond i (Some (slice_index inputs n)) (cond j (Some (slice_index leaves n)) None)
+          ≡ Some node → Stands l n node
       go true j is _ e =
           let small : n < ns.inputs = within 105 (eqb-true l 105 is) in
           let inside : n < length inputs = omega arith in
@@ -99,28 +109,36 @@ module _ (ns : HeaderNumbers) (inputs leaves : List ℕ) (all_inputs : length in
   one_place l m i j s t (inr p) (inl q) e = absurd (omega arith)
   one_place l m i j s t (inr p) (inr q) e = (omega arith, omega arith)
 
-  differ : (s t : ℕ) → s < length (inputs ++ leaves) → t < length (inputs ++ leaves) → get_or (inputs ++ leaves) s 0 ≡ get_or (inputs ++ leaves) t 0 → (s ≡ t → ⊥) → ⊥
+  differ : (s t : ℕ) → s < length (inputs ++ leaves) → t < length (inputs ++ leaves)
+      → get_or (inputs ++ leaves) s 0 ≡ get_or (inputs ++ leaves) t 0 → (s ≡ t → ⊥) → ⊥
   differ s t a b e ne = elim (apart s t ne) [ inl lt ↦ distinct s t 0 lt b e | inr gt ↦ distinct t s 0 gt a (sym e) ]
     where
       apart : (s t : ℕ) → (s ≡ t → ⊥) → (s < t) ⊎ (t < s)
       apart s t ne = grind arith
 
-  same_place_true : (l m i j : ℕ) (name other : List ℕ) → (l ≡ m) × (i ≡ j) → same_place (name_line (l, i) name) (name_line (m, j) other) ≡ true
+  same_place_true : (l m i j : ℕ) (name other : List ℕ) → (l ≡ m) × (i ≡ j)
+      → same_place (name_line (l, i) name) (name_line (m, j) other) ≡ true
   same_place_true l m i j name other e = grind (arith, nat_tests)
 
   -- different places have different nodes
-  nodes_apart : (l m i j a b : ℕ) → node_at inputs leaves l i ≡ Some a → node_at inputs leaves m j ≡ Some b → i < count_of ns l → j < count_of ns m → same_place (name_line (l, i) []) (name_line (m, j) []) ≡ false → b ≡ a → ⊥
+  nodes_apart : (l m i j a b : ℕ) → node_at inputs leaves l i ≡ Some a
+      → node_at inputs leaves m j ≡ Some b → i < count_of ns l → j < count_of ns m
+      → same_place (name_line (l, i) []) (name_line (m, j) []) ≡ false → b ≡ a → ⊥
   nodes_apart l m i j a b e f lt gt ne same =
       let s = stands l i a e lt in
       let t = stands m j b f gt in
       differ s.at t.at s.inside t.inside (s.is ∙ sym same ∙ sym t.is) (λ k. let yes = same_place_true l m i j [] [] (one_place l m i j s.at t.at s.place t.place k) in absurd cc)
 
-  no_entry : (node : ℕ) (o : Option ℕ) (name : List ℕ) (es : List (ℕ × List ℕ)) → ((k : ℕ) → o ≡ Some k → node ≡ k → ⊥) → find nat_cmp node es ≡ None → find nat_cmp node (cons_option (option_map (entry name) o) es) ≡ None
+  no_entry : (node : ℕ) (o : Option ℕ) (name : List ℕ) (es : List (ℕ × List ℕ))
+      → ((k : ℕ) → o ≡ Some k → node ≡ k → ⊥) → find nat_cmp node es ≡ None
+      → find nat_cmp node (cons_option (option_map (entry name) o) es) ≡ None
   no_entry node None name es ne h = h
   no_entry node (Some k) name es ne h = ap (λ t. cond t (Some name) (find nat_cmp node es)) (same_test node k ∙ ne_eqb node k (ne k refl)) ∙ h
 
   -- a node whose place is not taken has no name yet
-  fresh : (names : List NameLine) (l n node : ℕ) → AllByRecursion (IsWithin ns) names → node_at inputs leaves l n ≡ Some node → n < count_of ns l → is_taken names (l, n) ≡ false → find nat_cmp node (filter_map (kept_name inputs leaves) names) ≡ None
+  fresh : (names : List NameLine) (l n node : ℕ) → AllByRecursion (IsWithin ns) names
+      → node_at inputs leaves l n ≡ Some node → n < count_of ns l → is_taken names (l, n) ≡ false
+      → find nat_cmp node (filter_map (kept_name inputs leaves) names) ≡ None
   fresh [] l n node all e lt free = refl
   fresh (m ∷ names) l n node all e lt free =
       let parts = or_parts (same_place m (name_line (l, n) [])) (is_taken names (l, n)) free in

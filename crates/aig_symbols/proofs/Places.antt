@@ -37,7 +37,8 @@ module _ (ns : HeaderNumbers) where
       rw (turned l 105, turned l 108, turned l 111, turned l 98, turned l 99, turned l 106, turned l 102, i.0, o.0, b.0, c.0, j.0, f.0, last.0) refl
 
   -- a place is no comment
-  pub place_no_comment : (bytes rest : List ℕ) (place : ℕ × ℕ) → parse_place ns bytes ≡ Some (place, rest) → is_comment bytes ≡ false
+  pub place_no_comment : (bytes rest : List ℕ) (place : ℕ × ℕ)
+      → parse_place ns bytes ≡ Some (place, rest) → is_comment bytes ≡ false
   unfolding parse_ended parse_number
   place_no_comment [] rest place e = absurd cc
   place_no_comment (l ∷ []) rest place e = absurd cc
@@ -47,7 +48,8 @@ module _ (ns : HeaderNumbers) where
       go true is = ap (λ t. eqb l 99 && not t) is ∙ and_false (eqb l 99)
       go false is = let none = rw is at e in absurd cc
 
-  place_within : (bytes rest : List ℕ) (place : ℕ × ℕ) → parse_place ns bytes ≡ Some (place, rest) → place.1 < count_of ns place.0
+  place_within : (bytes rest : List ℕ) (place : ℕ × ℕ) → parse_place ns bytes ≡ Some (place, rest)
+      → place.1 < count_of ns place.0
   place_within [] rest place e = absurd cc
   place_within (l ∷ bytes) rest place e =
       let d = bind_some (parse_if (parse_ended 32) (λ n. ltb n (count_of ns l)) bytes) (lettered l) (place, rest) e in
@@ -57,12 +59,16 @@ module _ (ns : HeaderNumbers) where
       subst (λ (q : ℕ × ℕ). q.1 < count_of ns q.0) (ap (λ (x : (ℕ × ℕ) × List ℕ). x.0) (same_Some _ _ d.2)) small
 
   -- a place that was read is within its section
-  pub takes_within : (b a : Feed) (place : ℕ × ℕ) → Takes (parse_place ns) b a place → place.1 < count_of ns place.0
+  pub takes_within : (b a : Feed) (place : ℕ × ℕ) → Takes (parse_place ns) b a place
+      → place.1 < count_of ns place.0
   takes_within b a place h = place_within _ [] place (h.reads [])
 
   -- what came, by the answer of a call
-  pub came_place : (before after : Feed) (o : Option (ℕ × ℕ)) (place : ℕ × ℕ) → PlaceComes ns before after (Ok o) → o ≡ Some place → Takes (parse_place ns) before after place
+  pub came_place : (before after : Feed) (o : Option (ℕ × ℕ)) (place : ℕ × ℕ)
+      → PlaceComes ns before after (Ok o) → o ≡ Some place
+      → Takes (parse_place ns) before after place
   came_place before after o place h is = subst (λ (o : Option (ℕ × ℕ)). PlaceComes ns before after (Ok o)) is h
 
-  pub came_end : (before after : Feed) (o : Option (ℕ × ℕ)) → PlaceComes ns before after (Ok o) → o ≡ None → (taken : List ℕ) × (is_comment taken ≡ true) × Ends before after taken
+  pub came_end : (before after : Feed) (o : Option (ℕ × ℕ)) → PlaceComes ns before after (Ok o)
+      → o ≡ None → (taken : List ℕ) × (is_comment taken ≡ true) × Ends before after taken
   came_end before after o h is = subst (λ (o : Option (ℕ × ℕ)). PlaceComes ns before after (Ok o)) is h

@@ -27,10 +27,12 @@ abbrev pub IsRefused : HeaderNumbers → Feed → Type 0
 IsRefused ns before = IfSome before.coming (λ bytes. tail_of ns bytes ≡ None)
 
 module _ (ns : HeaderNumbers) (inputs leaves : List ℕ) (before now : Feed) (has : ℕ × ℕ → Bool) (kept : FinMap nat_cmp (List ℕ)) where
-  pub so_far_none : ((q : ℕ × ℕ) → has q ≡ false) → kept ≡ kept_names inputs leaves [] → SoFar ns inputs leaves now now has kept
+  pub so_far_none : ((q : ℕ × ℕ) → has q ≡ false) → kept ≡ kept_names inputs leaves []
+      → SoFar ns inputs leaves now now has kept
   so_far_none h e = record { names = []; goes = tail_begins ns now; all_within = tt; places = h; entries = e }
 
-  pub place_refused : SoFar ns inputs leaves before now has kept → IfSome now.coming (IsNoTail ns) → IsRefused ns before
+  pub place_refused : SoFar ns inputs leaves before now has kept → IfSome now.coming (IsNoTail ns)
+      → IsRefused ns before
   place_refused s h = tail_wrong ns s.names before now s.goes (wrong_start ns s.names now.coming h)
 
   pub names_end : (later : Feed) (s : SoFar ns inputs leaves before now has kept) → (taken : List ℕ) × (is_comment taken ≡ true) × Ends now later taken

@@ -18,14 +18,17 @@ unfolding parse_ended parse_number
 lone_letter ns l = refl
 
 -- a byte that is no `c`, and then the end
-pub no_tail : (ns : HeaderNumbers) (before now after : Feed) (o : Option ℕ) (l : ℕ) → Advances before now (l ∷ []) → Steps now after o → o ≡ None → l ≢ 99 → IfSome before.coming (IsNoTail ns)
+pub no_tail : (ns : HeaderNumbers) (before now after : Feed) (o : Option ℕ) (l : ℕ)
+    → Advances before now (l ∷ []) → Steps now after o → o ≡ None → l ≢ 99
+    → IfSome before.coming (IsNoTail ns)
 no_tail ns before now after o l c d is ne =
     let all = ends_on before now after (l ∷ []) [] c (steps_end now after o d is) in
     Consumes-whole before.coming after.coming ((l ∷ []) ++ []) (IsNoTail ns) all.consumed all.at_end
     (record { no_comment = ne_eqb l 99 ne; no_place = lone_letter ns l })
 
 -- two bytes that begin a comment, whatever follows
-pub comment_comes : (l b : ℕ) (bs : List ℕ) → is_comment (l ∷ b ∷ []) ≡ true → is_comment (l ∷ b ∷ bs) ≡ true
+pub comment_comes : (l b : ℕ) (bs : List ℕ) → is_comment (l ∷ b ∷ []) ≡ true
+    → is_comment (l ∷ b ∷ bs) ≡ true
 comment_comes l b bs is = is
 
 -- a letter and a byte came, which begin no comment
@@ -43,7 +46,8 @@ module _ (ns : HeaderNumbers) (before now : Feed) (l b : ℕ) (c : Advances befo
   begun : GoesOn (parse_place ns) before place now
   begun = record { taken = l ∷ b ∷ []; goes = λ rest. refl; advances = c }
 
-  pub place_comes : (after : Feed) (n found : ℕ) → Takes (parse_number_from b) now after (n, found) → found ≡ 32 → n < count_of ns l → Takes (parse_place ns) before after (l, n)
+  pub place_comes : (after : Feed) (n found : ℕ) → Takes (parse_number_from b) now after (n, found)
+      → found ≡ 32 → n < count_of ns l → Takes (parse_place ns) before after (l, n)
   unfolding parse_ended
   place_comes after n found h is lt =
       goes_done (parse_place ns) (l, n) before after
@@ -61,10 +65,12 @@ module _ (ns : HeaderNumbers) (before now : Feed) (l b : ℕ) (c : Advances befo
     unfolding parse_ended
     no_number h = no_position (misses_tested position fits now (misses_first (parse_number_from b) (with_end 32) now h))
 
-    pub no_space : (after : Feed) (n found : ℕ) → Takes (parse_number_from b) now after (n, found) → (found ≡ 32 → ⊥) → IfSome before.coming (IsNoTail ns)
+    pub no_space : (after : Feed) (n found : ℕ) → Takes (parse_number_from b) now after (n, found)
+        → (found ≡ 32 → ⊥) → IfSome before.coming (IsNoTail ns)
     unfolding parse_ended
     no_space after n found h ne = no_position (misses_tested position fits now (misses_before (parse_number_from b) 32 now after n found h ne))
 
-    pub too_great : (after : Feed) (n found : ℕ) → Takes (parse_number_from b) now after (n, found) → found ≡ 32 → count_of ns l ≤ n → IfSome before.coming (IsNoTail ns)
+    pub too_great : (after : Feed) (n found : ℕ) → Takes (parse_number_from b) now after (n, found)
+        → found ≡ 32 → count_of ns l ≤ n → IfSome before.coming (IsNoTail ns)
     unfolding parse_ended
     too_great after n found h is le = no_position (misses_test position fits now after n (takes_before (parse_number_from b) 32 now after n found h is) (le-ltb _ _ le))

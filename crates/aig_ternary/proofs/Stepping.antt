@@ -38,7 +38,9 @@ with_given-append values (n ∷ ns) ms [] more h = absurd (omega arith)
 with_given-append values (n ∷ ns) ms (v ∷ given) more h = with_given-append (set values n v) ns ms given more (omega arith)
 
 -- another number keeps its value
-with_given-other : (values : List Lbool) (ns : List ℕ) (given : List Lbool) (n : ℕ) → ((k : ℕ) → k < length ns → n ≢ get_or ns k 0) → get_or (with_given values ns given) n NONE ≡ get_or values n NONE
+with_given-other : (values : List Lbool) (ns : List ℕ) (given : List Lbool) (n : ℕ)
+    → ((k : ℕ) → k < length ns → n ≢ get_or ns k 0)
+    → get_or (with_given values ns given) n NONE ≡ get_or values n NONE
 with_given-other values [] given n apart = refl
 with_given-other values (m ∷ ns) [] n apart = refl
 with_given-other values (m ∷ ns) (v ∷ given) n apart =
@@ -65,11 +67,13 @@ with_given-for values (m ∷ ns) (v ∷ given) apart there n unknown =
 
 -- ---- values of nodes
 
-three_node_value-false : (nodes : List AigNode) (x : ℕ → Lbool) (n : ℕ) → kind_at nodes n ≡ Some False → three_node_value nodes x n ≡ FALSE
+three_node_value-false : (nodes : List AigNode) (x : ℕ → Lbool) (n : ℕ)
+    → kind_at nodes n ≡ Some False → three_node_value nodes x n ≡ FALSE
 unfolding three_node_value
 three_node_value-false nodes x n is = ap (three_value_of_tree x) (tree_of-false nodes n is)
 
-three_node_value-leaf : (nodes : List AigNode) (x : ℕ → Lbool) (n : ℕ) → kind_at nodes n ≡ Some Leaf → three_node_value nodes x n ≡ x n
+three_node_value-leaf : (nodes : List AigNode) (x : ℕ → Lbool) (n : ℕ) → kind_at nodes n ≡ Some Leaf
+    → three_node_value nodes x n ≡ x n
 unfolding three_node_value
 three_node_value-leaf nodes x n is = ap (three_value_of_tree x) (tree_of-leaf nodes n is)
 
@@ -81,7 +85,8 @@ three_node_value-and nodes o x n a b is = ap (three_value_of_tree x) (tree_of-an
 
 -- the nodes below i are valued, and from i on all is as it was
 pub record ValuedBelow (nodes : List AigNode) (old new : List Lbool) (i : ℕ) : Type 0 where
-  pub below : (k : ℕ) → k < i → get_or new k FALSE ≡ three_node_value nodes (λ m. get_or old m NONE) k
+  pub below : (k : ℕ) → k < i
+      → get_or new k FALSE ≡ three_node_value nodes (λ m. get_or old m NONE) k
   pub above : (k : ℕ) → i ≤ k → get_or new k NONE ≡ get_or old k NONE
 
 -- the next node's value is written
@@ -92,11 +97,15 @@ ValuedBelow-write nodes old new i v f h e = record {
   above = λ k l. let ne : k ≢ i = omega arith in rw get_or-set_other (f.above k (omega arith));
 }
 
-pub ValuedBelow-false : (nodes : List AigNode) (old new : List Lbool) (i : ℕ) → ValuedBelow nodes old new i → i < length new → kind_at nodes i ≡ Some False → ValuedBelow nodes old (set new i FALSE) (i + 1)
+pub ValuedBelow-false : (nodes : List AigNode) (old new : List Lbool) (i : ℕ)
+    → ValuedBelow nodes old new i → i < length new → kind_at nodes i ≡ Some False
+    → ValuedBelow nodes old (set new i FALSE) (i + 1)
 ValuedBelow-false nodes old new i f h is = ValuedBelow-write nodes old new i FALSE f h (sym (three_node_value-false nodes (λ m. get_or old m NONE) i is))
 
 -- what stands at a leaf is its value
-pub ValuedBelow-leaf : (nodes : List AigNode) (old new : List Lbool) (i : ℕ) → ValuedBelow nodes old new i → i < length new → kind_at nodes i ≡ Some Leaf → ValuedBelow nodes old new (i + 1)
+pub ValuedBelow-leaf : (nodes : List AigNode) (old new : List Lbool) (i : ℕ)
+    → ValuedBelow nodes old new i → i < length new → kind_at nodes i ≡ Some Leaf
+    → ValuedBelow nodes old new (i + 1)
 ValuedBelow-leaf nodes old new i f h is = record {
   below = below_more _ _ f.below (get_or_default new i FALSE NONE h ∙ f.above i (omega arith) ∙ sym (three_node_value-leaf nodes (λ m. get_or old m NONE) i is));
   above = λ k l. f.above k (omega arith);
@@ -157,7 +166,8 @@ pub record StepsTo (e : AigEdge) (steps : List (List Lbool)) (from : Simulation)
   pub answered : answers ++ values_in e now left ≡ before ++ values_in e from steps
 
 -- what is left of a list is its next element and what is left then
-pub drop_next : {X : Type 0} (xs : List X) (i : ℕ) (d : X) → i < length xs → drop i xs ≡ get_or xs i d ∷ drop (i + 1) xs
+pub drop_next : {X : Type 0} (xs : List X) (i : ℕ) (d : X) → i < length xs
+    → drop i xs ≡ get_or xs i d ∷ drop (i + 1) xs
 drop_next xs i d h = rw (add-one, drop-cons xs i d)
 
 -- after one more step

@@ -41,15 +41,19 @@ told_leaf (And x y) false told = refl
 -- ---- the leaves of a list that grows
 
 -- the leaves of two lists in a row
-leaves-append : (xs ys : List AigNode) → map number_of (filter leaf_test (xs ++ ys)) ≡ map number_of (filter leaf_test xs) ++ map number_of (filter leaf_test ys)
+leaves-append : (xs ys : List AigNode)
+    → map number_of (filter leaf_test (xs ++ ys))
+    ≡ map number_of (filter leaf_test xs) ++ map number_of (filter leaf_test ys)
 leaves-append xs ys = ap (map number_of) (filter-append leaf_test xs ys) ∙ map-append number_of (filter leaf_test xs) (filter leaf_test ys)
 
 -- the added nodes are those after the old ones
-added-following : (old new : List AigNode) (grows : Grows old new) → drop (length old) new ≡ grows.added
+added-following : (old new : List AigNode) (grows : Grows old new)
+    → drop (length old) new ≡ grows.added
 added-following old new grows = ap (drop (length old)) grows.appended ∙ drop_at old grows.added (length old) refl
 
 -- the leaves after the first so many are those of the old nodes, and then those of the added ones
-pub leaves_after-more : (count : ℕ) (old new : List AigNode) → count ≤ length old → Grows old new → leaves_after count new ≡ leaves_after count old ++ leaves_after (length old) new
+pub leaves_after-more : (count : ℕ) (old new : List AigNode) → count ≤ length old → Grows old new
+    → leaves_after count new ≡ leaves_after count old ++ leaves_after (length old) new
 leaves_after-more count old new h grows =
     ap (leaves_after count) grows.appended
     ∙ ap (λ l. map number_of (filter leaf_test l)) (drop-append-le count old grows.added h)
@@ -57,7 +61,8 @@ leaves_after-more count old new h grows =
     ∙ ap (λ l. leaves_after count old ++ map number_of (filter leaf_test l)) (sym (added-following old new grows))
 
 -- as many as leaves are counted
-pub count-leaves_after : (count : ℕ) (nodes : List AigNode) → length (leaves_after count nodes) ≡ count_by leaf_test (drop count nodes)
+pub count-leaves_after : (count : ℕ) (nodes : List AigNode)
+    → length (leaves_after count nodes) ≡ count_by leaf_test (drop count nodes)
 count-leaves_after count nodes = length-map (filter leaf_test (drop count nodes)) number_of ∙ length-filter leaf_test (drop count nodes)
 
 -- ---- numbers
@@ -74,7 +79,8 @@ module _ (nodes : List AigNode) (are : AreNodes nodes) where
       absurd (omega (arith, number_there i d first, number_there j d l))
 
   -- what a test keeps has distinct numbers
-  kept-distinct : (test : AigNode → Bool) (count : ℕ) → AllPairs (λ m n. m ≢ n) (map number_of (filter test (drop count nodes)))
+  kept-distinct : (test : AigNode → Bool) (count : ℕ)
+      → AllPairs (λ m n. m ≢ n) (map number_of (filter test (drop count nodes)))
   kept-distinct test count =
       AllPairs-map number_of (λ m n. m ≢ n) no_node (filter test (drop count nodes))
       (AllPairs-filter (λ m n. number_of m ≢ number_of n) test (drop count nodes) (AllPairs-drop (λ m n. number_of m ≢ number_of n) count nodes numbers-distinct))
@@ -88,7 +94,9 @@ module _ (nodes : List AigNode) (are : AreNodes nodes) where
   IsBehind count n = IsLeaf nodes n × (count ≤ n)
 
   -- a leaf at a place of what is left
-  following_there : (count k : ℕ) (d : AigNode) → k < length (drop count nodes) → leaf_test (get_or (drop count nodes) k d) ≡ true → IsBehind count (get_or (drop count nodes) k d).node_id
+  following_there : (count k : ℕ) (d : AigNode) → k < length (drop count nodes)
+      → leaf_test (get_or (drop count nodes) k d) ≡ true
+      → IsBehind count (get_or (drop count nodes) k d).node_id
   following_there count k d h passes =
       let within : count + k < length nodes = omega (arith, length-drop count nodes) in
       let at = get_or-drop count nodes k d in
@@ -106,7 +114,8 @@ module _ (nodes : List AigNode) (are : AreNodes nodes) where
       All-map (IsBehind count) number_of (filter leaf_test (drop count nodes)) (λ k d h. all k d h (passes k d h))
 
   -- and all such leaves are among them
-  pub following-have : (count n : ℕ) → IsLeaf nodes n → count ≤ n → Contains (leaves_after count nodes) n
+  pub following-have : (count n : ℕ) → IsLeaf nodes n → count ≤ n
+      → Contains (leaves_after count nodes) n
   following-have count n leaf past =
       let within = kind_at-within nodes n Leaf leaf in
       let node = get_or nodes n no_node in

@@ -37,13 +37,17 @@ inverted_twice true false false = refl
 inverted_twice false j v = refl
 
 -- the value of an edge's image is that of its node's, inverted as the edge is
-pub edge_value-image_in : (nodes : List AigNode) (y : ℕ → Bool) (images : List AigEdge) (e : AigEdge) → edge_value nodes y (image_in images e) ≡ inverted_if e.compl (edge_value nodes y (image_at images e.node_id))
+pub edge_value-image_in : (nodes : List AigNode) (y : ℕ → Bool) (images : List AigEdge)
+    (e : AigEdge)
+    → edge_value nodes y (image_in images e)
+    ≡ inverted_if e.compl (edge_value nodes y (image_at images e.node_id))
 edge_value-image_in nodes y images e = inverted_twice e.compl (image_at images e.node_id).compl (node_value nodes y (image_at images e.node_id).node_id)
 
 -- ---- lists
 
 -- a list is mapped alike where the functions agree
-pub map_same : {X Y : Type 0} (f g : X → Y) (xs : List X) → All (λ x. f x ≡ g x) xs → map f xs ≡ map g xs
+pub map_same : {X Y : Type 0} (f g : X → Y) (xs : List X) → All (λ x. f x ≡ g x) xs
+    → map f xs ≡ map g xs
 map_same f g [] all = refl
 map_same f g (x ∷ xs) all = ap (λ y. y ∷ map f xs) (all 0 x (omega arith)) ∙ ap (λ ys. g x ∷ ys) (map_same f g xs (λ k d h. all (suc k) d (omega arith)))
 
@@ -55,7 +59,8 @@ none_stands (x ∷ xs) all = absurd (all 0 x (omega arith))
 -- ---- the leaves after the first nodes
 
 -- added gates are no leaves
-pub leaves_after-gates : (count : ℕ) (old new : List AigNode) → count ≤ length old → AddsGates old new → leaves_after count new ≡ leaves_after count old
+pub leaves_after-gates : (count : ℕ) (old new : List AigNode) → count ≤ length old
+    → AddsGates old new → leaves_after count new ≡ leaves_after count old
 leaves_after-gates count old new h adds =
     let none : leaves_after (length old) new ≡ [] = none_stands (leaves_after (length old) new) (λ k d l. no_gate (get_or (leaves_after (length old) new) k d) (following-are new adds.grows.sound (length old) k d l)) in
     leaves_after-more count old new h adds.grows ∙ ap (λ ns. leaves_after count old ++ ns) none ∙ append-nil (leaves_after count old)
@@ -70,7 +75,8 @@ leaves_after-gates count old new h adds =
         kind_within nodes n leaf = kind_at-within nodes n Leaf leaf
 
 -- a new leaf is one more
-pub leaves_after-leaf : (count : ℕ) (old : List AigNode) → count ≤ length old → AreNodes old → leaves_after count (with_node old Leaf) ≡ leaves_after count old ++ length old ∷ []
+pub leaves_after-leaf : (count : ℕ) (old : List AigNode) → count ≤ length old → AreNodes old
+    → leaves_after count (with_node old Leaf) ≡ leaves_after count old ++ length old ∷ []
 leaves_after-leaf count old h are =
     let last : leaves_after (length old) (with_node old Leaf) ≡ length old ∷ [] = ap (λ l. map (λ (node : AigNode). node.node_id) (filter (λ (node : AigNode). is_leaf node.typ) l)) (drop_at old (record { node_id = length old; typ = Leaf } ∷ []) (length old) refl) in
     leaves_after-more count old (with_node old Leaf) h (Grows-leaf old are) ∙ ap (λ ns. leaves_after count old ++ ns) last
@@ -104,7 +110,8 @@ module _ (from : Circuit) (circuit : IsCircuit from) (old mid new : List AigNode
   image_new = get_or-set_same images i e (edge_to 0 false) inside
 
   -- the values of other images stay
-  value_kept : (y : ℕ → Bool) (n : ℕ) → n < i → edge_value new y (image_at more n) ≡ edge_value mid y (image_at images n)
+  value_kept : (y : ℕ → Bool) (n : ℕ) → n < i
+      → edge_value new y (image_at more n) ≡ edge_value mid y (image_at images n)
   value_kept y n l = ap (edge_value new y) (image_kept n (λ q. absurd (omega arith))) ∙ edge_value-Grows mid new so_far.grows.sound grows y (image_at images n) (so_far.there n l)
 
   -- the numbers of the first i nodes are below i
@@ -113,7 +120,8 @@ module _ (from : Circuit) (circuit : IsCircuit from) (old mid new : List AigNode
       let low : All (λ (x : AigNode). x.node_id < i) (take i from.nodes) = λ k d h. low_at k d h in
       All-map (λ n. n < i) (λ (x : AigNode). x.node_id) (filter (is_other_leaf from) (take i from.nodes)) (All-filter (is_other_leaf from) (λ (x : AigNode). x.node_id < i) (take i from.nodes) low)
     where
-      low_at : (k : ℕ) (d : AigNode) → k < length (take i from.nodes) → (get_or (take i from.nodes) k d).node_id < i
+      low_at : (k : ℕ) (d : AigNode) → k < length (take i from.nodes)
+          → (get_or (take i from.nodes) k d).node_id < i
       low_at k d h =
           let short : k < i = omega (arith, length-take i from.nodes) in
           let inside : k < length from.nodes = omega arith in
@@ -121,13 +129,16 @@ module _ (from : Circuit) (circuit : IsCircuit from) (old mid new : List AigNode
           omega arith
 
   -- their images stay
-  images_kept : map (image_at more) (others_among from (take i from.nodes)) ≡ map (image_at images) (others_among from (take i from.nodes))
+  images_kept : map (image_at more) (others_among from (take i from.nodes))
+      ≡ map (image_at images) (others_among from (take i from.nodes))
   images_kept =
       let xs = others_among from (take i from.nodes) in
       map_same (image_at more) (image_at images) xs (λ k d h. let low : get_or xs k d < i = numbers_below k d h in image_kept (get_or xs k d) (λ q. absurd (omega arith)))
 
   -- the leaves that are no latch's, one node on
-  others_more : (b : Bool) → is_other_leaf from node ≡ b → map (image_at more) (others_among from (take (i + 1) from.nodes)) ≡ map (image_at images) (others_among from (take i from.nodes)) ++ cond b (e ∷ []) []
+  others_more : (b : Bool) → is_other_leaf from node ≡ b
+      → map (image_at more) (others_among from (take (i + 1) from.nodes))
+      ≡ map (image_at images) (others_among from (take i from.nodes)) ++ cond b (e ∷ []) []
   others_more b is =
       ap (λ l. map (image_at more) (map (λ (x : AigNode). x.node_id) l)) (filter_more (is_other_leaf from) from.nodes i no_node within)
       ∙ ap (map (image_at more)) (map-append (λ (x : AigNode). x.node_id) (filter (is_other_leaf from) (take i from.nodes)) (cond (is_other_leaf from node) (node ∷ []) []))
@@ -135,18 +146,24 @@ module _ (from : Circuit) (circuit : IsCircuit from) (old mid new : List AigNode
       ∙ ap (λ l. l ++ map (image_at more) (map (λ (x : AigNode). x.node_id) (cond (is_other_leaf from node) (node ∷ []) []))) images_kept
       ∙ ap (λ l. map (image_at images) (others_among from (take i from.nodes)) ++ l) (last b is)
     where
-      last : (b : Bool) → is_other_leaf from node ≡ b → map (image_at more) (map (λ (x : AigNode). x.node_id) (cond (is_other_leaf from node) (node ∷ []) [])) ≡ cond b (e ∷ []) []
+      last : (b : Bool) → is_other_leaf from node ≡ b
+          → map (image_at more)
+          (map (λ (x : AigNode). x.node_id) (cond (is_other_leaf from node) (node ∷ []) []))
+          ≡ cond b (e ∷ []) []
       last true is = ap (λ c. map (image_at more) (map (λ (x : AigNode). x.node_id) (cond c (node ∷ []) []))) is ∙ ap (λ n. image_at more n ∷ []) number_is ∙ ap (λ f. f ∷ []) image_new
       last false is = ap (λ c. map (image_at more) (map (λ (x : AigNode). x.node_id) (cond c (node ∷ []) []))) is
 
   -- the nodes for which none is made, one node on
-  none_more : (b : Bool) → takes_no_node from node ≡ b → length (filter (takes_no_node from) (take (i + 1) from.nodes)) ≡ length (filter (takes_no_node from) (take i from.nodes)) + cond b 1 0
+  none_more : (b : Bool) → takes_no_node from node ≡ b
+      → length (filter (takes_no_node from) (take (i + 1) from.nodes))
+      ≡ length (filter (takes_no_node from) (take i from.nodes)) + cond b 1 0
   none_more b is =
       ap length (filter_more (takes_no_node from) from.nodes i no_node within)
       ∙ length-append (filter (takes_no_node from) (take i from.nodes)) (cond (takes_no_node from node) (node ∷ []) [])
       ∙ ap (λ m. length (filter (takes_no_node from) (take i from.nodes)) + m) (last b is)
     where
-      last : (b : Bool) → takes_no_node from node ≡ b → length (cond (takes_no_node from node) (node ∷ []) []) ≡ cond b 1 0
+      last : (b : Bool) → takes_no_node from node ≡ b
+          → length (cond (takes_no_node from node) (node ∷ []) []) ≡ cond b 1 0
       last true is = ap (λ c. length (cond c (node ∷ []) [])) is
       last false is = ap (λ c. length (cond c (node ∷ []) [])) is
 
@@ -157,9 +174,14 @@ module _ (from : Circuit) (circuit : IsCircuit from) (old mid new : List AigNode
   -- what is left to show of a node: that its image has its value, which leaf it adds, and its size
   record Follows : Type 0 where
     latch : Contains (latch_leaves from.latchs) i → e ≡ image_at images i
-    others : map (image_at more) (others_among from (take (i + 1) from.nodes)) ≡ map (λ n. edge_to n false) (leaves_after (length old) new)
-    value : (y x : ℕ → Bool) → ((n : ℕ) → n < i → edge_value mid y (image_at images n) ≡ node_value from.nodes x n) → (IsLeaf from.nodes i → x i ≡ edge_value new y e) → edge_value new y e ≡ node_value from.nodes x i
-    size : length new + length (filter (takes_no_node from) (take (i + 1) from.nodes)) ≤ length old + (i + 1)
+    others : map (image_at more) (others_among from (take (i + 1) from.nodes))
+        ≡ map (λ n. edge_to n false) (leaves_after (length old) new)
+    value : (y x : ℕ → Bool)
+        → ((n : ℕ) → n < i → edge_value mid y (image_at images n) ≡ node_value from.nodes x n)
+        → (IsLeaf from.nodes i → x i ≡ edge_value new y e)
+        → edge_value new y e ≡ node_value from.nodes x i
+    size : length new + length (filter (takes_no_node from) (take (i + 1) from.nodes))
+        ≤ length old + (i + 1)
 
   -- then there is one image more
   follows_more : Follows → CopiesBelow from old new before more (i + 1)
@@ -179,7 +201,8 @@ module _ (from : Circuit) (circuit : IsCircuit from) (old mid new : List AigNode
     size = follows.size;
   }
     where
-      latch_at : (n : ℕ) → Contains (latch_leaves from.latchs) n → (b : Bool) → (n == i) ≡ b → image_at more n ≡ image_at before n
+      latch_at : (n : ℕ) → Contains (latch_leaves from.latchs) n → (b : Bool) → (n == i) ≡ b
+          → image_at more n ≡ image_at before n
       latch_at n has true is =
           let same : n ≡ i = eqb-true n i is in
           let has_i : Contains (latch_leaves from.latchs) i = subst (Contains (latch_leaves from.latchs)) same has in
@@ -187,10 +210,13 @@ module _ (from : Circuit) (circuit : IsCircuit from) (old mid new : List AigNode
       latch_at n has false is = image_kept n (λ q. true≢false (sym (eq-eqb n i q) ∙ is)) ∙ so_far.latches n has
 
   -- a leaf after which no node is made
-  no_leaf : new ≡ mid → is_other_leaf from node ≡ false → map (image_at more) (others_among from (take (i + 1) from.nodes)) ≡ map (λ n. edge_to n false) (leaves_after (length old) new)
+  no_leaf : new ≡ mid → is_other_leaf from node ≡ false
+      → map (image_at more) (others_among from (take (i + 1) from.nodes))
+      ≡ map (λ n. edge_to n false) (leaves_after (length old) new)
   no_leaf same is = others_more false is ∙ append-nil _ ∙ so_far.others ∙ ap (λ l. map (λ n. edge_to n false) (leaves_after (length old) l)) (sym same)
 
-  pub copies_more : length before ≡ length from.nodes → MarksLatches from (length old) before → Copies from i (length old) mid new images e → CopiesBelow from old new before more (i + 1)
+  pub copies_more : length before ≡ length from.nodes → MarksLatches from (length old) before
+      → Copies from i (length old) mid new images e → CopiesBelow from old new before more (i + 1)
   copies_more count marks (false_node is image same) =
       let typ = kind_is False is in
       let other : is_other_leaf from node ≡ false = ap (λ k. is_other_leaf from (record { node_id = node.node_id; typ = k })) typ in
@@ -217,7 +243,8 @@ module _ (from : Circuit) (circuit : IsCircuit from) (old mid new : List AigNode
         size = let long : length new ≡ length mid = ap length same in omega (arith, none_more true none, so_far.size);
       })
     where
-      latch_there : (b : Bool) → list_any (λ m. m == i) (latch_leaves from.latchs) ≡ b → Contains (latch_leaves from.latchs) i
+      latch_there : (b : Bool) → list_any (λ m. m == i) (latch_leaves from.latchs) ≡ b
+          → Contains (latch_leaves from.latchs) i
       latch_there true h = is_in-back (latch_leaves from.latchs) i h
       latch_there false h =
           let none : ¬ Contains (latch_leaves from.latchs) i = λ has. true≢false (sym (is_in-there (latch_leaves from.latchs) i has) ∙ h) in
@@ -262,14 +289,16 @@ module _ (from : Circuit) (circuit : IsCircuit from) (old mid new : List AigNode
       no_gate q = cc
 
 -- an and adds at most one node
-pub at_most_one_more : (old new : List AigNode) (a b e : AigEdge) → FoldsOrAdds old new a b e → length new ≤ length old + 1
+pub at_most_one_more : (old new : List AigNode) (a b e : AigEdge) → FoldsOrAdds old new a b e
+    → length new ≤ length old + 1
 at_most_one_more old new a b e (inl p) = let same : length new ≡ length old = ap length p.1 in omega arith
 at_most_one_more old new a b e (inr p) = let same : length new ≡ length old + 1 = ap length p.1.gate ∙ length-append old _ in omega arith
 
 -- ---- the first node, and a node that is read
 
 -- of no node the image is made yet
-pub copies_none : (from : Circuit) (old : List AigNode) (images : List AigEdge) → AreNodes old → length images ≡ length from.nodes → CopiesBelow from old old images images 0
+pub copies_none : (from : Circuit) (old : List AigNode) (images : List AigEdge) → AreNodes old
+    → length images ≡ length from.nodes → CopiesBelow from old old images images 0
 copies_none from old images sound count =
     let none : leaves_after (length old) old ≡ [] = ap (λ l. map (λ (node : AigNode). node.node_id) (filter (λ (node : AigNode). is_leaf node.typ) l)) (drop_all (length old) old (omega arith)) in
     record {
@@ -284,15 +313,20 @@ copies_none from old images sound count =
     }
 
 -- the kind that was read of a node
-pub kind_read : (nodes read : List AigNode) (n : ℕ) (k t : AigNodeType) → n < length nodes → read ≡ nodes → t ≡ (get_or read n no_node).typ → t ≡ k → kind_at nodes n ≡ Some k
+pub kind_read : (nodes read : List AigNode) (n : ℕ) (k t : AigNodeType) → n < length nodes
+    → read ≡ nodes → t ≡ (get_or read n no_node).typ → t ≡ k → kind_at nodes n ≡ Some k
 kind_read nodes read n k t there same typ is = kind_at-read nodes n no_node k there (sym is ∙ typ ∙ ap (λ l. (get_or l n no_node).typ) same)
 
 -- a new leaf is there
-pub leaf_in_range : (old new : List AigNode) (e : AigEdge) → e ≡ edge_to (length old) false → new ≡ with_node old Leaf → IsInRange new e
+pub leaf_in_range : (old new : List AigNode) (e : AigEdge) → e ≡ edge_to (length old) false
+    → new ≡ with_node old Leaf → IsInRange new e
 leaf_in_range old new e edge adds = rw (edge, adds) (omega (arith, length-append old))
 
 -- the images of a gate's operands are made
-pub operands_there : (from : Circuit) (i : ℕ) (a b : AigEdge) (images : List AigEdge) → IsCircuit from → i < length from.nodes → length images ≡ length from.nodes → kind_at from.nodes i ≡ Some (And a b) → (a.node_id < length images) × (b.node_id < length images)
+pub operands_there : (from : Circuit) (i : ℕ) (a b : AigEdge) (images : List AigEdge)
+    → IsCircuit from → i < length from.nodes → length images ≡ length from.nodes
+    → kind_at from.nodes i ≡ Some (And a b)
+    → (a.node_id < length images) × (b.node_id < length images)
 operands_there from i a b images circuit there table is =
     let first = circuit.nodes.ordered.first_before i a b is in
     let second = circuit.nodes.ordered.second_before i a b is in

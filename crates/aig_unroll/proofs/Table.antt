@@ -27,7 +27,9 @@ HasLatchImages-more latchs current i unset images d e within inside there distin
           get_or-set_other images leaf n next (edge_to 0 false) ne ∙ so_far.rest n (omega (arith, length-set images leaf next)) (λ k f h. none k f (omega arith));
     }
   where
-    each : (k : ℕ) (f g : AigLatch) → k < i + 1 → (k < i) ⊎ (i ≤ k) → image_at (set images (get_or latchs i d).input (get_or current i e).next) (get_or latchs k f).input ≡ (get_or current k g).next
+    each : (k : ℕ) (f g : AigLatch) → k < i + 1 → (k < i) ⊎ (i ≤ k)
+        → image_at (set images (get_or latchs i d).input (get_or current i e).next)
+        (get_or latchs k f).input ≡ (get_or current k g).next
     each k f g h (inl early) =
         let short : k < length latchs = omega arith in
         let last : i < length (latch_leaves latchs) = omega (arith, length-map latchs (λ (l : AigLatch). l.input)) in
@@ -59,7 +61,8 @@ module _ (from : Circuit) (circuit : IsCircuit from) (current : List AigLatch) (
       ∙ has.each k no_latch no_latch within ∙ sym (get_or-map (λ (l : AigLatch). l.next) current k no_latch d inside))
 
   -- and they are marked, where next edges are among the first nodes
-  pub marks_latches : All (λ (l : AigLatch). l.next.node_id < unset) current → MarksLatches from unset images
+  pub marks_latches : All (λ (l : AigLatch). l.next.node_id < unset) current
+      → MarksLatches from unset images
   marks_latches low = record {
     latches = λ n is. latch_low n is;
     others = λ n h none.
@@ -70,7 +73,8 @@ module _ (from : Circuit) (circuit : IsCircuit from) (current : List AigLatch) (
       longer : (k : ℕ) → k < length from.latchs → k < length (latch_leaves from.latchs)
       longer k h = omega (arith, length-map from.latchs (λ (l : AigLatch). l.input))
 
-      latch_low : (n : ℕ) → Contains (latch_leaves from.latchs) n → (image_at images n).node_id < unset
+      latch_low : (n : ℕ) → Contains (latch_leaves from.latchs) n
+          → (image_at images n).node_id < unset
       latch_low n (k, h, is) =
           let within : k < length from.latchs = omega (arith, length-map from.latchs (λ (l : AigLatch). l.input)) in
           let inside : k < length current = omega arith in
@@ -86,11 +90,13 @@ pub next_images_more : (images : List AigEdge) (others start latchs : List AigLa
     → (latch_leaves (set latchs i new) ≡ latch_leaves start) × (starts_of (set latchs i new) ≡ starts_of start) × (take (i + 1) (next_edges (set latchs i new)) ≡ map (image_in images) (take (i + 1) (next_edges others)))
 next_images_more images others start latchs i d e new within inside leaves starts so_far input init next = (kept (λ (l : AigLatch). l.input) input ∙ leaves, kept (λ (l : AigLatch). l.init) init ∙ starts, more)
   where
-    kept : {X : Type 0} (f : AigLatch → X) → f new ≡ f (get_or latchs i d) → map f (set latchs i new) ≡ map f latchs
+    kept : {X : Type 0} (f : AigLatch → X) → f new ≡ f (get_or latchs i d)
+        → map f (set latchs i new) ≡ map f latchs
     kept f same =
         map-set f latchs i new ∙ ap (set (map f latchs) i) (same ∙ sym (get_or-map f latchs i d (f d) within)) ∙ set-get_or (map f latchs) i (f d)
 
-    more : take (i + 1) (next_edges (set latchs i new)) ≡ map (image_in images) (take (i + 1) (next_edges others))
+    more : take (i + 1) (next_edges (set latchs i new))
+        ≡ map (image_in images) (take (i + 1) (next_edges others))
     more =
         let long : i < length (next_edges latchs) = omega (arith, length-map latchs (λ (l : AigLatch). l.next)) in
         let wide : i < length (next_edges others) = omega (arith, length-map others (λ (l : AigLatch). l.next)) in
@@ -98,5 +104,6 @@ next_images_more images others start latchs i d e new within inside leaves start
         ∙ sym (ap (map (image_in images)) (take_more (next_edges others) i (edge_to 0 false) wide) ∙ map-append (image_in images) (take i (next_edges others)) _)
 
 -- as many latches as leaves of latches
-pub as_many_latchs : (some others : List AigLatch) → latch_leaves some ≡ latch_leaves others → length some ≡ length others
+pub as_many_latchs : (some others : List AigLatch) → latch_leaves some ≡ latch_leaves others
+    → length some ≡ length others
 as_many_latchs some others same = sym (length-map some (λ (l : AigLatch). l.input)) ∙ ap length same ∙ length-map others (λ (l : AigLatch). l.input)

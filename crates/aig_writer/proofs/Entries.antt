@@ -42,7 +42,9 @@ unfolding name_entry
 name_entry-at letter name ns i h = ap (name_entry letter name) (get_or-enumerate_from 0 ns i (0, 0) h) ∙ ap (λ position. text_of_name letter position (name (get_or ns i 0))) (zero-add i)
 
 -- the lines of names, as a text for each place
-name_lines-places : (letter position : ℕ) (ns : List ℕ) (name : ℕ → Option (List ℕ)) → flat_map name_text (name_lines letter position ns name) ≡ flat_map (name_entry letter name) (enumerate_from position ns)
+name_lines-places : (letter position : ℕ) (ns : List ℕ) (name : ℕ → Option (List ℕ))
+    → flat_map name_text (name_lines letter position ns name)
+    ≡ flat_map (name_entry letter name) (enumerate_from position ns)
 unfolding name_entry
 name_lines-places letter position [] name = refl
 name_lines-places letter position (n ∷ ns) name =
@@ -62,14 +64,17 @@ input_entries c = flat_map (name_entry 105 (get c.names)) (enumerate_from 0 c.in
 abbrev pub latch_entries : Circuit → List ℕ
 latch_entries c = flat_map (name_entry 108 (get c.names)) (enumerate_from 0 (latch_leaves c.latchs))
 
-pub name_lines-both : (c : Circuit) → flat_map name_text (file_of Text c).names ≡ input_entries c ++ latch_entries c
+pub name_lines-both : (c : Circuit)
+    → flat_map name_text (file_of Text c).names ≡ input_entries c ++ latch_entries c
 name_lines-both c =
     flat_map-append name_text (name_lines 105 0 c.inputs (get c.names)) (name_lines 108 0 (latch_leaves c.latchs) (get c.names))
     ∙ ap (λ l. l ++ flat_map name_text (name_lines 108 0 (latch_leaves c.latchs) (get c.names))) (name_lines-places 105 0 c.inputs (get c.names))
     ∙ ap (λ l. input_entries c ++ l) (name_lines-places 108 0 (latch_leaves c.latchs) (get c.names))
 
 -- the names that are read
-pub input_entry-at : (c : Circuit) (ns : List ℕ) (i : ℕ) → ns ≡ c.inputs → i < length ns → name_entry 105 (get c.names) (get_or (enumerate_from 0 c.inputs) i (0, 0)) ≡ text_of_name 105 i (get c.names (get_or ns i 0))
+pub input_entry-at : (c : Circuit) (ns : List ℕ) (i : ℕ) → ns ≡ c.inputs → i < length ns
+    → name_entry 105 (get c.names) (get_or (enumerate_from 0 c.inputs) i (0, 0))
+    ≡ text_of_name 105 i (get c.names (get_or ns i 0))
 input_entry-at c ns i same h = name_entry-at 105 (get c.names) c.inputs i (omega (arith, ap length same)) ∙ ap (λ (l : List ℕ). text_of_name 105 i (get c.names (get_or l i 0))) (sym same)
 
 pub latch_entry-at : (c : Circuit) (latchs : List AigLatch) (i n : ℕ) (d : AigLatch) → latchs ≡ c.latchs → i < length latchs → n ≡ (get_or latchs i d).input

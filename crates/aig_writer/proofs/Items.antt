@@ -41,46 +41,61 @@ input_lines ns = flat_map-map (λ n. line_text (n ∷ [])) (λ n. 2 * n) ns
 pub edge_lines : (es : List AigEdge) → lines_text (map literal_of es) ≡ flat_map edge_line es
 edge_lines es = flat_map-map (λ n. line_text (n ∷ [])) literal_of es
 
-pub latch_texts : (kind : FileKind) (latchs : List AigLatch) → flat_map (latch_text kind) (map latch_line latchs) ≡ flat_map (text_of_latch kind) latchs
+pub latch_texts : (kind : FileKind) (latchs : List AigLatch)
+    → flat_map (latch_text kind) (map latch_line latchs) ≡ flat_map (text_of_latch kind) latchs
 latch_texts kind latchs = flat_map-map (latch_text kind) latch_line latchs
 
 pub len_is : (set : Vec AigEdge Global) → vec_len set ≡ length set.items
 len_is set = set.ok.0
 
-flat_map-filter_map : {X Y : Type 0} (f : Y → List ℕ) (h : X → Option Y) (xs : List X) → flat_map f (filter_map h xs) ≡ flat_map (λ x. flat_map f (option_to_list (h x))) xs
+flat_map-filter_map : {X Y : Type 0} (f : Y → List ℕ) (h : X → Option Y) (xs : List X)
+    → flat_map f (filter_map h xs) ≡ flat_map (λ x. flat_map f (option_to_list (h x))) xs
 flat_map-filter_map f h [] = refl
 flat_map-filter_map f h (x ∷ xs) = by_option f (h x) (filter_map h xs) ∙ ap (λ l. flat_map f (option_to_list (h x)) ++ l) (flat_map-filter_map f h xs)
   where
-    by_option : {Y : Type 0} (f : Y → List ℕ) (o : Option Y) (ys : List Y) → flat_map f (cons_option o ys) ≡ flat_map f (option_to_list o) ++ flat_map f ys
+    by_option : {Y : Type 0} (f : Y → List ℕ) (o : Option Y) (ys : List Y)
+        → flat_map f (cons_option o ys) ≡ flat_map f (option_to_list o) ++ flat_map f ys
     by_option f None ys = refl
     by_option f (Some y) ys = ap (λ l. l ++ flat_map f ys) (sym (append-nil (f y)))
 
-pub gate_texts : (kind : FileKind) (nodes : List AigNode) → flat_map (gate_text kind) (filter_map gate_line nodes) ≡ flat_map (text_of_gate kind) nodes
+pub gate_texts : (kind : FileKind) (nodes : List AigNode)
+    → flat_map (gate_text kind) (filter_map gate_line nodes) ≡ flat_map (text_of_gate kind) nodes
 gate_texts kind nodes = flat_map-filter_map (gate_text kind) gate_line nodes
 
 -- ---- entries under other numbers
 
-pub numbered_inputs : (number : ℕ → ℕ) (ns : List ℕ) → lines_text (map (λ n. 2 * n) (map number ns)) ≡ flat_map (λ n. input_line (number n)) ns
+pub numbered_inputs : (number : ℕ → ℕ) (ns : List ℕ)
+    → lines_text (map (λ n. 2 * n) (map number ns)) ≡ flat_map (λ n. input_line (number n)) ns
 numbered_inputs number ns = input_lines (map number ns) ∙ flat_map-map input_line number ns
 
-pub numbered_edges : (number : ℕ → ℕ) (es : List AigEdge) → lines_text (map literal_of (map (renumbered_edge number) es)) ≡ flat_map (λ e. edge_line (renumbered_edge number e)) es
+pub numbered_edges : (number : ℕ → ℕ) (es : List AigEdge)
+    → lines_text (map literal_of (map (renumbered_edge number) es))
+    ≡ flat_map (λ e. edge_line (renumbered_edge number e)) es
 numbered_edges number es = edge_lines (map (renumbered_edge number) es) ∙ flat_map-map edge_line (renumbered_edge number) es
 
-pub numbered_latches : (number : ℕ → ℕ) (kind : FileKind) (latchs : List AigLatch) → flat_map (latch_text kind) (map latch_line (map (renumbered_latch number) latchs)) ≡ flat_map (λ l. text_of_latch kind (renumbered_latch number l)) latchs
+pub numbered_latches : (number : ℕ → ℕ) (kind : FileKind) (latchs : List AigLatch)
+    → flat_map (latch_text kind) (map latch_line (map (renumbered_latch number) latchs))
+    ≡ flat_map (λ l. text_of_latch kind (renumbered_latch number l)) latchs
 numbered_latches number kind latchs = latch_texts kind (map (renumbered_latch number) latchs) ∙ flat_map-map (text_of_latch kind) (renumbered_latch number) latchs
 
-pub numbered_gates : (number : ℕ → ℕ) (kind : FileKind) (nodes : List AigNode) → flat_map (gate_text kind) (filter_map gate_line (map (renumbered_node number) nodes)) ≡ flat_map (λ node. text_of_gate kind (renumbered_node number node)) nodes
+pub numbered_gates : (number : ℕ → ℕ) (kind : FileKind) (nodes : List AigNode)
+    → flat_map (gate_text kind) (filter_map gate_line (map (renumbered_node number) nodes))
+    ≡ flat_map (λ node. text_of_gate kind (renumbered_node number node)) nodes
 numbered_gates number kind nodes = gate_texts kind (map (renumbered_node number) nodes) ∙ flat_map-map (text_of_gate kind) (renumbered_node number) nodes
 
 -- the lines of a set under other numbers
 abbrev pub numbered_set : (ℕ → ℕ) → Vec AigEdge Global → List ℕ
 numbered_set number set = lines_text (map literal_of (map (renumbered_edge number) set.items))
 
-pub numbered_sets : (number : ℕ → ℕ) (sets : List (Vec AigEdge Global)) → flat_map lines_text (map (map literal_of) (map (map (renumbered_edge number)) (edges_of_sets sets))) ≡ flat_map (numbered_set number) sets
+pub numbered_sets : (number : ℕ → ℕ) (sets : List (Vec AigEdge Global))
+    → flat_map lines_text
+    (map (map literal_of) (map (map (renumbered_edge number)) (edges_of_sets sets)))
+    ≡ flat_map (numbered_set number) sets
 numbered_sets number [] = refl
 numbered_sets number (set ∷ sets) = ap (λ l. numbered_set number set ++ l) (numbered_sets number sets)
 
-pub set_sizes : (sets : List (Vec AigEdge Global)) → lines_text (map length (edges_of_sets sets)) ≡ flat_map size_line sets
+pub set_sizes : (sets : List (Vec AigEdge Global))
+    → lines_text (map length (edges_of_sets sets)) ≡ flat_map size_line sets
 set_sizes [] = refl
 set_sizes (set ∷ sets) = ap (λ l. size_line set ++ l) (set_sizes sets)
 

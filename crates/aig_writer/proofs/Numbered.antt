@@ -38,13 +38,16 @@ use Rattle.aig_writer.specs.Numbering.{IsBinaryNumbering, written_number, number
 
 -- ---- lengths
 
-pub numbered_sizes : (number : ℕ → ℕ) (sets : List (List AigEdge)) → map length (map (map literal_of) (map (map (renumbered_edge number)) sets)) ≡ map length sets
+pub numbered_sizes : (number : ℕ → ℕ) (sets : List (List AigEdge))
+    → map length (map (map literal_of) (map (map (renumbered_edge number)) sets)) ≡ map length sets
 numbered_sizes number [] = refl
 numbered_sizes number (set ∷ sets) =
     ap (λ n. n ∷ map length (map (map literal_of) (map (map (renumbered_edge number)) sets))) (length-map (map (renumbered_edge number) set) literal_of ∙ length-map set (renumbered_edge number))
     ∙ ap (λ l. length set ∷ l) (numbered_sizes number sets)
 
-gate_count : (number : ℕ → ℕ) (nodes : List AigNode) → length (filter_map gate_line (map (renumbered_node number) nodes)) ≡ length (filter_map gate_line nodes)
+gate_count : (number : ℕ → ℕ) (nodes : List AigNode)
+    → length (filter_map gate_line (map (renumbered_node number) nodes))
+    ≡ length (filter_map gate_line nodes)
 gate_count number [] = refl
 gate_count number (x ∷ xs) = by_kind x.typ (gate_count number xs)
   where
@@ -62,7 +65,8 @@ gate_count number (x ∷ xs) = by_kind x.typ (gate_count number xs)
     by_kind False same = same
 
 -- the header doesn't change
-pub numbered_header : (number : ℕ → ℕ) (kind : FileKind) (c : Circuit) → header_line_of (numbered_file number kind c) ≡ header_line_of (file_of kind c)
+pub numbered_header : (number : ℕ → ℕ) (kind : FileKind) (c : Circuit)
+    → header_line_of (numbered_file number kind c) ≡ header_line_of (file_of kind c)
 numbered_header number kind c = simp (length-map, gate_count)
 
 -- ---- nodes under numbers that agree
@@ -84,21 +88,25 @@ module _ (bound : ℕ) (f g : ℕ → ℕ) (agree : (n : ℕ) → n < bound → 
 
 module _ (c : Circuit) (is : IsCircuit c) where
   -- the kind of a node that is read
-  kind_read : (k : ℕ) (d : AigNode) → k < length c.nodes → kind_at c.nodes k ≡ Some (get_or c.nodes k d).typ
+  kind_read : (k : ℕ) (d : AigNode) → k < length c.nodes
+      → kind_at c.nodes k ≡ Some (get_or c.nodes k d).typ
   kind_read k d h = ap (option_map (λ (node : AigNode). node.typ)) (slice_get-get_or c.nodes k d h)
 
   number_read : (k : ℕ) (d : AigNode) → k < length c.nodes → (get_or c.nodes k d).node_id ≡ k
   number_read k d h = is.nodes.numbered k (get_or c.nodes k d) (slice_get-get_or c.nodes k d h)
 
   -- operands are nodes
-  operands_within : (k : ℕ) (d : AigNode) → k < length c.nodes → (a b : AigEdge) → (get_or c.nodes k d).typ ≡ And a b → (a.node_id < length c.nodes) × (b.node_id < length c.nodes)
+  operands_within : (k : ℕ) (d : AigNode) → k < length c.nodes → (a b : AigEdge)
+      → (get_or c.nodes k d).typ ≡ And a b
+      → (a.node_id < length c.nodes) × (b.node_id < length c.nodes)
   operands_within k d h a b typ =
       let at = kind_read k d h ∙ ap Some typ in
       let first = is.nodes.ordered.first_before k a b at in
       let second = is.nodes.ordered.second_before k a b at in
       (omega arith, omega arith)
 
-  nodes_agree : (f g : ℕ → ℕ) → ((n : ℕ) → n < length c.nodes → f n ≡ g n) → All (λ node. renumbered_node f node ≡ renumbered_node g node) c.nodes
+  nodes_agree : (f g : ℕ → ℕ) → ((n : ℕ) → n < length c.nodes → f n ≡ g n)
+      → All (λ node. renumbered_node f node ≡ renumbered_node g node) c.nodes
   nodes_agree f g agree k d h =
       let node = get_or c.nodes k d in
       let same = number_read k d h in
@@ -106,14 +114,16 @@ module _ (c : Circuit) (is : IsCircuit c) where
 
   -- ---- under their own numbers
 
-  own_kind : (typ : AigNodeType) → ((a b : AigEdge) → typ ≡ And a b → literal_of a ≤ literal_of b) → renumbered_kind (written_number []) (Some typ) ≡ typ
+  own_kind : (typ : AigNodeType) → ((a b : AigEdge) → typ ≡ And a b → literal_of a ≤ literal_of b)
+      → renumbered_kind (written_number []) (Some typ) ≡ typ
   own_kind (And a b) ordered =
       let test : nat_lt (literal_of b) (literal_of a) ≡ false = (let low = ordered a b refl in grind (arith, nat_tests)) in
       ap (λ less. cond less (And b a) (And a b)) test
   own_kind Leaf ordered = refl
   own_kind False ordered = refl
 
-  own_node : (k : ℕ) (d : AigNode) → k < length c.nodes → renumbered_node (written_number []) (get_or c.nodes k d) ≡ get_or c.nodes k d
+  own_node : (k : ℕ) (d : AigNode) → k < length c.nodes
+      → renumbered_node (written_number []) (get_or c.nodes k d) ≡ get_or c.nodes k d
   own_node k d h =
       let node = get_or c.nodes k d in
       ap (λ typ. record { node_id = node.node_id; typ = typ }) (own_kind node.typ (λ a b typ. is.nodes.ordered.in_order k a b (kind_read k d h ∙ ap Some typ)))
@@ -126,7 +136,8 @@ own_latch : (l : AigLatch) → renumbered_latch (written_number []) l ≡ l
 own_latch l = ap (λ o. record { input = l.input; next = l.next; init = o }) (own_init l.init)
 
 -- an empty table changes no number
-pub own_file : (c : Circuit) → IsCircuit c → (kind : FileKind) → numbered_file (written_number []) kind c ≡ file_of kind c
+pub own_file : (c : Circuit) → IsCircuit c → (kind : FileKind)
+    → numbered_file (written_number []) kind c ≡ file_of kind c
 own_file c is kind =
     let inputs = ap (map (λ n. 2 * n)) (map-same (written_number []) c.inputs (λ k d h. refl)) in
     let latches = ap (map latch_line) (map-same (renumbered_latch (written_number [])) c.latchs (λ k d h. own_latch (get_or c.latchs k d))) in
@@ -145,14 +156,17 @@ own_file c is kind =
 
 -- ---- the gates of a re-encoded circuit
 
-nodes_in_order-append : (nodes : List AigNode) (number : ℕ → ℕ) (v : ℕ) (xs ys : List ℕ) → nodes_in_order nodes number v (xs ++ ys) ≡ nodes_in_order nodes number v xs ++ nodes_in_order nodes number (v + length xs) ys
+nodes_in_order-append : (nodes : List AigNode) (number : ℕ → ℕ) (v : ℕ) (xs ys : List ℕ)
+    → nodes_in_order nodes number v (xs ++ ys)
+    ≡ nodes_in_order nodes number v xs ++ nodes_in_order nodes number (v + length xs) ys
 nodes_in_order-append nodes number v [] ys = (let e : v ≡ v + 0 = omega arith in ap (λ n. nodes_in_order nodes number n ys) e)
 nodes_in_order-append nodes number v (x ∷ xs) ys =
     let e : v + 1 + length xs ≡ v + suc (length xs) = omega arith in
     ap (λ l. record { node_id = v; typ = renumbered_kind number (kind_at nodes x) } ∷ l) (nodes_in_order-append nodes number (v + 1) xs ys ∙ ap (λ n. nodes_in_order nodes number (v + 1) xs ++ nodes_in_order nodes number n ys) e)
 
 -- nodes that are no gates have no gate lines
-no_lines : (nodes : List AigNode) (number : ℕ → ℕ) (v : ℕ) (ns : List ℕ) → All (λ n. ¬ IsGate nodes n) ns → filter_map gate_line (nodes_in_order nodes number v ns) ≡ []
+no_lines : (nodes : List AigNode) (number : ℕ → ℕ) (v : ℕ) (ns : List ℕ)
+    → All (λ n. ¬ IsGate nodes n) ns → filter_map gate_line (nodes_in_order nodes number v ns) ≡ []
 no_lines nodes number v [] none = refl
 no_lines nodes number v (n ∷ ns) none = by_kind (kind_at nodes n) (λ a b at. none 0 n (omega arith) (a, b, at)) (no_lines nodes number (v + 1) ns (λ k d h. none (suc k) d (omega arith)))
   where
@@ -199,7 +213,8 @@ module _ (c : Circuit) (is : IsCircuit c) (closed : IsClosed c) where
   abbrev gates : List ℕ
   gates = filter_map gate_number c.nodes
 
-  gates-reencoded : filter_map gate_line (reencoded c).nodes ≡ filter_map gate_line (map (renumbered_node (new_number c)) c.nodes)
+  gates-reencoded : filter_map gate_line (reencoded c).nodes
+      ≡ filter_map gate_line (map (renumbered_node (new_number c)) c.nodes)
   gates-reencoded =
       let number = new_number c in
       let first = nodes_in_order c.nodes number 0 (0 ∷ leaves) in
@@ -220,7 +235,9 @@ module _ (c : Circuit) (is : IsCircuit c) (closed : IsClosed c) where
       ∙ find-number S (new_number c) (number-apart c.nodes S (order_of c) (new_number c) (Numbers-order c is closed)) (entries c.names) n h (names_in_circuit S c.names is.named)
       ∙ sym (get-entries c.names n)
 
-  name_lines-reencoded : (letter position : ℕ) (ns : List ℕ) → All (λ n. n < length c.nodes) ns → name_lines letter position (map (new_number c) ns) (get (reencoded c).names) ≡ name_lines letter position ns (get c.names)
+  name_lines-reencoded : (letter position : ℕ) (ns : List ℕ) → All (λ n. n < length c.nodes) ns
+      → name_lines letter position (map (new_number c) ns) (get (reencoded c).names)
+      ≡ name_lines letter position ns (get c.names)
   name_lines-reencoded letter position [] there = refl
   name_lines-reencoded letter position (n ∷ ns) there =
       ap (λ (o : Option (List ℕ)). option_to_list (option_map (λ (bytes : List ℕ). record { letter = letter; position = position; name = bytes }) o) ++ name_lines letter (position + 1) (map (new_number c) ns) (get (reencoded c).names)) (name_at n (there 0 n (omega arith)))
@@ -229,7 +246,8 @@ module _ (c : Circuit) (is : IsCircuit c) (closed : IsClosed c) where
   leaves_there : (ns : List ℕ) → All (IsLeaf c.nodes) ns → All (λ n. n < length c.nodes) ns
   leaves_there ns all = All-weaker (IsLeaf c.nodes) (λ n. n < length c.nodes) (λ n leaf. kind_at-within c.nodes n Leaf leaf) ns all
 
-  latches_there : (ls : List AigLatch) → All (IsLatch c.nodes) ls → All (λ n. n < length c.nodes) (latch_leaves ls)
+  latches_there : (ls : List AigLatch) → All (IsLatch c.nodes) ls
+      → All (λ n. n < length c.nodes) (latch_leaves ls)
   latches_there ls all = All-map (λ n. n < length c.nodes) (λ (l : AigLatch). l.input) ls (All-weaker (IsLatch c.nodes) (λ l. l.input < length c.nodes) (λ l is_latch. kind_at-within c.nodes l.input Leaf is_latch.leaf) ls all)
 
   names-reencoded : (kind : FileKind) → (file_of kind (reencoded c)).names ≡ (file_of kind c).names
@@ -274,7 +292,8 @@ module _ (c : Circuit) (is : IsCircuit c) (closed : IsClosed c) where
   at_most m k true h = omega arith
   at_most m k false h = omega arith
 
-  pub numbered_falls : (table : List ℕ) → length c.nodes ≤ 2 ^ 31 → IsBinaryNumbering c table → All (FallsBelow table) c.nodes
+  pub numbered_falls : (table : List ℕ) → length c.nodes ≤ 2 ^ 31 → IsBinaryNumbering c table
+      → All (FallsBelow table) c.nodes
   numbered_falls table few has k d h =
       let numbers = Numbers-order c is closed in
       let node = get_or c.nodes k d in

@@ -25,7 +25,8 @@ use Rattle.aig_writer.specs.Numbering.{IsBinaryNumbering}
 pub FitsForm-text : (c : Circuit) → length c.nodes ≤ 2 ^ 63 → FitsForm Text c []
 FitsForm-text c few = record { small = λ n h. omega arith; text = λ is. refl; binary = λ is. cc }
 
-pub FitsForm-binary : (c : Circuit) (table : List ℕ) → IsClosed c → length c.nodes ≤ 2 ^ 31 → IsBinaryNumbering c table → FitsForm Binary c table
+pub FitsForm-binary : (c : Circuit) (table : List ℕ) → IsClosed c → length c.nodes ≤ 2 ^ 31
+    → IsBinaryNumbering c table → FitsForm Binary c table
 FitsForm-binary c table closed few has = record {
   small = λ n h. elim (cases_lt n (length table)) [
     | inl within ↦ (let low = has.within n n within in omega arith)
@@ -38,7 +39,8 @@ FitsForm-binary c table closed few has = record {
 -- ---- entries of a circuit
 
 module _ (c : Circuit) (is : IsCircuit c) (table : List ℕ) (small : HasSmallNumbers c table) where
-  pub input_small : (inputs : List ℕ) (k : ℕ) → inputs ≡ c.inputs → k < length inputs → HasLiteral table (get_or inputs k 0)
+  pub input_small : (inputs : List ℕ) (k : ℕ) → inputs ≡ c.inputs → k < length inputs
+      → HasLiteral table (get_or inputs k 0)
   input_small inputs k same h =
       let low : k < length c.inputs = omega (arith, ap length same) in
       subst (λ (ns : List ℕ). HasLiteral table (get_or ns k 0)) (sym same) (small (get_or c.inputs k 0) (kind_at-within c.nodes (get_or c.inputs k 0) Leaf (is.inputs k 0 low)))
@@ -52,7 +54,9 @@ module _ (c : Circuit) (is : IsCircuit c) (table : List ℕ) (small : HasSmallNu
   list_small Constraints = edges_small c.properties.constraints is.properties.constraints
   list_small Fairness = edges_small c.properties.fairness is.properties.fairness
 
-  pub sets_small : (sets : List (Vec AigEdge Global)) → map (λ (set : Vec AigEdge Global). set.items) sets ≡ c.properties.justice → All (λ (set : Vec AigEdge Global). All (IsSmallEdge table) set.items) sets
+  pub sets_small : (sets : List (Vec AigEdge Global))
+      → map (λ (set : Vec AigEdge Global). set.items) sets ≡ c.properties.justice
+      → All (λ (set : Vec AigEdge Global). All (IsSmallEdge table) set.items) sets
   sets_small sets same = λ k d lt.
       let read = get_or-map (λ (set : Vec AigEdge Global). set.items) sets k d d.items lt in
       let all : All (All (IsInRange c.nodes)) (map (λ (set : Vec AigEdge Global). set.items) sets) = rw same is.properties.justice in
@@ -62,7 +66,8 @@ module _ (c : Circuit) (is : IsCircuit c) (table : List ℕ) (small : HasSmallNu
   init_small (Some e) h = small e.node_id h
   init_small None h = h
 
-  pub latch_small : (latchs : List AigLatch) (k : ℕ) (d : AigLatch) → latchs ≡ c.latchs → k < length latchs → IsSmallLatch table (get_or latchs k d)
+  pub latch_small : (latchs : List AigLatch) (k : ℕ) (d : AigLatch) → latchs ≡ c.latchs
+      → k < length latchs → IsSmallLatch table (get_or latchs k d)
   latch_small latchs k d same h =
       let low : k < length c.latchs = omega (arith, ap length same) in
       let l = get_or c.latchs k d in
@@ -73,7 +78,8 @@ module _ (c : Circuit) (is : IsCircuit c) (table : List ℕ) (small : HasSmallNu
         init = init_small l.init latch.init;
       })
 
-  pub node_small : (nodes : List AigNode) (k : ℕ) (d : AigNode) → nodes ≡ c.nodes → k < length nodes → IsSmallNode table (get_or nodes k d)
+  pub node_small : (nodes : List AigNode) (k : ℕ) (d : AigNode) → nodes ≡ c.nodes → k < length nodes
+      → IsSmallNode table (get_or nodes k d)
   node_small nodes k d same h =
       let low : k < length c.nodes = omega (arith, ap length same) in
       let node = get_or c.nodes k d in

@@ -32,22 +32,26 @@ pub record IsFilled (c : Circuit) (next : ℕ) (numbers : List ℕ) : Type 0 whe
 abbrev gates : Circuit → List ℕ
 gates c = filter_map gate_number c.nodes
 
-length-front : (c : Circuit) → length ((0 ∷ c.inputs) ++ latch_leaves c.latchs) ≡ 1 + length c.inputs + length c.latchs
+length-front : (c : Circuit)
+    → length ((0 ∷ c.inputs) ++ latch_leaves c.latchs) ≡ 1 + length c.inputs + length c.latchs
 length-front c = omega (arith, length-append (0 ∷ c.inputs) (latch_leaves c.latchs), length-leaves c.latchs)
 
-input_place : (c : Circuit) (i : ℕ) → i < length c.inputs → get_or (order_of c) (1 + i) 0 ≡ get_or c.inputs i 0
+input_place : (c : Circuit) (i : ℕ) → i < length c.inputs
+    → get_or (order_of c) (1 + i) 0 ≡ get_or c.inputs i 0
 input_place c i h =
     let e : 1 + i ≡ suc i = omega arith in
     get_or-append ((0 ∷ c.inputs) ++ latch_leaves c.latchs) (gates c) 0 (1 + i) (omega (arith, length-front c))
     ∙ get_or-append (0 ∷ c.inputs) (latch_leaves c.latchs) 0 (1 + i) (omega arith) ∙ ap (λ k. get_or (0 ∷ c.inputs) k 0) e
 
-latch_place : (c : Circuit) (i : ℕ) → i < length c.latchs → get_or (order_of c) (1 + length c.inputs + i) 0 ≡ get_or (latch_leaves c.latchs) i 0
+latch_place : (c : Circuit) (i : ℕ) → i < length c.latchs
+    → get_or (order_of c) (1 + length c.inputs + i) 0 ≡ get_or (latch_leaves c.latchs) i 0
 latch_place c i h =
     let e : 1 + length c.inputs + i ≡ length (0 ∷ c.inputs) + i = omega arith in
     get_or-append ((0 ∷ c.inputs) ++ latch_leaves c.latchs) (gates c) 0 (1 + length c.inputs + i) (omega (arith, length-front c))
     ∙ ap (λ k. get_or ((0 ∷ c.inputs) ++ latch_leaves c.latchs) k 0) e ∙ get_or-append-add (0 ∷ c.inputs) (latch_leaves c.latchs) i 0
 
-gate_place : (c : Circuit) (i : ℕ) → get_or (order_of c) (1 + length c.inputs + length c.latchs + i) 0 ≡ get_or (gates c) i 0
+gate_place : (c : Circuit) (i : ℕ)
+    → get_or (order_of c) (1 + length c.inputs + length c.latchs + i) 0 ≡ get_or (gates c) i 0
 gate_place c i =
     ap (λ k. get_or (order_of c) (k + i) 0) (sym (length-front c)) ∙ get_or-append-add ((0 ∷ c.inputs) ++ latch_leaves c.latchs) (gates c) i 0
 
@@ -68,7 +72,8 @@ gates_split nodes i d r h told is =
 
 -- how many gates there were
 pub record IsGatesTurn (c : Circuit) (next i : ℕ) (numbers : List ℕ) : Type 0 where
-  pub count : next ≡ 1 + length c.inputs + length c.latchs + length (filter_map gate_number (take i c.nodes))
+  pub count : next
+      ≡ 1 + length c.inputs + length c.latchs + length (filter_map gate_number (take i c.nodes))
   pub filled : IsFilled c next numbers
 
 module _ (c : Circuit) (is : IsCircuit c) (closed : IsClosed c) where
@@ -77,7 +82,9 @@ module _ (c : Circuit) (is : IsCircuit c) (closed : IsClosed c) where
   node_count = omega (arith, length-order c is closed, length-append ((0 ∷ c.inputs) ++ latch_leaves c.latchs) (gates c), length-front c)
 
   -- the next node of the order gets its number
-  filled-turn : (next n : ℕ) (numbers : List ℕ) → next < length c.nodes → get_or (order_of c) next 0 ≡ n → IsFilled c next numbers → IsFilled c (next + 1) (slice_set numbers n next)
+  filled-turn : (next n : ℕ) (numbers : List ℕ) → next < length c.nodes
+      → get_or (order_of c) next 0 ≡ n → IsFilled c next numbers
+      → IsFilled c (next + 1) (slice_set numbers n next)
   filled-turn next n numbers h at so_far =
       let order = order_of c in
       let low : next < length order = omega (arith, length-order c is closed) in
@@ -94,14 +101,21 @@ module _ (c : Circuit) (is : IsCircuit c) (closed : IsClosed c) where
         ];
       }
 
-  pub input_turn : (i next : ℕ) (numbers : List ℕ) → i < length c.inputs → next ≡ 1 + i → IsFilled c next numbers → IsFilled c (next + 1) (slice_set numbers (get_or c.inputs i 0) next)
+  pub input_turn : (i next : ℕ) (numbers : List ℕ) → i < length c.inputs → next ≡ 1 + i
+      → IsFilled c next numbers
+      → IsFilled c (next + 1) (slice_set numbers (get_or c.inputs i 0) next)
   input_turn i next numbers h at so_far = filled-turn next (get_or c.inputs i 0) numbers (omega (arith, node_count)) (ap (λ k. get_or (order_of c) k 0) at ∙ input_place c i h) so_far
 
-  pub latch_turn : (i next n : ℕ) (numbers : List ℕ) → i < length c.latchs → next ≡ 1 + length c.inputs + i → get_or (latch_leaves c.latchs) i 0 ≡ n → IsFilled c next numbers → IsFilled c (next + 1) (slice_set numbers n next)
+  pub latch_turn : (i next n : ℕ) (numbers : List ℕ) → i < length c.latchs
+      → next ≡ 1 + length c.inputs + i → get_or (latch_leaves c.latchs) i 0 ≡ n
+      → IsFilled c next numbers → IsFilled c (next + 1) (slice_set numbers n next)
   latch_turn i next n numbers h at is_leaf so_far = filled-turn next n numbers (omega (arith, node_count)) (ap (λ k. get_or (order_of c) k 0) at ∙ latch_place c i h ∙ is_leaf) so_far
 
   -- a gate is one of those that are counted
-  pub gate_counted : (i : ℕ) (d : AigNode) (r : Bool) → i < length c.nodes → (IsTrue r ↔ IsAnd (get_or c.nodes i d)) → r ≡ true → 1 + length c.inputs + length c.latchs + length (filter_map gate_number (take i c.nodes)) < length c.nodes
+  pub gate_counted : (i : ℕ) (d : AigNode) (r : Bool) → i < length c.nodes
+      → (IsTrue r ↔ IsAnd (get_or c.nodes i d)) → r ≡ true
+      → 1 + length c.inputs + length c.latchs + length (filter_map gate_number (take i c.nodes))
+      < length c.nodes
   gate_counted i d r h told gate =
       let front = filter_map gate_number (take i c.nodes) in
       omega (arith, node_count, ap length (gates_split c.nodes i d r h told gate), length-append front ((get_or c.nodes i d).node_id ∷ filter_map gate_number (drop (i + 1) c.nodes)))
@@ -120,7 +134,8 @@ module _ (c : Circuit) (is : IsCircuit c) (closed : IsClosed c) where
       }
 
   -- the whole order has its places
-  pub all_filled : (i next : ℕ) (numbers : List ℕ) → length c.nodes ≤ i → IsGatesTurn c next i numbers → IsBinaryNumbering c numbers
+  pub all_filled : (i next : ℕ) (numbers : List ℕ) → length c.nodes ≤ i
+      → IsGatesTurn c next i numbers → IsBinaryNumbering c numbers
   all_filled i next numbers h so_far =
       let whole : next ≡ length c.nodes = so_far.count ∙ ap (λ l. 1 + length c.inputs + length c.latchs + length (filter_map gate_number l)) (take_all i c.nodes h) ∙ node_count in
       let filled = so_far.filled in
@@ -132,13 +147,15 @@ module _ (c : Circuit) (is : IsCircuit c) (closed : IsClosed c) where
       }
 
   -- a latch's leaf and a gate have places in the table
-  pub leaf_within : (latchs : List AigLatch) (i n : ℕ) (d : AigLatch) → latchs ≡ c.latchs → i < length latchs → n ≡ (get_or latchs i d).input → n < length c.nodes
+  pub leaf_within : (latchs : List AigLatch) (i n : ℕ) (d : AigLatch) → latchs ≡ c.latchs
+      → i < length latchs → n ≡ (get_or latchs i d).input → n < length c.nodes
   leaf_within latchs i n d same h own =
       let low : i < length c.latchs = omega (arith, ap length same) in
       let read = ap (λ (ls : List AigLatch). (get_or ls i d).input) same in
       omega (arith, kind_at-within c.nodes (get_or c.latchs i d).input Leaf (is.latchs i d low).leaf)
 
-  pub node_within : (nodes : List AigNode) (i n : ℕ) (d : AigNode) → nodes ≡ c.nodes → i < length nodes → n ≡ (get_or nodes i d).node_id → n < length c.nodes
+  pub node_within : (nodes : List AigNode) (i n : ℕ) (d : AigNode) → nodes ≡ c.nodes
+      → i < length nodes → n ≡ (get_or nodes i d).node_id → n < length c.nodes
   node_within nodes i n d same h own =
       let low : i < length c.nodes = omega (arith, ap length same) in
       let read = ap (λ (ns : List AigNode). (get_or ns i d).node_id) same in
@@ -152,7 +169,9 @@ module _ (c : Circuit) (is : IsCircuit c) (closed : IsClosed c) where
   }
 
 -- another node is no gate
-pub other_turn : (c : Circuit) (i : ℕ) (d : AigNode) (r : Bool) (next : ℕ) (numbers : List ℕ) → i < length c.nodes → (IsTrue r ↔ IsAnd (get_or c.nodes i d)) → r ≡ false → IsGatesTurn c next i numbers → IsGatesTurn c next (i + 1) numbers
+pub other_turn : (c : Circuit) (i : ℕ) (d : AigNode) (r : Bool) (next : ℕ) (numbers : List ℕ)
+    → i < length c.nodes → (IsTrue r ↔ IsAnd (get_or c.nodes i d)) → r ≡ false
+    → IsGatesTurn c next i numbers → IsGatesTurn c next (i + 1) numbers
 other_turn c i d r next numbers h told other so_far =
     let same = gates-turn_other c.nodes i d [] (filter_map gate_number (take i c.nodes)) r h told other refl in
     record { count = so_far.count ∙ ap (λ l. 1 + length c.inputs + length c.latchs + length l) same; filled = so_far.filled }
@@ -162,11 +181,13 @@ other_turn c i d r next numbers h told other so_far =
 abbrev row : Circuit → List ℕ
 row c = c.inputs ++ latch_leaves c.latchs
 
-pub row_length : (c : Circuit) → length (c.inputs ++ latch_leaves c.latchs) ≡ length c.inputs + length c.latchs
+pub row_length : (c : Circuit)
+    → length (c.inputs ++ latch_leaves c.latchs) ≡ length c.inputs + length c.latchs
 row_length c = omega (arith, length-append c.inputs (latch_leaves c.latchs), length-leaves c.latchs)
 
 -- the leaf of a latch that is read
-pub row-at : (c : Circuit) (latchs : List AigLatch) (i n : ℕ) (d : AigLatch) → latchs ≡ c.latchs → i < length latchs → n ≡ (get_or latchs i d).input → get_or (row c) (length c.inputs + i) 0 ≡ n
+pub row-at : (c : Circuit) (latchs : List AigLatch) (i n : ℕ) (d : AigLatch) → latchs ≡ c.latchs
+    → i < length latchs → n ≡ (get_or latchs i d).input → get_or (row c) (length c.inputs + i) 0 ≡ n
 row-at c latchs i n d same h is = get_or-append-add c.inputs (latch_leaves c.latchs) i 0 ∙ ap (λ ls. get_or (latch_leaves ls) i 0) (sym same) ∙ leaf-read latchs i d h ∙ sym is
 
 -- one more leaf is in order

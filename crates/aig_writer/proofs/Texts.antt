@@ -31,10 +31,14 @@ first_lists = Outputs ∷ Bads ∷ Constraints ∷ []
 abbrev pub justice_lines : (ℕ → ℕ) → Circuit → List ℕ
 justice_lines number c = lines_text (map length c.properties.justice) ++ flat_map lines_text (map (map literal_of) (map (map (renumbered_edge number)) c.properties.justice))
 
-joined : (o b k s j f : List ℕ) → o ++ b ++ k ++ s ++ j ++ f ≡ ((o ++ (b ++ (k ++ []))) ++ (s ++ j)) ++ f
+joined : (o b k s j f : List ℕ)
+    → o ++ b ++ k ++ s ++ j ++ f ≡ ((o ++ (b ++ (k ++ []))) ++ (s ++ j)) ++ f
 joined o b k s j f = simp (append-nil, append_assoc)
 
-pub properties-lists : (number : ℕ → ℕ) (c : Circuit) → properties_text (numbered_file number Text c).properties ≡ then_texts (flat_map (list_lines number c) first_lists) (justice_lines number c ∷ list_lines number c Fairness ∷ [])
+pub properties-lists : (number : ℕ → ℕ) (c : Circuit)
+    → properties_text (numbered_file number Text c).properties
+    ≡ then_texts (flat_map (list_lines number c) first_lists)
+    (justice_lines number c ∷ list_lines number c Fairness ∷ [])
 properties-lists number c =
     let p = (numbered_file number Text c).properties in
     joined (lines_text p.outputs) (lines_text p.bads) (lines_text p.constraints) (lines_text (map length p.justice)) (flat_map lines_text p.justice) (lines_text p.fairness)
@@ -51,7 +55,9 @@ unfolding file_text
 spelling-sections f = refl
 
 -- the text of the file under a table's numbers is the form
-numbered_form : (kind : FileKind) (c : Circuit) (table : List ℕ) → IsCircuit c → FitsForm kind c table → form_of kind c ≡ file_text (numbered_file (written_number table) kind c)
+numbered_form : (kind : FileKind) (c : Circuit) (table : List ℕ) → IsCircuit c
+    → FitsForm kind c table
+    → form_of kind c ≡ file_text (numbered_file (written_number table) kind c)
 numbered_form Text c table is fits =
     let table_is = fits.text refl in
     ap file_text (sym (own_file c is Text)) ∙ ap (λ (t : List ℕ). file_text (numbered_file (written_number t) Text c)) (sym table_is)

@@ -12,7 +12,9 @@ use Rattle.aigcheck.specs.Words.{AreLast, Give, GiveSteps, clause_words, name_of
 
 -- ---- words in a list
 
-pub word_alone : (words : List (String Global)) (first : String Global) → 1 ≤ length words → length words < 2 → first ≡ get_or words 0 first → map string_bytes words ≡ string_bytes first ∷ []
+pub word_alone : (words : List (String Global)) (first : String Global) → 1 ≤ length words
+    → length words < 2 → first ≡ get_or words 0 first
+    → map string_bytes words ≡ string_bytes first ∷ []
 word_alone [] first low high at = absurd (omega arith)
 word_alone (w ∷ []) first low high at = ap (λ x. string_bytes x ∷ []) (sym at)
 word_alone (w ∷ x ∷ ws) first low high at = absurd (omega arith)
@@ -21,12 +23,15 @@ word_alone (w ∷ x ∷ ws) first low high at = absurd (omega arith)
 abbrev pub following : ℕ → List (String Global) → List (String Global)
 following n words = take (length words - n) (drop n words)
 
-pub with_first : (words : List (String Global)) (first : String Global) → 1 ≤ length words → first ≡ get_or words 0 first → map string_bytes words ≡ string_bytes first ∷ map string_bytes (following 1 words)
+pub with_first : (words : List (String Global)) (first : String Global) → 1 ≤ length words
+    → first ≡ get_or words 0 first
+    → map string_bytes words ≡ string_bytes first ∷ map string_bytes (following 1 words)
 with_first [] first low at = absurd (omega arith)
 with_first (w ∷ ws) first low at =
     ap (λ x. string_bytes x ∷ map string_bytes ws) (sym at) ∙ ap (λ l. string_bytes first ∷ map string_bytes l) (sym (take_all (length (w ∷ ws) - 1) ws (omega arith)))
 
-pub with_some : (words : List (String Global)) → 1 ≤ length words → (first : List ℕ) × (map string_bytes words ≡ first ∷ map string_bytes (following 1 words))
+pub with_some : (words : List (String Global)) → 1 ≤ length words
+    → (first : List ℕ) × (map string_bytes words ≡ first ∷ map string_bytes (following 1 words))
 with_some [] low = absurd (omega arith)
 with_some (w ∷ ws) low = (string_bytes w, with_first (w ∷ ws) w low refl)
 
@@ -74,7 +79,8 @@ same_words : (a b : List ℕ) (l m : List (List ℕ)) → a ∷ l ≡ b ∷ m �
 same_words a b l m is = (cc, cc)
 
 -- the parts of three words and more
-three : (a b c : List ℕ) (l : List (List ℕ)) (x y z : List ℕ) (m : List (List ℕ)) → a ∷ b ∷ c ∷ l ≡ x ∷ y ∷ z ∷ m → (a ≡ x) × (c ≡ z) × (l ≡ m)
+three : (a b c : List ℕ) (l : List (List ℕ)) (x y z : List ℕ) (m : List (List ℕ))
+    → a ∷ b ∷ c ∷ l ≡ x ∷ y ∷ z ∷ m → (a ≡ x) × (c ≡ z) × (l ≡ m)
 three a b c l x y z m is =
     let first = same_words a x (b ∷ c ∷ l) (y ∷ z ∷ m) is in
     let second = same_words b y (c ∷ l) (z ∷ m) first.1 in
@@ -169,7 +175,8 @@ with_number words name file steps last are n number k has r tells c = (
 )
 
 -- there are enough words
-pub enough : (c : Command) (words : List (List ℕ)) → AreLast c words → needed_words c ≤ 3 + length words
+pub enough : (c : Command) (words : List (List ℕ)) → AreLast c words
+    → needed_words c ≤ 3 + length words
 enough (commands.Clauses k o) words last = omega arith
 enough (commands.Window k form o) words last = omega arith
 enough (commands.Refuted k o) words last = omega (arith, ap length last.1)
@@ -177,13 +184,16 @@ enough (commands.Inductive k form o) words last = omega (arith, ap length last.1
 enough (commands.Witness k o) words last = omega (arith, ap length last.1)
 enough commands.Run words last = absurd last
 
-pub words_enough : (r : Option Command) (name : List ℕ) (k : ℕ) (last : List (List ℕ)) (count : ℕ) → TellsLast r name k last → 3 + length last ≤ count → IfSome r (λ c. needed_words c ≤ count)
+pub words_enough : (r : Option Command) (name : List ℕ) (k : ℕ) (last : List (List ℕ)) (count : ℕ)
+    → TellsLast r name k last → 3 + length last ≤ count → IfSome r (λ c. needed_words c ≤ count)
 words_enough None name k last count tells long = tt
 words_enough (Some c) name k last count tells long = omega (arith, enough c last ((tells c).0 refl).2)
 
 -- ---- run
 
-pub with_two : (words : List (String Global)) (name : String Global) → 3 ≤ length words → length words < 4 → name ≡ get_or words 0 name → (file witness : List ℕ) × (map string_bytes words ≡ string_bytes name ∷ file ∷ witness ∷ [])
+pub with_two : (words : List (String Global)) (name : String Global) → 3 ≤ length words
+    → length words < 4 → name ≡ get_or words 0 name
+    → (file witness : List ℕ) × (map string_bytes words ≡ string_bytes name ∷ file ∷ witness ∷ [])
 with_two [] name low high at = absurd (omega arith)
 with_two (w ∷ []) name low high at = absurd (omega arith)
 with_two (w ∷ x ∷ []) name low high at = absurd (omega arith)
@@ -197,7 +207,9 @@ run_told words name file witness are told one other = (
 )
 
 -- words that don't give run give what names a step
-pub steps_exactly : (words : List (List ℕ)) (told : Option Command) → ((c : Command) → (told ≡ Some c) ↔ GiveSteps words c) → ¬ Give words commands.Run → (d : Command) → (told ≡ Some d) ↔ Give words d
+pub steps_exactly : (words : List (List ℕ)) (told : Option Command)
+    → ((c : Command) → (told ≡ Some c) ↔ GiveSteps words c) → ¬ Give words commands.Run
+    → (d : Command) → (told ≡ Some d) ↔ Give words d
 steps_exactly words told exact not (commands.Clauses k o) = exact (commands.Clauses k o)
 steps_exactly words told exact not (commands.Window k form o) = exact (commands.Window k form o)
 steps_exactly words told exact not (commands.Refuted k o) = exact (commands.Refuted k o)

@@ -10,19 +10,23 @@ use Rattle.aigtool.specs.Words.{Give, IsUnrolling, setting_words}
 
 -- ---- one command
 
-same_setting : (a b : List ℕ) (o p : Bool) → a ∷ setting_words o ≡ b ∷ setting_words p → (a ≡ b) × (o ≡ p)
+same_setting : (a b : List ℕ) (o p : Bool) → a ∷ setting_words o ≡ b ∷ setting_words p
+    → (a ≡ b) × (o ≡ p)
 same_setting a b true true is = (cc, refl)
 same_setting a b false false is = (cc, refl)
 same_setting a b true false is = cc
 same_setting a b false true is = cc
 
-same_unrolling : (words : List (List ℕ)) (k m : ℕ) (o p : Bool) → IsUnrolling k o words → IsUnrolling m p words → (k ≡ m) × (o ≡ p)
+same_unrolling : (words : List (List ℕ)) (k m : ℕ) (o p : Bool) → IsUnrolling k o words
+    → IsUnrolling m p words → (k ≡ m) × (o ≡ p)
 same_unrolling words k m o p h i =
     let same = same_setting h.steps i.steps o p (sym h.spelled ∙ i.spelled) in
     (sym h.number.value ∙ ap value_of same.0 ∙ i.number.value, same.1)
 
 -- words that begin otherwise give no unrolling
-pub no_unrolling : (words : List (List ℕ)) (first : List ℕ) (o : Bool) → words ≡ first ∷ setting_words o → ((k : ℕ) → ¬ IsNumber k first) → (m : ℕ) (p : Bool) → ¬ IsUnrolling m p words
+pub no_unrolling : (words : List (List ℕ)) (first : List ℕ) (o : Bool)
+    → words ≡ first ∷ setting_words o → ((k : ℕ) → ¬ IsNumber k first) → (m : ℕ) (p : Bool)
+    → ¬ IsUnrolling m p words
 no_unrolling words first o is not m p h =
     let same = same_setting h.steps first p o (sym h.spelled ∙ is) in
     not m (subst (IsNumber m) same.0 h.number)
@@ -48,7 +52,8 @@ begins words commands.Strash g = ap letter_of g.1
 begins words (commands.Cnf k o) g = ap letter_of g.2
 begins words (commands.Query k o) g = ap letter_of g.2
 
-begin_alike : (words : List (List ℕ)) (c d : Command) → Give words c → Give words d → letter c ≡ letter d
+begin_alike : (words : List (List ℕ)) (c d : Command) → Give words c → Give words d
+    → letter c ≡ letter d
 begin_alike words c d g h = sym (begins words c g) ∙ begins words d h
 
 -- words give one command at the most
@@ -92,7 +97,8 @@ one_command words (commands.Query k o) (commands.Query m p) g h =
     cc
 
 -- so what they give is told exactly
-pub gives_exactly : (words : List (List ℕ)) (c : Command) → Give words c → (d : Command) → (Some c ≡ Some d) ↔ Give words d
+pub gives_exactly : (words : List (List ℕ)) (c : Command) → Give words c → (d : Command)
+    → (Some c ≡ Some d) ↔ Give words d
 gives_exactly words c g d = (λ is. subst (Give words) (same_Some _ _ is) g, λ h. ap Some (one_command words c d g h))
 
 pub unrolls_exactly : (words : List (List ℕ)) (k : ℕ) (o : Bool) → IsUnrolling k o words → (m : ℕ) (p : Bool) → ◌≡◌ {A = Option (ℕ × Bool)} (Some (k, o)) (Some (m, p)) ↔ IsUnrolling m p words
@@ -105,7 +111,9 @@ unrolls_exactly words k o g m p = (
 
 -- ---- words in a list
 
-pub words_of_one : (words : List (String Global)) (first : String Global) → 1 ≤ length words → length words < 2 → first ≡ get_or words 0 first → map string_bytes words ≡ string_bytes first ∷ []
+pub words_of_one : (words : List (String Global)) (first : String Global) → 1 ≤ length words
+    → length words < 2 → first ≡ get_or words 0 first
+    → map string_bytes words ≡ string_bytes first ∷ []
 words_of_one [] first low high at = absurd (omega arith)
 words_of_one (w ∷ []) first low high at = ap (λ x. string_bytes x ∷ []) (sym at)
 words_of_one (w ∷ x ∷ ws) first low high at = absurd (omega arith)
@@ -124,7 +132,8 @@ none_following : (ws : List (String Global)) → length ws < 1 → map string_by
 none_following [] low = refl
 none_following (w ∷ ws) low = absurd (omega arith)
 
-one_following : (ws : List (String Global)) → 1 ≤ length ws → length ws < 2 → (out : List ℕ) × (map string_bytes ws ≡ out ∷ [])
+one_following : (ws : List (String Global)) → 1 ≤ length ws → length ws < 2
+    → (out : List ℕ) × (map string_bytes ws ≡ out ∷ [])
 one_following [] low high = absurd (omega arith)
 one_following (w ∷ []) low high = (string_bytes w, refl)
 one_following (w ∷ x ∷ ws) low high = absurd (omega arith)
@@ -167,5 +176,6 @@ module _ (words : List (List ℕ)) (file : List ℕ) (rest : List (List ℕ)) wh
   by_query (commands.Query k o) is g = let same = sym g.2 ∙ is in let these : g.1 ≡ rest = cc in (k, o, refl, subst (IsUnrolling k o) these g.3)
 
 -- nothing was given
-pub nothing_given : (words : List (List ℕ)) (r : Option Command) → r ≡ None → ((d : Command) → ¬ Give words d) → (d : Command) → (r ≡ Some d) ↔ Give words d
+pub nothing_given : (words : List (List ℕ)) (r : Option Command) → r ≡ None
+    → ((d : Command) → ¬ Give words d) → (d : Command) → (r ≡ Some d) ↔ Give words d
 nothing_given words r none not d = (λ is. cc, λ g. absurd (not d g))

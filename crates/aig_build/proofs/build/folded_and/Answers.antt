@@ -9,15 +9,18 @@ use Rattle.aig_build.proofs.build.folded_and.Goals.{then-eq-3-via-then-eq-3, the
 use Rattle.aig_build.proofs.build.folded_and.Goals as goal
 
 -- edges that are found equal are equal
-same_edge : (a b : AigEdge) (r : Bool) → r ≡ (eqb a.node_id b.node_id && beq a.compl b.compl) → r ≡ true → a ≡ b
+same_edge : (a b : AigEdge) (r : Bool) → r ≡ (eqb a.node_id b.node_id && beq a.compl b.compl)
+    → r ≡ true → a ≡ b
 same_edge a b r is found = grind (arith, common_steps)
 
 -- and others are not
-other_edge : (a b : AigEdge) (r : Bool) → r ≡ (eqb a.node_id b.node_id && beq a.compl b.compl) → r ≡ false → a ≢ b
+other_edge : (a b : AigEdge) (r : Bool) → r ≡ (eqb a.node_id b.node_id && beq a.compl b.compl)
+    → r ≡ false → a ≢ b
 other_edge a b r is missed equal = grind (arith, common_steps)
 
 -- where no case stands, nothing folds
-none_folds : (a b : AigEdge) → a ≢ edge_to 0 true → b ≢ edge_to 0 true → a ≢ edge_to 0 false → b ≢ edge_to 0 false → a ≢ b → a ≢ inverse b → (f : AigEdge) → ¬ Folds a b f
+none_folds : (a b : AigEdge) → a ≢ edge_to 0 true → b ≢ edge_to 0 true → a ≢ edge_to 0 false
+    → b ≢ edge_to 0 false → a ≢ b → a ≢ inverse b → (f : AigEdge) → ¬ Folds a b f
 none_folds a b p q r s t u f (true_first h e) = p h
 none_folds a b p q r s t u f (true_second h e) = q h
 none_folds a b p q r s t u f (false_first h e) = r h

@@ -5,7 +5,9 @@ use Rattle.aig_circuit.specs.Edge.{edge_to, inverse}
 use Rattle.aig_build.proofs.build.inverses_of.Goals as goal
 
 -- one edge more
-one_more : (edges inverses : List AigEdge) (i : ℕ) (e : AigEdge) → i < length edges → inverses ≡ map inverse (take i edges) → e ≡ inverse (get_or edges i (edge_to 0 false)) → inverses ++ (e ∷ []) ≡ map inverse (take (i + 1) edges)
+one_more : (edges inverses : List AigEdge) (i : ℕ) (e : AigEdge) → i < length edges
+    → inverses ≡ map inverse (take i edges) → e ≡ inverse (get_or edges i (edge_to 0 false))
+    → inverses ++ (e ∷ []) ≡ map inverse (take (i + 1) edges)
 one_more edges inverses i e within so_far is =
     ap (λ l. l ++ (e ∷ [])) so_far ∙ ap (λ (f : AigEdge). map inverse (take i edges) ++ (f ∷ [])) is
     ∙ sym (ap (map inverse) (take_more edges i (edge_to 0 false) within) ∙ map-append inverse (take i edges) (get_or edges i (edge_to 0 false) ∷ []))

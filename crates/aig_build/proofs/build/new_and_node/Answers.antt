@@ -11,7 +11,8 @@ use Rattle.aig_circuit.proofs.Trees.{kind_at-within}
 use Rattle.aig_build.proofs.build.new_and_node.Goals as goal
 
 -- an edge that two edges fold to is there where they are
-folded_there : (nodes : List AigNode) (a b e : AigEdge) → AreNodes nodes → IsInRange nodes a → IsInRange nodes b → Folds a b e → IsInRange nodes e
+folded_there : (nodes : List AigNode) (a b e : AigEdge) → AreNodes nodes → IsInRange nodes a
+    → IsInRange nodes b → Folds a b e → IsInRange nodes e
 folded_there nodes a b e sound first second (true_first h is) = subst (IsInRange nodes) (sym is) second
 folded_there nodes a b e sound first second (true_second h is) = subst (IsInRange nodes) (sym is) first
 folded_there nodes a b e sound first second (false_first h is) = subst (IsInRange nodes) (sym is) (kind_at-within nodes 0 False sound.false_first)

@@ -7,7 +7,9 @@ use Rattle.aig_circuit.proofs.Building.{value-AddsGate, AddsGates-itself, AddsGa
 use Rattle.aig_build.proofs.build.trivial_new_and_node.Goals as goal
 
 -- the gate is added
-adds : (c : goal.After-from) → AddsGate c.args.nodes.now.items c.push.new.self.items c.args.fanin0 c.args.fanin1 c.from.result
+adds : (c : goal.After-from)
+    → AddsGate c.args.nodes.now.items c.push.new.self.items c.args.fanin0 c.args.fanin1
+    c.from.result
 adds c =
     let old = c.args.nodes.now.items in
     let id : c.len-id.result ≡ length old = omega arith in

@@ -11,7 +11,8 @@ use Rattle.aig_build.proofs.Joined.{cut_back}
 use Rattle.aig_build.proofs.build.trivial_new_ands_node.Goals as goal
 
 -- one node for each edge after the first
-one_each : (old new i rest all : ℕ) → new ≡ old + i → i ≤ rest → rest ≤ i → all ≡ suc rest → new ≡ old + (all - 1)
+one_each : (old new i rest all : ℕ) → new ≡ old + i → i ≤ rest → rest ≤ i → all ≡ suc rest
+    → new ≡ old + (all - 1)
 one_each old new i rest all count low high split = omega arith
 
 pub returns-in_default-clause-joins : goal.returns-in_default-clause-joins

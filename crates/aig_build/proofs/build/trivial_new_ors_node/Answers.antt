@@ -24,7 +24,8 @@ returns-in_err-inverses-clause-gates c = AddsGates-itself c.args.nodes.now.items
 pub trivial_new_ands_node-requires-clause-sound : goal.trivial_new_ands_node-requires-clause-sound
 trivial_new_ands_node-requires-clause-sound c = c.requires.sound
 
-pub returns-in_err-trivial_new_ands_node-clause-gates : goal.returns-in_err-trivial_new_ands_node-clause-gates
+pub returns-in_err-trivial_new_ands_node-clause-gates :
+    goal.returns-in_err-trivial_new_ands_node-clause-gates
 returns-in_err-trivial_new_ands_node-clause-gates c = c.trivial_new_ands_node.ensures.gates
 
 pub returns-clause-gates : goal.returns-clause-gates
@@ -33,13 +34,15 @@ returns-clause-gates c = c.trivial_new_ands_node.ensures.gates
 pub returns-in_err-inverses-clause-rule : goal.returns-in_err-inverses-clause-rule
 returns-in_err-inverses-clause-rule c = IfOk-from_err c.from_residual.result _ c.from_residual.ensures.0
 
-pub returns-in_err-trivial_new_ands_node-clause-rule : goal.returns-in_err-trivial_new_ands_node-clause-rule
+pub returns-in_err-trivial_new_ands_node-clause-rule :
+    goal.returns-in_err-trivial_new_ands_node-clause-rule
 returns-in_err-trivial_new_ands_node-clause-rule c = IfOk-from_err c.from_residual-in_err-trivial_new_ands_node.result _ c.from_residual-in_err-trivial_new_ands_node.ensures.0
 
 pub returns-in_err-inverses-clause-joins : goal.returns-in_err-inverses-clause-joins
 returns-in_err-inverses-clause-joins c = IfOk-from_err c.from_residual.result _ c.from_residual.ensures.0
 
-pub returns-in_err-trivial_new_ands_node-clause-joins : goal.returns-in_err-trivial_new_ands_node-clause-joins
+pub returns-in_err-trivial_new_ands_node-clause-joins :
+    goal.returns-in_err-trivial_new_ands_node-clause-joins
 returns-in_err-trivial_new_ands_node-clause-joins c = IfOk-from_err c.from_residual-in_err-trivial_new_ands_node.result _ c.from_residual-in_err-trivial_new_ands_node.ensures.0
 
 pub returns-clause-rule : goal.returns-clause-rule

@@ -15,13 +15,15 @@ module _ (c : After-has_operands) where
   within = omega (arith, length-nodes_in c.args.gates.now)
 
   -- the node that is made is the next of the nodes
-  next_is : get_or (nodes_in c.args.gates.now) c.loop-i.i c.variable_node-node.result ≡ c.variable_node-node.result
+  next_is : get_or (nodes_in c.args.gates.now) c.loop-i.i c.variable_node-node.result
+      ≡ c.variable_node-node.result
   next_is = nodes_in-at c.args.gates.now c.loop-i.i c.variable_node-node.result None c.loop-i-test.true ∙ sym c.variable_node-node.ensures
 
   abbrev test : AigNode → Bool
   test node = has_operands c.args.numbers.now.table.now node.typ
 
-  tested : test (get_or (nodes_in c.args.gates.now) c.loop-i.i c.variable_node-node.result) ≡ c.has_operands.result
+  tested : test (get_or (nodes_in c.args.gates.now) c.loop-i.i c.variable_node-node.result)
+      ≡ c.has_operands.result
   tested = ap test next_is ∙ sym (c.has_operands.ensures ∙ ap (has_operands c.args.numbers.now.table.now) c.typ.ensures)
 
 pub returns-then-not-has_operands : goal.returns-then-not-has_operands

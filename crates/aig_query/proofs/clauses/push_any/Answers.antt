@@ -14,9 +14,10 @@ push_reserved-requires c = omega (arith, c.loop-edge.invariant.1, c.loop-edge-te
 
 pub loop-edge-preserved : goal.loop-edge-preserved
 loop-edge-preserved c =
-    let longer = ap₂ (λ (lits : List Lit) (lit : Lit). lits ++ lit ∷ []) c.loop-edge.invariant.0 c.to_lit.ensures in
-    (c.push_reserved.ensures.items ∙ longer ∙ sym (map_more lit_of c.args.edges.now c.loop-edge.edge-index _ c.loop-edge-test.true),
-    omega (arith, c.loop-edge.invariant.1, c.push_reserved.ensures.len, c.push_reserved.ensures.capacity))
+    let longer = ap₂ (λ (lits : List Lit) (lit : Lit). lits ++ lit ∷ []) c.loop-edge.invariant.0 c.to_lit.ensures in (
+      c.push_reserved.ensures.items ∙ longer ∙ sym (map_more lit_of c.args.edges.now c.loop-edge.edge-index _ c.loop-edge-test.true),
+      omega (arith, c.loop-edge.invariant.1, c.push_reserved.ensures.len, c.push_reserved.ensures.capacity),
+    )
 
 pub returns : goal.returns
 returns c =

@@ -14,7 +14,10 @@ use Rattle.aig_reader.proofs.TestedLines.{on_line-weaker}
 use Rattle.aig_reader.proofs.gates.read_gates.Goals as goal
 
 -- after i gates of so many there is room for one more
-one_more : (kind : FileKind) (greatest : ℕ) (leaves : List ℕ) (count i : ℕ) (b m : Feed) (gates : List GateLine) → Takes (parse_entries (parse_gate_entry kind greatest leaves) [] i) b m gates → length leaves + count ≤ greatest → i < count → length (leaves ++ literals_of gates) < greatest
+one_more : (kind : FileKind) (greatest : ℕ) (leaves : List ℕ) (count i : ℕ) (b m : Feed)
+    (gates : List GateLine)
+    → Takes (parse_entries (parse_gate_entry kind greatest leaves) [] i) b m gates
+    → length leaves + count ≤ greatest → i < count → length (leaves ++ literals_of gates) < greatest
 one_more kind greatest leaves count i b m gates h room low =
     let all = length-append leaves (literals_of gates) ∙ ap (λ (n : ℕ). length leaves + n) (length-map gates (λ (g : GateLine). g.lhs) ∙ takes_count (parse_gate_entry kind greatest leaves) i b m gates h) in
     omega (arith, all, room, low)

@@ -13,7 +13,8 @@ returns-in_err-header-clause-exact g c =
     let p = err_from_is_err_and c.from_residual.result c.from_residual.ensures.1 in
     rw (p.1, p.2) (unread_header _ _ c.header_line.result c.header_result.result c.header_result.ensures c.header_line.ensures c.args.limit c.in_err-header.field-0.0 c.in_err-header.was)
 
-pub returns-then-not-is_great_enough-clause-exact : goal.returns-then-not-is_great_enough-clause-exact
+pub returns-then-not-is_great_enough-clause-exact :
+    goal.returns-then-not-is_great_enough-clause-exact
 returns-then-not-is_great_enough-clause-exact g c =
     let h = c.in_ok-header.header in
     let taken = header_taken _ _ c.header_line.result c.header_result.result c.header_result.ensures c.header_line.ensures h c.in_ok-header.was in

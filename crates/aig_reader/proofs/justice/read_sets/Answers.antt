@@ -13,7 +13,10 @@ use Rattle.aig_reader.proofs.justice.read_sets.Goals as goal
 abbrev items_of : Vec AigEdge Global → List AigEdge
 items_of set = set.items
 
-push_set : (front : List (List AigEdge)) (old new : List (Vec AigEdge Global)) (set : Vec AigEdge Global) (xs : List (List ℕ)) (x : List ℕ) → map items_of old ≡ front ++ map (map edge_from) xs → set.items ≡ map edge_from x → new ≡ old ++ set ∷ [] → map items_of new ≡ front ++ map (map edge_from) (xs ++ x ∷ [])
+push_set : (front : List (List AigEdge)) (old new : List (Vec AigEdge Global))
+    (set : Vec AigEdge Global) (xs : List (List ℕ)) (x : List ℕ)
+    → map items_of old ≡ front ++ map (map edge_from) xs → set.items ≡ map edge_from x
+    → new ≡ old ++ set ∷ [] → map items_of new ≡ front ++ map (map edge_from) (xs ++ x ∷ [])
 push_set front old new set xs x h k is = made_push (map edge_from) front xs x (map items_of old) (map items_of new) set.items h k (ap (map items_of) is ∙ map_push items_of old set)
 
 pub loop-size-init : goal.loop-size-init

@@ -17,7 +17,10 @@ abbrev literal_of : LatchLine → ℕ
 literal_of l = l.literal
 
 -- the literal of one more line
-defined_push : (kind : FileKind) (greatest : ℕ) (variables : DefinedVariables) (inputs : List ℕ) (lines : List LatchLine) (l : LatchLine) → AreDefined kind greatest variables ((inputs ++ map literal_of lines) ++ l.literal ∷ []) → AreDefined kind greatest variables (inputs ++ map literal_of (lines ++ l ∷ []))
+defined_push : (kind : FileKind) (greatest : ℕ) (variables : DefinedVariables) (inputs : List ℕ)
+    (lines : List LatchLine) (l : LatchLine)
+    → AreDefined kind greatest variables ((inputs ++ map literal_of lines) ++ l.literal ∷ [])
+    → AreDefined kind greatest variables (inputs ++ map literal_of (lines ++ l ∷ []))
 defined_push kind greatest variables inputs lines l h =
     subst (AreDefined kind greatest variables) (append_assoc inputs (map literal_of lines) (l.literal ∷ []) ∙ ap (λ (es : List ℕ). inputs ++ es) (sym (map_push literal_of lines l))) h
 

@@ -30,7 +30,12 @@ returns-in_err-result_of g c =
     rw (p.1, p.2) (on_section-weaker e _ _ _ (misses_inputs header.kind (numbers_of header) (feed g.R.Source.left g.R.Source.failed g.R.Source.pulls c.args.buffer.now c.args.r.now)) missed)
 
 -- the inputs, as they were read
-inputs_of : (g : given.Over) (c : In_ok-result_of g) → InputsRead c.args.header (feed g.R.Source.left g.R.Source.failed g.R.Source.pulls c.args.buffer.now c.args.r.now) (feed g.R.Source.left g.R.Source.failed g.R.Source.pulls c.read_inputs-inputs.new.buffer c.read_inputs-inputs.new.r) c.read_inputs-inputs.new.variables c.read_inputs-inputs.new.inputs.items
+inputs_of : (g : given.Over) (c : In_ok-result_of g)
+    → InputsRead c.args.header
+    (feed g.R.Source.left g.R.Source.failed g.R.Source.pulls c.args.buffer.now c.args.r.now)
+    (feed g.R.Source.left g.R.Source.failed g.R.Source.pulls c.read_inputs-inputs.new.buffer
+    c.read_inputs-inputs.new.r) c.read_inputs-inputs.new.variables
+    c.read_inputs-inputs.new.inputs.items
 inputs_of g c =
     inputs_read c.args.header _ _ _ _ _ c.in_ok-result_of.field-0 c.args.lists.now.inputs.items _ c.result_of.ensures c.in_ok-result_of.was c.requires.empty.inputs (c.read_inputs-inputs.ensures c.args.header.kind c.args.header.greatest c.requires.defined)
 
@@ -51,7 +56,18 @@ returns-in_err-result_of-2 g c =
     rw (p.1, p.2) (on_section-weaker e _ _ _ (misses_latches header.kind (numbers_of header) _ _ inputs.literals inputs.takes) missed)
 
 -- and the latches after them
-latches_of : (g : given.Over) (c : In_ok-result_of-2 g) (inputs : InputsRead c.args.header (feed g.R.Source.left g.R.Source.failed g.R.Source.pulls c.args.buffer.now c.args.r.now) (feed g.R.Source.left g.R.Source.failed g.R.Source.pulls c.read_inputs-inputs.new.buffer c.read_inputs-inputs.new.r) c.read_inputs-inputs.new.variables c.read_inputs-inputs.new.inputs.items) → LatchesRead c.args.header inputs.literals (feed g.R.Source.left g.R.Source.failed g.R.Source.pulls c.read_inputs-inputs.new.buffer c.read_inputs-inputs.new.r) (feed g.R.Source.left g.R.Source.failed g.R.Source.pulls c.read_latches-latchs.new.buffer c.read_latches-latchs.new.r) c.read_latches-latchs.new.variables c.read_latches-latchs.new.latchs.items
+latches_of : (g : given.Over) (c : In_ok-result_of-2 g)
+    (inputs : InputsRead c.args.header
+    (feed g.R.Source.left g.R.Source.failed g.R.Source.pulls c.args.buffer.now c.args.r.now)
+    (feed g.R.Source.left g.R.Source.failed g.R.Source.pulls c.read_inputs-inputs.new.buffer
+    c.read_inputs-inputs.new.r) c.read_inputs-inputs.new.variables
+    c.read_inputs-inputs.new.inputs.items)
+    → LatchesRead c.args.header inputs.literals
+    (feed g.R.Source.left g.R.Source.failed g.R.Source.pulls c.read_inputs-inputs.new.buffer
+    c.read_inputs-inputs.new.r)
+    (feed g.R.Source.left g.R.Source.failed g.R.Source.pulls c.read_latches-latchs.new.buffer
+    c.read_latches-latchs.new.r) c.read_latches-latchs.new.variables
+    c.read_latches-latchs.new.latchs.items
 latches_of g c inputs =
     latches_read c.args.header _ _ _ inputs.literals _ _ c.in_ok-result_of-2.field-0 c.args.lists.now.latchs.items _ c.result_of-2.ensures c.in_ok-result_of-2.was c.requires.empty.latchs (c.read_latches-latchs.ensures c.args.header.kind inputs.literals inputs.defined)
 

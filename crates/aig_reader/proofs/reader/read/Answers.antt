@@ -10,7 +10,9 @@ use Rattle.aig_reader.proofs.reader.read.Goals.{After-new-buffer}
 use Rattle.aig_reader.proofs.reader.read.Given as given
 
 -- nothing is held at first
-at_first : (g : given.Over) (c : After-new-buffer g) → prepend_known c.new-buffer.result (g.R.Source.left c.args.r.now) ≡ g.R.Source.left c.args.r.now
+at_first : (g : given.Over) (c : After-new-buffer g)
+    → prepend_known c.new-buffer.result (g.R.Source.left c.args.r.now)
+    ≡ g.R.Source.left c.args.r.now
 at_first g c = rw c.new-buffer.ensures (prepend_known-nil (g.R.Source.left c.args.r.now))
 
 pub returns-clause-circuit : goal.returns-clause-circuit

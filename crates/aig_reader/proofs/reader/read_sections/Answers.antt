@@ -19,7 +19,9 @@ returns-in_err-gates-clause-exact g c =
     rw (p.1, p.2) (on_section-weaker c.in_err-gates.field-0.0 _ _ _ (misses_tested (parse_section_lines header.kind (numbers_of header)) (λ x. is_accepted_order header.kind (file_by header x)) (feed g.R.Source.left g.R.Source.failed g.R.Source.pulls c.args.buffer.now c.args.r.now)) c.in_err-gates.ensures)
 
 -- the lines, as the numbering takes them
-lines_are : (g : given.Over) (c : After-is_complete g) → AreLinesOf (file_by c.args.header c.in_ok-gates.ensures.0) c.is_complete.result c.read_lines.new.lists c.read_lines.new.variables c.in_ok-gates.gates
+lines_are : (g : given.Over) (c : After-is_complete g)
+    → AreLinesOf (file_by c.args.header c.in_ok-gates.ensures.0) c.is_complete.result
+    c.read_lines.new.lists c.read_lines.new.variables c.in_ok-gates.gates
 lines_are g c =
     let made = c.in_ok-gates.ensures in
     subst (λ (b : Bool). AreLinesOf (file_by c.args.header made.0) b c.read_lines.new.lists c.read_lines.new.variables c.in_ok-gates.gates) (sym c.is_complete.ensures) made.1

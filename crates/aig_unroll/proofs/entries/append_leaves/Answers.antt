@@ -8,7 +8,8 @@ use Rattle.aig_unroll.proofs.entries.append_leaves.Goals.{then-is_leaf, else-is_
 use Rattle.aig_unroll.proofs.entries.append_leaves.Goals as goal
 
 -- what the loop goes over
-over : (nodes : List AigNode) (start : ℕ) → take (length nodes - start) (drop start nodes) ≡ drop start nodes
+over : (nodes : List AigNode) (start : ℕ)
+    → take (length nodes - start) (drop start nodes) ≡ drop start nodes
 over nodes start = take_all (length nodes - start) (drop start nodes) (omega (arith, length-drop start nodes))
 
 pub loop-node-init : goal.loop-node-init

@@ -10,7 +10,8 @@ use Rattle.aig_unroll.proofs.Pushed.{first_kept, made_pushed}
 use Rattle.aig_unroll.proofs.entries.push_sets.Goals as goal
 
 -- an empty vector with room for so many has room for them
-fits : (empty added count capacity : ℕ) → empty ≡ 0 → added ≡ count → count ≤ capacity → empty + added ≤ capacity
+fits : (empty added count capacity : ℕ) → empty ≡ 0 → added ≡ count → count ≤ capacity
+    → empty + added ≤ capacity
 fits empty added count capacity none same room = omega arith
 
 pub append_images-requires-clause-there : goal.append_images-requires-clause-there

@@ -15,7 +15,8 @@ below_start : (n start count : ℕ) → n < start → start ≤ count → n < co
 below_start n start count p q = omega arith
 
 -- what follows from two facts on an answer
-from_both : {X E : Type 0} (r : Result X E) (P Q R : X → Type 0) → ((x : X) → P x → Q x → R x) → IfOk r P → IfOk r Q → IfOk r R
+from_both : {X E : Type 0} (r : Result X E) (P Q R : X → Type 0) → ((x : X) → P x → Q x → R x)
+    → IfOk r P → IfOk r Q → IfOk r R
 from_both (Ok x) P Q R both p q = both x p q
 from_both (Err e) P Q R both p q = tt
 
@@ -55,21 +56,25 @@ returns-then-node_id-start-clause-grows c = Grows-itself c.args.nodes.now.items 
 pub new_leaf_node-requires : goal.new_leaf_node-requires
 new_leaf_node-requires c = c.requires.sound
 
-pub returns-in_err-new_leaf_node-in-Leaf-clause-grows : goal.returns-in_err-new_leaf_node-in-Leaf-clause-grows
+pub returns-in_err-new_leaf_node-in-Leaf-clause-grows :
+    goal.returns-in_err-new_leaf_node-in-Leaf-clause-grows
 returns-in_err-new_leaf_node-in-Leaf-clause-grows c = c.new_leaf_node.ensures.grows
 
-pub returns-in_ok-new_leaf_node-in-Leaf-clause-copies : goal.returns-in_ok-new_leaf_node-in-Leaf-clause-copies
+pub returns-in_ok-new_leaf_node-in-Leaf-clause-copies :
+    goal.returns-in_ok-new_leaf_node-in-Leaf-clause-copies
 returns-in_ok-new_leaf_node-in-Leaf-clause-copies c =
     let is = kind_read c.args.from.now.nodes c.nodes.result.now c.args.id Leaf c.typ.result.now c.requires.there c.nodes.ensures.value c.typ.ensures c.in-Leaf.is in
     let ensures = c.in_ok-new_leaf_node-in-Leaf.ensures in
     other_leaf is (rw c.node_id.ensures at c.if-node_id-start.false) (c.from.ensures ∙ ap (λ n. edge_to n false) ensures.number) ensures.ok
 
-pub returns-in_ok-new_leaf_node-in-Leaf-clause-edge : goal.returns-in_ok-new_leaf_node-in-Leaf-clause-edge
+pub returns-in_ok-new_leaf_node-in-Leaf-clause-edge :
+    goal.returns-in_ok-new_leaf_node-in-Leaf-clause-edge
 returns-in_ok-new_leaf_node-in-Leaf-clause-edge c =
     let ensures = c.in_ok-new_leaf_node-in-Leaf.ensures in
     leaf_in_range c.args.nodes.now.items c.new_leaf_node.new.nodes.items c.from.result (c.from.ensures ∙ ap (λ n. edge_to n false) ensures.number) ensures.ok
 
-pub returns-in_ok-new_leaf_node-in-Leaf-clause-grows : goal.returns-in_ok-new_leaf_node-in-Leaf-clause-grows
+pub returns-in_ok-new_leaf_node-in-Leaf-clause-grows :
+    goal.returns-in_ok-new_leaf_node-in-Leaf-clause-grows
 returns-in_ok-new_leaf_node-in-Leaf-clause-grows c = c.new_leaf_node.ensures.grows
 
 pub image_of-first-requires : goal.image_of-first-requires

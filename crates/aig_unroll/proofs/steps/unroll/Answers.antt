@@ -7,7 +7,11 @@ use Rattle.aig_unroll.proofs.Stepped.{stepped_in_parts, stepped_is_circuit, step
 use Rattle.aig_unroll.proofs.steps.unroll.Goals as goal
 
 -- what both clauses stand on
-stepped : (c : goal.After-append_step) → CopiesAll c.args.from.now c.args.lists.now.latchs.items c.args.lists.now.nodes.items c.append_step.new.lists.nodes.items c.add_nodes_and_reserve.new.images × AppendsImages c.args.from.now (lists_circuit c.args.lists.now) c.add_nodes_and_reserve.new.images (lists_circuit c.append_step.new.lists)
+stepped : (c : goal.After-append_step)
+    → CopiesAll c.args.from.now c.args.lists.now.latchs.items c.args.lists.now.nodes.items
+    c.append_step.new.lists.nodes.items c.add_nodes_and_reserve.new.images
+    × AppendsImages c.args.from.now (lists_circuit c.args.lists.now)
+    c.add_nodes_and_reserve.new.images (lists_circuit c.append_step.new.lists)
 stepped c =
     let old = c.args.lists.now in
     let mid = c.add_nodes_and_reserve.new.lists in
@@ -25,7 +29,8 @@ returns-in-Ok-clause-circuit c = stepped_is_circuit c.args.from.now (lists_circu
 pub returns-in-Ok-clause-unrolls : goal.returns-in-Ok-clause-unrolls
 returns-in-Ok-clause-unrolls c = stepped_unrolls c.args.from.now (lists_circuit c.args.lists.now) (lists_circuit c.append_step.new.lists) c.add_nodes_and_reserve.new.images c.append_step.ensures.circuit c.requires.circuit (stepped c).0 (stepped c).1
 
-pub add_nodes_and_reserve-requires-clause-circuit : goal.add_nodes_and_reserve-requires-clause-circuit
+pub add_nodes_and_reserve-requires-clause-circuit :
+    goal.add_nodes_and_reserve-requires-clause-circuit
 add_nodes_and_reserve-requires-clause-circuit c = c.requires.circuit
 
 pub add_nodes_and_reserve-requires-clause-begins : goal.add_nodes_and_reserve-requires-clause-begins

@@ -4,7 +4,8 @@ use Rattle.aig_base.proofs.test_streams.TakerSink.put.Goals as goal
 use Rattle.aig_base.proofs.test_streams.TakerSink.put.Goals.{then-self-eq0, else-self-eq0}
 
 -- a piece that does not stop it where it is full is empty
-no_piece : (n : ℕ) (empty stops : Bool) → empty ≡ nat_eq n 0 → stops ≡ not empty → stops ≡ false → n ≡ 0
+no_piece : (n : ℕ) (empty stops : Bool) → empty ≡ nat_eq n 0 → stops ≡ not empty → stops ≡ false
+    → n ≡ 0
 no_piece n empty stops is stops_at goes_on = grind (arith, nat_tests)
 
 pub returns-clause-some : goal.returns-clause-some

@@ -12,7 +12,8 @@ use Rattle.aig_reader.proofs.Waiting.{none_waits}
 use Rattle.aig_reader.proofs.gate_store.GateStore.put.Goals as goal
 use Rattle.aig_reader.proofs.gate_store.GateStore.put.Goals.{In_ok-table-in-InOrder}
 
-both_ok : {T E : Type 0} (result : Result T E) {P Q R : Type 0} → (P → Q → R) → OnOk result P → OnOk result Q → OnOk result R
+both_ok : {T E : Type 0} (result : Result T E) {P Q R : Type 0} → (P → Q → R) → OnOk result P
+    → OnOk result Q → OnOk result R
 both_ok (Ok x) f p q = f p q
 both_ok (Err e) f p q = tt
 
@@ -22,7 +23,9 @@ new-requires c =
     subst (All HasSmall) (sym c.deref.ensures.value) (small_nodes c.requires.2 c.in-InOrder.rising h.form h.nodes)
 
 -- a table of all nodes has the room that they had
-table_space : (c : In_ok-table-in-InOrder) (size : ℕ) → HasSpace size (held.InOrder c.in-InOrder.rising) → HasSpace size (held.Shuffled c.in_ok-table-in-InOrder.table)
+table_space : (c : In_ok-table-in-InOrder) (size : ℕ)
+    → HasSpace size (held.InOrder c.in-InOrder.rising)
+    → HasSpace size (held.Shuffled c.in_ok-table-in-InOrder.table)
 table_space c size room =
     let nodes = c.in-InOrder.rising.nodes in
     let table = c.in_ok-table-in-InOrder.table in

@@ -26,7 +26,9 @@ module _ (f : File) where
   abbrev levels : Bool
   levels = list_all (has_level f) f.gates
 
-  nodes_judged : (c : After-numbered) → AreTablesOf f c.args.gates.items c.args.known.now c.args.self.now → Judged (levels && have_operands f) NodesAre c.numbered.result
+  nodes_judged : (c : After-numbered)
+      → AreTablesOf f c.args.gates.items c.args.known.now c.args.self.now
+      → Judged (levels && have_operands f) NodesAre c.numbered.result
   nodes_judged c t = judged_by (levels && have_operands f) NodesAre Gates c.number_nodes-nodes.result c.numbered.result (c.number_nodes-nodes.ensures f t.good t.nodes t.known t.not_compact) c.numbered.ensures
 
 pub returns-in_err-nodes : goal.returns-in_err-nodes

@@ -32,7 +32,9 @@ module _ (c : After-deref) (f : File) (top : c.args.greatest ≡ f.greatest) (h 
     | else-is_complete-via-else-is_complete w ↦ rw w.if-is_complete.false refl
   ]
 
-tables_are : (c : After-deref) (f : File) → c.args.greatest ≡ f.greatest → AreLinesOf f c.args.is_complete c.args.self.now c.args.variables.now c.args.gates → AreTablesOf f c.in_ok-gates.gates.items c.deref.result.now c.args.self.now
+tables_are : (c : After-deref) (f : File) → c.args.greatest ≡ f.greatest
+    → AreLinesOf f c.args.is_complete c.args.self.now c.args.variables.now c.args.gates
+    → AreTablesOf f c.in_ok-gates.gates.items c.deref.result.now c.args.self.now
 tables_are c f top h = record { good = h.good; nodes = gates_are c f top h; known = known_are c f top h; lists = h.lists; not_compact = well_founded c f top h }
 
 pub by_level-requires-clause-tables : goal.by_level-requires-clause-tables

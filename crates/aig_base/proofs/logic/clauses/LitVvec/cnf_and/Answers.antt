@@ -4,7 +4,8 @@ use Rattle.aig_base.specs.Clauses.{and_clauses}
 use Rattle.aig_base.proofs.Literals.{are_true-and_clauses}
 use Rattle.aig_base.proofs.logic.clauses.LitVvec.cnf_and.Goals as goal
 
-two_of : (lits : List Lit) (d : Lit) → 2 ≤ length lits → length lits < 3 → lits ≡ get_or lits 0 d ∷ get_or lits 1 d ∷ []
+two_of : (lits : List Lit) (d : Lit) → 2 ≤ length lits → length lits < 3
+    → lits ≡ get_or lits 0 d ∷ get_or lits 1 d ∷ []
 two_of [] d at_least below = absurd (omega arith)
 two_of (a ∷ []) d at_least below = absurd (omega arith)
 two_of (a ∷ b ∷ []) d at_least below = refl

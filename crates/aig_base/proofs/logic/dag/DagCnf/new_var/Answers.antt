@@ -8,7 +8,8 @@ use Rattle.aig_base.specs.Clauses.{AreBelow, AreRelations, IsCount}
 use Rattle.aig_base.proofs.logic.dag.DagCnf.new_var.Goals as goal
 
 -- with one more variable, which has no clause, they are lists of so many variables
-related : (lists : List (List (List Lit))) → length lists < 2 ^ 31 → AreRelations lists → AreRelations (lists ++ [] ∷ [])
+related : (lists : List (List (List Lit))) → length lists < 2 ^ 31 → AreRelations lists
+    → AreRelations (lists ++ [] ∷ [])
 related lists lt h =
     let more : length (lists ++ [] ∷ []) ≡ length lists + 1 = length-append lists ([] ∷ []) in
     let wider : All (AreBelow (length (lists ++ [] ∷ []))) lists = λ k list at i clause there j lit in_clause. omega (arith, more, h.below k list at i clause there j lit in_clause) in
@@ -19,7 +20,8 @@ related lists lt h =
     }
 
 -- and have so many clauses
-counted : (lists : List (List (List Lit))) (count : ℕ) → IsCount lists count → IsCount (lists ++ [] ∷ []) count
+counted : (lists : List (List (List Lit))) (count : ℕ) → IsCount lists count
+    → IsCount (lists ++ [] ∷ []) count
 counted lists count h = record { sum = omega (arith, h.sum, sum_by-append length lists ([] ∷ [])); few = h.few }
 
 pub invariant_of-self-2 : goal.invariant_of-self-2

@@ -3,7 +3,8 @@ use Rattle.aig_base.proofs.Cutting.{cut_at-joined, AreEnds-joined, end_within}
 use Rattle.aig_base.proofs.logic.far_clauses.FarClauses.append.Goals as goal
 
 -- the ends after those that there were
-joined : (es fs now first second : List ℕ) (n by : ℕ) → now ≡ first ++ map (λ end. by + end) second → first ≡ es → second ≡ fs → by ≡ n → now ≡ es ++ map (λ end. n + end) fs
+joined : (es fs now first second : List ℕ) (n by : ℕ) → now ≡ first ++ map (λ end. by + end) second
+    → first ≡ es → second ≡ fs → by ≡ n → now ≡ es ++ map (λ end. n + end) fs
 joined es fs now first second n by is old more start = rw (is, old, more, start) refl
 
 pub append_shifted-requires-clause-fits : goal.append_shifted-requires-clause-fits
