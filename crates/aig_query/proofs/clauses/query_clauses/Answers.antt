@@ -3,7 +3,6 @@ use Rattle.std.proofs.lemmas.Grind.{common_steps}
 use Rattle.std.proofs.lemmas.List.Elements.{All-drop, All-same, All-take}
 use Rattle.aig_base.specs.Clauses.{AreBelow}
 use Rattle.aig_circuit.specs.declared.edge.AigEdge.{AigEdge}
-use Rattle.aig_runs.specs.Queries.{query_clauses}
 use Rattle.aig_query.proofs.Below.{IsThere, edges_there, latchs_there, query_below}
 use Rattle.aig_query.proofs.clauses.query_clauses.Goals as goal
 
