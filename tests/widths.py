@@ -16,7 +16,7 @@ MOST = 100
 # Comments went on in the next line where they came near to this width.
 OLD_WIDTH = 140
 # How many longer lines proofs/ have at most.
-PROOFS = 7758
+PROOFS = 7618
 
 OPEN, CLOSE = "([{", ")]}"
 # Operators, the loosest first. A line goes on with one of these.

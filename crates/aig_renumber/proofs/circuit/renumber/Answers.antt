@@ -15,11 +15,13 @@ use Rattle.aig_renumber.proofs.Names.{entries_there}
 use Rattle.aig_renumber.proofs.circuit.renumber.Goals as goal
 
 -- the circuit speaks of nodes alone for which the table has a number
-speaks : (numbers : List ℕ) (circuit : Circuit) → IsCircuit circuit → length numbers ≡ length circuit.nodes → SpeaksOf (λ n. n < length numbers) circuit
+speaks : (numbers : List ℕ) (circuit : Circuit) → IsCircuit circuit
+    → length numbers ≡ length circuit.nodes → SpeaksOf (λ n. n < length numbers) circuit
 speaks numbers circuit is table = subst (λ (count : ℕ). SpeaksOf (λ n. n < count) circuit) (sym table) (SpeaksOf-nodes circuit is)
 
 -- the circuit of these lists
-abbrev the_circuit : List AigNode → List ℕ → List AigLatch → Properties AigEdge → FinMap nat_cmp (List ℕ) → Circuit
+abbrev the_circuit : List AigNode → List ℕ → List AigLatch → Properties AigEdge
+    → FinMap nat_cmp (List ℕ) → Circuit
 the_circuit nodes inputs latchs properties names = record { nodes = nodes; inputs = inputs; latchs = latchs; properties = properties; names = names }
 
 -- circuits with the same lists are the same
