@@ -100,7 +100,8 @@ impl GateStore {
         operands: Operands,
     ) -> Result<(), AllocError>
         requires { (greatest : ℕ) × (leaves : List ℕ) × (before : List GateLine)
-            × (greatest < 2 ^ 31) × (lhs / 2 ≤ greatest) × ArePlaced greatest leaves before self.old }
+            × (greatest < 2 ^ 31) × (lhs / 2 ≤ greatest)
+            × ArePlaced greatest leaves before self.old }
         ensures { (kind : FileKind) (greatest : ℕ) (leaves : List ℕ) (before : List GateLine)
             → ArePlaced greatest leaves before self.old
             → AreDefined kind greatest variables.now ((leaves ++ literals_of before) ++ lhs ∷ [])
