@@ -1,5 +1,7 @@
 //! What steps of tests/scripts can't say: the examples of docstrings, and readers and writers of std that fail.
 
+ghost use Rattle.std.specs.Prelude.{◌≤◌, ◌^◌, IfOk, length};
+
 mod examples;
 mod streams;
 
@@ -9,7 +11,9 @@ use std::alloc::Global;
 use std::test::Fail;
 
 /// Reads a circuit, as the example of `Aig::from_aiger` does.
-fn read(alloc: Global, file: &[u8]) -> Result<Aig, Fail> {
+fn read(alloc: Global, file: &[u8]) -> Result<Aig, Fail>
+    ensures { IfOk result (λ aig. length aig.nodes ≤ 2 ^ 31) }
+{
     let mut source = FromRead::new(file);
     Ok(Aig::from_aiger(alloc, &mut source, 1 << 24)?)
 }
