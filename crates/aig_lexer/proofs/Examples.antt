@@ -2,12 +2,11 @@
 use Rattle.std.proofs.Common.{◌≡◌, ℕ, false, List, [], ◌∷◌, Option, None, Some, Ok, Err, ap, ◌∙◌, arith}
 use Rattle.std.specs.Prelude.{codes, length, option_map}
 use Rattle.aig_format.specs.declared.FileKind.TheVariants.{Binary, Text}
-use Rattle.aig_parsing.specs.Parse.{parse_delta, parse_digits, parse_groups, parse_number}
+use Rattle.aig_parsing.specs.Parse.{parse_delta, parse_digits, parse_groups, parse_kind, parse_number}
 use Rattle.aig_lexer.specs.Bytes.{Fills}
 use Rattle.aig_lexer.specs.declared.error.LexError.TheVariants as lex
 use Rattle.aig_lexer.specs.Faults.{LexTells}
 use Rattle.aig_lexer.specs.Takes.{Feed, Gives, Steps}
-use Rattle.aig_lexer.specs.Words.{parse_kind_byte}
 
 -- these bytes are to come
 abbrev known : List ℕ → Feed
@@ -66,9 +65,10 @@ no_cut_difference is =
     let left : 0 ≡ 1 = left_so parse_delta (130 ∷ 1 ∷ []) (1 ∷ []) 2 is in omega (arith, left)
 
 -- the kind's `a` is taken for `i`
-no_other_kind : ¬ IsRead parse_kind_byte (codes "ag ") (codes "g ") Binary
+no_other_kind : ¬ IsRead parse_kind (codes "aag 1") (codes "1") Binary
+unfolding parse_kind
 no_other_kind is =
-    let read = read_so parse_kind_byte (codes "ag ") (codes "g ") Binary is in
+    let read = read_so parse_kind (codes "aag 1") (codes "1") Binary is in
     let kind : Some Text ≡ Some Binary = ap (option_map (λ x. x.0)) read in
     cc
 

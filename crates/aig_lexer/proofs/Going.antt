@@ -53,10 +53,6 @@ module _ {Y : Type 0} (p : List ℕ → Option (Y × List ℕ)) where
       let all = ends_on before now after h.taken [] h.advances (steps_end now after o c is) in
       Consumes-whole before.coming after.coming (h.taken ++ []) (λ bytes. p bytes ≡ None) all.consumed all.at_end (h.goes [] ∙ f)
 
-  -- no byte came at all
-  pub misses_at_end : (before after : Feed) (o : Option ℕ) → Steps before after o → o ≡ None → p [] ≡ None → Misses p before
-  misses_at_end before after o c is f = goes_end p before before after o (goes_start before) c is f
-
   -- nothing is left to do but to give the value
   pub goes_done : (y : Y) (before now : Feed) → GoesOn p before (λ bs. Some (y, bs)) now → Takes p before now y
   goes_done y before now h = record { taken = h.taken; reads = h.goes; advances = h.advances }
@@ -64,14 +60,6 @@ module _ {Y : Type 0} (p : List ℕ → Option (Y × List ℕ)) where
   -- whatever is left, nothing is read
   pub goes_nowhere : (before now : Feed) → GoesOn p before (λ bs. None) now → Misses p before
   goes_nowhere before now h = known_after before.coming now.coming h.taken (λ bytes. p bytes ≡ None) h.advances.consumed h.goes
-
-  -- one byte that came was read
-  pub takes_byte : (y : Y) (before after : Feed) (o : Option ℕ) (b : ℕ) → Steps before after o → o ≡ Some b → ((bs : List ℕ) → p (b ∷ bs) ≡ Some (y, bs)) → Takes p before after y
-  takes_byte y before after o b c is e = goes_done y before after (goes_byte p (λ bs. Some (y, bs)) before before after o b (goes_start before) c is e)
-
-  -- nothing is read from a byte that came
-  pub misses_byte : (before after : Feed) (o : Option ℕ) (b : ℕ) → Steps before after o → o ≡ Some b → ((bs : List ℕ) → p (b ∷ bs) ≡ None) → Misses p before
-  misses_byte before after o b c is e = goes_nowhere before after (goes_byte p (λ bs. None) before before after o b (goes_start before) c is e)
 
   -- a call read a part
   pub goes_call : {X : Type 0} (part : List ℕ → Option (X × List ℕ)) (r next : List ℕ → Option (Y × List ℕ)) (before now after : Feed) (x : X)

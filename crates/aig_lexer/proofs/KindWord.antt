@@ -1,77 +1,60 @@
--- The kind's word, byte by byte.
-use Rattle.std.proofs.Common.{◌≡◌, ℕ, Bool, true, false, cond, eqb, List, [], ◌∷◌, Option, Some, None, refl}
-use Rattle.std.specs.Prelude.{option_map}
-use Rattle.aig_base.proofs.Mapping.{turned}
+-- The kind's word.
+use Rattle.std.proofs.Common.{◌≡◌, ◌≢◌, ℕ, ◌<◌, List, [], ◌∷◌, ◌++◌, length, take, Option, Some, None, refl, sym, ap, ◌∙◌, length-append, arith}
+use Rattle.std.proofs.Math.Seq.{take-append_seam}
 use Rattle.aig_format.specs.declared.FileKind.{FileKind}
 use Rattle.aig_format.specs.declared.FileKind.TheVariants.{Text, Binary}
-use Rattle.aig_parsing.specs.Parse.{◌>>=◌, parse_kind, or_else, strip}
-use Rattle.aig_lexer.specs.Takes.{Feed, Takes, Misses}
-use Rattle.aig_lexer.specs.Words.{parse_expected, parse_kind_byte, parse_word}
-use Rattle.aig_lexer.proofs.Taking.{takes_same, misses_same, takes_bind, misses_first, misses_next, takes_mapped, misses_mapped}
+use Rattle.aig_format.specs.Spells.{magic}
+use Rattle.aig_parsing.specs.Parse.{parse_byte, parse_kind}
+use Rattle.aig_parsing.proofs.Sections.{Reads-kind}
+use Rattle.aig_lexer.specs.Takes.{Feed, Advances, Takes, Misses}
+use Rattle.aig_lexer.proofs.Going.{known_after, known_rest}
 
-abbrev named : FileKind → List ℕ → FileKind × List ℕ
-named kind bytes = (kind, bytes)
+word_length : (kind : FileKind) → length (magic kind) ≡ 4
+word_length Text = refl
+word_length Binary = refl
 
-abbrev matched : List ℕ → Option (Unit {0} × List ℕ)
-matched bytes = Some (tt, bytes)
-
-abbrev end_text : List ℕ
-end_text = 103 ∷ 32 ∷ []
-
--- the word after the byte that tells the kind
-abbrev following_kind : FileKind × List ℕ → Option (FileKind × List ℕ)
-following_kind k = parse_word end_text k.1 >>= λ w. Some (named k.0 w.1)
-
--- the word after its first byte
-abbrev following_first : ℕ × List ℕ → Option (FileKind × List ℕ)
-following_first x = parse_kind_byte x.1 >>= following_kind
-
--- either kind's word after its first byte
-abbrev either_kind : List ℕ → Option (FileKind × List ℕ)
-either_kind bytes = or_else (option_map (named Text) (strip (97 ∷ end_text) bytes)) (option_map (named Binary) (strip (105 ∷ end_text) bytes))
-
-is_either : (bs : List ℕ) → following_first (97, bs) ≡ either_kind bs
-is_either [] = refl
-is_either (b ∷ bs) = rw (turned b 97, turned b 105) (go (eqb 97 b) (eqb 105 b))
+-- bytes that begin with neither word have no kind
+no_kind : (bytes : List ℕ) → ((kind : FileKind) (rest : List ℕ) → bytes ≡ magic kind ++ rest → ⊥)
+    → parse_kind bytes ≡ None
+no_kind bytes neither = go (parse_kind bytes) refl
   where
-    text : (u : Bool) (o : Option (List ℕ)) → ((o >>= matched) >>= λ w. Some (named Text w.1)) ≡ or_else (option_map (named Text) o) (option_map (named Binary) (cond u o None))
-    text true None = refl
-    text false None = refl
-    text u (Some rest) = refl
+    go : (o : Option (FileKind × List ℕ)) → parse_kind bytes ≡ o → o ≡ None
+    go None is = refl
+    go (Some x) is =
+        let s = Reads-kind.sound bytes x is in
+        absurd (neither x.0 x.1 (s.1 ∙ ap (λ (front : List ℕ). front ++ x.1) s.2))
 
-    binary : (o : Option (List ℕ)) → ((o >>= matched) >>= λ w. Some (named Binary w.1)) ≡ option_map (named Binary) o
-    binary None = refl
-    binary (Some rest) = refl
+-- lists of one length, with which two lists begin that are the same
+same_front : (xs ys more rest : List ℕ) → length xs ≡ length ys → xs ++ more ≡ ys ++ rest → xs ≡ ys
+same_front xs ys more rest long is =
+    sym (take-append_seam xs more) ∙ ap (take (length xs)) is ∙ ap (λ (n : ℕ). take n (ys ++ rest)) long
+    ∙ take-append_seam ys rest
 
-    go : (t u : Bool) → (cond t (Some (named Text bs)) (cond u (Some (named Binary bs)) None) >>= following_kind)
-        ≡ or_else (option_map (named Text) (cond t (strip end_text bs) None)) (option_map (named Binary) (cond u (strip end_text bs) None))
-    go true u = text u (strip end_text bs)
-    go false true = binary (strip end_text bs)
-    go false false = refl
+module _ (before now : Feed) (word : List ℕ) (came : Advances before now word) where
+  pub takes_word : (kind : FileKind) → word ≡ magic kind → Takes parse_kind before now kind
+  takes_word kind is = record {
+    taken = word;
+    reads = λ rest. Reads-kind.complete kind word rest is;
+    advances = came;
+  }
 
-kind_is : (bs : List ℕ) → (parse_expected 97 bs >>= following_first) ≡ parse_kind bs
-unfolding parse_kind
-kind_is [] = refl
-kind_is (b ∷ bs) = go (eqb 97 b)
-  where
-    go : (t : Bool) → (cond t (Some (b, bs)) None >>= following_first) ≡ or_else (option_map (named Text) (cond t (strip (97 ∷ end_text) bs) None)) (option_map (named Binary) (cond t (strip (105 ∷ end_text) bs) None))
-    go true = is_either bs
-    go false = refl
+  -- four other bytes
+  pub misses_word : length word ≡ 4 → word ≢ magic Text → word ≢ magic Binary
+      → Misses parse_kind before
+  misses_word long text binary =
+      known_after before.coming now.coming word (λ bytes. parse_kind bytes ≡ None) came.consumed
+      (λ rest. no_kind (word ++ rest) (λ kind more is. other kind (same_front word (magic kind) rest more (long ∙ sym (word_length kind)) is)))
+    where
+      other : (kind : FileKind) → word ≢ magic kind
+      other Text = text
+      other Binary = binary
 
--- the word, and where it stops to be one
-pub takes_kind : (b m n a : Feed) (kind : FileKind) → Takes (parse_expected 97) b m 97 → Takes parse_kind_byte m n kind → Takes (parse_word end_text) n a tt → Takes parse_kind b a kind
-takes_kind b m n a kind first second rest =
-    takes_same (λ bs. parse_expected 97 bs >>= following_first) parse_kind b a kind
-    (takes_bind (parse_expected 97) following_first b m a 97 kind first (takes_bind parse_kind_byte following_kind m n a kind kind second (takes_mapped (λ (_ : Unit {0}). kind) (parse_word end_text) n a tt rest))) kind_is
-
-pub misses_first_byte : (b : Feed) → Misses (parse_expected 97) b → Misses parse_kind b
-misses_first_byte b h = misses_same (λ bs. parse_expected 97 bs >>= following_first) parse_kind b (misses_first (parse_expected 97) following_first b h) kind_is
-
-module _ (b m : Feed) (first : Takes (parse_expected 97) b m 97) where
-  pub misses_kind_byte : Misses parse_kind_byte m → Misses parse_kind b
-  misses_kind_byte h = misses_same (λ bs. parse_expected 97 bs >>= following_first) parse_kind b (misses_next (parse_expected 97) following_first b m 97 first (misses_first parse_kind_byte following_kind m h)) kind_is
-
-  pub misses_word : (n : Feed) (kind : FileKind) → Takes parse_kind_byte m n kind → Misses (parse_word end_text) n → Misses parse_kind b
-  misses_word n kind second h =
-      misses_same (λ bs. parse_expected 97 bs >>= following_first) parse_kind b
-      (misses_next (parse_expected 97) following_first b m 97 first (misses_next parse_kind_byte following_kind m n kind second (misses_mapped (λ (_ : Unit {0}). kind) (parse_word end_text) n h))) kind_is
+  -- fewer bytes, and then the end
+  pub misses_short : length word < 4 → Misses parse_byte now → Misses parse_kind before
+  misses_short short none =
+      known_rest before.coming now.coming word (λ bytes. parse_kind bytes ≡ None) (λ bytes. parse_byte bytes ≡ None) came.consumed none
+      (λ rest e. no_kind (word ++ rest) (λ kind more is. too_short rest kind more e is))
+    where
+      too_short : (rest : List ℕ) (kind : FileKind) (more : List ℕ) → parse_byte rest ≡ None → word ++ rest ≡ magic kind ++ more → ⊥
+      too_short [] kind more e is = omega (arith, ap length is, length-append word [], length-append (magic kind) more, word_length kind)
+      too_short (b ∷ bs) kind more e is = cc

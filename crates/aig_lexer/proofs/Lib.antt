@@ -3,7 +3,6 @@ pub mod Front
 pub mod Going
 pub mod Taking
 pub mod Words
-pub mod WordBytes
 pub mod NextLine
 pub mod Deltas
 pub mod KindWord

@@ -1,10 +1,10 @@
 -- What readers that are joined take, from what their parts take.
-use Rattle.std.proofs.Common.{◌≡◌, ℕ, ◌+◌, ◌≤◌, ◌<◌, Bool, true, false, cond, List, [], ◌∷◌, ◌++◌, length, take, drop, Option, Some, None, refl, sym, ap, ◌∙◌, append_assoc, arith}
-use Rattle.std.proofs.lemmas.Option.{IfSome_then}
-use Rattle.aig_parsing.specs.Parse.{◌>>=◌, parse_both, parse_if, parse_map}
-use Rattle.aig_lexer.specs.Takes.{Feed, feed, Takes, Misses}
+use Rattle.std.proofs.Common.{◌≡◌, ℕ, ◌+◌, ◌≤◌, ◌<◌, Bool, true, false, cond, List, [], ◌∷◌, ◌++◌, length, take, drop, Option, Some, None, refl, sym, ap, subst, ◌∙◌, append_assoc, append-nil, arith}
+use Rattle.std.proofs.lemmas.Option.{IfSome_then, same_Some}
+use Rattle.aig_parsing.specs.Parse.{◌>>=◌, parse_both, parse_byte, parse_if, parse_map}
+use Rattle.aig_lexer.specs.Takes.{Feed, feed, Advances, Takes, Misses}
 use Rattle.aig_lexer.proofs.Feeds.{advances_none, advances_on, advances_front}
-use Rattle.aig_lexer.proofs.Going.{known_after, known_rest}
+use Rattle.aig_lexer.proofs.Going.{GoesOn, goes_wrong, known_after, known_rest}
 
 -- readers that agree take the same
 pub takes_same : {A : Type 0} (p q : List ℕ → Option (A × List ℕ)) (b a : Feed) (x : A) → Takes p b a x → ((bs : List ℕ) → p bs ≡ q bs) → Takes q b a x
@@ -73,6 +73,23 @@ module _ {A : Type 0} (p : List ℕ → Option (A × List ℕ)) (test : A → Bo
 
   pub misses_tested : (b : Feed) → Misses p b → Misses (parse_if p test) b
   misses_tested b h = misses_first p (λ x. cond (test x.0) (Some x) None) b h
+
+-- ---- one byte
+
+pub byte_came : (b a : Feed) (byte : ℕ) → Takes parse_byte b a byte → Advances b a (byte ∷ [])
+byte_came b a byte h = subst (Advances b a) (go h.taken (h.reads [])) h.advances
+  where
+    go : (bytes : List ℕ) → parse_byte (bytes ++ []) ≡ Some (byte, []) → bytes ≡ byte ∷ []
+    go [] e = absurd cc
+    go (c ∷ cs) e = sym (append-nil (c ∷ cs)) ∙ ap (λ (x : ℕ × List ℕ). x.0 ∷ x.1) (same_Some _ _ e)
+
+-- no byte is left, and what goes on reads nothing from none
+pub goes_short : {A : Type 0} (p q : List ℕ → Option (A × List ℕ)) (before now : Feed) → GoesOn p before q now → q [] ≡ None → Misses parse_byte now → Misses p before
+goes_short p q before now h none m = goes_wrong p q before now h (misses_where parse_byte q now m go)
+  where
+    go : (bytes : List ℕ) → parse_byte bytes ≡ None → q bytes ≡ None
+    go [] e = none
+    go (b ∷ bs) e = absurd cc
 
 -- ---- how many bytes are to come
 

@@ -4,11 +4,10 @@ ghost use Rattle.aig_parsing.specs.Parse.{parse_header, header_from, parse_heade
 ghost use Rattle.aig_lexer.specs.Faults.{LexTells};
 ghost use Rattle.aig_lexer.specs.Header.{numbers_of};
 ghost use Rattle.aig_lexer.specs.Takes.{Gives, feed};
-ghost use Rattle.aig_lexer.specs.Words.{parse_kind_byte};
 
 use crate::buffer::InputBuffer;
 use crate::error::LexError;
-use crate::lexer::{expect, number, word};
+use crate::lexer::{next_byte, number};
 use aig_base::Source;
 use aig_format::FileKind;
 
@@ -78,21 +77,16 @@ fn kind_word<R: Source>(buffer: &mut InputBuffer, r: &mut R) -> Result<FileKind,
     ensures { Gives LexTells (λ kind. kind) (feed R.left R.failed R.pulls buffer.old r.old)
         (feed R.left R.failed R.pulls buffer.new r.new) result parse_kind }
 {
-    expect(buffer, r, b'a')?;
-    let kind = kind_byte(buffer, r)?;
-    word(buffer, r, b"g ")?;
-    Ok(kind)
-}
-
-/// Reads the byte that tells the kind.
-fn kind_byte<R: Source>(buffer: &mut InputBuffer, r: &mut R) -> Result<FileKind, LexError>
-    ensures { Gives LexTells (λ kind. kind) (feed R.left R.failed R.pulls buffer.old r.old)
-        (feed R.left R.failed R.pulls buffer.new r.new) result parse_kind_byte }
-{
-    match buffer.next(r)? {
-        Some(b'a') => Ok(FileKind::Text),
-        Some(b'i') => Ok(FileKind::Binary),
-        _ => Err(LexError::Shape),
+    let mut word = [0; 4];
+    for byte in &mut word {
+        *byte = next_byte(buffer, r)?;
+    }
+    if word == *b"aag " {
+        Ok(FileKind::Text)
+    } else if word == *b"aig " {
+        Ok(FileKind::Binary)
+    } else {
+        Err(LexError::Shape)
     }
 }
 

@@ -2,6 +2,7 @@
 
 ghost use Rattle.std.specs.Prelude.{◌≡◌, ◌^◌, ◌++◌, ◌<◌, ◌≤◌, ℕ, List, Some, length, take, IfSome};
 ghost use Rattle.aig_parsing.specs.Parse.{
+  parse_byte,
   parse_delta,
   parse_digits,
   parse_ended,
@@ -11,28 +12,18 @@ ghost use Rattle.aig_parsing.specs.Parse.{
 };
 ghost use Rattle.aig_lexer.specs.Faults.{LexTells};
 ghost use Rattle.aig_lexer.specs.Takes.{Gives, feed};
-ghost use Rattle.aig_lexer.specs.Words.{parse_expected, parse_number_from, parse_word};
+ghost use Rattle.aig_lexer.specs.Words.{parse_number_from};
 
 use crate::buffer::InputBuffer;
 use crate::error::LexError;
 use aig_base::Source;
 
-/// Reads this byte.
-pub(crate) fn expect<R: Source>(
-    buffer: &mut InputBuffer,
-    r: &mut R,
-    byte: u8,
-) -> Result<(), LexError>
-    ensures { Gives LexTells (λ _. byte) (feed R.left R.failed R.pulls buffer.old r.old)
-        (feed R.left R.failed R.pulls buffer.new r.new) result (parse_expected byte) }
+/// Takes the next byte. Returns `Shape` at the end of the stream, and `Stream` where a read failed.
+pub(crate) fn next_byte<R: Source>(buffer: &mut InputBuffer, r: &mut R) -> Result<u8, LexError>
+    ensures { Gives LexTells (λ byte. byte) (feed R.left R.failed R.pulls buffer.old r.old)
+        (feed R.left R.failed R.pulls buffer.new r.new) result parse_byte }
 {
-    let Some(found) = buffer.next(r)? else {
-        return Err(LexError::Shape);
-    };
-    if found != byte {
-        return Err(LexError::Shape);
-    }
-    Ok(())
+    buffer.next(r)?.ok_or(LexError::Shape)
 }
 
 /// How many bytes after a number's first digit are looked at at once. A number that ends there is below 10^9, and so needs no
@@ -89,7 +80,8 @@ fn number_by_bytes<R: Source>(
         (feed R.left R.failed R.pulls buffer.new r.new) result (parse_digits first) }
 {
     let mut value = first;
-    while let Some(b) = buffer.next(r)? {
+    loop {
+        let b = next_byte(buffer, r)?;
         if !b.is_ascii_digit() {
             return Ok((value as u32, b));
         }
@@ -98,7 +90,6 @@ fn number_by_bytes<R: Source>(
             return Err(LexError::Shape);
         }
     }
-    Err(LexError::Shape)
 }
 
 /// Reads on in a number whose first byte, which was read before, is `first`: its value, and the byte that ends it.
@@ -132,10 +123,8 @@ fn number_after_first<R: Source>(buffer: &mut InputBuffer, r: &mut R) -> Result<
     ensures { Gives LexTells (λ x. (x.0, x.1)) (feed R.left R.failed R.pulls buffer.old r.old)
         (feed R.left R.failed R.pulls buffer.new r.new) result parse_number }
 {
-    match buffer.next(r)? {
-        Some(first) => number_from(buffer, r, first),
-        None => Err(LexError::Shape),
-    }
+    let first = next_byte(buffer, r)?;
+    number_from(buffer, r, first)
 }
 
 /// Reads a number as `number_from` does, its first byte included: its value, and the byte that ends it.
@@ -243,9 +232,7 @@ fn delta_by_bytes<R: Source>(buffer: &mut InputBuffer, r: &mut R) -> Result<u32,
     let mut difference = 0u64;
     let mut place = 1u64;
     for _ in 0..MOST_GROUPS {
-        let Some(b) = buffer.next(r)? else {
-            return Err(LexError::Shape);
-        };
+        let b = next_byte(buffer, r)?;
         difference += place * (b % 128) as u64;
         if b < 128 {
             if difference > u32::MAX as u64 {
@@ -275,19 +262,4 @@ pub fn delta<R: Source>(buffer: &mut InputBuffer, r: &mut R) -> Result<u32, LexE
         }
         None => delta_by_bytes(buffer, r),
     }
-}
-
-/// Reads the bytes of a word.
-pub(crate) fn word<R: Source>(
-    buffer: &mut InputBuffer,
-    r: &mut R,
-    text: &[u8],
-) -> Result<(), LexError>
-    ensures { Gives LexTells (λ _. tt {0}) (feed R.left R.failed R.pulls buffer.old r.old)
-        (feed R.left R.failed R.pulls buffer.new r.new) result (parse_word text.now) }
-{
-    for byte in text {
-        expect(buffer, r, *byte)?;
-    }
-    Ok(())
 }
