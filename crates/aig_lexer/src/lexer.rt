@@ -1,6 +1,6 @@
 //! Words of the format: bytes, numbers, lines of numbers, and differences.
 
-ghost use Rattle.std.specs.Prelude.{◌≡◌, ◌^◌, ◌++◌, ◌<◌, ◌≤◌, ℕ, List, Some, length, take, IfSome};
+ghost use Rattle.std.specs.Prelude.{◌≡◌, ◌^◌, ◌+◌, ◌++◌, ◌<◌, ◌≤◌, ℕ, List, Some, length, take, IfSome};
 ghost use Rattle.aig_parsing.specs.Parse.{
   parse_byte,
   parse_delta,
@@ -53,19 +53,18 @@ fn digits_in(bytes: &[u8], first: u64) -> Option<(u32, u8, usize)>
     None
 }
 
-/// Reads a number at the front of `bytes`, where `digits_in` finds its end.
+/// Reads a number at the front of `bytes`, where `digits_in` finds its end: its value, the byte that ends it, and how many
+/// bytes it takes after the first.
 #[inline(always)]
 fn number_in(bytes: &[u8]) -> Option<(u32, u8, usize)>
-    ensures within { IfSome result (λ x. x.2 ≤ length bytes.now) }
+    ensures within { IfSome result (λ x. x.2 < length bytes.now) }
     ensures reads { IfSome result (λ x. (rest : List ℕ)
-        → parse_number (take x.2 bytes.now ++ rest) ≡ Some ((x.0, x.1), rest)) }
+        → parse_number (take (x.2 + 1) bytes.now ++ rest) ≡ Some ((x.0, x.1), rest)) }
 {
-    let (first, others) = bytes.split_first()?;
-    if !first.is_ascii_digit() {
-        return None;
+    match bytes {
+        [first, others @ ..] if first.is_ascii_digit() => digits_in(others, (*first - b'0') as u64),
+        _ => None,
     }
-    let (value, end, count) = digits_in(others, (*first - b'0') as u64)?;
-    Some((value, end, count + 1))
 }
 
 /// Reads on in a number whose value so far is `first`, byte by byte.
@@ -135,7 +134,7 @@ pub(crate) fn number<R: Source>(buffer: &mut InputBuffer, r: &mut R) -> Result<(
 {
     match number_in(buffer.window()) {
         Some((value, end, count)) => {
-            buffer.consume(count);
+            buffer.consume(count + 1);
             Ok((value, end))
         }
         None => number_after_first(buffer, r),
@@ -183,14 +182,11 @@ pub fn next_line<R: Source>(
         (feed R.left R.failed R.pulls buffer.new r.new) result parse_next_and_reset }
 {
     let (next, end) = number(buffer, r)?;
-    if end == b'\n' {
-        return Ok((next, None));
+    match end {
+        b'\n' => Ok((next, None)),
+        b' ' => Ok((next, Some(ended(buffer, r, b'\n')?))),
+        _ => Err(LexError::Shape),
     }
-    if end != b' ' {
-        return Err(LexError::Shape);
-    }
-    let reset = ended(buffer, r, b'\n')?;
-    Ok((next, Some(reset)))
 }
 
 /// How many groups of seven bits a difference has at most.

@@ -29,3 +29,18 @@ loop-i-preserved c =
       small = group_fits l.difference l.place b l.invariant.small;
       place = ap (λ (p : ℕ). p * 128) l.invariant.place ∙ sym (pow_more 128 l.i);
     }
+
+pub overflow_mul-difference : goal.overflow_mul-difference
+overflow_mul-difference c =
+    let l = c.loop-i in
+    omega (arith, group_fits l.difference l.place (slice_index_or c.args.bytes.now l.i 0) l.invariant.small, near_fits l.place l.i c.loop-i-test.true l.invariant.place)
+
+pub overflow_add-difference : goal.overflow_add-difference
+overflow_add-difference c =
+    let l = c.loop-i in
+    omega (arith, group_fits l.difference l.place (slice_index_or c.args.bytes.now l.i 0) l.invariant.small, near_fits l.place l.i c.loop-i-test.true l.invariant.place)
+
+pub overflow_mul-place : goal.overflow_mul-place
+overflow_mul-place c =
+    let l = c.loop-i in
+    omega (arith, near_fits l.place l.i c.loop-i-test.true l.invariant.place)

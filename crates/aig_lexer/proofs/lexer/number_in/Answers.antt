@@ -1,16 +1,25 @@
-use Rattle.std.proofs.Common.{◌≡◌, suc, ◌+◌, ◌∷◌, ◌∙◌, ◌++◌, ℕ, List, take, ap, arith}
-use Rattle.aig_parsing.specs.Parse.{parse_number}
+use Rattle.std.proofs.Common.{◌≡◌, suc, ◌+◌, ◌-◌, ◌≤◌, [], ◌∷◌, ◌++◌, ◌∙◌, ℕ, List, Option, length, take, drop, get_or, arith}
+use Rattle.std.proofs.lemmas.List.{take_all}
+use Rattle.std.proofs.lemmas.Option.{IfSome_then}
+use Rattle.aig_parsing.specs.Parse.{parse_digits, parse_number}
 use Rattle.aig_parsing.proofs.Numbers.{number_goes}
 use Rattle.aig_lexer.proofs.lexer.number_in.Goals as goal
 
-pub returns-clause-reads : goal.returns-clause-reads
-returns-clause-reads c = λ rest.
-    let digit = c.if-not-is_ascii_digit.ensures.cases in
-    let first = c.in_ok-first.first.now in
-    let others = c.in_ok-first.others.now in
-    let count = c.in_ok-value.count in
-    let whole : c.args.bytes.now ≡ first ∷ others = c.in_ok-first.ensures.cases.0 in
+-- a number whose first digit is the first of these bytes
+begins : (bytes : List ℕ) (count : ℕ) (x : Option ((ℕ × ℕ) × List ℕ)) (rest : List ℕ)
+    → 1 ≤ length bytes → 48 ≤ get_or bytes 0 0 → get_or bytes 0 0 ≤ 57
+    → parse_digits (get_or bytes 0 0 - 48) (take count (take (length bytes - 1) (drop 1 bytes)) ++ rest) ≡ x
+    → parse_number (take (count + 1) bytes ++ rest) ≡ x
+begins [] count x rest some low high e = absurd (omega arith)
+begins (b ∷ bs) count x rest some low high e =
     let one : count + 1 ≡ suc count = omega arith in
-    ap (λ (bs : List ℕ). parse_number (take (count + 1) bs ++ rest)) whole
-    ∙ ap (λ (n : ℕ). parse_number (take n (first ∷ others) ++ rest)) one
-    ∙ number_goes first digit.0 digit.1 (take count others ++ rest) ∙ c.in_ok-value.ensures.reads rest
+    let others : length (b ∷ bs) - 1 ≡ length bs = omega arith in
+    rw one
+    (number_goes b low high (take count bs ++ rest)
+    ∙ rw (others, take_all (length bs) bs (omega arith)) at e)
+
+pub returns-in-len1-up-clause-reads : goal.returns-in-len1-up-clause-reads
+returns-in-len1-up-clause-reads c =
+    let digit = c.if-is_ascii_digit.ensures.cases in
+    IfSome_then c.digits_in.result c.digits_in.ensures.reads
+    (λ x reads rest. begins c.args.bytes.now x.2 _ rest c.in-len1-up.len_at_least digit.0 digit.1 (reads rest))
