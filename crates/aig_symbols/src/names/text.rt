@@ -25,7 +25,7 @@ pub fn kept_text<R: Source>(
     let mut bytes = Vec::new(alloc);
     loop {
         match buffer.next(r) {
-            Ok(Some(b'\n')) => return String::from_utf8(bytes).map_err(|_| NameError::Shape),
+            Ok(Some(b'\n')) => return String::from_utf8(bytes).or(Err(NameError::Shape)),
             Ok(Some(byte)) => bytes.push(byte)?,
             Ok(None) => return Err(NameError::Shape),
             Err(_) => return Err(NameError::Stream),

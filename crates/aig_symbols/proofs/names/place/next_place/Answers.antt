@@ -1,6 +1,6 @@
-use Rattle.std.proofs.Common.{◌∷◌, ◌++◌, [], sym, ◌∙◌}
+use Rattle.std.proofs.Common.{◌∷◌, ◌++◌, [], refl, sym, ◌∙◌}
 use Rattle.aig_lexer.specs.Header.{numbers_of}
-use Rattle.aig_lexer.proofs.Feeds.{advances_on, ends_on, steps_byte}
+use Rattle.aig_lexer.proofs.Feeds.{advances_on, ends_on, steps_byte, steps_end}
 use Rattle.aig_lexer.proofs.Words.{on_shape-weaker}
 use Rattle.aig_symbols.proofs.Starts.{no_tail, comment_comes, place_comes, no_number, no_space, too_great}
 use Rattle.aig_symbols.proofs.names.place.next_place.Goals as goal
@@ -57,3 +57,15 @@ returns-else-position-entry_count g c =
     place_comes (numbers_of c.args.header.now) _ _ one.letter two.first
     (advances_on _ _ _ (one.letter ∷ []) (two.first ∷ []) (steps_byte _ _ one.field-0 one.ensures.steps one.letter one.field-0-is) (steps_byte _ _ two.field-0 two.ensures.steps two.first two.field-0-is))
     _ c.in-Ok-number_from.position c.in-Ok-number_from.end c.in-Ok-number_from.ensures c.if-end-ne32.false (rw c.entry_count.ensures at c.if-position-entry_count.false)
+
+pub returns-in-Ok-None : goal.returns-in-Ok-None
+returns-in-Ok-None g c = ([], refl, steps_end _ _ c.in-Ok-None.field-0 c.in-Ok-None.ensures.steps c.in-Ok-None.field-0-is)
+
+pub returns-in-Ok-None-next : goal.returns-in-Ok-None-next
+returns-in-Ok-None-next g c =
+    let one = c.in-Ok-Some in
+    let none = c.in-Ok-None-next in (
+      one.letter ∷ [],
+      rw c.if-letter-eq99.true refl,
+      ends_on _ _ _ (one.letter ∷ []) [] (steps_byte _ _ one.field-0 one.ensures.steps one.letter one.field-0-is) (steps_end _ _ none.field-0 none.ensures.steps none.field-0-is),
+    )

@@ -1,4 +1,4 @@
-use Rattle.std.proofs.Common.{◌++◌, ◌∷◌, [], rules}
+use Rattle.std.proofs.Common.{◌++◌, ◌∷◌, []}
 use Rattle.std.specs.Str.{is_utf8}
 use Rattle.aig_parsing.specs.Parse.{parse_text}
 use Rattle.aig_lexer.specs.Takes.{feed}
@@ -13,9 +13,9 @@ pub returns-in-Ok-Some-eq10 : goal.returns-in-Ok-Some-eq10
 returns-in-Ok-Some-eq10 g c =
     let bytes = c.loop-bytes.bytes.items in
     let came = c.in-Ok-Some-eq10 in
-    gives_kept _ (λ e f h. search rules) _ _ c.loop-bytes.bytes c.from_utf8.result c.map_err.result
+    gives_kept _ _ c.loop-bytes.bytes c.from_utf8.result c.or.result
     (goes_done parse_text bytes _ _ (goes_byte parse_text (text_from bytes) _ _ _ _ came.field-0 came.field-0-0 c.loop-bytes.invariant came.ensures.steps came.field-0-is (text_ends bytes came.field-0-0 came.field-0-0-test)))
-    c.from_utf8.ensures.ok c.from_utf8.ensures.succeeds c.map_err.ensures.cases
+    c.from_utf8.ensures.ok c.from_utf8.ensures.succeeds c.or.ensures
 
 pub loop-bytes-preserved : goal.loop-bytes-preserved
 loop-bytes-preserved g c =
