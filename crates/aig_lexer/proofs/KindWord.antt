@@ -25,7 +25,8 @@ no_kind bytes neither = go (parse_kind bytes) refl
         absurd (neither x.0 x.1 (s.1 ∙ ap (λ (front : List ℕ). front ++ x.1) s.2))
 
 -- lists of one length, with which two lists begin that are the same
-same_front : (xs ys more rest : List ℕ) → length xs ≡ length ys → xs ++ more ≡ ys ++ rest → xs ≡ ys
+same_front : (xs ys more rest : List ℕ) → length xs ≡ length ys → xs ++ more ≡ ys ++ rest
+    → xs ≡ ys
 same_front xs ys more rest long is =
     sym (take-append_seam xs more) ∙ ap (take (length xs)) is ∙ ap (λ (n : ℕ). take n (ys ++ rest)) long
     ∙ take-append_seam ys rest
@@ -55,6 +56,7 @@ module _ (before now : Feed) (word : List ℕ) (came : Advances before now word)
       known_rest before.coming now.coming word (λ bytes. parse_kind bytes ≡ None) (λ bytes. parse_byte bytes ≡ None) came.consumed none
       (λ rest e. no_kind (word ++ rest) (λ kind more is. too_short rest kind more e is))
     where
-      too_short : (rest : List ℕ) (kind : FileKind) (more : List ℕ) → parse_byte rest ≡ None → word ++ rest ≡ magic kind ++ more → ⊥
+      too_short : (rest : List ℕ) (kind : FileKind) (more : List ℕ) → parse_byte rest ≡ None
+          → word ++ rest ≡ magic kind ++ more → ⊥
       too_short [] kind more e is = omega (arith, ap length is, length-append word [], length-append (magic kind) more, word_length kind)
       too_short (b ∷ bs) kind more e is = cc

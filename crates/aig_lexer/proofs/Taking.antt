@@ -84,7 +84,8 @@ byte_came b a byte h = subst (Advances b a) (go h.taken (h.reads [])) h.advances
     go (c ∷ cs) e = sym (append-nil (c ∷ cs)) ∙ ap (λ (x : ℕ × List ℕ). x.0 ∷ x.1) (same_Some _ _ e)
 
 -- no byte is left, and what goes on reads nothing from none
-pub goes_short : {A : Type 0} (p q : List ℕ → Option (A × List ℕ)) (before now : Feed) → GoesOn p before q now → q [] ≡ None → Misses parse_byte now → Misses p before
+pub goes_short : {A : Type 0} (p q : List ℕ → Option (A × List ℕ)) (before now : Feed)
+    → GoesOn p before q now → q [] ≡ None → Misses parse_byte now → Misses p before
 goes_short p q before now h none m = goes_wrong p q before now h (misses_where parse_byte q now m go)
   where
     go : (bytes : List ℕ) → parse_byte bytes ≡ None → q bytes ≡ None

@@ -20,8 +20,10 @@ gives_same view p q before after (Ok x) h e = takes_same p q before after (view 
 gives_same view p q before after (Err f) h e = on_shape-weaker f _ _ after.failed (λ m. misses_same p q before m e) h
 
 -- a call after a byte that came
-pub gives_following : {X Y : Type 0} (view : X → Y) (p : List ℕ → Option (Y × List ℕ)) (before mid after : Feed) (b : ℕ) (r : Result X LexError)
-    → Takes parse_byte before mid b → Gives LexTells view mid after r (λ bs. p (b ∷ bs)) → Gives LexTells view before after r p
+pub gives_following : {X Y : Type 0} (view : X → Y) (p : List ℕ → Option (Y × List ℕ))
+    (before mid after : Feed) (b : ℕ) (r : Result X LexError) → Takes parse_byte before mid b
+    → Gives LexTells view mid after r (λ bs. p (b ∷ bs))
+    → Gives LexTells view before after r p
 gives_following {X} view p before mid after b r c h = go r h
   where
     following : GoesOn p before (λ bs. p (b ∷ bs)) mid

@@ -1,6 +1,5 @@
 //! The header line.
 
-ghost use Rattle.std.specs.Prelude.{◌≡◌};
 ghost use Rattle.aig_parsing.specs.Parse.{parse_header, header_from, parse_header_numbers, parse_kind};
 ghost use Rattle.aig_lexer.specs.Faults.{LexTells};
 ghost use Rattle.aig_lexer.specs.Header.{numbers_of};
@@ -48,17 +47,18 @@ pub fn header_line<R: Source>(buffer: &mut InputBuffer, r: &mut R) -> Result<Hea
         (feed R.left R.failed R.pulls buffer.new r.new) result parse_header }
 {
     let kind = kind_word(buffer, r)?;
-    let numbers = header_numbers(buffer, r)?;
-    Ok(header_of(kind, &numbers))
-}
-
-/// The header of these numbers, in the order of its line.
-fn header_of(kind: FileKind, numbers: &[u32; MOST]) -> Header
-    ensures kind { result.kind ≡ kind }
-    ensures numbers { numbers_of result ≡ header_from numbers.now }
-{
-    let [greatest, inputs, latches, outputs, gates, bads, constraints, justice, fairness] = *numbers;
-    Header {
+    let [
+        greatest,
+        inputs,
+        latches,
+        outputs,
+        gates,
+        bads,
+        constraints,
+        justice,
+        fairness,
+    ] = header_numbers(buffer, r)?;
+    Ok(Header {
         kind,
         greatest,
         inputs,
@@ -69,7 +69,7 @@ fn header_of(kind: FileKind, numbers: &[u32; MOST]) -> Header
         constraints,
         justice,
         fairness,
-    }
+    })
 }
 
 /// Reads `aag` or `aig`, and the space after it.

@@ -21,8 +21,10 @@ misses_kept : (b a : Feed) (bytes : List ℕ) → Takes parse_text b a bytes →
 misses_kept b a bytes h ne = misses_test parse_text is_utf8 b a bytes h (false_from_ne_true (is_utf8 bytes) (λ e. ne (IsUtf8-from_is_utf8 bytes e)))
 
 -- the answer of a test for UTF-8, whose fault is told as that of a name's shape
-pub gives_kept : {E : Type 0} (b a : Feed) (bytes : Vec ℕ Global) (tested : Result (String Global) E) (answer : Result (String Global) NameError)
-    → Takes parse_text b a bytes.items → IfOk tested (λ text. string_vec text ≡ bytes) → (IsUtf8 bytes.items → IsOk tested) → answer ≡ result_or tested (Err name.Shape)
+pub gives_kept : {E : Type 0} (b a : Feed) (bytes : Vec ℕ Global)
+    (tested : Result (String Global) E) (answer : Result (String Global) NameError)
+    → Takes parse_text b a bytes.items → IfOk tested (λ text. string_vec text ≡ bytes)
+    → (IsUtf8 bytes.items → IsOk tested) → answer ≡ result_or tested (Err name.Shape)
     → Gives NameTells (λ text. string_bytes text) b a answer (parse_if parse_text is_utf8)
 gives_kept b a bytes (Ok text) answer h same valid is = rw is (takes_kept b a text bytes.items (ap (λ (v : Vec ℕ Global). v.items) same) h)
 gives_kept b a bytes (Err e) answer h same valid is = rw is (misses_kept b a bytes.items h (λ u. false≢true (valid u)))

@@ -8,7 +8,9 @@ use Rattle.aig_lexer.proofs.lexer.number_in.Goals as goal
 -- a number whose first digit is the first of these bytes
 begins : (bytes : List ℕ) (count : ℕ) (x : Option ((ℕ × ℕ) × List ℕ)) (rest : List ℕ)
     → 1 ≤ length bytes → 48 ≤ get_or bytes 0 0 → get_or bytes 0 0 ≤ 57
-    → parse_digits (get_or bytes 0 0 - 48) (take count (take (length bytes - 1) (drop 1 bytes)) ++ rest) ≡ x
+    → parse_digits (get_or bytes 0 0 - 48)
+    (take count (take (length bytes - 1) (drop 1 bytes)) ++ rest)
+    ≡ x
     → parse_number (take (count + 1) bytes ++ rest) ≡ x
 begins [] count x rest some low high e = absurd (omega arith)
 begins (b ∷ bs) count x rest some low high e =
