@@ -141,15 +141,37 @@ pub(crate) fn number<R: Source>(buffer: &mut InputBuffer, r: &mut R) -> Result<(
     }
 }
 
+/// Reads a number that the byte `end` ends, as `ended` does, its first byte by itself.
+#[cold]
+fn ended_after_first<R: Source>(
+    buffer: &mut InputBuffer,
+    r: &mut R,
+    end: u8,
+) -> Result<u32, LexError>
+    ensures { Gives LexTells (λ x. x) (feed R.left R.failed R.pulls buffer.old r.old)
+        (feed R.left R.failed R.pulls buffer.new r.new) result (parse_ended end) }
+{
+    let (value, found) = number_after_first(buffer, r)?;
+    if found != end {
+        return Err(LexError::Shape);
+    }
+    Ok(value)
+}
+
 /// Reads a number that the byte `end` ends.
 ///
 /// Returns `Shape` where there is no such number, or another byte ends it, and `Stream` where a read failed.
+// `number` is not called: a value and the byte after it that come out of either of two ways lie in memory, in two parts that are
+// read as one, and that read waits for them.
 #[inline(always)]
 pub fn ended<R: Source>(buffer: &mut InputBuffer, r: &mut R, end: u8) -> Result<u32, LexError>
     ensures { Gives LexTells (λ x. x) (feed R.left R.failed R.pulls buffer.old r.old)
         (feed R.left R.failed R.pulls buffer.new r.new) result (parse_ended end) }
 {
-    let (value, found) = number(buffer, r)?;
+    let Some((value, found, count)) = number_in(buffer.window()) else {
+        return ended_after_first(buffer, r, end);
+    };
+    buffer.consume(count + 1);
     if found != end {
         return Err(LexError::Shape);
     }
