@@ -1,9 +1,10 @@
 -- A text that goes to a sink piece by piece.
-use Rattle.std.proofs.Common.{◌≡◌, ℕ, ◌+◌, ◌<◌, ◌≤◌, List, [], ◌++◌, Option, Bool, Result, Ok, Err, IsTrue, length, take, drop, get_or, refl, sym, ap, subst, ◌∙◌, append_assoc, append-nil, take-append-drop}
+use Rattle.std.proofs.Common.{◌≡◌, ℕ, ◌+◌, ◌-◌, ◌<◌, ◌≤◌, List, [], ◌++◌, Option, Bool, Result, Ok, Err, IsTrue, length, take, drop, get_or, refl, sym, ap, subst, ◌∙◌, append_assoc, append-nil, take-append-drop, zero, suc, arith}
 use Rattle.std.specs.Prelude.{IsErr}
 use Rattle.std.specs.List.{flat_map}
 use Rattle.std.proofs.lemmas.Result.{IfOk-from_err, on_ok_weaker, on_err_weaker}
-use Rattle.std.proofs.lemmas.List.{take_all}
+use Rattle.std.proofs.lemmas.List.{take_all, take_rest}
+use Rattle.std.proofs.Math.Seq.{take-add}
 use Rattle.std.specs.Io.KnownBytes.{Appends, Keeps}
 use Rattle.std.proofs.KnownBytes.{Appends-nil, Appends-trans, Appends-kept}
 use Rattle.aig_output.specs.declared.sink.BufferedSink.{BufferedSink}
@@ -18,6 +19,17 @@ Stops-kept a b c failed at text moved kept h = record {
   beginning = (take at text, drop at text, sym (take-append-drop at text), Appends-kept a b c (take at text) moved kept);
   has_failed = h;
 }
+
+-- more of the text was taken
+pub Appends-more : (a b c : Option (List ℕ)) (at n : ℕ) (text : List ℕ)
+    → Appends a b (take at text) → Appends b c (take n (take (length text - at) (drop at text)))
+    → Appends a c (take (at + n) text)
+Appends-more a b c at n text so_far moved = rw (take-add at n text) (Appends-trans a b c _ _ so_far (rw (take_rest text at) at moved))
+
+-- of a text that isn't empty some was taken
+pub some_taken : (n rest : ℕ) → (n ≡ 0 → rest ≡ 0) → 0 < rest → 0 < n
+some_taken zero rest none some = absurd (omega (arith, none refl))
+some_taken (suc n) rest none some = omega arith
 
 -- what waited was put, and then the text
 pub Buffers-through : (a b c : Option (List ℕ)) (waited waits text : List ℕ) → Appends a b waited → waits ≡ [] → Appends b c text → Buffers waited a waits c text

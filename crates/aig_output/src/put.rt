@@ -8,9 +8,11 @@ use aig_base::{Sink, StreamFault};
 pub fn put_all<W: Sink>(w: &mut W, text: &[u8]) -> Result<(), StreamFault>
     ensures { WritesOrStops W.held W.failed w.old result text.now w.new }
 {
-    let mut at = w.put(text)?;
-    while at < text.len() {
+    let mut at = 0;
+    loop {
         at += w.put(&text[at..])?;
+        if at == text.len() {
+            return Ok(());
+        }
     }
-    Ok(())
 }

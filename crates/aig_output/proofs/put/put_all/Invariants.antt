@@ -1,4 +1,4 @@
-use Rattle.std.proofs.Common.{length, ◌≡◌, ◌-◌, ◌≤◌, take, false}
+use Rattle.std.proofs.Common.{length, ◌-◌, ◌≤◌, take}
 use Rattle.std.specs.Io.KnownBytes.{Appends}
 use Rattle.aig_output.proofs.put.put_all.Given as goal
 
@@ -6,7 +6,6 @@ abbrev pub invariant-loop-at : goal.invariant-loop-at
 invariant-loop-at g l = record {
   within : l.at ≤ length l.text;
   so_far : Appends (g.W.Sink.held l.fn.w) (g.W.Sink.held l.w) (take l.at l.text);
-  sound : g.W.Sink.failed l.w ≡ false;
 }
 
 abbrev pub decreases-loop-at : goal.decreases-loop-at
