@@ -1,7 +1,7 @@
 -- A line of numbers, built from its last number on.
 use Rattle.std.proofs.Common.{◌≡◌, ℕ, ◌+◌, ◌-◌, ◌<◌, ◌≤◌, List, [], ◌∷◌, ◌++◌, length, take, drop, replicate, get_or, refl, sym, ap, ◌∙◌, append_assoc, length-append, arith}
 use Rattle.std.specs.Prelude.{decimal}
-use Rattle.std.proofs.lemmas.List.{drop_more, get_or-replicate, get_or-take, length-drop, take-replicate, take-take}
+use Rattle.std.proofs.lemmas.List.{drop_all, drop_more, get_or-replicate, get_or-take, length-drop, take-replicate, take-take}
 use Rattle.std.proofs.Math.Seq.{take-append_seam}
 use Rattle.aig_format.specs.Written.{line_text}
 
@@ -21,6 +21,14 @@ pub record Built (text : List ℕ) (start : ℕ) (ns : List ℕ) : Type 0 where
   pub many : length more ≡ 32
   pub written : drop (start - 1) text ≡ following ns ++ more
   pub blank : take (start - 1) text ≡ replicate (start - 1) 32
+
+-- nothing but the line feed
+pub Built-start : (text ns : List ℕ) (start left : ℕ) → length ns ≤ left
+    → drop (start - 1) text ≡ 10 ∷ replicate 32 32
+    → take (start - 1) text ≡ replicate (start - 1) 32 → Built text start (drop left ns)
+Built-start text ns start left all written blank =
+    let none : Built text start [] = record { more = replicate 32 32; many = refl; written = written; blank = blank } in
+    rw (drop_all left ns all) none
 
 -- one more number, which begins at `at`
 pub Built-turn : (text new : List ℕ) (start at n : ℕ) (ns : List ℕ) → Built text start ns → 0 < at → at ≤ length new → at + length (decimal n) ≡ start - 1

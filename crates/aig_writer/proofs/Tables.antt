@@ -1,7 +1,7 @@
 -- A table of numbers, filled node by node in the new order.
 use Rattle.std.proofs.Common.{◌≡◌, ◌≢◌, ℕ, ◌+◌, ◌<◌, ◌≤◌, List, [], ◌∷◌, ◌++◌, length, take, drop, get_or, refl, suc, sym, ap, ◌∙◌, arith, inl, inr, length-append, Bool, true, false, append_assoc, take-append-drop}
 use Rattle.std.specs.Prelude.{IsTrue, ◌↔◌, filter_map, slice_index, slice_set}
-use Rattle.std.proofs.lemmas.Bool.{cases_lt}
+use Rattle.std.proofs.lemmas.Bool.{cases_lt, false≢true}
 use Rattle.std.proofs.lemmas.Grind.{get_or_default_zero}
 use Rattle.std.proofs.lemmas.List.{get_or-append-add, get_or-set_other, get_or-set_same, length-set, take_all}
 use Rattle.std.proofs.lemmas.List.Elements.{filter_map-append}
@@ -101,6 +101,14 @@ module _ (c : Circuit) (is : IsCircuit c) (closed : IsClosed c) where
         ];
       }
 
+  -- node 0 has its number
+  pub none_filled : (numbers : List ℕ) → length numbers ≡ length c.nodes
+      → slice_index numbers 0 ≡ 0 → IsFilled c 1 numbers
+  none_filled numbers count first = record {
+    count = count;
+    places = λ i h. (let none : i ≡ 0 = omega arith in ap (λ k. get_or numbers (get_or (order_of c) k 0) 0) none ∙ first ∙ sym none);
+  }
+
   pub input_turn : (i next : ℕ) (numbers : List ℕ) → i < length c.inputs → next ≡ 1 + i
       → IsFilled c next numbers
       → IsFilled c (next + 1) (slice_set numbers (get_or c.inputs i 0) next)
@@ -146,7 +154,14 @@ module _ (c : Circuit) (is : IsCircuit c) (closed : IsClosed c) where
         numbers = λ n h. get_or_default_zero numbers n n (omega arith) ∙ table-number c is closed numbers has n h;
       }
 
-  -- a latch's leaf and a gate have places in the table
+  -- an input, a latch's leaf and a gate have places in the table
+  pub input_within : (inputs : List ℕ) (i : ℕ) → inputs ≡ c.inputs → i < length inputs
+      → get_or inputs i 0 < length c.nodes
+  input_within inputs i same h =
+      let low : i < length c.inputs = omega (arith, ap length same) in
+      let read = ap (λ (ns : List ℕ). get_or ns i 0) same in
+      omega (arith, kind_at-within c.nodes (get_or c.inputs i 0) Leaf (is.inputs i 0 low))
+
   pub leaf_within : (latchs : List AigLatch) (i n : ℕ) (d : AigLatch) → latchs ≡ c.latchs
       → i < length latchs → n ≡ (get_or latchs i d).input → n < length c.nodes
   leaf_within latchs i n d same h own =
@@ -190,10 +205,21 @@ pub row-at : (c : Circuit) (latchs : List AigLatch) (i n : ℕ) (d : AigLatch) �
     → i < length latchs → n ≡ (get_or latchs i d).input → get_or (row c) (length c.inputs + i) 0 ≡ n
 row-at c latchs i n d same h is = get_or-append-add c.inputs (latch_leaves c.latchs) i 0 ∙ ap (λ ls. get_or (latch_leaves ls) i 0) (sym same) ∙ leaf-read latchs i d h ∙ sym is
 
+-- an input that is read
+pub row-input : (c : Circuit) (inputs : List ℕ) (i : ℕ) → inputs ≡ c.inputs → i < length inputs
+    → get_or (row c) i 0 ≡ get_or inputs i 0
+row-input c inputs i same h = get_or-append c.inputs (latch_leaves c.latchs) 0 i (omega (arith, ap length same)) ∙ ap (λ (ns : List ℕ). get_or ns i 0) (sym same)
+
 -- one more leaf is in order
-pub row-turn : (c : Circuit) (i n : ℕ) → ((k : ℕ) → k < length c.inputs + i → get_or (row c) k 0 ≡ k + 1) → get_or (row c) (length c.inputs + i) 0 ≡ n → n ≡ length c.inputs + i + 1
-    → (k : ℕ) → k < length c.inputs + (i + 1) → get_or (row c) k 0 ≡ k + 1
-row-turn c i n so_far at is k h = elim (cases_lt k (length c.inputs + i)) [
+pub row-turn : (c : Circuit) (m next n : ℕ) → ((k : ℕ) → k < m → get_or (row c) k 0 ≡ k + 1)
+    → get_or (row c) m 0 ≡ n → n ≡ m + 1 → next ≡ m + 1
+    → (k : ℕ) → k < next → get_or (row c) k 0 ≡ k + 1
+row-turn c m next n so_far at is more k h = elim (cases_lt k m) [
   | inl before ↦ so_far k before
-  | inr not_before ↦ (let last : k ≡ length c.inputs + i = omega arith in ap (λ j. get_or (row c) j 0) last ∙ at ∙ is ∙ omega arith)
+  | inr not_before ↦ (let last : k ≡ m = omega arith in ap (λ j. get_or (row c) j 0) last ∙ at ∙ is ∙ omega arith)
 ]
+
+-- one leaf is not
+pub row-other : (c : Circuit) (m n : ℕ) → m < length c.inputs + length c.latchs
+    → get_or (row c) m 0 ≡ n → n ≢ m + 1 → IsTrue false ↔ IsReencoded c
+row-other c m n h at other = (λ yes. absurd (false≢true yes), λ order. absurd (other (sym at ∙ order m (omega (arith, row_length c)))))

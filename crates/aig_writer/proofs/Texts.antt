@@ -47,8 +47,20 @@ properties-lists number c =
 -- ---- all sections
 
 -- the sections after the header
+abbrev pub inputs_part : File → List ℕ
+inputs_part f = inputs_text f.kind f.inputs
+
+abbrev pub latches_part : File → List ℕ
+latches_part f = flat_map (latch_text f.kind) f.latches
+
+abbrev pub properties_part : File → List ℕ
+properties_part f = properties_text f.properties
+
+abbrev pub gates_part : File → List ℕ
+gates_part f = flat_map (gate_text f.kind) f.gates
+
 abbrev pub section_texts : File → List (List ℕ)
-section_texts f = inputs_text f.kind f.inputs ∷ flat_map (latch_text f.kind) f.latches ∷ properties_text f.properties ∷ flat_map (gate_text f.kind) f.gates ∷ flat_map name_text f.names ∷ []
+section_texts f = inputs_part f ∷ latches_part f ∷ properties_part f ∷ gates_part f ∷ flat_map name_text f.names ∷ []
 
 spelling-sections : (f : File) → file_text f ≡ then_texts (header_line_of f) (section_texts f)
 unfolding file_text

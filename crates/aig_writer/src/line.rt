@@ -19,8 +19,10 @@ pub(crate) fn write_line<O: TextOut>(out: &mut O, numbers: &[usize]) -> Result<(
     let mut text = [b' '; LINE + SHORT_PIECE];
     text[LINE - 1] = b'\n';
     let mut start = LINE;
-    for n in numbers.iter().rev() {
-        start = write_digits(*n as u64, &mut text, start - 1);
+    let mut left = numbers.len();
+    while left > 0 {
+        left -= 1;
+        start = write_digits(numbers[left] as u64, &mut text, start - 1);
     }
     out.write_front(&text[start..], LINE - start)
 }

@@ -52,16 +52,6 @@ fn fill_table(numbers: &mut [usize], circuit: &CircuitView<'_>)
     }
 }
 
-/// A table of the numbers that the binary form gives the nodes, of 8 bytes a node.
-fn full_table(circuit: &CircuitView<'_>) -> Result<Vec<usize>, MemoryError>
-    requires { IsClosed circuit.now }
-    ensures { IfOk result (λ numbers. IsBinaryNumbering circuit.now numbers.items) }
-{
-    let mut numbers = vec![in circuit.allocator(); 0; circuit.nodes().len()]?;
-    fill_table(&mut numbers, circuit);
-    Ok(numbers)
-}
-
 /// A table of the numbers that the binary form gives the nodes of a closed circuit (AIGER format 20071012, "Binary
 /// encoding"). It is empty where these are the nodes' own, and else has 8 bytes a node. The one error is refused memory.
 pub fn binary_numbers(circuit: &CircuitView<'_>) -> Result<Vec<usize>, MemoryError>
@@ -73,5 +63,7 @@ pub fn binary_numbers(circuit: &CircuitView<'_>) -> Result<Vec<usize>, MemoryErr
     if is_in_order(circuit) {
         return Ok(Vec::new(circuit.allocator()));
     }
-    full_table(circuit)
+    let mut numbers = vec![in circuit.allocator(); 0; circuit.nodes().len()]?;
+    fill_table(&mut numbers, circuit);
+    Ok(numbers)
 }

@@ -1,10 +1,14 @@
-use Rattle.std.proofs.Common.{◌+◌, ◌*◌, ◌≤◌, length, map, reverse, Bor, ℕ}
+use Rattle.std.proofs.Common.{◌+◌, ◌*◌, ◌≤◌, length, drop}
 use Rattle.aig_writer.proofs.Lines.{Built}
 use Rattle.aig_writer.proofs.line.write_line.Given as goal
 
-abbrev pub invariant-loop-n : goal.invariant-loop-n
-invariant-loop-n g l = record {
-  room : 192 ≤ l.start + 21 * length l.yielded;
+abbrev pub invariant-loop-left : goal.invariant-loop-left
+invariant-loop-left g l = record {
+  fewer : l.left ≤ length l.numbers;
+  room : 192 + 21 * l.left ≤ l.start + 21 * length l.numbers;
   within : l.start ≤ 192;
-  built : Built l.text l.start (reverse (map (λ (n : Bor ℕ). n.now) l.yielded));
+  built : Built l.text l.start (drop l.left l.numbers);
 }
+
+abbrev pub decreases-loop-left : goal.decreases-loop-left
+decreases-loop-left g l = l.left
