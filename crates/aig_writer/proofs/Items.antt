@@ -9,7 +9,8 @@ use Rattle.std.proofs.lemmas.List.Folds.{flat_map-map}
 use Rattle.aig_circuit.specs.declared.edge.AigEdge.{AigEdge}
 use Rattle.aig_circuit.specs.declared.node.AigNode.{AigNode}
 use Rattle.aig_circuit.specs.declared.node.AigLatch.{AigLatch}
-use Rattle.aig_circuit.specs.declared.node.AigNodeType.TheVariants.{And}
+use Rattle.aig_circuit.specs.declared.node.AigNodeType.{AigNodeType}
+use Rattle.aig_circuit.specs.declared.node.AigNodeType.TheVariants.{False, Leaf, And}
 use Rattle.aig_circuit.specs.Edge.{literal_of}
 use Rattle.aig_circuit.specs.Node.{and_of}
 use Rattle.aig_format.specs.File.{GateLine}
@@ -122,3 +123,14 @@ pub gate_text-at : (kind : FileKind) (number : ℕ → ℕ) (node : AigNode) (a 
 gate_text-at kind number node a b is =
     ap (λ typ. text_of_gate kind (record { node_id = number node.node_id; typ = renumbered_kind number (Some typ) })) is
     ∙ ap (λ (o : Option GateLine). flat_map (gate_text kind) (option_to_list o)) (gate_ordered (number node.node_id) (renumbered_edge number a) (renumbered_edge number b)) ∙ append-nil _
+
+-- another node has no text
+pub other_text : (kind : FileKind) (number : ℕ → ℕ) (node : AigNode)
+    → ((a b : AigEdge) → ¬ (node.typ ≡ And a b)) → text_of_gate kind (renumbered_node number node) ≡ []
+other_text kind number node other = by_kind node.typ other
+  where
+    by_kind : (typ : AigNodeType) → ((a b : AigEdge) → ¬ (typ ≡ And a b))
+        → text_of_gate kind (record { node_id = number node.node_id; typ = renumbered_kind number (Some typ) }) ≡ []
+    by_kind (And a b) other = absurd (other a b refl)
+    by_kind Leaf other = refl
+    by_kind False other = refl

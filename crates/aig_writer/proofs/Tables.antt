@@ -1,5 +1,5 @@
 -- A table of numbers, filled node by node in the new order.
-use Rattle.std.proofs.Common.{◌≡◌, ◌≢◌, ℕ, ◌+◌, ◌<◌, ◌≤◌, List, [], ◌∷◌, ◌++◌, length, take, drop, get_or, refl, suc, sym, ap, ◌∙◌, arith, inl, inr, length-append, Bool, true, false, append_assoc, take-append-drop}
+use Rattle.std.proofs.Common.{◌≡◌, ◌≢◌, ℕ, ◌+◌, ◌<◌, ◌≤◌, List, [], ◌∷◌, ◌++◌, length, take, drop, get_or, refl, replicate, zero, suc, sym, ap, ◌∙◌, arith, inl, inr, length-append, Bool, true, false, append_assoc, take-append-drop}
 use Rattle.std.specs.Prelude.{IsTrue, ◌↔◌, filter_map, slice_index, slice_set}
 use Rattle.std.proofs.lemmas.Bool.{cases_lt, false≢true}
 use Rattle.std.proofs.lemmas.Grind.{get_or_default_zero}
@@ -26,6 +26,11 @@ use Rattle.aig_writer.proofs.Entries.{length-leaves}
 pub record IsFilled (c : Circuit) (next : ℕ) (numbers : List ℕ) : Type 0 where
   pub count : length numbers ≡ length c.nodes
   pub places : (i : ℕ) → i < next → slice_index numbers (slice_index (order_of c) i) ≡ i
+
+-- zeros begin with one
+pub first_of_zeros : (n : ℕ) → slice_index (replicate n 0) 0 ≡ 0
+first_of_zeros zero = refl
+first_of_zeros (suc n) = refl
 
 -- ---- the places of leaves and gates
 

@@ -6,13 +6,11 @@ ghost use Rattle.aig_format.specs.Written.{name_text};
 ghost use Rattle.aig_format.specs.declared.FileKind.TheVariants.{Text};
 ghost use Rattle.aig_format.specs.Circuit.{file_of};
 ghost use Rattle.aig_output.specs.Writing.{WritesPieces};
-ghost use Rattle.aig_circuit.specs.View.{names_of};
 ghost use Rattle.aig_writer.specs.Parts.{text_of_name};
 
 use aig_circuit::CircuitView;
 use aig_output::{SHORT_PIECE, TextOut};
 use itoa::write_digits;
-use std::collections::HashMap;
 
 /// The letter of an input's name.
 const INPUT: u8 = b'i';
@@ -45,15 +43,15 @@ fn write_name_line<O: TextOut>(
 /// Writes the name line of a node, if the node has a name.
 fn write_node_name<O: TextOut>(
     out: &mut O,
-    names: &HashMap<usize, String>,
+    circuit: &CircuitView<'_>,
     letter: u8,
     position: usize,
     node: usize,
 ) -> Result<(), O::Error>
-    ensures { let text = text_of_name letter position (get (names_of names.now.entries) node) in
+    ensures { let text = text_of_name letter position (get circuit.now.names node) in
         WritesPieces O.wrote O.stopped out.old result text out.new }
 {
-    match names.get(&node) {
+    match circuit.names().get(&node) {
         Some(name) => write_name_line(out, letter, position, name.as_bytes()),
         None => Ok(()),
     }
@@ -67,12 +65,11 @@ pub(crate) fn write_names<O: TextOut>(
     ensures { let text = flat_map name_text (file_of Text circuit.now).names in
         WritesPieces O.wrote O.stopped out.old result text out.new }
 {
-    let names = circuit.names();
     for (i, n) in circuit.inputs().iter().enumerate() {
-        write_node_name(out, names, INPUT, i, *n)?;
+        write_node_name(out, circuit, INPUT, i, *n)?;
     }
     for (i, latch) in circuit.latchs().iter().enumerate() {
-        write_node_name(out, names, LATCH, i, latch.input())?;
+        write_node_name(out, circuit, LATCH, i, latch.input())?;
     }
     Ok(())
 }

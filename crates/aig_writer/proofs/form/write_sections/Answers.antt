@@ -12,11 +12,17 @@ returns-in_err-write_header g c =
     rw (form-sections c.args.kind c.args.circuit.now c.args.numbers.now c.write_header.ensures.circuit c.requires)
     (failed_first calls_laws (section_texts f) c.in_err-write_header.ensures.writes (search rules))
 
+pub write_inputs-requires : goal.write_inputs-requires
+write_inputs-requires g c = c.requires.small
+
 pub returns-in_err-write_inputs : goal.returns-in_err-write_inputs
 returns-in_err-write_inputs g c =
     let f = numbered_file (written_number c.args.numbers.now) c.args.kind c.args.circuit.now in
     rw (form-sections c.args.kind c.args.circuit.now c.args.numbers.now c.write_header.ensures.circuit c.requires)
     (failed_among calls_laws {s = header_line_of (file_of c.args.kind c.args.circuit.now)} {t = inputs_part f} (drop 1 (section_texts f)) c.in_ok-write_header.ensures.writes.ok c.in_err-write_inputs.ensures (search rules))
+
+pub write_latches-requires : goal.write_latches-requires
+write_latches-requires g c = c.requires.small
 
 pub returns-in_err-write_latches : goal.returns-in_err-write_latches
 returns-in_err-write_latches g c =
@@ -25,6 +31,9 @@ returns-in_err-write_latches g c =
     rw (form-sections c.args.kind c.args.circuit.now c.args.numbers.now c.write_header.ensures.circuit c.requires)
     (failed_among calls_laws {t = latches_part f} (drop 2 (section_texts f)) two c.in_err-write_latches.ensures (search rules))
 
+pub write_properties-requires : goal.write_properties-requires
+write_properties-requires g c = c.requires.small
+
 pub returns-in_err-write_properties : goal.returns-in_err-write_properties
 returns-in_err-write_properties g c =
     let f = numbered_file (written_number c.args.numbers.now) c.args.kind c.args.circuit.now in
@@ -32,6 +41,9 @@ returns-in_err-write_properties g c =
     let three = then_text {t = latches_part f} two c.in_ok-write_latches.ensures.ok in
     rw (form-sections c.args.kind c.args.circuit.now c.args.numbers.now c.write_header.ensures.circuit c.requires)
     (failed_among calls_laws {t = properties_part f} (drop 3 (section_texts f)) three c.in_err-write_properties.ensures (search rules))
+
+pub write_gates-requires : goal.write_gates-requires
+write_gates-requires g c = c.requires
 
 pub returns-in_err-write_gates : goal.returns-in_err-write_gates
 returns-in_err-write_gates g c =
