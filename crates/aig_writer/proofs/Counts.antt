@@ -1,6 +1,6 @@
 -- The counts of a header.
 use Rattle.std.proofs.Common.{◌≡◌, ◌≢◌, ℕ, ◌-◌, ◌+◌, ◌<◌, ◌≤◌, List, [], ◌∷◌, ◌++◌, Bool, true, false, length, take, drop, get_or, refl, sym, ap, ◌∙◌, arith, cond}
-use Rattle.std.specs.Prelude.{nat_eq, if◌then◌else◌, filter_map, is_some, IsTrue, ◌↔◌, suc, Option, Some, None}
+use Rattle.std.specs.Prelude.{if◌then◌else◌, filter_map, is_some, IsTrue, ◌↔◌, suc, Option, Some, None}
 use Rattle.std.specs.List.{cons_option}
 use Rattle.std.proofs.lemmas.List.{length-append}
 use Rattle.std.proofs.lemmas.List.Elements.{filter_map-append}
@@ -13,7 +13,7 @@ use Rattle.aig_format.specs.File.{GateLine, File, header_of}
 use Rattle.aig_format.specs.Spells.{magic, numbers_in}
 use Rattle.aig_format.specs.Circuit.{gate_line}
 use Rattle.std.proofs.lemmas.List.{take_more}
-use Rattle.std.proofs.lemmas.Bool.Decides.{nat_tests}
+use Rattle.std.proofs.lemmas.Bool.{ne_eqb}
 use Rattle.aig_format.specs.Written.{in_front, shortened, line_text, header_line_of}
 
 -- a 0 at the end is left out
@@ -27,7 +27,7 @@ in_front-some n (k ∷ ms) m = refl
 
 -- a number but 0 at the end is not
 shortened-some : (ns : List ℕ) (n : ℕ) → n ≢ 0 → shortened (ns ++ n ∷ []) ≡ ns ++ n ∷ []
-shortened-some [] n h = (let e : nat_eq n 0 ≡ false = grind (arith, nat_tests) in ap (λ b. cond b [] (n ∷ [])) e)
+shortened-some [] n h = ap (λ b. cond b [] (n ∷ [])) (ne_eqb n 0 h)
 shortened-some (m ∷ ns) n h = ap (in_front m) (shortened-some ns n h) ∙ in_front-some m ns n
 
 take_last : (ns : List ℕ) (count : ℕ) → 0 < count → count ≤ length ns → take count ns ≡ take (count - 1) ns ++ get_or ns (count - 1) 0 ∷ []

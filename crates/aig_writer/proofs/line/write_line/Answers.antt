@@ -14,7 +14,9 @@ loop-left-init g c = record {
 
 pub write_digits-start-requires : goal.write_digits-start-requires
 write_digits-start-requires g c =
-    let digits : length (decimal (get_or c.args.numbers.now (c.loop-left.left - 1) 0)) ≤ 20 = search (rules, length-decimal-le 20) in
+    let n = get_or c.args.numbers.now (c.loop-left.left - 1) 0 in
+    let fits = (c.type_inv.numbers (c.loop-left.left - 1)).fits in
+    let digits : length (decimal n) ≤ 20 = length-decimal-le 20 n (omega arith) (omega arith) fits in
     let size : length c.loop-left.text ≡ 224 = search rules in
     (omega arith, omega arith)
 
@@ -23,7 +25,8 @@ loop-left-preserved g c =
     let numbers = c.args.numbers.now in
     let last = c.loop-left.left - 1 in
     let n = get_or numbers last 0 in
-    let digits : length (decimal n) ≤ 20 = search (rules, length-decimal-le 20) in
+    let fits = (c.type_inv.numbers last).fits in
+    let digits : length (decimal n) ≤ 20 = length-decimal-le 20 n (omega arith) (omega arith) fits in
     let size : length c.write_digits-start.new.buf ≡ 224 = search rules in
     let w = c.write_digits-start.ensures in
     let next : last + 1 ≡ c.loop-left.left = omega arith in
