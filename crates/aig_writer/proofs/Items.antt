@@ -126,11 +126,13 @@ gate_text-at kind number node a b is =
 
 -- another node has no text
 pub other_text : (kind : FileKind) (number : ℕ → ℕ) (node : AigNode)
-    → ((a b : AigEdge) → ¬ (node.typ ≡ And a b)) → text_of_gate kind (renumbered_node number node) ≡ []
+    → ((a b : AigEdge) → ¬ (node.typ ≡ And a b))
+    → text_of_gate kind (renumbered_node number node) ≡ []
 other_text kind number node other = by_kind node.typ other
   where
     by_kind : (typ : AigNodeType) → ((a b : AigEdge) → ¬ (typ ≡ And a b))
-        → text_of_gate kind (record { node_id = number node.node_id; typ = renumbered_kind number (Some typ) }) ≡ []
+        → text_of_gate kind
+        (record { node_id = number node.node_id; typ = renumbered_kind number (Some typ) }) ≡ []
     by_kind (And a b) other = absurd (other a b refl)
     by_kind Leaf other = refl
     by_kind False other = refl

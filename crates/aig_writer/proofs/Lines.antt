@@ -27,7 +27,8 @@ pub Built-start : (text ns : List ℕ) (start left : ℕ) → length ns ≤ left
     → drop (start - 1) text ≡ 10 ∷ replicate 32 32
     → take (start - 1) text ≡ replicate (start - 1) 32 → Built text start (drop left ns)
 Built-start text ns start left all written blank =
-    let none : Built text start [] = record { more = replicate 32 32; many = refl; written = written; blank = blank } in
+    let none : Built text start [] = record
+        { more = replicate 32 32; many = refl; written = written; blank = blank } in
     rw (drop_all left ns all) none
 
 -- one more number, which begins at `at`

@@ -111,7 +111,8 @@ module _ (c : Circuit) (is : IsCircuit c) (closed : IsClosed c) where
       → slice_index numbers 0 ≡ 0 → IsFilled c 1 numbers
   none_filled numbers count first = record {
     count = count;
-    places = λ i h. (let none : i ≡ 0 = omega arith in ap (λ k. get_or numbers (get_or (order_of c) k 0) 0) none ∙ first ∙ sym none);
+    places = λ i h. (let none : i ≡ 0 = omega arith in ap
+        (λ k. get_or numbers (get_or (order_of c) k 0) 0) none ∙ first ∙ sym none);
   }
 
   pub input_turn : (i next : ℕ) (numbers : List ℕ) → i < length c.inputs → next ≡ 1 + i
@@ -213,7 +214,8 @@ row-at c latchs i n d same h is = get_or-append-add c.inputs (latch_leaves c.lat
 -- an input that is read
 pub row-input : (c : Circuit) (inputs : List ℕ) (i : ℕ) → inputs ≡ c.inputs → i < length inputs
     → get_or (row c) i 0 ≡ get_or inputs i 0
-row-input c inputs i same h = get_or-append c.inputs (latch_leaves c.latchs) 0 i (omega (arith, ap length same)) ∙ ap (λ (ns : List ℕ). get_or ns i 0) (sym same)
+row-input c inputs i same h = get_or-append c.inputs (latch_leaves c.latchs) 0 i
+    (omega (arith, ap length same)) ∙ ap (λ (ns : List ℕ). get_or ns i 0) (sym same)
 
 -- one more leaf is in order
 pub row-turn : (c : Circuit) (m next n : ℕ) → ((k : ℕ) → k < m → get_or (row c) k 0 ≡ k + 1)
@@ -221,10 +223,13 @@ pub row-turn : (c : Circuit) (m next n : ℕ) → ((k : ℕ) → k < m → get_o
     → (k : ℕ) → k < next → get_or (row c) k 0 ≡ k + 1
 row-turn c m next n so_far at is more k h = elim (cases_lt k m) [
   | inl before ↦ so_far k before
-  | inr not_before ↦ (let last : k ≡ m = omega arith in ap (λ j. get_or (row c) j 0) last ∙ at ∙ is ∙ omega arith)
+  | inr not_before ↦ (let last : k ≡ m = omega arith in ap (λ j. get_or (row c) j 0) last ∙ at ∙ is
+      ∙ omega arith)
 ]
 
 -- one leaf is not
 pub row-other : (c : Circuit) (m n : ℕ) → m < length c.inputs + length c.latchs
     → get_or (row c) m 0 ≡ n → n ≢ m + 1 → IsTrue false ↔ IsReencoded c
-row-other c m n h at other = (λ yes. absurd (false≢true yes), λ order. absurd (other (sym at ∙ order m (omega (arith, row_length c)))))
+row-other c m n h at other =
+    (λ yes. absurd (false≢true yes), λ order. absurd
+    (other (sym at ∙ order m (omega (arith, row_length c)))))

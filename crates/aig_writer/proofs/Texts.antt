@@ -60,7 +60,8 @@ abbrev pub gates_part : File → List ℕ
 gates_part f = flat_map (gate_text f.kind) f.gates
 
 abbrev pub section_texts : File → List (List ℕ)
-section_texts f = inputs_part f ∷ latches_part f ∷ properties_part f ∷ gates_part f ∷ flat_map name_text f.names ∷ []
+section_texts f = inputs_part f ∷ latches_part f ∷ properties_part f ∷ gates_part f ∷ flat_map
+    name_text f.names ∷ []
 
 spelling-sections : (f : File) → file_text f ≡ then_texts (header_line_of f) (section_texts f)
 unfolding file_text

@@ -16,7 +16,8 @@ pub write_digits-start-requires : goal.write_digits-start-requires
 write_digits-start-requires g c =
     let n = get_or c.args.numbers.now (c.loop-left.left - 1) 0 in
     let fits = (c.type_inv.numbers (c.loop-left.left - 1)).fits in
-    let digits : length (decimal n) ≤ 20 = length-decimal-le 20 n (omega arith) (omega arith) fits in
+    let digits : length (decimal n) ≤ 20 =
+        length-decimal-le 20 n (omega arith) (omega arith) fits in
     let size : length c.loop-left.text ≡ 224 = search rules in
     (omega arith, omega arith)
 
@@ -26,7 +27,8 @@ loop-left-preserved g c =
     let last = c.loop-left.left - 1 in
     let n = get_or numbers last 0 in
     let fits = (c.type_inv.numbers last).fits in
-    let digits : length (decimal n) ≤ 20 = length-decimal-le 20 n (omega arith) (omega arith) fits in
+    let digits : length (decimal n) ≤ 20 =
+        length-decimal-le 20 n (omega arith) (omega arith) fits in
     let size : length c.write_digits-start.new.buf ≡ 224 = search rules in
     let w = c.write_digits-start.ensures in
     let next : last + 1 ≡ c.loop-left.left = omega arith in
@@ -34,7 +36,10 @@ loop-left-preserved g c =
       fewer = omega arith;
       room = omega arith;
       within = omega arith;
-      built = rw (drop_more numbers last 0 (omega arith), next) (Built-turn c.loop-left.text c.write_digits-start.new.buf c.loop-left.start c.write_digits-start.result n (drop c.loop-left.left numbers) c.loop-left.invariant.built (omega arith) (omega arith) w.start w.written w.before);
+      built = rw (drop_more numbers last 0 (omega arith), next)
+          (Built-turn c.loop-left.text c.write_digits-start.new.buf c.loop-left.start
+          c.write_digits-start.result n (drop c.loop-left.left numbers) c.loop-left.invariant.built
+          (omega arith) (omega arith) w.start w.written w.before);
     }
 
 pub returns : goal.returns
@@ -45,5 +50,6 @@ returns g c =
     let none : c.loop-left.left ≡ 0 = omega arith in
     let size : length text ≡ 224 = search rules in
     let some : 0 < start = omega arith in
-    let line = Built-line text start numbers (rw none at c.loop-left.invariant.built) c.requires.some some (omega arith) size in
+    let line = Built-line text start numbers (rw none at c.loop-left.invariant.built)
+        c.requires.some some (omega arith) size in
     rw (take-take (192 - start) (224 - start) (drop start text) (omega arith) ∙ line) at c.write_front.ensures

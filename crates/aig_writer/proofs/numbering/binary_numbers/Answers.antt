@@ -11,12 +11,14 @@ returns-then-is_in_order-clause-numbers c =
     rw none own
 
 pub returns-in_err-numbers-clause-no_memory : goal.returns-in_err-numbers-clause-no_memory
-returns-in_err-numbers-clause-no_memory c = λ placed. absurd (false≢true (sym c.if-is_in_order.false ∙ c.is_in_order.ensures.order.1 placed))
+returns-in_err-numbers-clause-no_memory c = λ placed. absurd
+    (false≢true (sym c.if-is_in_order.false ∙ c.is_in_order.ensures.order.1 placed))
 
 pub fill_table-requires : goal.fill_table-requires
 fill_table-requires c =
     let count = length c.nodes.result.now in
-    let zeros = c.deref_mut.ensures.value ∙ c.in_ok-numbers.ensures.items_if_clones_equal (λ y same. same) in
+    let zeros = c.deref_mut.ensures.value ∙ c.in_ok-numbers.ensures.items_if_clones_equal
+        (λ y same. same) in
     record {
       closed = c.requires;
       count = ap length zeros ∙ length-replicate count 0 ∙ ap length c.nodes.ensures.value;
@@ -31,5 +33,6 @@ returns-clause-numbers c =
     let made = c.fill_table.new.numbers in
     let len = c.in_ok-numbers.numbers.len in
     let count : length made ≡ len = omega arith in
-    let whole : take len (made ++ drop (length made) c.in_ok-numbers.numbers.items) ≡ made = take-append-le len made _ (omega arith) ∙ take_all len made (omega arith) in
+    let whole : take len (made ++ drop (length made) c.in_ok-numbers.numbers.items) ≡ made =
+        take-append-le len made _ (omega arith) ∙ take_all len made (omega arith) in
     rw whole c.fill_table.ensures

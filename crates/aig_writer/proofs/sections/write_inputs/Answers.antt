@@ -1,9 +1,13 @@
 use Rattle.std.proofs.Common.{rules}
+use Rattle.std.proofs.Output.{writes_in_calls_nil}
 use Rattle.aig_output.proofs.Writing.{all_done, calls_laws, failed_turn, then_turn}
 use Rattle.aig_writer.specs.Numbering.{written_number}
 use Rattle.aig_writer.proofs.Items.{input_line, numbered_inputs}
 use Rattle.aig_writer.proofs.Small.{input_small}
 use Rattle.aig_writer.proofs.sections.write_inputs.Goals as goal
+
+pub loop-n-init : goal.loop-n-init
+loop-n-init g c = writes_in_calls_nil _ _
 
 pub node_literal-requires : goal.node_literal-requires
 node_literal-requires g c =

@@ -13,11 +13,14 @@ literal-second-requires g c = (c.requires.small.operands c.in-And.first c.in-And
 
 pub overflow_sub-own : goal.overflow_sub-own
 overflow_sub-own g c =
-    let falls = (c.requires.falls c.in-Binary.is).operands c.in-And.first c.in-And.second (sym c.typ.ensures ∙ c.in-And.is) in
+    let falls = (c.requires.falls c.in-Binary.is).operands c.in-And.first c.in-And.second
+        (sym c.typ.ensures ∙ c.in-And.is) in
     omega (arith, rw c.node_id.ensures at c.node_literal-own.ensures, falls.0, falls.1)
 
 pub write_differences-requires-clause-first : goal.write_differences-requires-clause-first
-write_differences-requires-clause-first g c = omega (arith, rw c.node_id.ensures at c.node_literal-own.ensures, (c.requires.falls c.in-Binary.is).own)
+write_differences-requires-clause-first g c = omega
+    (arith, rw c.node_id.ensures at c.node_literal-own.ensures,
+    (c.requires.falls c.in-Binary.is).own)
 
 pub write_differences-requires-clause-second : goal.write_differences-requires-clause-second
 write_differences-requires-clause-second g c =
@@ -26,7 +29,9 @@ write_differences-requires-clause-second g c =
     omega (arith, falls.own, below.0, below.1)
 
 pub returns-in_default : goal.returns-in_default
-returns-in_default g c = rw (other_text c.args.kind (written_number c.args.numbers.now) c.args.node.now (λ a b is. c.in_default.not-And a b (c.typ.ensures ∙ is))) (nothing_done calls_laws)
+returns-in_default g c = rw
+    (other_text c.args.kind (written_number c.args.numbers.now) c.args.node.now
+    (λ a b is. c.in_default.not-And a b (c.typ.ensures ∙ is))) (nothing_done calls_laws)
 
 pub returns-in-Text : goal.returns-in-Text
 returns-in-Text g c =

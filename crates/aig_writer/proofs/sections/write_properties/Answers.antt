@@ -31,6 +31,11 @@ returns-in_err-write_sets g c =
     rw (properties-lists number c.args.circuit.now)
     (failed_among calls_laws (list_lines number c.args.circuit.now Fairness ∷ []) lists (rw c.justice.ensures.value at c.in_err-write_sets.ensures) (search rules))
 
+pub write_edges-requires-2 : goal.write_edges-requires-2
+write_edges-requires-2 g c = rw c.fairness.ensures.value
+    (list_small c.args.circuit.now c.fairness.ensures.circuit c.args.numbers.now c.requires
+    Fairness)
+
 pub returns : goal.returns
 returns g c =
     let lists = rw (take_all c.loop-list.list-index first_lists c.loop-list-test.false) at c.loop-list.invariant in

@@ -17,6 +17,10 @@ pub loop-set-preserved : goal.loop-set-preserved
 loop-set-preserved g c =
     then_turn size_line c.args.sets.now c.loop-set.set-index _ c.loop-set-test.true c.loop-set.invariant (rw (c.len.ensures, len_is c.set-item.result, c.set-item.is) at c.in_ok-write_line.ensures.ok)
 
+pub write_edges-requires : goal.write_edges-requires
+write_edges-requires g c = rw (c.deref.ensures.value, c.set-item-in-loop-set-2.is)
+    (c.requires c.loop-set-2.set-index _ c.loop-set-2-test.true)
+
 pub returns-in_err-write_edges : goal.returns-in_err-write_edges
 returns-in_err-write_edges g c =
     let number = written_number c.args.numbers.now in
