@@ -1,4 +1,4 @@
-//! The DIMACS text, written through a buffer of 4,096 bytes.
+//! The DIMACS text, written through a buffer of 32,768 bytes.
 
 ghost use Rattle.std.specs.Prelude.{◌≡◌, ◌++◌, length};
 ghost use Rattle.std.specs.List.{flat_map};

@@ -9,7 +9,7 @@ use itoa::write_digits;
 use std::marker::Model;
 
 /// How many bytes a buffer has room for.
-const SIZE: usize = 4096;
+const SIZE: usize = 1 << 15;
 
 /// How many bytes of a short piece are copied at once.
 pub const SHORT_PIECE: usize = 32;
@@ -17,7 +17,7 @@ pub const SHORT_PIECE: usize = 32;
 /// How many digits a number has at most.
 const DIGITS: usize = 20;
 
-/// Bytes that wait for a sink, in order, until 4,096 are there. A text that is written waits here, or goes to the sink
+/// Bytes that wait for a sink, in order, until 32,768 are there. A text that is written waits here, or goes to the sink
 /// after what waited.
 #[derive(Drop)]
 pub struct OutputBuffer {
@@ -30,7 +30,7 @@ impl Model for OutputBuffer {
 
     ghost view = { λ b. take b.len b.bytes };
 
-    ghost invariant = { λ b. b.len ≤ 4096 };
+    ghost invariant = { λ b. b.len ≤ 32768 };
 }
 
 impl OutputBuffer {
@@ -56,7 +56,7 @@ impl OutputBuffer {
 
     /// Appends a piece for which there is room.
     fn push(&mut self, piece: &[u8])
-        requires { length self.old + length piece.now ≤ 4096 }
+        requires { length self.old + length piece.now ≤ 32768 }
         ensures { self.new ≡ self.old ++ piece.now }
     {
         let end = self.len + piece.len();
@@ -67,7 +67,7 @@ impl OutputBuffer {
     /// Appends the first `count` bytes of a piece, by a copy of as many bytes as a short piece has.
     #[inline]
     fn push_short(&mut self, piece: &[u8], count: usize)
-        requires room { length self.old + 32 ≤ 4096 }
+        requires room { length self.old + 32 ≤ 32768 }
         requires long { 32 ≤ length piece.now }
         requires short { count ≤ 32 }
         ensures { self.new ≡ self.old ++ take count piece.now }
@@ -101,7 +101,7 @@ impl OutputBuffer {
     }
 
     /// Writes the first `count` bytes of a piece. What stands after them makes the copy of a short piece quicker.
-    #[inline]
+    #[inline(always)]
     pub fn write_front<W: Sink>(
         &mut self,
         w: &mut W,

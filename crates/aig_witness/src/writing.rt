@@ -1,4 +1,4 @@
-//! Writing witnesses, through a buffer of 4,096 bytes.
+//! Writing witnesses, through a buffer of 32,768 bytes.
 
 ghost use Rattle.std.specs.Prelude.{◌++◌, ◌∷◌, [], codes, decimal, map};
 ghost use Rattle.std.specs.List.{flat_map};

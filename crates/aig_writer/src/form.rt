@@ -34,7 +34,7 @@ pub(crate) fn write_sections<O: TextOut>(
     write_names(out, circuit)
 }
 
-/// Writes the form of this kind to a sink, through a buffer of 4,096 bytes and with no allocation.
+/// Writes the form of this kind to a sink, through a buffer of 32,768 bytes and with no allocation.
 fn write_form<W: Sink>(
     w: &mut W,
     kind: FileKind,
@@ -50,7 +50,7 @@ fn write_form<W: Sink>(
     out.flush()
 }
 
-/// Writes the text form of a circuit to a sink (AIGER format 20071012 and AIGER 1.9), through a buffer of 4,096 bytes and
+/// Writes the text form of a circuit to a sink (AIGER format 20071012 and AIGER 1.9), through a buffer of 32,768 bytes and
 /// with no allocation. Its names are those of inputs and latches. It fails where the sink fails.
 pub fn write_text<W: Sink>(w: &mut W, circuit: &CircuitView<'_>) -> Result<(), StreamFault>
     requires { length circuit.now.nodes ≤ 2 ^ 63 }
