@@ -8,7 +8,7 @@ use aig_lexer::LexError;
 use std::alloc::AllocFailed;
 
 /// Why names are not read.
-#[derive(Clone, Copy)]
+#[derive(Clone, Copy, Debug, PartialEq, Eq)]
 pub enum NameError {
     /// Memory ran out.
     Memory,
