@@ -1,12 +1,10 @@
 //! From bytes to clauses.
 
-ghost use Rattle.std.specs.Prelude.{◌≡◌, ◌^◌, ◌<◌, ◌≤◌, ◌⊎◌, ◌↔◌, false, IfErr, IfOk, IfSome, IsErrOf, IsTrue};
+ghost use Rattle.std.specs.Prelude.{◌≡◌, ◌^◌, ◌≤◌, false, IfOk, IfSome, IsErrOf, IsTrue};
 ghost use Rattle.std.specs.Io.KnownBytes.{IsAtEnd};
-ghost use Rattle.aig_cnf.specs.Cnf.{FixesRoots, HasClauses, NodeValuesSatisfy};
 ghost use Rattle.aig_reader.specs.Reading.{IsReadAs};
-ghost use Rattle.aig_unroll.specs.Places.{unrolled_size};
-ghost use Rattle.aig_unroll.specs.Unroll.{UnrollsTo};
 ghost use Rattle.aig_encode.specs.Encoding.{AnswersExactly, IsBeyond, IsEncoding, IsWithin, IsPastReading, ConsumedFile, EncodeUnlessTransient};
+ghost use Rattle.aig_encode.specs.Parts.{EncodesOrRefuses};
 
 use crate::error::EncodeError;
 use aig::{Aig, ReadError};
@@ -88,35 +86,28 @@ pub fn encode<R: Source>(
     ensures never_open { IsErrOf result (EncodeError.Read ReadError.Open) → ⊥ }
 {
     let circuit = Aig::from_aiger(alloc, r, limit)?;
-    encode_circuit(circuit, limit, k, optimize)
+    let (unrolled, clauses) = encode_circuit(&circuit, limit, k, optimize)?;
+    Ok(Encoded {
+        circuit,
+        unrolled,
+        clauses,
+    })
 }
 
 /// Unrolls a circuit by `k` steps, unless that may pass the limit, and makes the clauses of it.
 fn encode_circuit(
-    circuit: Aig,
+    circuit: &Aig,
     limit: usize,
     k: usize,
     optimize: bool,
-) -> Result<Encoded, EncodeError>
+) -> Result<(Aig, DagCnf), EncodeError>
     requires few { limit ≤ 2 ^ 31 }
-    ensures circuit { IfOk result (λ encoded. encoded.circuit ≡ circuit) }
-    ensures steps { IfOk result (λ encoded. UnrollsTo circuit k encoded.unrolled) }
-    ensures clauses { IfOk result
-        (λ encoded. HasClauses encoded.unrolled optimize encoded.clauses) }
-    ensures fixes { IfOk result (λ encoded. FixesRoots encoded.unrolled encoded.clauses) }
-    ensures satisfied { IfOk result
-        (λ encoded. NodeValuesSatisfy encoded.unrolled encoded.clauses) }
-    ensures large { IsErrOf result EncodeError.TooLarge ↔ (limit < unrolled_size circuit k) }
-    ensures err { IfErr result (λ e. (e ≡ EncodeError.Memory) ⊎ (e ≡ EncodeError.TooLarge)) }
+    ensures { EncodesOrRefuses circuit.now limit k optimize result }
 {
     if !aig_unroll::is_size_within(circuit.num_nodes(), circuit.latchs().len(), k, limit) {
         return Err(EncodeError::TooLarge);
     }
     let unrolled = circuit.unroll_to(k)?;
     let clauses = unrolled.cnf(optimize)?;
-    Ok(Encoded {
-        circuit,
-        unrolled,
-        clauses,
-    })
+    Ok((unrolled, clauses))
 }
