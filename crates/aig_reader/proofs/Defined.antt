@@ -1,9 +1,11 @@
 -- The variables that are defined so far.
-use Rattle.std.proofs.Common.{◌≡◌, ◌≢◌, ℕ, ◌+◌, ◌*◌, ◌/◌, ◌^◌, ◌<◌, ◌≤◌, true, false, ◌||◌, List, [], ◌∷◌, ◌++◌, length, Result, Ok, Err, refl, subst, sym, ap, ◌∙◌, arith}
+use Rattle.std.proofs.Common.{◌≡◌, ◌≢◌, ℕ, ◌+◌, ◌*◌, ◌/◌, ◌%◌, ◌^◌, ◌<◌, ◌≤◌, Bool, true, false, ◌||◌, List, [], ◌∷◌, ◌++◌, length, Result, Ok, Err, refl, subst, sym, ap, ◌∙◌, arith}
 use Rattle.std.specs.Prelude.{◌==◌, nat_eq, not}
 use Rattle.std.specs.List.{AllByRecursion, list_any}
-use Rattle.std.proofs.lemmas.Bool.{and_parts, eqb-false, leb-false, ne_eqb}
+use Rattle.std.proofs.lemmas.Bool.{and_from, and_parts, and_right, eqb-false, leb-false, ne_eqb}
+use Rattle.std.proofs.Math.Bool.{or-false}
 use Rattle.std.proofs.lemmas.Bool.Decides.{nat_tests}
+use Rattle.std.proofs.lemmas.List.Folds.{list_any-append}
 use Rattle.aig_format.specs.File.{File, defined}
 use Rattle.aig_format.specs.Fits.{IsDefinable, is_definable}
 use Rattle.aig_format.specs.Variables.{is_known}
@@ -32,6 +34,41 @@ new_among greatest before e definable h =
     rec_weaker (λ y. IsDefinable greatest y × ((y == e) ≡ false)) (λ y. y / 2 ≢ e / 2)
     (λ y p. eqb-false (y / 2) (e / 2) (half_differs y e (even_literal greatest y p.0) (even_literal greatest e d.0) p.1)) before
     (rec_both (IsDefinable greatest) (λ y. (y == e) ≡ false) before definable ((Decides-new nat_eq e before).0 d.1))
+
+-- an even literal of a variable from 1 to the greatest
+module _ (greatest : ℕ) (before : List ℕ) (e : ℕ) (marks : Marks) (h : AreMarks greatest marks before) (even : e % 2 ≡ 0) (low : 1 ≤ e / 2) (high : e / 2 ≤ marks.greatest) where
+  abbrev is_there : Bool
+  is_there = list_any (λ d. d == e) before
+
+  its_mark : bit_is_set marks.marked.items (e / 2) ≡ is_there
+  its_mark =
+      let top = h.top in
+      let twice : 2 * (e / 2) ≡ e = omega arith in
+      h.marked (e / 2) (omega arith) ∙ ap (λ (n : ℕ). list_any (λ d. d == n) before) twice
+
+  -- none that is marked is defined again
+  pub marked_again : bit_is_set marks.marked.items (e / 2) ≡ true → defines greatest before e ≡ false
+  marked_again set = and_right (is_definable greatest e) (not is_there) (ap not (sym its_mark ∙ set))
+
+  -- one that isn't is, and has its mark then
+  pub marked_more : (new : Marks) → new.greatest ≡ marks.greatest → bit_is_set marks.marked.items (e / 2) ≡ false
+      → ((v : ℕ) → bit_is_set new.marked.items v ≡ (bit_is_set marks.marked.items v || v == e / 2))
+      → (defines greatest before e ≡ true) × ((e / 2 ≡ e / 2) × AreMarks greatest new (before ++ e ∷ []))
+  marked_more new same clear sets =
+      let top = h.top in
+      let may : is_definable greatest e ≡ true = definable_from greatest e even (omega arith) (omega arith) in (
+        and_from (is_definable greatest e) (not is_there) may (ap not (sym its_mark ∙ clear)),
+        (
+          refl,
+          record {
+            top = same ∙ top;
+            definable = (rec_append (IsDefinable greatest) before (e ∷ [])).1 (h.definable, (may, tt));
+            marked = λ v within.
+                let here : (v == e / 2) ≡ (e == 2 * v) = grind (arith, nat_tests, even) in
+                sets v ∙ ap (λ b. b || v == e / 2) (h.marked v within) ∙ ap (λ b. list_any (λ d. d == 2 * v) before || b) (here ∙ sym (or-false (e == 2 * v))) ∙ sym (list_any-append (λ d. d == 2 * v) before (e ∷ []));
+          },
+        ),
+      )
 
 -- what marking a literal tells, of all that is defined
 pub defines_marked : (marks new : Marks) (e : ℕ) (result : Result ℕ LineError) → ((greatest : ℕ) (before : List ℕ) → AreMarks greatest marks before → Tested (defines greatest before e) (λ id. (id ≡ e / 2) × AreMarks greatest new (before ++ e ∷ [])) result)

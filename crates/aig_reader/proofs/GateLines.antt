@@ -16,7 +16,7 @@ use Rattle.aig_reader.specs.declared.gate_store.InOrder.{InOrder}
 use Rattle.aig_reader.specs.declared.gate_store.GateStore.{GateStore}
 use Rattle.aig_reader.specs.declared.table.Table.{Table}
 use Rattle.aig_reader.specs.declared.gate_store.GateStore.TheVariants as held
-use Rattle.aig_reader.specs.Gates.{AreFirstNodes, AreGates, ArePlaced, AreInOrder, HasSpace, HoldsPending, HasWords, last_or, line_of, literals_of}
+use Rattle.aig_reader.specs.Gates.{AreFirstNodes, AreGates, AreHeld, ArePlaced, AreInOrder, HoldsPending, HasWords, last_or, line_of, literals_of}
 use Rattle.aig_reader.specs.Variables.{AreDefined, IsNewAmong, is_marked}
 use Rattle.aig_reader.proofs.Defined.{unmarked_none}
 use Rattle.aig_reader.proofs.TableGates.{well_founded_more, well_founded_order, well_founded_skipped}
@@ -67,11 +67,10 @@ module _ (greatest : ℕ) (leaves : List ℕ) (before : List GateLine) (lhs : �
   order_with old h = order_push before g (omega arith) ∙ rw (h.in_order, sym h.last) refl
 
   -- gates that rise still do with the next one
-  pub is_increasing_still : (old new : InOrder) → ArePlaced greatest leaves before (held.InOrder old) → (ltb old.last lhs && is_above_operands g) ≡ true → AreFirstNodes (before ++ g ∷ []) new.nodes.items → new.last ≡ lhs → HasWords g → HasSpace (greatest + 1) (held.InOrder new)
+  pub is_increasing_still : (old new : InOrder) → ArePlaced greatest leaves before (held.InOrder old) → (ltb old.last lhs && is_above_operands g) ≡ true → AreHeld (greatest + 1) (before ++ g ∷ []) (held.InOrder new) → new.last ≡ lhs → HasWords g
       → ArePlaced greatest leaves (before ++ g ∷ []) (held.InOrder new)
-  is_increasing_still old new h next nodes last words space = record {
+  is_increasing_still old new h next nodes last words = record {
     nodes = nodes;
-    space = space;
     form = record {
       in_order = order_with old h.form ∙ next;
       last = last ∙ sym (ap (last_or 0) (map_push (λ (h : GateLine). h.lhs) before g) ∙ last_push 0 lhs (literals_of before));
@@ -80,24 +79,24 @@ module _ (greatest : ℕ) (leaves : List ℕ) (before : List GateLine) (lhs : �
   }
 
   -- and don't with one that isn't above the others and its operands
-  pub is_increasing_no_more : (old : InOrder) (table : Table) → ArePlaced greatest leaves before (held.InOrder old) → (ltb old.last lhs && is_above_operands g) ≡ false → HoldsPending (before ++ g ∷ []) table → HasSpace (greatest + 1) (held.Shuffled table)
+  pub is_increasing_no_more : (old : InOrder) (table : Table) → ArePlaced greatest leaves before (held.InOrder old) → (ltb old.last lhs && is_above_operands g) ≡ false → HoldsPending (greatest + 1) (before ++ g ∷ []) table
       → ArePlaced greatest leaves (before ++ g ∷ []) (held.Shuffled table)
-  is_increasing_no_more old table h other nodes space = record { nodes = nodes; space = space; form = well_founded_order greatest leaves (before ++ g ∷ []) (order_with old h.form ∙ other) }
+  is_increasing_no_more old table h other nodes = record { nodes = nodes; form = well_founded_order greatest leaves (before ++ g ∷ []) (order_with old h.form ∙ other) }
 
   -- nor do they in a compact file where one passes over a variable that isn't defined
   pub passes_over : (kind : FileKind) (variables : DefinedVariables) (v : ℕ) (table : Table) → AreDefined kind greatest variables ((leaves ++ literals_of before) ++ lhs ∷ []) → 1 ≤ v → v < lhs / 2 → is_marked variables v ≡ false
-      → HoldsPending (before ++ g ∷ []) table → HasSpace (greatest + 1) (held.Shuffled table) → ArePlaced greatest leaves (before ++ g ∷ []) (held.Shuffled table)
-  passes_over kind variables v table defined low below unmarked nodes space =
+      → HoldsPending (greatest + 1) (before ++ g ∷ []) table → ArePlaced greatest leaves (before ++ g ∷ []) (held.Shuffled table)
+  passes_over kind variables v table defined low below unmarked nodes =
       let row : (leaves ++ literals_of before) ++ lhs ∷ [] ≡ leaves ++ literals_of (before ++ g ∷ []) =
       append_assoc leaves (literals_of before) (lhs ∷ []) ∙ ap (λ (es : List ℕ). leaves ++ es) (sym (map_push (λ (h : GateLine). h.lhs) before g)) in
       let none = unmarked_none kind greatest variables v (leaves ++ literals_of before) lhs defined below unmarked in
-      record { nodes = nodes; space = space; form = well_founded_skipped greatest leaves before g v low below (ap (list_any (λ e. e / 2 == v)) (sym row) ∙ none) }
+      record { nodes = nodes; form = well_founded_skipped greatest leaves before g v low below (ap (list_any (λ e. e / 2 == v)) (sym row) ∙ none) }
 
   -- a file that is well-founded alone does with one gate more
   pub still_in_table : (old new : Table) → ArePlaced greatest leaves before (held.Shuffled old)
-      → HoldsPending (before ++ g ∷ []) new → HasSpace (greatest + 1) (held.Shuffled new)
+      → HoldsPending (greatest + 1) (before ++ g ∷ []) new
       → ArePlaced greatest leaves (before ++ g ∷ []) (held.Shuffled new)
-  still_in_table old new h nodes space = record { nodes = nodes; space = space; form = well_founded_more greatest leaves before g h.form }
+  still_in_table old new h nodes = record { nodes = nodes; form = well_founded_more greatest leaves before g h.form }
 
 -- ---- one more gate
 

@@ -29,25 +29,11 @@ abbrev passes : ℕ → Read → Option Read
 passes limit x = cond (fits_header limit x.0) (Some x) None
 
 -- a header line that isn't read
-unread : (limit : ℕ) (before after : Feed) (fault : LexError)
+pub unread_header : (limit : ℕ) (before after : Feed) (fault : LexError)
     → LexTells fault (Misses parse_header before) after.failed
     → ReadsHeader limit before after (Err (header_error_of fault))
-unread limit before after Stream h = h
-unread limit before after Shape h = IfSome_then before.coming h (λ bytes none. (ap (λ (o : Option Read). o >>= passes limit) none, ap (too_many_of limit) none))
-
-abbrev GivesHeader : Feed → Feed → Result Header LexError → Type 0
-GivesHeader before after line = Gives LexTells (λ (h : Header). (h.kind, numbers_of h)) before after line parse_header
-
-module _ (before after : Feed) (line : Result Header LexError) (result : Result Header ReadError) (is : result ≡ result_by header_error_of line) (given : GivesHeader before after line) where
-  pub unread_header : (limit : ℕ) (e : ReadError) → result ≡ Err e
-      → ReadsHeader limit before after (Err e)
-  unread_header limit e was =
-      let k = err_in header_error_of line result e is was in
-      subst (λ (d : ReadError). ReadsHeader limit before after (Err d)) k.2 (unread limit before after k.0 (subst (GivesHeader before after) k.1 given))
-
-  pub header_taken : (h : Header) → result ≡ Ok h
-      → Takes parse_header before after (h.kind, numbers_of h)
-  header_taken h was = subst (GivesHeader before after) (ok_in header_error_of line result h is was) given
+unread_header limit before after Stream h = h
+unread_header limit before after Shape h = IfSome_then before.coming h (λ bytes none. (ap (λ (o : Option Read). o >>= passes limit) none, ap (too_many_of limit) none))
 
 -- one that is read and fails a test
 pub no_header : (limit : ℕ) (before after : Feed) (x : FileKind × HeaderNumbers) (many : Bool) → Takes parse_header before after x → fits_header limit x ≡ false → (has_enough x.0 x.1 && ltb limit (x.1.greatest + 1)) ≡ many

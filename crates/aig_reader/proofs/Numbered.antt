@@ -8,35 +8,20 @@ use Rattle.aig_format.specs.File.{LatchLine, GateLine, File}
 use Rattle.aig_format.specs.Variables.{is_known}
 use Rattle.aig_ordering.specs.declared.error.OrderError.{OrderError}
 use Rattle.aig_ordering.specs.declared.error.OrderError.TheVariants.{Memory, Variable}
-use Rattle.aig_ordering.specs.Tables.{JudgedOrder}
+use Rattle.aig_ordering.specs.Tables.{JudgedOrder, OrderUnlessTransient}
 use Rattle.aig_reader.specs.declared.error.ReadError.{ReadError}
-use Rattle.aig_reader.specs.declared.error.Section.{Section}
+use Rattle.aig_reader.specs.declared.error.Section.TheVariants.{Gates}
 use Rattle.aig_reader.specs.Faults.{SectionTells, order_error_in, result_by}
 use Rattle.aig_format.specs.Fits.{uses_known}
 use Rattle.aig_reader.specs.Numbered.{Judged, have_operands, knows, knows_lists, knows_properties}
 
 -- ---- answers
 
-module _ {X : Type 0} (test : Bool) (P : X → Type 0) where
-  pub judged_ok : (result : Result X ReadError) (x : X) → Judged test P result → result ≡ Ok x
-      → (test ≡ true) × P x
-  judged_ok result x h was = subst (λ (r : Result X ReadError). Judged test P r) was h
-
-  pub judged_err : (result : Result X ReadError) (e : ReadError) → Judged test P result
-      → result ≡ Err e → SectionTells e (test ≡ false) false
-  judged_err result e h was = subst (λ (r : Result X ReadError). Judged test P r) was h
-
-  -- a judgement of lists, as one of their section
-  by_lists : (section : Section) (lists : Result X OrderError) → JudgedOrder test P lists
-      → Judged test P (result_by (order_error_in section) lists)
-  by_lists section (Ok x) h = h
-  by_lists section (Err Memory) h = tt
-  by_lists section (Err Variable) h = h
-
-  pub judged_by : (section : Section) (lists : Result X OrderError) (result : Result X ReadError)
-      → JudgedOrder test P lists → result ≡ result_by (order_error_in section) lists
-      → Judged test P result
-  judged_by section lists result h is = subst (λ (r : Result X ReadError). Judged test P r) (sym is) (by_lists section lists h)
+-- a fault of the gates' order, as one of the file
+pub in_order : (e : OrderError) (P Q : Type 0) → (P → Q) → OrderUnlessTransient e P
+    → SectionTells (order_error_in Gates e) Q false
+in_order Memory P Q f h = tt
+in_order Variable P Q f h = f h
 
 -- an answer judged by the same test, and by what it then says
 pub rejudged : {X : Type 0} (s t : Bool) (P Q : X → Type 0) → s ≡ t

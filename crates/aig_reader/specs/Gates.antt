@@ -1,6 +1,6 @@
 -- Serves private clauses alone.
 -- Gates that are read one after the other.
-use Rattle.std.specs.Prelude.{All, ◌≡◌, ℕ, ◌+◌, ◌/◌, ◌^◌, ◌<◌, ◌≤◌, Bool, true, false, List, [], ◌∷◌, ◌++◌, length, map, nat_eq, Option, Some, None, vec_len}
+use Rattle.std.specs.Prelude.{All, ◌≡◌, ℕ, ◌+◌, ◌/◌, ◌^◌, ◌<◌, ◌≤◌, Bool, true, false, ◌&&◌, ◌⊎◌, List, [], ◌∷◌, ◌++◌, length, map, nat_eq, nat_lt, Option, Some, None, vec_len}
 use Rattle.std.specs.List.{AllByRecursion, IsDistinct}
 use Rattle.aig_circuit.specs.declared.node.AigNode.{AigNode}
 use Rattle.aig_circuit.specs.declared.node.AigNodeType.{AigNodeType}
@@ -10,7 +10,7 @@ use Rattle.aig_circuit.specs.Node.{and_of}
 use Rattle.aig_format.specs.declared.FileKind.{FileKind}
 use Rattle.aig_format.specs.File.{GateLine}
 use Rattle.aig_format.specs.Fits.{IsDefinable}
-use Rattle.aig_format.specs.Numbering.{are_in_order}
+use Rattle.aig_format.specs.Numbering.{are_in_order, is_above_operands}
 use Rattle.aig_reader.specs.declared.gate_store.InOrder.{InOrder}
 use Rattle.aig_reader.specs.declared.table.PendingGate.{PendingGate}
 use Rattle.aig_reader.specs.declared.table.Table.{Table}
@@ -20,7 +20,7 @@ use Rattle.aig_reader.specs.declared.variables.DefinedVariables.{DefinedVariable
 use Rattle.aig_ordering.specs.declared.gates.Operands.{Operands}
 use Rattle.aig_ordering.specs.Gates.{nodes_in}
 use Rattle.aig_ordering.specs.Lists.{edge_from, nodes_in_row}
-use Rattle.aig_reader.specs.Variables.{AreDefined, IsNewAmong}
+use Rattle.aig_reader.specs.Variables.{AreDefined, IsNewAmong, TellsDefined}
 
 -- the last of these numbers, or this one
 abbrev pub last_or : ℕ → List ℕ → ℕ
@@ -56,12 +56,6 @@ abbrev pub is_in_order : GateStore → Bool
 is_in_order (held.InOrder rising) = true
 is_in_order (held.Shuffled table) = false
 
--- there are nodes of so many variables at most, and gates of no others
-abbrev pub HasSpace : ℕ → GateStore → Type 0
-HasSpace size (held.InOrder rising) = vec_len rising.nodes ≤ size
-HasSpace size (held.Shuffled table) =
-    (vec_len table.entries ≤ size) × All (λ l. l.lhs / 2 < size) table.pending.items
-
 -- the nodes of the first variables, from 0 on, where these gates are defined, each within them
 pub record AreFirstNodes (gates : List GateLine) (nodes : List AigNode) : Type 0 where
   pub some : 0 < length nodes
@@ -78,17 +72,20 @@ AreNew front [] = Unit {0}
 AreNew front (g ∷ gates) =
     ((2 ≤ g.lhs) × IsNewAmong (literals_of front) g.lhs) × AreNew (front ++ g ∷ []) gates
 
--- gates in their places, and after them those that wait
-pub record HoldsPending (gates : List GateLine) (table : Table) : Type 0 where
+-- gates in their places, and after them those that wait, all of so many variables at most
+pub record HoldsPending (size : ℕ) (gates : List GateLine) (table : Table) : Type 0 where
   pub front : List GateLine
   pub all : gates ≡ front ++ lines_of table.pending.items
   pub nodes : AreFirstNodes front (nodes_in table.entries.items)
   pub new : AreNew front (lines_of table.pending.items)
+  pub space : vec_len table.entries ≤ size
+  pub within : All (λ l. l.lhs / 2 < size) table.pending.items
 
--- the nodes of these gates, as they are held
-abbrev pub AreHeld : List GateLine → GateStore → Type 0
-AreHeld gates (held.InOrder rising) = AreFirstNodes gates rising.nodes.items
-AreHeld gates (held.Shuffled table) = HoldsPending gates table
+-- the nodes of these gates, as they are held, and of so many variables at most
+abbrev pub AreHeld : ℕ → List GateLine → GateStore → Type 0
+AreHeld size gates (held.InOrder rising) =
+    AreFirstNodes gates rising.nodes.items × (vec_len rising.nodes ≤ size)
+AreHeld size gates (held.Shuffled table) = HoldsPending size gates table
 
 -- the literal that the last of these gates defines, which rise, each above its operands, and all
 -- have numbers of 32 bits
@@ -96,6 +93,14 @@ pub record AreInOrder (gates : List GateLine) (rising : InOrder) : Type 0 where
   pub in_order : are_in_order gates ≡ true
   pub last : rising.last ≡ last_or 0 (literals_of gates)
   pub words : AllByRecursion HasWords gates
+
+-- whether a gate is above the last one and its operands, and passes over no variable that isn't
+-- defined
+abbrev pub MayFollow : InOrder → DefinedVariables → GateLine → Bool → Type 0
+MayFollow rising variables g true = (nat_lt rising.last g.lhs && is_above_operands g) ≡ true
+MayFollow rising variables g false =
+    ((nat_lt rising.last g.lhs && is_above_operands g) ≡ false)
+    ⊎ TellsDefined variables (vec_len rising.nodes) (g.lhs / 2) false
 
 -- after these leaves, no gates that begin with these rise so that no variable up to the greatest is
 -- missing
@@ -114,9 +119,8 @@ IsHeld greatest leaves gates (held.Shuffled table) = IsNeverCompact greatest lea
 -- after these leaves, these gates are held, in no more room than there are variables
 pub record ArePlaced (greatest : ℕ) (leaves : List ℕ) (gates : List GateLine) (held : GateStore)
     : Type 0 where
-  pub nodes : AreHeld gates held
+  pub nodes : AreHeld (greatest + 1) gates held
   pub form : IsHeld greatest leaves gates held
-  pub space : HasSpace (greatest + 1) held
 
 -- after these leaves and gates: the variables, and where the gates are held
 pub record AreGates (kind : FileKind) (greatest : ℕ) (leaves : List ℕ) (gates : List GateLine)

@@ -37,6 +37,12 @@ abbrev pub is_marked : DefinedVariables → ℕ → Bool
 is_marked (kinds.Text marks) v = bit_is_set marks.marked.items v
 is_marked (kinds.Binary count) v = nat_le v count
 
+-- whether each variable from one to below another, of which none is 0, is defined
+abbrev pub TellsDefined : DefinedVariables → ℕ → ℕ → Bool → Type 0
+TellsDefined variables from to true = (v : ℕ) → from ≤ v → v < to → is_marked variables v ≡ true
+TellsDefined variables from to false =
+    (v : ℕ) × (from ≤ v) × (v < to) × (is_marked variables v ≡ false)
+
 -- in a binary file the literal of the next variable is a number of 32 bits
 abbrev pub HasNext : DefinedVariables → Type 0
 HasNext (kinds.Text marks) = Unit {0}

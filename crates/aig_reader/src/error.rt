@@ -4,6 +4,7 @@ ghost use Rattle.std.specs.Prelude.{◌≡◌, Some};
 ghost use Rattle.aig_reader.specs.Faults.{error_in, gate_error_in, header_error_of, line_error_of, name_error_of, order_error_in, result_by, section_name};
 ghost use Rattle.aig_reader.specs.declared.error.LineError.TheVariants as line;
 ghost use Rattle.aig_reader.specs.declared.error.ReadError.TheVariants as errors;
+ghost use Rattle.aig_reader.specs.declared.error.Section.TheVariants as sections;
 
 use aig_lexer::{FileKind, LexError};
 use aig_ordering::OrderError;
@@ -131,14 +132,38 @@ impl From<AllocError> for ReadError {
     }
 }
 
-/// What reading the header line gave.
-pub fn header_result<T>(header: Result<T, LexError>) -> Result<T, ReadError>
-    ensures { result ≡ result_by header_error_of header }
-{
-    match header {
-        Ok(value) => Ok(value),
-        Err(LexError::Stream) => Err(ReadError::Stream),
-        Err(LexError::Shape) => Err(ReadError::Header),
+impl From<LexError> for ReadError {
+    ghost from_gives = { λ e r. r ≡ header_error_of e };
+
+    /// A fault in the header line. One in a line of a section goes by `LineError`.
+    fn from(error: LexError) -> ReadError {
+        match error {
+            LexError::Stream => ReadError::Stream,
+            LexError::Shape => ReadError::Header,
+        }
+    }
+}
+
+impl From<OrderError> for ReadError {
+    ghost from_gives = { λ e r. r ≡ order_error_in sections.Gates e };
+
+    fn from(error: OrderError) -> ReadError {
+        match error {
+            OrderError::Memory => ReadError::Memory,
+            OrderError::Variable => ReadError::Literal(Section::Gates),
+        }
+    }
+}
+
+impl From<NameError> for ReadError {
+    ghost from_gives = { λ e r. r ≡ name_error_of e };
+
+    fn from(error: NameError) -> ReadError {
+        match error {
+            NameError::Memory => ReadError::Memory,
+            NameError::Stream => ReadError::Stream,
+            NameError::Shape => ReadError::Name,
+        }
     }
 }
 
@@ -155,17 +180,6 @@ impl Section {
             Err(LineError::Literal) => Err(ReadError::Literal(self)),
         }
     }
-
-    /// What this section gave under the numbers of its variables.
-    pub(crate) fn numbered<T>(self, lists: Result<T, OrderError>) -> Result<T, ReadError>
-        ensures { result ≡ result_by (order_error_in self) lists }
-    {
-        match lists {
-            Ok(value) => Ok(value),
-            Err(OrderError::Memory) => Err(ReadError::Memory),
-            Err(OrderError::Variable) => Err(ReadError::Literal(self)),
-        }
-    }
 }
 
 /// What reading the gates of a file of this kind gave.
@@ -175,17 +189,5 @@ pub fn gates_result<T>(kind: FileKind, gates: Result<T, LineError>) -> Result<T,
     match (kind, gates) {
         (FileKind::Binary, Err(LineError::Syntax | LineError::Literal)) => Err(ReadError::Delta),
         (_, gates) => Section::Gates.result_of(gates),
-    }
-}
-
-/// What reading the names gave.
-pub fn names_result<T>(names: Result<T, NameError>) -> Result<T, ReadError>
-    ensures { result ≡ result_by name_error_of names }
-{
-    match names {
-        Ok(value) => Ok(value),
-        Err(NameError::Memory) => Err(ReadError::Memory),
-        Err(NameError::Stream) => Err(ReadError::Stream),
-        Err(NameError::Shape) => Err(ReadError::Name),
     }
 }

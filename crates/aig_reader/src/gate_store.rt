@@ -1,12 +1,13 @@
 //! Where the gates that were read are held.
 
-ghost use Rattle.std.specs.Prelude.{◌≡◌, ℕ, ◌+◌, ◌/◌, ◌^◌, ◌<◌, ◌≤◌, ◌&&◌, ◌⊎◌, nat_lt, [], ◌∷◌, ◌++◌, List, max, IfOk, OnOk, false, true, vec_len};
+ghost use Rattle.std.specs.Prelude.{◌≡◌, ℕ, ◌+◌, ◌/◌, ◌<◌, ◌≤◌, ◌&&◌, nat_lt, [], ◌∷◌, ◌++◌, List, IfOk, OnOk, true, vec_len};
 ghost use Rattle.aig_format.specs.File.{GateLine};
 ghost use Rattle.aig_format.specs.Numbering.{is_above_operands};
 ghost use Rattle.aig_ordering.specs.Gates.{nodes_in};
-ghost use Rattle.aig_reader.specs.Gates.{AreFirstNodes, ArePlaced, HasSpace, is_in_order, line_of, literals_of};
+ghost use Rattle.aig_reader.specs.Gates.{AreFirstNodes, AreHeld, ArePlaced, MayFollow, is_in_order, line_of, literals_of};
+ghost use Rattle.aig_reader.specs.declared.gate_store.GateStore.TheVariants as held;
 ghost use Rattle.aig_format.specs.declared.FileKind.{FileKind};
-ghost use Rattle.aig_reader.specs.Variables.{AreDefined, IsNewAmong, is_marked};
+ghost use Rattle.aig_reader.specs.Variables.{AreDefined, IsNewAmong};
 
 use crate::nodes::{add_leaves, first_node, put_gate, reserve_nodes};
 use crate::table::Table;
@@ -44,31 +45,17 @@ impl InOrder {
     /// Whether a gate may be the next one of a file in which no variable is missing and gates rise, each above its operands:
     /// the variables that it passes over are defined.
     fn is_next(&self, variables: &DefinedVariables, lhs: u32, operands: Operands) -> bool
-        ensures next { result ≡ true
-            → (nat_lt self.now.last lhs && is_above_operands (line_of lhs operands)) ≡ true }
-        ensures defined { result ≡ true
-            → (v : ℕ) → vec_len self.now.nodes ≤ v → v < lhs / 2
-            → is_marked variables.now v ≡ true }
-        ensures other { result ≡ false
-            → ((nat_lt self.now.last lhs && is_above_operands (line_of lhs operands)) ≡ false)
-            ⊎ ((v : ℕ) × (vec_len self.now.nodes ≤ v) × (v < lhs / 2)
-            × (is_marked variables.now v ≡ false)) }
+        ensures { MayFollow self.now variables.now (line_of lhs operands) result }
     {
-        self.is_above(lhs, operands)
-            && variables
-                .first_undefined(self.nodes.len(), lhs as usize / 2)
-                .is_none()
+        self.is_above(lhs, operands) && variables.are_defined(self.nodes.len(), lhs as usize / 2)
     }
 
     /// Puts a gate in its place.
     fn put(&mut self, lhs: u32, operands: Operands) -> Result<(), AllocError>
-        ensures exact { (before : List GateLine) → AreFirstNodes before self.old.nodes.items
-            → IsNewAmong (literals_of before) lhs → 2 ≤ lhs
-            → OnOk result
-            (AreFirstNodes (before ++ line_of lhs operands ∷ []) self.new.nodes.items) }
-        ensures last { OnOk result (self.new.last ≡ lhs) }
-        ensures len { OnOk result
-            (vec_len self.new.nodes ≡ max (vec_len self.old.nodes) (lhs / 2 + 1)) }
+        ensures { (size : ℕ) (before : List GateLine) → AreHeld size before (held.InOrder self.old)
+            → IsNewAmong (literals_of before) lhs → 2 ≤ lhs → lhs / 2 < size → OnOk result
+            (AreHeld size (before ++ line_of lhs operands ∷ []) (held.InOrder self.new)
+            × (self.new.last ≡ lhs)) }
     {
         let variable = lhs as usize / 2;
         reserve_nodes(&mut self.nodes, variable + 1)?;
@@ -100,7 +87,6 @@ impl GateStore {
         operands: Operands,
     ) -> Result<(), AllocError>
         requires { (greatest : ℕ) × (leaves : List ℕ) × (before : List GateLine)
-            × (greatest < 2 ^ 31) × (lhs / 2 ≤ greatest)
             × ArePlaced greatest leaves before self.old }
         ensures { (kind : FileKind) (greatest : ℕ) (leaves : List ℕ) (before : List GateLine)
             → ArePlaced greatest leaves before self.old
@@ -112,13 +98,12 @@ impl GateStore {
         match self {
             GateStore::InOrder(rising) => {
                 if rising.is_next(variables, lhs, operands) {
-                    rising.put(lhs, operands)?;
-                } else {
-                    let mut table = Table::new(alloc, &rising.nodes)?;
-                    table.push(lhs, operands)?;
-                    *self = GateStore::Shuffled(table);
+                    return rising.put(lhs, operands);
                 }
-                Ok(())
+                let mut table = Table::new(alloc, &rising.nodes)?;
+                let pushed = table.push(lhs, operands);
+                *self = GateStore::Shuffled(table);
+                pushed
             }
             GateStore::Shuffled(table) => table.push(lhs, operands),
         }
@@ -133,12 +118,10 @@ impl GateStore {
 
     /// The nodes of so many variables, where gates rise: leaves in the places of variables without a gate.
     pub fn into_nodes(self, len: usize) -> Result<Vec<AigNode>, AllocError>
-        requires rising { is_in_order self ≡ true }
-        requires space { HasSpace len self }
-        ensures nodes { (greatest : ℕ) (leaves : List ℕ) (gates : List GateLine)
-            → ArePlaced greatest leaves gates self
-            → IfOk result (λ nodes. AreFirstNodes gates nodes.items) }
-        ensures len { IfOk result (λ nodes. vec_len nodes ≡ len) }
+        requires { is_in_order self ≡ true }
+        ensures { (greatest : ℕ) (leaves : List ℕ) (gates : List GateLine) → len ≡ greatest + 1
+            → ArePlaced greatest leaves gates self → IfOk result
+            (λ nodes. AreFirstNodes gates nodes.items × (vec_len nodes ≡ len)) }
     {
         match self {
             GateStore::InOrder(rising) => {
@@ -153,14 +136,11 @@ impl GateStore {
 
     /// The gates of so many variables in a table.
     pub fn into_table(self, alloc: Global, len: usize) -> Result<Vec<Option<Operands>>, AllocError>
-        requires few { len ≤ 2 ^ 31 }
-        requires space { HasSpace len self }
-        requires placed { (greatest : ℕ) × (leaves : List ℕ) × (gates : List GateLine)
+        requires { (greatest : ℕ) × (leaves : List ℕ) × (gates : List GateLine)
             × ArePlaced greatest leaves gates self }
-        ensures nodes { (greatest : ℕ) (leaves : List ℕ) (gates : List GateLine)
-            → ArePlaced greatest leaves gates self
-            → IfOk result (λ table. AreFirstNodes gates (nodes_in table.items)) }
-        ensures len { IfOk result (λ table. vec_len table ≡ len) }
+        ensures { (greatest : ℕ) (leaves : List ℕ) (gates : List GateLine) → len ≡ greatest + 1
+            → ArePlaced greatest leaves gates self → IfOk result
+            (λ table. AreFirstNodes gates (nodes_in table.items) × (vec_len table ≡ len)) }
     {
         match self {
             GateStore::InOrder(rising) => Table::new(alloc, &rising.nodes)?.into_entries(len),

@@ -6,7 +6,7 @@ ghost use Rattle.aig_lexer.specs.Header.{numbers_of};
 ghost use Rattle.aig_lexer.specs.Takes.{feed};
 ghost use Rattle.aig_reader.specs.Headers.{ReadsHeader};
 
-use crate::error::{ReadError, header_result};
+use crate::error::ReadError;
 use aig_base::Source;
 use aig_lexer::{FileKind, Header, InputBuffer, header_line};
 
@@ -34,7 +34,7 @@ pub fn read_header<R: Source>(
         (feed R.left R.failed R.pulls buffer.new r.new) result }
     ensures enough { IfOk result (λ h. h.inputs + h.latches + h.gates ≤ h.greatest) }
 {
-    let header = header_result(header_line(buffer, r))?;
+    let header = header_line(buffer, r)?;
     if !is_great_enough(header) {
         return Err(ReadError::Header);
     }

@@ -97,8 +97,7 @@ impl Lists {
             → Judged (uses_known f && list_all (has_level f) f.gates)
             (λ nodes. IsCircuitOf f (record { nodes = nodes; lists = self.new })) result }
     {
-        let nodes = number_nodes(alloc, gates, known);
-        let (nodes, table) = Section::Gates.numbered(nodes)?;
+        let (nodes, table) = number_nodes(alloc, gates, known)?;
         let numbers = Recorded { table: &table };
         if let Some(section) = self.unnumbered(&numbers) {
             return Err(ReadError::Literal(section));

@@ -11,7 +11,7 @@ ghost use Rattle.aig_reader.specs.Reading.{AreListsOf, IsReadAs, ReadsExactly, U
 ghost use Rattle.aig_reader.specs.Numbered.{IsCircuitOf};
 ghost use Rattle.aig_reader.specs.Sections.{file_by};
 
-use crate::error::{ReadError, names_result};
+use crate::error::ReadError;
 use crate::header::read_header;
 use crate::lines::read_lines;
 use crate::sections::{Lists, Sections};
@@ -67,8 +67,7 @@ fn read_file<R: Source>(
     let header = read_header(buffer, r, limit)?;
     let sections = read_sections(alloc, buffer, r, header)?;
     let lists = &sections.lists;
-    let names = read_names(alloc, buffer, r, &header, &lists.inputs, &lists.latchs);
-    let names = names_result(names)?;
+    let names = read_names(alloc, buffer, r, &header, &lists.inputs, &lists.latchs)?;
     Ok(sections.with_names(names))
 }
 

@@ -1,14 +1,13 @@
 //! Gates in a table, by their variables.
 
-ghost use Rattle.std.specs.Prelude.{◌≡◌, ℕ, ◌+◌, ◌/◌, ◌^◌, ◌<◌, ◌≤◌, [], ◌∷◌, ◌++◌, All, List, IfOk, OnOk, map, max, vec_len};
+ghost use Rattle.std.specs.Prelude.{◌≡◌, ℕ, ◌/◌, ◌^◌, ◌<◌, ◌≤◌, [], ◌∷◌, ◌++◌, All, List, IfOk, OnOk, length, max, vec_len};
 ghost use Rattle.aig_circuit.specs.Edge.{literal_of};
 ghost use Rattle.aig_circuit.specs.Node.{IfAnd};
 ghost use Rattle.aig_format.specs.File.{GateLine};
 ghost use Rattle.aig_ordering.specs.Gates.{nodes_in};
-ghost use Rattle.aig_reader.specs.Gates.{AreFirstNodes, HoldsPending, HasSpace, gate_in, line_of, literals_of};
-ghost use Rattle.aig_reader.specs.declared.gate_store.GateStore.TheVariants as held;
-ghost use Rattle.aig_reader.specs.declared.table.TheConstants.{MOST_PENDING};
+ghost use Rattle.aig_reader.specs.Gates.{AreFirstNodes, HoldsPending, gate_in, line_of, literals_of};
 ghost use Rattle.aig_reader.specs.Variables.{IsNewAmong};
+ghost use Rattle.aig_reader.specs.declared.table.TheConstants.{MOST_PENDING};
 
 use aig_circuit::{AigEdge, AigNode, AigNodeType};
 use aig_ordering::Operands;
@@ -57,47 +56,33 @@ fn gate_of(kind: AigNodeType) -> Option<Operands>
     }
 }
 
-/// The table of these nodes, each at the place of its variable.
-fn table_of(alloc: Global, nodes: &[AigNode]) -> Result<Vec<Option<Operands>>, AllocError>
-    requires { All (λ node. IfAnd node.typ (λ id. id < 2 ^ 31)) nodes.now }
-    ensures { IfOk result (λ table. table.items ≡ map (λ node. gate_in node.typ) nodes.now) }
-{
-    let mut table = Vec::with_capacity(alloc, nodes.len())?;
-    for node in nodes {
-        table.push(gate_of(*node.typ()))?;
-    }
-    Ok(table)
-}
-
 /// Appends entries without a gate until there are so many.
-fn add_entries(table: &mut Vec<Option<Operands>>, len: usize) -> Result<(), AllocError>
-    requires { len ≤ 2 ^ 31 }
-    ensures exact { (gates : List GateLine) → AreFirstNodes gates (nodes_in table.old.items)
-        → AreFirstNodes gates (nodes_in table.new.items) }
-    ensures len { OnOk result (vec_len table.new ≡ max (vec_len table.old) len) }
+fn add_entries(entries: &mut Vec<Option<Operands>>, len: usize) -> Result<(), AllocError>
+    ensures exact { (gates : List GateLine) → AreFirstNodes gates (nodes_in entries.old.items)
+        → AreFirstNodes gates (nodes_in entries.new.items) }
+    ensures len { OnOk result (vec_len entries.new ≡ max (vec_len entries.old) len) }
 {
-    if len > table.len() {
-        table.resize(len, None)?;
+    if len > entries.len() {
+        entries.resize(len, None)?;
     }
     Ok(())
 }
 
 /// Puts a gate in the place of its variable, which is a leaf or has no place yet.
 fn put_operands(
-    table: &mut Vec<Option<Operands>>,
-    variable: usize,
+    entries: &mut Vec<Option<Operands>>,
+    lhs: u32,
     operands: Operands,
 ) -> Result<(), AllocError>
-    requires { variable < 2 ^ 31 }
-    ensures exact { (gates : List GateLine) (lhs : ℕ) → variable ≡ lhs / 2
-        → AreFirstNodes gates (nodes_in table.old.items)
-        → IsNewAmong (literals_of gates) lhs → 2 ≤ lhs
-        → OnOk result
-        (AreFirstNodes (gates ++ line_of lhs operands ∷ []) (nodes_in table.new.items)) }
-    ensures len { OnOk result (vec_len table.new ≡ max (vec_len table.old) (variable + 1)) }
+    ensures { (size : ℕ) (gates : List GateLine)
+        → AreFirstNodes gates (nodes_in entries.old.items) → vec_len entries.old ≤ size
+        → IsNewAmong (literals_of gates) lhs → 2 ≤ lhs → lhs / 2 < size
+        → OnOk result (AreFirstNodes (gates ++ line_of lhs operands ∷ [])
+        (nodes_in entries.new.items) × (vec_len entries.new ≤ size)) }
 {
-    add_entries(table, variable + 1)?;
-    table[variable] = Some(operands);
+    let variable = lhs as usize / 2;
+    add_entries(entries, variable + 1)?;
+    entries[variable] = Some(operands);
     Ok(())
 }
 
@@ -105,73 +90,49 @@ impl Table {
     /// The table of these nodes, each at the place of its variable. No gate waits.
     pub fn new(alloc: Global, nodes: &[AigNode]) -> Result<Self, AllocError>
         requires { All (λ node. IfAnd node.typ (λ id. id < 2 ^ 31)) nodes.now }
-        ensures entries { IfOk result
-            (λ table. table.entries.items ≡ map (λ node. gate_in node.typ) nodes.now) }
-        ensures pending { IfOk result (λ table. table.pending.items ≡ []) }
+        ensures { (size : ℕ) (gates : List GateLine) → AreFirstNodes gates nodes.now
+            → length nodes.now ≤ size → IfOk result (HoldsPending size gates) }
     {
-        Ok(Table {
-            entries: table_of(alloc, nodes)?,
-            pending: Vec::with_capacity(alloc, MOST_PENDING)?,
-        })
+        let mut entries = Vec::with_capacity(alloc, nodes.len())?;
+        for node in nodes {
+            entries.push_reserved(gate_of(*node.typ()));
+        }
+        let pending = Vec::with_capacity(alloc, MOST_PENDING)?;
+        Ok(Table { entries, pending })
     }
 
     /// Puts the gates that wait in their places.
     fn place_pending(&mut self) -> Result<(), AllocError>
-        requires { (size : ℕ) × (size ≤ 2 ^ 31) × HasSpace size (held.Shuffled self.old) }
-        ensures nodes { (gates : List GateLine) → HoldsPending gates self.old
-            → OnOk result
-            (AreFirstNodes gates (nodes_in self.new.entries.items)
-            × (self.new.pending.items ≡ [])) }
-        ensures pending { OnOk result (self.new.pending.items ≡ []) }
-        ensures space { OnOk result ((size : ℕ) → HasSpace size (held.Shuffled self.old)
-            → HasSpace size (held.Shuffled self.new)) }
+        ensures held { (size : ℕ) (gates : List GateLine) → HoldsPending size gates self.old
+            → OnOk result (HoldsPending size gates self.new) }
+        ensures none { OnOk result (self.new.pending.items ≡ []) }
     {
         let Table { entries, pending } = self;
         for gate in pending.iter() {
-            put_operands(entries, gate.lhs as usize / 2, gate.operands)?;
+            put_operands(entries, gate.lhs, gate.operands)?;
         }
         pending.clear();
         Ok(())
     }
 
-    /// Makes room for one more gate that waits.
-    fn make_room(&mut self) -> Result<(), AllocError>
-        requires { (size : ℕ) × (size ≤ 2 ^ 31) × HasSpace size (held.Shuffled self.old) }
-        ensures waiting { (gates : List GateLine) → HoldsPending gates self.old
-            → OnOk result (HoldsPending gates self.new) }
-        ensures space { OnOk result ((size : ℕ) → HasSpace size (held.Shuffled self.old)
-            → HasSpace size (held.Shuffled self.new)) }
-        ensures room { OnOk result (vec_len self.new.pending < MOST_PENDING) }
-    {
-        if self.pending.len() >= MOST_PENDING {
-            self.place_pending()
-        } else {
-            Ok(())
-        }
-    }
-
-    /// Takes a gate, which waits for its place.
+    /// Takes a gate, which waits for its place until there are so many that all are put in theirs.
     pub fn push(&mut self, lhs: u32, operands: Operands) -> Result<(), AllocError>
-        requires { (size : ℕ) × (size ≤ 2 ^ 31) × HasSpace size (held.Shuffled self.old) }
-        ensures waiting { (gates : List GateLine) → HoldsPending gates self.old
-            → IsNewAmong (literals_of gates) lhs → 2 ≤ lhs
-            → OnOk result (HoldsPending (gates ++ line_of lhs operands ∷ []) self.new) }
-        ensures space { OnOk result ((size : ℕ) → lhs / 2 < size
-            → HasSpace size (held.Shuffled self.old) → HasSpace size (held.Shuffled self.new)) }
-        ensures few { OnOk result (vec_len self.new.pending ≤ MOST_PENDING) }
+        ensures held { (size : ℕ) (gates : List GateLine) → HoldsPending size gates self.old
+            → IsNewAmong (literals_of gates) lhs → 2 ≤ lhs → lhs / 2 < size
+            → OnOk result (HoldsPending size (gates ++ line_of lhs operands ∷ []) self.new) }
+        ensures few { OnOk result (vec_len self.new.pending < MOST_PENDING) }
     {
-        self.make_room()?;
         self.pending.push(PendingGate { lhs, operands })?;
-        Ok(())
+        if self.pending.len() < MOST_PENDING {
+            return Ok(());
+        }
+        self.place_pending()
     }
 
     /// The entries of so many variables, with the gates that wait in their places.
     pub fn into_entries(mut self, len: usize) -> Result<Vec<Option<Operands>>, AllocError>
-        requires few { len ≤ 2 ^ 31 }
-        requires space { HasSpace len (held.Shuffled self) }
-        ensures nodes { (gates : List GateLine) → HoldsPending gates self
-            → IfOk result (λ entries. AreFirstNodes gates (nodes_in entries.items)) }
-        ensures len { IfOk result (λ entries. vec_len entries ≡ len) }
+        ensures { (gates : List GateLine) → HoldsPending len gates self → IfOk result
+            (λ entries. AreFirstNodes gates (nodes_in entries.items) × (vec_len entries ≡ len)) }
     {
         self.place_pending()?;
         let Table {

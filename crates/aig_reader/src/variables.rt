@@ -1,6 +1,6 @@
 //! The variables of a file.
 
-ghost use Rattle.std.specs.Prelude.{◌≡◌, ℕ, ◌+◌, ◌/◌, ◌^◌, ◌<◌, ◌≤◌, List, [], ◌∷◌, ◌++◌, IfOk, MatchOption, OnOk, false, true, vec_len};
+ghost use Rattle.std.specs.Prelude.{◌≡◌, ℕ, ◌+◌, ◌/◌, ◌^◌, ◌<◌, ◌≤◌, List, [], ◌∷◌, ◌++◌, IfOk, OnOk, true, vec_len};
 ghost use Rattle.aig_parsing.specs.ParseTested.{defines, may_define};
 ghost use Rattle.aig_lexer.specs.Faults.{LexTells};
 ghost use Rattle.aig_lexer.specs.Takes.{Gives, feed};
@@ -8,7 +8,7 @@ ghost use Rattle.aig_format.specs.declared.FileKind.{FileKind};
 ghost use Rattle.aig_format.specs.File.{File, defined};
 ghost use Rattle.aig_ordering.specs.Tables.{AreKnownOf};
 ghost use Rattle.aig_reader.specs.Bits.{bit_is_set};
-ghost use Rattle.aig_reader.specs.Variables.{AreDefined, AreMarks, HasNext, IsNext, Tested, is_marked};
+ghost use Rattle.aig_reader.specs.Variables.{AreDefined, AreMarks, HasNext, IsNext, Tested, TellsDefined, is_marked};
 ghost use Rattle.aig_parsing.specs.Parse.{parse_own};
 
 use crate::bits::{has_bit, set_bit};
@@ -81,7 +81,7 @@ impl Marks {
         let len = self.greatest as usize + 1;
         let mut known = Vec::with_capacity(alloc, len)?;
         for variable in 0..len {
-            known.push(variable == 0 || has_bit(&self.marked, variable))?;
+            known.push_reserved(variable == 0 || has_bit(&self.marked, variable));
         }
         Ok(known)
     }
@@ -151,16 +151,15 @@ impl DefinedVariables {
         }
     }
 
-    /// The first of the variables from one to below another that isn't defined, if there is one. None of them is 0.
-    pub fn first_undefined(&self, from: usize, to: usize) -> Option<usize>
-        ensures { MatchOption result ((v : ℕ) → from ≤ v → v < to → is_marked self.now v ≡ true)
-            (λ v. (from ≤ v) × (v < to) × (is_marked self.now v ≡ false)) }
+    /// Whether each of the variables from one to below another is defined. None of them is 0.
+    pub fn are_defined(&self, from: usize, to: usize) -> bool
+        ensures { TellsDefined self.now from to result }
     {
         for variable in from..to {
             if !self.is_defined(variable) {
-                return Some(variable);
+                return false;
             }
         }
-        None
+        true
     }
 }

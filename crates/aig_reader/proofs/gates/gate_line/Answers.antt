@@ -20,11 +20,7 @@ pub own_literal-requires : goal.own_literal-requires
 own_literal-requires g c = let r = c.requires in has_next r.0 r.1 _ (r.2 ++ literals_of r.3) r.6.defined r.5 r.4
 
 pub put-requires : goal.put-requires
-put-requires g c =
-    let r = c.requires in
-    let defined = c.in_ok-define.ensures r.0 r.1 (r.2 ++ literals_of r.3) r.6.defined in
-    let last = last_literal r.0 r.1 _ (r.2 ++ literals_of r.3) c.in_ok-lhs.lhs defined.1.1 r.5 in
-    (r.1, r.2, r.3, r.4, last.1, r.6.placed)
+put-requires g c = let r = c.requires in (r.1, r.2, r.3, r.6.placed)
 
 pub returns-in_err-lhs : goal.returns-in_err-lhs
 returns-in_err-lhs g c = λ kind greatest leaves before room h.

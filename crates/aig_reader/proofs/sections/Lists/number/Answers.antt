@@ -1,4 +1,4 @@
-use Rattle.std.proofs.Common.{◌≡◌, ◌+◌, ◌∙◌, true, false, length, refl, sym, arith}
+use Rattle.std.proofs.Common.{◌≡◌, ℕ, ◌+◌, ◌∙◌, true, false, length, refl, sym, ap, arith}
 use Rattle.aig_format.specs.File.{File}
 use Rattle.aig_format.specs.Numbering.{is_compact}
 use Rattle.aig_ordering.specs.Gates.{nodes_in}
@@ -13,15 +13,17 @@ use Rattle.aig_reader.proofs.sections.Lists.number.Goals.{After-deref, else-is_c
 pub returns-then-is_in_order : goal.returns-then-is_in_order
 returns-then-is_in_order c = λ f top h.
     let compact : is_compact f ≡ true = sym h.compact ∙ rw (c.if-is_complete.true, sym c.is_in_order.ensures, c.if-is_in_order.true) refl in
-    compact_judged f record { nodes = c.in_ok-into_nodes.field-0; lists = c.args.self.now } h.good h.lists (c.in_ok-into_nodes.ensures.nodes f.greatest _ f.gates h.gates) (omega (arith, c.in_ok-into_nodes.ensures.len, top)) compact
+    let made = c.in_ok-into_nodes.ensures f.greatest _ f.gates (ap (λ (n : ℕ). n + 1) top) h.gates in
+    compact_judged f record { nodes = c.in_ok-into_nodes.field-0; lists = c.args.self.now } h.good h.lists made.0 (omega (arith, made.1, top)) compact
 
 -- where not all gates rise, or a variable is missing: what the tables tell
 module _ (c : After-deref) (f : File) (top : c.args.greatest ≡ f.greatest) (h : AreLinesOf f c.args.is_complete c.args.self.now c.args.variables.now c.args.gates) where
   gates_are : AreNodesOf f (nodes_in c.in_ok-gates.gates.items)
   gates_are =
       let gates = c.in_ok-gates.gates in
-      let all : length (nodes_in gates.items) ≡ f.greatest + 1 = omega (arith, length-nodes_in gates.items, gates.ok.0, c.in_ok-gates.ensures.len, top) in
-      nodes_placed f h.good (nodes_in gates.items) (c.in_ok-gates.ensures.nodes f.greatest _ f.gates h.gates) all
+      let made = c.in_ok-gates.ensures f.greatest _ f.gates (ap (λ (n : ℕ). n + 1) top) h.gates in
+      let all : length (nodes_in gates.items) ≡ f.greatest + 1 = omega (arith, length-nodes_in gates.items, gates.ok.0, made.1, top) in
+      nodes_placed f h.good (nodes_in gates.items) made.0 all
 
   known_are : AreKnownOf f c.deref.result.now
   known_are = let d = rw c.in-Text.is at h.defined in rw c.deref.ensures.value (c.in_ok-known-in-Text.ensures f d.1)
@@ -39,6 +41,12 @@ tables_are c f top h = record { good = h.good; nodes = gates_are c f top h; know
 
 pub by_level-requires-clause-tables : goal.by_level-requires-clause-tables
 by_level-requires-clause-tables c = (c.requires.0, tables_are c c.requires.0 c.requires.1 c.requires.2)
+
+pub by_level-requires-clause-few : goal.by_level-requires-clause-few
+by_level-requires-clause-few c =
+    let f = c.requires.0 in
+    let h = c.requires.2 in
+    omega (arith, (c.in_ok-gates.ensures f.greatest _ f.gates (ap (λ (n : ℕ). n + 1) c.requires.1) h.gates).1, h.few, c.requires.1)
 
 pub returns : goal.returns
 returns c = λ f top h.
