@@ -12,7 +12,7 @@ mod tool;
 use aig_base::{FromRead, Sink, Source, ToWrite};
 pub use command::{Command, parse};
 use std::fs::File;
-use std::io::{ErrorKind, Write};
+use std::io::{BufReader, ErrorKind, Write};
 use std::process::ExitCode;
 use std::rt::{Env, Files};
 use std::{env, io};
@@ -25,6 +25,9 @@ const USAGE: &str =
     "usage: aigcheck clauses FILE K [raw], window FILE K [distinct] [raw], refuted FILE K PROOF [raw], \
     inductive FILE K PROOF [distinct] [raw], witness FILE K SOLUTION [raw], run FILE WITNESS";
 
+/// How many bytes are read from a file at once.
+const PIECE: usize = 1 << 16;
+
 /// The words after the program's name.
 fn words(rt: &(impl Env + AllocGlobal)) -> io::Result<Vec<String>> {
     let mut words = Vec::new(rt.alloc());
@@ -35,10 +38,16 @@ fn words(rt: &(impl Env + AllocGlobal)) -> io::Result<Vec<String>> {
 }
 
 /// Opens a file for reading.
-fn open<R: Files>(rt: &R, path: &str) -> Result<FromRead<R::File>, CheckError> {
-    match File::open(rt, path) {
+fn open<R: Files + AllocGlobal>(
+    rt: &R,
+    path: &str,
+) -> Result<FromRead<BufReader<R::File>>, CheckError> {
+    let Ok(file) = File::open(rt, path) else {
+        return Err(CheckError::Open);
+    };
+    match BufReader::with_capacity(rt.alloc(), PIECE, file) {
         Ok(file) => Ok(FromRead::new(file)),
-        Err(_) => Err(CheckError::Open),
+        Err(_) => Err(CheckError::Memory),
     }
 }
 

@@ -1,11 +1,11 @@
 -- What a command does, at each way out of it.
 use Rattle.std.proofs.Common.{◌≡◌, ℕ, Bool, false, Option, Some, None, Ok, Err, List, refl, sym, ap, subst, IsTrue}
-use Rattle.std.specs.Prelude.{IsErrOf}
+use Rattle.std.specs.Prelude.{IfErr, IsErrOf, Result}
 use Rattle.std.specs.Io.KnownBytes.{Appends, IsAtEnd}
 use Rattle.aig_format.specs.File.{File}
 use Rattle.aig_reader.specs.declared.error.ReadError.{ReadError}
 use Rattle.aig_reader.specs.declared.error.ReadError.TheVariants as read
-use Rattle.aig_output.specs.Sinks.{AppendsBeginning}
+use Rattle.aig_output.specs.Sinks.{AppendsBeginning, WritesOrStops}
 use Rattle.aig.specs.declared.aiger.WriteError.{WriteError}
 use Rattle.aig.specs.declared.aiger.WriteError.TheVariants as write
 use Rattle.aig_encode.specs.declared.error.EncodeError.{EncodeError}
@@ -91,3 +91,10 @@ module _ {R W : Type 0} (left : R → Option (List ℕ)) (read_failed : R → Bo
 
       pub clauses_printed : {X : Type 0} (Means : File → X → Type 0) (k : ℕ) (x : X) → steps_of c ≡ Some k → Encodes Means limit k (Ok x) (left r) → Runs left read_failed held write_failed c limit r w (Ok u) rest made
       clauses_printed {X} Means k x some exact = answers_all (subst (λ steps. Tell steps limit Answered (left r)) (sym some) (encoded X Means limit k x (left r) exact))
+
+    -- clauses were written, or a beginning of them
+    pub clauses_end : {X : Type 0} (Means : File → X → Type 0) (k : ℕ) (x : X) (result : Result Unit ToolError) (text : List ℕ) → steps_of c ≡ Some k → Encodes Means limit k (Ok x) (left r)
+        → ((Holds : List ℕ → Type 0) → Holds text → AnswersFile c limit (left r) (left rest) Holds) → WritesOrStops held write_failed w result text made → IfErr result (λ e. e ≡ errors.Write write.Stream)
+        → (read_failed rest ≡ false) × IsAtEnd (left rest) → Runs left read_failed held write_failed c limit r w result rest made
+    clauses_end Means k x (Ok u) text some exact answers writes fault whole = clauses_printed u (answers (Appends (held w) (held made)) writes.ok) writes.sound whole Means k x some exact
+    clauses_end Means k x (Err e) text some exact answers writes fault whole = rw fault (stopped write.Stream refl (answers (AppendsBeginning (held w) (held made)) writes.err.beginning) writes.err.has_failed whole)

@@ -10,7 +10,7 @@ use aig::{ReadError, WriteError};
 use aig_base::{FromRead, Sink, ToWrite};
 pub use command::{Command, parse};
 use std::fs::File;
-use std::io::{ErrorKind, Write};
+use std::io::{BufReader, ErrorKind, Write};
 use std::process::ExitCode;
 use std::rt::{Env, Files};
 use std::{env, io};
@@ -18,6 +18,9 @@ pub use tool::{ToolError, run};
 
 const USAGE: &str =
     "usage: aigtool text FILE, binary FILE OUT, strash FILE, cnf FILE K [raw], query FILE K [raw]";
+
+/// How many bytes are read from a file at once.
+const PIECE: usize = 1 << 16;
 
 /// The words after the program's name.
 fn words(rt: &(impl Env + AllocGlobal)) -> io::Result<Vec<String>> {
@@ -37,6 +40,9 @@ fn run_on<W: Sink>(
 ) -> Result<(), ToolError> {
     let Ok(file) = File::open(rt, file) else {
         return Err(ToolError::Read(ReadError::Open));
+    };
+    let Ok(file) = BufReader::with_capacity(rt.alloc(), PIECE, file) else {
+        return Err(ToolError::Memory);
     };
     run(rt.alloc(), command, &mut FromRead::new(file), w)
 }

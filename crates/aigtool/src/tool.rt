@@ -1,13 +1,17 @@
 //! What the commands do with the bytes of a file.
 
-ghost use Rattle.std.specs.Prelude.{◌≡◌};
+ghost use Rattle.std.specs.Prelude.{◌≡◌, ◌++◌, IfErr, length};
+ghost use Rattle.aig_base.specs.Clauses.{AreBelow};
+ghost use Rattle.aig_base.specs.Formula.{clauses_in};
+ghost use Rattle.aig_dimacs.specs.Text.{IsFormula, dimacs_of};
+ghost use Rattle.aig_output.specs.Sinks.{WritesOrStops};
 ghost use Rattle.aig.specs.declared.aiger.WriteError.TheVariants as write;
 ghost use Rattle.aigtool.specs.declared.tool.ToolError.TheVariants as errors;
 ghost use Rattle.aigtool.specs.Running.{Runs};
 
 use crate::command::Command;
 use aig::{Aig, ReadError, WriteError};
-use aig_base::{LitVvec, MemoryError, Sink, Source, StreamFault};
+use aig_base::{DagCnf, LitVvec, MemoryError, Sink, Source, StreamFault};
 use aig_dimacs::write_dimacs;
 use aig_encode::{EncodeError, encode, query};
 use std::alloc::Global;
@@ -101,6 +105,18 @@ fn print_strashed<R: Source, W: Sink>(alloc: Global, r: &mut R, w: &mut W) -> Re
     Ok(strashed.write_text(w)?)
 }
 
+/// Prints clauses, with further ones after them.
+fn print_dimacs<W: Sink>(w: &mut W, clauses: &DagCnf, further: &LitVvec) -> Result<(), ToolError>
+    requires { AreBelow (length clauses.now) further.now }
+    ensures writes { let text = dimacs_of (length clauses.now)
+        (clauses_in clauses.now ++ further.now) in
+        WritesOrStops W.held W.failed w.old result text w.new }
+    ensures formula { IsFormula (length clauses.now) (clauses_in clauses.now ++ further.now) }
+    ensures fault { IfErr result (λ e. e ≡ errors.Write write.Stream) }
+{
+    Ok(write_dimacs(w, clauses, further)?)
+}
+
 /// Prints the clauses of a file's circuit that is unrolled by `k` steps.
 fn print_cnf<R: Source, W: Sink>(
     alloc: Global,
@@ -113,7 +129,8 @@ fn print_cnf<R: Source, W: Sink>(
         Runs R.left R.failed W.held W.failed command LIMIT r.old w.old result r.new w.new }
 {
     let encoded = encode(alloc, r, LIMIT, k, optimize)?;
-    Ok(write_dimacs(w, &encoded.clauses, &LitVvec::new(alloc))?)
+    let further = LitVvec::new(alloc);
+    print_dimacs(w, &encoded.clauses, &further)
 }
 
 /// Prints clauses that ask for a run to a bad state after `k` steps.
@@ -128,7 +145,7 @@ fn print_query<R: Source, W: Sink>(
         Runs R.left R.failed W.held W.failed command LIMIT r.old w.old result r.new w.new }
 {
     let asked = query(alloc, r, LIMIT, k, optimize)?;
-    Ok(write_dimacs(w, &asked.encoded.clauses, &asked.extra)?)
+    print_dimacs(w, &asked.encoded.clauses, &asked.extra)
 }
 
 /// Reads FILE's bytes from `r`, and writes to `w` what the command prints, or for `Binary` what it puts into OUT.
