@@ -1,5 +1,5 @@
 -- The words of a command.
-use Rattle.std.proofs.Common.{◌≡◌, ◌↔◌, ℕ, ◌+◌, ◌-◌, ◌<◌, ◌≤◌, Bool, true, false, List, [], ◌∷◌, length, map, get_or, drop, take, Option, Some, None, refl, sym, ap, subst, ◌∙◌, Global, arith}
+use Rattle.std.proofs.Common.{◌≡◌, ◌↔◌, ◌⊎◌, ℕ, ◌+◌, ◌-◌, ◌<◌, ◌≤◌, Bool, true, false, List, [], ◌∷◌, length, map, get_or, drop, take, Option, Some, None, refl, sym, ap, subst, ◌∙◌, Global, inl, inr, arith}
 use Rattle.std.specs.Prelude.{IfSome, String, codes, string_bytes}
 use Rattle.std.proofs.lemmas.List.{take_all}
 use Rattle.std.proofs.lemmas.Option.{same_Some}
@@ -29,6 +29,10 @@ pub with_first : (words : List (String Global)) (first : String Global) → 1 �
 with_first [] first low at = absurd (omega arith)
 with_first (w ∷ ws) first low at =
     ap (λ x. string_bytes x ∷ map string_bytes ws) (sym at) ∙ ap (λ l. string_bytes first ∷ map string_bytes l) (sym (take_all (length (w ∷ ws) - 1) ws (omega arith)))
+
+pub no_words : (words : List (String Global)) → length words < 1 → map string_bytes words ≡ []
+no_words [] low = refl
+no_words (w ∷ ws) low = absurd (omega arith)
 
 pub with_some : (words : List (String Global)) → 1 ≤ length words
     → (first : List ℕ) × (map string_bytes words ≡ first ∷ map string_bytes (following 1 words))
@@ -95,17 +99,30 @@ GiveLast name k words c = (name ≡ name_of c) × (k ≡ step_of c) × AreLast c
 abbrev pub TellsLast : Option Command → List ℕ → ℕ → List (List ℕ) → Type 0
 TellsLast r name k words = (c : Command) → (r ≡ Some c) ↔ GiveLast name k words c
 
--- a command is given by its settings after one word
-following_word : {X : Type 0} (words_of : X → List (List ℕ)) (make : X → Command) (name : List ℕ) (k : ℕ) (words : List (List ℕ)) (given : List ℕ) (last : List (List ℕ)) → words ≡ given ∷ last
-    → ((c : Command) → GiveLast name k words c → (x : X) × (c ≡ make x) × (word : List ℕ) × (words ≡ word ∷ words_of x)) → ((x : X) → (word : List ℕ) × (words ≡ word ∷ words_of x) → GiveLast name k words (make x))
-    → (told : Option X) → ((x : X) → (told ≡ Some x) ↔ (last ≡ words_of x)) → (x : X) → told ≡ Some x → TellsLast (Some (make x)) name k words
-following_word words_of make name k words given last are only so told tells x has c = (
-  λ is. subst (GiveLast name k words) (same_Some _ _ is) (so x (given, are ∙ ap (λ l. given ∷ l) ((tells x).0 has))),
-  λ g.
-      let h = only c g in
-      let rest : last ≡ words_of h.0 = (same_words given h.2 last (words_of h.0) (sym are ∙ h.3)).1 in
-      let same : x ≡ h.0 = same_Some _ _ (sym has ∙ (tells h.0).1 rest) in
-      ap (λ y. Some (make y)) same ∙ ap (λ d. Some d) (sym h.1),
+-- what settings tell, as a command
+abbrev pub IsTold : {X : Type 0} → (X → Command) → Option X → Option Command → Type 0
+IsTold make None r = r ≡ None
+IsTold make (Some x) r = r ≡ Some (make x)
+
+-- a command is given by its settings, which fit the words
+module _ {X : Type 0} (make : X → Command) (Fits : X → Type 0) (name : List ℕ) (k : ℕ) (words : List (List ℕ)) (only : (c : Command) → GiveLast name k words c → (x : X) × (c ≡ make x) × Fits x) (so : (x : X) → Fits x → GiveLast name k words (make x)) where
+  by_settings : (told : Option X) → ((x : X) → (told ≡ Some x) ↔ Fits x) → (r : Option Command)
+      → IsTold make told r → TellsLast r name k words
+  by_settings None tells r is c = (λ some. cc, λ g. let h = only c g in let some = (tells h.0).1 h.2 in cc)
+  by_settings (Some x) tells r is c = (
+    λ some. subst (GiveLast name k words) (same_Some _ _ (sym is ∙ some)) (so x ((tells x).0 refl)),
+    λ g.
+        let h = only c g in
+        let same : x ≡ h.0 = same_Some _ _ ((tells h.0).1 h.2) in
+        is ∙ ap (λ y. Some (make y)) same ∙ ap (λ d. Some d) (sym h.1),
+  )
+
+-- settings after one word
+after_word : {X : Type 0} (words_of : X → List (List ℕ)) (words : List (List ℕ)) (given : List ℕ) (last : List (List ℕ)) → words ≡ given ∷ last → (told : Option X) → ((x : X) → (told ≡ Some x) ↔ (last ≡ words_of x))
+    → (x : X) → (told ≡ Some x) ↔ ((word : List ℕ) × (words ≡ word ∷ words_of x))
+after_word words_of words given last are told tells x = (
+  λ is. (given, are ∙ ap (λ l. given ∷ l) ((tells x).0 is)),
+  λ h. (tells x).1 (same_words given h.0 last (words_of x) (sym are ∙ h.1)).1,
 )
 
 -- the third letter of a name, in which those of commands that name a step differ
@@ -113,41 +130,80 @@ abbrev third : List ℕ → ℕ
 third name = get_or name 2 0
 
 -- which commands have a name
-refuted_alone : (c : Command) (k : ℕ) (words : List (List ℕ)) → GiveLast (codes "refuted") k words c → (o : Bool) × (c ≡ commands.Refuted k o) × (proof : List ℕ) × (words ≡ proof ∷ clause_words o)
+clauses_alone : (c : Command) (k : ℕ) (words : List (List ℕ)) → GiveLast (codes "clauses") k words c → (o : Bool) × (c ≡ commands.Clauses k o) × (words ≡ clause_words o)
+clauses_alone (commands.Clauses n o) k words g = (o, ap (λ m. commands.Clauses m o) (sym g.1), g.2)
+clauses_alone (commands.Window n form o) k words g = absurd (omega (arith, ap third g.0))
+clauses_alone (commands.Refuted n o) k words g = absurd (omega (arith, ap third g.0))
+clauses_alone (commands.Inductive n form o) k words g = absurd (omega (arith, ap third g.0))
+clauses_alone (commands.Witness n o) k words g = absurd (omega (arith, ap third g.0))
+clauses_alone commands.Run k words g = absurd g.2
+
+window_alone : (c : Command) (k : ℕ) (words : List (List ℕ)) → GiveLast (codes "window") k words c → (p : Window × Bool) × (c ≡ commands.Window k p.0 p.1) × (words ≡ setting_words p.0 p.1)
+window_alone (commands.Clauses n o) k words g = absurd (omega (arith, ap third g.0))
+window_alone (commands.Window n form o) k words g = ((form, o), ap (λ m. commands.Window m form o) (sym g.1), g.2)
+window_alone (commands.Refuted n o) k words g = absurd (omega (arith, ap third g.0))
+window_alone (commands.Inductive n form o) k words g = absurd (omega (arith, ap third g.0))
+window_alone (commands.Witness n o) k words g = absurd (omega (arith, ap third g.0))
+window_alone commands.Run k words g = absurd g.2
+
+refuted_alone : (c : Command) (k : ℕ) (words : List (List ℕ)) → GiveLast (codes "refuted") k words c → (o : Bool) × (c ≡ commands.Refuted k o) × ((proof : List ℕ) × (words ≡ proof ∷ clause_words o))
 refuted_alone (commands.Clauses n o) k words g = absurd (omega (arith, ap third g.0))
 refuted_alone (commands.Window n form o) k words g = absurd (omega (arith, ap third g.0))
-refuted_alone (commands.Refuted n o) k words g = (o, ap (λ m. commands.Refuted m o) (sym g.1), g.2.0, g.2.1)
+refuted_alone (commands.Refuted n o) k words g = (o, ap (λ m. commands.Refuted m o) (sym g.1), g.2)
 refuted_alone (commands.Inductive n form o) k words g = absurd (omega (arith, ap third g.0))
 refuted_alone (commands.Witness n o) k words g = absurd (omega (arith, ap third g.0))
 refuted_alone commands.Run k words g = absurd g.2
 
-inductive_alone : (c : Command) (k : ℕ) (words : List (List ℕ)) → GiveLast (codes "inductive") k words c → (p : Window × Bool) × (c ≡ commands.Inductive k p.0 p.1) × (proof : List ℕ) × (words ≡ proof ∷ setting_words p.0 p.1)
+inductive_alone : (c : Command) (k : ℕ) (words : List (List ℕ)) → GiveLast (codes "inductive") k words c → (p : Window × Bool) × (c ≡ commands.Inductive k p.0 p.1) × ((proof : List ℕ) × (words ≡ proof ∷ setting_words p.0 p.1))
 inductive_alone (commands.Clauses n o) k words g = absurd (omega (arith, ap third g.0))
 inductive_alone (commands.Window n form o) k words g = absurd (omega (arith, ap third g.0))
 inductive_alone (commands.Refuted n o) k words g = absurd (omega (arith, ap third g.0))
-inductive_alone (commands.Inductive n form o) k words g = ((form, o), ap (λ m. commands.Inductive m form o) (sym g.1), g.2.0, g.2.1)
+inductive_alone (commands.Inductive n form o) k words g = ((form, o), ap (λ m. commands.Inductive m form o) (sym g.1), g.2)
 inductive_alone (commands.Witness n o) k words g = absurd (omega (arith, ap third g.0))
 inductive_alone commands.Run k words g = absurd g.2
 
-witness_alone : (c : Command) (k : ℕ) (words : List (List ℕ)) → GiveLast (codes "witness") k words c → (o : Bool) × (c ≡ commands.Witness k o) × (solution : List ℕ) × (words ≡ solution ∷ clause_words o)
+witness_alone : (c : Command) (k : ℕ) (words : List (List ℕ)) → GiveLast (codes "witness") k words c → (o : Bool) × (c ≡ commands.Witness k o) × ((solution : List ℕ) × (words ≡ solution ∷ clause_words o))
 witness_alone (commands.Clauses n o) k words g = absurd (omega (arith, ap third g.0))
 witness_alone (commands.Window n form o) k words g = absurd (omega (arith, ap third g.0))
 witness_alone (commands.Refuted n o) k words g = absurd (omega (arith, ap third g.0))
 witness_alone (commands.Inductive n form o) k words g = absurd (omega (arith, ap third g.0))
-witness_alone (commands.Witness n o) k words g = (o, ap (λ m. commands.Witness m o) (sym g.1), g.2.0, g.2.1)
+witness_alone (commands.Witness n o) k words g = (o, ap (λ m. commands.Witness m o) (sym g.1), g.2)
 witness_alone commands.Run k words g = absurd g.2
 
--- what the settings after a word tell
-module _ (name : List ℕ) (k : ℕ) (words : List (List ℕ)) (given : List ℕ) (last : List (List ℕ)) (are : words ≡ given ∷ last) where
-  pub some_refuted : name ≡ codes "refuted" → (told : Option Bool) → TellsClauses told last → (o : Bool) → told ≡ Some o → TellsLast (Some (commands.Refuted k o)) name k words
-  some_refuted is = following_word clause_words (λ o. commands.Refuted k o) name k words given last are (λ c g. refuted_alone c k words (sym is ∙ g.0, g.1, g.2)) (λ o w. (is, refl, w))
+-- what the settings tell, by the name
+module _ (name : List ℕ) (k : ℕ) (words : List (List ℕ)) where
+  pub clauses_told : name ≡ codes "clauses" → (told : Option Bool) → TellsClauses told words → (r : Option Command) → IsTold (λ o. commands.Clauses k o) told r → TellsLast r name k words
+  clauses_told is = by_settings (λ o. commands.Clauses k o) (λ o. words ≡ clause_words o) name k words (λ c g. clauses_alone c k words (sym is ∙ g.0, g.1, g.2)) (λ o w. (is, refl, w))
 
-  pub some_inductive : name ≡ codes "inductive" → (told : Option (Window × Bool)) → TellsSettings told last → (p : Window × Bool) → told ≡ Some p → TellsLast (Some (commands.Inductive k p.0 p.1)) name k words
-  some_inductive is told tells =
-      following_word (λ (p : Window × Bool). setting_words p.0 p.1) (λ p. commands.Inductive k p.0 p.1) name k words given last are (λ c g. inductive_alone c k words (sym is ∙ g.0, g.1, g.2)) (λ p w. (is, refl, w)) told (λ p. tells p.0 p.1)
+  pub window_told : name ≡ codes "window" → (told : Option (Window × Bool)) → TellsSettings told words → (r : Option Command) → IsTold (λ (p : Window × Bool). commands.Window k p.0 p.1) told r → TellsLast r name k words
+  window_told is told tells =
+      by_settings (λ (p : Window × Bool). commands.Window k p.0 p.1) (λ p. words ≡ setting_words p.0 p.1) name k words (λ c g. window_alone c k words (sym is ∙ g.0, g.1, g.2)) (λ p w. (is, refl, w)) told (λ p. tells p.0 p.1)
 
-  pub some_witness : name ≡ codes "witness" → (told : Option Bool) → TellsClauses told last → (o : Bool) → told ≡ Some o → TellsLast (Some (commands.Witness k o)) name k words
-  some_witness is = following_word clause_words (λ o. commands.Witness k o) name k words given last are (λ c g. witness_alone c k words (sym is ∙ g.0, g.1, g.2)) (λ o w. (is, refl, w))
+  -- the settings stand after a word
+  module _ (given : List ℕ) (last : List (List ℕ)) (are : words ≡ given ∷ last) where
+    pub refuted_told : name ≡ codes "refuted" → (told : Option Bool) → TellsClauses told last → (r : Option Command) → IsTold (λ o. commands.Refuted k o) told r → TellsLast r name k words
+    refuted_told is told tells =
+        by_settings (λ o. commands.Refuted k o) (λ o. (word : List ℕ) × (words ≡ word ∷ clause_words o)) name k words (λ c g. refuted_alone c k words (sym is ∙ g.0, g.1, g.2)) (λ o w. (is, refl, w)) told (after_word clause_words words given last are told tells)
+
+    pub inductive_told : name ≡ codes "inductive" → (told : Option (Window × Bool)) → TellsSettings told last → (r : Option Command) → IsTold (λ (p : Window × Bool). commands.Inductive k p.0 p.1) told r → TellsLast r name k words
+    inductive_told is told tells =
+        by_settings (λ (p : Window × Bool). commands.Inductive k p.0 p.1) (λ p. (word : List ℕ) × (words ≡ word ∷ setting_words p.0 p.1)) name k words (λ c g. inductive_alone c k words (sym is ∙ g.0, g.1, g.2)) (λ p w. (is, refl, w)) told (after_word (λ (p : Window × Bool). setting_words p.0 p.1) words given last are told (λ p. tells p.0 p.1))
+
+    pub witness_told : name ≡ codes "witness" → (told : Option Bool) → TellsClauses told last → (r : Option Command) → IsTold (λ o. commands.Witness k o) told r → TellsLast r name k words
+    witness_told is told tells =
+        by_settings (λ o. commands.Witness k o) (λ o. (word : List ℕ) × (words ≡ word ∷ clause_words o)) name k words (λ c g. witness_alone c k words (sym is ∙ g.0, g.1, g.2)) (λ o w. (is, refl, w)) told (after_word clause_words words given last are told tells)
+
+  -- another name, or no word where one is wanted
+  pub none_told : (name ≡ codes "clauses" → ⊥) → (name ≡ codes "window" → ⊥) → (words ≡ []) ⊎ ((name ≡ codes "refuted" → ⊥) × (name ≡ codes "inductive" → ⊥) × (name ≡ codes "witness" → ⊥)) → TellsLast None name k words
+  none_told clauses window other c = (λ is. cc, λ g. absurd (none c g))
+    where
+      none : (c : Command) → GiveLast name k words c → ⊥
+      none (commands.Clauses n o) g = clauses g.0
+      none (commands.Window n form o) g = window g.0
+      none (commands.Refuted n o) g = elim other [ inl empty ↦ let is = sym empty ∙ g.2.1 in cc | inr others ↦ others.0 g.0 ]
+      none (commands.Inductive n form o) g = elim other [ inl empty ↦ let is = sym empty ∙ g.2.1 in cc | inr others ↦ others.1 g.0 ]
+      none (commands.Witness n o) g = elim other [ inl empty ↦ let is = sym empty ∙ g.2.1 in cc | inr others ↦ others.2 g.0 ]
+      none commands.Run g = g.2
 
 -- ---- steps
 

@@ -4,3 +4,4 @@ mod Memory
 mod Placing
 mod Shown
 mod Examples
+mod Printing

@@ -160,8 +160,6 @@ pub(crate) fn write_comments<W: Sink>(
     requires places { places.now ≡ asked.now.encoded.circuit }
     requires steps { UnrollsTo asked.now.encoded.circuit k asked.now.encoded.unrolled }
     requires few { length asked.now.encoded.unrolled.nodes ≤ 2 ^ 31 }
-    requires bads { length asked.now.encoded.unrolled.properties.bads
-        ≡ (k + 1) * length asked.now.encoded.circuit.properties.bads }
     requires small { k < 2 ^ 32 }
     ensures { let text = comments_of asked.now.encoded.circuit asked.now.encoded.unrolled k in
         WritesOrStops W.held W.failed w.old result text w.new }

@@ -1,6 +1,6 @@
 //! What the commands do with the bytes of a file, and of a proof, a solver's answer or a witness.
 
-ghost use Rattle.std.specs.Prelude.{◌≡◌, ◌<◌, ◌^◌, ◌++◌, ◌∷◌, [], IfOk, IsErrOf, IsTrue, None, decimal, length};
+ghost use Rattle.std.specs.Prelude.{◌≡◌, ◌<◌, ◌≤◌, ◌^◌, ◌++◌, ◌∷◌, [], IfOk, IsErrOf, IsTrue, None, decimal, length};
 ghost use Rattle.aig_answers.specs.Answers.{IsAsked, TellsOfFile};
 ghost use Rattle.aig_answers.specs.declared.error.AnswerError.TheVariants as answers;
 ghost use Rattle.aig_base.specs.Clauses.{AreBelow};
@@ -8,6 +8,8 @@ ghost use Rattle.aig_encode.specs.declared.error.EncodeError.TheVariants as enco
 ghost use Rattle.aig_encode.specs.Encoding.{IsQuery};
 ghost use Rattle.aig_reader.specs.Reading.{IsReadAs};
 ghost use Rattle.aig_output.specs.Sinks.{BuffersOrStops, WritesOrStops};
+ghost use Rattle.aig_unroll.specs.Unroll.{UnrollsTo};
+ghost use Rattle.aigcheck.specs.Printing.{IsKnownText, IsQueryText, Prints};
 ghost use Rattle.aigcheck.specs.Running.{Runs, shown_line};
 ghost use Rattle.aigcheck.specs.declared.tool.CheckError.TheVariants as errors;
 
@@ -213,6 +215,19 @@ fn asked_query<R: Source>(
     Ok(asked)
 }
 
+/// Prints a query for step `k`: comments that say which literals stand for what, and then its clauses.
+fn print_query<W: Sink>(alloc: Global, asked: &Query, k: usize, w: &mut W) -> Result<(), CheckError>
+    requires small { k < 2 ^ 32 }
+    requires steps { UnrollsTo asked.now.encoded.circuit k asked.now.encoded.unrolled }
+    requires few { length asked.now.encoded.unrolled.nodes ≤ 2 ^ 31 }
+    requires below { AreBelow (length asked.now.encoded.clauses) asked.now.extra }
+    ensures { Prints W.held W.failed (IsQueryText asked.now k) w.old result w.new }
+{
+    let places = Places::new(alloc, &asked.encoded.circuit)?;
+    write_comments(w, asked, &places, k)?;
+    Ok(write_dimacs(w, &asked.encoded.clauses, &asked.extra)?)
+}
+
 /// Prints the clauses of the query of a file for step `k`, as `write_dimacs` does, and before them comments that say which
 /// literals stand for its inputs at each step, its latches at step 0, and its bad state properties at step `k`. Requires that `k`
 /// is below 2^32.
@@ -228,9 +243,28 @@ pub fn print_clauses<R: Source, W: Sink>(
         Runs R.left R.failed W.held W.failed command LIMIT None r.old w.old result r.new w.new }
 {
     let asked = asked_query(alloc, k, optimize, r)?;
-    let places = Places::new(alloc, &asked.encoded.circuit)?;
-    write_comments(w, &asked, &places, k)?;
-    Ok(write_dimacs(w, &asked.encoded.clauses, &asked.extra)?)
+    print_query(alloc, &asked, k, w)
+}
+
+/// Reads a solver's answer to a query for step `k`, and prints the witness that it says, which was checked.
+fn print_solution<P: Source, W: Sink>(
+    alloc: Global,
+    asked: &Query,
+    k: usize,
+    solution: &mut P,
+    w: &mut W,
+) -> Result<(), CheckError>
+    requires small { k < 2 ^ 32 }
+    requires steps { UnrollsTo asked.now.encoded.circuit k asked.now.encoded.unrolled }
+    ensures prints { let circuit = asked.now.encoded.circuit in
+        Prints W.held W.failed (IsKnownText circuit k) w.old result w.new }
+    // A read of the solver's answer is said to have failed only where one did in this call.
+    ensures stream { IsErrOf result
+        (CheckError.Solution (CheckedWitnessError.Solution SolutionError.Stream))
+        → IsTrue (P.failed solution.new) }
+{
+    let witness = checked_witness(alloc, asked, k, solution)?;
+    Ok(write_witness(w, &witness)?)
 }
 
 /// Reads a solver's answer to the query of a file for step `k`, and prints the witness that it says, which was checked. Requires
@@ -254,8 +288,7 @@ pub fn print_witness<R: Source, P: Source, W: Sink>(
 {
     known_witnesses_show();
     let asked = asked_query(alloc, k, optimize, r)?;
-    let witness = checked_witness(alloc, &asked, k, solution)?;
-    Ok(write_witness(w, &witness)?)
+    print_solution(alloc, &asked, k, solution, w)
 }
 
 /// Checks that a witness shows a bad state of a file's machine, and prints which bad state property that is, and at which

@@ -19,6 +19,12 @@ returns-then-is_empty-clause-file g c =
     let none = none_told o.file c.in_ok-asked.asked.encoded.circuit _ _ o.means.0.of_file c.bads.ensures.value c.is_empty.ensures c.if-is_empty.true in
     answered_alike g.R.Source.left g.R.Source.failed LIMIT c.args.k c.args.r.now _ Query (Err errors.NoBads) refl (λ e is. cc) (λ is. (o.file, o.bytes, (o.holds, none), o.taken)) (IsQuery c.args.k c.args.optimize) c.in_ok-asked.asked c.in_ok-asked.ensures.exact
 
+pub returns-clause-answer : goal.returns-clause-answer
+returns-clause-answer g c =
+    let o = c.in_ok-asked.ensures.answer in
+    let some = some_told o.file c.in_ok-asked.asked.encoded.circuit _ _ o.means.0.of_file c.bads.ensures.value c.is_empty.ensures c.if-is_empty.false in
+    record { file = o.file; bytes = o.bytes; holds = (o.holds, some); means = o.means; taken = o.taken }
+
 pub returns-clause-file : goal.returns-clause-file
 returns-clause-file g c =
     answered_alike g.R.Source.left g.R.Source.failed LIMIT c.args.k c.args.r.now _ Query (Ok c.in_ok-asked.asked) refl (λ e is. cc) (λ is. cc) (IsQuery c.args.k c.args.optimize) c.in_ok-asked.asked c.in_ok-asked.ensures.exact

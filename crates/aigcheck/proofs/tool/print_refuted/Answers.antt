@@ -6,7 +6,7 @@ use Rattle.aigcheck.proofs.tool.print_refuted.Goals as goal
 pub returns-in_err-check_step : goal.returns-in_err-check_step
 returns-in_err-check_step g c =
     let p = err_from_is_err_and c.from_residual.result c.from_residual.ensures.1 in
-    rw (p.1, p.2) (c.in_err-check_step.ensures.file, refl)
+    rw (p.1, p.2) (c.in_err-check_step.ensures.file, refl {a = c.args.w.now})
 
 pub returns-in_err-write_line : goal.returns-in_err-write_line
 returns-in_err-write_line g c =

@@ -10,7 +10,7 @@ use Rattle.aigcheck.proofs.tool.print_window.Goals as goal
 pub returns-in_err-asked : goal.returns-in_err-asked
 returns-in_err-asked g c =
     let p = err_from_is_err_and c.from_residual.result c.from_residual.ensures.1 in
-    rw (p.1, p.2) (told_again g.R.Source.left g.R.Source.failed _ _ c.args.r.now _ WindowClauses Unit c.in_err-asked.field-0.0 c.in_err-asked.ensures.file, refl)
+    rw (p.1, p.2) (told_again g.R.Source.left g.R.Source.failed _ _ c.args.r.now _ WindowClauses Unit c.in_err-asked.field-0.0 c.in_err-asked.ensures.file, refl {a = c.args.w.now})
 
 pub returns-in_err-write_dimacs : goal.returns-in_err-write_dimacs
 returns-in_err-write_dimacs g c =
