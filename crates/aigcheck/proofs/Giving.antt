@@ -108,7 +108,8 @@ IsTold make (Some x) r = r ≡ Some (make x)
 module _ {X : Type 0} (make : X → Command) (Fits : X → Type 0) (name : List ℕ) (k : ℕ) (words : List (List ℕ)) (only : (c : Command) → GiveLast name k words c → (x : X) × (c ≡ make x) × Fits x) (so : (x : X) → Fits x → GiveLast name k words (make x)) where
   by_settings : (told : Option X) → ((x : X) → (told ≡ Some x) ↔ Fits x) → (r : Option Command)
       → IsTold make told r → TellsLast r name k words
-  by_settings None tells r is c = (λ some. cc, λ g. let h = only c g in let some = (tells h.0).1 h.2 in cc)
+  by_settings None tells r is c =
+      (λ some. cc, λ g. let h = only c g in let some = (tells h.0).1 h.2 in cc)
   by_settings (Some x) tells r is c = (
     λ some. subst (GiveLast name k words) (same_Some _ _ (sym is ∙ some)) (so x ((tells x).0 refl)),
     λ g.
@@ -130,7 +131,8 @@ abbrev third : List ℕ → ℕ
 third name = get_or name 2 0
 
 -- which commands have a name
-clauses_alone : (c : Command) (k : ℕ) (words : List (List ℕ)) → GiveLast (codes "clauses") k words c → (o : Bool) × (c ≡ commands.Clauses k o) × (words ≡ clause_words o)
+clauses_alone : (c : Command) (k : ℕ) (words : List (List ℕ)) → GiveLast (codes "clauses") k words c
+    → (o : Bool) × (c ≡ commands.Clauses k o) × (words ≡ clause_words o)
 clauses_alone (commands.Clauses n o) k words g = (o, ap (λ m. commands.Clauses m o) (sym g.1), g.2)
 clauses_alone (commands.Window n form o) k words g = absurd (omega (arith, ap third g.0))
 clauses_alone (commands.Refuted n o) k words g = absurd (omega (arith, ap third g.0))
@@ -138,15 +140,18 @@ clauses_alone (commands.Inductive n form o) k words g = absurd (omega (arith, ap
 clauses_alone (commands.Witness n o) k words g = absurd (omega (arith, ap third g.0))
 clauses_alone commands.Run k words g = absurd g.2
 
-window_alone : (c : Command) (k : ℕ) (words : List (List ℕ)) → GiveLast (codes "window") k words c → (p : Window × Bool) × (c ≡ commands.Window k p.0 p.1) × (words ≡ setting_words p.0 p.1)
+window_alone : (c : Command) (k : ℕ) (words : List (List ℕ)) → GiveLast (codes "window") k words c
+    → (p : Window × Bool) × (c ≡ commands.Window k p.0 p.1) × (words ≡ setting_words p.0 p.1)
 window_alone (commands.Clauses n o) k words g = absurd (omega (arith, ap third g.0))
-window_alone (commands.Window n form o) k words g = ((form, o), ap (λ m. commands.Window m form o) (sym g.1), g.2)
+window_alone (commands.Window n form o) k words g =
+    ((form, o), ap (λ m. commands.Window m form o) (sym g.1), g.2)
 window_alone (commands.Refuted n o) k words g = absurd (omega (arith, ap third g.0))
 window_alone (commands.Inductive n form o) k words g = absurd (omega (arith, ap third g.0))
 window_alone (commands.Witness n o) k words g = absurd (omega (arith, ap third g.0))
 window_alone commands.Run k words g = absurd g.2
 
-refuted_alone : (c : Command) (k : ℕ) (words : List (List ℕ)) → GiveLast (codes "refuted") k words c → (o : Bool) × (c ≡ commands.Refuted k o) × ((proof : List ℕ) × (words ≡ proof ∷ clause_words o))
+refuted_alone : (c : Command) (k : ℕ) (words : List (List ℕ)) → GiveLast (codes "refuted") k words c
+    → (o : Bool) × (c ≡ commands.Refuted k o) × ((proof : List ℕ) × (words ≡ proof ∷ clause_words o))
 refuted_alone (commands.Clauses n o) k words g = absurd (omega (arith, ap third g.0))
 refuted_alone (commands.Window n form o) k words g = absurd (omega (arith, ap third g.0))
 refuted_alone (commands.Refuted n o) k words g = (o, ap (λ m. commands.Refuted m o) (sym g.1), g.2)
@@ -154,15 +159,19 @@ refuted_alone (commands.Inductive n form o) k words g = absurd (omega (arith, ap
 refuted_alone (commands.Witness n o) k words g = absurd (omega (arith, ap third g.0))
 refuted_alone commands.Run k words g = absurd g.2
 
-inductive_alone : (c : Command) (k : ℕ) (words : List (List ℕ)) → GiveLast (codes "inductive") k words c → (p : Window × Bool) × (c ≡ commands.Inductive k p.0 p.1) × ((proof : List ℕ) × (words ≡ proof ∷ setting_words p.0 p.1))
+inductive_alone : (c : Command) (k : ℕ) (words : List (List ℕ))
+    → GiveLast (codes "inductive") k words c
+    → (p : Window × Bool) × (c ≡ commands.Inductive k p.0 p.1) × ((proof : List ℕ) × (words ≡ proof ∷ setting_words p.0 p.1))
 inductive_alone (commands.Clauses n o) k words g = absurd (omega (arith, ap third g.0))
 inductive_alone (commands.Window n form o) k words g = absurd (omega (arith, ap third g.0))
 inductive_alone (commands.Refuted n o) k words g = absurd (omega (arith, ap third g.0))
-inductive_alone (commands.Inductive n form o) k words g = ((form, o), ap (λ m. commands.Inductive m form o) (sym g.1), g.2)
+inductive_alone (commands.Inductive n form o) k words g =
+    ((form, o), ap (λ m. commands.Inductive m form o) (sym g.1), g.2)
 inductive_alone (commands.Witness n o) k words g = absurd (omega (arith, ap third g.0))
 inductive_alone commands.Run k words g = absurd g.2
 
-witness_alone : (c : Command) (k : ℕ) (words : List (List ℕ)) → GiveLast (codes "witness") k words c → (o : Bool) × (c ≡ commands.Witness k o) × ((solution : List ℕ) × (words ≡ solution ∷ clause_words o))
+witness_alone : (c : Command) (k : ℕ) (words : List (List ℕ)) → GiveLast (codes "witness") k words c
+    → (o : Bool) × (c ≡ commands.Witness k o) × ((solution : List ℕ) × (words ≡ solution ∷ clause_words o))
 witness_alone (commands.Clauses n o) k words g = absurd (omega (arith, ap third g.0))
 witness_alone (commands.Window n form o) k words g = absurd (omega (arith, ap third g.0))
 witness_alone (commands.Refuted n o) k words g = absurd (omega (arith, ap third g.0))
@@ -172,37 +181,67 @@ witness_alone commands.Run k words g = absurd g.2
 
 -- what the settings tell, by the name
 module _ (name : List ℕ) (k : ℕ) (words : List (List ℕ)) where
-  pub clauses_told : name ≡ codes "clauses" → (told : Option Bool) → TellsClauses told words → (r : Option Command) → IsTold (λ o. commands.Clauses k o) told r → TellsLast r name k words
-  clauses_told is = by_settings (λ o. commands.Clauses k o) (λ o. words ≡ clause_words o) name k words (λ c g. clauses_alone c k words (sym is ∙ g.0, g.1, g.2)) (λ o w. (is, refl, w))
+  pub clauses_told : name ≡ codes "clauses" → (told : Option Bool) → TellsClauses told words
+      → (r : Option Command) → IsTold (λ o. commands.Clauses k o) told r → TellsLast r name k words
+  clauses_told is = by_settings (λ o. commands.Clauses k o) (λ o. words ≡ clause_words o) name k
+      words (λ c g. clauses_alone c k words (sym is ∙ g.0, g.1, g.2)) (λ o w. (is, refl, w))
 
-  pub window_told : name ≡ codes "window" → (told : Option (Window × Bool)) → TellsSettings told words → (r : Option Command) → IsTold (λ (p : Window × Bool). commands.Window k p.0 p.1) told r → TellsLast r name k words
+  pub window_told : name ≡ codes "window" → (told : Option (Window × Bool))
+      → TellsSettings told words → (r : Option Command)
+      → IsTold (λ (p : Window × Bool). commands.Window k p.0 p.1) told r → TellsLast r name k words
   window_told is told tells =
-      by_settings (λ (p : Window × Bool). commands.Window k p.0 p.1) (λ p. words ≡ setting_words p.0 p.1) name k words (λ c g. window_alone c k words (sym is ∙ g.0, g.1, g.2)) (λ p w. (is, refl, w)) told (λ p. tells p.0 p.1)
+      by_settings (λ (p : Window × Bool). commands.Window k p.0 p.1)
+      (λ p. words ≡ setting_words p.0 p.1) name k words
+      (λ c g. window_alone c k words (sym is ∙ g.0, g.1, g.2)) (λ p w. (is, refl, w)) told
+      (λ p. tells p.0 p.1)
 
   -- the settings stand after a word
   module _ (given : List ℕ) (last : List (List ℕ)) (are : words ≡ given ∷ last) where
-    pub refuted_told : name ≡ codes "refuted" → (told : Option Bool) → TellsClauses told last → (r : Option Command) → IsTold (λ o. commands.Refuted k o) told r → TellsLast r name k words
+    pub refuted_told : name ≡ codes "refuted" → (told : Option Bool) → TellsClauses told last
+        → (r : Option Command) → IsTold (λ o. commands.Refuted k o) told r
+        → TellsLast r name k words
     refuted_told is told tells =
-        by_settings (λ o. commands.Refuted k o) (λ o. (word : List ℕ) × (words ≡ word ∷ clause_words o)) name k words (λ c g. refuted_alone c k words (sym is ∙ g.0, g.1, g.2)) (λ o w. (is, refl, w)) told (after_word clause_words words given last are told tells)
+        by_settings (λ o. commands.Refuted k o)
+        (λ o. (word : List ℕ) × (words ≡ word ∷ clause_words o)) name k words
+        (λ c g. refuted_alone c k words (sym is ∙ g.0, g.1, g.2)) (λ o w. (is, refl, w)) told
+        (after_word clause_words words given last are told tells)
 
-    pub inductive_told : name ≡ codes "inductive" → (told : Option (Window × Bool)) → TellsSettings told last → (r : Option Command) → IsTold (λ (p : Window × Bool). commands.Inductive k p.0 p.1) told r → TellsLast r name k words
+    pub inductive_told : name ≡ codes "inductive" → (told : Option (Window × Bool))
+        → TellsSettings told last → (r : Option Command)
+        → IsTold (λ (p : Window × Bool). commands.Inductive k p.0 p.1) told r
+        → TellsLast r name k words
     inductive_told is told tells =
-        by_settings (λ (p : Window × Bool). commands.Inductive k p.0 p.1) (λ p. (word : List ℕ) × (words ≡ word ∷ setting_words p.0 p.1)) name k words (λ c g. inductive_alone c k words (sym is ∙ g.0, g.1, g.2)) (λ p w. (is, refl, w)) told (after_word (λ (p : Window × Bool). setting_words p.0 p.1) words given last are told (λ p. tells p.0 p.1))
+        by_settings (λ (p : Window × Bool). commands.Inductive k p.0 p.1)
+        (λ p. (word : List ℕ) × (words ≡ word ∷ setting_words p.0 p.1)) name k words
+        (λ c g. inductive_alone c k words (sym is ∙ g.0, g.1, g.2)) (λ p w. (is, refl, w)) told
+        (after_word (λ (p : Window × Bool). setting_words p.0 p.1) words given last are told (λ p. tells p.0 p.1))
 
-    pub witness_told : name ≡ codes "witness" → (told : Option Bool) → TellsClauses told last → (r : Option Command) → IsTold (λ o. commands.Witness k o) told r → TellsLast r name k words
+    pub witness_told : name ≡ codes "witness" → (told : Option Bool) → TellsClauses told last
+        → (r : Option Command) → IsTold (λ o. commands.Witness k o) told r
+        → TellsLast r name k words
     witness_told is told tells =
-        by_settings (λ o. commands.Witness k o) (λ o. (word : List ℕ) × (words ≡ word ∷ clause_words o)) name k words (λ c g. witness_alone c k words (sym is ∙ g.0, g.1, g.2)) (λ o w. (is, refl, w)) told (after_word clause_words words given last are told tells)
+        by_settings (λ o. commands.Witness k o)
+        (λ o. (word : List ℕ) × (words ≡ word ∷ clause_words o)) name k words
+        (λ c g. witness_alone c k words (sym is ∙ g.0, g.1, g.2)) (λ o w. (is, refl, w)) told
+        (after_word clause_words words given last are told tells)
 
   -- another name, or no word where one is wanted
-  pub none_told : (name ≡ codes "clauses" → ⊥) → (name ≡ codes "window" → ⊥) → (words ≡ []) ⊎ ((name ≡ codes "refuted" → ⊥) × (name ≡ codes "inductive" → ⊥) × (name ≡ codes "witness" → ⊥)) → TellsLast None name k words
+  pub none_told : (name ≡ codes "clauses" → ⊥) → (name ≡ codes "window" → ⊥)
+      → (words ≡ []) ⊎ ((name ≡ codes "refuted" → ⊥) × (name ≡ codes "inductive" → ⊥) × (name ≡ codes "witness" → ⊥)) → TellsLast None name k words
   none_told clauses window other c = (λ is. cc, λ g. absurd (none c g))
     where
       none : (c : Command) → GiveLast name k words c → ⊥
       none (commands.Clauses n o) g = clauses g.0
       none (commands.Window n form o) g = window g.0
-      none (commands.Refuted n o) g = elim other [ inl empty ↦ let is = sym empty ∙ g.2.1 in cc | inr others ↦ others.0 g.0 ]
-      none (commands.Inductive n form o) g = elim other [ inl empty ↦ let is = sym empty ∙ g.2.1 in cc | inr others ↦ others.1 g.0 ]
-      none (commands.Witness n o) g = elim other [ inl empty ↦ let is = sym empty ∙ g.2.1 in cc | inr others ↦ others.2 g.0 ]
+      none (commands.Refuted n o) g =
+          elim other
+          [ inl empty ↦ let is = sym empty ∙ g.2.1 in cc | inr others ↦ others.0 g.0 ]
+      none (commands.Inductive n form o) g =
+          elim other
+          [ inl empty ↦ let is = sym empty ∙ g.2.1 in cc | inr others ↦ others.1 g.0 ]
+      none (commands.Witness n o) g =
+          elim other
+          [ inl empty ↦ let is = sym empty ∙ g.2.1 in cc | inr others ↦ others.2 g.0 ]
       none commands.Run g = g.2
 
 -- ---- steps

@@ -17,14 +17,17 @@ module _ {R W : Type 0} (left : R → Option (List ℕ)) (read_failed : R → Bo
   module _ (IsSuch : List ℕ → Type 0) (file : File) (bytes : List ℕ) (asked : IsAsked limit (steps_of c) bytes file) (taken : Consumes (left r) (left rest) bytes) (answers : (text : List ℕ) → IsSuch text → Answers c given file text) where
     answered : (Holds : List ℕ → Type 0) (text : List ℕ) → IsSuch text → Holds text
         → AnswersFile c limit given (left r) (left rest) Holds
-    answered Holds text such holds = record { file = file; bytes = bytes; asked = asked; taken = taken; text = text; answers = answers text such; holds = holds }
+    answered Holds text such holds =
+        record { file = file; bytes = bytes; asked = asked; taken = taken; text = text; answers = answers text such; holds = holds }
 
     pub prints : (result : Result Unit CheckError)
         → Prints held write_failed IsSuch w result made
         → Runs left read_failed held write_failed c limit given r w result rest made
     prints (Ok done) p = (answered (Appends (held w) (held made)) p.0 p.1 p.2, p.3)
-    prints (Err errors.Write) p = (answered (AppendsBeginning (held w) (held made)) p.0 p.1 p.2.beginning, p.2.has_failed)
-    prints (Err (errors.Answer e)) p = rw p.0 (memory_told left read_failed limit (steps_of c) r rest (file, bytes, asked.0, taken), p.1)
+    prints (Err errors.Write) p =
+        (answered (AppendsBeginning (held w) (held made)) p.0 p.1 p.2.beginning, p.2.has_failed)
+    prints (Err (errors.Answer e)) p =
+        rw p.0 (memory_told left read_failed limit (steps_of c) r rest (file, bytes, asked.0, taken), p.1)
     prints (Err (errors.Solution e)) p = ((file, bytes, asked, taken), p)
     prints (Err (errors.Show e)) p = absurd p
     prints (Err errors.Open) p = absurd p

@@ -22,7 +22,8 @@ returns-then-is_empty-clause-file g c =
 pub returns-clause-answer : goal.returns-clause-answer
 returns-clause-answer g c =
     let o = c.in_ok-asked.ensures.answer in
-    let some = some_told o.file c.in_ok-asked.asked.encoded.circuit _ _ o.means.0.of_file c.bads.ensures.value c.is_empty.ensures c.if-is_empty.false in
+    let some = some_told o.file c.in_ok-asked.asked.encoded.circuit _ _ o.means.0.of_file
+    c.bads.ensures.value c.is_empty.ensures c.if-is_empty.false in
     record { file = o.file; bytes = o.bytes; holds = (o.holds, some); means = o.means; taken = o.taken }
 
 pub returns-clause-file : goal.returns-clause-file

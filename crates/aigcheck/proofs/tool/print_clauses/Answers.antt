@@ -22,11 +22,15 @@ print_query-requires-clause-few g c =
 pub returns-in_err-asked : goal.returns-in_err-asked
 returns-in_err-asked g c =
     let p = err_from_is_err_and c.from_residual.result c.from_residual.ensures.1 in
-    rw (p.1, p.2) (told_again g.R.Source.left g.R.Source.failed _ _ c.args.r.now _ Query Unit c.in_err-asked.field-0.0 c.in_err-asked.ensures.file, refl {a = c.args.w.now})
+    rw (p.1, p.2)
+    (told_again g.R.Source.left g.R.Source.failed _ _ c.args.r.now _ Query Unit c.in_err-asked.field-0.0 c.in_err-asked.ensures.file, refl {a = c.args.w.now})
 
 pub returns : goal.returns
 returns g c =
     let o = c.in_ok-asked.ensures.answer in
     let q = c.in_ok-asked.asked in
-    prints g.R.Source.left g.R.Source.failed g.W.Sink.held g.W.Sink.failed (commands.Clauses c.args.k c.args.optimize) _ _ c.args.r.now c.args.w.now _ _
-    (IsQueryText q c.args.k) o.file o.bytes o.holds o.taken (λ text is. record { query = q; asks = o.means; exact = is }) c.print_query.result c.print_query.ensures
+    prints g.R.Source.left g.R.Source.failed g.W.Sink.held g.W.Sink.failed
+    (commands.Clauses c.args.k c.args.optimize) _ _ c.args.r.now c.args.w.now _ _
+    (IsQueryText q c.args.k) o.file o.bytes o.holds o.taken
+    (λ text is. record { query = q; asks = o.means; exact = is }) c.print_query.result
+    c.print_query.ensures

@@ -14,17 +14,20 @@ returns-in_err-places g c =
 
 pub returns-in_err-write_comments : goal.returns-in_err-write_comments
 returns-in_err-write_comments g c =
-    let p = err_from_is_err_and c.from_residual-in_err-write_comments.result c.from_residual-in_err-write_comments.ensures.1 in
+    let p = err_from_is_err_and c.from_residual-in_err-write_comments.result
+    c.from_residual-in_err-write_comments.ensures.1 in
     let q = c.args.asked.now in
     let formula = dimacs_of (length q.encoded.clauses) (clauses_in q.encoded.clauses ++ q.extra) in
     rw (p.1, p.2) (_, refl, Stops-before formula c.in_err-write_comments.ensures.err)
 
 pub returns-in_err-write_dimacs : goal.returns-in_err-write_dimacs
 returns-in_err-write_dimacs g c =
-    let p = err_from_is_err_and c.from_residual-in_err-write_dimacs.result c.from_residual-in_err-write_dimacs.ensures.1 in
+    let p = err_from_is_err_and c.from_residual-in_err-write_dimacs.result
+    c.from_residual-in_err-write_dimacs.ensures.1 in
     let q = c.args.asked.now in
     let comments = comments_of q.encoded.circuit q.encoded.unrolled c.args.k in
-    rw (p.1, p.2) (_, refl, Stops-put _ _ _ _ comments _ c.in_ok-write_comments.ensures.ok c.in_err-write_dimacs.ensures.writes.err)
+    rw (p.1, p.2)
+    (_, refl, Stops-put _ _ _ _ comments _ c.in_ok-write_comments.ensures.ok c.in_err-write_dimacs.ensures.writes.err)
 
 pub returns : goal.returns
 returns g c =

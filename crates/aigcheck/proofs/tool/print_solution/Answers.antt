@@ -10,10 +10,12 @@ returns-in_err-witness-clause-prints g c =
 
 pub returns-in_err-write_witness-clause-prints : goal.returns-in_err-write_witness-clause-prints
 returns-in_err-write_witness-clause-prints g c =
-    let p = err_from_is_err_and c.from_residual-in_err-write_witness.result c.from_residual-in_err-write_witness.ensures.1 in
+    let p = err_from_is_err_and c.from_residual-in_err-write_witness.result
+    c.from_residual-in_err-write_witness.ensures.1 in
     let w = said_by c.in_ok-witness.witness in
     let is = c.in_ok-witness.ensures in
-    rw (p.1, p.2) (witness_text w, record { witness = w; steps = is.steps; known = is.known; exact = refl }, c.in_err-write_witness.ensures.err)
+    rw (p.1, p.2)
+    (witness_text w, record { witness = w; steps = is.steps; known = is.known; exact = refl }, c.in_err-write_witness.ensures.err)
 
 pub returns-clause-prints : goal.returns-clause-prints
 returns-clause-prints g c =
