@@ -147,6 +147,7 @@ impl From<LexError> for ReadError {
 impl From<OrderError> for ReadError {
     ghost from_gives = { λ e r. r ≡ order_error_in sections.Gates e };
 
+    /// A fault of the gates' order: a variable that isn't defined, or no order, as where gates form a cycle.
     fn from(error: OrderError) -> ReadError {
         match error {
             OrderError::Memory => ReadError::Memory,
@@ -158,6 +159,7 @@ impl From<OrderError> for ReadError {
 impl From<NameError> for ReadError {
     ghost from_gives = { λ e r. r ≡ name_error_of e };
 
+    /// A fault in the names, or in the comment after them.
     fn from(error: NameError) -> ReadError {
         match error {
             NameError::Memory => ReadError::Memory,

@@ -102,6 +102,7 @@ impl DefinedVariables {
     }
 
     /// The literal that the next entry defines. In a text file it is read, with this byte after it.
+    #[inline(always)]
     pub fn own_literal<R: Source>(
         &self,
         buffer: &mut InputBuffer,

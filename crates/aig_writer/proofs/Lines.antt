@@ -28,7 +28,7 @@ pub Built-start : (text ns : List ℕ) (start left : ℕ) → length ns ≤ left
     → take (start - 1) text ≡ replicate (start - 1) 32 → Built text start (drop left ns)
 Built-start text ns start left all written blank =
     let none : Built text start [] = record
-        { more = replicate 32 32; many = refl; written = written; blank = blank } in
+    { more = replicate 32 32; many = refl; written = written; blank = blank } in
     rw (drop_all left ns all) none
 
 -- one more number, which begins at `at`

@@ -230,6 +230,8 @@ row-turn c m next n so_far at is more k h = elim (cases_lt k m) [
 -- one leaf is not
 pub row-other : (c : Circuit) (m n : ℕ) → m < length c.inputs + length c.latchs
     → get_or (row c) m 0 ≡ n → n ≢ m + 1 → IsTrue false ↔ IsReencoded c
-row-other c m n h at other =
-    (λ yes. absurd (false≢true yes), λ order. absurd
-    (other (sym at ∙ order m (omega (arith, row_length c)))))
+row-other c m n h at other = (
+  λ yes. absurd (false≢true yes),
+  λ order. absurd
+      (other (sym at ∙ order m (omega (arith, row_length c)))),
+)

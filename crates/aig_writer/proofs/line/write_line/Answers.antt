@@ -17,7 +17,7 @@ write_digits-start-requires g c =
     let n = get_or c.args.numbers.now (c.loop-left.left - 1) 0 in
     let fits = (c.type_inv.numbers (c.loop-left.left - 1)).fits in
     let digits : length (decimal n) ≤ 20 =
-        length-decimal-le 20 n (omega arith) (omega arith) fits in
+    length-decimal-le 20 n (omega arith) (omega arith) fits in
     let size : length c.loop-left.text ≡ 224 = search rules in
     (omega arith, omega arith)
 
@@ -28,7 +28,7 @@ loop-left-preserved g c =
     let n = get_or numbers last 0 in
     let fits = (c.type_inv.numbers last).fits in
     let digits : length (decimal n) ≤ 20 =
-        length-decimal-le 20 n (omega arith) (omega arith) fits in
+    length-decimal-le 20 n (omega arith) (omega arith) fits in
     let size : length c.write_digits-start.new.buf ≡ 224 = search rules in
     let w = c.write_digits-start.ensures in
     let next : last + 1 ≡ c.loop-left.left = omega arith in
@@ -51,5 +51,5 @@ returns g c =
     let size : length text ≡ 224 = search rules in
     let some : 0 < start = omega arith in
     let line = Built-line text start numbers (rw none at c.loop-left.invariant.built)
-        c.requires.some some (omega arith) size in
+    c.requires.some some (omega arith) size in
     rw (take-take (192 - start) (224 - start) (drop start text) (omega arith) ∙ line) at c.write_front.ensures

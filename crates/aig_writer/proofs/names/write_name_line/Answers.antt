@@ -17,7 +17,7 @@ overflow_sub-start g c = let digits : length (decimal c.args.position) ≤ 20 =
 pub returns-in_err-write_front : goal.returns-in_err-write_front
 returns-in_err-write_front g c =
     let digits : length (decimal c.args.position) ≤ 20 = length-decimal-le 20 c.args.position
-        (omega arith) (omega arith) c.ranges.position.fits in
+    (omega arith) (omega arith) c.ranges.position.fits in
     let w = c.write_digits-start.ensures in
     let size : length c.write_digits-start.new.buf ≡ 54 = search rules in
     let head = name_head c.write_digits-start.new.buf (decimal c.args.position) (replicate 32 32) c.write_digits-start.result c.args.letter w.start (omega (arith, w.start)) (omega (arith, w.start)) w.written in
@@ -26,7 +26,7 @@ returns-in_err-write_front g c =
 pub returns-in_err-write_bytes : goal.returns-in_err-write_bytes
 returns-in_err-write_bytes g c =
     let digits : length (decimal c.args.position) ≤ 20 = length-decimal-le 20 c.args.position
-        (omega arith) (omega arith) c.ranges.position.fits in
+    (omega arith) (omega arith) c.ranges.position.fits in
     let w = c.write_digits-start.ensures in
     let size : length c.write_digits-start.new.buf ≡ 54 = search rules in
     let head = name_head c.write_digits-start.new.buf (decimal c.args.position) (replicate 32 32) c.write_digits-start.result c.args.letter w.start (omega (arith, w.start)) (omega (arith, w.start)) w.written in
@@ -35,7 +35,7 @@ returns-in_err-write_bytes g c =
 pub returns : goal.returns
 returns g c =
     let digits : length (decimal c.args.position) ≤ 20 = length-decimal-le 20 c.args.position
-        (omega arith) (omega arith) c.ranges.position.fits in
+    (omega arith) (omega arith) c.ranges.position.fits in
     let w = c.write_digits-start.ensures in
     let size : length c.write_digits-start.new.buf ≡ 54 = search rules in
     let head = name_head c.write_digits-start.new.buf (decimal c.args.position) (replicate 32 32) c.write_digits-start.result c.args.letter w.start (omega (arith, w.start)) (omega (arith, w.start)) w.written in

@@ -13,7 +13,7 @@ returns-in_err-write_node_name g c =
     let circuit = c.args.circuit.now in
     let inputs = c.inputs-n-items.ensures.value in
     let turn = rw (← input_entry-at circuit c.inputs-n-items.result.now c.loop-i.i inputs
-        c.loop-i-test.true) at c.in_err-write_node_name.ensures in
+    c.loop-i-test.true) at c.in_err-write_node_name.ensures in
     rw (name_lines-both circuit) (failed_within calls_laws {c = c.write_node_name.new.out} (latch_entries circuit ∷ []) (name_entry 105 (get circuit.names)) (enumerate_from 0 circuit.inputs) c.loop-i.i (0, 0) (omega (arith, length-enumerate_from 0 circuit.inputs, ap length inputs)) c.loop-i.invariant turn (search rules))
 
 pub loop-i-preserved : goal.loop-i-preserved
@@ -21,7 +21,7 @@ loop-i-preserved g c =
     let circuit = c.args.circuit.now in
     let inputs = c.inputs-n-items.ensures.value in
     let turn = rw (← input_entry-at circuit c.inputs-n-items.result.now c.loop-i.i inputs
-        c.loop-i-test.true) at c.in_ok-write_node_name.ensures.ok in
+    c.loop-i-test.true) at c.in_ok-write_node_name.ensures.ok in
     then_turn (name_entry 105 (get circuit.names)) (enumerate_from 0 circuit.inputs) c.loop-i.i (0, 0) (omega (arith, length-enumerate_from 0 circuit.inputs, ap length inputs)) c.loop-i.invariant turn
 
 pub returns-in_err-write_node_name-2 : goal.returns-in_err-write_node_name-2
@@ -32,8 +32,8 @@ returns-in_err-write_node_name-2 g c =
     let latchs = c.latchs-latch-items.ensures.value in
     let inputs = rw (take_all c.loop-i.i places (omega (arith, length-enumerate_from 0 circuit.inputs, ap length c.inputs-n-items.ensures.value))) at c.loop-i.invariant in
     let turn = rw (← latch_entry-at circuit c.latchs-latch-items.result.now c.loop-i-2.i
-        c.input.result _ latchs c.loop-i-2-test.true c.input.ensures) at
-        c.in_err-write_node_name-2.ensures in
+    c.input.result _ latchs c.loop-i-2-test.true c.input.ensures) at
+    c.in_err-write_node_name-2.ensures in
     rw (name_lines-both circuit) (then_call calls_laws {c = c.write_node_name-in-loop-i-2.new.out} inputs (failed_turn calls_laws (name_entry 108 (get circuit.names)) leaves c.loop-i-2.i (0, 0) (omega (arith, length-enumerate_from 0 (latch_leaves circuit.latchs), length-leaves circuit.latchs, ap length latchs)) c.loop-i-2.invariant turn (search rules)))
 
 pub loop-i-2-preserved : goal.loop-i-2-preserved
@@ -42,8 +42,8 @@ loop-i-2-preserved g c =
     let leaves = enumerate_from 0 (latch_leaves circuit.latchs) in
     let latchs = c.latchs-latch-items.ensures.value in
     let turn = rw (← latch_entry-at circuit c.latchs-latch-items.result.now c.loop-i-2.i
-        c.input.result _ latchs c.loop-i-2-test.true c.input.ensures) at
-        c.in_ok-write_node_name-2.ensures.ok in
+    c.input.result _ latchs c.loop-i-2-test.true c.input.ensures) at
+    c.in_ok-write_node_name-2.ensures.ok in
     then_turn (name_entry 108 (get circuit.names)) leaves c.loop-i-2.i (0, 0) (omega (arith, length-enumerate_from 0 (latch_leaves circuit.latchs), length-leaves circuit.latchs, ap length latchs)) c.loop-i-2.invariant turn
 
 pub returns : goal.returns

@@ -18,7 +18,7 @@ pub fill_table-requires : goal.fill_table-requires
 fill_table-requires c =
     let count = length c.nodes.result.now in
     let zeros = c.deref_mut.ensures.value ∙ c.in_ok-numbers.ensures.items_if_clones_equal
-        (λ y same. same) in
+    (λ y same. same) in
     record {
       closed = c.requires;
       count = ap length zeros ∙ length-replicate count 0 ∙ ap length c.nodes.ensures.value;
@@ -34,5 +34,5 @@ returns-clause-numbers c =
     let len = c.in_ok-numbers.numbers.len in
     let count : length made ≡ len = omega arith in
     let whole : take len (made ++ drop (length made) c.in_ok-numbers.numbers.items) ≡ made =
-        take-append-le len made _ (omega arith) ∙ take_all len made (omega arith) in
+    take-append-le len made _ (omega arith) ∙ take_all len made (omega arith) in
     rw whole c.fill_table.ensures

@@ -15,15 +15,15 @@ loop-n-init c = record {
 pub offset_bounds-numbers-n : goal.offset_bounds-numbers-n
 offset_bounds-numbers-n c =
     let within = input_within c.args.circuit.now c.inputs-n-items.ensures.circuit c.requires.closed
-        c.inputs-n-items.result.now c.loop-n.n-index c.inputs-n-items.ensures.value
-        c.loop-n-test.true in
+    c.inputs-n-items.result.now c.loop-n.n-index c.inputs-n-items.ensures.value
+    c.loop-n-test.true in
     omega (arith, c.loop-n.invariant.filled.count)
 
 pub bounds-numbers-n : goal.bounds-numbers-n
 bounds-numbers-n c =
     let within = input_within c.args.circuit.now c.inputs-n-items.ensures.circuit c.requires.closed
-        c.inputs-n-items.result.now c.loop-n.n-index c.inputs-n-items.ensures.value
-        c.loop-n-test.true in
+    c.inputs-n-items.result.now c.loop-n.n-index c.inputs-n-items.ensures.value
+    c.loop-n-test.true in
     omega (arith, c.loop-n.invariant.filled.count)
 
 pub loop-n-preserved : goal.loop-n-preserved

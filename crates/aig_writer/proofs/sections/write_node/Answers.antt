@@ -14,13 +14,15 @@ literal-second-requires g c = (c.requires.small.operands c.in-And.first c.in-And
 pub overflow_sub-own : goal.overflow_sub-own
 overflow_sub-own g c =
     let falls = (c.requires.falls c.in-Binary.is).operands c.in-And.first c.in-And.second
-        (sym c.typ.ensures ∙ c.in-And.is) in
+    (sym c.typ.ensures ∙ c.in-And.is) in
     omega (arith, rw c.node_id.ensures at c.node_literal-own.ensures, falls.0, falls.1)
 
 pub write_differences-requires-clause-first : goal.write_differences-requires-clause-first
-write_differences-requires-clause-first g c = omega
-    (arith, rw c.node_id.ensures at c.node_literal-own.ensures,
-    (c.requires.falls c.in-Binary.is).own)
+write_differences-requires-clause-first g c = omega (
+  arith,
+  rw c.node_id.ensures at c.node_literal-own.ensures,
+  (c.requires.falls c.in-Binary.is).own,
+)
 
 pub write_differences-requires-clause-second : goal.write_differences-requires-clause-second
 write_differences-requires-clause-second g c =
