@@ -1,4 +1,4 @@
--- Serves private clauses alone.
+-- Part of what is promised.
 -- What a fault tells.
 use Rattle.std.specs.Prelude.{◌≡◌, Bool, true}
 use Rattle.aig_lexer.specs.declared.error.LexError.{LexError}
