@@ -16,7 +16,7 @@ use Rattle.aig_reader.specs.declared.gate_store.InOrder.{InOrder}
 use Rattle.aig_reader.specs.declared.gate_store.GateStore.{GateStore}
 use Rattle.aig_reader.specs.declared.table.Table.{Table}
 use Rattle.aig_reader.specs.declared.gate_store.GateStore.TheVariants as held
-use Rattle.aig_reader.specs.Gates.{AreFirstNodes, AreGates, AreHeld, ArePlaced, AreInOrder, HoldsPending, HasWords, last_or, line_of, literals_of}
+use Rattle.aig_reader.specs.Gates.{AreGates, AreHeld, ArePlaced, AreInOrder, HoldsPending, HasWords, last_or, line_of, literals_of}
 use Rattle.aig_reader.specs.Variables.{AreDefined, IsNewAmong, is_marked}
 use Rattle.aig_reader.proofs.Defined.{unmarked_none}
 use Rattle.aig_reader.proofs.TableGates.{well_founded_more, well_founded_order, well_founded_skipped}

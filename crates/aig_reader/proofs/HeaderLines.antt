@@ -1,5 +1,5 @@
 -- The header line, with its tests.
-use Rattle.std.proofs.Common.{◌≡◌, ◌∙◌, ℕ, ◌+◌, ◌≤◌, Bool, true, false, cond, List, [], ◌++◌, Option, Some, None, Result, Ok, Err, IfSome, ap, subst, ltb, leb, refl}
+use Rattle.std.proofs.Common.{◌≡◌, ◌∙◌, ℕ, ◌+◌, ◌≤◌, Bool, true, false, cond, List, [], ◌++◌, Option, Some, None, Err, IfSome, ap, subst, ltb, leb, refl}
 use Rattle.std.specs.Prelude.{◌&&◌}
 use Rattle.std.proofs.lemmas.Bool.{and_parts, leb-true, le-ltb}
 use Rattle.std.proofs.lemmas.Option.{IfSome_then, same_Some}
@@ -9,17 +9,13 @@ use Rattle.aig_format.specs.Fits.{has_enough}
 use Rattle.aig_parsing.specs.Parse.{◌>>=◌, parse_header, too_many_at, too_many_of}
 use Rattle.aig_parsing.specs.ParseTested.{fits_header, parse_fitting_header}
 use Rattle.aig_parsing.proofs.Numbers.{bind_some}
-use Rattle.aig_lexer.specs.declared.header.Header.{Header}
 use Rattle.aig_lexer.specs.declared.error.LexError.{LexError}
 use Rattle.aig_lexer.specs.declared.error.LexError.TheVariants.{Stream, Shape}
 use Rattle.aig_lexer.specs.Faults.{LexTells}
-use Rattle.aig_lexer.specs.Header.{numbers_of}
-use Rattle.aig_lexer.specs.Takes.{Feed, Gives, Misses, Takes}
+use Rattle.aig_lexer.specs.Takes.{Feed, Misses, Takes}
 use Rattle.aig_lexer.proofs.Going.{known_after}
-use Rattle.aig_reader.specs.declared.error.ReadError.{ReadError}
-use Rattle.aig_reader.specs.Faults.{header_error_of, result_by}
+use Rattle.aig_reader.specs.Faults.{header_error_of}
 use Rattle.aig_reader.specs.Headers.{HasNoHeader, ReadsHeader}
-use Rattle.aig_reader.proofs.Body.{err_in, ok_in}
 
 -- a header, and what stands after it
 abbrev Read : Type 0

@@ -1,5 +1,5 @@
 -- What the numbering of variables answers, and the tests of sections, joined.
-use Rattle.std.proofs.Common.{◌≡◌, ℕ, ◌/◌, Bool, true, false, ◌&&◌, List, [], ◌∷◌, ◌++◌, map, Result, Ok, Err, refl, sym, ap, subst, ◌∙◌}
+use Rattle.std.proofs.Common.{◌≡◌, ℕ, ◌/◌, Bool, true, false, ◌&&◌, List, [], ◌∷◌, ◌++◌, map, Result, Ok, Err, refl, sym, ap, ◌∙◌}
 use Rattle.std.specs.List.{flat_map}
 use Rattle.std.proofs.lemmas.Bool.{and_right}
 use Rattle.std.proofs.lemmas.List.Folds.{list_all-append}
@@ -9,11 +9,10 @@ use Rattle.aig_format.specs.Variables.{is_known}
 use Rattle.aig_ordering.specs.declared.error.OrderError.{OrderError}
 use Rattle.aig_ordering.specs.declared.error.OrderError.TheVariants.{Memory, Variable}
 use Rattle.aig_ordering.specs.Tables.{JudgedOrder, OrderUnlessTransient}
-use Rattle.aig_reader.specs.declared.error.ReadError.{ReadError}
 use Rattle.aig_reader.specs.declared.error.Section.TheVariants.{Gates}
-use Rattle.aig_reader.specs.Faults.{SectionTells, order_error_in, result_by}
+use Rattle.aig_reader.specs.Faults.{SectionTells, order_error_in}
 use Rattle.aig_format.specs.Fits.{uses_known}
-use Rattle.aig_reader.specs.Numbered.{Judged, have_operands, knows, knows_lists, knows_properties}
+use Rattle.aig_reader.specs.Numbered.{have_operands, knows, knows_lists, knows_properties}
 
 -- ---- answers
 

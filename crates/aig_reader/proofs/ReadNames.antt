@@ -1,15 +1,12 @@
 -- What reading the names gave.
-use Rattle.std.proofs.Common.{◌≡◌, ◌≢◌, ℕ, Bool, List, [], Option, Some, None, Result, Ok, Err, IfSome, refl, subst}
+use Rattle.std.proofs.Common.{◌≡◌, ◌≢◌, Bool, [], Some, refl}
 use Rattle.aig_format.specs.File.{HeaderNumbers}
-use Rattle.aig_lexer.specs.Takes.{Feed, Ends}
 use Rattle.aig_symbols.specs.declared.names.error.NameError.{NameError}
 use Rattle.aig_symbols.specs.declared.names.error.NameError.TheVariants as name
 use Rattle.aig_symbols.specs.NameFaults.{NameTells}
-use Rattle.aig_symbols.specs.Names.{EndsWith, tail_of}
-use Rattle.aig_reader.specs.declared.error.ReadError.{ReadError}
+use Rattle.aig_symbols.specs.Names.{tail_of}
 use Rattle.aig_reader.specs.declared.error.ReadError.TheVariants as errors
-use Rattle.aig_reader.specs.Faults.{ReadTells, name_error_of, result_by}
-use Rattle.aig_reader.proofs.Body.{ok_in, err_in}
+use Rattle.aig_reader.specs.Faults.{ReadTells, name_error_of}
 use Rattle.aig_parsing.specs.Parse.{parse_tail}
 
 -- a fault of the names, as one of the file

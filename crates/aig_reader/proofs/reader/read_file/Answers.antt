@@ -9,7 +9,7 @@ use Rattle.aig_parsing.specs.ParseTested.{parse_fitting_header}
 use Rattle.aig_lexer.specs.Header.{numbers_of}
 use Rattle.aig_lexer.specs.Takes.{feed}
 use Rattle.aig_lexer.proofs.Taking.{takes_both}
-use Rattle.aig_symbols.specs.Names.{kept_names, tail_of}
+use Rattle.aig_symbols.specs.Names.{kept_names}
 use Rattle.aig_reader.specs.Faults.{name_error_of}
 use Rattle.aig_reader.proofs.Accepting.{Body, refused_header, refused_section, refused_names, sections_of, accepted, accepts}
 use Rattle.aig_reader.proofs.HeaderLines.{header_good, header_small, header_within}

@@ -1,4 +1,4 @@
-use Rattle.std.proofs.Common.{◌+◌, ℕ, length, ap, sym, subst, arith}
+use Rattle.std.proofs.Common.{ℕ, length, ap, sym, subst, arith}
 use Rattle.std.specs.Prelude.{All}
 use Rattle.aig_reader.specs.Gates.{AreFirstNodes, HoldsPending}
 use Rattle.aig_reader.proofs.TableEntries.{HasSmall, small_nodes}

@@ -1,18 +1,12 @@
-use Rattle.std.proofs.Common.{◌≡◌, ◌∙◌, ◌&&◌, ℕ, Bool, true, false, Option, Vec, refl, sym, subst}
+use Rattle.std.proofs.Common.{◌≡◌, ◌∙◌, ◌&&◌, Bool, true, false, Option, refl, sym, subst}
 use Rattle.std.specs.Prelude.{MatchOption}
 use Rattle.std.specs.List.{list_all}
 use Rattle.std.proofs.lemmas.Bool.{and_parts}
 use Rattle.std.proofs.lemmas.Result.{err_from_is_err_and}
-use Rattle.std.specs.declared.alloc.Global.{Global}
-use Rattle.aig_circuit.specs.declared.node.AigNode.{AigNode}
-use Rattle.aig_format.specs.Circuit.{circuit_of}
-use Rattle.aig_format.specs.File.{File}
 use Rattle.aig_format.specs.Levels.{has_level}
 use Rattle.aig_ordering.specs.Numbers.{has_number}
 use Rattle.aig_reader.specs.declared.error.Section.{Section}
-use Rattle.aig_reader.specs.declared.error.Section.TheVariants.{Gates}
-use Rattle.aig_reader.specs.Numbered.{AreNumbersOf, AreTablesOf, Judged, have_operands, knows_lists, lists_pass}
-use Rattle.aig_reader.proofs.Body.{on_section-weaker}
+use Rattle.aig_reader.specs.Numbered.{AreNumbersOf, have_operands, knows_lists, lists_pass}
 use Rattle.aig_reader.proofs.ByLevel.{lists_have, lists_known, lists_numbered}
 use Rattle.aig_reader.proofs.Numbered.{in_order, well_founded-is, no_nodes}
 use Rattle.aig_reader.proofs.Steps.{numbered_circuit}
