@@ -1,6 +1,7 @@
 use Rattle.std.proofs.Common.{None, Some, inl, inr, refl, sym, ◌∙◌}
 use Rattle.std.specs.Prelude.{codes, map, string_bytes}
 use Rattle.std.specs.Cmp.Lexicographic.{same_text}
+use Rattle.std.proofs.lemmas.Bool.{false≢true}
 use Rattle.aigcheck.proofs.Giving.{clauses_told, following, inductive_told, no_words, none_told, refuted_told, window_told, with_some, witness_told}
 use Rattle.aigcheck.proofs.command.parse_last.Goals as goal
 
@@ -92,17 +93,17 @@ returns-then-eq-5 c =
 pub returns-in_default : goal.returns-in_default
 returns-in_default c =
     none_told c.args.name.now c.args.k (map string_bytes c.args.words.now)
-    (λ is. let yes = rw is at c.eq-2.ensures in let no = c.if-eq-2.false in cc)
-    (λ is. let yes = rw is at c.eq.ensures in let no = c.if-eq.false in cc)
+    (λ is. let yes = rw is at c.eq-2.ensures in false≢true (sym c.if-eq-2.false ∙ yes))
+    (λ is. let yes = rw is at c.eq.ensures in false≢true (sym c.if-eq.false ∙ yes))
     (inl (no_words c.args.words.now c.in_default.len_below))
 
 pub returns : goal.returns
 returns c =
     none_told c.args.name.now c.args.k (map string_bytes c.args.words.now)
-    (λ is. let yes = rw is at c.eq-2.ensures in let no = c.if-eq-2.false in cc)
-    (λ is. let yes = rw is at c.eq.ensures in let no = c.if-eq.false in cc)
+    (λ is. let yes = rw is at c.eq-2.ensures in false≢true (sym c.if-eq-2.false ∙ yes))
+    (λ is. let yes = rw is at c.eq.ensures in false≢true (sym c.if-eq.false ∙ yes))
     (inr (
-      λ is. let yes = rw is at c.eq-3.ensures in let no = c.if-eq-3.false in cc,
-      λ is. let yes = rw is at c.eq-4.ensures in let no = c.if-eq-4.false in cc,
-      λ is. let yes = rw is at c.eq-5.ensures in let no = c.if-eq-5.false in cc,
+      λ is. let yes = rw is at c.eq-3.ensures in false≢true (sym c.if-eq-3.false ∙ yes),
+      λ is. let yes = rw is at c.eq-4.ensures in false≢true (sym c.if-eq-4.false ∙ yes),
+      λ is. let yes = rw is at c.eq-5.ensures in false≢true (sym c.if-eq-5.false ∙ yes),
     ))
