@@ -101,7 +101,7 @@ impl OutputBuffer {
     }
 
     /// Writes the first `count` bytes of a piece. What stands after them makes the copy of a short piece quicker.
-    #[inline(always)]
+    #[inline]
     pub fn write_front<W: Sink>(
         &mut self,
         w: &mut W,

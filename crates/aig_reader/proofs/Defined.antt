@@ -47,11 +47,13 @@ module _ (greatest : ℕ) (before : List ℕ) (e : ℕ) (marks : Marks) (h : Are
       h.marked (e / 2) (omega arith) ∙ ap (λ (n : ℕ). list_any (λ d. d == n) before) twice
 
   -- none that is marked is defined again
-  pub marked_again : bit_is_set marks.marked.items (e / 2) ≡ true → defines greatest before e ≡ false
+  pub marked_again : bit_is_set marks.marked.items (e / 2) ≡ true
+      → defines greatest before e ≡ false
   marked_again set = and_right (is_definable greatest e) (not is_there) (ap not (sym its_mark ∙ set))
 
   -- one that isn't is, and has its mark then
-  pub marked_more : (new : Marks) → new.greatest ≡ marks.greatest → bit_is_set marks.marked.items (e / 2) ≡ false
+  pub marked_more : (new : Marks) → new.greatest ≡ marks.greatest
+      → bit_is_set marks.marked.items (e / 2) ≡ false
       → ((v : ℕ) → bit_is_set new.marked.items v ≡ (bit_is_set marks.marked.items v || v == e / 2))
       → (defines greatest before e ≡ true) × ((e / 2 ≡ e / 2) × AreMarks greatest new (before ++ e ∷ []))
   marked_more new same clear sets =
@@ -71,11 +73,15 @@ module _ (greatest : ℕ) (before : List ℕ) (e : ℕ) (marks : Marks) (h : Are
       )
 
 -- what marking a literal tells, of all that is defined
-pub defines_marked : (marks new : Marks) (e : ℕ) (result : Result ℕ LineError) → ((greatest : ℕ) (before : List ℕ) → AreMarks greatest marks before → Tested (defines greatest before e) (λ id. (id ≡ e / 2) × AreMarks greatest new (before ++ e ∷ [])) result)
-    → (kind : FileKind) (greatest : ℕ) (before : List ℕ) → AreDefined kind greatest (kinds.Text marks) before → Tested (may_define kind greatest before e) (λ id. (id ≡ e / 2) × AreDefined kind greatest (kinds.Text new) (before ++ e ∷ [])) result
+pub defines_marked : (marks new : Marks) (e : ℕ) (result : Result ℕ LineError)
+    → ((greatest : ℕ) (before : List ℕ) → AreMarks greatest marks before → Tested (defines greatest before e) (λ id. (id ≡ e / 2) × AreMarks greatest new (before ++ e ∷ [])) result)
+    → (kind : FileKind) (greatest : ℕ) (before : List ℕ)
+    → AreDefined kind greatest (kinds.Text marks) before
+    → Tested (may_define kind greatest before e) (λ id. (id ≡ e / 2) × AreDefined kind greatest (kinds.Text new) (before ++ e ∷ [])) result
 defines_marked marks new e result exact kind greatest before h = rw h.0 (go result (exact greatest before h.1))
   where
-    go : (result : Result ℕ LineError) → Tested (defines greatest before e) (λ id. (id ≡ e / 2) × AreMarks greatest new (before ++ e ∷ [])) result
+    go : (result : Result ℕ LineError)
+        → Tested (defines greatest before e) (λ id. (id ≡ e / 2) × AreMarks greatest new (before ++ e ∷ [])) result
         → Tested (may_define Text greatest before e) (λ id. (id ≡ e / 2) × AreDefined Text greatest (kinds.Text new) (before ++ e ∷ [])) result
     go (Ok id) t = (t.0, (t.1.0, (refl, t.1.1)))
     go (Err fault) t = t

@@ -67,7 +67,10 @@ module _ (greatest : ℕ) (leaves : List ℕ) (before : List GateLine) (lhs : �
   order_with old h = order_push before g (omega arith) ∙ rw (h.in_order, sym h.last) refl
 
   -- gates that rise still do with the next one
-  pub is_increasing_still : (old new : InOrder) → ArePlaced greatest leaves before (held.InOrder old) → (ltb old.last lhs && is_above_operands g) ≡ true → AreHeld (greatest + 1) (before ++ g ∷ []) (held.InOrder new) → new.last ≡ lhs → HasWords g
+  pub is_increasing_still : (old new : InOrder)
+      → ArePlaced greatest leaves before (held.InOrder old)
+      → (ltb old.last lhs && is_above_operands g) ≡ true
+      → AreHeld (greatest + 1) (before ++ g ∷ []) (held.InOrder new) → new.last ≡ lhs → HasWords g
       → ArePlaced greatest leaves (before ++ g ∷ []) (held.InOrder new)
   is_increasing_still old new h next nodes last words = record {
     nodes = nodes;
@@ -79,13 +82,19 @@ module _ (greatest : ℕ) (leaves : List ℕ) (before : List GateLine) (lhs : �
   }
 
   -- and don't with one that isn't above the others and its operands
-  pub is_increasing_no_more : (old : InOrder) (table : Table) → ArePlaced greatest leaves before (held.InOrder old) → (ltb old.last lhs && is_above_operands g) ≡ false → HoldsPending (greatest + 1) (before ++ g ∷ []) table
+  pub is_increasing_no_more : (old : InOrder) (table : Table)
+      → ArePlaced greatest leaves before (held.InOrder old)
+      → (ltb old.last lhs && is_above_operands g) ≡ false
+      → HoldsPending (greatest + 1) (before ++ g ∷ []) table
       → ArePlaced greatest leaves (before ++ g ∷ []) (held.Shuffled table)
   is_increasing_no_more old table h other nodes = record { nodes = nodes; form = well_founded_order greatest leaves (before ++ g ∷ []) (order_with old h.form ∙ other) }
 
   -- nor do they in a compact file where one passes over a variable that isn't defined
-  pub passes_over : (kind : FileKind) (variables : DefinedVariables) (v : ℕ) (table : Table) → AreDefined kind greatest variables ((leaves ++ literals_of before) ++ lhs ∷ []) → 1 ≤ v → v < lhs / 2 → is_marked variables v ≡ false
-      → HoldsPending (greatest + 1) (before ++ g ∷ []) table → ArePlaced greatest leaves (before ++ g ∷ []) (held.Shuffled table)
+  pub passes_over : (kind : FileKind) (variables : DefinedVariables) (v : ℕ) (table : Table)
+      → AreDefined kind greatest variables ((leaves ++ literals_of before) ++ lhs ∷ []) → 1 ≤ v
+      → v < lhs / 2 → is_marked variables v ≡ false
+      → HoldsPending (greatest + 1) (before ++ g ∷ []) table
+      → ArePlaced greatest leaves (before ++ g ∷ []) (held.Shuffled table)
   passes_over kind variables v table defined low below unmarked nodes =
       let row : (leaves ++ literals_of before) ++ lhs ∷ [] ≡ leaves ++ literals_of (before ++ g ∷ []) =
       append_assoc leaves (literals_of before) (lhs ∷ []) ∙ ap (λ (es : List ℕ). leaves ++ es) (sym (map_push (λ (h : GateLine). h.lhs) before g)) in
@@ -100,8 +109,11 @@ module _ (greatest : ℕ) (leaves : List ℕ) (before : List GateLine) (lhs : �
 
 -- ---- one more gate
 
-pub more_gates : (kind : FileKind) (greatest : ℕ) (leaves : List ℕ) (before : List GateLine) (variables : DefinedVariables) (held : GateStore) (g : GateLine) → ArePlaced greatest leaves (before ++ g ∷ []) held
-    → AreDefined kind greatest variables ((leaves ++ literals_of before) ++ g.lhs ∷ []) → AreGates kind greatest leaves (before ++ g ∷ []) variables held
+pub more_gates : (kind : FileKind) (greatest : ℕ) (leaves : List ℕ) (before : List GateLine)
+    (variables : DefinedVariables) (held : GateStore) (g : GateLine)
+    → ArePlaced greatest leaves (before ++ g ∷ []) held
+    → AreDefined kind greatest variables ((leaves ++ literals_of before) ++ g.lhs ∷ [])
+    → AreGates kind greatest leaves (before ++ g ∷ []) variables held
 more_gates kind greatest leaves before variables held g placed defined =
     let push : literals_of (before ++ g ∷ []) ≡ literals_of before ++ g.lhs ∷ [] = map_push (λ (h : GateLine). h.lhs) before g in
     record {

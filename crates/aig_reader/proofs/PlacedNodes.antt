@@ -16,7 +16,8 @@ use Rattle.aig_reader.specs.Gates.{AreFirstNodes, gate_node_of, literals_of}
 use Rattle.aig_reader.specs.Variables.{IsNewAmong}
 
 -- one more node
-nodes_push : (f : List GateLine) (n v : ℕ) → nodes_in_row f (suc n) v ≡ nodes_in_row f n v ++ node_from f (v + n) ∷ []
+nodes_push : (f : List GateLine) (n v : ℕ)
+    → nodes_in_row f (suc n) v ≡ nodes_in_row f n v ++ node_from f (v + n) ∷ []
 nodes_push f zero v = let e : v ≡ v + 0 = omega arith in ap (λ (w : ℕ). node_from f w ∷ []) e
 nodes_push f (suc n) v =
     let e : v + 1 + n ≡ v + suc n = omega arith in
@@ -28,15 +29,18 @@ nodes_push f (suc n) v =
 abbrev is_at : ℕ → GateLine → Bool
 is_at n g = eqb (g.lhs / 2) n
 
-find_other : (gates : List GateLine) (g : GateLine) (n : ℕ) → is_at n g ≡ false → find (is_at n) (gates ++ g ∷ []) ≡ find (is_at n) gates
+find_other : (gates : List GateLine) (g : GateLine) (n : ℕ) → is_at n g ≡ false
+    → find (is_at n) (gates ++ g ∷ []) ≡ find (is_at n) gates
 find_other [] g n h = rw h refl
 find_other (x ∷ gates) g n h = ap (λ (o : Option GateLine). cond (is_at n x) (Some x) o) (find_other gates g n h)
 
-find_new : (gates : List GateLine) (g : GateLine) (n : ℕ) → find (is_at n) gates ≡ None → is_at n g ≡ true → find (is_at n) (gates ++ g ∷ []) ≡ Some g
+find_new : (gates : List GateLine) (g : GateLine) (n : ℕ) → find (is_at n) gates ≡ None
+    → is_at n g ≡ true → find (is_at n) (gates ++ g ∷ []) ≡ Some g
 find_new gates g n h k = rw (find-append, h, k) refl
 
 -- no gate has a variable that is new among their literals
-none_at : (gates : List GateLine) (e : ℕ) → IsNewAmong (literals_of gates) e → find (is_at (e / 2)) gates ≡ None
+none_at : (gates : List GateLine) (e : ℕ) → IsNewAmong (literals_of gates) e
+    → find (is_at (e / 2)) gates ≡ None
 none_at gates e h =
     find_none (is_at (e / 2)) gates
     (rec_weaker (λ (g : GateLine). g.lhs / 2 ≢ e / 2) (λ g. is_at (e / 2) g ≡ false) (λ g ne. ne_eqb (g.lhs / 2) (e / 2) ne) gates (rec_unmap (λ d. d / 2 ≢ e / 2) (λ (g : GateLine). g.lhs) gates h))
@@ -46,21 +50,24 @@ module _ (gates : List GateLine) (g : GateLine) where
   same_kind n ne = ap (λ (o : Option GateLine). cond (eqb n 0) False (kind_of_line o)) (find_other gates g n (ne_eqb (g.lhs / 2) n ne))
 
   -- nodes before that of the gate stay
-  same_before : (n v : ℕ) → v + n ≤ g.lhs / 2 → nodes_in_row (gates ++ g ∷ []) n v ≡ nodes_in_row gates n v
+  same_before : (n v : ℕ) → v + n ≤ g.lhs / 2
+      → nodes_in_row (gates ++ g ∷ []) n v ≡ nodes_in_row gates n v
   same_before zero v le = refl
   same_before (suc n) v le =
       let ne : g.lhs / 2 ≢ v = omega arith in
       rw (same_kind v ne, same_before n (v + 1) (omega arith)) refl
 
   -- nodes after it stay
-  same_following : (n v : ℕ) → g.lhs / 2 < v → nodes_in_row (gates ++ g ∷ []) n v ≡ nodes_in_row gates n v
+  same_following : (n v : ℕ) → g.lhs / 2 < v
+      → nodes_in_row (gates ++ g ∷ []) n v ≡ nodes_in_row gates n v
   same_following zero v lt = refl
   same_following (suc n) v lt =
       let ne : g.lhs / 2 ≢ v = omega arith in
       rw (same_kind v ne, same_following n (v + 1) (omega arith)) refl
 
   -- from a number on, the new gate takes its place
-  sets_gate : (n v k : ℕ) → k < n → v + k ≡ g.lhs / 2 → kind_among (gates ++ g ∷ []) (g.lhs / 2) ≡ and_of (edge_from g.rhs0) (edge_from g.rhs1)
+  sets_gate : (n v k : ℕ) → k < n → v + k ≡ g.lhs / 2
+      → kind_among (gates ++ g ∷ []) (g.lhs / 2) ≡ and_of (edge_from g.rhs0) (edge_from g.rhs1)
       → set (nodes_in_row gates n v) k (gate_node_of g) ≡ nodes_in_row (gates ++ g ∷ []) n v
   sets_gate zero v k lt at is = absurd (omega arith)
   sets_gate (suc n) v zero lt at is =
@@ -73,11 +80,15 @@ module _ (gates : List GateLine) (g : GateLine) where
 -- ---- the nodes so far
 
 -- the nodes up to the greatest are all
-pub first_all : (greatest : ℕ) (gates : List GateLine) (nodes : List AigNode) → AreFirstNodes gates nodes → length nodes ≡ greatest + 1 → nodes ≡ nodes_of_variables greatest gates
+pub first_all : (greatest : ℕ) (gates : List GateLine) (nodes : List AigNode)
+    → AreFirstNodes gates nodes → length nodes ≡ greatest + 1
+    → nodes ≡ nodes_of_variables greatest gates
 first_all greatest gates nodes h all = h.placed ∙ ap (λ (n : ℕ). nodes_in_row gates n 0) all
 
 -- one more node is that of the number after them
-placed_push : (gates : List GateLine) (nodes : List AigNode) (node : AigNode) → nodes ≡ nodes_in_row gates (length nodes) 0 → node ≡ node_from gates (length nodes) → nodes ++ node ∷ [] ≡ nodes_in_row gates (length (nodes ++ node ∷ [])) 0
+placed_push : (gates : List GateLine) (nodes : List AigNode) (node : AigNode)
+    → nodes ≡ nodes_in_row gates (length nodes) 0 → node ≡ node_from gates (length nodes)
+    → nodes ++ node ∷ [] ≡ nodes_in_row gates (length (nodes ++ node ∷ [])) 0
 placed_push gates nodes node placed is =
     let n = length nodes in
     let size : suc n ≡ length (nodes ++ node ∷ []) = omega (arith, length-append nodes (node ∷ [])) in
@@ -85,11 +96,14 @@ placed_push gates nodes node placed is =
     ap (λ (ns : List AigNode). ns ++ node ∷ []) placed ∙ ap (λ (m : AigNode). nodes_in_row gates n 0 ++ m ∷ []) (is ∙ ap (node_from gates) here) ∙ sym (nodes_push gates n 0) ∙ ap (λ (m : ℕ). nodes_in_row gates m 0) size
 
 -- gates within these nodes are within more of them
-within_more : (gates : List GateLine) (m n : ℕ) → m ≤ n → AllByRecursion (λ g. g.lhs / 2 < m) gates → AllByRecursion (λ g. g.lhs / 2 < n) gates
+within_more : (gates : List GateLine) (m n : ℕ) → m ≤ n → AllByRecursion (λ g. g.lhs / 2 < m) gates
+    → AllByRecursion (λ g. g.lhs / 2 < n) gates
 within_more gates m n le h = rec_weaker (λ (g : GateLine). g.lhs / 2 < m) (λ g. g.lhs / 2 < n) (λ g lt. omega (arith, lt, le)) gates h
 
 -- a leaf after them
-pub first_leaf : (gates : List GateLine) (nodes : List AigNode) (node : AigNode) → AreFirstNodes gates nodes → node ≡ record { node_id = length nodes; typ = Leaf } → AreFirstNodes gates (nodes ++ node ∷ [])
+pub first_leaf : (gates : List GateLine) (nodes : List AigNode) (node : AigNode)
+    → AreFirstNodes gates nodes → node ≡ record { node_id = length nodes; typ = Leaf }
+    → AreFirstNodes gates (nodes ++ node ∷ [])
 first_leaf gates nodes node h is =
     let n = length nodes in
     let size : length (nodes ++ node ∷ []) ≡ n + 1 = length-append nodes (node ∷ []) in
@@ -105,13 +119,15 @@ first_leaf gates nodes node h is =
 
 -- a gate whose variable is new after them, or in the place of a leaf
 module _ (gates : List GateLine) (nodes : List AigNode) (g : GateLine) (h : AreFirstNodes gates nodes) (own : 2 ≤ g.lhs) (new : IsNewAmong (literals_of gates) g.lhs) where
-  kind_here : kind_among (gates ++ g ∷ []) (g.lhs / 2) ≡ and_of (edge_from g.rhs0) (edge_from g.rhs1)
+  kind_here : kind_among (gates ++ g ∷ []) (g.lhs / 2)
+      ≡ and_of (edge_from g.rhs0) (edge_from g.rhs1)
   kind_here =
       let found = find_new gates g (g.lhs / 2) (none_at gates g.lhs new) (eq-eqb (g.lhs / 2) (g.lhs / 2) refl) in
       let positive : g.lhs / 2 ≢ 0 = omega arith in
       rw (ne_eqb (g.lhs / 2) 0 positive, found) refl
 
-  pub first_gate_following : g.lhs / 2 ≡ length nodes → AreFirstNodes (gates ++ g ∷ []) (nodes ++ gate_node_of g ∷ [])
+  pub first_gate_following : g.lhs / 2 ≡ length nodes
+      → AreFirstNodes (gates ++ g ∷ []) (nodes ++ gate_node_of g ∷ [])
   first_gate_following at =
       let all = nodes ++ gate_node_of g ∷ [] in
       let size : length all ≡ length nodes + 1 = length-append nodes (gate_node_of g ∷ []) in
@@ -122,7 +138,8 @@ module _ (gates : List GateLine) (nodes : List AigNode) (g : GateLine) (h : AreF
         within = (rec_append (λ (k : GateLine). k.lhs / 2 < length all) gates (g ∷ [])).1 (within_more gates (length nodes) (length all) (omega (arith, size)) h.within, (omega (arith, size, at), tt));
       }
 
-  pub first_gate_set : g.lhs / 2 < length nodes → AreFirstNodes (gates ++ g ∷ []) (set nodes (g.lhs / 2) (gate_node_of g))
+  pub first_gate_set : g.lhs / 2 < length nodes
+      → AreFirstNodes (gates ++ g ∷ []) (set nodes (g.lhs / 2) (gate_node_of g))
   first_gate_set low =
       let all = set nodes (g.lhs / 2) (gate_node_of g) in
       let size : length all ≡ length nodes = length-set nodes (g.lhs / 2) (gate_node_of g) in

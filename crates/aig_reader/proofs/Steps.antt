@@ -22,7 +22,7 @@ use Rattle.aig_reader.specs.declared.error.ReadError.{ReadError}
 use Rattle.aig_reader.specs.declared.error.ReadError.TheVariants as errors
 use Rattle.aig_reader.specs.declared.sections.Sections.{Sections}
 use Rattle.aig_reader.specs.Faults.{SectionTells}
-use Rattle.aig_reader.specs.Numbered.{AreListsByNumber, IsCircuitOf, Judged}
+use Rattle.aig_reader.specs.Numbered.{AreListsByNumber, AreSectionsOf, IsCircuitOf, Judged}
 use Rattle.aig_circuit.specs.declared.node.AigNode.{AigNode}
 use Rattle.aig_reader.specs.Gates.{AreFirstNodes}
 use Rattle.aig_reader.specs.Sections.{AreListsByVariable, HasGoodLines, file_by}
@@ -44,35 +44,28 @@ on_section-unfailed errors.Delta P Q failed f h = f h
 on_section-unfailed errors.Name P Q failed f h = h
 on_section-unfailed errors.Open P Q failed f h = h
 
-module _ (header : Header) (x : Parts) (b a : Feed) (taken : Takes (parse_section_lines header.kind (numbers_of header)) b a x) where
+module _ (header : Header) (good : has_enough header.kind (numbers_of header) ≡ true) (x : Parts) (b a : Feed) (taken : Takes (parse_section_lines header.kind (numbers_of header)) b a x) where
   abbrev keeps : Parts → Bool
   keeps y = is_accepted_order header.kind (file_by header y)
 
+  sections_are : (sections : Sections) → IsCircuitOf (file_by header x) sections
+      → AreSectionsOf header sections x
+  sections_are sections is =
+      let counts = (lines_tell header.kind (numbers_of header) x (taken.taken ++ []) [] good (taken.reads [])).counts in
+      let inputs = ap length (inputs_is (file_by header x) sections is) ∙ length-map x.inputs (λ e. node_of_variable (file_by header x) (e / 2)) in
+      let latchs = ap length (latchs_is (file_by header x) sections is) ∙ length-map x.latches (latch_of (file_by header x)) in
+      record {
+        circuit = is;
+        inputs = omega (arith, inputs, counts.inputs, sections.lists.inputs.ok.0);
+        latchs = omega (arith, latchs, counts.latches, sections.lists.latchs.ok.0);
+      }
+
   -- numbered sections, or a refusal, after the last gate
-  pub numbered_made : (result : Result Sections ReadError) → Judged (keeps x) (IsCircuitOf (file_by header x)) result
-      → Makes SectionTells (λ (sections : Sections) y. IsCircuitOf (file_by header y) sections) b a result (parse_fitting_sections header.kind (numbers_of header))
-  numbered_made (Ok sections) h = (x, h.1, takes_tested (parse_section_lines header.kind (numbers_of header)) keeps b a x taken h.0)
-  numbered_made (Err e) h = on_section-unfailed e _ _ a.failed (λ (no : keeps x ≡ false). misses_test (parse_section_lines header.kind (numbers_of header)) keeps b a x taken no) h
-
-  module _ (good : has_enough header.kind (numbers_of header) ≡ true) where
-    abbrev counts : HasCounts header.kind (numbers_of header) x
-    counts = (lines_tell header.kind (numbers_of header) x (taken.taken ++ []) [] good (taken.reads [])).counts
-
-    pub inputs_count : (result : Result Sections ReadError)
-        → Judged (keeps x) (IsCircuitOf (file_by header x)) result
-        → IfOk result (λ sections. vec_len sections.lists.inputs ≡ header.inputs)
-    inputs_count (Ok sections) h =
-        let all = ap length (inputs_is (file_by header x) sections h.1) ∙ length-map x.inputs (λ e. node_of_variable (file_by header x) (e / 2)) in
-        omega (arith, all, counts.inputs, sections.lists.inputs.ok.0)
-    inputs_count (Err e) h = tt
-
-    pub latchs_count : (result : Result Sections ReadError)
-        → Judged (keeps x) (IsCircuitOf (file_by header x)) result
-        → IfOk result (λ sections. vec_len sections.lists.latchs ≡ header.latches)
-    latchs_count (Ok sections) h =
-        let all = ap length (latchs_is (file_by header x) sections h.1) ∙ length-map x.latches (latch_of (file_by header x)) in
-        omega (arith, all, counts.latches, sections.lists.latchs.ok.0)
-    latchs_count (Err e) h = tt
+  pub numbered_made : {X : Type 0} (sections : X → Sections) (result : Result X ReadError)
+      → Judged (keeps x) (λ y. IsCircuitOf (file_by header x) (sections y)) result
+      → Makes SectionTells (λ y. AreSectionsOf header (sections y)) b a result (parse_fitting_sections header.kind (numbers_of header))
+  numbered_made sections (Ok y) h = (x, sections_are (sections y) h.1, takes_tested (parse_section_lines header.kind (numbers_of header)) keeps b a x taken h.0)
+  numbered_made sections (Err e) h = on_section-unfailed e _ _ a.failed (λ (no : keeps x ≡ false). misses_test (parse_section_lines header.kind (numbers_of header)) keeps b a x taken no) h
 
 -- ---- the two ways to number
 

@@ -15,7 +15,8 @@ use Rattle.aig_reader.specs.Variables.{IsNewAmong}
 use Rattle.aig_reader.proofs.TableEntries.{table-back}
 
 -- one more gate that is new after the others
-new_push : (front gates : List GateLine) (g : GateLine) → AreNew front gates → 2 ≤ g.lhs → IsNewAmong (literals_of (front ++ gates)) g.lhs → AreNew front (gates ++ g ∷ [])
+new_push : (front gates : List GateLine) (g : GateLine) → AreNew front gates → 2 ≤ g.lhs
+    → IsNewAmong (literals_of (front ++ gates)) g.lhs → AreNew front (gates ++ g ∷ [])
 new_push front [] g new own among = ((own, subst (λ (gs : List GateLine). IsNewAmong (literals_of gs) g.lhs) (append-nil front) among), tt)
 new_push front (x ∷ gates) g new own among =
     (new.0, new_push (front ++ x ∷ []) gates g new.1 own (subst (λ (gs : List GateLine). IsNewAmong (literals_of gs) g.lhs) (sym (append_assoc front (x ∷ []) gates)) among))
@@ -32,7 +33,9 @@ module _ (size : ℕ) (front : List GateLine) (pending : List PendingGate) where
     pub space : vec_len entries ≤ size
 
   -- none is at first
-  pub placing_none : (entries : Vec (Option Operands) Global) → AreFirstNodes front (nodes_in entries.items) → AreNew front (lines_of pending) → vec_len entries ≤ size → ArePlacing 0 entries
+  pub placing_none : (entries : Vec (Option Operands) Global)
+      → AreFirstNodes front (nodes_in entries.items) → AreNew front (lines_of pending)
+      → vec_len entries ≤ size → ArePlacing 0 entries
   placing_none entries nodes new space = record {
     nodes = subst (λ (gs : List GateLine). AreFirstNodes gs (nodes_in entries.items)) (sym (append-nil front)) nodes;
     new = subst (λ (gs : List GateLine). AreNew gs (lines_of pending)) (sym (append-nil front)) new;
@@ -54,7 +57,8 @@ module _ (size : ℕ) (front : List GateLine) (pending : List PendingGate) where
         ∙ sym (append_assoc front (lines_of (take i pending)) (line ∷ []))
 
     -- the next one is put in its place
-    pub placing_next : (old new : Vec (Option Operands) Global) → ArePlacing i old → All (λ l. l.lhs / 2 < size) pending
+    pub placing_next : (old new : Vec (Option Operands) Global) → ArePlacing i old
+        → All (λ l. l.lhs / 2 < size) pending
         → (IsNewAmong (literals_of (placed i)) next.lhs → 2 ≤ next.lhs → next.lhs / 2 < size → AreFirstNodes (placed i ++ line ∷ []) (nodes_in new.items) × (vec_len new ≤ size))
         → ArePlacing (i + 1) new
     placing_next old new h within put =
@@ -67,7 +71,9 @@ module _ (size : ℕ) (front : List GateLine) (pending : List PendingGate) where
         }
 
 -- gates that are in their places, where none waits
-pub holds_placed : (size : ℕ) (gates : List GateLine) (table : Table) → AreFirstNodes gates (nodes_in table.entries.items) → vec_len table.entries ≤ size → table.pending.items ≡ [] → HoldsPending size gates table
+pub holds_placed : (size : ℕ) (gates : List GateLine) (table : Table)
+    → AreFirstNodes gates (nodes_in table.entries.items) → vec_len table.entries ≤ size
+    → table.pending.items ≡ [] → HoldsPending size gates table
 holds_placed size gates table nodes space none = record {
   front = gates;
   all = sym (append-nil gates) ∙ ap (λ (pending : List PendingGate). gates ++ lines_of pending) (sym none);
@@ -78,8 +84,11 @@ holds_placed size gates table nodes space none = record {
 }
 
 -- none waits any longer
-pub all_placed : (size : ℕ) (gates : List GateLine) (old new : Table) (items : List PendingGate) (i : ℕ) (h : HoldsPending size gates old) → items ≡ old.pending.items
-    → (AreNew h.front (lines_of items) → All (λ l. l.lhs / 2 < size) items → ArePlacing size h.front items i new.entries) → length items ≤ i → new.pending.items ≡ []
+pub all_placed : (size : ℕ) (gates : List GateLine) (old new : Table) (items : List PendingGate)
+    (i : ℕ) (h : HoldsPending size gates old)
+    → items ≡ old.pending.items
+    → (AreNew h.front (lines_of items) → All (λ l. l.lhs / 2 < size) items → ArePlacing size h.front items i new.entries)
+    → length items ≤ i → new.pending.items ≡ []
     → HoldsPending size gates new
 all_placed size gates old new items i h same placing all none =
     let new_ones = subst (λ (pending : List PendingGate). AreNew h.front (lines_of pending)) (sym same) h.new in
@@ -90,19 +99,26 @@ all_placed size gates old new items i h same placing all none =
     holds_placed size gates new nodes last.space none
 
 -- in the table of nodes all gates are in their places
-pub none_waits : (size : ℕ) (gates : List GateLine) (nodes : List AigNode) (table : Table) → AreFirstNodes gates nodes → table.entries.items ≡ map (λ node. gate_in node.typ) nodes → vec_len table.entries ≤ size → table.pending.items ≡ [] → HoldsPending size gates table
+pub none_waits : (size : ℕ) (gates : List GateLine) (nodes : List AigNode) (table : Table)
+    → AreFirstNodes gates nodes → table.entries.items ≡ map (λ node. gate_in node.typ) nodes
+    → vec_len table.entries ≤ size → table.pending.items ≡ [] → HoldsPending size gates table
 none_waits size gates nodes table h entries space none =
     holds_placed size gates table (subst (AreFirstNodes gates) (sym (ap nodes_in entries ∙ table-back gates nodes h)) h) space none
 
 -- where none waits all gates are in their places
-pub placed_all : (size : ℕ) (gates : List GateLine) (table : Table) → HoldsPending size gates table → table.pending.items ≡ [] → AreFirstNodes gates (nodes_in table.entries.items)
+pub placed_all : (size : ℕ) (gates : List GateLine) (table : Table) → HoldsPending size gates table
+    → table.pending.items ≡ [] → AreFirstNodes gates (nodes_in table.entries.items)
 placed_all size gates table h none =
     let is = sym (append-nil h.front) ∙ ap (λ (pending : List PendingGate). h.front ++ lines_of pending) (sym none) ∙ sym h.all in
     subst (λ (gs : List GateLine). AreFirstNodes gs (nodes_in table.entries.items)) is h.nodes
 
 -- one more gate waits
-pub one_more_waits : (size : ℕ) (gates : List GateLine) (old new : Table) (lhs : ℕ) (operands : Operands) → HoldsPending size gates old → IsNewAmong (literals_of gates) lhs → 2 ≤ lhs → lhs / 2 < size → new.entries ≡ old.entries
-    → new.pending.items ≡ old.pending.items ++ record { lhs = lhs; operands = operands } ∷ [] → HoldsPending size (gates ++ line_of lhs operands ∷ []) new
+pub one_more_waits : (size : ℕ) (gates : List GateLine) (old new : Table) (lhs : ℕ)
+    (operands : Operands)
+    → HoldsPending size gates old → IsNewAmong (literals_of gates) lhs → 2 ≤ lhs → lhs / 2 < size
+    → new.entries ≡ old.entries
+    → new.pending.items ≡ old.pending.items ++ record { lhs = lhs; operands = operands } ∷ []
+    → HoldsPending size (gates ++ line_of lhs operands ∷ []) new
 one_more_waits size gates old new lhs operands h among own low entries pending =
     let line = λ (l : PendingGate). line_of l.lhs l.operands in
     let gate : PendingGate = record { lhs = lhs; operands = operands } in

@@ -1,6 +1,6 @@
 -- Serves private clauses alone.
 -- Lists under the numbers of a file's variables.
-use Rattle.std.specs.Prelude.{◌≡◌, ℕ, ◌/◌, Bool, true, false, if◌then◌else◌, ◌&&◌, List, [], ◌∷◌, All, IsTrue, map, Option, Some, None, Result, Ok, Err}
+use Rattle.std.specs.Prelude.{◌≡◌, ℕ, ◌/◌, Bool, true, false, if◌then◌else◌, ◌&&◌, List, [], ◌∷◌, All, IsTrue, map, Option, Some, None, Result, Ok, Err, vec_len}
 use Rattle.std.specs.Ordering.{nat_cmp}
 use Rattle.std.specs.FinMap.{FinMap}
 use Rattle.std.specs.List.{list_all, flat_map}
@@ -13,6 +13,8 @@ use Rattle.aig_format.specs.File.{File}
 use Rattle.aig_format.specs.Variables.{is_known}
 use Rattle.aig_format.specs.Numbering.{is_compact, node_of_variable}
 use Rattle.aig_format.specs.Circuit.{circuit_of, edge_of, latch_of}
+use Rattle.aig_parsing.specs.Parse.{Parts}
+use Rattle.aig_lexer.specs.declared.header.Header.{Header}
 use Rattle.aig_ordering.specs.declared.gates.Operands.{Operands}
 use Rattle.aig_ordering.specs.Gates.{nodes_in}
 use Rattle.aig_ordering.specs.Numbers.{has_number, number_at, number_in}
@@ -22,7 +24,7 @@ use Rattle.aig_reader.specs.declared.error.ReadError.{ReadError}
 use Rattle.aig_reader.specs.declared.sections.Lists.{Lists}
 use Rattle.aig_reader.specs.declared.sections.Sections.{Sections}
 use Rattle.aig_reader.specs.Faults.{SectionTells}
-use Rattle.aig_reader.specs.Sections.{AreListsByVariable, HasGoodLines, circuit_with}
+use Rattle.aig_reader.specs.Sections.{AreListsByVariable, HasGoodLines, circuit_with, file_by}
 
 -- ---- tests, and what they allow
 
@@ -108,3 +110,9 @@ abbrev pub IsCircuitOf : File → Sections → Type 0
 IsCircuitOf f sections =
     (names : FinMap nat_cmp (List ℕ))
     → circuit_with sections names ≡ record (circuit_of f) { names = names }
+
+-- these are the sections of a file of this header, with as many inputs and latches as it says
+pub record AreSectionsOf (header : Header) (sections : Sections) (x : Parts) : Type 0 where
+  pub circuit : IsCircuitOf (file_by header x) sections
+  pub inputs : vec_len sections.lists.inputs ≡ header.inputs
+  pub latchs : vec_len sections.lists.latchs ≡ header.latches

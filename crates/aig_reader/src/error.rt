@@ -156,19 +156,6 @@ impl From<OrderError> for ReadError {
     }
 }
 
-impl From<NameError> for ReadError {
-    ghost from_gives = { λ e r. r ≡ name_error_of e };
-
-    /// A fault in the names, or in the comment after them.
-    fn from(error: NameError) -> ReadError {
-        match error {
-            NameError::Memory => ReadError::Memory,
-            NameError::Stream => ReadError::Stream,
-            NameError::Shape => ReadError::Name,
-        }
-    }
-}
-
 impl Section {
     /// What reading lines of this section gave.
     pub(crate) fn result_of<T>(self, lines: Result<T, LineError>) -> Result<T, ReadError>
@@ -191,5 +178,17 @@ pub fn gates_result<T>(kind: FileKind, gates: Result<T, LineError>) -> Result<T,
     match (kind, gates) {
         (FileKind::Binary, Err(LineError::Syntax | LineError::Literal)) => Err(ReadError::Delta),
         (_, gates) => Section::Gates.result_of(gates),
+    }
+}
+
+/// What reading the names gave.
+pub fn names_result<T>(names: Result<T, NameError>) -> Result<T, ReadError>
+    ensures { result ≡ result_by name_error_of names }
+{
+    match names {
+        Ok(value) => Ok(value),
+        Err(NameError::Memory) => Err(ReadError::Memory),
+        Err(NameError::Stream) => Err(ReadError::Stream),
+        Err(NameError::Shape) => Err(ReadError::Name),
     }
 }

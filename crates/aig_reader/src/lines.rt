@@ -1,16 +1,16 @@
-//! The lines of the sections, with each variable as its own number.
+//! The lines of the sections.
 
 ghost use Rattle.std.specs.Prelude.{◌≡◌, ◌+◌, ◌^◌, ◌<◌, ◌≤◌, ◌==◌, [], true};
-ghost use Rattle.aig_parsing.specs.ParseTested.{parse_section_lines};
+ghost use Rattle.aig_parsing.specs.ParseTested.{parse_fitting_sections};
 ghost use Rattle.aig_format.specs.Fits.{has_enough};
 ghost use Rattle.aig_lexer.specs.Header.{numbers_of};
 ghost use Rattle.aig_lexer.specs.Takes.{Makes, feed};
 ghost use Rattle.aig_reader.specs.Faults.{SectionTells};
-ghost use Rattle.aig_reader.specs.Sections.{AreEmpty, AreLinesOf, file_by};
+ghost use Rattle.aig_reader.specs.Numbered.{AreSectionsOf};
+ghost use Rattle.aig_reader.specs.Sections.{AreEmpty};
 ghost use Rattle.aig_reader.specs.Variables.{AreDefined};
 
 use crate::error::{ReadError, Section, gates_result};
-use crate::gate_store::GateStore;
 use crate::gates::read_gates;
 use crate::inputs::read_inputs;
 use crate::latches::read_latches;
@@ -18,11 +18,12 @@ use crate::properties::read_properties;
 use crate::sections::Lists;
 use crate::variables::DefinedVariables;
 use aig_base::Source;
+use aig_circuit::AigNode;
 use aig_lexer::{Header, InputBuffer};
 use std::alloc::Global;
 
-/// Reads the lines of the sections after the header line: their entries into empty lists, with each variable as its own
-/// number, and the gates.
+/// Reads the lines of the sections after the header line: their entries into empty lists, under the numbers of their nodes,
+/// which are returned.
 pub fn read_lines<R: Source>(
     alloc: Global,
     buffer: &mut InputBuffer,
@@ -30,18 +31,17 @@ pub fn read_lines<R: Source>(
     header: Header,
     variables: &mut DefinedVariables,
     lists: &mut Lists,
-) -> Result<GateStore, ReadError>
+) -> Result<Vec<AigNode>, ReadError>
     requires few { header.greatest < 2 ^ 31 }
     requires good { has_enough header.kind (numbers_of header) ≡ true }
     requires enough { header.inputs + header.latches + header.gates ≤ header.greatest }
     requires defined { AreDefined header.kind header.greatest variables.old [] }
     requires empty { AreEmpty lists.old }
-    ensures { let complete = header.greatest == header.inputs + header.latches + header.gates in
-        Makes SectionTells
-        (λ gates x. AreLinesOf (file_by header x) complete lists.new variables.new gates)
+    ensures { Makes SectionTells
+        (λ nodes. AreSectionsOf header (record { nodes = nodes; lists = lists.new }))
         (feed R.left R.failed R.pulls buffer.old r.old)
         (feed R.left R.failed R.pulls buffer.new r.new) result
-        (parse_section_lines header.kind (numbers_of header)) }
+        (parse_fitting_sections header.kind (numbers_of header)) }
 {
     let inputs = read_inputs(buffer, r, header.inputs, variables, &mut lists.inputs);
     Section::Inputs.result_of(inputs)?;
@@ -56,5 +56,7 @@ pub fn read_lines<R: Source>(
     Section::Latches.result_of(latchs)?;
     read_properties(alloc, buffer, r, header, &mut lists.properties)?;
     let gates = read_gates(alloc, buffer, r, header.gates, variables);
-    gates_result(header.kind, gates)
+    let gates = gates_result(header.kind, gates)?;
+    let is_complete = header.greatest == header.inputs + header.latches + header.gates;
+    lists.number(alloc, gates, variables, header.greatest, is_complete)
 }

@@ -1,6 +1,6 @@
 //! Reading a file.
 
-ghost use Rattle.std.specs.Prelude.{◌≡◌, ◌+◌, ◌^◌, ◌<◌, ◌≤◌, ◌==◌, true, false, IfOk, IfSome, IsErrOf, IsTrue, OnOk, vec_len};
+ghost use Rattle.std.specs.Prelude.{◌≡◌, ◌+◌, ◌^◌, ◌<◌, ◌≤◌, true, false, IfOk, IfSome, IsErrOf, IsTrue, OnOk};
 ghost use Rattle.std.specs.Io.KnownBytes.{IsAtEnd};
 ghost use Rattle.aig_parsing.specs.ParseTested.{parse_fitting_sections};
 ghost use Rattle.aig_format.specs.Fits.{Accepts, has_enough};
@@ -8,10 +8,9 @@ ghost use Rattle.aig_lexer.specs.Header.{numbers_of};
 ghost use Rattle.aig_lexer.specs.Takes.{Makes, feed};
 ghost use Rattle.aig_reader.specs.Faults.{SectionTells};
 ghost use Rattle.aig_reader.specs.Reading.{AreListsOf, IsReadAs, ReadsExactly, UnlessTransient};
-ghost use Rattle.aig_reader.specs.Numbered.{IsCircuitOf};
-ghost use Rattle.aig_reader.specs.Sections.{file_by};
+ghost use Rattle.aig_reader.specs.Numbered.{AreSectionsOf};
 
-use crate::error::ReadError;
+use crate::error::{ReadError, names_result};
 use crate::header::read_header;
 use crate::lines::read_lines;
 use crate::sections::{Lists, Sections};
@@ -67,16 +66,9 @@ fn read_file<R: Source>(
     let header = read_header(buffer, r, limit)?;
     let sections = read_sections(alloc, buffer, r, header)?;
     let lists = &sections.lists;
-    let names = read_names(alloc, buffer, r, &header, &lists.inputs, &lists.latchs)?;
+    let names = read_names(alloc, buffer, r, &header, &lists.inputs, &lists.latchs);
+    let names = names_result(names)?;
     Ok(sections.with_names(names))
-}
-
-/// Whether no variable is missing.
-fn is_complete(header: Header) -> bool
-    requires { header.inputs + header.latches + header.gates ≤ header.greatest }
-    ensures { result ≡ (header.greatest == header.inputs + header.latches + header.gates) }
-{
-    header.greatest == header.inputs + header.latches + header.gates
 }
 
 /// Reads the sections after the header line, and numbers their nodes.
@@ -89,23 +81,13 @@ fn read_sections<R: Source>(
     requires few { header.greatest < 2 ^ 31 }
     requires good { has_enough header.kind (numbers_of header) ≡ true }
     requires enough { header.inputs + header.latches + header.gates ≤ header.greatest }
-    ensures exact { Makes SectionTells
-        (λ sections x. IsCircuitOf (file_by header x) sections)
+    ensures { Makes SectionTells (AreSectionsOf header)
         (feed R.left R.failed R.pulls buffer.old r.old)
         (feed R.left R.failed R.pulls buffer.new r.new) result
         (parse_fitting_sections header.kind (numbers_of header)) }
-    ensures inputs { IfOk result (λ sections. vec_len sections.lists.inputs ≡ header.inputs) }
-    ensures latchs { IfOk result (λ sections. vec_len sections.lists.latchs ≡ header.latches) }
 {
     let mut variables = DefinedVariables::new(alloc, header.kind, header.greatest);
     let mut lists = Lists::new(alloc);
-    let gates = read_lines(alloc, buffer, r, header, &mut variables, &mut lists)?;
-    let nodes = lists.number(
-        alloc,
-        gates,
-        &variables,
-        header.greatest,
-        is_complete(header),
-    )?;
+    let nodes = read_lines(alloc, buffer, r, header, &mut variables, &mut lists)?;
     Ok(Sections { nodes, lists })
 }

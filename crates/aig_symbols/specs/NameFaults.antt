@@ -1,4 +1,4 @@
--- Part of what is promised.
+-- Serves private clauses alone.
 -- What a fault tells.
 use Rattle.std.specs.Prelude.{◌≡◌, Bool, true}
 use Rattle.aig_lexer.specs.declared.error.LexError.{LexError}

@@ -9,12 +9,11 @@ use Rattle.aig_parsing.specs.ParseTested.{parse_fitting_header}
 use Rattle.aig_lexer.specs.Header.{numbers_of}
 use Rattle.aig_lexer.specs.Takes.{feed}
 use Rattle.aig_lexer.proofs.Taking.{takes_both}
-use Rattle.aig_symbols.specs.Names.{kept_names}
-use Rattle.aig_reader.specs.Faults.{name_error_of}
+use Rattle.aig_symbols.specs.Names.{kept_names, tail_of}
 use Rattle.aig_reader.proofs.Accepting.{Body, refused_header, refused_section, refused_names, sections_of, accepted, accepts}
 use Rattle.aig_reader.proofs.HeaderLines.{header_good, header_small, header_within}
 use Rattle.aig_reader.proofs.FileCircuit.{circuit_is, nodes_distinct}
-use Rattle.aig_reader.proofs.ReadNames.{in_names, names_fault, no_names_left}
+use Rattle.aig_reader.proofs.ReadNames.{names_fault, names_in, no_names_in, no_names_left}
 use Rattle.aig_reader.proofs.reader.read_file.Goals as goal
 
 pub returns-in_err-header-clause-exact : goal.returns-in_err-header-clause-exact
@@ -34,35 +33,37 @@ returns-in_err-sections-clause-exact g c =
     let e = c.in_err-sections.field-0.0 in
     let header = c.in_ok-header.header in
     rw (p.1, p.2)
-    (refused_section c.args.limit _ _ (header.kind, numbers_of header) e _ c.in_ok-header.ensures.exact c.in_err-sections.ensures.exact (header_small c.args.limit _ _ _ c.in_ok-header.ensures.exact))
+    (refused_section c.args.limit _ _ (header.kind, numbers_of header) e _ c.in_ok-header.ensures.exact c.in_err-sections.ensures (header_small c.args.limit _ _ _ c.in_ok-header.ensures.exact))
 
-pub read_names-requires-clause-distinct : goal.read_names-requires-clause-distinct
-read_names-requires-clause-distinct g c =
+pub read_names-names-requires-clause-distinct : goal.read_names-names-requires-clause-distinct
+read_names-names-requires-clause-distinct g c =
     let header = c.in_ok-header.header in
-    let made = c.in_ok-sections.ensures.exact in
+    let made = c.in_ok-sections.ensures in
     let body : Body = ((header.kind, numbers_of header), made.0) in
     let taken = takes_both (parse_fitting_header c.args.limit) sections_of _ _ _ (header.kind, numbers_of header) made.0 c.in_ok-header.ensures.exact made.2 in
     let fits = accepted c.args.limit _ _ body taken [] [] (no_names_left (numbers_of header)) in
-    rw (c.deref.ensures.value, c.deref-2.ensures.value) (nodes_distinct (file_from body []) c.in_ok-sections.sections made.1 c.args.limit fits.1)
+    rw (c.deref.ensures.value, c.deref-2.ensures.value) (nodes_distinct (file_from body []) c.in_ok-sections.sections made.1.circuit c.args.limit fits.1)
 
 pub returns-in_err-names-clause-exact : goal.returns-in_err-names-clause-exact
 returns-in_err-names-clause-exact g c =
     let p = err_from_is_err_and c.from_residual-in_err-names.result c.from_residual-in_err-names.ensures.1 in
     let e = c.in_err-names.field-0.0 in
     let header = c.in_ok-header.header in
-    let made = c.in_ok-sections.ensures.exact in
+    let made = c.in_ok-sections.ensures in
     let body : Body = ((header.kind, numbers_of header), made.0) in
     let taken = takes_both (parse_fitting_header c.args.limit) sections_of _ _ _ (header.kind, numbers_of header) made.0 c.in_ok-header.ensures.exact made.2 in
     rw (p.1, p.2)
-    (refused_names c.args.limit _ _ body (name_error_of e) _ taken (in_names e _ _ c.in_err-names.ensures) (names_fault e) (header_small c.args.limit _ _ _ c.in_ok-header.ensures.exact))
+    (refused_names c.args.limit _ _ body e _ taken
+    (no_names_in _ _ _ (tail_of (numbers_of header)) c.read_names-names.result c.names_result.result c.names_result.ensures c.read_names-names.ensures e c.in_err-names.was)
+    (names_fault c.read_names-names.result c.names_result.result e c.names_result.ensures c.in_err-names.was) (header_small c.args.limit _ _ _ c.in_ok-header.ensures.exact))
 
 pub returns-clause-circuit : goal.returns-clause-circuit
 returns-clause-circuit g c =
     let header = c.in_ok-header.header in
-    let made = c.in_ok-sections.ensures.exact in
+    let made = c.in_ok-sections.ensures in
     let body : Body = ((header.kind, numbers_of header), made.0) in
     let taken = takes_both (parse_fitting_header c.args.limit) sections_of _ _ _ (header.kind, numbers_of header) made.0 c.in_ok-header.ensures.exact made.2 in
-    let names = c.in_ok-names.ensures in
+    let names = names_in _ _ _ (tail_of (numbers_of header)) c.read_names-names.result c.names_result.result c.names_result.ensures c.read_names-names.ensures c.in_ok-names.names c.in_ok-names.was in
     let fits = accepted c.args.limit _ _ body taken names.0 names.2 names.3 in
     let s = c.in_ok-sections.sections in
     let map = names_of c.in_ok-names.names.entries in
@@ -71,14 +72,14 @@ returns-clause-circuit g c =
       file = file_from body names.0;
       bytes = taken.taken ++ names.2;
       holds = fits;
-      means = c.with_names.ensures ∙ circuit_is body names.0 s map made.1 kept;
+      means = c.with_names.ensures ∙ circuit_is body names.0 s map made.1.circuit kept;
       taken = Consumes-trans _ _ _ taken.taken names.2 taken.advances.consumed names.4.consumed;
     }
 
 pub returns-clause-whole : goal.returns-clause-whole
 returns-clause-whole g c =
     let header = c.in_ok-header.header in
-    let names = c.in_ok-names.ensures in
+    let names = names_in _ _ _ (tail_of (numbers_of header)) c.read_names-names.result c.names_result.result c.names_result.ensures c.read_names-names.ensures c.in_ok-names.names c.in_ok-names.was in
     (names.4.sound, names.4.at_end)
 
 pub returns-clause-exact : goal.returns-clause-exact
