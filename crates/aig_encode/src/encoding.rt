@@ -1,8 +1,9 @@
 //! From bytes to clauses.
 
-ghost use Rattle.std.specs.Prelude.{◌≡◌, ◌^◌, ◌≤◌, false, IfOk, IfSome, IsErrOf, IsTrue};
+ghost use Rattle.std.specs.Prelude.{◌≡◌, ◌^◌, ◌≤◌, ◌↔◌, false, IfOk, IfSome, IsErrOf, IsTrue};
 ghost use Rattle.std.specs.Io.KnownBytes.{IsAtEnd};
 ghost use Rattle.aig_reader.specs.Reading.{IsReadAs};
+ghost use Rattle.aig_unroll.specs.Places.{unrolled_size};
 ghost use Rattle.aig_encode.specs.Encoding.{AnswersExactly, IsBeyond, IsEncoding, IsWithin, IsPastReading, ConsumedFile, EncodeUnlessTransient};
 ghost use Rattle.aig_encode.specs.Parts.{EncodesOrRefuses};
 
@@ -94,6 +95,13 @@ pub fn encode<R: Source>(
     })
 }
 
+/// Whether a circuit with `k` further steps has at most `limit` nodes, by the bound that `unroll_to` keeps.
+fn is_within(circuit: &Aig, k: usize, limit: usize) -> bool
+    ensures { IsTrue result ↔ (unrolled_size circuit.now k ≤ limit) }
+{
+    aig_unroll::is_size_within(circuit.num_nodes(), circuit.latchs().len(), k, limit)
+}
+
 /// Unrolls a circuit by `k` steps, unless that may pass the limit, and makes the clauses of it.
 fn encode_circuit(
     circuit: &Aig,
@@ -104,7 +112,7 @@ fn encode_circuit(
     requires few { limit ≤ 2 ^ 31 }
     ensures { EncodesOrRefuses circuit.now limit k optimize result }
 {
-    if !aig_unroll::is_size_within(circuit.num_nodes(), circuit.latchs().len(), k, limit) {
+    if !is_within(circuit, k, limit) {
         return Err(EncodeError::TooLarge);
     }
     let unrolled = circuit.unroll_to(k)?;
