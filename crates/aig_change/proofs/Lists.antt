@@ -47,14 +47,7 @@ AllZip-append R [] (y ∷ ys) us vs zip more = elim zip [ ]
 AllZip-append R (x ∷ xs) [] us vs zip more = elim zip [ ]
 AllZip-append R (x ∷ xs) (y ∷ ys) us vs zip more = (zip.0, AllZip-append R xs ys us vs zip.1 more)
 
--- one entry more that is pushed under its map
-pub mapped_more : {X Y : Type 0} (f : X → Y) (xs : List X) (i : ℕ) (d : X)
-    (start before after : List Y) → i < length xs → before ≡ start ++ map f (take i xs)
-    → after ≡ before ++ f (get_or xs i d) ∷ [] → after ≡ start ++ map f (take (i + 1) xs)
-mapped_more f xs i d start before after h so_far pushed =
-    pushed ∙ ap (λ ys. ys ++ f (get_or xs i d) ∷ []) so_far ∙ append_assoc start (map f (take i xs)) (f (get_or xs i d) ∷ []) ∙ ap (λ ys. start ++ ys) (sym (map_more f xs i d h))
-
--- and once all are pushed
+-- all entries are pushed under their map
 pub mapped_all : {X Y : Type 0} (f : X → Y) (xs : List X) (i : ℕ) (start made : List Y)
     → length xs ≤ i → made ≡ start ++ map f (take i xs) → made ≡ start ++ map f xs
 mapped_all f xs i start made h so_far = so_far ∙ ap (λ ys. start ++ map f ys) (take_all i xs h)

@@ -1,8 +1,8 @@
 -- Facts on the elements of lists.
-use Rattle.std.proofs.Common.{◌≡◌, ◌+◌, ◌∙◌, suc, List, [], ◌∷◌, ◌++◌, map, length, get_or, ap, refl, subst, length-append, arith}
+use Rattle.std.proofs.Common.{◌≡◌, ℕ, ◌+◌, ◌<◌, ◌∙◌, suc, List, [], ◌∷◌, ◌++◌, map, length, take, get_or, ap, refl, sym, subst, append_assoc, length-append, arith}
 use Rattle.std.specs.Prelude.{All, Any}
 use Rattle.std.specs.List.{AllZip, flat_map}
-use Rattle.std.proofs.lemmas.List.{length-map, get_or-map, get_or_append_left, get_or-append-add}
+use Rattle.std.proofs.lemmas.List.{length-map, map_more, get_or-map, get_or_append_left, get_or-append-add}
 use Rattle.std.proofs.lemmas.List.Elements.{All-append, All-cons, All-head, All-nil, All-tail, Contains-get_or}
 
 -- what no element has, each is without
@@ -55,3 +55,10 @@ module _ {X Y : Type 0} (f : X → Y) where
 pub map-same : {X : Type 0} (f : X → X) (xs : List X) → All (λ x. f x ≡ x) xs → map f xs ≡ xs
 map-same f [] all = refl
 map-same f (x ∷ xs) all = ap (λ y. y ∷ map f xs) (all 0 x (omega arith)) ∙ ap (λ ys. x ∷ ys) (map-same f xs (λ k d h. all (suc k) d (omega arith)))
+
+-- one entry more that is pushed under its map
+pub mapped_more : {X Y : Type 0} (f : X → Y) (xs : List X) (i : ℕ) (d : X)
+    (start before after : List Y) → i < length xs → before ≡ start ++ map f (take i xs)
+    → after ≡ before ++ f (get_or xs i d) ∷ [] → after ≡ start ++ map f (take (i + 1) xs)
+mapped_more f xs i d start before after h so_far pushed =
+    pushed ∙ ap (λ ys. ys ++ f (get_or xs i d) ∷ []) so_far ∙ append_assoc start (map f (take i xs)) (f (get_or xs i d) ∷ []) ∙ ap (λ ys. start ++ ys) (sym (map_more f xs i d h))

@@ -203,11 +203,6 @@ appended_more F f push xs i d start before after h so_far appended =
     appended ∙ ap (λ ys. ys ++ f (get_or xs i d)) so_far ∙ append_assoc start (F (take i xs)) (f (get_or xs i d))
     ∙ ap (λ ys. start ++ ys) (sym (push (take i xs) (get_or xs i d)) ∙ ap F (sym (take_more xs i d h)))
 
-pub mapped_more : {X Y : Type 0} (f : X → Y) (xs : List X) (i : ℕ) (d : X)
-    (start before after : List Y) → i < length xs → before ≡ start ++ map f (take i xs)
-    → after ≡ before ++ f (get_or xs i d) ∷ [] → after ≡ start ++ map f (take (i + 1) xs)
-mapped_more f = appended_more (map f) (λ x. f x ∷ []) (λ xs x. map-append f xs (x ∷ []))
-
 flat_map-push : {X Y : Type 0} (f : X → List Y) (xs : List X) (x : X)
     → flat_map f (xs ++ x ∷ []) ≡ flat_map f xs ++ f x
 flat_map-push f xs x = flat_map-append f xs (x ∷ []) ∙ ap (λ ys. flat_map f xs ++ ys) (append-nil (f x))

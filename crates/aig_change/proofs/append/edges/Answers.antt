@@ -1,7 +1,8 @@
 use Rattle.std.proofs.Common.{◌++◌, ◌∷◌, [], ◌∙◌, ap, append-nil, arith, sym}
 use Rattle.aig_circuit.specs.Renumber.{renumbered_edge}
 use Rattle.aig_change.specs.Merge.{shifted}
-use Rattle.aig_change.proofs.Lists.{mapped_all, mapped_more}
+use Rattle.aig_circuit.proofs.Lists.{mapped_more}
+use Rattle.aig_change.proofs.Lists.{mapped_all}
 use Rattle.aig_change.proofs.append.edges.Goals as goal
 
 pub loop-e-init : goal.loop-e-init

@@ -1,6 +1,7 @@
 use Rattle.std.proofs.Common.{◌++◌, ◌∷◌, [], ◌∙◌, ap, append-nil, arith, sym}
 use Rattle.aig_change.specs.Merge.{shifted}
-use Rattle.aig_change.proofs.Lists.{mapped_all, mapped_more}
+use Rattle.aig_circuit.proofs.Lists.{mapped_more}
+use Rattle.aig_change.proofs.Lists.{mapped_all}
 use Rattle.aig_change.proofs.append.inputs.Goals as goal
 
 pub loop-input-init : goal.loop-input-init

@@ -1,7 +1,8 @@
 use Rattle.std.proofs.Common.{◌++◌, ◌∷◌, [], ◌∙◌, ap, append-nil, arith, sym}
 use Rattle.aig_circuit.specs.Renumber.{renumbered_latch}
 use Rattle.aig_change.specs.Merge.{shifted}
-use Rattle.aig_change.proofs.Lists.{mapped_all, mapped_more}
+use Rattle.aig_circuit.proofs.Lists.{mapped_more}
+use Rattle.aig_change.proofs.Lists.{mapped_all}
 use Rattle.aig_change.proofs.append.latchs.Goals as goal
 
 pub loop-l-init : goal.loop-l-init

@@ -1,7 +1,7 @@
 use Rattle.std.proofs.Common.{◌++◌, ◌∷◌, [], ◌∙◌, ap, map}
 use Rattle.std.proofs.lemmas.List.{take_all}
 use Rattle.aig_circuit.specs.Edge.{inverse}
-use Rattle.aig_change.proofs.Lists.{mapped_more}
+use Rattle.aig_circuit.proofs.Lists.{mapped_more}
 use Rattle.aig_change.proofs.joining.inverses.Goals as goal
 
 pub loop-e-init : goal.loop-e-init

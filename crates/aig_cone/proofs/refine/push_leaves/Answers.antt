@@ -2,7 +2,7 @@ use Rattle.std.proofs.Common.{◌++◌, ◌∙◌, ap, ◌∷◌, [], append-nil
 use Rattle.std.proofs.lemmas.List.{take_all}
 use Rattle.aig_circuit.specs.declared.node.AigLatch.{AigLatch}
 use Rattle.aig_circuit.specs.Circuit.{latch_leaves}
-use Rattle.aig_cone.proofs.Keeping.{mapped_more}
+use Rattle.aig_circuit.proofs.Lists.{mapped_more}
 use Rattle.aig_cone.proofs.refine.push_leaves.Goals as goal
 
 pub loop-latch-init : goal.loop-latch-init

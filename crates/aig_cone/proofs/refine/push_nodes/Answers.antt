@@ -1,7 +1,7 @@
 use Rattle.std.proofs.Common.{◌++◌, ◌∙◌, ap, ◌∷◌, [], append-nil, map, sym}
 use Rattle.std.proofs.lemmas.List.{take_all}
 use Rattle.aig_circuit.specs.declared.edge.AigEdge.{AigEdge}
-use Rattle.aig_cone.proofs.Keeping.{mapped_more}
+use Rattle.aig_circuit.proofs.Lists.{mapped_more}
 use Rattle.aig_cone.proofs.refine.push_nodes.Goals as goal
 
 pub loop-e-init : goal.loop-e-init

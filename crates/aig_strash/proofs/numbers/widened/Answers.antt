@@ -1,0 +1,13 @@
+use Rattle.std.proofs.Common.{◌≡◌, ℕ, ◌+◌, ◌<◌, ◌∙◌, List, ◌++◌, ◌∷◌, [], length, take, ap, sym, get_or}
+use Rattle.std.proofs.lemmas.List.{take_more}
+use Rattle.aig_strash.proofs.numbers.widened.Goals as goal
+
+-- one entry more
+taken_more : {X : Type 0} (xs : List X) (i : ℕ) (d : X) (before after : List X) → i < length xs
+    → before ≡ take i xs → after ≡ before ++ get_or xs i d ∷ [] → after ≡ take (i + 1) xs
+taken_more xs i d before after h so_far pushed =
+    pushed ∙ ap (λ ys. ys ++ get_or xs i d ∷ []) so_far ∙ sym (take_more xs i d h)
+
+pub loop-number-preserved : goal.loop-number-preserved
+loop-number-preserved c =
+    taken_more c.args.numbers.now c.loop-number.number-index _ c.loop-number.wide.items c.push.new.self.items c.loop-number-test.true c.loop-number.invariant c.in_ok-push.ensures.items
