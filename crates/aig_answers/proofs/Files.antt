@@ -86,27 +86,12 @@ pub no_bads : (f : File) (bads : List ℕ) → map (edge_of f) bads ≡ [] → b
 no_bads f [] is = refl
 no_bads f (e ∷ es) is = cc
 
--- whether there are bad edges tells whether there are bad literals
-pub none_told : (f : File) (c : Circuit) (bads : List AigEdge) (empty : Bool) → c ≡ circuit_of f
-    → bads ≡ c.properties.bads → empty ≡ (length bads == 0) → empty ≡ true → f.properties.bads ≡ []
-none_told f c bads empty of same told is_empty =
-    let zero : length bads ≡ 0 = eqb-true (length bads) 0 (sym told ∙ is_empty) in
-    no_bads f f.properties.bads (sym (ap (λ (d : Circuit). d.properties.bads) of) ∙ sym same ∙ nil_from_length bads zero)
-
-pub some_told : (f : File) (c : Circuit) (bads : List AigEdge) (empty : Bool) → c ≡ circuit_of f
-    → bads ≡ c.properties.bads → empty ≡ (length bads == 0) → empty ≡ false → f.properties.bads ≢ []
-some_told f c bads empty of same told not_empty none =
-    let is_nil : bads ≡ [] = same ∙ ap (λ (d : Circuit). d.properties.bads) of ∙ ap (map (edge_of f)) none in
-    let is_empty : empty ≡ true = told ∙ ap (λ (es : List AigEdge). length es == 0) is_nil in
-    false≢true (sym not_empty ∙ is_empty)
-
 -- a circuit of a file has no bad edge exactly where the file has no bad literal
-pub bads_alike : (f : File) (c : Circuit) (bads : List AigEdge) → c ≡ circuit_of f
-    → bads ≡ c.properties.bads → (bads ≡ []) ↔ (f.properties.bads ≡ [])
-bads_alike f c bads of same = (
-  λ none. no_bads f f.properties.bads (sym (ap (λ (d : Circuit). d.properties.bads) of) ∙ sym same ∙ none),
-  λ none. same ∙ ap (λ (d : Circuit). d.properties.bads) of ∙ ap (map (edge_of f)) none,
-)
+pub bads_alike : (f : File) (c : Circuit) → c ≡ circuit_of f
+    → (c.properties.bads ≡ []) ↔ (f.properties.bads ≡ [])
+bads_alike f c of =
+    let same : c.properties.bads ≡ map (edge_of f) f.properties.bads = ap (λ (d : Circuit). d.properties.bads) of in
+    (λ none. no_bads f f.properties.bads (sym same ∙ none), λ none. same ∙ ap (map (edge_of f)) none)
 
 -- ---- what is told of a file
 
@@ -389,7 +374,7 @@ module _ {R : Type 0} (left : R → Option (List ℕ)) (form : Window) (limit k 
         let told = room.0 large in (
           (
             (accepts, subst (λ d. unrolled_size d (k + 1) ≤ limit) is told.0),
-            λ none. told.1 ((bads_alike f c c.properties.bads is refl).1 none),
+            λ none. told.1 ((bads_alike f c is).1 none),
           ),
           subst (λ d. limit < window_size form d k) is told.2,
         )
@@ -398,7 +383,7 @@ module _ {R : Type 0} (left : R → Option (List ℕ)) (form : Window) (limit k 
         → IsErrOf result errors.TooLarge
     crowded_told bytes f is crowded = room.1 (
       subst (λ d. unrolled_size d (k + 1) ≤ limit) (sym is) crowded.0.0.1,
-      λ none. crowded.0.1 ((bads_alike f c c.properties.bads is refl).0 none),
+      λ none. crowded.0.1 ((bads_alike f c is).0 none),
       subst (λ d. limit < window_size form d k) (sym is) crowded.1,
     )
 
@@ -451,15 +436,12 @@ module _ {R : Type 0} (left : R → Option (List ℕ)) (limit k : ℕ) (r : R) (
 
   -- a file was read whose circuit is asked for its window
   module _ (c : Circuit) (exact : Reads Circuit (Unit {0}) IsFileCircuit OfFile limit k (Ok c) (left r)) where
-    bads_told : (f : File) → c ≡ circuit_of f → (c.properties.bads ≡ []) ↔ (f.properties.bads ≡ [])
-    bads_told f is = bads_alike f c c.properties.bads is refl
-
     by_bads : (result : Result T AnswerError) → unrolled_size c k ≤ limit
         → IsErrOf result errors.NoBads ↔ (c.properties.bads ≡ [])
         → IsExactly left errors.NoBads (AsksNothing limit k) result r
     by_bads result low told = read_exactly left errors.NoBads (AsksNothing limit k) r result limit k c (nothing_is_read limit k) (λ bytes f accepts is. (
-      λ error. ((accepts, subst (λ d. unrolled_size d k ≤ limit) is low), (bads_told f is).0 (told.0 error)),
-      λ nothing. told.1 ((bads_told f is).1 nothing.1),
+      λ error. ((accepts, subst (λ d. unrolled_size d k ≤ limit) is low), (bads_alike f c is).0 (told.0 error)),
+      λ nothing. told.1 ((bads_alike f c is).1 nothing.1),
     )) exact
 
     too_large : limit < unrolled_size c k → IsExactly {T = T} left errors.NoBads (AsksNothing limit k) (Err (errors.Encode encode.TooLarge)) r

@@ -8,32 +8,31 @@ ghost use Rattle.aig_reader.specs.Reading.{IsReadAs};
 
 use crate::error::AnswerError;
 use crate::refuting::refute;
-use aig::AigEdge;
-use aig_base::{DagCnf, LitVvec, Source};
+use aig_base::Source;
 use aig_certify::refuted_queries_have_no_witness;
-use aig_encode::query;
+use aig_encode::{Query, query};
 use aig_refutation::RefutationError;
 use std::alloc::Global;
 
-/// Checks a proof that clauses can't be satisfied, unless there are no bad edges, so that nothing is asked.
+/// Checks a proof that a query's clauses can't be satisfied, unless there are no bad edges, so that nothing is asked.
 fn check_asked<P: Source>(
     alloc: Global,
-    bads: &[AigEdge],
-    clauses: &DagCnf,
-    further: &LitVvec,
+    asked: &Query,
     proof: &mut P,
 ) -> Result<(), AnswerError>
-    ensures refuted { OnOk result (¬ IsSatisfiable (clauses_in clauses.now ++ further.now)) }
-    ensures none { IsErrOf result AnswerError.NoBads ↔ (bads.now ≡ []) }
+    ensures refuted { OnOk result
+        (¬ IsSatisfiable (clauses_in asked.now.encoded.clauses ++ asked.now.extra)) }
+    ensures none { IsErrOf result AnswerError.NoBads
+        ↔ (asked.now.encoded.circuit.properties.bads ≡ []) }
     ensures only { IsOfFileAlone result → IsErrOf result AnswerError.NoBads }
     ensures unread { IsOfFileAlone result → proof.new ≡ proof.old }
     ensures stream { IsErrOf result (AnswerError.Refutation RefutationError.Stream)
         → IsTrue (P.failed proof.new) }
 {
-    if bads.is_empty() {
+    if asked.encoded.circuit.bads().is_empty() {
         return Err(AnswerError::NoBads);
     }
-    refute(alloc, clauses, further, proof)
+    refute(alloc, &asked.encoded.clauses, &asked.extra, proof)
 }
 
 /// Reads a circuit from the bytes of an AIGER file, and checks a proof, in the LRAT or the DRAT format, that the clauses of its
@@ -66,6 +65,5 @@ pub fn check_step<R: Source, P: Source>(
 {
     refuted_queries_have_no_witness();
     let asked = query(alloc, r, limit, k, optimize)?;
-    let bads = asked.encoded.circuit.bads();
-    check_asked(alloc, bads, &asked.encoded.clauses, &asked.extra, proof)
+    check_asked(alloc, &asked, proof)
 }

@@ -10,7 +10,7 @@ pub returns-clause-none : goal.returns-clause-none
 returns-clause-none g c = (
   λ is. absurd (not_alone c.refute.result errors.NoBads c.refute.ensures.read tt is),
   λ none.
-      let is_empty : c.is_empty.result ≡ true = c.is_empty.ensures ∙ ap (λ (es : List AigEdge). length es == 0) none in
+      let is_empty : c.is_empty.result ≡ true = c.is_empty.ensures ∙ ap (λ (es : List AigEdge). length es == 0) (c.bads.ensures.value ∙ none) in
       absurd (false≢true (sym c.if-is_empty.false ∙ is_empty)),
 )
 

@@ -20,7 +20,7 @@ pub returns-clause-answer : goal.returns-clause-answer
 returns-clause-answer g c =
     let o = c.in_ok-asked.ensures.answer in
     let checked = c.check_asked.ensures in
-    let bads = bads_alike o.file c.in_ok-asked.asked.encoded.circuit _ o.means.0.of_file c.bads-bads.ensures.value in
+    let bads = bads_alike o.file c.in_ok-asked.asked.encoded.circuit o.means.0.of_file in
     asked_answers c.check_asked.result _ _ _ checked.none
     (λ u some none. record {
       file = o.file;
@@ -34,7 +34,7 @@ pub returns-clause-file : goal.returns-clause-file
 returns-clause-file g c =
     let o = c.in_ok-asked.ensures.answer in
     let checked = c.check_asked.ensures in
-    let bads = bads_alike o.file c.in_ok-asked.asked.encoded.circuit _ o.means.0.of_file c.bads-bads.ensures.value in
+    let bads = bads_alike o.file c.in_ok-asked.asked.encoded.circuit o.means.0.of_file in
     answered_alike g.R.Source.left g.R.Source.failed c.args.limit c.args.k c.args.r.now _ Unit c.check_asked.result (asked_good c.check_asked.result checked.only) (asked_apart c.check_asked.result checked.only)
     (λ is. (o.file, o.bytes, (o.holds, bads.0 (checked.none.0 is)), o.taken)) (IsQuery c.args.k c.args.optimize) c.in_ok-asked.asked c.in_ok-asked.ensures.exact
 
@@ -43,5 +43,5 @@ returns-clause-bads g c =
     let checked = c.check_asked.ensures in
     answered_nothing g.R.Source.left c.args.limit c.args.k c.args.r.now Unit (IsQuery c.args.k c.args.optimize) c.in_ok-asked.asked c.check_asked.result
     (λ f means.
-    let bads = bads_alike f c.in_ok-asked.asked.encoded.circuit _ means.0.of_file c.bads-bads.ensures.value in
+    let bads = bads_alike f c.in_ok-asked.asked.encoded.circuit means.0.of_file in
     (λ is. bads.0 (checked.none.0 is), λ none. checked.none.1 (bads.1 none))) c.in_ok-asked.ensures.exact
