@@ -5,7 +5,7 @@ use Rattle.aig_encode.specs.declared.error.EncodeError.{EncodeError}
 use Rattle.aig_encode.proofs.Exactly.{no_refusal}
 use Rattle.aig_answers.specs.declared.error.AnswerError.{AnswerError}
 use Rattle.aig_answers.specs.declared.error.AnswerError.TheVariants as errors
-use Rattle.aig_answers.specs.Answers.{IsOfCircuitQuery, IsOfFileAlone, of_file}
+use Rattle.aig_answers.specs.Answers.{IsOfCircuit, IsOfCircuitQuery, IsOfFileAlone, IsOfWindow, of_file}
 
 -- what is known of an answer is no error that is of the file alone
 pub not_alone : (result : Result Unit AnswerError) (e : AnswerError) → ¬ IsOfFileAlone result → IsOfFileAlone {T = Unit} (Err e) → IsErrOf result e → ⊥
@@ -28,6 +28,18 @@ proof_answers (Err (errors.Encode e)) read = absurd (read tt)
 proof_answers (Err errors.NoBads) read = tt
 proof_answers (Err errors.TooLarge) read = absurd (read tt)
 proof_answers (Err (errors.Refutation e)) read = tt
+
+-- a refusal of a window's clauses is one of its file's window
+pub circuit_is_window : (e : AnswerError) → IsOfCircuit e → IsOfWindow e
+circuit_is_window (errors.Encode e) is = tt
+circuit_is_window errors.NoBads is = tt
+circuit_is_window errors.TooLarge is = tt
+circuit_is_window (errors.Refutation e) is = absurd is
+
+-- what holds anyway, holds of an answer
+pub on_ok_given : {T E P : Type 0} (result : Result T E) → P → OnOk result P
+on_ok_given (Ok x) holds = holds
+on_ok_given (Err e) holds = tt
 
 -- ---- where something is asked
 

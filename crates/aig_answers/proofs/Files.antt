@@ -1,8 +1,7 @@
 -- What the answers of the calls tell of the file, from what reading and encoding tell.
 use Rattle.std.proofs.Common.{◌≡◌, ◌≢◌, ◌↔◌, ℕ, ◌+◌, ◌<◌, ◌≤◌, Bool, IsTrue, Option, Some, None, Result, Ok, Err, List, [], ◌∷◌, length, map, true, false, refl, sym, ap, subst, ◌∙◌, inl, inr, arith}
-use Rattle.std.specs.Prelude.{◌==◌, IfSome, IfErr, IsErrOf, IsOk}
-use Rattle.std.proofs.lemmas.List.{nil_from_length}
-use Rattle.std.proofs.lemmas.Bool.{cases_lt, eqb-true, false≢true}
+use Rattle.std.specs.Prelude.{IfSome, IfErr, IfOk, IsErrOf, IsOk}
+use Rattle.std.proofs.lemmas.Bool.{cases_lt}
 use Rattle.aig_circuit.specs.Circuit.{Circuit}
 use Rattle.aig_circuit.specs.declared.edge.AigEdge.{AigEdge}
 use Rattle.aig_format.specs.Circuit.{circuit_of, edge_of}
@@ -21,7 +20,7 @@ use Rattle.aig_encode.specs.Encoding.{IsBeyond, IsWithin, ConsumedFile, EncodeUn
 use Rattle.aig_encode.proofs.Exactly.{Reads, Tells, answered, answered_again, no_refusal, refused_again, refused_as_large, refused_in_reading}
 use Rattle.aig_answers.specs.declared.error.AnswerError.{AnswerError}
 use Rattle.aig_answers.specs.declared.error.AnswerError.TheVariants as errors
-use Rattle.aig_answers.specs.Answers.{AsksNothing, IsCrowded, IsExactly, IsOfCircuit, TellsOfFile, TellsOfRoom, of_file, window_size}
+use Rattle.aig_answers.specs.Answers.{AsksNothing, IsAsked, IsCrowded, IsExactly, IsOfCircuit, TellsOfFile, TellsOfRoom, of_file, window_size}
 
 -- an error that is this one
 pub err_of : {T E : Type 0} (e x : E) → e ≡ x → IsErrOf {T = T} (Err e) x
@@ -186,6 +185,22 @@ module _ {R : Type 0} (left : R → Option (List ℕ)) (failed : R → Bool) (li
         → ConsumedFile (AsksNothing limit k) (left r) (left rest)
     took_nothing low none =
         (file.file, file.bytes, ((file.holds, low_of low file.file file.means), no_bads file.file file.file.properties.bads (subst (λ (d : Circuit). d.properties.bads ≡ []) file.means none)), file.taken)
+
+    -- what the clauses ask of the circuit, they ask of the file
+    pub window_answers : (Asks : Circuit → T → Type 0) (result : Result T AnswerError)
+        → IsErrOf result (errors.Encode encode.TooLarge) ↔ (limit < unrolled_size c k)
+        → (IsOk result → c.properties.bads ≢ []) → IfOk result (Asks c)
+        → IfOk result (IsReadAs (IsAsked limit k) (λ f x. Asks (circuit_of f) x) (left r) (left rest))
+    window_answers Asks (Ok x) large some asks =
+        let low = within_limit limit (unrolled_size c k) (Ok x) large (no_refusal T AnswerError x (errors.Encode encode.TooLarge)) in
+        record {
+          file = file.file;
+          bytes = file.bytes;
+          holds = ((file.holds, low_of low file.file file.means), λ none. some refl ((bads_alike file.file c file.means).1 none));
+          means = subst (λ d. Asks d x) file.means asks;
+          taken = file.taken;
+        }
+    window_answers Asks (Err e) large some asks = tt
 
     pub window_told : (result : Result T AnswerError)
         → IsErrOf result (errors.Encode encode.TooLarge) ↔ (limit < unrolled_size c k)

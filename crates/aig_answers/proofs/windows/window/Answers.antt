@@ -1,11 +1,14 @@
 use Rattle.std.proofs.Common.{◌+◌}
-use Rattle.std.proofs.lemmas.Result.{err_from_is_err_and}
+use Rattle.std.proofs.lemmas.Result.{IfErr-weaker, err_from_is_err_and}
 use Rattle.aig_circuit.specs.Circuit.{Circuit}
 use Rattle.aig.specs.Reading.{IsFileCircuit}
 use Rattle.aig_encode.specs.declared.error.EncodeError.TheVariants as encode
 use Rattle.aig_encode.proofs.Exactly.{refused_in_reading}
+use Rattle.aig_certify.specs.WindowClauses.{AsksWindow}
+use Rattle.aig_answers.specs.Answers.{IsOfCircuit, IsOfWindow}
 use Rattle.aig_answers.proofs.Asking.{below_told}
-use Rattle.aig_answers.proofs.Files.{OfFile, refused_nothing, refused_reading, refused_room, window_nothing, window_room, window_told}
+use Rattle.aig_answers.proofs.Checked.{circuit_is_window, on_ok_given}
+use Rattle.aig_answers.proofs.Files.{OfFile, refused_nothing, refused_reading, refused_room, window_answers, window_nothing, window_room, window_told}
 use Rattle.aig_answers.proofs.windows.window.Goals as goal
 
 pub returns-in_err-circuit-clause-file : goal.returns-in_err-circuit-clause-file
@@ -43,3 +46,20 @@ pub returns-clause-bads : goal.returns-clause-bads
 returns-clause-bads g c =
     let told = c.ask_window.ensures in
     window_nothing g.R.Source.left c.args.limit (c.args.k + 1) c.args.r.now _ c.in_ok-circuit.circuit c.in_ok-circuit.ensures.exact c.ask_window.result told.large told.none told.some (λ crowded. (told.room.0 crowded).1) told.err
+
+pub returns-clause-answer : goal.returns-clause-answer
+returns-clause-answer g c =
+    let read = c.in_ok-circuit.ensures in
+    let told = c.ask_window.ensures in
+    window_answers g.R.Source.left g.R.Source.failed c.args.limit (c.args.k + 1) c.args.r.now _ _ c.in_ok-circuit.circuit read.circuit read.exact (λ d made. AsksWindow c.args.form d c.args.k c.args.optimize made.clauses made.further) c.ask_window.result told.large told.some told.asks
+
+pub returns-clause-whole : goal.returns-clause-whole
+returns-clause-whole g c = on_ok_given c.ask_window.result c.in_ok-circuit.ensures.whole
+
+pub returns-clause-alone : goal.returns-clause-alone
+returns-clause-alone g c = IfErr-weaker c.ask_window.result IsOfCircuit IsOfWindow circuit_is_window c.ask_window.ensures.err
+
+pub returns-in_err-circuit-clause-alone : goal.returns-in_err-circuit-clause-alone
+returns-in_err-circuit-clause-alone g c =
+    let p = err_from_is_err_and c.from_residual.result c.from_residual.ensures.1 in
+    rw (p.1, p.2) tt
