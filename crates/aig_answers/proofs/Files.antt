@@ -49,8 +49,11 @@ room_not_encode T e is = cc
 room_not_bads : (T : Type 0) → IsErrOf {T = T} (Err errors.TooLarge) errors.NoBads → ⊥
 room_not_bads T is = cc
 
-memory_not_large : (T : Type 0) → IsErrOf {T = T} (Err (errors.Encode encode.Memory)) (errors.Encode encode.TooLarge) → ⊥
+pub memory_not_large : (T : Type 0) → IsErrOf {T = T} (Err (errors.Encode encode.Memory)) (errors.Encode encode.TooLarge) → ⊥
 memory_not_large T is = cc
+
+pub memory_not_room : (T : Type 0) → IsErrOf {T = T} (Err (errors.Encode encode.Memory)) errors.TooLarge → ⊥
+memory_not_room T is = cc
 
 memory_not_read : (T : Type 0) (e : ReadError) → IsErrOf {T = T} (Err (errors.Encode encode.Memory)) (errors.Encode (encode.Read e)) → ⊥
 memory_not_read T e is = cc
@@ -75,8 +78,18 @@ same_refusal : (A B : Type 0) (e x : AnswerError) → IsErrOf {T = B} (Err e) x 
 same_refusal A B e x is = err_of e x (error_of B e x is)
 
 -- no number is within a limit that it passes
-not_within : (size limit : ℕ) → size ≤ limit → limit < size → ⊥
+pub not_within : (size limit : ℕ) → size ≤ limit → limit < size → ⊥
 not_within size limit low high = omega arith
+
+-- where neither holds, each holds exactly where the other does
+pub neither : {P Q : Type 0} → (P → ⊥) → (Q → ⊥) → P ↔ Q
+neither first second = (λ holds. absurd (first holds), λ holds. absurd (second holds))
+
+-- what is refused for want of memory isn't refused for its size, and is within the limit
+pub memory_tells_size : {T : Type 0} (result : Result T EncodeError) (e : EncodeError) (size limit : ℕ)
+    → result ≡ Err e → e ≡ encode.Memory → size ≤ limit
+    → IsErrOf result encode.TooLarge ↔ (limit < size)
+memory_tells_size result e size limit is memory low = neither (λ large. cc) (not_within size limit low)
 
 -- ---- bad literals
 

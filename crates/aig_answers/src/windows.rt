@@ -118,20 +118,20 @@ fn clauses_of(
     Ok(made)
 }
 
-/// The clauses of a window of a circuit. Where states are to be told apart, they are outputs of it.
+/// The clauses of a window of a circuit. The circuit's outputs are used, whatever they are.
 fn make_window(
     alloc: Global,
-    circuit: &Aig,
+    circuit: &mut Aig,
     k: usize,
     optimize: bool,
     form: Window,
 ) -> Result<WindowClauses, MemoryError>
     requires steps { k < 2 ^ 32 }
-    requires room { window_size form circuit.now k ≤ 2 ^ 31 }
-    requires watched { (c : Circuit) × (circuit.now ≡ watched form c) }
-    ensures { IfOk result (λ made. (c : Circuit) → circuit.now ≡ watched form c
-        → AsksWindow form c k optimize made.clauses made.further) }
+    requires room { window_size form circuit.old k ≤ 2 ^ 31 }
+    ensures { IfOk result
+        (λ made. AsksWindow form circuit.old k optimize made.clauses made.further) }
 {
+    watch(circuit, form)?;
     let unrolled = circuit.unroll_to(k + 1)?;
     clauses_of(alloc, circuit, k, &unrolled, optimize, form)
 }
@@ -167,7 +167,6 @@ fn ask_window(
     if !has_room(circuit, k, form, limit) {
         return Err(AnswerError::TooLarge);
     }
-    watch(circuit, form)?;
     Ok(make_window(alloc, circuit, k, optimize, form)?)
 }
 
