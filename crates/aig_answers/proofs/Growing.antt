@@ -1,12 +1,12 @@
 -- Lists of clauses and variables that grow by one.
 use Rattle.std.proofs.Common.{◌≡◌, ℕ, zero, suc, ◌+◌, ◌<◌, true, false, List, [], ◌∷◌, ◌++◌, length, take, get_or, refl, sym, ap, ◌∙◌, arith, append_assoc, length-append}
 use Rattle.std.specs.Prelude.{replicate}
-use Rattle.std.proofs.lemmas.List.{length-replicate, replicate-append-replicate}
+use Rattle.std.proofs.lemmas.List.{take_all, length-replicate, replicate-append-replicate}
 use Rattle.aig_base.specs.declared.logic.literal.Lit.{Lit}
 use Rattle.aig_base.specs.Clauses.{lit_to}
 use Rattle.aig_circuit.specs.declared.edge.AigEdge.{AigEdge}
 use Rattle.aig_circuit.specs.Edge.{inverse, lit_of}
-use Rattle.aig_certify.specs.WindowClauses.{difference_clauses, variables_from}
+use Rattle.aig_certify.specs.WindowClauses.{difference_clauses, pair_clauses, variables_from}
 
 -- the two clauses of one pair of edges
 abbrev pub two_clauses : ℕ → AigEdge → AigEdge → List (List Lit)
@@ -57,6 +57,17 @@ difference_step made old now n v i xs ys x y d e low also at is_x is_y before st
     let more = difference_more n i xs ys d e low also in
     let whole : now ++ two_clauses v x y ≡ old ++ (difference_clauses n (take i xs) (take i ys) ++ two_clauses (n + i) (get_or xs i d) (get_or ys i e)) = rw (before, at, is_x, is_y, append_assoc) refl in
     step ∙ whole ∙ ap (λ rest. old ++ rest) (sym more)
+
+-- all pairs of edges, and that some differ
+pub pair_done : (made old now : List (List Lit)) (some : List Lit) (n i : ℕ) (xs ys : List AigEdge)
+    → i ≡ length xs → length ys ≡ length xs
+    → now ≡ old ++ difference_clauses n (take i xs) (take i ys) → some ≡ variables_from n i
+    → made ≡ now ++ some ∷ [] → made ≡ old ++ pair_clauses n xs ys
+pair_done made old now some n i xs ys end long before variables step =
+    let all : take i xs ≡ xs = take_all i xs (omega arith) in
+    let also : take i ys ≡ ys = take_all i ys (omega arith) in
+    let whole : now ++ some ∷ [] ≡ old ++ pair_clauses n xs ys = rw (before, all, also, variables, end, append_assoc) refl in
+    step ∙ whole
 
 -- one variable more
 pub variables_step : (made now : List Lit) (n v i : ℕ) → v ≡ n + i → now ≡ variables_from n i → made ≡ now ++ lit_to v true ∷ [] → made ≡ variables_from n (i + 1)

@@ -15,11 +15,7 @@ use aig_refutation::RefutationError;
 use std::alloc::Global;
 
 /// Checks a proof that a query's clauses can't be satisfied, unless there are no bad edges, so that nothing is asked.
-fn check_asked<P: Source>(
-    alloc: Global,
-    asked: &Query,
-    proof: &mut P,
-) -> Result<(), AnswerError>
+fn check_asked<P: Source>(alloc: Global, asked: &Query, proof: &mut P) -> Result<(), AnswerError>
     ensures refuted { OnOk result
         (¬ IsSatisfiable (clauses_in asked.now.encoded.clauses ++ asked.now.extra)) }
     ensures none { IsErrOf result AnswerError.NoBads

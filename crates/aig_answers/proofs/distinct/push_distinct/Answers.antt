@@ -1,5 +1,5 @@
-use Rattle.std.proofs.Common.{◌≡◌, suc, ◌+◌, ◌*◌, ◌++◌, length, sym, ap, ◌∙◌, arith}
-use Rattle.std.proofs.Math.Nat.{add-mul}
+use Rattle.std.proofs.Common.{◌≡◌, suc, ◌+◌, ◌*◌, ◌≤◌, ◌++◌, length, sym, ap, ◌∙◌, arith}
+use Rattle.std.proofs.Math.Nat.{add-mul, mul-le-mul_right}
 use Rattle.aig_certify.specs.WindowClauses.{apart_clauses, count_pairs, distinct_clauses}
 use Rattle.aig_answers.proofs.Growing.{free, free_length, free_step, more_step}
 use Rattle.aig_answers.proofs.Pairs.{pairs_next}
@@ -26,3 +26,18 @@ loop-t-preserved c =
           (c.in_ok-push_apart.ensures.further ∙ ap (λ m. c.loop-t.further ++ apart_clauses m l c.args.edges.now t t) at)
           ∙ ap (λ m. c.args.further.now ++ distinct_clauses n l c.args.edges.now m) next;
     }
+
+pub push_apart-requires-clause-there : goal.push_apart-requires-clause-there
+push_apart-requires-clause-there c =
+    let rows : (c.loop-t.t + 1) * c.args.latchs ≤ c.args.steps * c.args.latchs = mul-le-mul_right c.args.latchs (omega arith) in
+    omega (arith, rows, c.requires.there)
+
+pub returns-clause-clauses : goal.returns-clause-clauses
+returns-clause-clauses c =
+    let end : c.loop-t.t ≡ c.args.steps = omega arith in
+    c.loop-t.invariant.clauses ∙ ap (λ t. c.args.clauses.now ++ free (count_pairs t * c.args.latchs)) end
+
+pub returns-clause-further : goal.returns-clause-further
+returns-clause-further c =
+    let end : c.loop-t.t ≡ c.args.steps = omega arith in
+    c.loop-t.invariant.further ∙ ap (λ t. c.args.further.now ++ distinct_clauses (length c.args.clauses.now) c.args.latchs c.args.edges.now t) end

@@ -1,5 +1,9 @@
-use Rattle.std.proofs.Common.{◌<◌, [], ◌∷◌, ◌++◌, length, refl, ap, ◌∙◌, arith}
-use Rattle.aig_answers.proofs.Growing.{difference_step, free_length, free_step, variables_step}
+use Rattle.std.proofs.Common.{◌≡◌, ◌<◌, ◌^◌, [], ◌∷◌, ◌++◌, length, refl, ap, ◌∙◌, arith}
+use Rattle.std.proofs.lemmas.List.Elements.{All-get_or}
+use Rattle.std.proofs.lemmas.Result.{on_ok_weaker}
+use Rattle.aig_circuit.specs.declared.edge.AigEdge.{AigEdge}
+use Rattle.aig_answers.proofs.Checked.{on_ok_given}
+use Rattle.aig_answers.proofs.Growing.{difference_step, free, free_length, free_step, pair_done, variables_step}
 use Rattle.aig_answers.proofs.distinct.push_pair.Goals as goal
 
 pub loop-i-preserved : goal.loop-i-preserved
@@ -15,3 +19,25 @@ loop-i-preserved c =
       further = difference_step _ c.args.further.now c.loop-i.further n _ i c.args.xs.now c.args.ys.now _ _ _ _ low also at refl refl before.further c.in_ok-push_difference.ensures;
       some = variables_step _ c.loop-i.some.items n _ i at before.some (c.in_ok-push.ensures.items ∙ ap (λ x. c.loop-i.some.items ++ x ∷ []) c.lit.ensures);
     }
+
+pub new_var-requires : goal.new_var-requires
+new_var-requires c =
+    let at = ap length c.loop-i.invariant.clauses ∙ free_length c.args.clauses.now c.loop-i.i in
+    omega (arith, at, c.loop-i-test.true, c.requires.room)
+
+pub push_difference-requires-clause-x : goal.push_difference-requires-clause-x
+push_difference-requires-clause-x c = All-get_or (λ (e : AigEdge). e.node_id < 2 ^ 31) c.args.xs.now c.loop-i.i _ c.loop-i-test.true c.requires.xs
+
+pub push_difference-requires-clause-y : goal.push_difference-requires-clause-y
+push_difference-requires-clause-y c = All-get_or (λ (e : AigEdge). e.node_id < 2 ^ 31) c.args.ys.now c.loop-i.i _ (omega arith) c.requires.ys
+
+pub returns-clause-clauses : goal.returns-clause-clauses
+returns-clause-clauses c =
+    let end : c.loop-i.i ≡ length c.args.xs.now = omega arith in
+    on_ok_given c.push-2.result (c.loop-i.invariant.clauses ∙ ap (λ m. c.args.clauses.now ++ free m) end)
+
+pub returns-clause-further : goal.returns-clause-further
+returns-clause-further c =
+    let end : c.loop-i.i ≡ length c.args.xs.now = omega arith in
+    let before = c.loop-i.invariant in
+    on_ok_weaker c.push-2.result (pair_done _ c.args.further.now c.loop-i.further _ (length c.args.clauses.now) c.loop-i.i c.args.xs.now c.args.ys.now end c.requires.long before.further (c.deref.ensures.value ∙ before.some)) c.push-2.ensures.ok
