@@ -1,6 +1,6 @@
 -- Clauses that follow, and are added.
 use Rattle.std.proofs.Common.{◌≡◌, ℕ, ◌+◌, ◌<◌, true, Result, Ok, Err, OnOk, OnErr, Some, List, [], ◌∷◌, ◌++◌, length, take, get_or, slice_get, refl, sym, ap, subst, ◌∙◌, arith, append_assoc, append-nil}
-use Rattle.std.specs.Prelude.{All, slice_index_or}
+use Rattle.std.specs.Prelude.{All, IsTrue, slice_index_or}
 use Rattle.std.specs.List.{Contains}
 use Rattle.std.proofs.lemmas.Bool.{and_from}
 use Rattle.std.proofs.lemmas.List.{take_more}
@@ -10,7 +10,7 @@ use Rattle.std.proofs.lemmas.List.Folds.{list_all-append}
 use Rattle.std.proofs.lemmas.List.Sums.{AllPass-from_list_all, list_all-from_AllPass}
 use Rattle.aig_base.specs.declared.logic.literal.Lit.{Lit}
 use Rattle.aig_base.specs.Clauses.{AreBelow, are_true, is_true_clause, variable_of}
-use Rattle.aig_base.specs.Formula.{clauses_in}
+use Rattle.aig_base.specs.Formula.{IsSatisfiable, clauses_in}
 use Rattle.aig_refutation.specs.Formula.{Implies, ImpliesAll}
 use Rattle.aig_refutation.specs.Propagation.{is_rup}
 use Rattle.aig_refutation.proofs.Literals.{clause_there}
@@ -108,3 +108,13 @@ module _ {X E : Type 0} where
 
 pub rup_implied_at : (given clauses : List (List Lit)) (clause : List Lit) (hints : List ℕ) → clauses ≡ given → is_rup (slice_get clauses) clause hints ≡ true → Implies given clause
 rup_implied_at given clauses clause hints e rup = subst (λ (list : List (List Lit)). Implies list clause) e (rup_implied clauses clause hints rup)
+
+pub implied_on : (formula clauses more : List (List Lit)) → ImpliesAll formula clauses
+    → ImpliesAll clauses more → ImpliesAll formula more
+implied_on formula clauses more before here v holds = here v (before v holds)
+
+-- where what follows can't be satisfied, the formula can't
+pub refuted_before : (formula clauses more : List (List Lit)) → clauses ≡ formula
+    → ImpliesAll clauses more → ¬ IsSatisfiable more → ¬ IsSatisfiable formula
+refuted_before formula clauses more is implied none some =
+    none (some.0, implied some.0 (subst (λ all. IsTrue (are_true some.0 all)) (sym is) some.1))

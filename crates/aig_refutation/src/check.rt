@@ -1,6 +1,6 @@
 //! Checking a proof, step by step.
 
-ghost use Rattle.std.specs.Prelude.{◌≡◌, ◌≤◌, ◌^◌, ◌++◌, IfOk, IsErrOf, IsTrue, OnOk, true};
+ghost use Rattle.std.specs.Prelude.{◌≡◌, ◌≤◌, ◌^◌, ◌++◌, [], IfOk, IsErrOf, IsTrue, OnOk, true};
 ghost use Rattle.aig_base.specs.Formula.{clauses_in, IsSatisfiable};
 ghost use Rattle.aig_refutation.specs.Formula.{ImpliesAll};
 
@@ -23,22 +23,21 @@ fn assume_all(checker: &mut Checker, clauses: &LitVvec) -> Result<(), Refutation
     Ok(())
 }
 
-/// The clauses of all variables, and further ones, numbered from 1 on.
+/// Appends the clauses of all variables, and further ones, numbered from 1 on.
 fn number_clauses(
-    alloc: Global,
+    checker: &mut Checker,
     cnf: &DagCnf,
     further: &LitVvec,
-) -> Result<Checker, RefutationError>
-    ensures formula { IfOk result (λ checker. checker ≡ clauses_in cnf.now ++ further.now) }
+) -> Result<(), RefutationError>
+    requires { checker.old ≡ [] }
+    ensures formula { OnOk result (checker.new ≡ clauses_in cnf.now ++ further.now) }
     ensures no_stream { IsErrOf result RefutationError.Stream → ⊥ }
 {
-    let mut checker = Checker::new(alloc, cnf.num_vars())?;
     for i in 0..cnf.num_vars() {
         let var = Var::new(i);
-        assume_all(&mut checker, cnf.clauses_of(var))?;
+        assume_all(checker, cnf.clauses_of(var))?;
     }
-    assume_all(&mut checker, further)?;
-    Ok(checker)
+    assume_all(checker, further)
 }
 
 /// Takes a step that has numbers, and says whether it adds the empty clause.
@@ -76,24 +75,22 @@ fn add_units(
     Ok(())
 }
 
-/// A search over the clauses, which are numbered from 1 on. `hints` is used, whatever it has.
+/// Takes the clauses, which are numbered from 1 on, into a search that has none.
 fn start_search(
     alloc: Global,
     checker: &mut Checker,
-    hints: &mut Vec<u32>,
-) -> Result<Search, RefutationError>
+    search: &mut Search,
+) -> Result<(), RefutationError>
     ensures implied { OnOk result (ImpliesAll checker.old checker.new) }
     ensures no_stream { IsErrOf result RefutationError.Stream → ⊥ }
 {
-    let mut search = Search::new(alloc, checker.variables())?;
     let clauses = checker.clauses();
     let mut number = 0u32;
     for i in 0..clauses.len() {
         number = number.saturating_add(1);
         search.add(number, clauses.clause(i))?;
     }
-    add_units(checker, &mut search, hints)?;
-    Ok(search)
+    add_units(checker, search, &mut Vec::new(alloc))
 }
 
 /// Adds the clause of a step under the next number, along hints that are searched for, and says
@@ -170,8 +167,8 @@ fn search_for(
     if step.is_numbered {
         return Ok(None);
     }
-    let hints = &mut Vec::new(alloc);
-    let search = start_search(alloc, checker, hints)?;
+    let mut search = Search::new(alloc, checker.variables())?;
+    start_search(alloc, checker, &mut search)?;
     Ok(Some(search))
 }
 
@@ -196,24 +193,27 @@ fn take_steps<R: Source>(
     Ok(())
 }
 
-/// Checks steps up to the first that adds the empty clause.
+/// Checks steps up to the first that adds the empty clause, against a formula's clauses. There are no clauses yet, and
+/// `step` is used, whatever it has.
 fn check_steps<R: Source>(
     alloc: Global,
-    buffer: &mut InputBuffer,
+    cnf: &DagCnf,
+    further: &LitVvec,
     r: &mut R,
-    variables: usize,
     checker: &mut Checker,
+    step: &mut Step,
 ) -> Result<(), RefutationError>
-    requires { variables ≤ 2 ^ 31 }
-    ensures refuted { OnOk result (¬ IsSatisfiable checker.old) }
+    requires { checker.old ≡ [] }
+    ensures refuted { OnOk result (¬ IsSatisfiable (clauses_in cnf.now ++ further.now)) }
     ensures stream { IsErrOf result RefutationError.Stream → R.failed r.new ≡ true }
 {
-    let mut step = Step::new(alloc);
-    if !step.read(buffer, r, variables)? {
+    number_clauses(checker, cnf, further)?;
+    let buffer = &mut InputBuffer::new();
+    if !step.read(buffer, r, cnf.num_vars())? {
         return Err(RefutationError::Unfinished);
     }
-    let mut search = search_for(alloc, checker, &step)?;
-    take_steps(buffer, r, checker, &mut search, &mut step, variables)
+    let mut search = search_for(alloc, checker, step)?;
+    take_steps(buffer, r, checker, &mut search, step, cnf.num_vars())
 }
 
 /// Checks a proof that clauses can't be satisfied: the text of an LRAT or of a DRAT file, whose
@@ -245,7 +245,7 @@ pub fn check_refutation<R: Source>(
     // Stream only where a read failed in this call.
     ensures stream { IsErrOf result RefutationError.Stream → R.failed r.new ≡ true }
 {
-    let mut checker = number_clauses(alloc, cnf, further)?;
-    let mut buffer = InputBuffer::new();
-    check_steps(alloc, &mut buffer, r, cnf.num_vars(), &mut checker)
+    let mut checker = Checker::new(alloc, cnf.num_vars())?;
+    let mut step = Step::new(alloc);
+    check_steps(alloc, cnf, further, r, &mut checker, &mut step)
 }

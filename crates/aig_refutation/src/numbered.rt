@@ -71,27 +71,6 @@ fn number_at(numbers: &[u32], place: usize) -> u32 {
     }
 }
 
-/// The clauses that numbers name, and those numbers, in the order of the clauses.
-fn live_clauses(
-    alloc: Global,
-    clauses: &LitVvec,
-    numbers: &[u32],
-    places: &[u32],
-) -> Result<(LitVvec, Vec<u32>), MemoryError>
-    ensures { IfOk result (λ live. All (Contains clauses.now) live.0) }
-{
-    let mut live = LitVvec::new(alloc);
-    let mut live_numbers = Vec::new(alloc);
-    for i in 0..clauses.len() {
-        let number = number_at(numbers, i);
-        if entry(places, number) as usize == i + 1 {
-            live.push(clauses.clause(i))?;
-            live_numbers.push(number)?;
-        }
-    }
-    Ok((live, live_numbers))
-}
-
 /// Lets numbers name the clauses from the first place on.
 fn rename(places: &mut Vec<u32>, numbers: &[u32]) -> Result<(), MemoryError> {
     let mut place = 0u32;
@@ -100,6 +79,28 @@ fn rename(places: &mut Vec<u32>, numbers: &[u32]) -> Result<(), MemoryError> {
         put_entry(places, *number, place)?;
     }
     Ok(())
+}
+
+/// Appends the clauses that numbers name, and those numbers, in the order of the clauses, and lets the numbers name them
+/// by their new places. `live` and `live_numbers` are empty before.
+fn take_live(
+    clauses: &LitVvec,
+    numbers: &[u32],
+    places: &mut Vec<u32>,
+    live: &mut LitVvec,
+    live_numbers: &mut Vec<u32>,
+) -> Result<(), MemoryError>
+    requires { live.old ≡ [] }
+    ensures { OnOk result (All (Contains clauses.now) live.new) }
+{
+    for i in 0..clauses.len() {
+        let number = number_at(numbers, i);
+        if entry(places, number) as usize == i + 1 {
+            live.push(clauses.clause(i))?;
+            live_numbers.push(number)?;
+        }
+    }
+    rename(places, live_numbers)
 }
 
 impl Numbered {
@@ -198,13 +199,15 @@ impl Numbered {
         ensures kept { OnOk result (All (Contains self.old) self.new) }
         ensures err { OnErr result (self.new ≡ self.old) }
     {
-        let (clauses, numbers) = live_clauses(
-            self.alloc,
+        let mut clauses = LitVvec::new(self.alloc);
+        let mut numbers = Vec::new(self.alloc);
+        take_live(
             &self.clauses,
             &self.numbers,
-            &self.places,
+            &mut self.places,
+            &mut clauses,
+            &mut numbers,
         )?;
-        rename(&mut self.places, &numbers)?;
         self.clauses = clauses;
         self.numbers = numbers;
         self.deleted = 0;

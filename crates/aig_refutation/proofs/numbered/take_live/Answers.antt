@@ -1,7 +1,7 @@
 use Rattle.std.proofs.Common.{◌≡◌, ◌++◌, ◌∷◌, []}
 use Rattle.aig_refutation.proofs.Following.{kept_more}
-use Rattle.aig_refutation.proofs.numbered.live_clauses.Goals as goal
-use Rattle.aig_refutation.proofs.numbered.live_clauses.Goals.{then-entry-i+in_ok-push+in_ok-push-2, else-entry-i}
+use Rattle.aig_refutation.proofs.numbered.take_live.Goals as goal
+use Rattle.aig_refutation.proofs.numbered.take_live.Goals.{then-entry-i+in_ok-push+in_ok-push-2, else-entry-i}
 
 pub loop-i-preserved : goal.loop-i-preserved
 loop-i-preserved c =
