@@ -3,3 +3,4 @@ mod Steps
 pub mod Showing
 mod Words
 mod Examples
+mod Copying

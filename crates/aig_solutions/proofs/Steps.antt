@@ -1,8 +1,8 @@
 -- Rows of values, one for each step, and the bad edges of the last.
-use Rattle.std.proofs.Common.{◌≡◌, ℕ, ◌+◌, ◌*◌, ◌<◌, Bool, false, List, [], ◌∷◌, ◌++◌, length, map, take, get_or, slice_get, Some, refl, sym, ap, subst, ◌∙◌, arith}
+use Rattle.std.proofs.Common.{◌≡◌, ℕ, ◌+◌, ◌*◌, ◌<◌, ◌≤◌, Bool, false, List, [], ◌∷◌, ◌++◌, length, map, take, get_or, slice_get, Some, refl, sym, ap, subst, ◌∙◌, arith}
 use Rattle.std.specs.Prelude.{Vec}
 use Rattle.std.specs.declared.alloc.Global.{Global}
-use Rattle.std.proofs.lemmas.List.{map-append, take_more}
+use Rattle.std.proofs.lemmas.List.{map-append, take_all, take_more}
 use borrow.Author.Count.{below_more}
 use Rattle.aig_base.specs.declared.logic.three.Lbool.{Lbool}
 use Rattle.aig_circuit.specs.declared.edge.AigEdge.{AigEdge}
@@ -39,6 +39,11 @@ pub map_more : {A : Type 0} (f : A → Lbool) (made old : List Lbool) (xs : List
 map_more f made old xs i d y low before step is =
     let more : map f (take (i + 1) xs) ≡ map f (take i xs) ++ f (get_or xs i d) ∷ [] = ap (map f) (take_more xs i d low) ∙ map-append f (take i xs) (get_or xs i d ∷ []) in
     step ∙ ap (λ list. list ++ y ∷ []) before ∙ ap (λ v. map f (take i xs) ++ v ∷ []) is ∙ sym more
+
+-- all rows, or values
+pub map_whole : {A : Type 0} (f : A → Lbool) (made : List Lbool) (xs ys : List A) (i : ℕ)
+    → length xs ≤ i → made ≡ map f (take i xs) → xs ≡ ys → made ≡ map f ys
+map_whole f made xs ys i end before same = before ∙ ap (map f) (take_all i xs end) ∙ ap (map f) same
 
 -- ---- bad edges
 

@@ -1,11 +1,12 @@
 -- The turns of leaves among those that are no latch's.
-use Rattle.std.proofs.Common.{◌≡◌, ◌≢◌, ℕ, zero, suc, ◌+◌, ◌-◌, ◌*◌, ◌<◌, ◌≤◌, Bool, true, false, cond, not, eqb, ◌&&◌, ◌||◌, List, [], ◌∷◌, length, map, get_or, take, refl, sym, ap, subst, ◌∙◌, arith, add-one}
-use Rattle.std.specs.Prelude.{◌==◌, All, Contains, count_by, filter}
+use Rattle.std.proofs.Common.{◌≡◌, ◌≢◌, ℕ, zero, suc, ◌+◌, ◌-◌, ◌*◌, ◌<◌, ◌≤◌, Bool, true, false, cond, not, eqb, ◌&&◌, ◌||◌, List, [], ◌∷◌, ◌++◌, length, length-append, map, get_or, take, refl, sym, ap, subst, ◌∙◌, arith, add-one}
+use Rattle.std.specs.Prelude.{◌==◌, All, Contains, count_by, filter, slice_index}
+use borrow.Author.Count.{below_more}
 use Rattle.std.specs.List.{list_any}
 use Rattle.std.proofs.Math.ListN.{set}
 use Rattle.std.proofs.lemmas.Bool.{and_from, eq-eqb, eqb-true, false_from_ne_true, false≢true, ne_eqb}
 use Rattle.std.proofs.lemmas.Grind.{get_or-set_at}
-use Rattle.std.proofs.lemmas.List.{get_or-set_other, map-append, take_more}
+use Rattle.std.proofs.lemmas.List.{get_or-append-add, get_or_append_left, get_or-set_other, map-append, take_more}
 use Rattle.std.proofs.lemmas.List.Folds.{list_any-append}
 use Rattle.std.proofs.lemmas.List.Elements.{All-contains, All-filter, All-get_or, Contains-get_or, filter_passes}
 use Rattle.std.proofs.lemmas.List.Sums.{count_by_more_no, count_by_more_yes, length-filter}
@@ -189,3 +190,17 @@ module _ (c d u : Circuit) (turns : List ℕ) (total t n : ℕ) (same : d ≡ c)
           0 ≡ place_at c u s n
       by_step zero some = absurd (some refl)
       by_step (suc s) some = let less : suc s - 1 ≡ s = omega arith in rw less refl
+
+-- one turn more
+pub turn_length : (made old : List ℕ) (i turn : ℕ) → made ≡ old ++ turn ∷ [] → length old ≡ i
+    → length made ≡ i + 1
+turn_length made old i turn is count = ap length is ∙ length-append old (turn ∷ []) ∙ ap (λ n. n + 1) count
+
+pub turn_more : (turn_at : ℕ → ℕ) (made old : List ℕ) (i turn : ℕ) → made ≡ old ++ turn ∷ []
+    → length old ≡ i → ((n : ℕ) → n < i → slice_index old n ≡ turn_at n) → turn ≡ turn_at i
+    → (n : ℕ) → n < i + 1 → slice_index made n ≡ turn_at n
+turn_more turn_at made old i turn is count each here =
+    let last : i ≡ length old + 0 = omega (arith, count) in
+    below_more (λ n. slice_index made n ≡ turn_at n) i
+    (λ n low. ap (λ list. get_or list n 0) is ∙ get_or_append_left old (turn ∷ []) 0 n (omega (arith, count, low)) ∙ each n low)
+    (ap (λ list. get_or list i 0) is ∙ ap (λ n. get_or (old ++ turn ∷ []) n 0) last ∙ get_or-append-add old (turn ∷ []) 0 0 ∙ here)

@@ -1,12 +1,12 @@
-use Rattle.std.proofs.Common.{◌<◌, ◌+◌, false, length, take, arith, sym, ap, ◌∙◌}
+use Rattle.std.proofs.Common.{◌≡◌, ◌<◌, ◌+◌, false, length, take, arith, sym, ap, ◌∙◌}
 use Rattle.std.proofs.lemmas.Bool.{false≢true}
-use Rattle.std.proofs.lemmas.Grind.{common_steps}
-use Rattle.std.proofs.lemmas.List.{length-take-le}
+use Rattle.std.specs.Prelude.{count_by}
+use Rattle.std.proofs.lemmas.List.{length-take-le, take_all}
 use Rattle.std.proofs.lemmas.List.Sums.{count_by-le-length}
 use Rattle.aig_circuit.specs.declared.node.AigNode.{AigNode}
 use Rattle.aig_circuit.specs.declared.node.AigNodeType.TheVariants.{False}
 use Rattle.aig_unroll.specs.Places.{is_other_leaf}
-use Rattle.aig_solutions.proofs.Turning.{count_inner, count_latch, count_other}
+use Rattle.aig_solutions.proofs.Turning.{count_inner, count_latch, count_other, turn_length, turn_more}
 use Rattle.aig_solutions.proofs.places.count_others.Goals.{then-is_leaf+then-not-marks-i, else-is_leaf, else-is_leaf-via-then-is_leaf+else-not-marks-i, else-is_leaf-via-else-is_leaf}
 use Rattle.aig_solutions.proofs.places.count_others.Goals as goal
 
@@ -41,6 +41,23 @@ loop-i-preserved c =
           | else-is_leaf-via-else-is_leaf w' ↦ w.count-is ∙ before ∙ sym (count_inner circuit marks are c.requires c.loop-i.i none false h (λ leaf. false≢true (sym w'.if-is_leaf.false ∙ kind.1 leaf)))
         ]
       ]);
-      count = grind (arith, common_steps);
-      each = grind (arith, common_steps);
+      count = turn_length _ c.loop-i.turns.items c.loop-i.i c.loop-i.count c.in_ok-push.ensures.items c.loop-i.invariant.count;
+      each = turn_more (λ n. count_by (is_other_leaf circuit) (take n c.nodes-nodes.result.now)) _ c.loop-i.turns.items c.loop-i.i c.loop-i.count c.in_ok-push.ensures.items c.loop-i.invariant.count c.loop-i.invariant.each c.loop-i.invariant.so_far;
     }
+
+pub returns-clause-turns : goal.returns-clause-turns
+returns-clause-turns c =
+    let before = c.loop-i.invariant in
+    let nodes = c.nodes-nodes.ensures.value in
+    let long = ap length nodes in
+    let end : c.loop-i.i ≡ length c.args.circuit.now.nodes = omega (arith, long, c.loop-i-test.false) in
+    record {
+      count = before.count ∙ end;
+      each = λ n low. before.each n (omega (arith, end, low)) ∙ ap (λ ns. count_by (is_other_leaf c.args.circuit.now) (take n ns)) nodes;
+    }
+
+pub returns-clause-all : goal.returns-clause-all
+returns-clause-all c =
+    let nodes = c.nodes-nodes.result.now in
+    c.loop-i.invariant.so_far
+    ∙ ap (count_by (is_other_leaf c.args.circuit.now)) (take_all c.loop-i.i nodes (omega (arith, c.loop-i-test.false)) ∙ c.nodes-nodes.ensures.value)

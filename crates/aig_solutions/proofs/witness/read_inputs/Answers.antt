@@ -1,10 +1,10 @@
-use Rattle.std.proofs.Common.{ap, get_or, ◌∙◌}
+use Rattle.std.proofs.Common.{ap, get_or, ◌∙◌, arith}
 use Rattle.std.proofs.lemmas.List.Elements.{Contains-get_or}
 use Rattle.aig_circuit.specs.Circuit.{Circuit}
 use Rattle.aig_unroll.specs.Places.{place_at}
 use Rattle.aig_unroll.proofs.Others.{inputs_are_others}
 use Rattle.aig_solutions.specs.Solutions.{value_at}
-use Rattle.aig_solutions.proofs.Steps.{map_more}
+use Rattle.aig_solutions.proofs.Steps.{map_more, map_whole}
 use Rattle.aig_solutions.proofs.witness.read_inputs.Goals as goal
 
 pub place-requires-clause-leaf : goal.place-requires-clause-leaf
@@ -21,3 +21,6 @@ loop-n-preserved c =
     let n = get_or c.inputs-inputs.result.now c.loop-n.n-index 0 in
     let place = c.place.ensures ∙ ap (λ (d : Circuit). place_at d unrolled t n) c.requires.places in
     map_more (λ m. value_at values (place_at c.args.circuit.now unrolled t m)) _ _ c.inputs-inputs.result.now c.loop-n.n-index 0 _ c.loop-n-test.true c.loop-n.invariant c.in_ok-push.ensures.items (c.value_of.ensures ∙ ap (value_at values) place)
+
+pub returns : goal.returns
+returns c = map_whole (λ n. value_at c.args.values.now (place_at c.args.circuit.now c.args.unrolled.now c.args.t n)) _ c.inputs-inputs.result.now _ c.loop-n.n-index (omega (arith, c.loop-n-test.false)) c.loop-n.invariant c.inputs-inputs.ensures.value
