@@ -1,5 +1,5 @@
 -- Rows of values, one for each step, and the bad edges of the last.
-use Rattle.std.proofs.Common.{◌≡◌, ℕ, ◌+◌, ◌*◌, ◌<◌, ◌≤◌, Bool, false, List, [], ◌∷◌, ◌++◌, length, map, take, get_or, slice_get, Some, refl, sym, ap, subst, ◌∙◌, arith}
+use Rattle.std.proofs.Common.{◌≡◌, ℕ, ◌+◌, ◌-◌, ◌*◌, ◌<◌, ◌≤◌, Bool, false, List, [], ◌∷◌, ◌++◌, length, length-drop, map, take, drop, get_or, slice_get, Some, refl, sym, ap, subst, ◌∙◌, arith}
 use Rattle.std.specs.Prelude.{Vec}
 use Rattle.std.specs.declared.alloc.Global.{Global}
 use Rattle.std.proofs.lemmas.List.{map-append, take_all, take_more}
@@ -7,6 +7,7 @@ use borrow.Author.Count.{below_more}
 use Rattle.aig_base.specs.declared.logic.three.Lbool.{Lbool}
 use Rattle.aig_circuit.specs.declared.edge.AigEdge.{AigEdge}
 use Rattle.aig_circuit.specs.Circuit.{Circuit}
+use Rattle.aig_runs.specs.Queries.{last_bads}
 use Rattle.aig_unroll.specs.Unroll.{UnrollsTo}
 use Rattle.aig_unroll.proofs.Lists.{get_left, get_right}
 use Rattle.aig_witness.specs.Witness.{rows_of}
@@ -55,3 +56,12 @@ bads_room c u k old new unrolls is_old is_new =
     let r = unrolls.run_of y in
     let count = (unrolls.same y r.0 r.1 r.2).properties.bads.count in
     rw (is_old, is_new) (omega (arith, count))
+
+-- and are cut out from there on
+pub bads_cut : (c u : Circuit) (k : ℕ) (old new : List AigEdge) → old ≡ c.properties.bads
+    → new ≡ u.properties.bads
+    → take (length new - k * length old) (drop (k * length old) new) ≡ last_bads c k u
+bads_cut c u k old new is_old is_new =
+    take_all (length new - k * length old) (drop (k * length old) new) (simp length-drop (omega arith))
+    ∙ ap (λ (bads : List AigEdge). drop (k * length bads) new) is_old
+    ∙ ap (drop (k * length c.properties.bads)) is_new

@@ -1,5 +1,6 @@
-use Rattle.std.proofs.Common.{arith}
-use Rattle.aig_solutions.proofs.Steps.{bads_room}
+use Rattle.std.proofs.Common.{arith, subst}
+use Rattle.aig_solutions.specs.Solutions.{IsFirstTrue}
+use Rattle.aig_solutions.proofs.Steps.{bads_cut, bads_room}
 use Rattle.aig_solutions.proofs.witness.witness_of.Goals as goal
 
 pub overflow_mul-first : goal.overflow_mul-first
@@ -24,3 +25,12 @@ slice_bounds-first_true-start c =
 
 pub read_steps-requires-clause-step : goal.read_steps-requires-clause-step
 read_steps-requires-clause-step c = omega (arith, c.requires.steps.inputs)
+
+pub returns-clause-witness : goal.returns-clause-witness
+returns-clause-witness c =
+    let cut = bads_cut c.args.asked.now.encoded.circuit c.args.asked.now.encoded.unrolled c.args.k c.bads.result.now c.bads-bads.result.now c.bads.ensures.value c.bads-bads.ensures.value in
+    record {
+      state = c.in_ok-state.ensures;
+      steps = c.in_ok-steps.ensures;
+      bad = subst (λ edges. IsFirstTrue edges c.args.values.now c.in-Some.bad) cut c.in-Some.ensures.some;
+    }
