@@ -63,6 +63,40 @@ fn next_open(lits: &[u32], turn: usize, trail: &Trail) -> Option<usize>
     open_from(&lits[..turn.min(lits.len())], 0, trail)
 }
 
+/// Looks at the clause whose words come first here, as `Clauses::look` does.
+#[inline(always)]
+fn look_at(words: &mut [u32], lit: Lit, trail: &Trail) -> Look {
+    if words.len() < HEADER + 2 || words[NUMBER] == 0 {
+        return Look::Removed;
+    }
+    let first = Lit::from(words[HEADER]);
+    let other = if first == lit {
+        Lit::from(words[HEADER + 1])
+    } else {
+        first
+    };
+    if trail.is_true(other) {
+        return Look::True(other);
+    }
+    let end = HEADER + words[LENGTH] as usize;
+    if end < HEADER + 2 || end > words.len() {
+        return Look::Removed;
+    }
+    let turn = words[TURN] as usize;
+    let Some(i) = next_open(&words[HEADER + 2..end], turn, trail) else {
+        return Look::Last(other);
+    };
+    let next = words[HEADER + 2 + i];
+    words[TURN] = i as u32;
+    words[HEADER] = u32::from(other);
+    words[HEADER + 1] = next;
+    words[HEADER + 2 + i] = u32::from(lit);
+    Look::Moved {
+        other,
+        next: Lit::from(next),
+    }
+}
+
 /// Clauses, each a header and its literals, by the places of their first words. The first two
 /// literals of a clause are watched.
 #[derive(Drop)]
@@ -264,35 +298,6 @@ impl Clauses {
     #[inline(always)]
     pub(crate) fn look(&mut self, place: u32, lit: Lit, trail: &Trail) -> Look {
         let start = (place as usize).min(self.words.len());
-        let words = &mut self.words[start..];
-        if words.len() < HEADER + 2 || words[NUMBER] == 0 {
-            return Look::Removed;
-        }
-        let first = Lit::from(words[HEADER]);
-        let other = if first == lit {
-            Lit::from(words[HEADER + 1])
-        } else {
-            first
-        };
-        if trail.is_true(other) {
-            return Look::True(other);
-        }
-        let end = HEADER + words[LENGTH] as usize;
-        if end < HEADER + 2 || end > words.len() {
-            return Look::Removed;
-        }
-        let turn = words[TURN] as usize;
-        let Some(i) = next_open(&words[HEADER + 2..end], turn, trail) else {
-            return Look::Last(other);
-        };
-        let next = words[HEADER + 2 + i];
-        words[TURN] = i as u32;
-        words[HEADER] = u32::from(other);
-        words[HEADER + 1] = next;
-        words[HEADER + 2 + i] = u32::from(lit);
-        Look::Moved {
-            other,
-            next: Lit::from(next),
-        }
+        look_at(&mut self.words[start..], lit, trail)
     }
 }
