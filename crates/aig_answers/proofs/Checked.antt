@@ -1,6 +1,8 @@
 -- Answers of a proof, and of one that is read only where something is asked.
-use Rattle.std.proofs.Common.{◌≡◌, ◌↔◌, Result, Ok, Err, refl, sym, subst}
-use Rattle.std.specs.Prelude.{IfErr, IfOk, IsErrOf, OnOk}
+use Rattle.std.proofs.Common.{◌≡◌, ◌≢◌, ◌↔◌, Bool, true, false, List, [], length, Result, Ok, Err, refl, sym, ap, subst, ◌∙◌}
+use Rattle.std.specs.Prelude.{◌==◌, IfErr, IfOk, IsErrOf, OnOk}
+use Rattle.std.proofs.lemmas.Bool.{false≢true}
+use Rattle.aig_circuit.specs.declared.edge.AigEdge.{AigEdge}
 use Rattle.aig_encode.specs.declared.error.EncodeError.{EncodeError}
 use Rattle.aig_encode.proofs.Exactly.{no_refusal}
 use Rattle.aig_answers.specs.declared.error.AnswerError.{AnswerError}
@@ -42,6 +44,13 @@ on_ok_given (Ok x) holds = holds
 on_ok_given (Err e) holds = tt
 
 -- ---- where something is asked
+
+-- there are edges where they aren't empty
+pub some_edges : (es edges : List AigEdge) (empty : Bool) → es ≡ edges
+    → empty ≡ (length es == 0) → empty ≡ false → edges ≢ []
+some_edges es edges empty same told not_empty none =
+    let is_empty : empty ≡ true = told ∙ ap (λ (list : List AigEdge). length list == 0) (same ∙ none) in
+    false≢true (sym not_empty ∙ is_empty)
 
 encode_asks : (e : EncodeError) → IsErrOf {T = Unit} (Err (errors.Encode e)) errors.NoBads → ⊥
 encode_asks e is = cc

@@ -34,7 +34,7 @@ encode_of T e x is = cc
 read_of : (T : Type 0) (e x : ReadError) → IsErrOf {T = T} (Err (errors.Encode (encode.Read e))) (errors.Encode (encode.Read x)) → e ≡ x
 read_of T e x is = cc
 
-encode_not_bads : (T : Type 0) (e : EncodeError) → IsErrOf {T = T} (Err (errors.Encode e)) errors.NoBads → ⊥
+pub encode_not_bads : (T : Type 0) (e : EncodeError) → IsErrOf {T = T} (Err (errors.Encode e)) errors.NoBads → ⊥
 encode_not_bads T e is = cc
 
 encode_not_room : (T : Type 0) (e : EncodeError) → IsErrOf {T = T} (Err (errors.Encode e)) errors.TooLarge → ⊥
@@ -84,6 +84,18 @@ not_within size limit low high = omega arith
 -- where neither holds, each holds exactly where the other does
 pub neither : {P Q : Type 0} → (P → ⊥) → (Q → ⊥) → P ↔ Q
 neither first second = (λ holds. absurd (first holds), λ holds. absurd (second holds))
+
+-- a refusal to encode is told apart where what it is told of is there
+pub encode_told : (T X : Type 0) (e x : EncodeError) (There Beyond : Type 0) → There
+    → IsErrOf {T = X} (Err e) x ↔ Beyond
+    → IsErrOf {T = T} (Err (errors.Encode e)) (errors.Encode x) ↔ (There × Beyond)
+encode_told T X e x There Beyond there told = (
+  λ is. (there, told.0 (err_of e x (encode_of T e x is))),
+  λ both. by (told.1 both.1),
+)
+  where
+    by : IsErrOf {T = X} (Err e) x → IsErrOf {T = T} (Err (errors.Encode e)) (errors.Encode x)
+    by is = cc
 
 -- what is refused for want of memory isn't refused for its size, and is within the limit
 pub memory_tells_size : {T : Type 0} (result : Result T EncodeError) (e : EncodeError) (size limit : ℕ)

@@ -1,4 +1,4 @@
-use Rattle.std.proofs.Common.{sym, subst}
+use Rattle.std.proofs.Common.{sym, subst, inl, arith}
 use Rattle.std.proofs.lemmas.Result.{err_from_is_err_and}
 use Rattle.aig_base.specs.Clauses.{AreBelow}
 use Rattle.aig_encode.specs.declared.error.EncodeError.{EncodeError}
@@ -46,3 +46,28 @@ returns-in_err-further-clause-large c =
     let p = err_from_is_err_and c.from_residual-in_err-further.result c.from_residual-in_err-further.ensures.1 in
     let low = within_told c.args.circuit.now c.args.k c.args.limit _ _ _ c.num_nodes.ensures.value c.latchs.ensures.value c.is_size_within.ensures c.if-not-is_size_within.false in
     memory_tells_size c.from_residual-in_err-further.result p.0 _ c.args.limit p.1 p.2 low
+
+pub cnf-requires : goal.cnf-requires
+cnf-requires c =
+    let low = within_told c.args.circuit.now c.args.k c.args.limit _ _ _ c.num_nodes.ensures.value c.latchs.ensures.value c.is_size_within.ensures c.if-not-is_size_within.false in
+    omega (arith, low, c.requires.few, c.in_ok-unrolled.ensures.unrolls.size)
+
+pub query_clauses-requires-clause-few_unrolled : goal.query_clauses-requires-clause-few_unrolled
+query_clauses-requires-clause-few_unrolled c =
+    let low = within_told c.args.circuit.now c.args.k c.args.limit _ _ _ c.num_nodes.ensures.value c.latchs.ensures.value c.is_size_within.ensures c.if-not-is_size_within.false in
+    omega (arith, low, c.requires.few, c.in_ok-unrolled.ensures.unrolls.size)
+
+pub returns-in_err-unrolled-clause-err : goal.returns-in_err-unrolled-clause-err
+returns-in_err-unrolled-clause-err c =
+    let p = err_from_is_err_and c.from_residual.result c.from_residual.ensures.1 in
+    rw p.1 (inl p.2)
+
+pub returns-in_err-clauses-clause-err : goal.returns-in_err-clauses-clause-err
+returns-in_err-clauses-clause-err c =
+    let p = err_from_is_err_and c.from_residual-in_err-clauses.result c.from_residual-in_err-clauses.ensures.1 in
+    rw p.1 (inl p.2)
+
+pub returns-in_err-further-clause-err : goal.returns-in_err-further-clause-err
+returns-in_err-further-clause-err c =
+    let p = err_from_is_err_and c.from_residual-in_err-further.result c.from_residual-in_err-further.ensures.1 in
+    rw p.1 (inl p.2)

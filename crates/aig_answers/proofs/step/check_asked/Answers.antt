@@ -1,18 +1,10 @@
-use Rattle.std.proofs.Common.{◌≡◌, List, length, true, sym, ap, ◌∙◌}
-use Rattle.std.specs.Prelude.{◌==◌}
-use Rattle.std.proofs.lemmas.Bool.{false≢true}
-use Rattle.aig_circuit.specs.declared.edge.AigEdge.{AigEdge}
 use Rattle.aig_answers.specs.declared.error.AnswerError.TheVariants as errors
-use Rattle.aig_answers.proofs.Checked.{not_alone}
+use Rattle.aig_answers.proofs.Checked.{not_alone, some_edges}
+use Rattle.aig_answers.proofs.Files.{neither}
 use Rattle.aig_answers.proofs.step.check_asked.Goals as goal
 
 pub returns-clause-none : goal.returns-clause-none
-returns-clause-none g c = (
-  λ is. absurd (not_alone c.refute.result errors.NoBads c.refute.ensures.read tt is),
-  λ none.
-      let is_empty : c.is_empty.result ≡ true = c.is_empty.ensures ∙ ap (λ (es : List AigEdge). length es == 0) (c.bads.ensures.value ∙ none) in
-      absurd (false≢true (sym c.if-is_empty.false ∙ is_empty)),
-)
+returns-clause-none g c = neither (not_alone c.refute.result errors.NoBads c.refute.ensures.read tt) (some_edges _ _ _ c.bads.ensures.value c.is_empty.ensures c.if-is_empty.false)
 
 pub returns-clause-only : goal.returns-clause-only
 returns-clause-only g c = λ alone. absurd (c.refute.ensures.read alone)
