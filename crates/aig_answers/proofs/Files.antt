@@ -1,7 +1,8 @@
 -- What the answers of the calls tell of the file, from what reading and encoding tell.
 use Rattle.std.proofs.Common.{◌≡◌, ◌≢◌, ◌↔◌, ℕ, ◌+◌, ◌<◌, ◌≤◌, Bool, IsTrue, Option, Some, None, Result, Ok, Err, List, [], ◌∷◌, length, map, true, false, refl, sym, ap, subst, ◌∙◌, inl, inr, arith}
-use Rattle.std.specs.Prelude.{IfSome, IfErr, IfOk, IsErrOf, IsOk}
-use Rattle.std.proofs.lemmas.Bool.{cases_lt}
+use Rattle.std.specs.Prelude.{◌==◌, IfSome, IfErr, IfOk, IsErrOf, IsOk}
+use Rattle.std.proofs.lemmas.List.{nil_from_length}
+use Rattle.std.proofs.lemmas.Bool.{cases_lt, eqb-true, false≢true}
 use Rattle.aig_circuit.specs.Circuit.{Circuit}
 use Rattle.aig_circuit.specs.declared.edge.AigEdge.{AigEdge}
 use Rattle.aig_format.specs.Circuit.{circuit_of, edge_of}
@@ -109,6 +110,20 @@ memory_tells_size result e size limit is memory low = neither (λ large. cc) (no
 pub no_bads : (f : File) (bads : List ℕ) → map (edge_of f) bads ≡ [] → bads ≡ []
 no_bads f [] is = refl
 no_bads f (e ∷ es) is = cc
+
+-- whether there are bad edges tells whether there are bad literals
+pub none_told : (f : File) (c : Circuit) (bads : List AigEdge) (empty : Bool) → c ≡ circuit_of f
+    → bads ≡ c.properties.bads → empty ≡ (length bads == 0) → empty ≡ true → f.properties.bads ≡ []
+none_told f c bads empty of same told is_empty =
+    let zero : length bads ≡ 0 = eqb-true (length bads) 0 (sym told ∙ is_empty) in
+    no_bads f f.properties.bads (sym (ap (λ (d : Circuit). d.properties.bads) of) ∙ sym same ∙ nil_from_length bads zero)
+
+pub some_told : (f : File) (c : Circuit) (bads : List AigEdge) (empty : Bool) → c ≡ circuit_of f
+    → bads ≡ c.properties.bads → empty ≡ (length bads == 0) → empty ≡ false → f.properties.bads ≢ []
+some_told f c bads empty of same told not_empty none =
+    let is_nil : bads ≡ [] = same ∙ ap (λ (d : Circuit). d.properties.bads) of ∙ ap (map (edge_of f)) none in
+    let is_empty : empty ≡ true = told ∙ ap (λ (es : List AigEdge). length es == 0) is_nil in
+    false≢true (sym not_empty ∙ is_empty)
 
 -- a circuit of a file has no bad edge exactly where the file has no bad literal
 pub bads_alike : (f : File) (c : Circuit) → c ≡ circuit_of f
