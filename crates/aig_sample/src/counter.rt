@@ -3,7 +3,7 @@
 ghost use Rattle.std.specs.Prelude.{◌≡◌, ◌<◌, ◌≤◌, IfOk, length};
 ghost use Rattle.aig_circuit.specs.Circuit.{IsInRange};
 
-use crate::SampleError;
+use crate::{SampleError, write_steps};
 use aig::{Aig, AigEdge, PropList};
 use aig_base::{MemoryError, Sink};
 use std::alloc::Global;
@@ -33,24 +33,27 @@ fn add_bit(aig: &mut Aig, flip: AigEdge, name: &str) -> Result<AigEdge, MemoryEr
     Ok(bit)
 }
 
-/// A counter of two bits that counts the steps at which its input holds, bad where it is at 3.
-fn counter(alloc: Global) -> Result<Aig, MemoryError> {
-    let mut aig = Aig::new(alloc)?;
+/// Adds a counter of two bits that counts the steps at which its input holds, bad where it is at 3.
+fn add_counter(aig: &mut Aig) -> Result<(), MemoryError> {
     let input = aig.new_input()?;
     aig.set_symbol(input, "step")?;
     let step = AigEdge::from(input);
-    let low = add_bit(&mut aig, step, "low")?;
+    let low = add_bit(aig, step, "low")?;
     let carry = aig.new_and_node(step, low)?;
-    let high = add_bit(&mut aig, carry, "high")?;
+    let high = add_bit(aig, carry, "high")?;
     let full = aig.new_and_node(low, high)?;
-    aig.push_edge(PropList::Bads, full)?;
-    Ok(aig)
+    aig.push_edge(PropList::Bads, full)
+}
+
+/// Adds the counter to an empty circuit, and writes that, and then two steps of it, to `w`.
+fn write_counter<W: Sink>(aig: &mut Aig, w: &mut W) -> Result<(), SampleError> {
+    add_counter(aig)?;
+    aig.write_text(w)?;
+    write_steps(aig, w)
 }
 
 /// Writes the counter, and then two steps of it, to `w`.
 pub(crate) fn show<W: Sink>(alloc: Global, w: &mut W) -> Result<(), SampleError> {
-    let aig = counter(alloc)?;
-    aig.write_text(w)?;
-    let steps = aig.unroll_to(1)?;
-    Ok(steps.write_text(w)?)
+    let mut aig = Aig::new(alloc)?;
+    write_counter(&mut aig, w)
 }

@@ -59,12 +59,22 @@ fn add_bad_state(aig: &mut Aig) -> Result<(), MemoryError> {
     aig.push_edge(PropList::Bads, !holds)
 }
 
+/// Writes two steps of a circuit to `w`.
+fn write_steps<W: Sink>(aig: &Aig, w: &mut W) -> Result<(), SampleError> {
+    let steps = aig.unroll_to(1)?;
+    Ok(steps.write_text(w)?)
+}
+
+/// Adds a bad state to a circuit, and writes two steps of it, hashed, to `w`.
+fn write_bad_state<W: Sink>(circuit: &mut Aig, w: &mut W) -> Result<(), SampleError> {
+    add_bad_state(circuit)?;
+    write_steps(&circuit.strash()?, w)
+}
+
 /// Reads a circuit from `r`, and writes two steps of its cone of influence to `w`.
 fn show<R: Source, W: Sink>(alloc: Global, r: &mut R, w: &mut W) -> Result<(), SampleError> {
-    let (mut circuit, _) = Aig::from_aiger(alloc, r, 1 << 24)?.coi_refine()?;
-    add_bad_state(&mut circuit)?;
-    let steps = circuit.strash()?.unroll_to(1)?;
-    Ok(steps.write_text(w)?)
+    let (mut cone, _) = Aig::from_aiger(alloc, r, 1 << 24)?.coi_refine()?;
+    write_bad_state(&mut cone, w)
 }
 
 /// Writes the counter and two steps of it, and then those of the circuit of `r`.
