@@ -175,6 +175,47 @@ module _ (words : List (List ℕ)) (file : List ℕ) (rest : List (List ℕ)) wh
   by_query (commands.Cnf k o) is g = absurd (omega (arith, sym (begins words (commands.Cnf k o) g) ∙ ap letter_of is))
   by_query (commands.Query k o) is g = let same = sym g.2 ∙ is in let these : g.1 ≡ rest = cc in (k, o, refl, subst (IsUnrolling k o) these g.3)
 
+-- no command is given
+module _ (words : List (List ℕ)) (name file : List ℕ) (rest : List (List ℕ)) (are : words ≡ name ∷ file ∷ rest) where
+  alike : (x y : List ℕ) (m : List (List ℕ)) → words ≡ x ∷ y ∷ m → (name ≡ x) × (rest ≡ m)
+  alike x y m is = let same : name ∷ file ∷ rest ≡ x ∷ y ∷ m = sym are ∙ is in (cc, cc)
+
+  none_given : (name ≡ codes "text" → rest ≡ [] → ⊥) → (name ≡ codes "strash" → rest ≡ [] → ⊥) → (name ≡ codes "binary" → (out : List ℕ) → rest ≡ out ∷ [] → ⊥) → (name ≡ codes "cnf" → ⊥) → (name ≡ codes "query" → ⊥)
+      → (d : Command) → ◌≡◌ {A = Option Command} None (Some d) ↔ Give words d
+  none_given text strash binary cnf query d = (λ is. cc, λ g. absurd (not d g))
+    where
+      not : (d : Command) → Give words d → ⊥
+      not commands.Text g = let same = alike (codes "text") g.0 [] g.1 in text same.0 same.1
+      not commands.Binary g = let same = alike (codes "binary") g.0 (g.1 ∷ []) g.2 in binary same.0 g.1 same.1
+      not commands.Strash g = let same = alike (codes "strash") g.0 [] g.1 in strash same.0 same.1
+      not (commands.Cnf k o) g = cnf (alike (codes "cnf") g.0 g.1 g.2).0
+      not (commands.Query k o) g = query (alike (codes "query") g.0 g.1 g.2).0
+
+many_following : (ws : List (String Global)) → 2 ≤ length ws → (map string_bytes ws ≡ [] → ⊥) × ((out : List ℕ) → map string_bytes ws ≡ out ∷ [] → ⊥)
+many_following [] low = absurd (omega arith)
+many_following (w ∷ []) low = absurd (omega arith)
+many_following (w ∷ x ∷ ws) low = (λ is. cc, λ out is. cc)
+
+module _ (words : List (String Global)) (first : String Global) (name : List ℕ) (low : 2 ≤ length words) (at : first ≡ get_or words 0 first) (is : string_bytes first ≡ name) (cnf : name ≡ codes "cnf" → ⊥) (query : name ≡ codes "query" → ⊥) where
+  pub none_of_two : length (following words) < 1 → (name ≡ codes "text" → ⊥) → (name ≡ codes "strash" → ⊥) → (d : Command) → ◌≡◌ {A = Option Command} None (Some d) ↔ Give (map string_bytes words) d
+  none_of_two none text strash =
+      let all = with_rest words first name low at is in
+      let empty = none_following (following words) none in
+      none_given (map string_bytes words) name all.0 (map string_bytes (following words)) all.1 (λ named same. text named) (λ named same. strash named) (λ named out same. cc) cnf query
+
+  pub none_of_three : 1 ≤ length (following words) → length (following words) < 2 → (name ≡ codes "binary" → ⊥) → (d : Command) → ◌≡◌ {A = Option Command} None (Some d) ↔ Give (map string_bytes words) d
+  none_of_three some few binary =
+      let all = with_rest words first name low at is in
+      let one = one_following (following words) some few in
+      let has : map string_bytes (following words) ≡ one.0 ∷ [] = one.1 in
+      none_given (map string_bytes words) name all.0 (map string_bytes (following words)) all.1 (λ named same. cc) (λ named same. cc) (λ named out same. binary named) cnf query
+
+  pub none_of_more : 2 ≤ length (following words) → (d : Command) → ◌≡◌ {A = Option Command} None (Some d) ↔ Give (map string_bytes words) d
+  none_of_more many =
+      let all = with_rest words first name low at is in
+      let more = many_following (following words) many in
+      none_given (map string_bytes words) name all.0 (map string_bytes (following words)) all.1 (λ named. more.0) (λ named. more.0) (λ named. more.1) cnf query
+
 -- nothing was given
 pub nothing_given : (words : List (List ℕ)) (r : Option Command) → r ≡ None
     → ((d : Command) → ¬ Give words d) → (d : Command) → (r ≡ Some d) ↔ Give words d

@@ -1,20 +1,26 @@
 -- What a command does, at each way out of it.
-use Rattle.std.proofs.Common.{◌≡◌, ℕ, Bool, false, Option, Some, None, Ok, Err, List, refl, sym, ap, subst, IsTrue}
+use Rattle.std.proofs.Common.{◌≡◌, ℕ, Bool, false, Option, Some, None, Ok, Err, List, refl, sym, ap, subst, inl, inr, IsTrue}
 use Rattle.std.specs.Prelude.{IfErr, IsErrOf, Result}
 use Rattle.std.specs.Io.KnownBytes.{Appends, IsAtEnd}
+use Rattle.aig_circuit.specs.Circuit.{Circuit}
 use Rattle.aig_format.specs.File.{File}
+use Rattle.aig_format.specs.Fits.{Accepts}
 use Rattle.aig_reader.specs.declared.error.ReadError.{ReadError}
 use Rattle.aig_reader.specs.declared.error.ReadError.TheVariants as read
+use Rattle.aig_reader.specs.Reading.{IsReadAs}
 use Rattle.aig_output.specs.Sinks.{AppendsBeginning, WritesOrStops}
 use Rattle.aig.specs.declared.aiger.WriteError.{WriteError}
 use Rattle.aig.specs.declared.aiger.WriteError.TheVariants as write
+use Rattle.aig.specs.Reading.{IsFileCircuit}
 use Rattle.aig_encode.specs.declared.error.EncodeError.{EncodeError}
 use Rattle.aig_encode.specs.declared.error.EncodeError.TheVariants as encode
 use Rattle.aig_encode.specs.Encoding.{IsBeyond, IsWithin, ConsumedFile}
 use Rattle.aigtool.specs.declared.command.Command.{Command}
 use Rattle.aigtool.specs.declared.tool.ToolError.{ToolError}
 use Rattle.aigtool.specs.declared.tool.ToolError.TheVariants as errors
+use Rattle.aigtool.specs.Printing.{Prints, bytes_of}
 use Rattle.aigtool.specs.Running.{Answered, AnswersFile, ExceedsBy, Passes, Refused, Runs, Says, Short, Stopped, TakesBy, refused_as, steps_of}
+use Rattle.aigtool.proofs.Answering.{circuit_answers, took}
 use Rattle.aigtool.proofs.Running.{Encodes, Reads, Tell, answered, encoded, err_of, passes_in_encoding, refused_in_encoding, refused_in_reading}
 
 module _ {R W : Type 0} (left : R → Option (List ℕ)) (read_failed : R → Bool) (held : W → Option (List ℕ)) (write_failed : W → Bool) (c : Command) (limit : ℕ) (r : R) (w : W) (rest : R) where
@@ -91,6 +97,15 @@ module _ {R W : Type 0} (left : R → Option (List ℕ)) (read_failed : R → Bo
 
       pub clauses_printed : {X : Type 0} (Means : File → X → Type 0) (k : ℕ) (x : X) → steps_of c ≡ Some k → Encodes Means limit k (Ok x) (left r) → Runs left read_failed held write_failed c limit r w (Ok u) rest made
       clauses_printed {X} Means k x some exact = answers_all (subst (λ steps. Tell steps limit Answered (left r)) (sym some) (encoded X Means limit k x (left r) exact))
+
+    -- the bytes of a file's circuit were written, or a beginning of them, or memory ran out
+    pub circuit_end : (circuit : Circuit) (result : Result Unit ToolError) → steps_of c ≡ None → IsReadAs (λ bytes. Accepts bytes limit) IsFileCircuit (left r) (left rest) circuit → Reads IsFileCircuit limit (Ok circuit) (left r)
+        → (read_failed rest ≡ false) × IsAtEnd (left rest) → Prints held write_failed c (bytes_of c circuit) w result made → Runs left read_failed held write_failed c limit r w result rest made
+    circuit_end circuit (Ok u) none read exact whole prints = printed u (circuit_answers limit (left r) (left rest) (Appends (held w) (held made)) c circuit none read prints.0) prints.1 whole IsFileCircuit circuit none exact
+    circuit_end circuit (Err e) none read exact whole prints = elim prints [
+      | inl stop ↦ rw stop.0 (stopped write.Stream refl (circuit_answers limit (left r) (left rest) (AppendsBeginning (held w) (held made)) c circuit none read stop.1.beginning) stop.1.has_failed whole)
+      | inr short ↦ no_memory e made short.0 (subst (λ steps. ConsumedFile (TakesBy steps limit) (left r) (left rest)) (sym none) (took _ read)) whole short.1
+    ]
 
     -- clauses were written, or a beginning of them
     pub clauses_end : {X : Type 0} (Means : File → X → Type 0) (k : ℕ) (x : X) (result : Result Unit ToolError) (text : List ℕ) → steps_of c ≡ Some k → Encodes Means limit k (Ok x) (left r)

@@ -1,2 +1,3 @@
+pub mod Printing
 pub mod Words
 pub mod Running

@@ -55,24 +55,6 @@ pub fn parse(words: &[String]) -> Option<Command>
         return None;
     };
     let name = name.as_str();
-    if name == "text" {
-        return match rest {
-            [] => Some(Command::Text),
-            _ => None,
-        };
-    }
-    if name == "binary" {
-        return match rest {
-            [_] => Some(Command::Binary),
-            _ => None,
-        };
-    }
-    if name == "strash" {
-        return match rest {
-            [] => Some(Command::Strash),
-            _ => None,
-        };
-    }
     if name == "cnf" {
         let (k, optimize) = unrolling(rest)?;
         return Some(Command::Cnf { k, optimize });
@@ -81,5 +63,10 @@ pub fn parse(words: &[String]) -> Option<Command>
         let (k, optimize) = unrolling(rest)?;
         return Some(Command::Query { k, optimize });
     }
-    None
+    match rest {
+        [] if name == "text" => Some(Command::Text),
+        [] if name == "strash" => Some(Command::Strash),
+        [_] if name == "binary" => Some(Command::Binary),
+        _ => None,
+    }
 }

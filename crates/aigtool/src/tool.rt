@@ -1,13 +1,15 @@
 //! What the commands do with the bytes of a file.
 
-ghost use Rattle.std.specs.Prelude.{◌≡◌, ◌++◌, IfErr, length};
+ghost use Rattle.std.specs.Prelude.{◌≡◌, ◌++◌, IfErr, None, length};
 ghost use Rattle.aig_base.specs.Clauses.{AreBelow};
 ghost use Rattle.aig_base.specs.Formula.{clauses_in};
 ghost use Rattle.aig_dimacs.specs.Text.{IsFormula, dimacs_of};
+ghost use Rattle.aig_format.specs.Writable.{IsWritable};
 ghost use Rattle.aig_output.specs.Sinks.{WritesOrStops};
 ghost use Rattle.aig.specs.declared.aiger.WriteError.TheVariants as write;
 ghost use Rattle.aigtool.specs.declared.tool.ToolError.TheVariants as errors;
-ghost use Rattle.aigtool.specs.Running.{Runs};
+ghost use Rattle.aigtool.specs.Printing.{Prints, bytes_of};
+ghost use Rattle.aigtool.specs.Running.{Runs, steps_of};
 
 use crate::command::Command;
 use aig::{Aig, ReadError, WriteError};
@@ -77,32 +79,30 @@ impl From<StreamFault> for ToolError {
     }
 }
 
-/// Prints the text form of a file.
-fn print_text<R: Source, W: Sink>(alloc: Global, r: &mut R, w: &mut W) -> Result<(), ToolError>
-    ensures { let command = Command.Text in
-        Runs R.left R.failed W.held W.failed command LIMIT r.old w.old result r.new w.new }
+/// Prints a circuit: its binary form for `Binary`, after structural hashing for `Strash`, and else as it is.
+fn print_circuit<W: Sink>(circuit: &Aig, c: Command, w: &mut W) -> Result<(), ToolError>
+    requires { IsWritable circuit.now }
+    ensures { Prints W.held W.failed c (bytes_of c circuit.now) w.old result w.new }
 {
-    let circuit = Aig::from_aiger(alloc, r, LIMIT)?;
-    Ok(circuit.write_text(w)?)
+    match c {
+        Command::Binary => Ok(circuit.write_binary(w)?),
+        Command::Strash => Ok(circuit.strash()?.write_text(w)?),
+        _ => Ok(circuit.write_text(w)?),
+    }
 }
 
-/// Writes the binary form of a file.
-fn print_binary<R: Source, W: Sink>(alloc: Global, r: &mut R, w: &mut W) -> Result<(), ToolError>
-    ensures { let command = Command.Binary in
-        Runs R.left R.failed W.held W.failed command LIMIT r.old w.old result r.new w.new }
+/// Prints a file's circuit as a command does that makes no clauses.
+fn print_file<R: Source, W: Sink>(
+    alloc: Global,
+    c: Command,
+    r: &mut R,
+    w: &mut W,
+) -> Result<(), ToolError>
+    requires { steps_of c ≡ None }
+    ensures { Runs R.left R.failed W.held W.failed c LIMIT r.old w.old result r.new w.new }
 {
     let circuit = Aig::from_aiger(alloc, r, LIMIT)?;
-    Ok(circuit.write_binary(w)?)
-}
-
-/// Prints the text form of a file's circuit after structural hashing.
-fn print_strashed<R: Source, W: Sink>(alloc: Global, r: &mut R, w: &mut W) -> Result<(), ToolError>
-    ensures { let command = Command.Strash in
-        Runs R.left R.failed W.held W.failed command LIMIT r.old w.old result r.new w.new }
-{
-    let circuit = Aig::from_aiger(alloc, r, LIMIT)?;
-    let strashed = circuit.strash()?;
-    Ok(strashed.write_text(w)?)
+    print_circuit(&circuit, c, w)
 }
 
 /// Prints clauses, with further ones after them.
@@ -161,9 +161,7 @@ pub fn run<R: Source, W: Sink>(
     ensures { Runs R.left R.failed W.held W.failed c LIMIT r.old w.old result r.new w.new }
 {
     match c {
-        Command::Text => print_text(alloc, r, w),
-        Command::Binary => print_binary(alloc, r, w),
-        Command::Strash => print_strashed(alloc, r, w),
+        Command::Text | Command::Binary | Command::Strash => print_file(alloc, c, r, w),
         Command::Cnf { k, optimize } => print_cnf(alloc, k, optimize, r, w),
         Command::Query { k, optimize } => print_query(alloc, k, optimize, r, w),
     }
