@@ -5,6 +5,7 @@ use Rattle.std.proofs.lemmas.List.Elements.{Contains-append_cases}
 use Rattle.aig_circuit.specs.declared.edge.AigEdge.{AigEdge}
 use Rattle.aig_circuit.specs.Circuit.{Circuit, HasFreeLeaf, latch_leaves}
 use Rattle.aig_circuit.specs.Edges.{HasConstantInit, HasNonConstantInit}
+use Rattle.aig_format.specs.Circuit.{text_of}
 use Rattle.aig_format.specs.File.{File}
 use Rattle.aig_format.specs.Writable.{HasLineFeed, IsWritable, named_nodes}
 use Rattle.aig_reader.specs.declared.error.ReadError.{ReadError}
@@ -17,6 +18,9 @@ use Rattle.aig.specs.Writing.{IsRefusal, IsVerdictOf}
 use Rattle.aig_encode.specs.declared.error.EncodeError.{EncodeError}
 use Rattle.aig_encode.specs.declared.error.EncodeError.TheVariants as encode
 use Rattle.aig_encode.specs.Encoding as encoding
+use Rattle.aigtool.specs.declared.command.Command.{Command}
+use Rattle.aigtool.specs.declared.command.Command.TheVariants as commands
+use Rattle.aigtool.specs.Printing.{bytes_of}
 use Rattle.aigtool.specs.Running.{Answered, AnswersExactly, IsInterrupted, Outcome, Passes, Refused}
 
 -- an error that is this one
@@ -143,3 +147,13 @@ only_stopped c write.InitialEdge w tells (inl own) = absurd (no_any HasConstantI
 only_stopped c write.Name w tells (inl own) = absurd (no_any (λ n. ¬ HasLineFeed c.names n) (HasLineFeed c.names) (λ n not has. not has) (named_nodes c) w.names tells.2)
 only_stopped c write.TooLarge w tells (inl own) = absurd (tells.3 w.small)
 only_stopped c write.Open w tells (inl own) = absurd own
+
+-- ---- the bytes of a circuit
+
+-- neither the binary form nor that of the hashed circuit
+pub plain_bytes : (c : Command) (circuit : Circuit) → c ≢ commands.Binary → c ≢ commands.Strash → bytes_of c circuit ≡ text_of circuit
+plain_bytes commands.Text circuit no_binary no_strash = refl
+plain_bytes commands.Binary circuit no_binary no_strash = absurd (no_binary refl)
+plain_bytes commands.Strash circuit no_binary no_strash = absurd (no_strash refl)
+plain_bytes (commands.Cnf k optimize) circuit no_binary no_strash = refl
+plain_bytes (commands.Query k optimize) circuit no_binary no_strash = refl

@@ -1,8 +1,8 @@
-use Rattle.std.proofs.Common.{ap, inl}
+use Rattle.std.proofs.Common.{ap, inl, inr, refl}
 use Rattle.std.proofs.lemmas.Result.{err_from_is_err_and}
 use Rattle.aig.specs.declared.aiger.WriteError.TheVariants as write
 use Rattle.aigtool.specs.declared.tool.ToolError.TheVariants as errors
-use Rattle.aigtool.proofs.Running.{err_of, only_stopped}
+use Rattle.aigtool.proofs.Running.{err_of, only_interrupted, only_stopped, plain_bytes}
 use Rattle.aigtool.proofs.tool.print_circuit.Goals as goal
 
 pub returns-in_err-write_text-in-Strash : goal.returns-in_err-write_text-in-Strash
@@ -14,3 +14,39 @@ returns-in_err-write_text-in-Strash g c =
     let is = only_stopped c.in_ok-strash-in-Strash.field-0 e (made.writable c.requires) told.tells told.faults in
     let done = told.stream (err_of e write.Stream is) in
     rw (p.1, p.2, c.in-Strash.is) (inl (ap (λ y. errors.Write y) is, record { beginning = rw made.exact at done.0; has_failed = done.1 }))
+
+pub returns-in_ok-write_text-in-Strash : goal.returns-in_ok-write_text-in-Strash
+returns-in_ok-write_text-in-Strash g c =
+    let told = c.in_ok-write_text-in-Strash.ensures.ok in
+    rw c.in-Strash.is (rw c.in_ok-strash-in-Strash.ensures.exact at told.0, told.1)
+
+pub returns-in_err-strash-in-Strash : goal.returns-in_err-strash-in-Strash
+returns-in_err-strash-in-Strash g c =
+    let p = err_from_is_err_and c.from_residual-in_err-strash-in-Strash.result c.from_residual-in_err-strash-in-Strash.ensures.1 in
+    rw (p.1, p.2, c.in-Strash.is) (inr (refl, refl))
+
+pub returns-in_err-write_binary-in-Binary : goal.returns-in_err-write_binary-in-Binary
+returns-in_err-write_binary-in-Binary g c =
+    let p = err_from_is_err_and c.from_residual.result c.from_residual.ensures.1 in
+    let told = c.in_err-write_binary-in-Binary.ensures in
+    let e = c.in_err-write_binary-in-Binary.field-0.0 in
+    rw (p.1, p.2, c.in-Binary.is) (elim (only_interrupted c.args.circuit.now e c.requires told.tells (λ is. told.never_open (err_of e write.Open is))) [
+      | inl is ↦ inr (err_of (errors.Write e) (errors.Write write.Memory) (ap (λ y. errors.Write y) is), told.kept (λ same. cc))
+      | inr is ↦ let done = told.stream (err_of e write.Stream is) in inl (ap (λ y. errors.Write y) is, record { beginning = done.0; has_failed = done.1 })
+    ])
+
+pub returns-in_ok-write_binary-in-Binary : goal.returns-in_ok-write_binary-in-Binary
+returns-in_ok-write_binary-in-Binary g c = rw c.in-Binary.is c.in_ok-write_binary-in-Binary.ensures.ok
+
+pub returns-in_err-write_text-in_default : goal.returns-in_err-write_text-in_default
+returns-in_err-write_text-in_default g c =
+    let p = err_from_is_err_and c.from_residual-in_err-write_text-in_default.result c.from_residual-in_err-write_text-in_default.ensures.1 in
+    let told = c.in_err-write_text-in_default.ensures in
+    let e = c.in_err-write_text-in_default.field-0.0 in
+    let is = only_stopped c.args.circuit.now e c.requires told.tells told.faults in
+    let done = told.stream (err_of e write.Stream is) in
+    rw (p.1, p.2, plain_bytes c.args.c c.args.circuit.now c.in_default.not-Binary c.in_default.not-Strash) (inl (ap (λ y. errors.Write y) is, record { beginning = done.0; has_failed = done.1 }))
+
+pub returns-in_ok-write_text-in_default : goal.returns-in_ok-write_text-in_default
+returns-in_ok-write_text-in_default g c =
+    rw (plain_bytes c.args.c c.args.circuit.now c.in_default.not-Binary c.in_default.not-Strash) c.in_ok-write_text-in_default.ensures.ok
