@@ -1,12 +1,9 @@
 //! What the commands do with the bytes of a file, and of a proof, a solver's answer or a witness.
 
-ghost use Rattle.std.specs.Prelude.{◌≡◌, ◌<◌, ◌≤◌, ◌^◌, ◌++◌, ◌∷◌, [], IfOk, IsErrOf, IsTrue, None, decimal, length};
-ghost use Rattle.aig_answers.specs.Answers.{IsAsked, TellsOfFile};
+ghost use Rattle.std.specs.Prelude.{◌≡◌, ◌≢◌, ◌<◌, ◌≤◌, ◌^◌, ◌++◌, ◌∷◌, [], IfErr, IsErrOf, IsTrue, None, OnOk, decimal, length};
 ghost use Rattle.aig_answers.specs.declared.error.AnswerError.TheVariants as answers;
 ghost use Rattle.aig_base.specs.Clauses.{AreBelow};
 ghost use Rattle.aig_encode.specs.declared.error.EncodeError.TheVariants as encode;
-ghost use Rattle.aig_encode.specs.Encoding.{IsQuery};
-ghost use Rattle.aig_reader.specs.Reading.{IsReadAs};
 ghost use Rattle.aig_output.specs.Sinks.{BuffersOrStops, WritesOrStops};
 ghost use Rattle.aig_unroll.specs.Unroll.{UnrollsTo};
 ghost use Rattle.aigcheck.specs.Printing.{IsKnownText, IsQueryText, Prints};
@@ -195,34 +192,28 @@ pub fn print_inductive<R: Source, P: Source, W: Sink>(
     Ok(write_line(w, b"no bad state at any step, if none up to step ", k)?)
 }
 
-/// The query of a file for step `k`. A file without bad state properties is refused, as nothing is asked of it.
-fn asked_query<R: Source>(
-    alloc: Global,
-    k: usize,
-    optimize: bool,
-    r: &mut R,
-) -> Result<Query, AnswerError>
-    ensures answer { IfOk result (IsReadAs (IsAsked LIMIT k) (IsQuery k optimize)
-        (R.left r.old) (R.left r.new)) }
-    ensures file { TellsOfFile R.left R.failed LIMIT k result r.old r.new }
-    // The further clauses are of variables that are there.
-    ensures below { IfOk result (λ q. AreBelow (length q.encoded.clauses) q.extra) }
+/// Refuses a query of a circuit without bad state properties, as nothing is asked of it.
+fn check_asks(asked: &Query) -> Result<(), AnswerError>
+    ensures some { OnOk result (asked.now.encoded.circuit.properties.bads ≢ []) }
+    ensures none { IfErr result (λ e. (e ≡ AnswerError.NoBads)
+        × (asked.now.encoded.circuit.properties.bads ≡ [])) }
 {
-    let asked = query(alloc, r, LIMIT, k, optimize)?;
     if asked.encoded.circuit.bads().is_empty() {
         return Err(AnswerError::NoBads);
     }
-    Ok(asked)
+    Ok(())
 }
 
-/// Prints a query for step `k`: comments that say which literals stand for what, and then its clauses.
+/// Prints a query for step `k` that asks something: comments that say which literals stand for what, and then its clauses.
 fn print_query<W: Sink>(alloc: Global, asked: &Query, k: usize, w: &mut W) -> Result<(), CheckError>
     requires small { k < 2 ^ 32 }
     requires steps { UnrollsTo asked.now.encoded.circuit k asked.now.encoded.unrolled }
     requires few { length asked.now.encoded.unrolled.nodes ≤ 2 ^ 31 }
     requires below { AreBelow (length asked.now.encoded.clauses) asked.now.extra }
-    ensures { Prints W.held W.failed (IsQueryText asked.now k) w.old result w.new }
+    ensures { let bads = asked.now.encoded.circuit.properties.bads in
+        Prints W.held W.failed bads (IsQueryText asked.now k) w.old result w.new }
 {
+    check_asks(asked)?;
     let places = Places::new(alloc, &asked.encoded.circuit)?;
     write_comments(w, asked, &places, k)?;
     Ok(write_dimacs(w, &asked.encoded.clauses, &asked.extra)?)
@@ -242,11 +233,13 @@ pub fn print_clauses<R: Source, W: Sink>(
     ensures { let command = Command.Clauses k optimize in
         Runs R.left R.failed W.held W.failed command LIMIT None r.old w.old result r.new w.new }
 {
-    let asked = asked_query(alloc, k, optimize, r)?;
-    print_query(alloc, &asked, k, w)
+    match query(alloc, r, LIMIT, k, optimize) {
+        Ok(asked) => print_query(alloc, &asked, k, w),
+        Err(error) => Err(CheckError::Answer(AnswerError::Encode(error))),
+    }
 }
 
-/// Reads a solver's answer to a query for step `k`, and prints the witness that it says, which was checked.
+/// Reads a solver's answer to a query for step `k` that asks something, and prints the witness that it says, which was checked.
 fn print_solution<P: Source, W: Sink>(
     alloc: Global,
     asked: &Query,
@@ -257,12 +250,13 @@ fn print_solution<P: Source, W: Sink>(
     requires small { k < 2 ^ 32 }
     requires steps { UnrollsTo asked.now.encoded.circuit k asked.now.encoded.unrolled }
     ensures prints { let circuit = asked.now.encoded.circuit in
-        Prints W.held W.failed (IsKnownText circuit k) w.old result w.new }
+        Prints W.held W.failed circuit.properties.bads (IsKnownText circuit k) w.old result w.new }
     // A read of the solver's answer is said to have failed only where one did in this call.
     ensures stream { IsErrOf result
         (CheckError.Solution (CheckedWitnessError.Solution SolutionError.Stream))
         → IsTrue (P.failed solution.new) }
 {
+    check_asks(asked)?;
     let witness = checked_witness(alloc, asked, k, solution)?;
     Ok(write_witness(w, &witness)?)
 }
@@ -287,8 +281,10 @@ pub fn print_witness<R: Source, P: Source, W: Sink>(
         → IsTrue (P.failed solution.new) }
 {
     known_witnesses_show();
-    let asked = asked_query(alloc, k, optimize, r)?;
-    print_solution(alloc, &asked, k, solution, w)
+    match query(alloc, r, LIMIT, k, optimize) {
+        Ok(asked) => print_solution(alloc, &asked, k, solution, w),
+        Err(error) => Err(CheckError::Answer(AnswerError::Encode(error))),
+    }
 }
 
 /// Checks that a witness shows a bad state of a file's machine, and prints which bad state property that is, and at which
