@@ -19,8 +19,8 @@ bytes_of commands.Binary circuit = binary_of circuit
 bytes_of commands.Strash circuit = text_of (strashed circuit)
 bytes_of c circuit = text_of circuit
 
--- The bytes are held, or after a failed write a beginning of them. Before anything is written memory
--- may run out, as the command says it.
+-- The bytes are held, or after a failed write a beginning of them. Before anything is written
+-- memory may run out, as the command says it.
 abbrev pub Prints : {W : Type 0} → (W → Option (List ℕ)) → (W → Bool) → Command → List ℕ → W
     → Result Unit ToolError → W → Type 0
 Prints held failed c bytes w (Ok done) made =
