@@ -2,33 +2,12 @@
 
 use crate::script::{Refusal, Script};
 use crate::show::{call, print, print_answer, print_circuit, print_dag};
-use crate::words::{Line, edges, find, has_edges};
+use crate::words::{Line, edges, has_edges};
 use aig::Aig;
 use aig_base::DagCnf;
 use std::alloc::Global;
 use std::collections::HashSet;
 use std::io::Print;
-
-/// What is asked.
-enum Question {
-    Show,
-    Symbol,
-    BeginsWith,
-    Cnf,
-    CnfRaw,
-    Cone,
-    Reached,
-}
-
-const STEPS: [(&str, Question); 7] = [
-    ("show", Question::Show),
-    ("get_symbol", Question::Symbol),
-    ("begins_with", Question::BeginsWith),
-    ("cnf", Question::Cnf),
-    ("cnf_raw", Question::CnfRaw),
-    ("fanin_logic_cone", Question::Cone),
-    ("coi", Question::Reached),
-];
 
 /// The clauses of the circuit's gates, if it fits literals.
 fn clauses(circuit: &Aig, optimize: bool) -> Result<DagCnf, Refusal> {
@@ -71,27 +50,18 @@ fn symbol<R: Print>(rt: &R, circuit: &Aig, numbers: &[usize]) {
     }
 }
 
-/// Takes a step of the table.
-fn ask<R: Print>(rt: &R, script: &Script, question: &Question, numbers: &[usize]) {
-    let circuit = &script.circuit;
-    match question {
-        Question::Show => print_circuit(rt, circuit),
-        Question::Symbol => symbol(rt, circuit, numbers),
-        Question::BeginsWith => print(rt, &circuit.begins_with(&script.kept)),
-        Question::Cnf => cnf(rt, circuit, true),
-        Question::CnfRaw => cnf(rt, circuit, false),
-        Question::Cone => print_answer(rt, &call!(rt, cone(script.alloc, circuit, numbers))),
-        Question::Reached => print_answer(rt, &call!(rt, reached(circuit, numbers))),
-    }
-}
-
 /// Takes a step of this file, if it is one.
 pub(crate) fn take<R: Print>(rt: &R, script: &Script, line: Line<'_>) -> bool {
-    match find(&STEPS, line.name) {
-        Some(question) => {
-            ask(rt, script, question, line.numbers);
-            true
-        }
-        None => false,
+    let (circuit, numbers) = (&script.circuit, line.numbers);
+    match line.name {
+        "show" => print_circuit(rt, circuit),
+        "get_symbol" => symbol(rt, circuit, numbers),
+        "begins_with" => print(rt, &circuit.begins_with(&script.kept)),
+        "cnf" => cnf(rt, circuit, true),
+        "cnf_raw" => cnf(rt, circuit, false),
+        "fanin_logic_cone" => print_answer(rt, &call!(rt, cone(script.alloc, circuit, numbers))),
+        "coi" => print_answer(rt, &call!(rt, reached(circuit, numbers))),
+        _ => return false,
     }
+    true
 }

@@ -5,31 +5,37 @@ use crate::show::{call, print, print_answer, print_map};
 use crate::words::{Line, find};
 use aig::Aig;
 use aig_base::VarVMap;
+use std::alloc::Global;
 use std::io::Print;
 use std::mem;
 
-/// What is made of a circuit, or changed in it.
-enum Change {
+/// What is made of a circuit.
+enum Making {
     New,
-    Keep,
-    Swap,
     Strash,
     Move,
     UnrollTo,
     Reencode,
+}
+
+/// What is done with the circuit, or with the one that is kept.
+enum Change {
+    Make(Making),
+    Keep,
+    Swap,
     Unroll,
     Merge,
     Constrain,
 }
 
 const STEPS: [(&str, Change); 10] = [
-    ("new", Change::New),
+    ("new", Change::Make(Making::New)),
     ("keep", Change::Keep),
     ("swap", Change::Swap),
-    ("strash", Change::Strash),
-    ("aig_move", Change::Move),
-    ("unroll_to", Change::UnrollTo),
-    ("reencode", Change::Reencode),
+    ("strash", Change::Make(Making::Strash)),
+    ("aig_move", Change::Make(Making::Move)),
+    ("unroll_to", Change::Make(Making::UnrollTo)),
+    ("reencode", Change::Make(Making::Reencode)),
     ("unroll", Change::Unroll),
     ("merge", Change::Merge),
     ("gate_init_to_constraint", Change::Constrain),
@@ -59,16 +65,26 @@ fn unroll(script: &mut Script) -> Result<(), Refusal> {
     Ok(script.circuit.unroll(&script.kept)?)
 }
 
+/// The circuit that is made of another.
+fn made(alloc: Global, aig: &Aig, making: &Making, numbers: &[usize]) -> Result<Aig, Refusal> {
+    let made = match making {
+        Making::New => Aig::new(alloc),
+        Making::Strash => aig.strash(),
+        Making::Move => aig.aig_move(),
+        Making::UnrollTo => return unrolled(aig, numbers),
+        Making::Reencode => return reencoded(aig),
+    };
+    Ok(made?)
+}
+
 /// Takes a step of the table.
-fn make(script: &mut Script, step: &Change, numbers: &[usize]) -> Result<(), Refusal> {
+fn alter(script: &mut Script, step: &Change, numbers: &[usize]) -> Result<(), Refusal> {
     match step {
-        Change::New => script.circuit = Aig::new(script.alloc)?,
+        Change::Make(making) => {
+            script.circuit = made(script.alloc, &script.circuit, making, numbers)?;
+        }
         Change::Keep => script.kept = script.circuit.clone()?,
         Change::Swap => mem::swap(&mut script.circuit, &mut script.kept),
-        Change::Strash => script.circuit = script.circuit.strash()?,
-        Change::Move => script.circuit = script.circuit.aig_move()?,
-        Change::UnrollTo => script.circuit = unrolled(&script.circuit, numbers)?,
-        Change::Reencode => script.circuit = reencoded(&script.circuit)?,
         Change::Unroll => unroll(script)?,
         Change::Merge => script.circuit.merge(&script.kept)?,
         Change::Constrain => script.circuit.gate_init_to_constraint()?,
@@ -95,19 +111,21 @@ fn refine<R: Print>(rt: &R, script: &mut Script) {
     }
 }
 
+/// Replaces the bad edges by one, and prints the old ones.
+fn compress<R: Print>(rt: &R, aig: &mut Aig) {
+    print_answer(rt, &call!(rt, aig.compress_property()));
+}
+
 /// Takes a step of this file, if it is one.
 pub(crate) fn take<R: Print>(rt: &R, script: &mut Script, line: Line<'_>) -> bool {
     if let Some(step) = find(&STEPS, line.name) {
-        print_answer(rt, &call!(rt, make(script, step, line.numbers)));
-        return true;
-    }
-    if line.name == "coi_refine" {
+        print_answer(rt, &call!(rt, alter(script, step, line.numbers)));
+    } else if line.name == "compress_property" {
+        compress(rt, &mut script.circuit);
+    } else if line.name == "coi_refine" {
         refine(rt, script);
-        return true;
+    } else {
+        return false;
     }
-    if line.name == "compress_property" {
-        print_answer(rt, &call!(rt, script.circuit.compress_property()));
-        return true;
-    }
-    false
+    true
 }

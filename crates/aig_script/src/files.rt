@@ -5,10 +5,10 @@ ghost use Rattle.std.specs.Prelude.{◌<◌, ◌≤◌, ◌^◌, IfOk};
 use crate::script::{Refusal, Script};
 use crate::show::{call, print, print_circuit, print_clauses, print_dag, print_title};
 use crate::words::{Line, find};
-use aig::Aig;
+use aig::{Aig, ReadError};
 use aig_base::Parts;
 use aig_encode::{Query, encode, query};
-use std::fmt::Debug;
+use std::alloc::Global;
 use std::fs;
 use std::io::Print;
 use std::path::Path;
@@ -61,7 +61,7 @@ pub(crate) fn source<R: Files + AllocGlobal>(
 }
 
 /// Takes a circuit in place of the one before, or prints why there is none.
-fn take_circuit<R: Print, E: Debug + Drop>(rt: &R, script: &mut Script, made: Result<Aig, E>) {
+fn take_circuit<R: Print>(rt: &R, script: &mut Script, made: Result<Aig, ReadError>) {
     match made {
         Ok(circuit) => script.circuit = circuit,
         Err(error) => print(rt, &error),
@@ -133,6 +133,14 @@ fn print_query<R: Print>(rt: &R, asked: &Query) {
     print_clauses(rt, &asked.extra);
 }
 
+/// Prints the query of a source with further steps, or why there is none.
+fn print_asked<R: Print>(rt: &R, alloc: Global, source: &mut Parts, k: usize, optimize: bool) {
+    match call!(rt, query(alloc, source, MOST, k, optimize)) {
+        Ok(asked) => print_query(rt, &asked),
+        Err(error) => print(rt, &error),
+    }
+}
+
 /// Prints the query of a file with further steps.
 fn query_file<R: Print + Files + AllocGlobal>(
     rt: &R,
@@ -145,10 +153,7 @@ fn query_file<R: Print + Files + AllocGlobal>(
         return Err(Refusal::NotAllowed);
     };
     let mut source = source(rt, path, 7, &[])?;
-    match call!(rt, query(script.alloc, &mut source, MOST, *k, optimize)) {
-        Ok(asked) => print_query(rt, &asked),
-        Err(error) => print(rt, &error),
-    }
+    print_asked(rt, script.alloc, &mut source, *k, optimize);
     Ok(())
 }
 

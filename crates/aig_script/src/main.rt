@@ -29,13 +29,17 @@ use std::process::ExitCode;
 use std::rt::{Env, Files};
 use std::{env, fs};
 
-/// Takes the step of a line on the circuit, if it is one.
-fn take_on_circuit<R: Print + Files + AllocGlobal>(
+/// Takes a step, if it is one.
+fn take_step<R: Print + Files + AllocGlobal>(
     rt: &R,
     script: &mut Script,
+    lists: &mut Lists,
     line: Line<'_>,
 ) -> bool {
-    build::take(rt, script, line)
+    values::take(rt, line)
+        || lists::take(rt, lists, line)
+        || streams::take(rt, script, line)
+        || build::take(rt, script, line)
         || parts::take(rt, &mut script.circuit, line)
         || change::take(rt, script, line)
         || ask::take(rt, script, line)
@@ -57,25 +61,40 @@ fn take_line<R: Print + Files + AllocGlobal>(
         return Ok(());
     };
     show::print_name(rt, line.name);
-    if values::take(rt, line)
-        || lists::take(rt, lists, line)
-        || streams::take(rt, script, line)
-        || take_on_circuit(rt, script, line)
-    {
+    if take_step(rt, script, lists, line) {
         Ok(())
     } else {
         Err(Fault::Step)
     }
 }
 
+/// Takes the steps of a text on circuits and on lists.
+fn take_lines<R: Print + Files + AllocGlobal>(
+    rt: &R,
+    script: &mut Script,
+    lists: &mut Lists,
+    text: &str,
+) -> Result<(), Fault> {
+    for line in text.lines() {
+        take_line(rt, script, lists, line)?;
+    }
+    Ok(())
+}
+
+/// Takes the steps of a text on circuits, and on lists that begin without clauses.
+fn take_on_circuits<R: Print + Files + AllocGlobal>(
+    rt: &R,
+    script: &mut Script,
+    text: &str,
+) -> Result<(), Fault> {
+    let mut lists = Lists::new(script.alloc)?;
+    take_lines(rt, script, &mut lists, text)
+}
+
 /// Takes the steps of a text.
 fn take_all<R: Print + Files + AllocGlobal>(rt: &R, text: &str) -> Result<(), Fault> {
     let mut script = Script::new(rt.alloc())?;
-    let mut lists = Lists::new(rt.alloc())?;
-    for line in text.lines() {
-        take_line(rt, &mut script, &mut lists, line)?;
-    }
-    Ok(())
+    take_on_circuits(rt, &mut script, text)
 }
 
 /// Takes the steps of the file that the first word names.

@@ -4,26 +4,11 @@ ghost use Rattle.std.specs.Prelude.{◌≡◌, All, IfOk, IsTrue, length};
 
 use crate::script::{Refusal, Script};
 use crate::show::{call, print, print_answer};
-use crate::words::{Line, edge, find};
+use crate::words::{Line, edge};
 use aig::{Aig, AigEdge, TernarySimulate};
 use aig_base::Lbool;
 use std::alloc::Global;
 use std::io::Print;
-
-/// What is simulated.
-enum Simulation {
-    Nodes,
-    Steps,
-    All,
-    Rest,
-}
-
-const STEPS: [(&str, Simulation); 4] = [
-    ("ternary_simulate", Simulation::Nodes),
-    ("simulate", Simulation::Steps),
-    ("simulate_all", Simulation::All),
-    ("simulate_rest", Simulation::Rest),
-];
 
 /// The value of a letter: `0`, `1`, or another where it isn't known.
 pub(crate) fn value(letter: u8) -> Lbool {
@@ -72,14 +57,14 @@ fn steps(alloc: Global, words: &[&str]) -> Result<Vec<Vec<Lbool>>, Refusal> {
 }
 
 /// A simulation that begins in the state that a word spells.
-fn begun<'a>(alloc: Global, circuit: &'a Aig, state: &str) -> Result<TernarySimulate<'a>, Refusal>
-    ensures { IfOk result (λ simulation. simulation.circuit ≡ circuit.now) }
+fn begun<'a>(script: &'a Script, state: &str) -> Result<TernarySimulate<'a>, Refusal>
+    ensures { IfOk result (λ simulation. simulation.circuit ≡ script.now.circuit) }
 {
-    let state = values(alloc, state)?;
-    if state.len() != circuit.latchs().len() {
+    let state = values(script.alloc, state)?;
+    if state.len() != script.circuit.latchs().len() {
         return Err(Refusal::NotAllowed);
     }
-    Ok(TernarySimulate::new(circuit, state))
+    Ok(TernarySimulate::new(&script.circuit, state))
 }
 
 /// Values a step.
@@ -134,17 +119,33 @@ fn print_values<R: Print>(rt: &R, circuit: &Aig, simulation: &TernarySimulate<'_
 /// Prints the values of all nodes, and those of a further step with true inputs, which tell the state.
 fn print_state<R: Print>(
     rt: &R,
-    alloc: Global,
-    circuit: &Aig,
+    script: &Script,
     simulation: &mut TernarySimulate<'_>,
 ) -> Result<(), Refusal>
-    requires { simulation.old.circuit ≡ circuit.now }
+    requires { simulation.old.circuit ≡ script.now.circuit }
 {
+    let circuit = &script.circuit;
     print_values(rt, circuit, simulation);
-    let inputs = vec![in alloc; Lbool::TRUE; circuit.inputs().len()]?;
+    let inputs = vec![in script.alloc; Lbool::TRUE; circuit.inputs().len()]?;
     step(circuit, simulation, inputs)?;
     print_values(rt, circuit, simulation);
     Ok(())
+}
+
+/// Values the steps that words spell one by one, and prints the state then.
+fn print_steps<R: Print>(
+    rt: &R,
+    script: &Script,
+    simulation: &mut TernarySimulate<'_>,
+    words: &[&str],
+) -> Result<(), Refusal>
+    requires { simulation.old.circuit ≡ script.now.circuit }
+{
+    for word in words {
+        let inputs = values(script.alloc, word)?;
+        print_answer(rt, &call!(rt, step(&script.circuit, simulation, inputs)));
+    }
+    print_state(rt, script, simulation)
 }
 
 /// Values steps one by one from a state, and prints the state then.
@@ -152,58 +153,64 @@ fn simulate<R: Print>(rt: &R, script: &Script, words: &[&str]) -> Result<(), Ref
     let [state, inputs @ ..] = words else {
         return Err(Refusal::NotAllowed);
     };
-    let (alloc, circuit) = (script.alloc, &script.circuit);
-    let mut simulation = begun(alloc, circuit, state)?;
-    for word in inputs {
-        let inputs = values(alloc, word)?;
-        print_answer(rt, &call!(rt, step(circuit, &mut simulation, inputs)));
-    }
-    print_state(rt, alloc, circuit, &mut simulation)
+    let mut simulation = begun(script, state)?;
+    print_steps(rt, script, &mut simulation, inputs)
 }
 
-/// Prints the values of an edge over steps, from a state.
-fn simulate_all<R: Print>(rt: &R, script: &Script, line: Line<'_>) -> Result<(), Refusal> {
-    let ([e, ..], [_, state, inputs @ ..]) = (line.numbers, line.words) else {
-        return Err(Refusal::NotAllowed);
-    };
-    let circuit = &script.circuit;
-    let mut simulation = begun(script.alloc, circuit, state)?;
-    let (e, steps) = (edge(*e), steps(script.alloc, inputs)?);
+/// Prints the values of an edge over the steps that words spell.
+fn print_all<R: Print>(
+    rt: &R,
+    script: &Script,
+    simulation: &mut TernarySimulate<'_>,
+    e: AigEdge,
+    words: &[&str],
+) -> Result<(), Refusal>
+    requires { simulation.old.circuit ≡ script.now.circuit }
+    ensures { simulation.new.circuit ≡ script.now.circuit }
+{
+    let steps = steps(script.alloc, words)?;
     print_answer(
         rt,
-        &call!(rt, all_steps(circuit, &mut simulation, e, steps)),
+        &call!(rt, all_steps(&script.circuit, simulation, e, steps)),
     );
     Ok(())
 }
 
-/// A simulation that begins in the state that a word spells, and has valued a step with the inputs of another.
-fn begun_with<'a>(
-    alloc: Global,
-    circuit: &'a Aig,
-    state: &str,
-    first: &str,
-) -> Result<TernarySimulate<'a>, Refusal>
-    ensures { IfOk result (λ simulation. simulation.circuit ≡ circuit.now) }
+/// Values a first step, and prints the values of an edge over the steps after it, and the state then.
+fn print_rest<R: Print>(
+    rt: &R,
+    script: &Script,
+    simulation: &mut TernarySimulate<'_>,
+    e: AigEdge,
+    words: &[&str],
+) -> Result<(), Refusal>
+    requires { simulation.old.circuit ≡ script.now.circuit }
 {
-    let mut simulation = begun(alloc, circuit, state)?;
-    let inputs = values(alloc, first)?;
-    step(circuit, &mut simulation, inputs)?;
-    Ok(simulation)
-}
-
-/// Prints the values of an edge over the steps after a first one, and the state then.
-fn simulate_rest<R: Print>(rt: &R, script: &Script, line: Line<'_>) -> Result<(), Refusal> {
-    let ([e, ..], [_, state, first, rest @ ..]) = (line.numbers, line.words) else {
+    let [first, rest @ ..] = words else {
         return Err(Refusal::NotAllowed);
     };
-    let (alloc, circuit) = (script.alloc, &script.circuit);
-    let mut simulation = begun_with(alloc, circuit, state, first)?;
-    let (e, steps) = (edge(*e), steps(alloc, rest)?);
-    print_answer(
-        rt,
-        &call!(rt, all_steps(circuit, &mut simulation, e, steps)),
-    );
-    print_state(rt, alloc, circuit, &mut simulation)
+    let inputs = values(script.alloc, first)?;
+    step(&script.circuit, simulation, inputs)?;
+    print_all(rt, script, simulation, e, rest)?;
+    print_state(rt, script, simulation)
+}
+
+/// Prints the values of an edge over steps from a state, of all or of the rest after a first one.
+fn simulate_edge<R: Print>(
+    rt: &R,
+    script: &Script,
+    line: Line<'_>,
+    all: bool,
+) -> Result<(), Refusal> {
+    let ([e, ..], [_, state, inputs @ ..]) = (line.numbers, line.words) else {
+        return Err(Refusal::NotAllowed);
+    };
+    let mut simulation = begun(script, state)?;
+    if all {
+        print_all(rt, script, &mut simulation, edge(*e), inputs)
+    } else {
+        print_rest(rt, script, &mut simulation, edge(*e), inputs)
+    }
 }
 
 /// Prints the values of all nodes.
@@ -214,14 +221,12 @@ fn ternary_simulate<R: Print>(rt: &R, script: &Script, words: &[&str]) -> Result
 
 /// Takes a step of this file, if it is one.
 pub(crate) fn take<R: Print>(rt: &R, script: &Script, line: Line<'_>) -> bool {
-    let Some(step) = find(&STEPS, line.name) else {
-        return false;
-    };
-    let taken = match step {
-        Simulation::Nodes => ternary_simulate(rt, script, line.words),
-        Simulation::Steps => simulate(rt, script, line.words),
-        Simulation::All => simulate_all(rt, script, line),
-        Simulation::Rest => simulate_rest(rt, script, line),
+    let taken = match line.name {
+        "ternary_simulate" => ternary_simulate(rt, script, line.words),
+        "simulate" => simulate(rt, script, line.words),
+        "simulate_all" => simulate_edge(rt, script, line, true),
+        "simulate_rest" => simulate_edge(rt, script, line, false),
+        _ => return false,
     };
     if let Err(refusal) = taken {
         print(rt, &refusal);

@@ -1,5 +1,5 @@
 use Rattle.std.proofs.Common.{◌≡◌}
-use Rattle.aig_script.proofs.simulation.simulate.Given as goal
+use Rattle.aig_script.proofs.simulation.print_steps.Given as goal
 
 -- what is simulated stays
 abbrev pub invariant-loop-word : goal.invariant-loop-word
