@@ -117,9 +117,9 @@ impl Aig {
     /// let file = b"aag 3 2 0 1 1\n2\n4\n6\n6 4 2\n";
     /// let mut source = FromRead::new(file.as_slice());
     /// let aig = Aig::from_aiger(alloc, &mut source, 1 << 24)?;
-    /// assert_eq!(rt; aig.num_nodes(), 4);
-    /// assert_eq!(rt; aig.inputs(), [1, 2].as_slice());
-    /// assert_eq!(rt; aig.outputs(), [AigEdge::from(3)].as_slice());
+    /// assert!(rt; aig.num_nodes() == 4);
+    /// assert!(rt; aig.inputs() == [1, 2].as_slice());
+    /// assert!(rt; aig.outputs() == [AigEdge::from(3)].as_slice());
     /// ```
     pub fn from_aiger<R: Source>(alloc: Global, r: &mut R, limit: usize) -> Result<Aig, ReadError>
         requires some { 1 ≤ limit }

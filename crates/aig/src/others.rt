@@ -59,9 +59,8 @@ impl Aig {
     /// ```
     /// let aig = read(alloc, b"aag 2 2 0 1 0\n2\n4\n4\n")?;
     /// let (refined, old_numbers) = aig.coi_refine()?;
-    /// assert_eq!(rt; refined.num_nodes(), 2);
-    /// assert_eq!(rt; refined.outputs(), [AigEdge::from(1)].as_slice());
-    /// assert_eq!(rt; old_numbers.get(Var::new(1)), Some(Var::new(2)));
+    /// assert!(rt; refined.num_nodes() == 2 && refined.outputs() == [AigEdge::from(1)].as_slice());
+    /// assert!(rt; old_numbers.get(Var::new(1)) == Some(Var::new(2)));
     /// ```
     pub fn coi_refine(&self) -> Result<(Aig, VarVMap), MemoryError>
         requires { length self.now.nodes ≤ 2 ^ 31 }
@@ -92,8 +91,7 @@ impl Aig {
     /// let copy = both.clone()?;
     /// both.merge(&copy)?;
     /// let (first, second) = (AigEdge::from(3), AigEdge::from(6));
-    /// assert_eq!(rt; both.num_nodes(), 7);
-    /// assert_eq!(rt; both.outputs(), [first, second].as_slice());
+    /// assert!(rt; both.num_nodes() == 7 && both.outputs() == [first, second].as_slice());
     /// ```
     pub fn merge(&mut self, other: &Aig) -> Result<(), MemoryError>
         ensures exact { OnOk result (self.new ≡ merged self.old other.now) }
@@ -233,8 +231,7 @@ impl Aig {
     /// let toggle = read(alloc, b"aag 1 0 1 1 0\n2 3\n2\n")?;
     /// let unrolled = toggle.unroll_to(1)?;
     /// let latch = AigEdge::from(1);
-    /// assert_eq!(rt; unrolled.num_nodes(), 2);
-    /// assert_eq!(rt; unrolled.outputs(), [latch, !latch].as_slice());
+    /// assert!(rt; unrolled.num_nodes() == 2 && unrolled.outputs() == [latch, !latch].as_slice());
     /// ```
     pub fn unroll_to(&self, k: usize) -> Result<Aig, MemoryError>
         // The receiver is a circuit, so that what a law says of circuits holds of it.

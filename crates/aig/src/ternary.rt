@@ -136,13 +136,13 @@ impl<'a> TernarySimulate<'a> {
     /// A latch that toggles, from false; `read` reads a file by `Aig::from_aiger`:
     ///
     /// ```
+    /// let state = vec![in alloc; Lbool::FALSE]?;
+    /// let steps = vec![in alloc; Vec::new(alloc), Vec::new(alloc)]?;
     /// let toggle = read(alloc, b"aag 1 0 1 1 0\n2 3\n2\n")?;
     /// let latch = AigEdge::from(1);
     /// assert!(rt; toggle.latchs().len() == 1 && toggle.inputs().len() == 0 && toggle.has_edge(latch));
-    /// let mut simulation = TernarySimulate::new(&toggle, vec![in alloc; Lbool::FALSE]?);
-    /// let steps = vec![in alloc; Vec::new(alloc), Vec::new(alloc)]?;
-    /// let values = simulation.simulate_all(steps, latch)?;
-    /// assert_eq!(rt; values.as_slice(), [Lbool::FALSE, Lbool::TRUE].as_slice());
+    /// let values = TernarySimulate::new(&toggle, state).simulate_all(steps, latch)?;
+    /// assert!(rt; values.as_slice() == [Lbool::FALSE, Lbool::TRUE].as_slice());
     /// ```
     pub fn simulate_all(
         &mut self,

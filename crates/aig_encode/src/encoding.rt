@@ -54,9 +54,8 @@ pub struct Encoded {
 /// let mut source = FromRead::new(file.as_slice());
 /// let encoded = encode(alloc, &mut source, 1 << 24, 1, true)?;
 /// let latch = AigEdge::from(1);
-/// assert_eq!(rt; encoded.unrolled.outputs(), [latch, !latch].as_slice());
-/// let clauses = &encoded.clauses;
-/// assert_eq!(rt; (clauses.num_vars(), clauses.num_clauses()), (2, 1));
+/// assert!(rt; encoded.unrolled.outputs() == [latch, !latch].as_slice());
+/// assert!(rt; encoded.clauses.num_vars() == 2 && encoded.clauses.num_clauses() == 1);
 /// ```
 pub fn encode<R: Source>(
     alloc: Global,

@@ -44,11 +44,10 @@ use std::alloc::Global;
 /// ```
 /// let file = b"aag 1 0 1 0 0 1\n2 3\n2\n";
 /// let mut source = FromRead::new(file.as_slice());
-/// let asked = query(alloc, &mut source, 1 << 24, 1, true)?;
-/// let latch = Var::new(1).lit();
-/// assert!(rt; asked.extra.len() == 2);
-/// assert_eq!(rt; asked.extra.clause(0), [!latch].as_slice());
-/// assert_eq!(rt; asked.extra.clause(1), [!latch].as_slice());
+/// let extra = query(alloc, &mut source, 1 << 24, 1, true)?.extra;
+/// let unit = [!Var::new(1).lit()];
+/// assert!(rt; extra.len() == 2);
+/// assert!(rt; extra.clause(0) == unit.as_slice() && extra.clause(1) == unit.as_slice());
 /// ```
 pub fn query<R: Source>(
     alloc: Global,

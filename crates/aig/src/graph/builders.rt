@@ -66,8 +66,8 @@ impl Aig {
     /// let both = aig.new_and_node(x, y)?;
     /// let again = aig.new_and_node(x, y)?;
     /// let never = aig.new_and_node(x, !x)?;
-    /// assert_eq!(rt; (both, again), (AigEdge::from(3), AigEdge::from(4)));
-    /// assert_eq!(rt; (never, aig.num_nodes()), (AigEdge::constant(false), 5));
+    /// let edges = (AigEdge::from(3), AigEdge::from(4), AigEdge::constant(false));
+    /// assert!(rt; (both, again, never) == edges && aig.num_nodes() == 5);
     /// ```
     pub fn new_and_node(&mut self, fanin0: AigEdge, fanin1: AigEdge) -> Result<AigEdge, MemoryError>
         requires first { IsInRange self.old.nodes fanin0 }

@@ -66,18 +66,18 @@ fn put_once<W: Sink>(w: &mut W, piece: &[u8]) -> Result<usize, StreamFault> {
 fn fails_where_interrupted(rt: HostRuntime) {
     let mut buf = [0u8; 2];
     let mut source = FromRead::new(Interrupted);
-    assert_eq!(rt; pull_once(&mut source, &mut buf), Err(StreamFault::Failed));
-    assert_eq!(rt; pull_once(&mut source, &mut buf), Err(StreamFault::Failed));
+    assert!(rt; pull_once(&mut source, &mut buf) == Err(StreamFault::Failed));
+    assert!(rt; pull_once(&mut source, &mut buf) == Err(StreamFault::Failed));
     let mut sink = ToWrite::new(Interrupted);
-    assert_eq!(rt; put_once(&mut sink, b"a"), Err(StreamFault::Failed));
-    assert_eq!(rt; put_once(&mut sink, b""), Err(StreamFault::Failed));
+    assert!(rt; put_once(&mut sink, b"a") == Err(StreamFault::Failed));
+    assert!(rt; put_once(&mut sink, b"") == Err(StreamFault::Failed));
 }
 
 #[test]
 fn fails_where_no_byte_is_taken(rt: HostRuntime) {
     let mut sink = ToWrite::new(Idle);
-    assert_eq!(rt; put_once(&mut sink, b""), Ok(0));
-    assert_eq!(rt; put_once(&mut sink, b"a"), Err(StreamFault::Failed));
+    assert!(rt; put_once(&mut sink, b"") == Ok(0));
+    assert!(rt; put_once(&mut sink, b"a") == Err(StreamFault::Failed));
 }
 
 /// A reader that gives its bytes, then its end if it ends, and is interrupted from then on.
@@ -124,9 +124,12 @@ fn tells_a_reader_that_breaks(rt: HostRuntime) {
     for bytes in [AND, BINARY_AND] {
         for j in 0..bytes.len() + 1 {
             let broken = faults(rt.alloc(), &bytes[..j], false);
-            assert_eq!(rt; broken, (Some(fault), refused, refused), "after {j} bytes");
+            assert!(rt;
+                broken == (Some(fault), refused, refused),
+                "after {j} bytes"
+            );
         }
-        assert_eq!(rt; faults(rt.alloc(), bytes, true), (None, None, None));
+        assert!(rt; faults(rt.alloc(), bytes, true) == (None, None, None));
     }
 }
 
@@ -134,13 +137,13 @@ fn tells_a_reader_that_breaks(rt: HostRuntime) {
 fn tells_a_writer_that_breaks(rt: HostRuntime) -> Result<(), Fail> {
     let circuit = read(rt.alloc(), AND)?;
     let fault = Err(WriteError::Stream);
-    let mut broken = ToWrite::new(Interrupted);
-    assert_eq!(rt; circuit.write_text(&mut broken), fault);
-    let mut broken = ToWrite::new(Interrupted);
-    assert_eq!(rt; circuit.write_binary(&mut broken), fault);
-    let mut idle = ToWrite::new(Idle);
-    assert_eq!(rt; circuit.write_text(&mut idle), fault);
-    let mut idle = ToWrite::new(Idle);
-    assert_eq!(rt; circuit.write_binary(&mut idle), fault);
+    let (mut text, mut binary) = (ToWrite::new(Interrupted), ToWrite::new(Interrupted));
+    assert!(rt;
+        circuit.write_text(&mut text) == fault && circuit.write_binary(&mut binary) == fault
+    );
+    let (mut text, mut binary) = (ToWrite::new(Idle), ToWrite::new(Idle));
+    assert!(rt;
+        circuit.write_text(&mut text) == fault && circuit.write_binary(&mut binary) == fault
+    );
     Ok(())
 }
