@@ -65,16 +65,11 @@ fn write_steps<W: Sink>(aig: &Aig, w: &mut W) -> Result<(), SampleError> {
     Ok(steps.write_text(w)?)
 }
 
-/// Adds a bad state to a circuit, and writes two steps of it, hashed, to `w`.
-fn write_bad_state<W: Sink>(circuit: &mut Aig, w: &mut W) -> Result<(), SampleError> {
-    add_bad_state(circuit)?;
-    write_steps(&circuit.strash()?, w)
-}
-
 /// Reads a circuit from `r`, and writes two steps of its cone of influence to `w`.
 fn show<R: Source, W: Sink>(alloc: Global, r: &mut R, w: &mut W) -> Result<(), SampleError> {
-    let (mut cone, _) = Aig::from_aiger(alloc, r, 1 << 24)?.coi_refine()?;
-    write_bad_state(&mut cone, w)
+    let (mut circuit, _) = Aig::from_aiger(alloc, r, 1 << 24)?.coi_refine()?;
+    add_bad_state(&mut circuit)?;
+    write_steps(&circuit.strash()?, w)
 }
 
 /// Writes the counter and two steps of it, and then those of the circuit of `r`.
