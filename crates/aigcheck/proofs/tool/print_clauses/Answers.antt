@@ -31,6 +31,6 @@ returns-in-Ok g c =
     prints g.R.Source.left g.R.Source.failed g.W.Sink.held g.W.Sink.failed
     (commands.Clauses c.args.k c.args.optimize) _ _ c.args.r.now c.args.w.now _ _ {X = Query}
     (IsQuery c.args.k c.args.optimize) q c.in-Ok.ensures.exact q.encoded.circuit.properties.bads
-    (IsQueryText q c.args.k) o.file o.bytes o.holds (bads_alike o.file q.encoded.circuit _ o.means.0.of_file refl) o.taken
+    (IsQueryText q c.args.k) o.file o.bytes o.holds (bads_alike o.file q.encoded.circuit o.means.0.of_file) o.taken
     (λ text is. record { query = q; asks = o.means; exact = is }) c.print_query.result
     c.print_query.ensures

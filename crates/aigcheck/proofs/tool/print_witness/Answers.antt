@@ -24,7 +24,7 @@ returns-in-Ok-clause-runs g c =
     prints g.R.Source.left g.R.Source.failed g.W.Sink.held g.W.Sink.failed
     (commands.Witness c.args.k c.args.optimize) _ _ c.args.r.now c.args.w.now _ _ {X = Query}
     (IsQuery c.args.k c.args.optimize) c.in-Ok.asked c.in-Ok.ensures.exact c.in-Ok.asked.encoded.circuit.properties.bads
-    (IsKnownText c.in-Ok.asked.encoded.circuit c.args.k) o.file o.bytes o.holds (bads_alike o.file c.in-Ok.asked.encoded.circuit _ o.means.0.of_file refl) o.taken
+    (IsKnownText c.in-Ok.asked.encoded.circuit c.args.k) o.file o.bytes o.holds (bads_alike o.file c.in-Ok.asked.encoded.circuit o.means.0.of_file) o.taken
     (λ text is.
     let known = subst (λ (d : Circuit). IsKnownWitness d is.witness) o.means.0.of_file is.known in
     record { witness = is.witness; steps = is.steps; shows = c.known_witnesses_show.ensures o.file LIMIT is.witness o.holds.0.1 known; exact = is.exact })
