@@ -1,6 +1,6 @@
 //! Clauses in one piece of memory.
 
-ghost use Rattle.std.specs.Prelude.{◌<◌, IfSome, length};
+ghost use Rattle.std.specs.Prelude.{◌<◌, ◌≤◌, IfSome, length};
 
 use crate::trail::Trail;
 use aig_base::{Lit, MemoryError};
@@ -12,7 +12,7 @@ const HEADER: usize = 5;
 /// The word that says how many literals a clause has.
 const LENGTH: usize = 0;
 
-/// The word of a clause's number, which is 0 once it is removed.
+/// The word of a clause's number.
 const NUMBER: usize = 1;
 
 /// The word of the next clause with the same hash, by its place; 0 is the place of none.
@@ -22,13 +22,53 @@ const NEXT: usize = 2;
 /// watched.
 const TURN: usize = 3;
 
-/// The word that says when a clause was used last, or 0 where it isn't recent.
+/// The bit of that word that is 1 while the clause is claimed.
+const CLAIMED: u32 = 1 << 31;
+
+/// The word that says when a clause was used last: 0 where it isn't recent, and `REMOVED` once it is
+/// removed.
 const USED: usize = 4;
+
+/// The word `USED` of a removed clause.
+const REMOVED: u32 = u32::MAX;
+
+/// How many literals a short clause has at most. All of them are watched.
+pub(crate) const MOST_OF_SHORT: u32 = 3;
+
+/// A kind of clauses, which have lists of their own: those whose word `USED` lies between two.
+#[derive(Clone, Copy)]
+pub(crate) struct Kind {
+    first: u32,
+    last: u32,
+}
+
+/// Clauses that are there. The short ones have lists of their own.
+pub(crate) const SHORT: Kind = Kind {
+    first: 0,
+    last: REMOVED - 1,
+};
+
+/// Clauses that are recent.
+pub(crate) const RECENT: Kind = Kind {
+    first: 1,
+    last: REMOVED - 1,
+};
+
+/// Clauses that aren't.
+pub(crate) const REST: Kind = Kind { first: 0, last: 0 };
+
+impl Kind {
+    /// Whether a clause with this word `USED` is of this kind.
+    #[inline(always)]
+    fn has(self, used: u32) -> bool {
+        self.first <= used && used <= self.last
+    }
+}
 
 /// What a look at a clause finds, one of whose watched literals is false now.
 pub(crate) enum Look {
-    /// The clause was removed.
-    Removed,
+    /// The clause is of another kind, or doesn't watch the literal.
+    Stale,
     /// This other watched literal is true.
     True(Lit),
     /// The clause watches the literal `next` from now on, beside this other one.
@@ -63,24 +103,35 @@ fn next_open(lits: &[u32], turn: usize, trail: &Trail) -> Option<usize>
     open_from(&lits[..turn.min(lits.len())], 0, trail)
 }
 
-/// Looks at the clause whose words come first here, as `Clauses::look` does.
+/// The other watched literal of the clause whose words come first here, if the clause is of this
+/// kind and watches this one.
 #[inline(always)]
-fn look_at(words: &mut [u32], lit: Lit, trail: &Trail) -> Look {
-    if words.len() < HEADER + 2 || words[NUMBER] == 0 {
-        return Look::Removed;
+fn other_watched(words: &[u32], lit: Lit, kind: Kind) -> Option<Lit>
+    ensures { IfSome result (λ other. 7 ≤ length words.now) }
+{
+    if words.len() < HEADER + 2 || !kind.has(words[USED]) {
+        return None;
     }
     let first = Lit::from(words[HEADER]);
-    let other = if first == lit {
-        Lit::from(words[HEADER + 1])
-    } else {
-        first
+    let second = Lit::from(words[HEADER + 1]);
+    if first == lit {
+        return Some(second);
+    }
+    if second == lit { Some(first) } else { None }
+}
+
+/// Looks at the clause whose words come first here, as `Clauses::look` does.
+#[inline(always)]
+fn look_at(words: &mut [u32], lit: Lit, kind: Kind, trail: &Trail) -> Look {
+    let Some(other) = other_watched(words, lit, kind) else {
+        return Look::Stale;
     };
     if trail.is_true(other) {
         return Look::True(other);
     }
     let end = HEADER + words[LENGTH] as usize;
     if end < HEADER + 2 || end > words.len() {
-        return Look::Removed;
+        return Look::Stale;
     }
     let turn = words[TURN] as usize;
     let Some(i) = next_open(&words[HEADER + 2..end], turn, trail) else {
@@ -146,9 +197,15 @@ impl Clauses {
         self.removed > self.words.len() / 2 && self.removed > least
     }
 
-    /// The number of a clause, or 0 where it was removed.
+    /// The number of a clause.
     pub(crate) fn number(&self, place: u32) -> u32 {
         self.word(place as usize + NUMBER)
+    }
+
+    /// Whether a clause wasn't removed.
+    #[inline(always)]
+    pub(crate) fn is_there(&self, place: u32) -> bool {
+        self.used(place) != REMOVED
     }
 
     /// How many literals a clause has.
@@ -193,7 +250,29 @@ impl Clauses {
 
     /// Says when a clause was used last.
     pub(crate) fn set_used(&mut self, place: u32, time: u32) {
-        self.put(place as usize + USED, time);
+        self.put(place as usize + USED, time.min(REMOVED - 1));
+    }
+
+    /// Whether a clause watches this one of its literals.
+    fn watches(&self, place: u32, lit: Lit) -> bool {
+        self.len(place) <= MOST_OF_SHORT || self.lit(place, 0) == lit || self.lit(place, 1) == lit
+    }
+
+    /// Claims a clause, and says whether it is of this kind, watches this one of its literals, and
+    /// wasn't claimed before.
+    pub(crate) fn claim(&mut self, place: u32, lit: Lit, kind: Kind) -> bool {
+        let turn = self.word(place as usize + TURN);
+        if turn & CLAIMED != 0 || !kind.has(self.used(place)) || !self.watches(place, lit) {
+            return false;
+        }
+        self.put(place as usize + TURN, turn | CLAIMED);
+        true
+    }
+
+    /// Lets a clause be claimed again.
+    pub(crate) fn release(&mut self, place: u32) {
+        let turn = self.word(place as usize + TURN);
+        self.put(place as usize + TURN, turn & !CLAIMED);
     }
 
     /// The place of the first clause, whether removed or not, if there is one.
@@ -237,7 +316,7 @@ impl Clauses {
     /// Removes a clause. Its memory is free after the next `compact`.
     pub(crate) fn remove(&mut self, place: u32) {
         let size = HEADER + self.len(place) as usize;
-        self.put(place as usize + NUMBER, 0);
+        self.put(place as usize + USED, REMOVED);
         self.count = self.count.saturating_sub(1);
         self.removed = self.removed.saturating_add(size);
     }
@@ -259,7 +338,7 @@ impl Clauses {
                 break;
             };
             next = self.following(place);
-            if self.number(place) != 0 {
+            if self.is_there(place) {
                 let size = HEADER + self.len(place) as usize;
                 self.move_words(place as usize, end, size);
                 end = size.saturating_add(end);
@@ -292,12 +371,12 @@ impl Clauses {
         found
     }
 
-    /// Looks at a clause one of whose watched literals is this one, which is false now. Where the
-    /// other isn't true, it watches a further literal that isn't false in its place, if there is
-    /// one. The look for that goes on where the last one ended.
+    /// Looks at a clause of this kind one of whose watched literals is this one, which is false now.
+    /// Where the other isn't true, it watches a further literal that isn't false in its place, if
+    /// there is one. The look for that goes on where the last one ended.
     #[inline(always)]
-    pub(crate) fn look(&mut self, place: u32, lit: Lit, trail: &Trail) -> Look {
+    pub(crate) fn look(&mut self, place: u32, lit: Lit, kind: Kind, trail: &Trail) -> Look {
         let start = (place as usize).min(self.words.len());
-        look_at(&mut self.words[start..], lit, trail)
+        look_at(&mut self.words[start..], lit, kind, trail)
     }
 }

@@ -5,6 +5,9 @@ use crate::marked::Marked;
 use aig_base::{Lit, MemoryError};
 use std::alloc::Global;
 
+/// How many clauses of one place in the table are looked at, to find one.
+const MOST_LOOKS: usize = 64;
+
 /// Finds clauses by their literals, in whatever order these are: for each hash the last clause that
 /// has it, or 0.
 #[derive(Drop)]
@@ -100,7 +103,7 @@ impl Index {
             let Some(place) = next else {
                 break;
             };
-            if clauses.number(place) != 0 {
+            if clauses.is_there(place) {
                 let hash = hash_at(clauses, place);
                 self.link(clauses, place, hash);
             }
@@ -108,12 +111,14 @@ impl Index {
         }
     }
 
-    /// Finds a clause of these literals, if there is one, and finds it no more.
+    /// Finds a clause of these literals, and finds it no more. Of those with its place in the table
+    /// the last `MOST_LOOKS` are looked at, since whoever writes a proof can choose clauses of one
+    /// place: a clause behind these isn't found, and stays. Of equal ones the last is found first.
     pub(crate) fn take(&mut self, clauses: &mut Clauses, lits: &Marked) -> Option<u32> {
         let slot = self.slot(hash_of(lits.lits()));
         let mut place = *self.last.get(slot)?;
         let mut before = 0;
-        for _ in 0..clauses.size() {
+        for _ in 0..MOST_LOOKS {
             if place == 0 {
                 break;
             }

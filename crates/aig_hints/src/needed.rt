@@ -12,7 +12,9 @@ const BITS: usize = 64;
 pub(crate) struct Needed {
     /// A bit for each literal.
     words: Vec<u64>,
-    /// How many of the words may have a bit.
+    /// The first of the words that may have a bit.
+    start: usize,
+    /// How many of the words may have one, with those before it.
     end: usize,
 }
 
@@ -20,11 +22,17 @@ impl Needed {
     /// No literals, of so many.
     pub(crate) fn new(alloc: Global, count: usize) -> Result<Needed, MemoryError> {
         let words = vec![in alloc; 0; count / BITS + 1]?;
-        Ok(Needed { words, end: 0 })
+        Ok(Needed {
+            words,
+            start: 0,
+            end: 0,
+        })
     }
 
-    /// Says that literals will be added to an empty set of which so many are true.
-    pub(crate) fn start(&mut self, count: usize) {
+    /// Says that literals will be added to an empty set that stand from `first` on, of `count` true
+    /// ones.
+    pub(crate) fn start(&mut self, first: usize, count: usize) {
+        self.start = first / BITS;
         self.end = count / BITS + 1;
     }
 
@@ -44,7 +52,7 @@ impl Needed {
 
     /// Where the last literal stands, if there is one.
     pub(crate) fn last(&mut self) -> Option<usize> {
-        for i in (0..self.end.min(self.words.len())).rev() {
+        for i in (self.start..self.end.min(self.words.len())).rev() {
             if let Some(bit) = self.words[i].checked_ilog2() {
                 self.end = i + 1;
                 return Some(i.saturating_mul(BITS).saturating_add(bit as usize));

@@ -1,6 +1,6 @@
 //! The search for hints.
 
-use crate::clauses::Clauses;
+use crate::clauses::{Clauses, MOST_OF_SHORT, RECENT, REST, SHORT};
 use crate::index::Index;
 use crate::marked::Marked;
 use crate::needed::Needed;
@@ -13,9 +13,6 @@ use std::mem;
 /// A clause that isn't used in so many searches is recent no more, which is looked at once in as
 /// many.
 const PERIOD: u32 = 200;
-
-/// How many literals a short clause has at most.
-const MOST_OF_SHORT: u32 = 3;
 
 /// Finds hints by unit propagation: of each clause two literals are watched, and literals that
 /// follow from the clauses alone stay true from then on (Moskewicz, Madigan, Zhao, Zhang and Malik:
@@ -45,6 +42,8 @@ pub struct Search {
     marked: Marked,
     /// The literals for whose values clauses are to be collected.
     needed: Needed,
+    /// The numbers of the clauses that were collected, from the last one to be used on.
+    chain: Vec<u32>,
     /// For each variable the number of the clause that has its literal alone, or 0 where there is
     /// none.
     units: Vec<u32>,
@@ -54,6 +53,12 @@ pub struct Search {
     conflict: Option<u32>,
 }
 
+/// The number of the clause that has a variable's literal alone, or 0.
+fn unit_of(units: &[u32], lit: Lit) -> u32 {
+    let i = usize::from(lit.var());
+    if i < units.len() { units[i] } else { 0 }
+}
+
 impl Search {
     /// No clauses, of so many variables.
     pub fn new(alloc: Global, variables: usize) -> Result<Search, MemoryError> {
@@ -61,12 +66,13 @@ impl Search {
         Ok(Search {
             alloc,
             clauses: Clauses::new(alloc)?,
-            shorts: Shorts::new(alloc, literals)?,
-            recent: Longs::new(alloc, literals)?,
-            rest: Longs::new(alloc, literals)?,
+            shorts: Shorts::new(alloc, literals, SHORT)?,
+            recent: Longs::new(alloc, literals, RECENT)?,
+            rest: Longs::new(alloc, literals, REST)?,
             trail: Trail::new(alloc, variables)?,
             marked: Marked::new(alloc, literals)?,
             needed: Needed::new(alloc, variables)?,
+            chain: Vec::new(alloc),
             units: vec![in alloc; 0; variables]?,
             recent_places: Vec::new(alloc),
             index: Index::new(alloc),
@@ -74,16 +80,6 @@ impl Search {
             named: 0,
             conflict: None,
         })
-    }
-
-    /// The number of the clause that has a variable's literal alone, or 0.
-    fn unit(&self, lit: Lit) -> u32 {
-        let i = usize::from(lit.var());
-        if i < self.units.len() {
-            self.units[i]
-        } else {
-            0
-        }
     }
 
     /// Says which clause has this literal alone.
@@ -152,20 +148,20 @@ impl Search {
         if was_recent {
             return Ok(());
         }
-        self.rest.remove(&self.clauses, place, 2);
+        self.rest.end(&mut self.clauses, place, 2);
         self.watch(place)
     }
 
     /// Lets a clause be recent no more that was not used for long, and says whether it still is.
     fn stays_recent(&mut self, place: u32) -> Result<bool, MemoryError> {
-        if self.clauses.number(place) == 0 {
+        if !self.clauses.is_there(place) {
             return Ok(false);
         }
         if self.searches.saturating_sub(self.clauses.used(place)) <= PERIOD {
             return Ok(true);
         }
-        self.recent.remove(&self.clauses, place, 2);
         self.clauses.set_used(place, 0);
+        self.recent.end(&mut self.clauses, place, 2);
         self.watch(place)?;
         Ok(false)
     }
@@ -186,7 +182,9 @@ impl Search {
     fn propagate_shorts(&mut self) -> Option<u32> {
         for _ in 0..self.units.len() {
             let lit = self.shorts.next(&self.trail)?;
-            let conflict = self.shorts.visit_shorts(!lit, &mut self.trail);
+            let conflict = self
+                .shorts
+                .visit_shorts(!lit, &self.clauses, &mut self.trail);
             if conflict.is_some() {
                 return conflict;
             }
@@ -240,7 +238,7 @@ impl Search {
     fn assume_false(&mut self, clause: &[Lit]) -> Result<Option<u32>, MemoryError> {
         for lit in clause.iter().rev() {
             if self.trail.is_true(*lit) {
-                let unit = self.unit(*lit);
+                let unit = unit_of(&self.units, *lit);
                 if unit != 0 {
                     return Ok(Some(unit));
                 }
@@ -251,59 +249,53 @@ impl Search {
         Ok(None)
     }
 
-    /// Collects a clause, for whose literals clauses are needed then.
-    fn collect(&mut self, place: u32, hints: &mut Vec<u32>) -> Result<(), MemoryError> {
-        self.make_recent(place)?;
-        hints.push(self.clauses.number(place))?;
-        for word in self.clauses.lits(place) {
-            self.needed.add(self.trail.order(Lit::from(*word)));
-        }
-        Ok(())
-    }
-
-    /// Collects the clause of the literal that stands here on the trail, if it has one. The first
-    /// `fixed` ones have clauses of their own.
-    fn collect_at(
+    /// Collects a clause. The first `fixed` literals of the trail have clauses of their own, which
+    /// become hints at once, each of them once; for the other literals clauses are needed then.
+    fn collect(
         &mut self,
-        i: usize,
+        place: u32,
         fixed: usize,
         hints: &mut Vec<u32>,
     ) -> Result<(), MemoryError> {
-        let Some(lit) = self.trail.get(i) else {
-            return Ok(());
-        };
-        if i < fixed {
-            let unit = self.unit(lit);
-            if unit != 0 {
-                hints.push(unit)?;
+        self.make_recent(place)?;
+        self.chain.push(self.clauses.number(place))?;
+        for word in self.clauses.lits(place) {
+            let lit = Lit::from(*word);
+            let i = self.trail.order(lit);
+            if i >= fixed {
+                self.needed.add(i);
+            } else if self.marked.add(lit)? {
+                hints.push(unit_of(&self.units, lit))?;
             }
-            return Ok(());
-        }
-        let reason = self.trail.reason(i);
-        if reason != 0 {
-            self.collect(reason, hints)?;
         }
         Ok(())
     }
 
     /// Collects the clauses from which it follows that all literals of a clause are false, and that
-    /// clause after them. The first `fixed` literals of the trail have clauses of their own.
+    /// clause after them. The first `fixed` literals of the trail have clauses of their own, which
+    /// come first; the others come in the order in which their literals became true.
     fn explain(
         &mut self,
         place: u32,
         fixed: usize,
         hints: &mut Vec<u32>,
     ) -> Result<(), MemoryError> {
-        self.needed.start(self.trail.len());
-        self.collect(place, hints)?;
-        for _ in 0..self.trail.len() {
+        self.marked.clear();
+        self.chain.clear();
+        self.needed.start(fixed, self.trail.len());
+        self.collect(place, fixed, hints)?;
+        for _ in fixed..self.trail.len() {
             let Some(i) = self.needed.last() else {
                 break;
             };
-            self.collect_at(i, fixed, hints)?;
+            let reason = self.trail.reason(i);
+            if reason != 0 {
+                self.collect(reason, fixed, hints)?;
+            }
             self.needed.remove(i);
         }
-        hints.reverse();
+        self.chain.reverse();
+        hints.extend_from_slice(&self.chain)?;
         Ok(())
     }
 
@@ -350,19 +342,32 @@ impl Search {
         Ok(found)
     }
 
+    /// Collects the clause that gave a literal its value, behind those that have the inverses of its
+    /// other literals alone.
+    fn explain_unit(&self, lit: Lit, reason: u32, hints: &mut Vec<u32>) -> Result<(), MemoryError> {
+        for word in self.clauses.lits(reason) {
+            let other = Lit::from(*word);
+            if other != lit {
+                hints.push(unit_of(&self.units, other))?;
+            }
+        }
+        hints.push(self.clauses.number(reason))?;
+        Ok(())
+    }
+
     /// The next literal that follows from the clauses, and is not the one literal of any, with
     /// hints for the clause that has it alone. `name_unit` is to give that clause a number.
+    ///
+    /// Literals are answered in the order of the trail, so those from which this one follows have
+    /// clauses of their own.
     pub fn next_unit(&mut self, hints: &mut Vec<u32>) -> Result<Option<Lit>, MemoryError> {
         hints.clear();
         let fixed = self.trail.len();
         for i in self.named..fixed {
             self.named = i;
             if let Some(lit) = self.trail.get(i) {
-                if self.unit(lit) == 0 {
-                    let reason = self.trail.reason(i);
-                    if reason != 0 {
-                        self.explain(reason, fixed, hints)?;
-                    }
+                if unit_of(&self.units, lit) == 0 {
+                    self.explain_unit(lit, self.trail.reason(i), hints)?;
                     return Ok(Some(lit));
                 }
             }
@@ -389,16 +394,26 @@ impl Search {
             return Ok(None);
         };
         let number = self.clauses.number(place);
-        self.clauses.remove(place);
-        let len = self.clauses.len(place);
-        if len <= MOST_OF_SHORT {
-            self.shorts.remove(&self.clauses, place, len);
-        }
+        self.take_out(place);
         let tables = self.rest.size().saturating_add(self.index.size());
         if self.clauses.is_sparse(tables) {
             self.compact()?;
         }
         Ok(Some(number))
+    }
+
+    /// Removes a clause, and ends its watches.
+    fn take_out(&mut self, place: u32) {
+        let used = self.clauses.used(place);
+        let len = self.clauses.len(place);
+        self.clauses.remove(place);
+        if len <= MOST_OF_SHORT {
+            self.shorts.end(&mut self.clauses, place, len);
+        } else if used == 0 {
+            self.rest.end(&mut self.clauses, place, 2);
+        } else {
+            self.recent.end(&mut self.clauses, place, 2);
+        }
     }
 
     /// Moves the clauses together, at a cost of their memory and the tables'. All literals on the

@@ -1,6 +1,6 @@
 //! Which clauses are looked at once a literal is false.
 
-use crate::clauses::{Clauses, Look};
+use crate::clauses::{Clauses, Kind, Look};
 use crate::trail::Trail;
 use aig_base::{Lit, MemoryError};
 use std::alloc::Global;
@@ -18,17 +18,55 @@ struct Watch<O> {
 enum Visit {
     /// It stays, beside this other literal.
     Stays(Lit),
-    /// It ends: the clause watches another literal, or was removed.
+    /// It ends: the clause watches another literal now, or it is stale.
     Ends,
     /// It stays, and all literals of the clause are false.
     Conflict,
+}
+
+/// The clauses of some kind that watch one literal, and stale watches beside them: of clauses that
+/// were removed, are of another kind now or watch other literals, and second ones of a clause.
+#[derive(Drop)]
+struct List<O> {
+    watches: Vec<Watch<O>>,
+    /// How many of them are stale at most.
+    stale: usize,
+}
+
+impl<O: Copy> List<O> {
+    /// No clauses.
+    fn new(alloc: Global) -> List<O> {
+        List {
+            watches: Vec::new(alloc),
+            stale: 0,
+        }
+    }
+
+    /// Whether most of the watches may be stale.
+    fn is_sparse(&self) -> bool {
+        self.stale > self.watches.len() / 2
+    }
+
+    /// Drops the stale watches, where most may be.
+    fn sweep(&mut self, lit: Lit, kind: Kind, clauses: &mut Clauses) {
+        if !self.is_sparse() {
+            return;
+        }
+        self.watches
+            .retain(|watch| clauses.claim(watch.place, lit, kind));
+        for watch in &self.watches {
+            clauses.release(watch.place);
+        }
+        self.stale = 0;
+    }
 }
 
 /// For each literal the clauses of some kind that watch it, and so are looked at once it is false.
 #[derive(Drop)]
 pub(crate) struct Watches<O> {
     alloc: Global,
-    lists: Vec<Vec<Watch<O>>>,
+    kind: Kind,
+    lists: Vec<List<O>>,
     /// How many of the literals on the trail were propagated along these clauses.
     taken: usize,
 }
@@ -42,14 +80,15 @@ pub(crate) type Longs = Watches<Lit>;
 pub(crate) type Shorts = Watches<[Lit; 2]>;
 
 impl<O: Copy> Watches<O> {
-    /// No clauses, for so many literals.
-    pub(crate) fn new(alloc: Global, count: usize) -> Result<Watches<O>, MemoryError> {
+    /// No clauses of this kind, for so many literals.
+    pub(crate) fn new(alloc: Global, count: usize, kind: Kind) -> Result<Watches<O>, MemoryError> {
         let mut lists = Vec::with_capacity(alloc, count)?;
         for _ in 0..count {
-            lists.push(Vec::new(alloc))?;
+            lists.push(List::new(alloc))?;
         }
         Ok(Watches {
             alloc,
+            kind,
             lists,
             taken: 0,
         })
@@ -64,37 +103,34 @@ impl<O: Copy> Watches<O> {
     fn push(&mut self, lit: Lit, place: u32, others: O) -> Result<(), MemoryError> {
         let i = u32::from(lit) as usize;
         if i < self.lists.len() {
-            self.lists[i].push(Watch { place, others })?;
+            self.lists[i].watches.push(Watch { place, others })?;
         }
         Ok(())
     }
 
-    /// Lets a clause watch a literal no more.
-    fn remove_from(&mut self, lit: Lit, place: u32) {
+    /// Takes note that a watch of a literal is stale.
+    fn end_one(&mut self, lit: Lit, clauses: &mut Clauses) {
         let i = u32::from(lit) as usize;
-        if i >= self.lists.len() {
-            return;
-        }
-        let list = &mut self.lists[i];
-        for at in 0..list.len() {
-            if list[at].place == place {
-                list.swap_remove(at);
-                break;
-            }
+        if i < self.lists.len() {
+            let list = &mut self.lists[i];
+            list.stale = list.stale.saturating_add(1);
+            list.sweep(lit, self.kind, clauses);
         }
     }
 
-    /// Lets a clause watch its first so many literals no more.
-    pub(crate) fn remove(&mut self, clauses: &Clauses, place: u32, count: u32) {
+    /// Lets a clause that was removed, or is of another kind now, watch its first so many literals no
+    /// more. Its watches are left in their lists, and dropped when they are most of one.
+    pub(crate) fn end(&mut self, clauses: &mut Clauses, place: u32, count: u32) {
         for i in 0..count {
-            self.remove_from(clauses.lit(place, i), place);
+            self.end_one(clauses.lit(place, i), clauses);
         }
     }
 
     /// Empties all lists.
     pub(crate) fn clear(&mut self) {
         for list in self.lists.iter_mut() {
-            list.clear();
+            list.watches.clear();
+            list.stale = 0;
         }
     }
 
@@ -121,7 +157,7 @@ impl Watches<Lit> {
     }
 
     /// Puts the list of a literal back.
-    fn put(&mut self, lit: Lit, list: Vec<Watch<Lit>>) {
+    fn put(&mut self, lit: Lit, list: List<Lit>) {
         let i = u32::from(lit) as usize;
         if i < self.lists.len() {
             self.lists[i] = list;
@@ -137,8 +173,8 @@ impl Watches<Lit> {
         clauses: &mut Clauses,
         trail: &mut Trail,
     ) -> Result<Visit, MemoryError> {
-        match clauses.look(place, lit, trail) {
-            Look::Removed => Ok(Visit::Ends),
+        match clauses.look(place, lit, self.kind, trail) {
+            Look::Stale => Ok(Visit::Ends),
             Look::True(other) => Ok(Visit::Stays(other)),
             Look::Moved { other, next } => {
                 self.push(next, place, other)?;
@@ -191,11 +227,12 @@ impl Watches<Lit> {
         trail: &mut Trail,
     ) -> Result<Option<u32>, MemoryError> {
         let i = u32::from(lit) as usize;
-        if i >= self.lists.len() || self.lists[i].is_empty() {
+        if i >= self.lists.len() || self.lists[i].watches.is_empty() {
             return Ok(None);
         }
-        let mut list = mem::replace(&mut self.lists[i], Vec::new(self.alloc));
-        let conflict = self.visit_list(lit, &mut list, clauses, trail)?;
+        let mut list = mem::replace(&mut self.lists[i], List::new(self.alloc));
+        list.sweep(lit, self.kind, clauses);
+        let conflict = self.visit_list(lit, &mut list.watches, clauses, trail)?;
         self.put(lit, list);
         Ok(conflict)
     }
@@ -239,11 +276,19 @@ impl Watches<[Lit; 2]> {
     }
 
     /// Makes true what follows along the clauses that watch a literal which is false now, up to one
-    /// whose literals are all false, and returns its place. Nothing is read of them but what stands
-    /// in the list.
-    pub(crate) fn visit_shorts(&self, lit: Lit, trail: &mut Trail) -> Option<u32> {
-        for watch in self.lists.get(u32::from(lit) as usize)? {
-            if trail.is_forced(watch.others) && !watch.force(trail) {
+    /// whose literals are all false, and returns its place. Where nothing follows, nothing is read of
+    /// a clause but what stands in the list.
+    pub(crate) fn visit_shorts(
+        &self,
+        lit: Lit,
+        clauses: &Clauses,
+        trail: &mut Trail,
+    ) -> Option<u32> {
+        for watch in &self.lists.get(u32::from(lit) as usize)?.watches {
+            if trail.is_forced(watch.others)
+                && clauses.is_there(watch.place)
+                && !watch.force(trail)
+            {
                 return Some(watch.place);
             }
         }
