@@ -301,23 +301,20 @@ impl Search {
 
     /// Propagates from the inverses of a clause's literals, and collects hints where that ends in a
     /// conflict.
-    fn refute(&mut self, clause: &[Lit], hints: &mut Vec<u32>) -> Result<bool, MemoryError> {
+    fn refute(&mut self, clause: &[Lit], hints: &mut Vec<u32>) -> Result<(), MemoryError> {
         let fixed = self.trail.len();
         let mut conflict = self.conflict;
         if conflict.is_none() {
             if let Some(unit) = self.assume_false(clause)? {
                 hints.push(unit)?;
-                return Ok(true);
+                return Ok(());
             }
             conflict = self.propagate()?;
         }
-        match conflict {
-            Some(place) => {
-                self.explain(place, fixed, hints)?;
-                Ok(true)
-            }
-            None => Ok(false),
+        if let Some(place) = conflict {
+            self.explain(place, fixed, hints)?;
         }
+        Ok(())
     }
 
     /// Keeps the first `len` literals of the trail alone, all of which were propagated.
@@ -328,18 +325,23 @@ impl Search {
         self.rest.rewind(len);
     }
 
-    /// Looks for hints for a clause, by the numbers of clauses, and says whether there are any.
-    /// What was in `hints` is lost.
-    pub fn find(&mut self, clause: &[Lit], hints: &mut Vec<u32>) -> Result<bool, MemoryError> {
+    /// Whether unit propagation along the clauses ends in a conflict.
+    pub fn is_in_conflict(&self) -> bool {
+        self.conflict.is_some()
+    }
+
+    /// Looks for hints for a clause, by the numbers of clauses. What was in `hints` is lost; there
+    /// are none where unit propagation ends in no conflict.
+    pub fn find(&mut self, clause: &[Lit], hints: &mut Vec<u32>) -> Result<(), MemoryError> {
         hints.clear();
         let fixed = self.trail.len();
         self.searches = self.searches.saturating_add(1);
-        let found = self.refute(clause, hints)?;
+        self.refute(clause, hints)?;
         self.undo(fixed);
         if self.searches % PERIOD == 0 {
             self.end_recent()?;
         }
-        Ok(found)
+        Ok(())
     }
 
     /// Collects the clause that gave a literal its value, behind those that have the inverses of its

@@ -7,9 +7,10 @@ ghost use Rattle.aig_refutation.specs.Formula.{ImpliesAll};
 use crate::checker::Checker;
 use crate::error::RefutationError;
 use crate::step::Step;
+use crate::units::find_conflict;
+use crate::words::Words;
 use aig_base::{DagCnf, LitVvec, Source, Var};
 use aig_hints::Search;
-use aig_lexer::InputBuffer;
 use std::alloc::Global;
 
 /// Appends clauses of the formula, under the next numbers.
@@ -38,6 +39,22 @@ fn number_clauses(
         assume_all(checker, cnf.clauses_of(var))?;
     }
     assume_all(checker, further)
+}
+
+/// Adds the empty clause where the clauses have it, or two clauses of one literal each that are in
+/// conflict, and says whether they do.
+fn refutes_at_once(alloc: Global, checker: &mut Checker) -> Result<bool, RefutationError>
+    ensures implied { OnOk result (ImpliesAll checker.old checker.new) }
+    ensures refuted { IfOk result (λ done. IsTrue done → ¬ IsSatisfiable checker.old) }
+    ensures no_stream { IsErrOf result RefutationError.Stream → ⊥ }
+{
+    let hints = find_conflict(alloc, checker.clauses(), checker.variables())?;
+    if hints.is_empty() {
+        return Ok(false);
+    }
+    let number = checker.next_number();
+    checker.add(number, &[], &hints)?;
+    Ok(true)
 }
 
 /// Takes a step that has numbers, and says whether it adds the empty clause.
@@ -75,7 +92,8 @@ fn add_units(
     Ok(())
 }
 
-/// Takes the clauses, which are numbered from 1 on, into a search that has none.
+/// Takes the clauses, which are numbered from 1 on, into a search that has none, up to a conflict
+/// of unit propagation.
 fn start_search(
     alloc: Global,
     checker: &mut Checker,
@@ -89,12 +107,34 @@ fn start_search(
     for i in 0..clauses.len() {
         number = number.saturating_add(1);
         search.add(number, clauses.clause(i))?;
+        if search.is_in_conflict() {
+            break;
+        }
     }
     add_units(checker, search, &mut Vec::new(alloc))
 }
 
+/// Adds the empty clause where unit propagation is in conflict, and says whether it is.
+fn add_empty(
+    checker: &mut Checker,
+    search: &mut Search,
+    hints: &mut Vec<u32>,
+) -> Result<bool, RefutationError>
+    ensures implied { OnOk result (ImpliesAll checker.old checker.new) }
+    ensures refuted { IfOk result (λ done. IsTrue done → ¬ IsSatisfiable checker.old) }
+    ensures no_stream { IsErrOf result RefutationError.Stream → ⊥ }
+{
+    if !search.is_in_conflict() {
+        return Ok(false);
+    }
+    search.find(&[], hints)?;
+    let number = checker.next_number();
+    checker.add(number, &[], hints)?;
+    Ok(true)
+}
+
 /// Adds the clause of a step under the next number, along hints that are searched for, and says
-/// whether it is the empty one.
+/// whether unit propagation is in conflict then.
 fn add_searched(
     checker: &mut Checker,
     search: &mut Search,
@@ -104,20 +144,15 @@ fn add_searched(
     ensures refuted { IfOk result (λ done. IsTrue done → ¬ IsSatisfiable checker.old) }
     ensures no_stream { IsErrOf result RefutationError.Stream → ⊥ }
 {
-    if !search.find(&step.clause, &mut step.numbers)? {
-        return Err(RefutationError::Step);
-    }
+    search.find(&step.clause, &mut step.numbers)?;
     let number = checker.next_number();
     checker.add(number, &step.clause, &step.numbers)?;
-    if step.clause.is_empty() {
-        return Ok(true);
-    }
     search.add(number, &step.clause)?;
     add_units(checker, search, &mut step.numbers)?;
-    Ok(false)
+    add_empty(checker, search, &mut step.numbers)
 }
 
-/// Takes a step that has no numbers, and says whether it adds the empty clause. To delete a clause
+/// Takes a step that has no numbers, and says whether the empty clause was added. To delete a clause
 /// that isn't there does nothing.
 fn take_searched(
     checker: &mut Checker,
@@ -138,7 +173,7 @@ fn take_searched(
 }
 
 /// Takes a step of the form of the first one: with a search, one that has no numbers. It says
-/// whether the step adds the empty clause.
+/// whether the empty clause was added.
 fn take_step(
     checker: &mut Checker,
     search: &mut Option<Search>,
@@ -155,7 +190,8 @@ fn take_step(
     }
 }
 
-/// The search that steps of the form of the first one need, if they have no numbers.
+/// The search that steps of the form of the first one need, if they have no numbers, or there is
+/// none.
 fn search_for(
     alloc: Global,
     checker: &mut Checker,
@@ -172,9 +208,26 @@ fn search_for(
     Ok(Some(search))
 }
 
-/// Takes the step, and those that are read after it, up to the first that adds the empty clause.
+/// Adds the empty clause where unit propagation is in conflict before the first step, and says
+/// whether it is.
+fn refutes_at_first(
+    checker: &mut Checker,
+    search: &mut Option<Search>,
+    step: &mut Step,
+) -> Result<bool, RefutationError>
+    ensures implied { OnOk result (ImpliesAll checker.old checker.new) }
+    ensures refuted { IfOk result (λ done. IsTrue done → ¬ IsSatisfiable checker.old) }
+    ensures no_stream { IsErrOf result RefutationError.Stream → ⊥ }
+{
+    match search {
+        Some(search) => add_empty(checker, search, &mut step.numbers),
+        None => Ok(false),
+    }
+}
+
+/// Takes the step, and those that are read after it, up to the first with the empty clause.
 fn take_steps<R: Source>(
-    buffer: &mut InputBuffer,
+    words: &mut Words,
     r: &mut R,
     checker: &mut Checker,
     search: &mut Option<Search>,
@@ -186,16 +239,41 @@ fn take_steps<R: Source>(
     ensures stream { IsErrOf result RefutationError.Stream → R.failed r.new ≡ true }
 {
     'steps: while !take_step(checker, search, step)? {
-        if !step.read(buffer, r, variables)? {
+        if !step.read(words, r, variables)? {
             return Err(RefutationError::Unfinished);
         }
     }
     Ok(())
 }
 
-/// Checks steps up to the first that adds the empty clause, against a formula's clauses. There are no clauses yet, and
-/// `step` is used, whatever it has.
+/// Checks steps up to the first with the empty clause, against the clauses. `step` is used, whatever
+/// it has.
 fn check_steps<R: Source>(
+    alloc: Global,
+    r: &mut R,
+    checker: &mut Checker,
+    step: &mut Step,
+    variables: usize,
+) -> Result<(), RefutationError>
+    requires { variables ≤ 2 ^ 31 }
+    ensures refuted { OnOk result (¬ IsSatisfiable checker.old) }
+    ensures stream { IsErrOf result RefutationError.Stream → R.failed r.new ≡ true }
+{
+    let words = &mut Words::new();
+    let there = step.read(words, r, variables)?;
+    let mut search = search_for(alloc, checker, step)?;
+    if refutes_at_first(checker, &mut search, step)? {
+        return Ok(());
+    }
+    if !there {
+        return Err(RefutationError::Unfinished);
+    }
+    take_steps(words, r, checker, &mut search, step, variables)
+}
+
+/// Checks steps against a formula's clauses, where these aren't in conflict by themselves. There are
+/// no clauses yet, and `step` is used, whatever it has.
+fn check_clauses<R: Source>(
     alloc: Global,
     cnf: &DagCnf,
     further: &LitVvec,
@@ -208,12 +286,10 @@ fn check_steps<R: Source>(
     ensures stream { IsErrOf result RefutationError.Stream → R.failed r.new ≡ true }
 {
     number_clauses(checker, cnf, further)?;
-    let buffer = &mut InputBuffer::new();
-    if !step.read(buffer, r, cnf.num_vars())? {
-        return Err(RefutationError::Unfinished);
+    if refutes_at_once(alloc, checker)? {
+        return Ok(());
     }
-    let mut search = search_for(alloc, checker, step)?;
-    take_steps(buffer, r, checker, &mut search, step, cnf.num_vars())
+    check_steps(alloc, r, checker, step, cnf.num_vars())
 }
 
 /// Checks a proof that clauses can't be satisfied: the text of an LRAT or of a DRAT file, whose
@@ -247,5 +323,5 @@ pub fn check_refutation<R: Source>(
 {
     let mut checker = Checker::new(alloc, cnf.num_vars())?;
     let mut step = Step::new(alloc);
-    check_steps(alloc, cnf, further, r, &mut checker, &mut step)
+    check_clauses(alloc, cnf, further, r, &mut checker, &mut step)
 }

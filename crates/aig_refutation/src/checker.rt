@@ -4,11 +4,12 @@ ghost use Rattle.std.specs.Prelude.{◌≡◌, ◌<◌, ◌≤◌, ◌*◌, ◌^
 ghost use Rattle.std.specs.List.{Contains};
 ghost use Rattle.aig_base.specs.Clauses.{variable_of};
 ghost use Rattle.aig_refutation.specs.Formula.{Implies, ImpliesAll};
+ghost use Rattle.aig_refutation.specs.Propagation.{FitsMarks};
 
 use crate::error::RefutationError;
 use crate::marks::Marks;
 use crate::numbered::Numbered;
-use crate::propagation::is_rup;
+use crate::propagation::{is_rup, is_tautology};
 use aig_base::{Lit, LitVvec, MemoryError};
 use std::alloc::Global;
 use std::marker::Model;
@@ -22,6 +23,8 @@ pub(crate) struct Checker {
     variables: usize,
     /// The places of the hints at hand.
     hints: Vec<usize>,
+    /// The literals of the clause at hand, each once.
+    kept: Vec<Lit>,
 }
 
 impl Model for Checker {
@@ -46,6 +49,36 @@ fn is_below(clause: &[Lit], variables: usize) -> bool
         }
     }
     true
+}
+
+/// Whether a clause follows: by reverse unit propagation along the clauses at these places, or from
+/// nothing. The marks are used, whatever they are.
+fn is_implied(clauses: &LitVvec, marks: &mut Marks, clause: &[Lit], hints: &[usize]) -> bool
+    requires clauses { All (FitsMarks marks.old) clauses.now }
+    requires clause { FitsMarks marks.old clause.now }
+    ensures length { length marks.new ≡ length marks.old }
+    ensures implied { IsTrue result → Implies clauses.now clause.now }
+{
+    is_rup(clauses, marks, clause, hints) || is_tautology(marks, clause)
+}
+
+/// Appends the literals of a clause to an empty list, each of them once. The marks are used,
+/// whatever they are.
+fn keep_once(marks: &mut Marks, clause: &[Lit], kept: &mut Vec<Lit>) -> Result<(), MemoryError>
+    requires marks { FitsMarks marks.old clause.now }
+    requires empty { kept.old.items ≡ [] }
+    ensures length { length marks.new ≡ length marks.old }
+    ensures from { OnOk result (All (Contains clause.now) kept.new.items) }
+    ensures all { OnOk result (All (Contains kept.new.items) clause.now) }
+{
+    marks.clear();
+    for lit in clause {
+        if !marks.holds(*lit) {
+            marks.add(*lit);
+            kept.push(*lit)?;
+        }
+    }
+    Ok(())
 }
 
 /// Finds the places of the clauses that hints name.
@@ -88,6 +121,7 @@ impl Checker {
             marks: Marks::new(alloc, 2 * variables)?,
             variables,
             hints: Vec::new(alloc),
+            kept: Vec::new(alloc),
         })
     }
 
@@ -121,7 +155,7 @@ impl Checker {
     }
 
     /// Adds a clause, under a number, if it follows by reverse unit propagation along the clauses
-    /// that the hints name.
+    /// that the hints name, or has a literal and its inverse. Each of its literals is kept once.
     pub(crate) fn add(
         &mut self,
         number: u32,
@@ -136,7 +170,7 @@ impl Checker {
             return Err(RefutationError::Literal);
         }
         find_hints(&self.numbered, hints, &mut self.hints)?;
-        if !is_rup(
+        if !is_implied(
             self.numbered.clauses(),
             &mut self.marks,
             clause,
@@ -144,7 +178,9 @@ impl Checker {
         ) {
             return Err(RefutationError::Step);
         }
-        self.numbered.add(number, clause)
+        self.kept.clear();
+        keep_once(&mut self.marks, clause, &mut self.kept)?;
+        self.numbered.add(number, &self.kept)
     }
 
     /// Deletes the clauses of these numbers.

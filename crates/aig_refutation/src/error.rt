@@ -41,6 +41,9 @@ pub enum RefutationError {
     /// checked.
     #[error("proof step by resolution asymmetry")]
     Asymmetry,
+    /// The proof is no text, as solvers write them where they aren't asked for one.
+    #[error("binary proof; text is taken (cadical --no-binary)")]
+    Binary,
     /// The bytes end before the empty clause.
     #[error("proof ends before the empty clause")]
     Unfinished,

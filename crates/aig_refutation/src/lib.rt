@@ -9,6 +9,8 @@ mod marks;
 mod numbered;
 mod propagation;
 mod step;
+mod units;
+mod words;
 
 pub use check::check_refutation;
 pub use error::RefutationError;

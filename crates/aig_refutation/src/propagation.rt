@@ -1,7 +1,7 @@
 //! Unit propagation along hints.
 
 ghost use Rattle.std.specs.Prelude.{◌≡◌, All, length, slice_get};
-ghost use Rattle.aig_refutation.specs.Propagation.{FitsMarks, is_rup, marked, reading_of, when_false};
+ghost use Rattle.aig_refutation.specs.Propagation.{FitsMarks, is_rup, is_tautology, marked, reading_of, when_false};
 
 use crate::marks::Marks;
 use aig_base::{Lit, LitVvec};
@@ -70,6 +70,22 @@ pub fn is_rup(clauses: &LitVvec, marks: &mut Marks, clause: &[Lit], hints: &[usi
             Reading::Conflict => return true,
             Reading::Implied(lit) => marks.add(lit),
             Reading::Open => return false,
+        }
+    }
+    false
+}
+
+/// Whether a clause has a literal and its inverse, and so holds always. The marks are used,
+/// whatever they are.
+pub(crate) fn is_tautology(marks: &mut Marks, clause: &[Lit]) -> bool
+    requires { FitsMarks marks.old clause.now }
+    ensures length { length marks.new ≡ length marks.old }
+    ensures always { result ≡ is_tautology clause.now }
+{
+    assume_false(marks, clause);
+    for lit in clause {
+        if marks.holds(*lit) {
+            return true;
         }
     }
     false

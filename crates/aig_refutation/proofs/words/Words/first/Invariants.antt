@@ -1,0 +1,9 @@
+use Rattle.std.proofs.Common.{◌≤◌}
+use Rattle.aig_lexer.specs.Takes.{feed}
+use Rattle.aig_refutation.proofs.words.Words.first.Given as goal
+
+abbrev pub invariant-loop-byte : goal.invariant-loop-byte
+invariant-loop-byte g l = (feed g.R.Source.left g.R.Source.failed g.R.Source.pulls l.self.held l.r).most ≤ (feed g.R.Source.left g.R.Source.failed g.R.Source.pulls l.fn.self.held l.fn.r).most
+
+abbrev pub decreases-loop-byte : goal.decreases-loop-byte
+decreases-loop-byte g l = (feed g.R.Source.left g.R.Source.failed g.R.Source.pulls l.self.held l.r).most

@@ -1,0 +1,281 @@
+//! Words of a proof's text.
+//!
+//! A line has numbers and the letter `d`, with blanks around them: spaces, tabs and carriage
+//! returns. It ends with a line feed, and the last one may end with the stream. Lines that are
+//! blank, or begin with `c` or `p`, are passed over.
+
+ghost use Rattle.std.specs.Prelude.{◌≡◌, ◌+◌, ◌<◌, ◌≤◌, ◌^◌, None, Some, IfOk, IfSome, IsErrOf, IsTrue, OnOk, true};
+ghost use Rattle.aig_lexer.specs.Takes.{feed};
+ghost use Rattle.aig_refutation.specs.Words.{IsAfter, is_last, rest};
+
+use crate::error::RefutationError;
+use aig_base::Source;
+use aig_lexer::InputBuffer;
+use std::marker::Model;
+
+/// A number, which may have a minus in front.
+#[derive(Clone, Copy)]
+pub(crate) struct Number {
+    /// Its value without the minus.
+    pub(crate) value: u32,
+    /// Whether it has none.
+    pub(crate) positive: bool,
+}
+
+/// How a line ends.
+#[derive(Clone, Copy)]
+pub(crate) enum End {
+    /// With a line feed.
+    Line,
+    /// With the stream.
+    Stream,
+}
+
+/// What stands next in a line.
+#[derive(Clone, Copy)]
+pub(crate) enum Word {
+    /// A number.
+    Number(Number),
+    /// The letter `d`.
+    Deletes,
+    /// Nothing more.
+    End(End),
+}
+
+impl End {
+    /// Why a line is no step that ends where a further word is needed.
+    pub(crate) fn fault(self) -> RefutationError
+        ensures { result ≡ RefutationError.Stream → ⊥ }
+    {
+        match self {
+            End::Line => RefutationError::Line,
+            End::Stream => RefutationError::Unfinished,
+        }
+    }
+}
+
+/// Why a byte is refused that stands where no step has it.
+fn fault(byte: u8) -> RefutationError
+    ensures { result ≡ RefutationError.Stream → ⊥ }
+{
+    match byte {
+        0..=8 | 14..=31 | 127..=255 => RefutationError::Binary,
+        _ => RefutationError::Line,
+    }
+}
+
+/// The next byte that isn't blank, if there is one.
+#[inline(always)]
+fn skip_blanks<R: Source>(
+    buffer: &mut InputBuffer,
+    r: &mut R,
+) -> Result<Option<u8>, RefutationError>
+    ensures stream { IsErrOf result RefutationError.Stream → R.failed r.new ≡ true }
+    ensures fewer { IfOk result (λ byte. IfSome byte (λ _.
+        (feed R.left R.failed R.pulls buffer.new r.new).most
+        < (feed R.left R.failed R.pulls buffer.old r.old).most)) }
+{
+    loop {
+        match buffer.next(r)? {
+            Some(b' ' | b'\t' | b'\r') => {}
+            byte => return Ok(byte),
+        }
+    }
+}
+
+/// Goes past the line feed of a line, and says whether there is one.
+fn skip_line<R: Source>(buffer: &mut InputBuffer, r: &mut R) -> Result<bool, RefutationError>
+    ensures stream { IsErrOf result RefutationError.Stream → R.failed r.new ≡ true }
+    ensures fewer { IfOk result (λ there. IsTrue there
+        → (feed R.left R.failed R.pulls buffer.new r.new).most
+        < (feed R.left R.failed R.pulls buffer.old r.old).most) }
+{
+    while let Some(byte) = buffer.next(r)? {
+        if byte == b'\n' {
+            return Ok(true);
+        }
+    }
+    Ok(false)
+}
+
+/// Reads on in a number after its first digit: its value, which is below 2^32, and the byte after
+/// it, if there is one.
+#[inline(always)]
+fn read_digits<R: Source>(
+    buffer: &mut InputBuffer,
+    r: &mut R,
+    first: u8,
+) -> Result<(u32, Option<u8>), RefutationError>
+    ensures stream { IsErrOf result RefutationError.Stream → R.failed r.new ≡ true }
+    ensures fewer { IfOk result (λ x. IfSome x.1 (λ _.
+        (feed R.left R.failed R.pulls buffer.new r.new).most
+        ≤ (feed R.left R.failed R.pulls buffer.old r.old).most)) }
+{
+    if !first.is_ascii_digit() {
+        return Err(fault(first));
+    }
+    let mut value = (first - b'0') as u64;
+    loop {
+        match buffer.next(r)? {
+            Some(byte @ b'0'..=b'9') => value = 10 * value + (byte - b'0') as u64,
+            end => return Ok((value as u32, end)),
+        }
+        if value > u32::MAX as u64 {
+            return Err(RefutationError::Line);
+        }
+    }
+}
+
+/// The text of a proof, from which words are taken.
+#[derive(Drop)]
+pub(crate) struct Words {
+    buffer: InputBuffer,
+    /// How the line ended whose words were taken, if it did.
+    end: Option<End>,
+}
+
+impl Model for Words {
+    ghost use Rattle.aig_refutation.specs.Words.{Text, is_last};
+
+    ghost Value = { Text };
+
+    ghost view = { λ w. record { held = w.buffer; ended = is_last w.end } };
+}
+
+impl Words {
+    /// A text none of which was taken.
+    pub(crate) fn new() -> Words {
+        Words {
+            buffer: InputBuffer::new(),
+            end: None,
+        }
+    }
+
+    /// Ends a word at the byte after it, or at the end of the stream.
+    #[inline(always)]
+    fn end_word(&mut self, byte: Option<u8>) -> Result<(), RefutationError>
+        ensures same { self.new.held ≡ self.old.held }
+        ensures ended { OnOk result (byte ≡ None → self.new.ended ≡ true) }
+        ensures no_stream { IsErrOf result RefutationError.Stream → ⊥ }
+    {
+        match byte {
+            Some(b' ' | b'\t' | b'\r') => {}
+            Some(b'\n') => self.end = Some(End::Line),
+            Some(byte) => return Err(fault(byte)),
+            None => self.end = Some(End::Stream),
+        }
+        Ok(())
+    }
+
+    /// The number that begins with this byte, or after it.
+    #[inline(always)]
+    fn read_number<R: Source>(
+        &mut self,
+        r: &mut R,
+        digit: u8,
+        positive: bool,
+    ) -> Result<Word, RefutationError>
+        ensures stream { IsErrOf result RefutationError.Stream → R.failed r.new ≡ true }
+        ensures fewer { OnOk result (rest R.pulls self.new r.new
+            ≤ (feed R.left R.failed R.pulls self.old.held r.old).most + 1) }
+    {
+        let (value, end) = read_digits(&mut self.buffer, r, digit)?;
+        self.end_word(end)?;
+        Ok(Word::Number(Number { value, positive }))
+    }
+
+    /// The word that begins with this byte.
+    #[inline(always)]
+    fn read_word<R: Source>(&mut self, r: &mut R, first: u8) -> Result<Word, RefutationError>
+        ensures stream { IsErrOf result RefutationError.Stream → R.failed r.new ≡ true }
+        ensures fewer { OnOk result (rest R.pulls self.new r.new
+            ≤ (feed R.left R.failed R.pulls self.old.held r.old).most + 1) }
+    {
+        if first == b'd' {
+            let end = self.buffer.next(r)?;
+            self.end_word(end)?;
+            return Ok(Word::Deletes);
+        }
+        if first != b'-' {
+            return self.read_number(r, first, true);
+        }
+        match self.buffer.next(r)? {
+            Some(digit) => self.read_number(r, digit, false),
+            None => Err(RefutationError::Unfinished),
+        }
+    }
+
+    /// Ends the line.
+    fn end_line(&mut self, end: End) -> Word
+        ensures same { self.new.held ≡ self.old.held }
+        ensures ended { self.new.ended ≡ is_last (Some end) }
+        ensures word { result ≡ Word.End end }
+    {
+        self.end = Some(end);
+        Word::End(end)
+    }
+
+    /// The next word of the line.
+    pub(crate) fn next<R: Source>(&mut self, r: &mut R) -> Result<Word, RefutationError>
+        ensures stream { IsErrOf result RefutationError.Stream → R.failed r.new ≡ true }
+        ensures fewer { IfOk result (λ word.
+            IsAfter (rest R.pulls self.old r.old) word (rest R.pulls self.new r.new)) }
+    {
+        if let Some(end) = self.end {
+            return Ok(Word::End(end));
+        }
+        match skip_blanks(&mut self.buffer, r)? {
+            Some(b'\n') => Ok(self.end_line(End::Line)),
+            Some(byte) => self.read_word(r, byte),
+            None => Ok(self.end_line(End::Stream)),
+        }
+    }
+
+    /// The next word of the line, which is a number.
+    pub(crate) fn number<R: Source>(&mut self, r: &mut R) -> Result<Number, RefutationError>
+        ensures stream { IsErrOf result RefutationError.Stream → R.failed r.new ≡ true }
+        ensures fewer { OnOk result (rest R.pulls self.new r.new < rest R.pulls self.old r.old) }
+    {
+        match self.next(r)? {
+            Word::Number(number) => Ok(number),
+            Word::Deletes => Err(RefutationError::Line),
+            Word::End(end) => Err(end.fault()),
+        }
+    }
+
+    /// The end of the line.
+    pub(crate) fn finish<R: Source>(&mut self, r: &mut R) -> Result<(), RefutationError>
+        ensures stream { IsErrOf result RefutationError.Stream → R.failed r.new ≡ true }
+        ensures fewer { OnOk result (rest R.pulls self.new r.new ≤ rest R.pulls self.old r.old) }
+    {
+        match self.next(r)? {
+            Word::End(_) => Ok(()),
+            _ => Err(RefutationError::Line),
+        }
+    }
+
+    /// The first word of the next line that isn't passed over, if there is one.
+    pub(crate) fn first<R: Source>(&mut self, r: &mut R) -> Result<Option<Word>, RefutationError>
+        ensures stream { IsErrOf result RefutationError.Stream → R.failed r.new ≡ true }
+        ensures fewer { IfOk result (λ word. IfSome word (λ _.
+            rest R.pulls self.new r.new < rest R.pulls self.old r.old)) }
+    {
+        if let Some(End::Stream) = self.end {
+            return Ok(None);
+        }
+        self.end = None;
+        while let Some(byte) = skip_blanks(&mut self.buffer, r)? {
+            match byte {
+                b'\n' => {}
+                b'c' | b'p' => {
+                    if !skip_line(&mut self.buffer, r)? {
+                        break;
+                    }
+                }
+                b'a' => return Err(RefutationError::Binary),
+                _ => return Ok(Some(self.read_word(r, byte)?)),
+            }
+        }
+        Ok(None)
+    }
+}
