@@ -6,10 +6,10 @@ use Rattle.std.proofs.lemmas.Bool.{and_from}
 use Rattle.std.proofs.lemmas.List.{take_more}
 use Rattle.std.proofs.lemmas.List.Elements.{All-append, All-cons, All-contains, All-contains_itself, Contains-get_or}
 use Rattle.std.proofs.lemmas.Option.{get_or_from_slice_get, slice_get_within}
-use Rattle.std.proofs.lemmas.List.Folds.{list_all-append}
+use Rattle.std.proofs.lemmas.List.Folds.{Any-from_list_any, list_all-append, list_any_at}
 use Rattle.std.proofs.lemmas.List.Sums.{AllPass-from_list_all, list_all-from_AllPass}
 use Rattle.aig_base.specs.declared.logic.literal.Lit.{Lit}
-use Rattle.aig_base.specs.Clauses.{AreBelow, are_true, is_true_clause, variable_of}
+use Rattle.aig_base.specs.Clauses.{AreBelow, are_true, is_true_clause, literal_value, variable_of}
 use Rattle.aig_base.specs.Formula.{IsSatisfiable, clauses_in}
 use Rattle.aig_refutation.specs.Formula.{Implies, ImpliesAll}
 use Rattle.aig_refutation.specs.Propagation.{is_rup}
@@ -75,6 +75,18 @@ kept_more clauses kept now i clause is before e =
     let there : Contains clauses clause = subst (Contains clauses) (get_or_from_slice_get clauses i clause [] is) (Contains-get_or clauses i [] (slice_get_within clauses i clause is)) in
     subst (All (Contains clauses)) (sym e) (All-append (Contains clauses) kept (clause ∷ []) before (All-cons (Contains clauses) clause [] there (λ k d h. absurd (omega arith))))
 
+-- a clause each of whose literals is kept is true where the kept ones are
+pub kept_follows : (given : List (List Lit)) (clause kept : List Lit) → All (Contains kept) clause → Implies given clause → Implies given kept
+kept_follows given clause kept there follows v holds =
+    let some = Any-from_list_any (literal_value v) clause (follows v holds) in
+    let lit = some.1 in
+    let is_kept : Contains kept lit = subst (Contains kept) some.3 (there some.0 lit some.2) in
+    list_any_at (literal_value v) kept is_kept.0 lit is_kept.1 (ap (literal_value v) is_kept.2 ∙ some.4)
+
+-- what holds of each literal of a clause holds of each that is kept
+pub kept_literals : (P : Lit → Type 0) (clause kept : List Lit) → All P clause → All (Contains clause) kept → All P kept
+kept_literals P clause kept each there k d h = All-contains P clause (slice_index_or kept k d) each (there k d h)
+
 pub implied_itself : (clauses : List (List Lit)) → ImpliesAll clauses clauses
 implied_itself clauses v holds = holds
 
@@ -106,8 +118,9 @@ module _ {X E : Type 0} where
   kept_implied_on_ok (Ok x) given middle now e ok = subst (λ (list : List (List Lit)). ImpliesAll list now) e (kept_implied middle now ok)
   kept_implied_on_ok (Err f) given middle now e ok = tt
 
-pub rup_implied_at : (given clauses : List (List Lit)) (clause : List Lit) (hints : List ℕ) → clauses ≡ given → is_rup (slice_get clauses) clause hints ≡ true → Implies given clause
-rup_implied_at given clauses clause hints e rup = subst (λ (list : List (List Lit)). Implies list clause) e (rup_implied clauses clause hints rup)
+-- what follows from clauses follows from the same ones
+pub implied_at : (given clauses : List (List Lit)) (clause : List Lit) → clauses ≡ given → Implies clauses clause → Implies given clause
+implied_at given clauses clause e follows = subst (λ (list : List (List Lit)). Implies list clause) e follows
 
 pub implied_on : (formula clauses more : List (List Lit)) → ImpliesAll formula clauses
     → ImpliesAll clauses more → ImpliesAll formula more

@@ -1,4 +1,6 @@
 mod Rup
+mod Tautologies
+mod Once
 mod Refuting
 mod Stamps
 mod Literals

@@ -10,7 +10,7 @@ use Rattle.aig_refutation.specs.declared.propagation.Reading.TheVariants.{Confli
 use Rattle.aig_refutation.specs.Propagation.{also, conflicts, is_lit, is_rup, propagates, reading_if, when_false, with_literal, with_open}
 
 -- literals of one number are one
-same_lit : (a b : Lit) → is_lit a b ≡ true → a ≡ b
+pub same_lit : (a b : Lit) → is_lit a b ≡ true → a ≡ b
 same_lit a b e = let lit_of : ℕ → Lit = λ n. record { code = n } in ap lit_of (eqb-true a.code b.code e)
 
 module _ (v : ℕ → Bool) where

@@ -1,10 +1,10 @@
 //! Clauses that follow from those of a formula.
 
 ghost use Rattle.std.specs.Prelude.{◌≡◌, ◌<◌, ◌≤◌, ◌*◌, ◌^◌, ◌++◌, ◌∷◌, [], All, IfOk, IsErrOf, IsTrue, OnOk, length};
-ghost use Rattle.std.specs.List.{Contains};
+ghost use Rattle.std.specs.List.{Contains, IsDistinct};
 ghost use Rattle.aig_base.specs.Clauses.{variable_of};
 ghost use Rattle.aig_refutation.specs.Formula.{Implies, ImpliesAll};
-ghost use Rattle.aig_refutation.specs.Propagation.{FitsMarks};
+ghost use Rattle.aig_refutation.specs.Propagation.{FitsMarks, is_lit};
 
 use crate::error::RefutationError;
 use crate::marks::Marks;
@@ -70,6 +70,7 @@ fn keep_once(marks: &mut Marks, clause: &[Lit], kept: &mut Vec<Lit>) -> Result<(
     ensures length { length marks.new ≡ length marks.old }
     ensures from { OnOk result (All (Contains clause.now) kept.new.items) }
     ensures all { OnOk result (All (Contains kept.new.items) clause.now) }
+    ensures once { OnOk result (IsDistinct is_lit kept.new.items) }
 {
     marks.clear();
     for lit in clause {
