@@ -2,31 +2,77 @@
 
 ghost use Rattle.std.specs.Prelude.{◌≡◌, ◌≤◌, IfOk, None, length};
 
+use crate::part::{Names, is_replaceable, overwrite, takes_rights};
+use crate::size_limit::size_limit;
 use aig::WriteError;
 use aig_base::{MemoryError, Sink, StreamFault, ToWrite};
-use std::fs::{self, File, OpenFile, Permissions};
+use std::fs::{self, File, OpenFile};
 use std::io::ErrorKind;
+use std::random::RandomSource;
 use std::rt::Files;
 
-/// How many names are tried for a file beside OUT.
-const NAMES: usize = 100;
+/// The mode that a new OUT is asked for, of which the system takes what the user's mask has.
+const NEW: u32 = 0o666;
+
+/// The mode of a file beside an old OUT: its owner's alone.
+const PRIVATE: u32 = 0o600;
+
+/// What is done with a file that was written whole.
+#[derive(Drop)]
+enum Rest<F> {
+    /// Nothing, since it is OUT.
+    Nothing,
+    /// It takes OUT's name, and the rights of the old OUT if there is one.
+    Rename {
+        /// Its own name.
+        name: String,
+        /// The old OUT, open for writing.
+        old: Option<F>,
+    },
+    /// It has no name, and is copied into the old OUT, which is open for writing.
+    Copy(F),
+}
 
 /// The file OUT as a sink. Nothing is made before the first bytes come, so that a file that is refused leaves no OUT.
 ///
-/// Where OUT is a regular file, or isn't there, the bytes go into a new file beside it, which takes its place by `commit`: a
-/// failed write leaves the old file as it was, also where OUT is FILE. Through a link it is the file that the link points to.
-/// Where that can't be done, as for a device or in a folder that takes no new file, the bytes go into OUT itself.
+/// Where OUT is a regular file, or isn't there, the bytes go into a new file beside it first. By `commit` that file takes
+/// OUT's place where nothing of the old OUT is lost but its bytes, and else is copied into it: a failed write leaves the old
+/// file as it was, also where OUT is FILE. Where that can't be done, as for a device or in a folder that takes no new file,
+/// the bytes go into OUT itself.
 #[derive(Drop)]
 pub struct Output<'a, R: Files> {
     rt: &'a R,
-    /// OUT, or the file that it links to.
+    out: &'a str,
+    /// OUT's own name, which is no link if all links could be followed.
     path: String,
-    /// The new file beside it, where there is to be one.
-    beside: Option<String>,
+    /// Names for the new file, until it is made.
+    names: Option<Names>,
     file: Option<ToWrite<R::File>>,
+    rest: Rest<R::File>,
+    /// The greatest size of a file, and then how many bytes this one may still grow by.
+    room: u64,
     /// Whether no file could be made.
     refused: bool,
     failed: bool,
+}
+
+/// A file for OUT's bytes, and what is done with it at the end, if one can be made.
+fn make<R: Files>(
+    rt: &R,
+    out: &str,
+    path: &str,
+    names: Option<Names>,
+) -> Option<(R::File, Rest<R::File>)> {
+    match fs::metadata(rt, out) {
+        Ok(found) if found.is_file() => {
+            let old = File::options().write(true).open(rt, out).ok()?;
+            make_over(rt, path, names, old)
+        }
+        Err(error) if error.kind() == ErrorKind::NotFound && is_missing(rt, path) => {
+            make_new(rt, out, names)
+        }
+        _ => Some((File::create(rt, out).ok()?, Rest::Nothing)),
+    }
 }
 
 /// Whether nothing has this name.
@@ -37,73 +83,125 @@ fn is_missing(rt: &impl Files, path: &str) -> bool {
     }
 }
 
-/// OUT, or the file that it links to.
-fn target<R: Files + AllocGlobal>(rt: &R, out: &str) -> Result<String, MemoryError> {
-    match fs::canonicalize(rt, out) {
-        Ok(path) => Ok(String::from_str(rt.alloc(), path.as_str())?),
-        Err(error) if error.kind() == ErrorKind::OutOfMemory => Err(MemoryError::Memory),
-        Err(_) => Ok(String::from_str(rt.alloc(), out)?),
-    }
-}
-
-/// Whether a new file may take the place of this one: it is a regular file, or there is none.
-fn is_replaceable(rt: &impl Files, path: &str) -> bool {
-    match fs::metadata(rt, path) {
-        Ok(found) => found.is_file(),
-        Err(_) => is_missing(rt, path),
-    }
-}
-
-/// A name beside a file that nothing has, if one is found.
-fn name_beside<R: Files + AllocGlobal>(rt: &R, path: &str) -> Result<Option<String>, MemoryError> {
-    for n in 0..NAMES {
-        let name = format!(in rt.alloc(); "{path}.{n}.part")?;
-        if is_missing(rt, name.as_str()) {
-            return Ok(Some(name));
+/// A file for an OUT that isn't there: a new one beside it, or OUT itself.
+fn make_new<R: Files>(rt: &R, out: &str, names: Option<Names>) -> Option<(R::File, Rest<R::File>)> {
+    if let Some(names) = names {
+        if let Some((file, name)) = names.create(rt, NEW) {
+            return Some((file, Rest::Rename { name, old: None }));
         }
     }
-    Ok(None)
+    Some((File::create(rt, out).ok()?, Rest::Nothing))
 }
 
-/// A new file of this name, with the permissions of the one whose place it will take, if that is there and may be written.
-fn create_beside<R: Files>(rt: &R, name: &str, path: &str) -> Option<R::File> {
-    let permissions = match fs::metadata(rt, path) {
-        Ok(found) => {
-            let _writable = File::options().write(true).open(rt, path).ok()?;
-            Some(found.permissions())
+/// A file for an old OUT, which is open for writing: a new one beside it, or the emptied OUT.
+fn make_over<R: Files>(
+    rt: &R,
+    path: &str,
+    names: Option<Names>,
+    old: R::File,
+) -> Option<(R::File, Rest<R::File>)> {
+    if let Some(names) = names {
+        if let Some((file, name)) = names.create(rt, PRIVATE) {
+            if is_replaceable(rt, path, &old, &file) {
+                let old = Some(old);
+                return Some((file, Rest::Rename { name, old }));
+            }
+            let _ = fs::remove_file(rt, name.as_str());
+            return Some((file, Rest::Copy(old)));
         }
-        Err(_) => None,
-    };
-    let file = File::create_new(rt, name).ok()?;
-    if !keep_permissions(&file, permissions) {
-        let _ = fs::remove_file(rt, name);
-        return None;
     }
-    Some(file)
+    old.set_len(0).ok()?;
+    Some((old, Rest::Nothing))
 }
 
-/// Gives a file the permissions of another, if there are any, and says whether it has them.
-fn keep_permissions(file: &impl OpenFile, permissions: Option<Permissions>) -> bool {
-    match permissions {
-        Some(permissions) => file.set_permissions(permissions).is_ok(),
+/// How many bytes a file may grow by under a limit, which devices and pipes don't have.
+fn room_under(file: &impl OpenFile, limit: u64) -> u64 {
+    match file.metadata() {
+        Ok(found) if found.is_file() => limit.saturating_sub(found.len()),
+        _ => u64::MAX,
+    }
+}
+
+/// Waits until a regular file that was written is kept.
+fn keep<F: OpenFile>(file: &F) -> Result<(), WriteError> {
+    match file.metadata() {
+        Ok(found) if found.is_file() && file.sync_all().is_err() => Err(WriteError::Stream),
+        _ => Ok(()),
+    }
+}
+
+/// Copies a file into OUT.
+fn copy<R: Files>(file: R::File, out: R::File) -> Result<(), WriteError> {
+    match overwrite(file, out) {
+        Ok(()) => Ok(()),
+        Err(_) => Err(WriteError::Stream),
+    }
+}
+
+/// Gives a file OUT's name and the old OUT's rights, or copies it into OUT where the system refuses that.
+fn rename<R: Files>(
+    rt: &R,
+    file: R::File,
+    name: &str,
+    output: (&str, &str, Option<R::File>),
+) -> Result<(), WriteError> {
+    let (out, path, old) = output;
+    let has_rights = match &old {
+        Some(old) => takes_rights(&file, old),
         None => true,
+    };
+    if file.sync_all().is_err() {
+        let _ = fs::remove_file(rt, name);
+        return Err(WriteError::Stream);
+    }
+    if has_rights && fs::rename(rt, name, path).is_ok() {
+        return Ok(());
+    }
+    let _ = fs::remove_file(rt, name);
+    let out = match old {
+        Some(old) => Some(old),
+        None => File::options().write(true).create(true).open(rt, out).ok(),
+    };
+    match out {
+        Some(out) => copy::<R>(file, out),
+        None => Err(WriteError::Open),
     }
 }
 
-impl<'a, R: Files + AllocGlobal> Output<'a, R> {
-    /// OUT, of which nothing is made yet.
-    pub fn new(rt: &'a R, out: &str) -> Result<Self, MemoryError> {
-        let path = target(rt, out)?;
-        let mut beside = None;
-        if is_replaceable(rt, path.as_str()) {
-            beside = name_beside(rt, path.as_str())?;
-        }
+impl<'a, R: Files + RandomSource + AllocGlobal> Output<'a, R> {
+    /// A file that `out` leads to and that has the name `path` itself, of which nothing is made yet.
+    pub fn beside(rt: &'a R, out: &'a str, path: String) -> Result<Self, MemoryError> {
+        let names = Names::beside(rt, path.as_str())?;
         Ok(Output {
             rt,
+            out,
             path,
-            beside,
+            names,
             file: None,
+            rest: Rest::Nothing,
+            room: size_limit(rt)?,
             refused: false,
+            failed: false,
+        })
+    }
+
+    /// The file of an open descriptor, whose bytes stay before those that come.
+    pub fn onto(rt: &'a R, out: &'a str) -> Result<Self, MemoryError> {
+        let limit = size_limit(rt)?;
+        let file = File::options().append(true).open(rt, out).ok();
+        let room = match &file {
+            Some(file) => room_under(file, limit),
+            None => 0,
+        };
+        Ok(Output {
+            rt,
+            out,
+            path: String::new(rt.alloc()),
+            names: None,
+            refused: file.is_none(),
+            file: file.map(ToWrite::new),
+            rest: Rest::Nothing,
+            room,
             failed: false,
         })
     }
@@ -112,18 +210,15 @@ impl<'a, R: Files + AllocGlobal> Output<'a, R> {
     fn create(&mut self) -> Result<(), StreamFault>
         ensures { self.new.failed ≡ self.old.failed }
     {
-        let rt = self.rt;
-        let mut made = None;
-        if let Some(name) = &self.beside {
-            made = create_beside(rt, name.as_str(), self.path.as_str());
+        if self.refused {
+            return Err(StreamFault::Failed);
         }
-        if made.is_none() {
-            self.beside = None;
-            made = File::create(rt, self.path.as_str()).ok();
-        }
-        match made {
-            Some(file) => {
+        let names = self.names.take();
+        match make(self.rt, self.out, self.path.as_str(), names) {
+            Some((file, rest)) => {
+                self.room = room_under(&file, self.room);
                 self.file = Some(ToWrite::new(file));
+                self.rest = rest;
                 Ok(())
             }
             None => {
@@ -142,8 +237,15 @@ impl<'a, R: Files + AllocGlobal> Output<'a, R> {
         if self.file.is_none() {
             self.create()?;
         }
+        if piece.len() as u64 > self.room {
+            return Err(StreamFault::Failed);
+        }
         match &mut self.file {
-            Some(file) => file.put(piece),
+            Some(file) => {
+                let n = file.put(piece)?;
+                self.room -= n as u64;
+                Ok(n)
+            }
             None => Err(StreamFault::Failed),
         }
     }
@@ -152,44 +254,49 @@ impl<'a, R: Files + AllocGlobal> Output<'a, R> {
     pub fn commit(self) -> Result<(), WriteError> {
         let Output {
             rt,
+            out,
             path,
-            beside,
+            names: _,
             file,
+            rest,
+            room: _,
             refused: _,
             failed: _,
         } = self;
-        let (Some(file), Some(beside)) = (file, beside) else {
+        let Some(file) = file else {
             return Ok(());
         };
-        if file.into_inner().sync_all().is_err() {
-            let _ = fs::remove_file(rt, beside.as_str());
-            return Err(WriteError::Stream);
+        let file = file.into_inner();
+        match rest {
+            Rest::Nothing => keep(&file),
+            Rest::Copy(old) => copy::<R>(file, old),
+            Rest::Rename { name, old } => {
+                rename(rt, file, name.as_str(), (out, path.as_str(), old))
+            }
         }
-        if fs::rename(rt, beside.as_str(), path.as_str()).is_err() {
-            let _ = fs::remove_file(rt, beside.as_str());
-            return Err(WriteError::Open);
-        }
-        Ok(())
     }
 
     /// Removes the new file where one was made, and says whether none could be made.
     pub fn discard(self) -> bool {
         let Output {
             rt,
+            out: _,
             path: _,
-            beside,
-            file,
+            names: _,
+            file: _,
+            rest,
+            room: _,
             refused,
             failed: _,
         } = self;
-        if let (Some(_), Some(beside)) = (&file, &beside) {
-            let _ = fs::remove_file(rt, beside.as_str());
+        if let Rest::Rename { name, old: _ } = rest {
+            let _ = fs::remove_file(rt, name.as_str());
         }
         refused
     }
 }
 
-impl<'a, R: Files + AllocGlobal> Sink for Output<'a, R> {
+impl<'a, R: Files + RandomSource + AllocGlobal> Sink for Output<'a, R> {
     ghost held = { λ _. None };
 
     ghost failed = { λ o. o.failed };
