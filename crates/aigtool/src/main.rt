@@ -6,6 +6,7 @@ mod output;
 mod part;
 mod place;
 mod size_limit;
+mod target;
 mod tool;
 
 use crate::output::Output;
@@ -67,10 +68,10 @@ fn print(
 }
 
 /// Writes the binary form of a file to another, which is made only after the first was read whole.
-fn write(
-    rt: &(impl Files + RandomSource + AllocGlobal),
+fn write<R: Files + RandomSource + AllocGlobal>(
+    rt: &R,
     file: &str,
-    mut output: Output<'_, impl Files + RandomSource + AllocGlobal>,
+    mut output: Output<'_, R>,
 ) -> Result<(), ToolError> {
     match run_on(rt, Command::Binary, file, &mut output) {
         Ok(()) => Ok(output.commit()?),

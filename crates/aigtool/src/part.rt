@@ -91,12 +91,13 @@ fn may_replace(old: &Metadata, new: &Metadata) -> bool
 }
 
 /// Gives a file the rights of another, and says whether it has them.
-pub fn takes_rights<F: OpenFile>(file: &F, other: &F) -> bool {
-    let Ok(found) = other.metadata() else {
-        return false;
-    };
-    file.set_permissions(Permissions::from_mode(found.mode() & RIGHTS))
-        .is_ok()
+pub fn take_rights<F: OpenFile>(file: &F, other: &F) -> bool {
+    match other.metadata() {
+        Ok(found) => file
+            .set_permissions(Permissions::from_mode(found.mode() & RIGHTS))
+            .is_ok(),
+        Err(_) => false,
+    }
 }
 
 /// Copies what a file has from a place on to the same place of another.
