@@ -1,6 +1,7 @@
 //! The file that `binary` writes.
 
-ghost use Rattle.std.specs.Prelude.{◌≡◌, ◌≤◌, IfOk, None, length};
+ghost use Rattle.std.specs.Prelude.{◌≡◌, ◌≤◌, IfOk, OnErr, length, option_and_then, take};
+ghost use Rattle.std.specs.Io.KnownBytes.{Appends, Keeps};
 
 use crate::part::Names;
 use crate::size_limit::size_limit;
@@ -59,7 +60,7 @@ impl<'a, R: Files + RandomSource + AllocGlobal> Output<'a, R> {
         let Ok(file) = File::options().append(true).open(rt, out) else {
             return Err(ToolError::Write(WriteError::Open));
         };
-        let path = String::from_str(rt.alloc(), out)?;
+        let path = String::new(rt.alloc());
         Ok(Output {
             target: Target { rt, out, path },
             names: None,
@@ -93,6 +94,10 @@ impl<'a, R: Files + RandomSource + AllocGlobal> Output<'a, R> {
     /// Writes bytes to the file, which is made before the first.
     fn write(&mut self, piece: &[u8]) -> Result<usize, StreamFault>
         ensures bound { IfOk result (λ n. n ≤ length piece.now) }
+        ensures moved { IfOk result (λ n. Appends (⟦<Output<'a, R> as Sink>⟧.held self.old)
+            (⟦<Output<'a, R> as Sink>⟧.held self.new) (take n piece.now)) }
+        ensures kept { OnErr result (Keeps (⟦<Output<'a, R> as Sink>⟧.held self.old)
+            (⟦<Output<'a, R> as Sink>⟧.held self.new)) }
         ensures some { IfOk result (λ n. n ≡ 0 → length piece.now ≡ 0) }
         ensures same { self.new.failed ≡ self.old.failed }
     {
@@ -148,7 +153,7 @@ impl<'a, R: Files + RandomSource + AllocGlobal> Output<'a, R> {
 }
 
 impl<'a, R: Files + RandomSource + AllocGlobal> Sink for Output<'a, R> {
-    ghost held = { λ _. None };
+    ghost held = { λ o. option_and_then ⟦<ToWrite<R::File> as Sink>⟧.held o.file };
 
     ghost failed = { λ o. o.failed };
 

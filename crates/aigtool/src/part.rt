@@ -1,6 +1,6 @@
 //! A new file beside OUT, which the bytes go into first.
 
-ghost use Rattle.std.specs.Prelude.{◌≡◌, IsTrue, bit_and};
+ghost use Rattle.std.specs.Prelude.{◌≡◌, ◌/◌, IsTrue, bit_and};
 ghost use Rattle.std.specs.Fs.{file_type, metadata_mode, IsFile};
 
 use aig_base::MemoryError;
@@ -79,15 +79,17 @@ pub fn is_replaceable<R: Files>(rt: &R, path: &str, old: &R::File, new: &R::File
 fn may_replace(old: &Metadata, new: &Metadata) -> bool
     ensures file { IsTrue result → IsFile (file_type old.now) }
     ensures plain { IsTrue result → bit_and (metadata_mode old.now) SPECIAL ≡ 0 }
+    ensures group { let group = bit_and (metadata_mode old.now / 8) 7 in
+        IsTrue result → bit_and group (metadata_mode old.now) ≡ group }
 {
     let mode = old.mode();
-    let group_alone = (mode >> 3) & !mode & 0o7;
+    let group = (mode >> 3) & 7;
     old.is_file()
         && old.uid() == new.uid()
         && old.gid() == new.gid()
         && old.nlink() == 1
         && mode & SPECIAL == 0
-        && group_alone == 0
+        && group & mode == group
 }
 
 /// Gives a file the rights of another, and says whether it has them.

@@ -12,11 +12,14 @@ const NEW: u32 = 0o666;
 /// The mode of a file beside an old OUT: its owner alone reads and writes it.
 const PRIVATE: u32 = 0o600;
 
-/// Where OUT is: as it was given, which may lead there by links, and under its own name.
+/// Where OUT is.
 #[derive(Drop)]
 pub struct Target<'a, R> {
+    /// What reaches it.
     pub rt: &'a R,
+    /// The path that was given, which may lead to it by links.
     pub out: &'a str,
+    /// Its own name, if that could be found, and nothing where OUT is a descriptor.
     pub path: String,
 }
 
