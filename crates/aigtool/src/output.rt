@@ -43,6 +43,7 @@ fn room_under(file: &impl OpenFile, limit: u64) -> u64 {
 
 impl<'a, R: Files + RandomSource + AllocGlobal> Output<'a, R> {
     /// The file that `out` leads to and that has the name `path` itself, of which nothing is made yet.
+    #[inline(never)]
     pub fn beside(rt: &'a R, out: &'a str, path: String) -> Result<Self, MemoryError> {
         Ok(Output {
             names: Names::beside(rt, path.as_str())?,
@@ -56,6 +57,7 @@ impl<'a, R: Files + RandomSource + AllocGlobal> Output<'a, R> {
     }
 
     /// The file of a descriptor, which is opened at once and keeps the bytes that it has.
+    #[inline(never)]
     pub fn onto(rt: &'a R, out: &'a str) -> Result<Self, ToolError> {
         let Ok(file) = File::options().append(true).open(rt, out) else {
             return Err(ToolError::Write(WriteError::Open));
@@ -73,6 +75,7 @@ impl<'a, R: Files + RandomSource + AllocGlobal> Output<'a, R> {
     }
 
     /// Makes the file that the bytes go into.
+    #[inline(never)]
     fn create(&mut self) -> Result<(), StreamFault>
         ensures { self.new.failed ≡ self.old.failed }
     {
@@ -135,6 +138,7 @@ impl<'a, R: Files + RandomSource + AllocGlobal> Output<'a, R> {
     }
 
     /// Removes the new file where one was made, and says whether none could be made.
+    #[inline(never)]
     pub fn discard(self) -> bool {
         let Output {
             target,

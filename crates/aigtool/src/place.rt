@@ -60,6 +60,7 @@ fn descriptor<R: Files + AllocGlobal>(
 /// What OUT names, by following its links one at a time.
 ///
 /// A link that can't be read, since its text isn't UTF-8 or is too long, is taken for the file.
+#[inline(never)]
 pub fn find<R: Files + AllocGlobal>(rt: &R, out: &str) -> Result<Place, MemoryError> {
     let mut path = PathBuf::from_str(rt.alloc(), out)?;
     for _ in 0..LINKS {

@@ -138,6 +138,7 @@ impl<'a, R: Files> Target<'a, R> {
     }
 
     /// Gets the bytes of a file that was written whole into OUT.
+    #[inline(never)]
     pub fn settle(self, file: R::File, at_end: AtEnd<R::File>) -> Result<(), WriteError> {
         match at_end {
             AtEnd::Stay => keep(&file),
