@@ -5,7 +5,7 @@ mod command;
 mod output;
 mod part;
 mod place;
-mod size_limit;
+mod system;
 mod target;
 mod tool;
 
@@ -68,7 +68,7 @@ fn print(
 }
 
 /// Writes the binary form of a file to another, which is made only after the first was read whole.
-fn write<R: Files + RandomSource + AllocGlobal>(
+fn write_to<R: Files + RandomSource + AllocGlobal>(
     rt: &R,
     file: &str,
     mut output: Output<'_, R>,
@@ -90,8 +90,8 @@ fn convert(
 ) -> Result<(), ToolError> {
     match place::find(rt, out)? {
         Place::StandardOutput => print(rt, Command::Binary, file),
-        Place::Descriptor => write(rt, file, Output::onto(rt, out)?),
-        Place::File(path) => write(rt, file, Output::beside(rt, out, path)?),
+        Place::Descriptor => write_to(rt, file, Output::onto(rt, out)?),
+        Place::File(path) => write_to(rt, file, Output::beside(rt, out, path)?),
     }
 }
 

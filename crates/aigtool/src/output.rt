@@ -1,10 +1,13 @@
 //! The file that `binary` writes.
+//!
+//! What takes paths to the system has them in its frame, 4,096 bytes each. So the calls of this crate that do aren't inlined: their
+//! frames are gone while the circuit is read and written.
 
 ghost use Rattle.std.specs.Prelude.{◌≡◌, ◌≤◌, IfOk, OnErr, length, option_and_then, take};
 ghost use Rattle.std.specs.Io.KnownBytes.{Appends, Keeps};
 
 use crate::part::Names;
-use crate::size_limit::size_limit;
+use crate::system::size_limit;
 use crate::target::{AtEnd, Target};
 use crate::tool::ToolError;
 use aig::WriteError;
@@ -16,9 +19,8 @@ use std::rt::Files;
 /// The file OUT as a sink. Nothing is made before the first bytes come, so that a file that is refused leaves no OUT.
 ///
 /// Where OUT is a regular file, or isn't there, the bytes go into a new file beside it first. By `commit` that file takes
-/// OUT's place where nothing of the old OUT is lost but its bytes, and else is copied into it: a failed write leaves the old
-/// file as it was, also where OUT is FILE. Where that can't be done, as for a device or in a folder that takes no new file,
-/// the bytes go into OUT itself.
+/// OUT's place where nothing of the old OUT is lost but its bytes, and else is copied into it. So a failed write leaves the
+/// old file as it was, also where OUT is FILE. Where no new file can be made, and for a device, the bytes go into OUT itself.
 #[derive(Drop)]
 pub struct Output<'a, R: Files> {
     target: Target<'a, R>,

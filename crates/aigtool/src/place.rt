@@ -1,8 +1,8 @@
 //! What OUT names.
 
+use crate::system::told;
 use aig_base::MemoryError;
 use std::fs;
-use std::io::ErrorKind;
 use std::path::{Path, PathBuf};
 use std::rt::Files;
 
@@ -20,15 +20,6 @@ pub enum Place {
     File(String),
 }
 
-/// The absolute path of what a path leads to, if the system tells it.
-fn absolute<R: Files + AllocGlobal>(rt: &R, path: &str) -> Result<Option<PathBuf>, MemoryError> {
-    match fs::canonicalize(rt, path) {
-        Ok(path) => Ok(Some(path)),
-        Err(error) if error.kind() == ErrorKind::OutOfMemory => Err(MemoryError::Memory),
-        Err(_) => Ok(None),
-    }
-}
-
 /// The folder that a path is in.
 fn folder<'a>(path: Path<'a>) -> &'a str {
     match path.parent() {
@@ -42,13 +33,13 @@ fn descriptor<R: Files + AllocGlobal>(
     rt: &R,
     path: Path<'_>,
 ) -> Result<Option<Place>, MemoryError> {
-    let Some(found) = absolute(rt, folder(path))? else {
+    let Some(found) = told(fs::canonicalize(rt, folder(path)))? else {
         return Ok(None);
     };
     if !found.as_str().starts_with("/proc/") || !found.as_str().ends_with("/fd") {
         return Ok(None);
     }
-    let Some(own) = absolute(rt, "/proc/self/fd")? else {
+    let Some(own) = told(fs::canonicalize(rt, "/proc/self/fd"))? else {
         return Ok(Some(Place::Descriptor));
     };
     if own.as_str() == found.as_str() && path.file_name() == Some("1") {
@@ -67,12 +58,9 @@ pub fn find<R: Files + AllocGlobal>(rt: &R, out: &str) -> Result<Place, MemoryEr
         if let Some(place) = descriptor(rt, path.as_path())? {
             return Ok(place);
         }
-        match fs::read_link(rt, path.as_path()) {
-            Ok(text) => path.set_file_name(text.as_str())?,
-            Err(error) if error.kind() == ErrorKind::OutOfMemory => {
-                return Err(MemoryError::Memory);
-            }
-            Err(_) => break,
+        match told(fs::read_link(rt, path.as_path()))? {
+            Some(text) => path.set_file_name(text.as_str())?,
+            None => break,
         }
     }
     Ok(Place::File(path.into_string()))
