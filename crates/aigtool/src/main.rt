@@ -3,15 +3,21 @@
 
 mod command;
 mod output;
+mod part;
+mod place;
+mod system;
+mod target;
 mod tool;
 
 use crate::output::Output;
+use crate::place::Place;
 use aig::{ReadError, WriteError};
 use aig_base::{FromRead, Sink, ToWrite};
 pub use command::{Command, parse};
 use std::fs::File;
 use std::io::{BufReader, ErrorKind, Write};
 use std::process::ExitCode;
+use std::random::RandomSource;
 use std::rt::{Env, Files};
 use std::{env, io};
 pub use tool::{ToolError, run};
@@ -62,14 +68,30 @@ fn print(
 }
 
 /// Writes the binary form of a file to another, which is made only after the first was read whole.
-fn convert(rt: &(impl Files + AllocGlobal), file: &str, out: &str) -> Result<(), ToolError> {
-    let mut output = Output::new(rt, out)?;
+fn write_to<R: Files + RandomSource + AllocGlobal>(
+    rt: &R,
+    file: &str,
+    mut output: Output<'_, R>,
+) -> Result<(), ToolError> {
     match run_on(rt, Command::Binary, file, &mut output) {
         Ok(()) => Ok(output.commit()?),
         Err(fault) => match output.discard() {
             true => Err(ToolError::Write(WriteError::Open)),
             false => Err(fault),
         },
+    }
+}
+
+/// Writes the binary form of a file to what OUT names.
+fn convert(
+    rt: &(impl Files + Print + RandomSource + AllocGlobal),
+    file: &str,
+    out: &str,
+) -> Result<(), ToolError> {
+    match place::find(rt, out)? {
+        Place::StandardOutput => print(rt, Command::Binary, file),
+        Place::Descriptor => write_to(rt, file, Output::onto(rt, out)?),
+        Place::File(path) => write_to(rt, file, Output::beside(rt, out, path)?),
     }
 }
 

@@ -1,129 +1,92 @@
 //! The file that `binary` writes.
+//!
+//! What takes paths to the system has them in its frame, 4,096 bytes each. So the calls of this crate that do aren't inlined: their
+//! frames are gone while the circuit is read and written.
 
-ghost use Rattle.std.specs.Prelude.{◌≡◌, ◌≤◌, IfOk, None, length};
+ghost use Rattle.std.specs.Prelude.{◌≡◌, ◌≤◌, IfOk, OnErr, length, option_and_then, take};
+ghost use Rattle.std.specs.Io.KnownBytes.{Appends, Keeps};
 
+use crate::part::Names;
+use crate::system::size_limit;
+use crate::target::{AtEnd, Target};
+use crate::tool::ToolError;
 use aig::WriteError;
 use aig_base::{MemoryError, Sink, StreamFault, ToWrite};
-use std::fs::{self, File, OpenFile, Permissions};
-use std::io::ErrorKind;
+use std::fs::{self, File, OpenFile};
+use std::random::RandomSource;
 use std::rt::Files;
-
-/// How many names are tried for a file beside OUT.
-const NAMES: usize = 100;
 
 /// The file OUT as a sink. Nothing is made before the first bytes come, so that a file that is refused leaves no OUT.
 ///
-/// Where OUT is a regular file, or isn't there, the bytes go into a new file beside it, which takes its place by `commit`: a
-/// failed write leaves the old file as it was, also where OUT is FILE. Through a link it is the file that the link points to.
-/// Where that can't be done, as for a device or in a folder that takes no new file, the bytes go into OUT itself.
+/// Where OUT is a regular file, or isn't there, the bytes go into a new file beside it first. By `commit` that file takes
+/// OUT's place where nothing of the old OUT is lost but its bytes, and else is copied into it. So a failed write leaves the
+/// old file as it was, also where OUT is FILE. Where no new file can be made, and for a device, the bytes go into OUT itself.
 #[derive(Drop)]
 pub struct Output<'a, R: Files> {
-    rt: &'a R,
-    /// OUT, or the file that it links to.
-    path: String,
-    /// The new file beside it, where there is to be one.
-    beside: Option<String>,
+    target: Target<'a, R>,
+    /// Names for a new file beside OUT, until one is made.
+    names: Option<Names>,
     file: Option<ToWrite<R::File>>,
+    at_end: AtEnd<R::File>,
+    /// How many bytes the file may still grow by.
+    room: u64,
     /// Whether no file could be made.
     refused: bool,
     failed: bool,
 }
 
-/// Whether nothing has this name.
-fn is_missing(rt: &impl Files, path: &str) -> bool {
-    match fs::symlink_metadata(rt, path) {
-        Ok(_) => false,
-        Err(error) => error.kind() == ErrorKind::NotFound,
+/// How many bytes a file may grow by under a limit, which devices and pipes don't have.
+fn room_under(file: &impl OpenFile, limit: u64) -> u64 {
+    match file.metadata() {
+        Ok(found) if found.is_file() => limit.saturating_sub(found.len()),
+        _ => u64::MAX,
     }
 }
 
-/// OUT, or the file that it links to.
-fn target<R: Files + AllocGlobal>(rt: &R, out: &str) -> Result<String, MemoryError> {
-    match fs::canonicalize(rt, out) {
-        Ok(path) => Ok(String::from_str(rt.alloc(), path.as_str())?),
-        Err(error) if error.kind() == ErrorKind::OutOfMemory => Err(MemoryError::Memory),
-        Err(_) => Ok(String::from_str(rt.alloc(), out)?),
-    }
-}
-
-/// Whether a new file may take the place of this one: it is a regular file, or there is none.
-fn is_replaceable(rt: &impl Files, path: &str) -> bool {
-    match fs::metadata(rt, path) {
-        Ok(found) => found.is_file(),
-        Err(_) => is_missing(rt, path),
-    }
-}
-
-/// A name beside a file that nothing has, if one is found.
-fn name_beside<R: Files + AllocGlobal>(rt: &R, path: &str) -> Result<Option<String>, MemoryError> {
-    for n in 0..NAMES {
-        let name = format!(in rt.alloc(); "{path}.{n}.part")?;
-        if is_missing(rt, name.as_str()) {
-            return Ok(Some(name));
-        }
-    }
-    Ok(None)
-}
-
-/// A new file of this name, with the permissions of the one whose place it will take, if that is there and may be written.
-fn create_beside<R: Files>(rt: &R, name: &str, path: &str) -> Option<R::File> {
-    let permissions = match fs::metadata(rt, path) {
-        Ok(found) => {
-            let _writable = File::options().write(true).open(rt, path).ok()?;
-            Some(found.permissions())
-        }
-        Err(_) => None,
-    };
-    let file = File::create_new(rt, name).ok()?;
-    if !keep_permissions(&file, permissions) {
-        let _ = fs::remove_file(rt, name);
-        return None;
-    }
-    Some(file)
-}
-
-/// Gives a file the permissions of another, if there are any, and says whether it has them.
-fn keep_permissions(file: &impl OpenFile, permissions: Option<Permissions>) -> bool {
-    match permissions {
-        Some(permissions) => file.set_permissions(permissions).is_ok(),
-        None => true,
-    }
-}
-
-impl<'a, R: Files + AllocGlobal> Output<'a, R> {
-    /// OUT, of which nothing is made yet.
-    pub fn new(rt: &'a R, out: &str) -> Result<Self, MemoryError> {
-        let path = target(rt, out)?;
-        let mut beside = None;
-        if is_replaceable(rt, path.as_str()) {
-            beside = name_beside(rt, path.as_str())?;
-        }
+impl<'a, R: Files + RandomSource + AllocGlobal> Output<'a, R> {
+    /// The file that `out` leads to and that has the name `path` itself, of which nothing is made yet.
+    #[inline(never)]
+    pub fn beside(rt: &'a R, out: &'a str, path: String) -> Result<Self, MemoryError> {
         Ok(Output {
-            rt,
-            path,
-            beside,
+            names: Names::beside(rt, path.as_str())?,
+            target: Target { rt, out, path },
             file: None,
+            at_end: AtEnd::Stay,
+            room: size_limit(rt)?,
+            refused: false,
+            failed: false,
+        })
+    }
+
+    /// The file of a descriptor, which is opened at once and keeps the bytes that it has.
+    #[inline(never)]
+    pub fn onto(rt: &'a R, out: &'a str) -> Result<Self, ToolError> {
+        let Ok(file) = File::options().append(true).open(rt, out) else {
+            return Err(ToolError::Write(WriteError::Open));
+        };
+        let path = String::new(rt.alloc());
+        Ok(Output {
+            target: Target { rt, out, path },
+            names: None,
+            room: room_under(&file, size_limit(rt)?),
+            file: Some(ToWrite::new(file)),
+            at_end: AtEnd::Stay,
             refused: false,
             failed: false,
         })
     }
 
     /// Makes the file that the bytes go into.
+    #[inline(never)]
     fn create(&mut self) -> Result<(), StreamFault>
         ensures { self.new.failed ≡ self.old.failed }
     {
-        let rt = self.rt;
-        let mut made = None;
-        if let Some(name) = &self.beside {
-            made = create_beside(rt, name.as_str(), self.path.as_str());
-        }
-        if made.is_none() {
-            self.beside = None;
-            made = File::create(rt, self.path.as_str()).ok();
-        }
-        match made {
-            Some(file) => {
-                self.file = Some(ToWrite::new(file));
+        let names = self.names.take();
+        match self.target.open(names) {
+            Some(opened) => {
+                self.room = room_under(&opened.file, self.room);
+                self.file = Some(ToWrite::new(opened.file));
+                self.at_end = opened.at_end;
                 Ok(())
             }
             None => {
@@ -136,14 +99,25 @@ impl<'a, R: Files + AllocGlobal> Output<'a, R> {
     /// Writes bytes to the file, which is made before the first.
     fn write(&mut self, piece: &[u8]) -> Result<usize, StreamFault>
         ensures bound { IfOk result (λ n. n ≤ length piece.now) }
+        ensures moved { IfOk result (λ n. Appends (⟦<Output<'a, R> as Sink>⟧.held self.old)
+            (⟦<Output<'a, R> as Sink>⟧.held self.new) (take n piece.now)) }
+        ensures kept { OnErr result (Keeps (⟦<Output<'a, R> as Sink>⟧.held self.old)
+            (⟦<Output<'a, R> as Sink>⟧.held self.new)) }
         ensures some { IfOk result (λ n. n ≡ 0 → length piece.now ≡ 0) }
         ensures same { self.new.failed ≡ self.old.failed }
     {
         if self.file.is_none() {
             self.create()?;
         }
+        if piece.len() as u64 > self.room {
+            return Err(StreamFault::Failed);
+        }
         match &mut self.file {
-            Some(file) => file.put(piece),
+            Some(file) => {
+                let n = file.put(piece)?;
+                self.room -= n as u64;
+                Ok(n)
+            }
             None => Err(StreamFault::Failed),
         }
     }
@@ -151,46 +125,41 @@ impl<'a, R: Files + AllocGlobal> Output<'a, R> {
     /// Lets a file that was written whole take its place.
     pub fn commit(self) -> Result<(), WriteError> {
         let Output {
-            rt,
-            path,
-            beside,
+            target,
+            names: _,
             file,
+            at_end,
+            room: _,
             refused: _,
             failed: _,
         } = self;
-        let (Some(file), Some(beside)) = (file, beside) else {
-            return Ok(());
-        };
-        if file.into_inner().sync_all().is_err() {
-            let _ = fs::remove_file(rt, beside.as_str());
-            return Err(WriteError::Stream);
+        match file {
+            Some(file) => target.settle(file.into_inner(), at_end),
+            None => Ok(()),
         }
-        if fs::rename(rt, beside.as_str(), path.as_str()).is_err() {
-            let _ = fs::remove_file(rt, beside.as_str());
-            return Err(WriteError::Open);
-        }
-        Ok(())
     }
 
     /// Removes the new file where one was made, and says whether none could be made.
+    #[inline(never)]
     pub fn discard(self) -> bool {
         let Output {
-            rt,
-            path: _,
-            beside,
-            file,
+            target,
+            names: _,
+            file: _,
+            at_end,
+            room: _,
             refused,
             failed: _,
         } = self;
-        if let (Some(_), Some(beside)) = (&file, &beside) {
-            let _ = fs::remove_file(rt, beside.as_str());
+        if let AtEnd::Rename { name, old: _ } = at_end {
+            let _ = fs::remove_file(target.rt, name.as_str());
         }
         refused
     }
 }
 
-impl<'a, R: Files + AllocGlobal> Sink for Output<'a, R> {
-    ghost held = { λ _. None };
+impl<'a, R: Files + RandomSource + AllocGlobal> Sink for Output<'a, R> {
+    ghost held = { λ o. option_and_then ⟦<ToWrite<R::File> as Sink>⟧.held o.file };
 
     ghost failed = { λ o. o.failed };
 
