@@ -10,7 +10,8 @@ No solver is asked about a step of which `aigcheck` takes the proof that is the 
 propagation finds that there is no solution. That is tried where k is 0 or a power of two, and after a step at which it did.
 
 SOLVER is given the names of a file in DIMACS form and of a file for its proof, in the text of LRAT or DRAT. It has to end with
-status 10 and print lines `s ..` and `v ..`, or with status 20.
+status 10 and print lines `s ..` and `v ..`, or with status 20. These two files stand in a folder of their own. FILE is read once
+into memory that nobody can write from then on, and that is what all answers are about.
 
 A name is printed as it is where it is a plain word, and else as a JSON string, behind its place (i0, l0) where another signal has
 it too; a signal without a name is printed by its place.
@@ -20,11 +21,14 @@ Exit status 20: no bad state at any step. 10: a bad state is reached. 0: neither
 """
 import collections
 import concurrent.futures
+import fcntl
 import json
 import optparse
 import os
 import re
 import shutil
+import signal
+import stat
 import subprocess
 import sys
 import tempfile
@@ -35,18 +39,49 @@ CHECKS = 2
 # What aigcheck says of a proof that doesn't follow.
 STEP = "aigcheck: proof step does not follow\n"
 PLAIN = re.compile(r"(?![ilb][0-9]+(:|$))[!#-<>-\[\]-~]+")
+# No write, no other length, and no seal less.
+SEALS = fcntl.F_SEAL_WRITE | fcntl.F_SEAL_GROW | fcntl.F_SEAL_SHRINK | fcntl.F_SEAL_SEAL
+# How many bytes of what a solver says on standard error are passed on.
+SAID = 4096
 
 
 class Fault(Exception):
     """Why there is no answer."""
 
 
-def run(words, statuses, out=subprocess.PIPE):
+def ending(status):
+    """How a program ended, in words."""
+    if status >= 0:
+        return f"ended with status {status}"
+    try:
+        return f"was ended by {signal.Signals(-status).name}"
+    except ValueError:
+        return f"was ended by signal {-status}"
+
+
+def run(words, statuses, **streams):
     """What a program prints, and its status, which has to be one of these."""
-    done = subprocess.run(words, stdout=out, encoding="ascii")
+    done = subprocess.run(words, encoding="ascii", errors="replace", **{"stdout": subprocess.PIPE, **streams})
     if done.returncode not in statuses:
-        raise Fault(f"{words[0]} ended with status {done.returncode}")
+        raise Fault(f"{words[0]} {ending(done.returncode)}")
     return done.stdout, done.returncode
+
+
+def sealed(path):
+    """A copy of a file in memory, which nobody can write from now on."""
+    copy = os.memfd_create("file", os.MFD_ALLOW_SEALING)
+    with open(path, "rb") as given, open(copy, "wb", closefd=False) as out:
+        shutil.copyfileobj(given, out)
+    fcntl.fcntl(copy, fcntl.F_ADD_SEALS, SEALS)
+    return copy
+
+
+def pass_on(said):
+    """Prints what a solver said on standard error, so that it can't drive a terminal."""
+    said.seek(0)
+    text = "".join(chr(byte) if 32 <= byte < 127 or byte == 10 else f"\\x{byte:02x}" for byte in said.read(SAID))
+    if text:
+        print(text.rstrip("\n"), file=sys.stderr)
 
 
 def skip_lines(file, count):
@@ -116,34 +151,39 @@ class Prover:
         self.words, self.solver = words, words.solver or cadical()
         # Steps that unit propagation is tried on, and proofs that are being checked.
         self.checker, self.tried, self.checking = checker, {}, collections.deque()
-        names = ["file", "clauses.cnf", "solution", "empty_clause"]
-        self.file, self.clauses, self.solution, self.empty_clause = (os.path.join(folder, name) for name in names)
+        names = ["clauses.cnf", "solution", "empty_clause"]
+        self.clauses, self.solution, self.empty_clause = (os.path.join(folder, name) for name in names)
         # The first is the solver's, and the others may be being checked.
         self.proofs = collections.deque(os.path.join(folder, f"proof{i}") for i in range(CHECKS + 1))
-        # Every answer is about the same bytes.
-        with open(words.file, "rb") as given, open(self.file, "wb") as out:
-            shutil.copyfileobj(given, out)
+        # Every answer is about the same bytes, which no solver can change. All programs but the solver have this descriptor.
+        self.copy = sealed(words.file)
+        self.file = f"/dev/fd/{self.copy}"
         with open(self.empty_clause, "w", encoding="ascii") as out:
             out.write("0\n")
 
     def has_solution(self, program, command, k, *form):
         """Whether the clauses that a program prints have a solution, as the solver says."""
         with open(self.clauses, "wb") as out:
-            run([program, command, self.file, str(k), *form], [0], out)
-        with open(self.solution, "wb") as out:
-            _, status = run([*self.solver, self.clauses, self.proofs[0]], [10, 20], out)
+            run([program, command, self.file, str(k), *form], [0], stdout=out, pass_fds=[self.copy])
+        with open(self.solution, "wb") as out, tempfile.TemporaryFile() as said:
+            try:
+                _, status = run([*self.solver, self.clauses, self.proofs[0]], [10, 20], stdin=subprocess.DEVNULL, stdout=out, stderr=said)
+            finally:
+                pass_on(said)
         return status == 10
 
     def checked(self, command, k, given, *form):
         """What aigcheck prints of a proof or of a solution."""
-        return run([self.words.aigcheck, command, self.file, str(k), given, *form], [0])[0]
+        if not stat.S_ISREG(os.lstat(given).st_mode):
+            raise Fault(f"{self.solver[0]} left no file as its proof")
+        return run([self.words.aigcheck, command, self.file, str(k), given, *form], [0], pass_fds=[self.copy])[0]
 
     def refuted(self, k):
         """What aigcheck prints of step k where unit propagation finds that no bad state is reached, and else nothing."""
         words = [self.words.aigcheck, "refuted", self.file, str(k), self.empty_clause]
-        done = subprocess.run(words, capture_output=True, encoding="ascii")
+        done = subprocess.run(words, capture_output=True, encoding="ascii", pass_fds=[self.copy])
         if done.returncode != 0 and done.stderr != STEP:
-            raise Fault(f"{words[0]} ended with status {done.returncode}: {done.stderr.strip()}")
+            raise Fault(f"{words[0]} {ending(done.returncode)}: {done.stderr.strip()}")
         return done.stdout
 
     def propagates(self, k, ahead):
@@ -219,7 +259,7 @@ class Prover:
 
 def cadical():
     """The words that call cadical for a proof in text, with hints where it knows them."""
-    options, _ = run(["cadical", "--help"], [0])
+    options, _ = run(["cadical", "--help"], [0], stdin=subprocess.DEVNULL)
     return ["cadical", "-q", "--no-binary", *(["--lrat=1"] if "--lrat" in options else [])]
 
 
@@ -255,7 +295,25 @@ class Words(optparse.OptionParser):
         return said
 
 
+def end(number, _):
+    """Ends by a signal, after the folder was removed."""
+    sys.exit(128 + number)
+
+
+def open_streams():
+    """Opens those of the three standard streams that are closed, so that no other file gets their numbers. What is printed to
+    a closed standard output fails."""
+    while (opened := os.open(os.devnull, os.O_RDONLY)) < 3:
+        pass
+    os.close(opened)
+    sys.stdout = sys.stdout or open(1, "w", encoding="ascii")
+    sys.stderr = sys.stderr or open(os.devnull, "w", encoding="ascii")
+
+
 def main():
+    open_streams()
+    for number in [signal.SIGTERM, signal.SIGHUP]:
+        signal.signal(number, end)
     words = Words().parse(sys.argv[1:])
     try:
         with tempfile.TemporaryDirectory() as folder, concurrent.futures.ThreadPoolExecutor(CHECKS) as checker:
