@@ -3,9 +3,10 @@
 
 AIGCHECK is crates/aigcheck/out/aigcheck beside this folder's, after `rt run` in crates/aigcheck. Each row says which words it is
 given, and which status, standard output and standard error are wanted. Files, proofs and solutions were written by hand; files
-lie in answers/, and the proofs that are faulty are made from the good ones below.
+lie in answers/, and the proofs that are faulty are made from the good ones below. A run ends within a minute.
 """
 import os
+import resource
 import subprocess
 import sys
 import tempfile
@@ -46,6 +47,10 @@ WAITING = """p cnf 7 12
 -7 -3 -3 0
 7 0
 """
+
+# The clauses of the window of five steps of a machine without latches whose input is bad, and of its states, which are all the same.
+STATELESS = "p cnf 6 6\n-1 0\n-2 0\n-3 0\n-4 0\n-5 0\n6 0\n"
+STATELESS_DISTINCT = STATELESS.replace("6 6", "6 7") + "0\n"
 
 # The proof of the window of the waiting latch in two steps, and what is made of it.
 LONG = "13 3 0 9 5 0\n14 0 12 13 11 0\n"
@@ -117,6 +122,14 @@ SOLVED = "s SATISFIABLE\nv -1 2 -3 -4 0\n"
 SOLUTIONS = {
     "solved": SOLVED,
     "in_lines": "c a solver\ns SATISFIABLE\nc values\nv -1 2\nv -3\nv -4 0\n",
+    "values_first": "v -1 2 -3 -4 0\ns SATISFIABLE\n",
+    "values_around": "v -1 2\ns SATISFIABLE\nv -3 -4 0\n",
+    "comments_around": "c a solver\nv -1 2\nc 5 -6 0\nv -3 -4 0\nc\ns SATISFIABLE\nc end",
+    "returns": SOLVED.replace("\n", "\r\n"),
+    "empty_lines": "\n \ns SATISFIABLE\n\n\t\r\nv -1 2 -3 -4 0\n",
+    "several_blanks": " s \t SATISFIABLE  \n\tv  -1\t2   -3 -4  0 \n",
+    "without_last_line_feed": SOLVED[:-1],
+    "answer_last": "v -1 2 -3 -4 0\ns SATISFIABLE",
     "last_input_missing": SOLVED.replace("-4 ", ""),
     "input_missing": SOLVED.replace("2 ", "", 1),
     "latch_missing": SOLVED.replace("-3 ", ""),
@@ -127,13 +140,23 @@ SOLUTIONS = {
     "constant_turned": "s SATISFIABLE\nv 1 0\n",
     "unsatisfiable": "s UNSATISFIABLE\n",
     "unknown": "s UNKNOWN\n",
+    "unsatisfiable_last": "v -1 2 -3 -4 0\ns UNSATISFIABLE\n",
+    "unsatisfiable_and_return": "s UNSATISFIABLE\r\n",
+    "unknown_alone": "s  UNKNOWN",
+    "of_minisat": "SAT\n-1 2 -3 -4 0\n",
+    "unsatisfiable_of_minisat": "UNSAT\n",
     "values_alone": SOLVED.split("\n", 1)[1],
     "no_solution": "no solution\n",
     "nothing": "",
     "other_line": SOLVED.replace("v", "x"),
     "no_literal": SOLVED.replace("2", "a"),
     "clash": SOLVED.replace("-4", "-2"),
-    "cut_in_word": SOLVED[:23],
+    "letter_in_literal": SOLVED.replace("2", "2a"),
+    "long_literal": SOLVED.replace("2", "4294967296"),
+    "greatest_literal": SOLVED.replace("2", "4294967295"),
+    "cut_after_word": SOLVED[:23],
+    "cut_after_blank": SOLVED[:19],
+    "cut_after_minus": SOLVED[:22],
     "without_0": SOLVED.replace(" 0", ""),
     "line_after_0": SOLVED + "no solution\n",
     "words_after_0": SOLVED.replace(" 0", " 0 5 2"),
@@ -144,11 +167,21 @@ SOLUTIONS = {
     "without_space": SOLVED.replace("v ", "v"),
     "empty_line": SOLVED.replace("v", "\nv"),
     "longer_answer": SOLVED.replace("E\n", "E2\n"),
-    "two_spaces_in_answer": SOLVED.replace("s ", "s  "),
-    "cut_in_answer": SOLVED[:13],
+    "letter_for_answer": SOLVED.replace("s S", "x S"),
+    "answer_without_space": SOLVED.replace("s S", "sS"),
+    "answer_of_two_words": SOLVED.replace("SATIS", "SATIS "),
+    "word_after_answer": SOLVED.replace("E\n", "E it\n"),
+    "answer_among_values": SOLVED.replace("-3", "\ns SATISFIABLE\nv -3"),
+    "words_before_answer": "v -1 2 -3 -4 0 5 2\ns SATISFIABLE\n",
+    "cut_after_answer": SOLVED[:13],
+    "cut_in_answer": SOLVED[:12],
+    # About step 4 of two.aag: 7 is the input there, which is bad, and 6 the one before, of which the latch is bad too.
+    "second_bad": "s SATISFIABLE\nv -1 -2 -3 4 -5 6 -7 0\n",
+    "both_bads": "s SATISFIABLE\nv -1 -2 -3 4 -5 6 7 0\n",
 }
-# A witness of counter.aag: the input is 1 at three steps.
+# A witness of counter.aag: the input is 1 at three steps; and one of delayed.aag, at step 1,101.
 SHOWN = "1\nb0\n00\n1\n1\n1\n0\n.\n"
+LATE = "1\nb0\n0\n" + 1_100 * "0\n" + "1\n0\n.\n"
 
 # The query of the latch that takes the input of the step before for step 1, and that of the waiting latch.
 DELAYED = """c i0 at step 0 is 2
@@ -185,11 +218,15 @@ c b0 at step 0 is 20
 """
 
 # What aigcheck says of a faulty solution.
-NO_ANSWER = "aigcheck: no answer of a solver\n"
+NO_ANSWER = "aigcheck: no answer of a solver: lines `s SATISFIABLE` and `v ..` are wanted\n"
+UNSATISFIABLE = "aigcheck: the solver answered UNSATISFIABLE\n"
+UNKNOWN = "aigcheck: the solver answered UNKNOWN\n"
 NOT_BAD = "aigcheck: no bad state property is true in the solution\n"
 NO_START = "aigcheck: the state is no start\n"
+SOLUTION_LINE = "aigcheck: bad line of a solution\n"
 NO_LITERAL = "aigcheck: bad literal in a solution\n"
 NO_VARIABLE = "aigcheck: literal of no variable in a solution\n"
+NO_END = "aigcheck: solution ends before its 0\n"
 
 
 def refused(why):
@@ -211,6 +248,7 @@ def rows(folder):
     """The words of each row, and what is wanted."""
     stuck, waiting, toggle, no_bads = (os.path.join(FILES, name + ".aag") for name in ["stuck", "waiting", "toggle", "no_bads"])
     differing, opposed, three = (os.path.join(FILES, name + ".aag") for name in ["differing", "opposed", "three"])
+    stateless, two = (os.path.join(FILES, name + ".aag") for name in ["stateless", "two"])
     of_stuck, of_waiting = (os.path.join(FILES, name + ".lrat") for name in ["stuck", "waiting"])
     made = {name: os.path.join(folder, name) for name in PROOFS}
     missing = os.path.join(folder, "missing")
@@ -220,6 +258,9 @@ def rows(folder):
     yield ["window", stuck, "0"], answered(STUCK)
     yield ["window", stuck, "0", "raw"], answered(STUCK)
     yield ["window", waiting, "0", "distinct"], answered(WAITING)
+    # Without latches one clause says of all pairs of steps that their states differ.
+    yield ["window", stateless, "3"], answered(STATELESS)
+    yield ["window", stateless, "3", "distinct"], answered(STATELESS_DISTINCT)
     yield ["refuted", stuck, "0", of_stuck], step(0)
     yield ["refuted", stuck, "7", of_stuck, "raw"], step(7)
     yield ["inductive", stuck, "0", of_stuck], window(0)
@@ -308,11 +349,16 @@ def rows(folder):
     yield ["clauses", credits, "0", "raw"], answered(CREDITS + query(credits, "0", "raw"))
     # The witness of a solution: the first state, the inputs of each step, and x where no value is given.
     witness = lambda name, file=delayed, k="1": ["witness", file, k, os.path.join(folder, name)]
-    for name in ["solved", "in_lines", "line_after_0", "words_after_0", "given_twice", "empty_lines_of_values", "0_alone"]:
+    read = ["solved", "in_lines", "line_after_0", "words_after_0", "given_twice", "empty_lines_of_values", "0_alone", "empty_line"]
+    read += ["values_first", "values_around", "comments_around", "returns", "empty_lines", "several_blanks"]
+    read += ["without_last_line_feed", "answer_last"]
+    for name in read:
         yield witness(name), answered("1\nb0\n0\n1\n0\n.\n")
     yield [*witness("solved"), "raw"], answered("1\nb0\n0\n1\n0\n.\n")
     yield witness("last_input_missing"), answered("1\nb0\n0\n1\nx\n.\n")
     yield witness("of_step_2", k="2"), answered("1\nb0\n0\n0\n1\n0\n.\n")
+    yield witness("second_bad", two, "4"), answered("1\nb1\n0\n0\n1\n0\n1\n0\n.\n")
+    yield witness("both_bads", two, "4"), answered("1\nb0\n0\n0\n1\n0\n1\n1\n.\n")
     yield witness("constant", constant, "0"), answered("1\nb0\n\n\n.\n")
     yield witness("constant_turned", constant, "0"), refused(NOT_BAD)
     yield witness("solved", k="2"), refused(NOT_BAD)
@@ -322,26 +368,42 @@ def rows(folder):
         ("input_turned", NOT_BAD),
         ("latch_turned", NO_START),
         ("of_step_2", NO_VARIABLE),
-        ("unsatisfiable", "aigcheck: the solver answered UNSATISFIABLE\n"),
-        ("unknown", "aigcheck: the solver answered UNKNOWN\n"),
+        ("unsatisfiable", UNSATISFIABLE),
+        ("unsatisfiable_last", UNSATISFIABLE),
+        ("unsatisfiable_and_return", UNSATISFIABLE),
+        ("unknown", UNKNOWN),
+        ("unknown_alone", UNKNOWN),
+        ("of_minisat", NO_ANSWER),
+        ("unsatisfiable_of_minisat", NO_ANSWER),
         ("values_alone", NO_ANSWER),
         ("no_solution", NO_ANSWER),
         ("nothing", NO_ANSWER),
-        ("other_line", "aigcheck: bad line of a solution\n"),
+        ("other_line", SOLUTION_LINE),
         ("no_literal", NO_LITERAL),
         ("clash", "aigcheck: literal and its inverse in a solution\n"),
-        ("cut_in_word", NO_LITERAL),
-        ("without_0", "aigcheck: solution ends before its 0\n"),
+        ("letter_in_literal", NO_LITERAL),
+        ("long_literal", NO_LITERAL),
+        ("greatest_literal", NO_VARIABLE),
+        ("cut_after_word", NO_END),
+        ("cut_after_blank", NO_END),
+        ("cut_after_minus", NO_LITERAL),
+        ("without_0", NO_END),
         ("inverted_0", NO_LITERAL),
-        ("without_space", "aigcheck: bad line of a solution\n"),
-        ("empty_line", "aigcheck: bad line of a solution\n"),
+        ("without_space", SOLUTION_LINE),
+        ("answer_among_values", SOLUTION_LINE),
+        ("words_before_answer", NO_ANSWER),
         ("longer_answer", NO_ANSWER),
-        ("two_spaces_in_answer", NO_ANSWER),
+        ("letter_for_answer", NO_ANSWER),
+        ("answer_without_space", NO_ANSWER),
+        ("answer_of_two_words", NO_ANSWER),
+        ("word_after_answer", NO_ANSWER),
+        ("cut_after_answer", NO_END),
         ("cut_in_answer", NO_ANSWER),
     ]:
         yield witness(name), refused(why)
     yield witness("solved", no_bads), refused(NO_BADS)
     yield witness("missing"), refused(OPEN)
+    yield ["run", delayed, os.path.join(folder, "late")], answered("b0 at step 1101\n")
     for words in [["clauses", no_bads, "0"], ["window", no_bads, "0"], ["refuted", no_bads, "0", of_stuck], ["inductive", no_bads, "0", of_stuck]]:
         yield words, refused(NO_BADS)
     for words in [["window", missing, "0"], ["refuted", missing, "0", of_stuck], ["refuted", stuck, "0", missing]]:
@@ -363,6 +425,13 @@ def rows(folder):
         yield words, refused("aigcheck: bad header line\n")
 
 
+def large(folder):
+    """Rows of 100,000 steps, which take no more than 4 GB of memory: that grows with the steps, and not with the pairs of them."""
+    stateless, proof = os.path.join(FILES, "stateless.aag"), os.path.join(folder, "empty_clause")
+    window = "no bad state at any step, if none up to step 100000\n"
+    yield ["inductive", stateless, "100000", proof, "distinct"], answered(window)
+
+
 def unwritten(folder):
     """The words of each command that prints, whose standard output takes no byte."""
     stuck, delayed, counter = os.path.join(FILES, "stuck.aag"), os.path.join(FILES, "delayed.aag"), os.path.join(HERE, "witnesses", "counter.aag")
@@ -371,21 +440,32 @@ def unwritten(folder):
     yield from [["witness", delayed, "1", os.path.join(folder, "solved")], ["run", counter, os.path.join(folder, "shown")]]
 
 
+def limit_memory():
+    """Leaves 4 GB of memory to a program."""
+    resource.setrlimit(resource.RLIMIT_AS, (4 << 30, 4 << 30))
+
+
+def run(words, out=subprocess.PIPE, before=None):
+    """The status, standard output and standard error of a program, which ends within a minute."""
+    done = subprocess.run(words, stdout=out, stderr=subprocess.PIPE, encoding="utf-8", timeout=60, preexec_fn=before)
+    return done.returncode, done.stdout, done.stderr
+
+
 def main():
     tool = sys.argv[1] if len(sys.argv) > 1 else os.path.join(HERE, "..", "crates", "aigcheck", "out", "aigcheck")
     failed = count = 0
     with tempfile.TemporaryDirectory() as folder:
-        for name, text in [*PROOFS.items(), *SOLUTIONS.items(), ("shown", SHOWN)]:
-            with open(os.path.join(folder, name), "w") as out:
+        for name, text in [*PROOFS.items(), *SOLUTIONS.items(), ("shown", SHOWN), ("late", LATE)]:
+            with open(os.path.join(folder, name), "w", newline="") as out:
                 out.write(text)
         tried = []
         for words, wanted in rows(folder):
-            done = subprocess.run([tool, *words], stdout=subprocess.PIPE, stderr=subprocess.PIPE, encoding="utf-8")
-            tried.append((words, wanted, (done.returncode, done.stdout, done.stderr)))
+            tried.append((words, wanted, run([tool, *words])))
+        for words, wanted in large(folder):
+            tried.append((words, wanted, run([tool, *words], before=limit_memory)))
         with open("/dev/full", "wb") as full:
             for words in unwritten(folder):
-                done = subprocess.run([tool, *words], stdout=full, stderr=subprocess.PIPE, encoding="utf-8")
-                tried.append((words, (1, WRITE), (done.returncode, done.stderr)))
+                tried.append((words, (1, None, WRITE), run([tool, *words], full)))
         for words, wanted, given in tried:
             count += 1
             if given != wanted:

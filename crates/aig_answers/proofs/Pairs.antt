@@ -2,12 +2,13 @@
 use Rattle.std.proofs.Common.{◌≡◌, ◌≢◌, List, length, sym, ℕ, zero, suc, ◌+◌, ◌-◌, ◌*◌, ◌/◌, ◌%◌, ◌<◌, ◌≤◌, refl, ap, subst, ◌∙◌, inl, inr, arith, mul_assoc, mul_comm}
 use Rattle.std.proofs.Math.Nat.{add-mul, le-div_iff_mul-le, mul-le-mul_right, mul-suc, suc-mul}
 use Rattle.std.proofs.lemmas.Bool.{cases_lt}
+use Rattle.aig_circuit.specs.declared.edge.AigEdge.{AigEdge}
 use Rattle.aig_circuit.specs.declared.node.AigLatch.{AigLatch}
 use Rattle.aig_circuit.specs.Circuit.{Circuit}
 use Rattle.aig_unroll.specs.Places.{unrolled_size}
 use Rattle.aig_certify.specs.declared.window.Window.{Window}
 use Rattle.aig_certify.specs.declared.window.Window.TheVariants.{Plain, Distinct}
-use Rattle.aig_certify.specs.WindowClauses.{count_pairs}
+use Rattle.aig_certify.specs.WindowClauses.{count_pairs, distinct_clauses, pairwise_clauses}
 use Rattle.aig_answers.specs.Answers.{window_size}
 
 pairs_twice : (n : ℕ) → 2 * count_pairs n + n ≡ n * n
@@ -59,3 +60,9 @@ no_room Plain c k limit pairs latchs is these count some more low = cc
 no_room Distinct c k limit pairs latchs is these count some more low =
     crowded pairs (length latchs) limit (unrolled_size c (k + 1)) some more
     (subst (λ p. unrolled_size c (k + 1) + p * length latchs ≤ limit) (sym count) (subst (λ (ls : List AigLatch). unrolled_size c (k + 1) + count_pairs (k + 2) * length ls ≤ limit) (sym these) low))
+
+-- where there are latches, the states differ pair by pair
+pub some_latches : (n l : ℕ) (edges : List AigEdge) (steps : ℕ) → l ≢ 0
+    → pairwise_clauses n l edges steps ≡ distinct_clauses n l edges steps
+some_latches n zero edges steps some = absurd (some refl)
+some_latches n (suc l) edges steps some = refl

@@ -101,7 +101,8 @@ fn push_apart(
 }
 
 /// Appends the clauses that the states at the first `steps` steps differ, over free variables after those of the clauses.
-/// A state has `latchs` edges, and stands after those before it.
+/// A state has `latchs` edges, and stands after those before it. Without latches no two states differ, and one empty clause
+/// says so of all pairs.
 pub(crate) fn push_distinct(
     clauses: &mut DagCnf,
     further: &mut LitVvec,
@@ -118,6 +119,9 @@ pub(crate) fn push_distinct(
     ensures further { OnOk result (further.new ≡ further.old
         ++ distinct_clauses (length clauses.old) latchs edges.now steps) }
 {
+    if latchs == 0 {
+        return further.push(&[]);
+    }
     for t in 0..steps {
         push_apart(clauses, further, some, edges, latchs, t)?;
     }

@@ -176,7 +176,7 @@ fn ask_window(
 ///
 /// The window clauses are, in order: for each constraint of each step that it holds, for each bad literal of the steps 0 to
 /// `k` that it doesn't, one clause of those of step `k + 1`, and in the distinct form, for each pair of steps, that some
-/// latch differs.
+/// latch differs. Without latches no two steps differ, and one empty clause says so of all pairs.
 ///
 /// `AnswerError::TooLarge` is answered, before any step, exactly where in the distinct form
 /// `n + (k + 1) * (n - 1 - l) + (k + 1) * (k + 2) / 2 * l` passes the limit, for the `n` nodes and `l` latches of the

@@ -96,5 +96,5 @@ window_below Distinct c k optimize lists further asks =
     let first = weaker_below n m (omega arith) (induction_clauses c k u) (below_all n (induction_clauses c k u) low) in
     let range = subst (λ m. All (λ (e : AigEdge). e.node_id < m) u.properties.outputs) (sym asks.has_clauses.count) asks.is_circuit.properties.outputs in
     let states = states_below u.properties.outputs l n (k + 2) (outputs_count c k u asks.steps) range in
-    let second = below_all m (distinct_clauses n l u.properties.outputs (k + 2)) (distinct_below n l (k + 2) u.properties.outputs states n (k + 2) m (omega arith) (omega arith) (omega arith)) in
+    let second = below_all m (distinct_clauses n l u.properties.outputs (k + 2)) (distinct_below n (k + 2) u.properties.outputs l states n (k + 2) m (omega arith) (omega arith) (omega arith)) in
     rw (asks.further_exact, variables_of_window Distinct c k optimize lists further asks) (All-append (All (λ lit. variable_of lit < m)) (induction_clauses c k u) (distinct_clauses n l u.properties.outputs (k + 2)) first second)

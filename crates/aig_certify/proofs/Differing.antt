@@ -13,7 +13,7 @@ use Rattle.aig_cnf.specs.Cnf.{edge_in}
 use Rattle.aig_cnf.proofs.Forms.{literal_value-lit_of, edge_in-inverse}
 use Rattle.aig_format.proofs.Entries.{rec_append}
 use Rattle.aig_runs.proofs.Further.{Holds}
-use Rattle.aig_certify.specs.WindowClauses.{apart_clauses, count_pairs, difference_clauses, distinct_clauses, pair_clauses, state_at, variables_from}
+use Rattle.aig_certify.specs.WindowClauses.{apart_clauses, count_pairs, difference_clauses, distinct_clauses, pair_clauses, pairwise_clauses, state_at, variables_from}
 
 -- ---- variables below a bound
 
@@ -202,12 +202,12 @@ module _ (low l steps : ℕ) (edges : List AigEdge) (states : (t : ℕ) → t < 
       (rec_append (IsBelow top) (apart_clauses n l edges t s) (pair_clauses (n + s * l) (state_at l edges s) (state_at l edges t))).1
       (apart_below n t s top h there (omega arith) (omega (arith, more)), pair_below low (n + s * l) top (state_at l edges s) (state_at l edges t) (omega arith) (omega (arith, more, long)) first.1 second.1)
 
-  pub distinct_below : (n t top : ℕ) → low ≤ n → t ≤ steps → n + count_pairs t * l ≤ top → AreBelow top (distinct_clauses n l edges t)
-  distinct_below n zero top h there room = tt
-  distinct_below n (suc t) top h there room =
+  pairwise_below : (n t top : ℕ) → low ≤ n → t ≤ steps → n + count_pairs t * l ≤ top → AreBelow top (pairwise_clauses n l edges t)
+  pairwise_below n zero top h there room = tt
+  pairwise_below n (suc t) top h there room =
       let more : (count_pairs t + t) * l ≡ count_pairs t * l + t * l = add-mul (count_pairs t) t l in
-      (rec_append (IsBelow top) (distinct_clauses n l edges t) (apart_clauses (n + count_pairs t * l) l edges t t)).1
-      (distinct_below n t top h (omega arith) (omega (arith, more)), apart_below (n + count_pairs t * l) t t top (omega arith) (omega arith) (omega arith) (omega (arith, more)))
+      (rec_append (IsBelow top) (pairwise_clauses n l edges t) (apart_clauses (n + count_pairs t * l) l edges t t)).1
+      (pairwise_below n t top h (omega arith) (omega (arith, more)), apart_below (n + count_pairs t * l) t t top (omega arith) (omega arith) (omega arith) (omega (arith, more)))
 
   module _ (v : ℕ → Bool) (differ_there : (s t : ℕ) → s < t → t < steps → ¬ AreEqual v (state_at l edges s) (state_at l edges t)) where
     -- under an assignment that agrees with v on the edges
@@ -229,11 +229,28 @@ module _ (low l steps : ℕ) (edges : List AigEdge) (states : (t : ℕ) → t < 
         extends_both w n (n + s * l) (apart_clauses n l edges t s) (pair_clauses (n + s * l) (state_at l edges s) (state_at l edges t)) (omega arith) (apart_below n t s (n + s * l) h there (omega arith) (omega arith)) before
         (extends_pair low (n + s * l) (omega arith) before.values (state_at l edges s) (state_at l edges t) (omega arith) first.1 second.1 (still before.values now s t (omega arith) there))
 
-    pub distinct_extends : (n t : ℕ) → low ≤ n → t ≤ steps → Extends v n (distinct_clauses n l edges t)
-    distinct_extends n zero h there = record { values = v; agree = λ m low. refl; hold = tt }
-    distinct_extends n (suc t) h there =
-        let before = distinct_extends n t h (omega arith) in
+    pairwise_extends : (n t : ℕ) → low ≤ n → t ≤ steps → Extends v n (pairwise_clauses n l edges t)
+    pairwise_extends n zero h there = record { values = v; agree = λ m low. refl; hold = tt }
+    pairwise_extends n (suc t) h there =
+        let before = pairwise_extends n t h (omega arith) in
         let agree : Agree low v before.values = λ m less. before.agree m (omega arith) in
         let m = n + count_pairs t * l in
-        extends_both v n m (distinct_clauses n l edges t) (apart_clauses m l edges t t) (omega arith) (distinct_below n t m h (omega arith) (omega arith)) before
+        extends_both v n m (pairwise_clauses n l edges t) (apart_clauses m l edges t t) (omega arith) (pairwise_below n t m h (omega arith) (omega arith)) before
         (apart_extends before.values agree m t t (omega arith) (omega arith) (omega arith))
+
+-- ---- all states
+
+module _ (low steps : ℕ) (edges : List AigEdge) where
+  -- the states at the steps have l edges that are there
+  abbrev AreStates : ℕ → Type 0
+  AreStates l = (t : ℕ) → t < steps → (length (state_at l edges t) ≡ l) × AreEdgesBelow low (state_at l edges t)
+
+  pub distinct_below : (l : ℕ) → AreStates l → (n t top : ℕ) → low ≤ n → t ≤ steps → n + count_pairs t * l ≤ top → AreBelow top (distinct_clauses n l edges t)
+  distinct_below zero states n t top h there room = (tt, tt)
+  distinct_below (suc l) states n t top h there room = pairwise_below low (suc l) steps edges states n t top h there room
+
+  -- without latches no two states differ
+  pub distinct_extends : (l : ℕ) → AreStates l → (v : ℕ → Bool) → ((s t : ℕ) → s < t → t < steps → ¬ AreEqual v (state_at l edges s) (state_at l edges t))
+      → (n t : ℕ) → low ≤ n → 2 ≤ t → t ≤ steps → Extends v n (distinct_clauses n l edges t)
+  distinct_extends zero states v differ_there n t h two there = absurd (differ_there 0 1 (omega arith) (omega arith) tt)
+  distinct_extends (suc l) states v differ_there n t h two there = pairwise_extends low (suc l) steps edges states v differ_there n t h there

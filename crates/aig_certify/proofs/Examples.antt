@@ -71,6 +71,10 @@ differ-2 = refl
 differ-0 : codes_of (pair_clauses 9 [] []) ≡ [] ∷ []
 differ-0 = refl
 
+-- one for all pairs of a window of k = 3
+without_latches : codes_of (window_clauses Distinct 4 only_false 3 (showing [])) ≡ [] ∷ [] ∷ []
+without_latches = refl
+
 -- the second of three states of two latches
 second : state_at 2 (edge_to 1 false ∷ edge_to 2 false ∷ edge_to 3 false ∷ edge_to 4 false ∷ edge_to 5 false ∷ edge_to 6 false ∷ []) 1 ≡ edge_to 3 false ∷ edge_to 4 false ∷ []
 second = refl

@@ -266,7 +266,7 @@ module _ (f : File) (limit k : ℕ) (outputs : List AigEdge) (u : Circuit) (list
 
       distinct_satisfiable : (free : ℕ) → IsSatisfiable (clauses_in (lists ++ replicate free []) ++ further)
       distinct_satisfiable free =
-          let more = distinct_extends n l (k + 2) u.properties.outputs states_are v differ_there n (k + 2) (omega arith) (omega arith) in
+          let more = distinct_extends n (k + 2) u.properties.outputs l states_are v differ_there n (k + 2) (omega arith) (omega arith) (omega arith) in
           let w = more.values in
           let kept = hold_alike n v w more.agree (induction_clauses (circuit_of f) k u) (induction_below (circuit_of f) u k n has in_range) induction_hold in
           let holds = satisfies_more w lists free (satisfies_alike n v w more.agree lists relations.below one.satisfies) in

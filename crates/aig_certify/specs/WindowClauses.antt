@@ -73,11 +73,18 @@ abbrev pub count_pairs : ℕ → ℕ
 count_pairs zero = 0
 count_pairs (suc t) = count_pairs t + t
 
--- the states at the first so many steps differ, where variables from n on are free
+-- for each pair of the first so many steps, that the states differ, where variables from n on are
+-- free
+abbrev pub pairwise_clauses : ℕ → ℕ → List AigEdge → ℕ → List (List Lit)
+pairwise_clauses n l edges zero = []
+pairwise_clauses n l edges (suc t) =
+    pairwise_clauses n l edges t ++ apart_clauses (n + count_pairs t * l) l edges t t
+
+-- The states at the first so many steps differ, of which there are two at least. States without
+-- latches are all the same: one clause, the empty one, says that two of them differ.
 abbrev pub distinct_clauses : ℕ → ℕ → List AigEdge → ℕ → List (List Lit)
-distinct_clauses n l edges zero = []
-distinct_clauses n l edges (suc t) =
-    distinct_clauses n l edges t ++ apart_clauses (n + count_pairs t * l) l edges t t
+distinct_clauses n zero edges steps = [] ∷ []
+distinct_clauses n (suc l) edges steps = pairwise_clauses n (suc l) edges steps
 
 -- ---- windows
 

@@ -1,6 +1,5 @@
 mod Turning
 mod Steps
 pub mod Showing
-mod Words
 mod Examples
 mod Copying

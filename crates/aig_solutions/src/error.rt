@@ -25,10 +25,10 @@ pub enum SolutionError {
     /// The solver answered that it doesn't know.
     #[error("the solver answered UNKNOWN")]
     Unknown,
-    /// The first line that is no comment is none of the solver's answers.
-    #[error("no answer of a solver")]
+    /// Before the solver's answer comes a line that is neither one of values nor a comment, or the end.
+    #[error("no answer of a solver: lines `s SATISFIABLE` and `v ..` are wanted")]
     Answer,
-    /// After the answer comes a line that is neither a comment nor a line of values.
+    /// After the answer comes a line that is neither one of values nor a comment, or a `v` is no word.
     #[error("bad line of a solution")]
     Line,
     /// A line of values has another word than a literal or 0.

@@ -7,6 +7,7 @@ mod laws;
 mod places;
 mod reading;
 mod witness;
+mod words;
 
 pub use checked::checked_witness;
 pub use error::{CheckedWitnessError, SolutionError, ValuesError};

@@ -1,65 +1,60 @@
 //! Reading solvers' answers, as in the SAT competitions.
 
-ghost use Rattle.std.specs.Prelude.{◌≡◌, ◌<◌, ◌≤◌, IfOk, IsErrOf, IsTrue, OnOk, OnSome, length, true, vec_len};
-ghost use Rattle.aig_lexer.specs.Takes.{feed};
+ghost use Rattle.std.specs.Prelude.{◌≡◌, IfOk, IsErrOf, IsTrue, length, true};
 
 use crate::error::SolutionError;
+use crate::words::{Word, is_blank, next_word};
 use aig_base::{Lbool, Source};
-use aig_lexer::{InputBuffer, LexError, number_from};
+use aig_lexer::InputBuffer;
 use std::alloc::Global;
 
-/// The first byte of the next line that is no comment, if there is one.
+/// The first byte of the next line that is neither empty nor a comment, past blanks, if there is one.
 fn first_byte<R: Source>(buffer: &mut InputBuffer, r: &mut R) -> Result<Option<u8>, SolutionError>
-    ensures stream { IsErrOf result SolutionError.Stream → R.failed r.new ≡ true }
-    ensures fewer { IfOk result (λ o. OnSome o ((feed R.left R.failed R.pulls buffer.new r.new).most
-        < (feed R.left R.failed R.pulls buffer.old r.old).most)) }
+    ensures { IsErrOf result SolutionError.Stream → R.failed r.new ≡ true }
 {
-    let mut inside = false;
+    let mut is_comment = false;
     while let Some(b) = buffer.next(r)? {
-        if inside {
-            inside = b != b'\n';
+        if b == b'\n' {
+            is_comment = false;
         } else if b == b'c' {
-            inside = true;
-        } else {
+            is_comment = true;
+        } else if !is_comment && !is_blank(b) {
             return Ok(Some(b));
         }
     }
     Ok(None)
 }
 
-/// The next byte of a line of values.
-fn next_byte<R: Source>(buffer: &mut InputBuffer, r: &mut R) -> Result<u8, SolutionError>
-    ensures stream { IsErrOf result SolutionError.Stream → R.failed r.new ≡ true }
-    ensures fewer { OnOk result ((feed R.left R.failed R.pulls buffer.new r.new).most
-        < (feed R.left R.failed R.pulls buffer.old r.old).most) }
-{
-    match buffer.next(r)? {
-        Some(byte) => Ok(byte),
-        None => Err(SolutionError::Unfinished),
-    }
-}
-
-/// The most bytes that are read of the line of an answer.
+/// The most bytes that are held of the line of an answer.
 const LONGEST: usize = 16;
 
-/// Appends what stands in a line after its first byte.
+/// Appends what stands in a line after its first byte: its words, with a space for the blanks before each.
 fn push_rest_of_line<R: Source>(
     buffer: &mut InputBuffer,
     r: &mut R,
     rest: &mut Vec<u8>,
 ) -> Result<(), SolutionError>
-    ensures stream { IsErrOf result SolutionError.Stream → R.failed r.new ≡ true }
+    ensures { IsErrOf result SolutionError.Stream → R.failed r.new ≡ true }
 {
+    let mut is_apart = false;
     while let Some(b) = buffer.next(r)? {
         if b == b'\n' {
             return Ok(());
         }
-        if rest.len() == LONGEST {
+        if is_blank(b) {
+            is_apart = true;
+            continue;
+        }
+        if rest.len() >= LONGEST {
             return Err(SolutionError::Answer);
+        }
+        if is_apart {
+            rest.push(b' ')?;
+            is_apart = false;
         }
         rest.push(b)?;
     }
-    Err(SolutionError::Answer)
+    Ok(())
 }
 
 /// Whether the answer is `SATISFIABLE`, by what stands in its line after the first byte.
@@ -77,57 +72,17 @@ fn accept_answer(rest: &[u8]) -> Result<(), SolutionError>
     }
 }
 
-/// Reads the line of an answer, after comments, into no bytes. Other answers than `SATISFIABLE` are refused.
+/// Reads the line of an answer after its `s`. Other answers than `SATISFIABLE` are refused.
 fn read_answer<R: Source>(
+    alloc: Global,
     buffer: &mut InputBuffer,
     r: &mut R,
-    line: &mut Vec<u8>,
 ) -> Result<(), SolutionError>
-    ensures stream { IsErrOf result SolutionError.Stream → R.failed r.new ≡ true }
+    ensures { IsErrOf result SolutionError.Stream → R.failed r.new ≡ true }
 {
-    if first_byte(buffer, r)? != Some(b's') {
-        return Err(SolutionError::Answer);
-    }
-    push_rest_of_line(buffer, r, line)?;
-    accept_answer(line.as_slice())
-}
-
-/// A literal of a solution, and the byte after it.
-#[derive(Clone, Copy)]
-struct Word {
-    /// The number of its variable, from 1 on, or 0 for the end of the solution.
-    number: u32,
-    /// Whether it has no minus in front.
-    positive: bool,
-    /// The byte after it: a space or a line feed.
-    end: u8,
-}
-
-/// Reads the literal that begins with this byte.
-fn read_word<R: Source>(
-    buffer: &mut InputBuffer,
-    r: &mut R,
-    first: u8,
-) -> Result<Word, SolutionError>
-    ensures stream { IsErrOf result SolutionError.Stream → R.failed r.new ≡ true }
-    ensures fewer { OnOk result ((feed R.left R.failed R.pulls buffer.new r.new).most
-        < (feed R.left R.failed R.pulls buffer.old r.old).most) }
-{
-    let positive = first != b'-';
-    let digit = if positive {
-        first
-    } else {
-        next_byte(buffer, r)?
-    };
-    match number_from(buffer, r, digit) {
-        Ok((number, end)) if end == b' ' || end == b'\n' => Ok(Word {
-            number,
-            positive,
-            end,
-        }),
-        Err(LexError::Stream) => Err(SolutionError::Stream),
-        _ => Err(SolutionError::Literal),
-    }
+    let mut rest = Vec::with_capacity(alloc, LONGEST)?;
+    push_rest_of_line(buffer, r, &mut rest)?;
+    accept_answer(rest.as_slice())
 }
 
 /// Gives the variable of a literal its value.
@@ -153,48 +108,66 @@ fn set_value(values: &mut [Lbool], word: &Word) -> Result<(), SolutionError>
     Ok(())
 }
 
+/// Takes the byte after the first of a line of values, and says whether the line goes on.
+fn goes_on<R: Source>(buffer: &mut InputBuffer, r: &mut R) -> Result<bool, SolutionError>
+    ensures { IsErrOf result SolutionError.Stream → R.failed r.new ≡ true }
+{
+    match buffer.next(r)? {
+        None | Some(b'\n') => Ok(false),
+        Some(b) if is_blank(b) => Ok(true),
+        Some(_) => Err(SolutionError::Line),
+    }
+}
+
 /// Reads the literals of a line, after its first byte, and says whether the 0 stands there.
 fn read_values<R: Source>(
     buffer: &mut InputBuffer,
     r: &mut R,
     values: &mut [Lbool],
 ) -> Result<bool, SolutionError>
-    ensures stream { IsErrOf result SolutionError.Stream → R.failed r.new ≡ true }
-    ensures fewer { OnOk result ((feed R.left R.failed R.pulls buffer.new r.new).most
-        < (feed R.left R.failed R.pulls buffer.old r.old).most) }
+    ensures { IsErrOf result SolutionError.Stream → R.failed r.new ≡ true }
 {
-    let mut byte = next_byte(buffer, r)?;
-    if byte != b' ' && byte != b'\n' {
-        return Err(SolutionError::Line);
+    if !goes_on(buffer, r)? {
+        return Ok(false);
     }
-    while byte != b'\n' {
-        if byte == b' ' {
-            byte = next_byte(buffer, r)?;
-        } else {
-            let word = read_word(buffer, r, byte)?;
-            if word.positive && word.number == 0 {
-                return Ok(true);
-            }
-            set_value(values, &word)?;
-            byte = word.end;
+    for _ in 0..u64::MAX {
+        let Some(word) = next_word(buffer, r)? else {
+            break;
+        };
+        if word.positive && word.number == 0 {
+            return Ok(true);
+        }
+        set_value(values, &word)?;
+        if word.last {
+            break;
         }
     }
     Ok(false)
 }
 
-/// Reads lines of values up to the 0.
+/// Reads lines up to the answer and to the 0 of the values, whichever comes last.
 fn read_lines<R: Source>(
+    alloc: Global,
     buffer: &mut InputBuffer,
     r: &mut R,
     values: &mut [Lbool],
 ) -> Result<(), SolutionError>
-    ensures stream { IsErrOf result SolutionError.Stream → R.failed r.new ≡ true }
+    ensures { IsErrOf result SolutionError.Stream → R.failed r.new ≡ true }
 {
-    while let Some(first) = first_byte(buffer, r)? {
-        if first != b'v' {
-            return Err(SolutionError::Line);
+    let mut is_answered = false;
+    let mut is_complete = false;
+    for _ in 0..u64::MAX {
+        match first_byte(buffer, r)? {
+            Some(b's') if !is_answered => {
+                read_answer(alloc, buffer, r)?;
+                is_answered = true;
+            }
+            Some(b'v') if !is_complete => is_complete = read_values(buffer, r, values)?,
+            _ if !is_answered => return Err(SolutionError::Answer),
+            Some(_) => return Err(SolutionError::Line),
+            None => break,
         }
-        if read_values(buffer, r, values)? {
+        if is_answered && is_complete {
             return Ok(());
         }
     }
@@ -204,16 +177,16 @@ fn read_lines<R: Source>(
 /// Reads a solver's answer to clauses of so many variables, and returns the value of each: unknown where the solver says
 /// nothing of it.
 ///
-/// The answer is a line `s SATISFIABLE`, and then lines of `v` and literals, of which a 0 ends the last; what follows is not
-/// read. A literal is the number of its variable and one more, with a minus where it is inverted. Lines that begin with `c`
-/// are comments. (The output of the SAT competitions.) It takes memory for the values alone, and reads through a buffer of
-/// 4,096 bytes.
+/// The answer is a line `s SATISFIABLE`, and lines of `v` and literals, of which a 0 ends the last, after it or before it; what
+/// follows both is not read. A literal is the number of its variable and one more, with a minus where it is inverted. Blanks
+/// are spaces, tabs and carriage returns; lines of these alone, and those that begin with `c`, are passed over. (The output of
+/// the SAT competitions.) It takes memory for the values, and reads through a buffer of 4,096 bytes.
 ///
 /// # Errors
 ///
-/// `Unsatisfiable` and `Unknown` where the solver answers so, `Answer` where there is no answer; `Line`, `Literal`,
-/// `Variable` and `Clash` name the first fault of the lines of values, and `Unfinished` their missing end; `Stream` where a
-/// read failed; `Memory`.
+/// `Unsatisfiable` and `Unknown` where the solver answers so, `Answer` where a line that is none of these, or the end, comes
+/// before the answer; `Line`, `Literal`, `Variable` and `Clash` name the first fault of other lines, and `Unfinished` a missing
+/// 0; `Stream` where a read failed; `Memory`.
 pub fn read_solution<R: Source>(
     alloc: Global,
     r: &mut R,
@@ -224,8 +197,7 @@ pub fn read_solution<R: Source>(
     ensures stream { IsErrOf result SolutionError.Stream → IsTrue (R.failed r.new) }
 {
     let mut buffer = InputBuffer::new();
-    read_answer(&mut buffer, r, &mut Vec::with_capacity(alloc, LONGEST)?)?;
     let mut values = vec![in alloc; Lbool::NONE; variables]?;
-    read_lines(&mut buffer, r, &mut values)?;
+    read_lines(alloc, &mut buffer, r, &mut values)?;
     Ok(values)
 }

@@ -1,8 +1,8 @@
 use Rattle.std.proofs.Common.{◌≡◌, suc, ◌+◌, ◌*◌, ◌≤◌, ◌++◌, length, sym, ap, ◌∙◌, arith}
 use Rattle.std.proofs.Math.Nat.{add-mul, mul-le-mul_right}
-use Rattle.aig_certify.specs.WindowClauses.{apart_clauses, count_pairs, distinct_clauses}
+use Rattle.aig_certify.specs.WindowClauses.{apart_clauses, count_pairs, pairwise_clauses}
 use Rattle.aig_answers.proofs.Growing.{free, free_length, free_step, more_step}
-use Rattle.aig_answers.proofs.Pairs.{pairs_next}
+use Rattle.aig_answers.proofs.Pairs.{pairs_next, some_latches}
 use Rattle.aig_answers.proofs.distinct.push_distinct.Goals as goal
 
 pub push_apart-requires-clause-room : goal.push_apart-requires-clause-room
@@ -22,9 +22,9 @@ loop-t-preserved c =
     record {
       clauses = free_step _ c.args.clauses.now c.loop-t.clauses (count_pairs t * l) (t * l) before.clauses c.in_ok-push_apart.ensures.clauses ∙ ap (λ m. c.args.clauses.now ++ free m) pairs;
       further =
-          more_step _ c.args.further.now c.loop-t.further (distinct_clauses n l c.args.edges.now t) (apart_clauses (n + count_pairs t * l) l c.args.edges.now t t) before.further
+          more_step _ c.args.further.now c.loop-t.further (pairwise_clauses n l c.args.edges.now t) (apart_clauses (n + count_pairs t * l) l c.args.edges.now t t) before.further
           (c.in_ok-push_apart.ensures.further ∙ ap (λ m. c.loop-t.further ++ apart_clauses m l c.args.edges.now t t) at)
-          ∙ ap (λ m. c.args.further.now ++ distinct_clauses n l c.args.edges.now m) next;
+          ∙ ap (λ m. c.args.further.now ++ pairwise_clauses n l c.args.edges.now m) next;
     }
 
 pub push_apart-requires-clause-there : goal.push_apart-requires-clause-there
@@ -40,4 +40,5 @@ returns-clause-clauses c =
 pub returns-clause-further : goal.returns-clause-further
 returns-clause-further c =
     let end : c.loop-t.t ≡ c.args.steps = omega arith in
-    c.loop-t.invariant.further ∙ ap (λ t. c.args.further.now ++ distinct_clauses (length c.args.clauses.now) c.args.latchs c.args.edges.now t) end
+    c.loop-t.invariant.further ∙ ap (λ t. c.args.further.now ++ pairwise_clauses (length c.args.clauses.now) c.args.latchs c.args.edges.now t) end
+    ∙ ap (λ all. c.args.further.now ++ all) (some_latches (length c.args.clauses.now) c.args.latchs c.args.edges.now c.args.steps c.if-latchs-eq0.false)

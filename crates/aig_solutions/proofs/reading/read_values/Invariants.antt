@@ -1,9 +1,0 @@
-use Rattle.std.proofs.Common.{◌<◌}
-use Rattle.aig_lexer.specs.Takes.{feed}
-use Rattle.aig_solutions.proofs.reading.read_values.Given as goal
-
-abbrev pub invariant-loop-byte : goal.invariant-loop-byte
-invariant-loop-byte g l = (feed g.R.Source.left g.R.Source.failed g.R.Source.pulls l.buffer l.r).most < (feed g.R.Source.left g.R.Source.failed g.R.Source.pulls l.fn.buffer l.fn.r).most
-
-abbrev pub decreases-loop-byte : goal.decreases-loop-byte
-decreases-loop-byte g l = (feed g.R.Source.left g.R.Source.failed g.R.Source.pulls l.buffer l.r).most
