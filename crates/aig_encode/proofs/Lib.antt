@@ -1,3 +1,3 @@
-pub mod Exactly
+mod Verdicts
 mod Promised
 mod Refuted
