@@ -1,7 +1,7 @@
 //! Reading and writing AIGER.
 
-ghost use Rattle.std.specs.Prelude.{◌≡◌, ◌≢◌, ◌⊎◌, ◌<◌, ◌≤◌, ◌^◌, ℕ, Err, List, Some, false, length, IfErr, IfOk, IfSome, IsErrOf, IsOk, IsTrue, OnOk, true, if◌then◌else◌};
-ghost use Rattle.std.specs.Io.KnownBytes.{Appends, IsAtEnd};
+ghost use Rattle.std.specs.Prelude.{◌≡◌, ◌≢◌, ◌⊎◌, ◌<◌, ◌≤◌, ◌^◌, ℕ, Err, List, Some, false, length, IfErr, IfOk, IsErrOf, IsOk, IsTrue, OnOk, true, if◌then◌else◌};
+ghost use Rattle.std.specs.Io.KnownBytes.{Appends};
 ghost use Rattle.aig_circuit.specs.Reencode.{reencoded};
 ghost use Rattle.aig_format.specs.Circuit.{binary_of, circuit_of, file_of, text_of, IsReadAgain};
 ghost use Rattle.aig_format.specs.declared.FileKind.TheVariants.{Binary, Text};

@@ -1,5 +1,5 @@
 -- What is promised of a circuit that was read: an encoding of it, or one of two refusals.
-use Rattle.std.proofs.Common.{ℕ, ◌≡◌, ◌<◌, ◌≤◌, Bool, Option, Result, Ok, Err, List, sym, subst}
+use Rattle.std.proofs.Common.{ℕ, ◌<◌, ◌≤◌, Bool, Option, Result, Ok, Err, List, sym, subst}
 use Rattle.aig_circuit.specs.Circuit.{Circuit}
 use Rattle.aig_format.specs.Circuit.{circuit_of}
 use Rattle.aig_format.specs.File.{File}
