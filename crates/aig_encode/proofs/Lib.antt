@@ -1,3 +1,3 @@
-mod Verdicts
+pub mod Verdicts
 mod Promised
 mod Refuted
