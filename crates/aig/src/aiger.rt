@@ -1,13 +1,14 @@
 //! Reading and writing AIGER.
 
-ghost use Rattle.std.specs.Prelude.{◌≡◌, ◌≢◌, ◌⊎◌, ◌<◌, ◌≤◌, ◌^◌, ℕ, Err, List, Some, false, length, IfErr, IfOk, IfSome, IsErrOf, IsOk, IsTrue, OnOk, true, if◌then◌else◌};
-ghost use Rattle.std.specs.Io.KnownBytes.{Appends, IsAtEnd};
+ghost use Rattle.std.specs.Prelude.{◌≡◌, ◌≢◌, ◌⊎◌, ◌<◌, ◌≤◌, ◌^◌, ℕ, Err, List, Some, false, length, IfErr, IfOk, IsErrOf, IsOk, IsTrue, OnOk, true, if◌then◌else◌};
+ghost use Rattle.std.specs.Io.KnownBytes.{Appends};
 ghost use Rattle.aig_circuit.specs.Reencode.{reencoded};
 ghost use Rattle.aig_format.specs.Circuit.{binary_of, circuit_of, file_of, text_of, IsReadAgain};
 ghost use Rattle.aig_format.specs.declared.FileKind.TheVariants.{Binary, Text};
 ghost use Rattle.aig_format.specs.File.{File};
 ghost use Rattle.aig_format.specs.Fits.{Accepts};
-ghost use Rattle.aig_reader.specs.Reading.{IsReadAs, ReadsExactly, UnlessTransient};
+ghost use Rattle.aig_reader.specs.Reading.{IsReadAs};
+ghost use Rattle.aig_reader.specs.Verdicts.{Accepted, Judges, verdict_by, verdict_of};
 ghost use Rattle.aig_writer.specs.Numbering.{IsBinaryNumbering};
 ghost use Rattle.aig_output.specs.Sinks.{AppendsBeginning, WritesOrStops};
 ghost use Rattle.aig_circuit.specs.Circuit.{IsClosed};
@@ -131,14 +132,9 @@ impl Aig {
         ensures few { IfOk result (λ aig. length aig.nodes ≤ limit) }
         // It has a written form: no leaf is free, initial edges are constant, and names hold no line feed.
         ensures writable { IfOk result IsWritable }
-        // Of known bytes, memory and stream aside: where they are a file that is accepted, the circuit is that file's; else
-        // there is a refusal, TooMany exactly where the header line is good and passes the limit.
-        ensures exact { IfSome (R.left r.old) (λ bytes.
-            UnlessTransient result (ReadsExactly IsFileCircuit limit result bytes)) }
-        // A circuit only where no read failed and the stream was read to its end.
-        ensures whole { OnOk result ((R.failed r.new ≡ false) × IsAtEnd (R.left r.new)) }
-        // Stream only where a read failed in this call.
-        ensures stream { IsErrOf result ReadError.Stream → IsTrue (R.failed r.new) }
+        // Each file that is accepted is taken, and a refusal says why.
+        ensures verdict { Judges (λ _. Accepted) limit (R.left r.old) (R.left r.new)
+            (R.failed r.new) (verdict_by verdict_of result) }
         ensures never_open { IsErrOf result ReadError.Open → ⊥ }
     {
         let lists = aig_reader::read(alloc, r, limit)?;

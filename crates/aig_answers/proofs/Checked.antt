@@ -4,7 +4,7 @@ use Rattle.std.specs.Prelude.{◌==◌, IfErr, IfOk, IsErrOf, OnOk}
 use Rattle.std.proofs.lemmas.Bool.{false≢true}
 use Rattle.aig_circuit.specs.declared.edge.AigEdge.{AigEdge}
 use Rattle.aig_encode.specs.declared.error.EncodeError.{EncodeError}
-use Rattle.aig_encode.proofs.Exactly.{no_refusal}
+use Rattle.aig_answers.proofs.Exactly.{no_refusal}
 use Rattle.aig_answers.specs.declared.error.AnswerError.{AnswerError}
 use Rattle.aig_answers.specs.declared.error.AnswerError.TheVariants as errors
 use Rattle.aig_answers.specs.Answers.{IsOfCircuit, IsOfCircuitQuery, IsOfFileAlone, IsOfWindow, of_file}

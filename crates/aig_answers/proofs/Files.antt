@@ -10,15 +10,16 @@ use Rattle.aig_format.specs.File.{File}
 use Rattle.aig_format.specs.Fits.{Accepts}
 use Rattle.aig_reader.specs.declared.error.ReadError.{ReadError}
 use Rattle.aig_reader.specs.declared.error.ReadError.TheVariants as read
-use Rattle.aig_reader.specs.Reading as reading
-use Rattle.aig_reader.specs.Reading.{IsReadAs, ReadsWhere}
+use Rattle.aig_answers.specs.Exactly as reading
+use Rattle.aig_reader.specs.Reading.{IsReadAs}
+use Rattle.aig_answers.specs.Exactly.{ConsumedFile, EncodeUnlessTransient, IsBeyond, ReadsWhere}
 use Rattle.aig_unroll.specs.Places.{unrolled_size}
 use Rattle.aig.specs.Reading.{IsFileCircuit}
 use Rattle.aig_certify.specs.declared.window.Window.{Window}
 use Rattle.aig_encode.specs.declared.error.EncodeError.{EncodeError}
 use Rattle.aig_encode.specs.declared.error.EncodeError.TheVariants as encode
-use Rattle.aig_encode.specs.Encoding.{IsBeyond, IsWithin, ConsumedFile, EncodeUnlessTransient}
-use Rattle.aig_encode.proofs.Exactly.{Reads, Tells, answered, answered_again, no_refusal, refused_again, refused_as_large, refused_in_reading}
+use Rattle.aig_encode.specs.Encoding.{IsWithin}
+use Rattle.aig_answers.proofs.Exactly.{Reads, Tells, answered, answered_again, no_refusal, refused_again, refused_as_large, refused_in_reading}
 use Rattle.aig_answers.specs.declared.error.AnswerError.{AnswerError}
 use Rattle.aig_answers.specs.declared.error.AnswerError.TheVariants as errors
 use Rattle.aig_answers.specs.Answers.{AsksNothing, IsAsked, IsCrowded, IsExactly, IsOfCircuit, TellsOfFile, TellsOfRoom, of_file, window_size}

@@ -10,15 +10,15 @@ use Rattle.aig_format.specs.File.{File}
 use Rattle.aig_format.specs.Fits.{Accepts, Fits}
 use Rattle.aig_reader.specs.declared.error.ReadError.{ReadError}
 use Rattle.aig_reader.specs.declared.error.ReadError.TheVariants as read
-use Rattle.aig_reader.specs.Reading as reading
-use Rattle.aig_reader.specs.Reading.{IsReadAs, ReadsExactly}
+use Rattle.aig_answers.specs.Exactly as reading
+use Rattle.aig_reader.specs.Reading.{IsReadAs}
+use Rattle.aig_answers.specs.Exactly.{ConsumedFile, EncodeUnlessTransient, IsBeyond, ReadsExactly}
 use Rattle.aig.specs.Reading.{IsFileCircuit}
 use Rattle.aig_unroll.specs.Places.{unrolled_size}
 use Rattle.aig_certify.specs.Safety.{IsCircuitSafeAt, IsSafeAt}
 use Rattle.aig_reduction.specs.Reduction.{IsReduced}
 use Rattle.aig_encode.specs.declared.error.EncodeError.TheVariants as encode
-use Rattle.aig_encode.specs.Encoding.{IsBeyond, ConsumedFile, EncodeUnlessTransient}
-use Rattle.aig_encode.proofs.Exactly.{no_refusal}
+use Rattle.aig_answers.proofs.Exactly.{no_refusal}
 use Rattle.aig_answers.specs.declared.error.AnswerError.{AnswerError}
 use Rattle.aig_answers.specs.declared.error.AnswerError.TheVariants as errors
 use Rattle.aig_answers.specs.Answers.{HasNoBads, IsOfCircuitQuery, IsReducedBeyond, IsReducedWithin, RefusesReduced, TellsOfReduced, of_file, of_reading}

@@ -7,14 +7,14 @@ use Rattle.aig_format.specs.File.{File}
 use Rattle.aig_format.specs.Fits.{Accepts}
 use Rattle.aig_reader.specs.declared.error.ReadError.{ReadError}
 use Rattle.aig_reader.specs.declared.error.ReadError.TheVariants as read
-use Rattle.aig_reader.specs.Reading.{ReadsExactly}
+use Rattle.aig_answers.specs.Exactly.{AnswersExactly, ConsumedFile, EncodeUnlessTransient, IsBeyond, ReadsExactly}
 use Rattle.aig_reduction.specs.Reduction.{IsReduced}
 use Rattle.aig_unroll.specs.Places.{unrolled_size}
 use Rattle.aig_certify.specs.declared.window.Window.{Window}
 use Rattle.aig_certify.specs.WindowClauses.{count_free}
 use Rattle.aig_encode.specs.declared.error.EncodeError.{EncodeError}
 use Rattle.aig_encode.specs.declared.error.EncodeError.TheVariants as encode
-use Rattle.aig_encode.specs.Encoding.{AnswersExactly, IsBeyond, IsWithin, ConsumedFile, EncodeUnlessTransient}
+use Rattle.aig_encode.specs.Encoding.{IsWithin}
 use Rattle.aig_answers.specs.declared.error.AnswerError.{AnswerError}
 use Rattle.aig_answers.specs.declared.error.AnswerError.TheVariants as errors
 

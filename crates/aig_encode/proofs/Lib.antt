@@ -1,3 +1,3 @@
-pub mod Exactly
+pub mod Verdicts
 mod Promised
 mod Refuted

@@ -1,14 +1,15 @@
--- Wrong refusals, and an answer past the limit, of which the definition is false.
-use Rattle.std.proofs.Common.{◌≡◌, ℕ, None, Ok, Err, List, [], ◌∷◌, refl, arith}
+-- A wrong refusal, and an answer past the limit, of which the definition is false.
+use Rattle.std.proofs.Common.{◌≡◌, ℕ, None, List, [], ◌∷◌, refl, arith}
 use Rattle.aig_format.specs.declared.FileKind.TheVariants.{Text}
 use Rattle.aig_format.specs.File.{File, GateLine, LatchLine}
 use Rattle.aig_format.specs.Fits.{Accepts}
 use Rattle.aig_format.specs.Circuit.{circuit_of}
 use Rattle.aig_format.specs.Numbering.{node_of_variable, variables_in_order}
 use Rattle.aig_unroll.specs.Places.{unrolled_size}
-use Rattle.aig_encode.specs.declared.error.EncodeError.TheVariants.{TooLarge}
 use Rattle.aig_circuit.specs.Properties.{no_properties}
-use Rattle.aig_encode.specs.Encoding.{AnswersExactly}
+use Rattle.aig_reader.specs.Verdicts.{Accepted, IsVerdictOn, TooLarge}
+use Rattle.aig_encode.specs.Encoding.{encoded_verdict}
+use Rattle.aig_encode.proofs.Verdicts.{encoded_verdict-beyond, encoded_verdict-within}
 
 -- a text file of these sections alone
 abbrev file_with : ℕ → List ℕ → List LatchLine → List ℕ → List GateLine → File
@@ -32,10 +33,12 @@ unfolding node_of_variable variables_in_order
 toggle-size k = omega arith
 
 -- it is refused for each step above 0
-no_refusal_above_0 : {T : Type 0} (Means : File → T → Type 0) (k : ℕ) (bytes : List ℕ)
-    → Accepts bytes 2 toggle → ¬ AnswersExactly Means 2 k (Err TooLarge) bytes
-no_refusal_above_0 Means k bytes accepts answers =
-    answers.accepted.each toggle (accepts, omega (arith, toggle-size k))
+no_refusal_above_0 : (k : ℕ) (bytes : List ℕ) → Accepts bytes 2 toggle
+    → ¬ IsVerdictOn (encoded_verdict 2 k) 2 bytes TooLarge
+no_refusal_above_0 k bytes accepts on =
+    let said = on.each toggle accepts in
+    let within = encoded_verdict-within 2 k toggle (omega (arith, toggle-size k)) in
+    cc
 
 -- input 1, latch 2 with the next literal true, and the gate 3 = and(1,2): of the gate of the second
 -- step no node is left
@@ -49,7 +52,9 @@ unfolding node_of_variable variables_in_order
 folding-size = refl
 
 -- it is answered where the limit allows the nodes that are left, and no gate more
-no_answer_by_nodes_left : {T : Type 0} (Means : File → T → Type 0) (answer : T) (bytes : List ℕ)
-    → Accepts bytes 5 folding → ¬ AnswersExactly Means 5 1 (Ok answer) bytes
-no_answer_by_nodes_left Means answer bytes accepts answers =
-    let told = answers.too_large.1 (folding, (accepts, omega (arith, folding-size))) in cc
+no_answer_by_nodes_left : (bytes : List ℕ) → Accepts bytes 5 folding
+    → ¬ IsVerdictOn (encoded_verdict 5 1) 5 bytes Accepted
+no_answer_by_nodes_left bytes accepts on =
+    let said = on.each folding accepts in
+    let beyond = encoded_verdict-beyond 5 1 folding (omega (arith, folding-size)) in
+    cc

@@ -1,10 +1,10 @@
 //! From bytes to clauses.
 
-ghost use Rattle.std.specs.Prelude.{◌≡◌, ◌^◌, ◌≤◌, ◌↔◌, false, IfOk, IfSome, IsErrOf, IsTrue};
-ghost use Rattle.std.specs.Io.KnownBytes.{IsAtEnd};
+ghost use Rattle.std.specs.Prelude.{◌^◌, ◌≤◌, ◌↔◌, IfOk, IsErrOf, IsTrue};
 ghost use Rattle.aig_reader.specs.Reading.{IsReadAs};
+ghost use Rattle.aig_reader.specs.Verdicts.{Judges, verdict_by};
 ghost use Rattle.aig_unroll.specs.Places.{unrolled_size};
-ghost use Rattle.aig_encode.specs.Encoding.{AnswersExactly, IsBeyond, IsEncoding, IsWithin, IsPastReading, ConsumedFile, EncodeUnlessTransient};
+ghost use Rattle.aig_encode.specs.Encoding.{IsEncoding, IsWithin, encoded_verdict, verdict_of};
 ghost use Rattle.aig_encode.specs.Parts.{EncodesOrRefuses};
 
 use crate::error::EncodeError;
@@ -69,20 +69,9 @@ pub fn encode<R: Source>(
     // The bytes that were read are a file within the limit, and that file is encoded.
     ensures answer { IfOk result
         (IsReadAs (IsWithin limit k) (IsEncoding k optimize) (R.left r.old) (R.left r.new)) }
-    // Memory and stream aside, there is an answer exactly where the bytes are such a file, and TooMany and TooLarge
-    // come exactly where they apply.
-    ensures exact { IfSome (R.left r.old) (λ bytes.
-        EncodeUnlessTransient result
-        (AnswersExactly (IsEncoding k optimize) limit k result bytes)) }
-    // Memory comes only after a file within the limit was read, and TooLarge only after one beyond it.
-    ensures memory { IsErrOf result EncodeError.Memory
-        → ConsumedFile (IsWithin limit k) (R.left r.old) (R.left r.new) }
-    ensures large { IsErrOf result EncodeError.TooLarge
-        → ConsumedFile (IsBeyond limit k) (R.left r.old) (R.left r.new) }
-    // Unless the bytes were refused, no read failed and the stream was read to its end.
-    ensures whole { IsPastReading result → (R.failed r.new ≡ false) × IsAtEnd (R.left r.new) }
-    // Stream only where a read failed in this call.
-    ensures stream { IsErrOf result (EncodeError.Read ReadError.Stream) → IsTrue (R.failed r.new) }
+    // Each file within the limit is answered, one whose further steps may pass it is TooLarge, and a refusal says why.
+    ensures verdict { Judges (encoded_verdict limit k) limit (R.left r.old) (R.left r.new)
+        (R.failed r.new) (verdict_by verdict_of result) }
     ensures never_open { IsErrOf result (EncodeError.Read ReadError.Open) → ⊥ }
 {
     let circuit = Aig::from_aiger(alloc, r, limit)?;

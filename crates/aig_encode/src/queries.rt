@@ -1,10 +1,10 @@
 //! From bytes to the clauses of a query.
 
-ghost use Rattle.std.specs.Prelude.{◌≡◌, ◌^◌, ◌≤◌, false, IfOk, IfSome, IsErrOf, IsTrue, length};
-ghost use Rattle.std.specs.Io.KnownBytes.{IsAtEnd};
+ghost use Rattle.std.specs.Prelude.{◌^◌, ◌≤◌, IfOk, IsErrOf, length};
 ghost use Rattle.aig_base.specs.Clauses.{AreBelow};
 ghost use Rattle.aig_reader.specs.Reading.{IsReadAs};
-ghost use Rattle.aig_encode.specs.Encoding.{AnswersExactly, IsBeyond, IsQuery, IsWithin, IsPastReading, ConsumedFile, EncodeUnlessTransient};
+ghost use Rattle.aig_reader.specs.Verdicts.{Judges, verdict_by};
+ghost use Rattle.aig_encode.specs.Encoding.{IsQuery, IsWithin, encoded_verdict, verdict_of};
 
 use crate::encoding::encode;
 use crate::error::EncodeError;
@@ -63,19 +63,9 @@ pub fn query<R: Source>(
         (IsReadAs (IsWithin limit k) (IsQuery k optimize) (R.left r.old) (R.left r.new)) }
     // The query clauses are of variables that are there.
     ensures below { IfOk result (λ q. AreBelow (length q.encoded.clauses) q.extra) }
-    // Memory and stream aside, there is an answer exactly where the bytes are such a file, and TooMany and TooLarge
-    // come exactly where they apply.
-    ensures exact { IfSome (R.left r.old) (λ bytes.
-        EncodeUnlessTransient result (AnswersExactly (IsQuery k optimize) limit k result bytes)) }
-    // Memory comes only after a file within the limit was read, and TooLarge only after one beyond it.
-    ensures memory { IsErrOf result EncodeError.Memory
-        → ConsumedFile (IsWithin limit k) (R.left r.old) (R.left r.new) }
-    ensures large { IsErrOf result EncodeError.TooLarge
-        → ConsumedFile (IsBeyond limit k) (R.left r.old) (R.left r.new) }
-    // Unless the bytes were refused, no read failed and the stream was read to its end.
-    ensures whole { IsPastReading result → (R.failed r.new ≡ false) × IsAtEnd (R.left r.new) }
-    // Stream only where a read failed in this call.
-    ensures stream { IsErrOf result (EncodeError.Read ReadError.Stream) → IsTrue (R.failed r.new) }
+    // Each file within the limit is answered, one whose further steps may pass it is TooLarge, and a refusal says why.
+    ensures verdict { Judges (encoded_verdict limit k) limit (R.left r.old) (R.left r.new)
+        (R.failed r.new) (verdict_by verdict_of result) }
     ensures never_open { IsErrOf result (EncodeError.Read ReadError.Open) → ⊥ }
 {
     let encoded = encode(alloc, r, limit, k, optimize)?;

@@ -12,10 +12,10 @@ pub mod ByLevel
 pub mod Numbered
 pub mod Body
 pub mod HeaderLines
+pub mod Verdicts
 pub mod Accepting
 pub mod FileCircuit
 pub mod Steps
 pub mod ReadNames
 pub mod ReadLeaves
-pub mod Reading
 mod Refuted

@@ -1,5 +1,5 @@
 -- The sections that were read, as those of the file's circuit.
-use Rattle.std.proofs.Common.{◌≡◌, ◌+◌, ◌*◌, ◌/◌, ◌≤◌, Bool, true, false, ◌||◌, ◌&&◌, List, [], ◌++◌, length, Result, Ok, Err, IfOk, vec_len, ap, sym, subst, ◌∙◌, arith, leb-true}
+use Rattle.std.proofs.Common.{◌≡◌, ◌+◌, ◌*◌, ◌/◌, ◌≤◌, Bool, true, false, ◌||◌, ◌&&◌, List, [], ◌++◌, length, Result, Ok, Err, vec_len, ap, sym, subst, ◌∙◌, arith, leb-true}
 use Rattle.std.specs.List.{list_all}
 use Rattle.std.proofs.lemmas.Bool.{false≢true}
 use Rattle.std.proofs.lemmas.List.{length-map}
@@ -12,7 +12,7 @@ use Rattle.aig_format.specs.Numbering.{is_compact, node_of_variable}
 use Rattle.aig_parsing.specs.Parse.{Parts}
 use Rattle.aig_parsing.specs.ParseTested.{parse_fitting_sections, parse_section_lines}
 use Rattle.aig_parsing.proofs.FittingFiles.{HasOperands}
-use Rattle.aig_parsing.proofs.SectionFacts.{HasCounts, lines_tell}
+use Rattle.aig_parsing.proofs.SectionFacts.{lines_tell}
 use Rattle.aig_ordering.specs.Tables.{AreNodesOf}
 use Rattle.aig_lexer.specs.declared.header.Header.{Header}
 use Rattle.aig_lexer.specs.Header.{numbers_of}

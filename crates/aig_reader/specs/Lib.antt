@@ -2,6 +2,7 @@ pub mod Bits
 pub mod Faults
 pub mod Headers
 pub mod Reading
+pub mod Verdicts
 pub mod Variables
 pub mod Gates
 pub mod Properties

@@ -1,14 +1,14 @@
 //! Reading a file.
 
-ghost use Rattle.std.specs.Prelude.{◌≡◌, ◌+◌, ◌^◌, ◌<◌, ◌≤◌, true, false, IfOk, IfSome, IsErrOf, IsTrue, OnOk};
-ghost use Rattle.std.specs.Io.KnownBytes.{IsAtEnd};
+ghost use Rattle.std.specs.Prelude.{◌≡◌, ◌+◌, ◌^◌, ◌<◌, ◌≤◌, true, IfOk, IsErrOf};
 ghost use Rattle.aig_parsing.specs.ParseTested.{parse_fitting_sections};
 ghost use Rattle.aig_format.specs.Fits.{Accepts, has_enough};
 ghost use Rattle.aig_lexer.specs.Header.{numbers_of};
 ghost use Rattle.aig_lexer.specs.Takes.{Makes, feed};
 ghost use Rattle.aig_reader.specs.Faults.{SectionTells};
-ghost use Rattle.aig_reader.specs.Reading.{AreListsOf, IsReadAs, ReadsExactly, UnlessTransient};
+ghost use Rattle.aig_reader.specs.Reading.{AreListsOf, IsReadAs};
 ghost use Rattle.aig_reader.specs.Numbered.{AreSectionsOf};
+ghost use Rattle.aig_reader.specs.Verdicts.{Accepted, Judges, verdict_by, verdict_of};
 
 use crate::error::{ReadError, names_result};
 use crate::header::read_header;
@@ -30,14 +30,9 @@ pub fn read<R: Source>(alloc: Global, r: &mut R, limit: usize) -> Result<Circuit
     // The bytes that were read are a file that is accepted, and the lists are those of its circuit.
     ensures circuit { IfOk result
         (IsReadAs (λ bytes. Accepts bytes limit) AreListsOf (R.left r.old) (R.left r.new)) }
-    // Of known bytes, memory and stream aside: where they are a file that is accepted, the lists are those of its
-    // circuit; else there is a refusal, TooMany exactly where the header line is good and passes the limit.
-    ensures exact { IfSome (R.left r.old) (λ bytes.
-        UnlessTransient result (ReadsExactly AreListsOf limit result bytes)) }
-    // A circuit only where no read failed and the stream was read to its end.
-    ensures whole { OnOk result ((R.failed r.new ≡ false) × IsAtEnd (R.left r.new)) }
-    // Stream only where a read failed in this call.
-    ensures stream { IsErrOf result ReadError.Stream → IsTrue (R.failed r.new) }
+    // Each file that is accepted is taken, and a refusal says why.
+    ensures verdict { Judges (λ _. Accepted) limit (R.left r.old) (R.left r.new) (R.failed r.new)
+        (verdict_by verdict_of result) }
     ensures never_open { IsErrOf result ReadError.Open → ⊥ }
 {
     let mut buffer = InputBuffer::new();
@@ -56,11 +51,10 @@ fn read_file<R: Source>(
         (IsReadAs (λ bytes. Accepts bytes limit) AreListsOf
         (feed R.left R.failed R.pulls buffer.old r.old).coming
         (feed R.left R.failed R.pulls buffer.new r.new).coming) }
-    ensures exact { IfSome (feed R.left R.failed R.pulls buffer.old r.old).coming (λ bytes.
-        UnlessTransient result (ReadsExactly AreListsOf limit result bytes)) }
-    ensures whole { OnOk result ((R.failed r.new ≡ false)
-        × IsAtEnd (feed R.left R.failed R.pulls buffer.new r.new).coming) }
-    ensures stream { IsErrOf result ReadError.Stream → IsTrue (R.failed r.new) }
+    ensures verdict { Judges (λ _. Accepted) limit
+        (feed R.left R.failed R.pulls buffer.old r.old).coming
+        (feed R.left R.failed R.pulls buffer.new r.new).coming
+        (R.failed r.new) (verdict_by verdict_of result) }
     ensures never_open { IsErrOf result ReadError.Open → ⊥ }
 {
     let header = read_header(buffer, r, limit)?;

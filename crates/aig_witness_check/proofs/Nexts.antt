@@ -2,6 +2,7 @@
 use Rattle.std.proofs.Common.{◌≡◌, ℕ, Bool, true, List, [], Option, Some, None, Err, sym, subst}
 use Rattle.std.specs.Prelude.{IfSome, IsErrOf}
 use Rattle.std.proofs.KnownBytes.{Consumes-whole, prepend_known-nil}
+use Rattle.std.proofs.lemmas.Option.{IfSome_then}
 use Rattle.aig_circuit.specs.declared.view.CircuitLists.{CircuitLists}
 use Rattle.aig_circuit.specs.Circuit.{Circuit, IsCircuit}
 use Rattle.aig_circuit.specs.View.{lists_circuit}
@@ -11,8 +12,9 @@ use Rattle.aig_format.proofs.Circuits.{IsCircuit-of_file}
 use Rattle.aig_lexer.specs.Takes.{Feed, feed, Takes, Misses}
 use Rattle.aig_lexer.proofs.Going.{known_after}
 use Rattle.aig_reader.specs.declared.error.ReadError.{ReadError}
-use Rattle.aig_reader.specs.declared.error.ReadError.TheVariants as read
-use Rattle.aig_reader.specs.Reading.{AreListsOf, IsReadAs, ReadsExactly, UnlessTransient}
+use Rattle.aig_reader.specs.Reading.{AreListsOf, IsReadAs}
+use Rattle.aig_reader.specs.Verdicts.{Accepted, IsOfFile, IsSettled, Judges, verdict_of}
+use Rattle.aig_reader.proofs.Verdicts.{of_no_file}
 use Rattle.aig_witness.specs.declared.error.WitnessError.TheVariants as witness
 use Rattle.aig_witness.specs.Faults.{EndsWithout}
 use Rattle.aig_witness.specs.Reading.{parse_next}
@@ -58,18 +60,10 @@ pub unread_failed : (text : Option (List ℕ)) (failed : Bool) (e : ShowError) �
 unread_failed text failed e h is = let same : e ≡ errors.Witness witness.Stream = cc in subst (λ (e : ShowError). GivesFirst text failed (Err e)) same h
 
 -- a file that is refused
-pub refused : (limit : ℕ) (old : Option (List ℕ)) (e : ReadError) → IfSome old (λ bytes. UnlessTransient {T = CircuitLists} (Err e) (ReadsExactly AreListsOf limit (Err e) bytes))
-    → IfSome old (λ bytes. UnlessTransient {T = Shown} (Err e) ((f : File) → ¬ Accepts bytes limit f))
-refused limit None e h = tt
-refused limit (Some bytes) read.Memory h = tt
-refused limit (Some bytes) read.Stream h = tt
-refused limit (Some bytes) read.Header h = λ f accepts. h.accepted.each f accepts
-refused limit (Some bytes) read.TooMany h = λ f accepts. h.accepted.each f accepts
-refused limit (Some bytes) (read.Syntax s) h = λ f accepts. h.accepted.each f accepts
-refused limit (Some bytes) (read.Literal s) h = λ f accepts. h.accepted.each f accepts
-refused limit (Some bytes) read.Delta h = λ f accepts. h.accepted.each f accepts
-refused limit (Some bytes) read.Name h = λ f accepts. h.accepted.each f accepts
-refused limit (Some bytes) read.Open h = λ f accepts. h.accepted.each f accepts
+pub refused : (limit : ℕ) (old new : Option (List ℕ)) (failed : Bool) (e : ReadError) → Judges (λ f. Accepted) limit old new failed (verdict_of e) → IsSettled (verdict_of e)
+    → IfSome old (λ bytes. (f : File) → ¬ Accepts bytes limit f)
+refused limit old new failed e told settled =
+    IfSome_then old (told.exact settled) (λ bytes on f accepts. of_no_file e (subst IsOfFile (sym (on.each f accepts)) tt))
 
 -- the lists of a file are a circuit
 pub lists_are : (limit : ℕ) (old new : Option (List ℕ)) (lists : CircuitLists) → IsReadAs (λ bytes. Accepts bytes limit) AreListsOf old new lists → IsCircuit (lists_circuit lists)

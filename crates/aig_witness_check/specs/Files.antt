@@ -5,7 +5,8 @@ use Rattle.std.specs.Prelude.{◌≡◌, ℕ, ◌-◌, Bool, List, [], length, O
 use Rattle.aig_format.specs.File.{File}
 use Rattle.aig_format.specs.Fits.{Accepts}
 use Rattle.aig_format.specs.Circuit.{circuit_of}
-use Rattle.aig_reader.specs.Reading.{IsReadAs, UnlessTransient}
+use Rattle.aig_reader.specs.Reading.{IsReadAs}
+use Rattle.aig_reader.specs.Verdicts.{IsSettled, verdict_of}
 use Rattle.aig_witness.specs.declared.error.WitnessError.{WitnessError}
 use Rattle.aig_witness.specs.declared.error.WitnessError.TheVariants as witness
 use Rattle.aig_witness.specs.declared.witness.Witness as lists
@@ -80,7 +81,7 @@ abbrev pub Answers : ℕ → Option (List ℕ) → Option (List ℕ) → Option 
 Answers limit old new text (Ok shown) =
     IsReadAs (λ bytes. Accepts bytes limit) (ShowsNext text) old new shown
 Answers limit old new text (Err (errors.File e)) =
-    IfSome old (λ bytes. UnlessTransient {T = Shown} (Err e) ((f : File) → ¬ Accepts bytes limit f))
+    IsSettled (verdict_of e) → IfSome old (λ bytes. (f : File) → ¬ Accepts bytes limit f)
 Answers limit old new text (Err (errors.Witness e)) = OnWitness e (HasNeither text)
 Answers limit old new text (Err errors.NoWitness) = HasNone text
 Answers limit old new text (Err (errors.Check e)) =

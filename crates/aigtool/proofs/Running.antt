@@ -1,116 +1,22 @@
--- What the outcomes of a command tell, from what its calls tell.
-use Rattle.std.proofs.Common.{◌≡◌, ◌≢◌, ℕ, Option, Some, None, Result, Ok, Err, List, refl, ap, subst, inl, inr, ◌⊎◌}
+-- What printing a circuit is refused for, and its bytes.
+use Rattle.std.proofs.Common.{◌≡◌, ◌≢◌, Option, Some, None, Result, Err, List, refl, ap, subst, inl, inr, ◌⊎◌}
 use Rattle.std.specs.Prelude.{All, Any, IfSome, IsErrOf, IsSomeAnd}
 use Rattle.std.proofs.lemmas.List.Elements.{Contains-append_cases}
 use Rattle.aig_circuit.specs.declared.edge.AigEdge.{AigEdge}
 use Rattle.aig_circuit.specs.Circuit.{Circuit, HasFreeLeaf, latch_leaves}
 use Rattle.aig_circuit.specs.Edges.{HasConstantInit, HasNonConstantInit}
 use Rattle.aig_format.specs.Circuit.{text_of}
-use Rattle.aig_format.specs.File.{File}
 use Rattle.aig_format.specs.Writable.{HasLineFeed, IsWritable, named_nodes}
-use Rattle.aig_reader.specs.declared.error.ReadError.{ReadError}
-use Rattle.aig_reader.specs.declared.error.ReadError.TheVariants as read
-use Rattle.aig_reader.specs.Reading as reading
-use Rattle.aig_reader.specs.Reading.{ReadsExactly}
 use Rattle.aig.specs.declared.aiger.WriteError.{WriteError}
 use Rattle.aig.specs.declared.aiger.WriteError.TheVariants as write
 use Rattle.aig.specs.Writing.{IsRefusal, IsVerdictOf}
-use Rattle.aig_encode.specs.declared.error.EncodeError.{EncodeError}
-use Rattle.aig_encode.specs.declared.error.EncodeError.TheVariants as encode
-use Rattle.aig_encode.specs.Encoding as encoding
 use Rattle.aigtool.specs.declared.command.Command.{Command}
 use Rattle.aigtool.specs.declared.command.Command.TheVariants as commands
 use Rattle.aigtool.specs.Printing.{bytes_of}
-use Rattle.aigtool.specs.Running.{Answered, AnswersExactly, IsInterrupted, Outcome, Passes, Refused}
 
 -- an error that is this one
 pub err_of : {T E : Type 0} (e x : E) → e ≡ x → IsErrOf {T = T} (Err e) x
 err_of {T} {E} e x is = let error : E → Result T E = λ y. Err y in ap error is
-
--- what the outcome tells of the bytes, where they are known
-abbrev pub Tell : Option ℕ → ℕ → Outcome → Option (List ℕ) → Type 0
-Tell steps limit outcome left = ¬ IsInterrupted outcome → IfSome left (λ bytes. AnswersExactly steps limit bytes outcome)
-
--- ---- the circuit of a file
-
--- what the reader told of the bytes, where they are known
-abbrev pub Reads : {X : Type 0} → (File → X → Type 0) → ℕ → Result X ReadError → Option (List ℕ) → Type 0
-Reads Means limit result left = IfSome left (λ bytes. reading.UnlessTransient result (ReadsExactly Means limit result bytes))
-
-module _ (X : Type 0) (Means : File → X → Type 0) (limit : ℕ) where
-  refused : (e : ReadError) (bytes : List ℕ) → ReadsExactly Means limit (Err e) bytes → AnswersExactly None limit bytes (Refused e)
-  refused e bytes h = record {
-    accepted = (λ is. cc, λ takes. absurd (h.accepted.each takes.0 takes.1));
-    too_many = (λ is. let same : e ≡ read.TooMany = cc in h.too_many.0 (err_of e read.TooMany same), λ many. let told = h.too_many.1 many in cc);
-    too_large = (λ is. cc, λ large. absurd large.1);
-  }
-
-  pub refused_in_reading : (e : ReadError) (left : Option (List ℕ)) → Reads Means limit (Err e) left → Tell None limit (Refused e) left
-  refused_in_reading e None h not = tt
-  refused_in_reading read.Memory (Some bytes) h not = absurd (not (inl refl))
-  refused_in_reading read.Stream (Some bytes) h not = absurd (not (inr refl))
-  refused_in_reading read.Header (Some bytes) h not = refused read.Header bytes h
-  refused_in_reading read.TooMany (Some bytes) h not = refused read.TooMany bytes h
-  refused_in_reading (read.Syntax s) (Some bytes) h not = refused (read.Syntax s) bytes h
-  refused_in_reading (read.Literal s) (Some bytes) h not = refused (read.Literal s) bytes h
-  refused_in_reading read.Delta (Some bytes) h not = refused read.Delta bytes h
-  refused_in_reading read.Name (Some bytes) h not = refused read.Name bytes h
-  refused_in_reading read.Open (Some bytes) h not = refused read.Open bytes h
-
-  -- a file was read, and all was written
-  pub answered : (x : X) (left : Option (List ℕ)) → Reads Means limit (Ok x) left → Tell None limit Answered left
-  answered x None h not = tt
-  answered x (Some bytes) h not = record {
-    accepted = (λ is. h.accepted.only refl, λ takes. refl);
-    too_many = (λ is. cc, λ many. let told = h.too_many.1 many in cc);
-    too_large = (λ is. cc, λ large. absurd large.1);
-  }
-
--- ---- the clauses of a file
-
--- what encoding told of the bytes, where they are known
-abbrev pub Encodes : {X : Type 0} → (File → X → Type 0) → ℕ → ℕ → Result X EncodeError → Option (List ℕ) → Type 0
-Encodes Means limit k result left = IfSome left (λ bytes. encoding.EncodeUnlessTransient result (encoding.AnswersExactly Means limit k result bytes))
-
-module _ (X : Type 0) (Means : File → X → Type 0) (limit k : ℕ) where
-  too_large : (left : Option (List ℕ)) → Encodes Means limit k (Err encode.TooLarge) left → IfSome left (λ bytes. AnswersExactly (Some k) limit bytes Passes)
-  too_large None h = tt
-  too_large (Some bytes) h = record {
-    accepted = (λ is. cc, λ takes. absurd (h.accepted.each takes.0 takes.1));
-    too_many = (λ is. cc, λ many. let told = h.too_many.1 many in cc);
-    too_large = (λ is. h.too_large.0 refl, λ large. refl);
-  }
-
-  pub passes_in_encoding : (left : Option (List ℕ)) → Encodes Means limit k (Err encode.TooLarge) left → Tell (Some k) limit Passes left
-  passes_in_encoding left h not = too_large left h
-
-  refused_bytes : (e : ReadError) (bytes : List ℕ) → encoding.AnswersExactly Means limit k (Err (encode.Read e)) bytes → AnswersExactly (Some k) limit bytes (Refused e)
-  refused_bytes e bytes h = record {
-    accepted = (λ is. cc, λ takes. absurd (h.accepted.each takes.0 takes.1));
-    too_many = (λ is. let same : e ≡ read.TooMany = cc in h.too_many.0 (err_of (encode.Read e) (encode.Read read.TooMany) (ap (λ x. encode.Read x) same)), λ many. let told = h.too_many.1 many in cc);
-    too_large = (λ is. cc, λ large. let told = h.too_large.1 large in cc);
-  }
-
-  pub refused_in_encoding : (e : ReadError) (left : Option (List ℕ)) → Encodes Means limit k (Err (encode.Read e)) left → Tell (Some k) limit (Refused e) left
-  refused_in_encoding e None h not = tt
-  refused_in_encoding read.Memory (Some bytes) h not = absurd (not (inl refl))
-  refused_in_encoding read.Stream (Some bytes) h not = absurd (not (inr refl))
-  refused_in_encoding read.Header (Some bytes) h not = refused_bytes read.Header bytes h
-  refused_in_encoding read.TooMany (Some bytes) h not = refused_bytes read.TooMany bytes h
-  refused_in_encoding (read.Syntax s) (Some bytes) h not = refused_bytes (read.Syntax s) bytes h
-  refused_in_encoding (read.Literal s) (Some bytes) h not = refused_bytes (read.Literal s) bytes h
-  refused_in_encoding read.Delta (Some bytes) h not = refused_bytes read.Delta bytes h
-  refused_in_encoding read.Name (Some bytes) h not = refused_bytes read.Name bytes h
-  refused_in_encoding read.Open (Some bytes) h not = refused_bytes read.Open bytes h
-
-  -- a file was encoded, and all was written
-  pub encoded : (x : X) (left : Option (List ℕ)) → Encodes Means limit k (Ok x) left → Tell (Some k) limit Answered left
-  encoded x None h not = tt
-  encoded x (Some bytes) h not = record {
-    accepted = (λ is. h.accepted.only refl, λ takes. refl);
-    too_many = (λ is. cc, λ many. let told = h.too_many.1 many in cc);
-    too_large = (λ is. cc, λ large. let told = h.too_large.1 large in cc);
-  }
 
 -- ---- what is refused after the reading
 

@@ -11,7 +11,8 @@ use Rattle.aigtool.specs.declared.command.Command.{Command}
 use Rattle.aigtool.specs.declared.command.Command.TheVariants as commands
 use Rattle.aigtool.specs.declared.tool.ToolError.{ToolError}
 use Rattle.aigtool.specs.declared.tool.ToolError.TheVariants as errors
-use Rattle.aigtool.specs.Running.{Says, Short}
+use Rattle.aig_reader.specs.Verdicts.{Short}
+use Rattle.aigtool.specs.Running.{IsErrorOf, verdict_of}
 
 -- the bytes that a command that makes no clauses prints of a circuit
 abbrev pub bytes_of : Command → Circuit → List ℕ
@@ -20,11 +21,11 @@ bytes_of commands.Strash circuit = text_of (strashed circuit)
 bytes_of c circuit = text_of circuit
 
 -- The bytes are held, or after a failed write a beginning of them. Before anything is written
--- memory may run out, as the command says it.
+-- memory may run out, by an error of the command.
 abbrev pub Prints : {W : Type 0} → (W → Option (List ℕ)) → (W → Bool) → Command → List ℕ → W
     → Result Unit ToolError → W → Type 0
 Prints held failed c bytes w (Ok done) made =
     Appends (held w) (held made) bytes × (failed made ≡ false)
 Prints held failed c bytes w (Err e) made =
     ((e ≡ errors.Write write.Stream) × Stops (held w) (held made) (failed made) bytes)
-    ⊎ (Says c Short (Err e) × (made ≡ w))
+    ⊎ ((verdict_of e ≡ Short) × IsErrorOf c e × (made ≡ w))

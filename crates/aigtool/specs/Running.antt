@@ -1,24 +1,27 @@
 -- Part of what is promised.
 -- What a command does with the bytes of a file: what it puts into its writer, and why it refuses a
 -- file.
-use Rattle.std.specs.Prelude.{◌≡◌, ◌≢◌, ℕ, ◌↔◌, ◌⊎◌, Bool, false, IsTrue, List, [], ◌++◌, length, Option, Some, None, Result, IsOk, IsErrOf, IfSome}
-use Rattle.std.specs.Io.KnownBytes.{Appends, Consumes, IsAtEnd}
+use Rattle.std.specs.Prelude.{◌≡◌, ◌≢◌, ℕ, Bool, false, List, [], ◌++◌, length, Option, Some, None, Result, IfErr, IsErrOf, OnOk}
+use Rattle.std.specs.Io.KnownBytes.{Appends}
 use Rattle.aig_base.specs.declared.logic.literal.Lit.{Lit}
 use Rattle.aig_dimacs.specs.Reading.{parse_formula}
 use Rattle.aig_base.specs.Formula.{clauses_in}
 use Rattle.aig_dimacs.specs.Text.{dimacs_of}
 use Rattle.aig_format.specs.Circuit.{binary_of, circuit_of, text_of}
 use Rattle.aig_format.specs.File.{File}
-use Rattle.aig_format.specs.Fits.{Accepts, TooMany}
-use Rattle.aig_reader.specs.declared.error.ReadError.{ReadError}
+use Rattle.aig_format.specs.Fits.{Accepts}
 use Rattle.aig_reader.specs.declared.error.ReadError.TheVariants as read
+use Rattle.aig_reader.specs.Reading.{IsReadAs}
+use Rattle.aig_reader.specs.Verdicts as reading
+use Rattle.aig_reader.specs.Verdicts.{Accepted, Judges, Short, Verdict, verdict_by}
 use Rattle.aig_strash.specs.Strash.{strashed}
-use Rattle.aig_output.specs.Sinks.{AppendsBeginning}
+use Rattle.aig_output.specs.Sinks.{Stops}
 use Rattle.aig.specs.declared.aiger.WriteError.TheVariants as write
 use Rattle.aig_encode.specs.declared.encoding.Encoded.{Encoded}
 use Rattle.aig_encode.specs.declared.query_clauses.Query.{Query}
 use Rattle.aig_encode.specs.declared.error.EncodeError.TheVariants as encode
-use Rattle.aig_encode.specs.Encoding.{IsBeyond, IsEncoding, IsQuery, IsWithin, ConsumedFile}
+use Rattle.aig_encode.specs.Encoding as encoding
+use Rattle.aig_encode.specs.Encoding.{IsEncoding, IsQuery, encoded_verdict}
 use Rattle.aigtool.specs.declared.command.Command.{Command}
 use Rattle.aigtool.specs.declared.command.Command.TheVariants as commands
 use Rattle.aigtool.specs.declared.tool.ToolError.{ToolError}
@@ -53,108 +56,58 @@ steps_of commands.Strash = None
 steps_of (commands.Cnf k optimize) = Some k
 steps_of (commands.Query k optimize) = Some k
 
--- the bytes are this file, it fits the limit, and so do the further steps, if there are any
-abbrev pub TakesBy : Option ℕ → ℕ → List ℕ → File → Type 0
-TakesBy None limit bytes f = Accepts bytes limit f
-TakesBy (Some k) limit bytes f = IsWithin limit k bytes f
+-- the verdict on a file that fits: it is taken, if its further steps are within the limit, where
+-- there are any
+abbrev pub file_verdict : Option ℕ → ℕ → File → Verdict
+file_verdict None limit f = Accepted
+file_verdict (Some k) limit f = encoded_verdict limit k f
 
+-- the bytes are this file, and the command takes it
 abbrev pub TakesFile : Command → ℕ → List ℕ → File → Type 0
-TakesFile c = TakesBy (steps_of c)
-
--- the bytes are this file, it fits the limit, and its further steps may pass it
-abbrev pub ExceedsBy : Option ℕ → ℕ → List ℕ → File → Type 0
-ExceedsBy None limit bytes f = ⊥
-ExceedsBy (Some k) limit bytes f = IsBeyond limit k bytes f
-
-abbrev pub Exceeds : Command → ℕ → List ℕ → File → Type 0
-Exceeds c = ExceedsBy (steps_of c)
+TakesFile c limit bytes f = Accepts bytes limit f × (file_verdict (steps_of c) limit f ≡ Accepted)
 
 -- the bytes that were taken are a file that the command takes, and this holds of what it puts into
 -- its writer for that file
-pub record AnswersFile (c : Command) (limit : ℕ) (old new : Option (List ℕ))
-    (Holds : List ℕ → Type 0) : Type 0 where
-  pub file : File
-  pub bytes : List ℕ
-  pub takes : TakesFile c limit bytes file
-  pub taken : Consumes old new bytes
-  pub text : List ℕ
-  pub answers : Answers c file text
-  pub holds : Holds text
+abbrev pub AnswersFile : Command → ℕ → Option (List ℕ) → Option (List ℕ) → (List ℕ → Type 0)
+    → Type 0
+AnswersFile c limit old new Holds =
+    (text : List ℕ) × IsReadAs (TakesFile c limit) (Answers c) old new text × Holds text
 
--- ---- outcomes
+-- ---- errors
 
--- how a command ends: it has answered, the bytes were refused, further steps may pass the limit,
--- memory ran out after the reading, or the writer failed
-pub data Outcome : Type 0 where
-  Answered : Outcome
-  Refused : ReadError → Outcome
-  Passes : Outcome
-  Short : Outcome
-  Stopped : Outcome
+-- what an error says of the bytes: one of the writer, that they are a file that is taken
+abbrev pub verdict_of : ToolError → Verdict
+verdict_of (errors.Read e) = reading.verdict_of e
+verdict_of (errors.Encode e) = encoding.verdict_of e
+verdict_of errors.Memory = Short
+verdict_of (errors.Write write.Memory) = Short
+verdict_of (errors.Write e) = Accepted
 
--- the fault of refused bytes
-abbrev pub refused_as : Option ℕ → ReadError → ToolError
-refused_as None e = errors.Read e
-refused_as (Some k) e = errors.Encode (encode.Read e)
+-- the command has this error
+abbrev pub IsErrorOf : Command → ToolError → Type 0
+IsErrorOf c (errors.Read e) = (steps_of c ≡ None) × (e ≢ read.Open)
+IsErrorOf c (errors.Encode e) = (steps_of c ≢ None) × (e ≢ encode.Read read.Open)
+IsErrorOf c errors.Memory = c ≡ commands.Strash
+IsErrorOf c (errors.Write write.Memory) = c ≡ commands.Binary
+IsErrorOf c (errors.Write write.Stream) = Unit {0}
+IsErrorOf c (errors.Write e) = ⊥
 
--- the result in which a command says how it ended
-abbrev pub Says : Command → Outcome → Result Unit ToolError → Type 0
-Says c Answered result = IsOk result
-Says c (Refused e) result = IsErrOf result (refused_as (steps_of c) e)
-Says c Passes result = (steps_of c ≢ None) × IsErrOf result (errors.Encode encode.TooLarge)
-Says commands.Text Short result = ⊥
-Says commands.Binary Short result = IsErrOf result (errors.Write write.Memory)
-Says commands.Strash Short result = IsErrOf result errors.Memory
-Says (commands.Cnf k optimize) Short result = IsErrOf result (errors.Encode encode.Memory)
-Says (commands.Query k optimize) Short result = IsErrOf result (errors.Encode encode.Memory)
-Says c Stopped result = IsErrOf result (errors.Write write.Stream)
-
--- What an outcome tells of the bytes that the reader has left before and after, and whether it has
--- failed, and of those that the writer holds before and after, and whether it has failed.
-abbrev pub Tells : Command → ℕ → Option (List ℕ) → Option (List ℕ) → Bool → Option (List ℕ)
-    → Option (List ℕ) → Bool → Outcome → Type 0
-Tells c limit left rest read_failed old new failed Answered =
-    AnswersFile c limit left rest (Appends old new) × (failed ≡ false)
-Tells c limit left rest read_failed old new failed (Refused e) =
-    (e ≡ read.Stream → IsTrue read_failed) × (e ≢ read.Open)
-Tells c limit left rest read_failed old new failed Passes = ConsumedFile (Exceeds c limit) left rest
-Tells c limit left rest read_failed old new failed Short =
-    ConsumedFile (TakesFile c limit) left rest
-Tells c limit left rest read_failed old new failed Stopped =
-    AnswersFile c limit left rest (AppendsBeginning old new) × IsTrue failed
-
--- memory or a stream failed
-abbrev pub IsInterrupted : Outcome → Type 0
-IsInterrupted Answered = ⊥
-IsInterrupted (Refused e) = (e ≡ read.Memory) ⊎ (e ≡ read.Stream)
-IsInterrupted Passes = ⊥
-IsInterrupted Short = Unit {0}
-IsInterrupted Stopped = Unit {0}
-
--- Which bytes a command of so many further steps answers, and which are refused as too many or too
--- large.
-pub record AnswersExactly (steps : Option ℕ) (limit : ℕ) (bytes : List ℕ) (outcome : Outcome)
-    : Type 0 where
-  pub accepted : (outcome ≡ Answered) ↔ ((f : File) × TakesBy steps limit bytes f)
-  -- exactly where the header line is good and passes the limit
-  pub too_many : (outcome ≡ Refused read.TooMany) ↔ TooMany bytes limit
-  -- exactly where the bytes are a file whose further steps may pass the limit
-  pub too_large : (outcome ≡ Passes) ↔ ((f : File) × ExceedsBy steps limit bytes f)
+-- ---- runs
 
 -- What a command does: r and w are the reader and the writer before it, rest and made after it.
 pub record Runs {R W : Type 0} (left : R → Option (List ℕ)) (read_failed : R → Bool)
     (held : W → Option (List ℕ)) (write_failed : W → Bool) (c : Command) (limit : ℕ) (r : R) (w : W)
     (result : Result Unit ToolError) (rest : R) (made : W) : Type 0 where
-  pub outcome : Outcome
-  pub says : Says c outcome result
-  pub tells : Tells c limit (left r) (left rest) (read_failed rest) (held w) (held made)
-      (write_failed made) outcome
-  -- of known bytes, memory and streams aside: there is an answer exactly where they are a file
-  -- within the limit
-  pub exact : ¬ IsInterrupted outcome
-      → IfSome (left r) (λ bytes. AnswersExactly (steps_of c) limit bytes outcome)
-  -- the writer is as it was, unless there is an answer or the writer failed
-  pub kept : outcome ≢ Answered → outcome ≢ Stopped → made ≡ w
-  -- unless the bytes were refused, no read failed and the reader was read to its end
-  pub whole : ((e : ReadError) → outcome ≢ Refused e)
-      → (read_failed rest ≡ false) × IsAtEnd (left rest)
+  -- what is said of the bytes
+  pub verdict : Judges (file_verdict (steps_of c) limit) limit (left r) (left rest)
+      (read_failed rest) (verdict_by verdict_of result)
+  -- which errors it has
+  pub own : IfErr result (IsErrorOf c)
+  -- its answer to the file that was read is written, and the writer has not failed
+  pub ok : OnOk result (AnswersFile c limit (left r) (left rest)
+      (λ text. Appends (held w) (held made) text × (write_failed made ≡ false)))
+  -- a beginning of it is, and the writer has failed
+  pub stopped : IsErrOf result (errors.Write write.Stream)
+      → AnswersFile c limit (left r) (left rest) (Stops (held w) (held made) (write_failed made))
+  -- every other refusal leaves the writer as it was
+  pub kept : IfErr result (λ e. e ≢ errors.Write write.Stream → made ≡ w)

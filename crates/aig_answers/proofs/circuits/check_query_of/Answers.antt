@@ -1,7 +1,7 @@
 use Rattle.std.proofs.lemmas.Result.{err_from_is_err_and, on_ok_weaker}
 use Rattle.aig_encode.specs.declared.error.EncodeError.{EncodeError}
 use Rattle.aig_encode.specs.declared.error.EncodeError.TheVariants as encode
-use Rattle.aig_encode.proofs.Exactly.{no_refusal}
+use Rattle.aig_answers.proofs.Exactly.{no_refusal}
 use Rattle.aig_answers.specs.declared.circuits.CircuitQuery.{CircuitQuery}
 use Rattle.aig_answers.specs.declared.error.AnswerError.TheVariants as errors
 use Rattle.aig_answers.proofs.Checked.{not_alone, proof_answers, some_edges}

@@ -1,10 +1,8 @@
 use Rattle.std.proofs.Common.{◌≡◌}
 use Rattle.std.specs.Io.KnownBytes.{prepend_known}
 use Rattle.std.proofs.KnownBytes.{prepend_known-nil}
-use Rattle.std.proofs.lemmas.Result.{IfOk-weaker}
-use Rattle.aig_format.specs.Fits.{Accepts}
 use Rattle.aig_reader.specs.Reading.{AreListsOf}
-use Rattle.aig_lexer.proofs.Ending.{ends_read, ends_whole}
+use Rattle.aig_reader.proofs.Verdicts.{judged_at_end, read_at_end}
 use Rattle.aig_reader.proofs.reader.read.Goals as goal
 use Rattle.aig_reader.proofs.reader.read.Goals.{After-new-buffer}
 use Rattle.aig_reader.proofs.reader.read.Given as given
@@ -18,12 +16,9 @@ at_first g c = rw c.new-buffer.ensures (prepend_known-nil (g.R.Source.left c.arg
 pub returns-clause-circuit : goal.returns-clause-circuit
 returns-clause-circuit g c =
     let start = at_first g (goal.at.returns-clause-circuit g c).After-new-buffer in
-    IfOk-weaker c.read_file.result _ _ (λ lists o. record { file = o.0; bytes = o.1; holds = o.2; means = o.3; taken = o.4 })
-    (ends_read g.R.Source.left c.read_file.result c.read_file.new.buffer c.read_file.new.r (λ f bytes. Accepts bytes c.args.limit f) (λ lists f. AreListsOf f lists) _ _ c.read_file.ensures.whole
-    (IfOk-weaker c.read_file.result _ _ (λ lists o. (o.file, o.bytes, o.holds, o.means, o.taken)) (rw start at c.read_file.ensures.circuit)))
+    rw (← start) (read_at_end _ _ _ _ _ _ AreListsOf c.read_file.result c.read_file.ensures.verdict c.read_file.ensures.circuit)
 
-pub returns-clause-exact : goal.returns-clause-exact
-returns-clause-exact g c = let start = at_first g (goal.at.returns-clause-exact g c).After-new-buffer in rw start at c.read_file.ensures.exact
-
-pub returns-clause-whole : goal.returns-clause-whole
-returns-clause-whole g c = ends_whole g.R.Source.left c.read_file.result c.read_file.new.buffer c.read_file.new.r g.R.Source.failed c.read_file.ensures.whole
+pub returns-clause-verdict : goal.returns-clause-verdict
+returns-clause-verdict g c =
+    let start = at_first g (goal.at.returns-clause-verdict g c).After-new-buffer in
+    rw (← start) (judged_at_end _ _ _ _ _ _ _ c.read_file.ensures.verdict)

@@ -16,8 +16,8 @@ use Rattle.aig_reader.proofs.FileCircuit.{circuit_is, nodes_distinct}
 use Rattle.aig_reader.proofs.ReadNames.{names_fault, names_in, no_names_in, no_names_left}
 use Rattle.aig_reader.proofs.reader.read_file.Goals as goal
 
-pub returns-in_err-header-clause-exact : goal.returns-in_err-header-clause-exact
-returns-in_err-header-clause-exact g c =
+pub returns-in_err-header-clause-verdict : goal.returns-in_err-header-clause-verdict
+returns-in_err-header-clause-verdict g c =
     let p = err_from_is_err_and c.from_residual.result c.from_residual.ensures.1 in
     rw (p.1, p.2) (refused_header c.args.limit (feed g.R.Source.left g.R.Source.failed g.R.Source.pulls c.args.buffer.now c.args.r.now) (feed g.R.Source.left g.R.Source.failed g.R.Source.pulls c.read_header.new.buffer c.read_header.new.r) c.in_err-header.field-0.0 c.in_err-header.ensures.exact)
 
@@ -27,13 +27,13 @@ read_sections-requires-clause-few g c = omega (arith, header_within c.args.limit
 pub read_sections-requires-clause-good : goal.read_sections-requires-clause-good
 read_sections-requires-clause-good g c = header_good c.args.limit _ _ _ c.in_ok-header.ensures.exact
 
-pub returns-in_err-sections-clause-exact : goal.returns-in_err-sections-clause-exact
-returns-in_err-sections-clause-exact g c =
+pub returns-in_err-sections-clause-verdict : goal.returns-in_err-sections-clause-verdict
+returns-in_err-sections-clause-verdict g c =
     let p = err_from_is_err_and c.from_residual-in_err-sections.result c.from_residual-in_err-sections.ensures.1 in
     let e = c.in_err-sections.field-0.0 in
     let header = c.in_ok-header.header in
     rw (p.1, p.2)
-    (refused_section c.args.limit _ _ (header.kind, numbers_of header) e _ c.in_ok-header.ensures.exact c.in_err-sections.ensures (header_small c.args.limit _ _ _ c.in_ok-header.ensures.exact))
+    (refused_section c.args.limit _ _ _ _ (header.kind, numbers_of header) e c.in_ok-header.ensures.exact c.in_err-sections.ensures (header_small c.args.limit _ _ _ c.in_ok-header.ensures.exact))
 
 pub read_names-names-requires-clause-distinct : goal.read_names-names-requires-clause-distinct
 read_names-names-requires-clause-distinct g c =
@@ -44,8 +44,8 @@ read_names-names-requires-clause-distinct g c =
     let fits = accepted c.args.limit _ _ body taken [] [] (no_names_left (numbers_of header)) in
     rw (c.deref.ensures.value, c.deref-2.ensures.value) (nodes_distinct (file_from body []) c.in_ok-sections.sections made.1.circuit c.args.limit fits.1)
 
-pub returns-in_err-names-clause-exact : goal.returns-in_err-names-clause-exact
-returns-in_err-names-clause-exact g c =
+pub returns-in_err-names-clause-verdict : goal.returns-in_err-names-clause-verdict
+returns-in_err-names-clause-verdict g c =
     let p = err_from_is_err_and c.from_residual-in_err-names.result c.from_residual-in_err-names.ensures.1 in
     let e = c.in_err-names.field-0.0 in
     let header = c.in_ok-header.header in
@@ -53,7 +53,7 @@ returns-in_err-names-clause-exact g c =
     let body : Body = ((header.kind, numbers_of header), made.0) in
     let taken = takes_both (parse_fitting_header c.args.limit) sections_of _ _ _ (header.kind, numbers_of header) made.0 c.in_ok-header.ensures.exact made.2 in
     rw (p.1, p.2)
-    (refused_names c.args.limit _ _ body e _ taken
+    (refused_names c.args.limit _ _ _ _ body e taken
     (no_names_in _ _ _ (tail_of (numbers_of header)) c.read_names-names.result c.names_result.result c.names_result.ensures c.read_names-names.ensures e c.in_err-names.was)
     (names_fault c.read_names-names.result c.names_result.result e c.names_result.ensures c.in_err-names.was) (header_small c.args.limit _ _ _ c.in_ok-header.ensures.exact))
 
@@ -76,13 +76,8 @@ returns-clause-circuit g c =
       taken = Consumes-trans _ _ _ taken.taken names.2 taken.advances.consumed names.4.consumed;
     }
 
-pub returns-clause-whole : goal.returns-clause-whole
-returns-clause-whole g c =
+pub returns-clause-verdict : goal.returns-clause-verdict
+returns-clause-verdict g c =
     let header = c.in_ok-header.header in
     let names = names_in _ _ _ (tail_of (numbers_of header)) c.read_names-names.result c.names_result.result c.names_result.ensures c.read_names-names.ensures c.in_ok-names.names c.in_ok-names.was in
-    (names.4.sound, names.4.at_end)
-
-pub returns-clause-exact : goal.returns-clause-exact
-returns-clause-exact g c =
-    let whole = returns-clause-whole g c in
-    accepts c.args.limit _ _ c.with_names.result (returns-clause-circuit g c) whole.1 (header_small c.args.limit _ _ _ c.in_ok-header.ensures.exact)
+    accepts c.args.limit _ _ _ (returns-clause-circuit g c) (names.4.sound, names.4.at_end) (header_small c.args.limit _ _ _ c.in_ok-header.ensures.exact)

@@ -7,11 +7,16 @@ use Rattle.aig_base.specs.declared.logic.three.Lbool.{Lbool}
 use Rattle.aig_circuit.specs.Circuit.{Circuit}
 use Rattle.aig_witness.specs.Witness.{rows_of, said_by}
 use Rattle.aig_witness_check.specs.Shown.{IsKnownWitness}
-use Rattle.aig_witness_check.proofs.Nexts.{fails_on, lists_are, unread_answers, unread_failed}
+use Rattle.aig_witness_check.proofs.Nexts.{fails_on, lists_are, refused, unread_answers, unread_failed}
 use Rattle.aig_witness_check.proofs.file.check_witness.Goals as goal
 
 pub check_circuit-requires : goal.check_circuit-requires
 check_circuit-requires g c = lists_are c.args.limit _ _ c.in_ok-lists.lists c.in_ok-lists.ensures.circuit
+
+pub returns-in_err-lists-clause-answer : goal.returns-in_err-lists-clause-answer
+returns-in_err-lists-clause-answer g c =
+    let p = err_from_is_err_and c.from_residual.result c.from_residual.ensures.1 in
+    rw (p.1, p.2) (refused c.args.limit _ _ _ c.in_err-lists.field-0.0 c.in_err-lists.ensures.verdict)
 
 pub returns-in_err-witness-clause-answer : goal.returns-in_err-witness-clause-answer
 returns-in_err-witness-clause-answer g c =

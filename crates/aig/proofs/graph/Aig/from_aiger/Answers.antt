@@ -1,15 +1,9 @@
 use Rattle.std.proofs.Common.{◌≤◌, length, sym, subst, ◌∙◌}
-use Rattle.std.proofs.lemmas.Result.{err_from_is_err_and}
 use Rattle.aig_circuit.specs.Circuit.{Circuit, IsCircuit}
-use Rattle.aig_circuit.specs.declared.view.CircuitLists.{CircuitLists}
 use Rattle.aig_format.proofs.Circuits.{IsCircuit-of_file}
 use Rattle.aig_format.proofs.Nodes.{few_nodes}
 use Rattle.aig_format.specs.Writable.{IsWritable}
 use Rattle.aig_format_laws.proofs.Writable.{IsWritable-of_file}
-use Rattle.aig_reader.specs.Reading.{AreListsOf}
-use Rattle.aig_reader.proofs.Reading.{answered_again, refused_again}
-use Rattle.aig.specs.Reading.{IsFileCircuit}
-use Rattle.aig.specs.declared.graph.Aig.{Aig}
 use Rattle.aig.proofs.graph.Aig.from_aiger.Goals as goal
 
 pub from_lists-requires : goal.from_lists-requires
@@ -31,11 +25,3 @@ pub returns-clause-writable : goal.returns-clause-writable
 returns-clause-writable g c =
     let read = returns-clause-circuit g c in
     subst IsWritable (sym read.means) (IsWritable-of_file read.file c.args.limit read.bytes c.requires.few read.holds)
-
-pub returns-clause-exact : goal.returns-clause-exact
-returns-clause-exact g c = answered_again CircuitLists Aig AreListsOf IsFileCircuit c.args.limit c.in_ok-lists.lists _ _ (λ f is. c.from_lists.ensures ∙ is) c.in_ok-lists.ensures.exact
-
-pub returns-in_err-lists-clause-exact : goal.returns-in_err-lists-clause-exact
-returns-in_err-lists-clause-exact g c =
-    let p = err_from_is_err_and c.from_residual.result c.from_residual.ensures.1 in
-    rw (p.1, p.2) (refused_again CircuitLists Aig AreListsOf IsFileCircuit c.args.limit c.in_err-lists.field-0.0 _ c.in_err-lists.ensures.exact)

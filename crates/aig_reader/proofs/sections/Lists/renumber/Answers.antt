@@ -1,4 +1,4 @@
-use Rattle.std.proofs.Common.{◌∙◌, map, ap, length, arith}
+use Rattle.std.proofs.Common.{◌∙◌, map, ap, arith}
 use Rattle.std.proofs.lemmas.List.{with_items_is}
 use Rattle.aig_circuit.specs.Renumber.{renumbered_latch}
 use Rattle.aig_ordering.specs.Numbers.{number_in}

@@ -7,12 +7,11 @@ use Rattle.aig_format.specs.Fits.{Fits}
 use Rattle.aig_format.specs.Circuit.{circuit_of}
 use Rattle.aig_reader.specs.declared.error.ReadError.{ReadError}
 use Rattle.aig_reader.specs.declared.error.ReadError.TheVariants.{Memory, Stream, Header, TooMany, Syntax, Literal, Delta, Name, Open}
-use Rattle.aig_reader.specs.Reading as reading
-use Rattle.aig_reader.specs.Reading.{ReadsExactly}
 use Rattle.aig_unroll.specs.Places.{unrolled_size}
 use Rattle.aig_encode.specs.declared.error.EncodeError.{EncodeError}
 use Rattle.aig_encode.specs.declared.error.EncodeError.TheVariants as errors
-use Rattle.aig_encode.specs.Encoding.{AnswersExactly, IsWithin, EncodeUnlessTransient}
+use Rattle.aig_encode.specs.Encoding.{IsWithin}
+use Rattle.aig_answers.specs.Exactly.{AnswersExactly, EncodeUnlessTransient, ReadsExactly, UnlessTransient}
 
 -- what an answer tells of the bytes, where they are known
 abbrev pub Tells : {T : Type 0} → (File → T → Type 0) → ℕ → ℕ → Result T EncodeError → Option (List ℕ) → Type 0
@@ -25,7 +24,7 @@ no_refusal T E x e is = cc
 module _ (X T : Type 0) (Read : File → X → Type 0) (Means : File → T → Type 0) (limit k : ℕ) where
   -- what reading told of the bytes, where they are known
   abbrev pub Reads : Result X ReadError → Option (List ℕ) → Type 0
-  Reads result left = IfSome left (λ bytes. reading.UnlessTransient result (ReadsExactly Read limit result bytes))
+  Reads result left = IfSome left (λ bytes. UnlessTransient result (ReadsExactly Read limit result bytes))
 
   -- bytes that reading refused are refused
   refused : (e : ReadError) (bytes : List ℕ) → ReadsExactly Read limit (Err e) bytes → AnswersExactly Means limit k (Err (errors.Read e)) bytes
