@@ -309,11 +309,13 @@ def both_forms(tool, folder):
 
 
 def tool_cases(files):
-    """Each command of aigtool on a text and on its binary form, and `binary` over an old file and none."""
+    """Each command of aigtool on a text and on its binary form, and `binary` over an old file and none, and into descriptors."""
     for form, (command, *further) in itertools.product(files, COMMANDS):
         yield [command, form, *further], files
     for form, old in itertools.product(files, [{}, {"out": b"old"}]):
         yield ["binary", form, "out"], files | old
+    for form, out in itertools.product(files, ["/dev/stdout", "/proc/thread-self/fd/1"]):
+        yield ["binary", form, out], files
 
 
 def sizes(shim, tool, folder, failures):

@@ -208,6 +208,8 @@ def a_small_stack_is_enough(room):
     commands = [(room.tool, words) for words, _ in memory.tool_cases(files)]
     commands += [(room.tool, ["binary", "and.aag", out]) for out in ("old", "link", "/dev/fd/1", "/dev/null")]
     commands += [(room.checker, words) for words in memory.CHECKS]
+    room.write("deep", outs.chain(200_000).replace(b" 1 200000\n", b" 0 200000 1\n", 1))
+    commands += [(room.checker, [command, "deep", "0"]) for command in ("clauses", "window")]
     for program, words in commands:
         for _ in range(10):
             run = subprocess.run([program, *words], cwd=room.folder, preexec_fn=limit(resource.RLIMIT_STACK, STACK), capture_output=True)
