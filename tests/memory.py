@@ -345,6 +345,7 @@ def sizes(shim, tool, folder, failures):
         (b"aag 0 0 0 0 0 4294967295\n0\n", "bad line in bads"),
         (b"aag 0 0 0 0 0 0 4294967295\n0\n", "bad line in constraints"),
         (b"aag 0 0 0 0 0 0 0 0 4294967295\n0\n", "bad line in fairness"),
+        (b"aag 0 0 0 0 0 0 0 4294967295\n0\n", "bad line in justice"),
         (b"aag 0 0 0 0 0 0 0 2\n4294967295\n4294967295\n0\n", "bad line in justice"),
     ]:
         ended = asks(["text", "file"], data)

@@ -5,8 +5,8 @@ A line is a step with its words; a word in quotes, as Rust writes texts and byte
 name. Other files are made in a folder that is empty at first. Lines behind `=` are what the step above them prints, a line each: a
 text or bytes in quotes, or as it stands. A step with no such line prints nothing; but the edge that a connective answers may be left
 out. Below a line `@ WORD ..` the steps are taken once for each of these words, which stands in the place of `$`, up to the next title,
-a line that begins with `##`, below which the circuit is a new one. `{PIECE}*N` is the piece N times. Other lines that begin with `#`
-say something.
+a line that begins with `##`, below which the circuit is a new one. `{PIECE}*N` is the piece N times, with 2, 4, .. for a `#` in it. Other
+lines that begin with `#` say something.
 """
 import argparse
 import ast
@@ -65,8 +65,8 @@ def answers(out):
 
 
 def repeated(line):
-    """The line with each piece in braces as often as the number behind it says."""
-    return REPEATED.sub(lambda piece: piece[1] * int(piece[2]), line)
+    """The line with each piece in braces as often as the number behind it says, and twice the count so far for a `#` in it."""
+    return REPEATED.sub(lambda piece: "".join(piece[1].replace("#", str(2 * i)) for i in range(1, int(piece[2]) + 1)), line)
 
 
 def value(quoted):

@@ -2,6 +2,7 @@
 
 ghost use Rattle.std.specs.Prelude.{◌≤◌, ◌^◌, IfOk, length};
 
+mod answers;
 mod examples;
 mod streams;
 

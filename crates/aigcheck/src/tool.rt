@@ -28,6 +28,11 @@ use thiserror::Error;
 /// The limit on the nodes of a circuit that the program reads, and of one that it unrolls.
 pub const LIMIT: usize = 1 << 24;
 
+/// Law: the limit is 2^24 nodes.
+pub fn limit_is_given()
+    ensures { LIMIT ≡ 2 ^ 24 }
+{}
+
 /// Why the program ends with status 1.
 #[derive(Clone, Copy, Debug, PartialEq, Eq, Error)]
 pub enum CheckError {

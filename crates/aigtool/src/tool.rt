@@ -22,6 +22,8 @@ use thiserror::Error;
 /// The limit on the nodes of a circuit that the program reads, and of one that it unrolls.
 pub const LIMIT: usize = 1 << 24;
 
+const _: () = prove!(LIMIT == 16_777_216);
+
 /// Why the program ends with status 1.
 #[derive(Clone, Copy, Debug, PartialEq, Eq, Error)]
 pub enum ToolError {
