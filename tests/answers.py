@@ -25,6 +25,7 @@ TWICE = "aigcheck: number used twice in proof\n"
 LITERAL = "aigcheck: literal of no variable in proof\n"
 LARGE = "aigcheck: number too large in proof\n"
 LINE = "aigcheck: bad proof line\n"
+BINARY = "aigcheck: binary proof; text is taken (cadical --no-binary)\n"
 UNFINISHED = "aigcheck: proof ends before the empty clause\n"
 OPEN = "aigcheck: cannot open\n"
 READ = "aigcheck: read failed\n"
@@ -54,6 +55,11 @@ STATELESS_DISTINCT = STATELESS.replace("6 6", "6 7") + "0\n"
 
 # The proof of the window of the waiting latch in two steps, and what is made of it.
 LONG = "13 3 0 9 5 0\n14 0 12 13 11 0\n"
+# Proofs about opposed.aag, without hints and with them: with 6 and 9 true, two inputs 2 and 3 differ and are the same. Clause 2 of
+# its 13 is `-6 2 3`, 3 `-6 -2 -3`, 6 `-9 2 -3`, 7 `-9 -2 3`, 10 `-10 6`, 11 `-10 9` and 13 `10`. Unit propagation is in conflict once
+# the clause `2` is there, and not before.
+SPLIT = "2 0\n0\n"
+OPPOSED = "14 2 0 13 10 11 2 6 0\n15 0 14 13 10 11 3 7 0\n"
 PROOFS = {
     "long": LONG,
     "dropped": LONG.split("\n", 1)[1],
@@ -71,23 +77,29 @@ PROOFS = {
     "rat": "13 3 0 -9 5 0\n14 0 12 13 11 0\n",
     "junk": "no proof\n",
     "empty": "",
-    "cut": LONG[:18],
-    "cut_in_number": LONG[:-4],
     "without_line_feed": LONG[:-1],
     "without_0": LONG.replace("11 0", "11"),
     "long_number": LONG.replace("13 3 0", "1" * 30 + " 3 0"),
     "long_literal": LONG.replace("13 3 0", "13 " + "1" * 30 + " 0"),
     "number_0": LONG.replace("13 3 0", "0 3 0"),
-    "two_spaces": LONG.replace("13 3 0", "13  3 0"),
     "none_deleted": LONG.replace("14 0 12", "13 d 99 0\n14 0 12"),
     "inverse_deleted": LONG.replace("14 0 12", "13 d -12 0\n14 0 12"),
     "deletion_without_space": LONG.replace("14 0 12", "13 d12 0\n14 0 12"),
     "line_behind": LONG + "no proof\n",
     "in_one_line": LONG.replace("\n", " ", 1),
     "number_alone": "13\n",
+    "inverse_alone": "-13\n",
     "negative_number": "-" + LONG,
+    "clause_without_0": "3 4\n0\n",
+    "numbered_without_0": "13 3\n0 9 5 0\n",
+    "deletion_of_nothing": "d\n0\n",
+    "deletion_without_0": "d 3 4\n0\n",
+    "letter_ends_word": LONG.replace("13 3 0", "13 3x0"),
+    "minus_alone": LONG.replace("13 3 0", "13 - 3 0"),
+    "plus": LONG.replace("13 3 0", "13 +3 0"),
     # The last variable is 7, and the hint 12 the clause `7`.
     "last_variable": LONG.replace("14 0 12", "14 7 0 12 0\n15 0 14"),
+    "last_variable_first": "13 7 0 12 0\n14 3 0 9 5 0\n15 0 13 14 11 0\n",
     # Four times the 12 clauses, and 2^16 with them, are 65,584; a number is compared by its fourth.
     "largest": LONG.replace("13", "65587").replace("14 0", "65588 0"),
     "larger": LONG.replace("13", "65588").replace("14 0", "65589 0"),
@@ -96,15 +108,49 @@ PROOFS = {
     "most_deleted_and_one": LONG.replace("14 0 12", "13 d 1 2 3 4 5 6 7 8 9 10 12 0\n14 0 12"),
     "most_deleted_and_used": LONG.replace("14 0 12", "13 d 1 2 3 4 5 6 7 8 9 10 0\n5 3 0 13 0\n14 0 12"),
     "last_deleted": LONG.replace("14 0 12", "13 d 5 12 0\n14 0 12"),
+    # Blanks, lines that are passed over, before and behind the first step, and a literal and a hint that come twice.
+    "two_spaces": LONG.replace("13 3 0", "13  3 0"),
+    "blanks": " \t13\t3  0 9 5 0 \r\n14 0\t 12 13 11 0\t \n",
+    "carriage_returns": LONG.replace("\n", "\r\n"),
+    "carriage_return_between": LONG.replace("3 0", "3\r0", 1),
+    "comments": "c a solver\n" + LONG.replace("\n", "\nc 13 d 12 0\n", 1),
+    "lines_passed_over": "\n \r\np lrat\nc\ncomment of 3 \N{GREEK SMALL LETTER PI}\n  c\n" + LONG.replace("\n", "\n\n\t\np\n", 1),
+    "step_in_comment": LONG.replace("14 0", "c 14 0"),
+    "step_in_last_comment": LONG.replace("14 0", "c 14 0")[:-1],
+    "comment_behind_step": LONG.replace("0\n", "0 c\n", 1),
+    "repeated": "13 3 3 3 0 9 9 5 0\n14 0 12 13 11 0\n",
+    # A clause with a literal and its inverse holds always, and says nothing of either.
+    "tautology": "13 4 -4 0 0\n14 3 0 9 5 0\n15 0 12 14 11 0\n",
+    "long_tautology": "13 -2 4 5 2 0 0\n14 3 0 9 5 0\n15 0 12 14 11 0\n",
+    "no_tautology": "13 4 -5 0 0\n14 3 0 9 5 0\n15 0 12 14 11 0\n",
+    "same_twice": "13 4 4 0 0\n14 3 0 9 5 0\n15 0 12 14 11 0\n",
+    "by_a_tautology": "13 4 -4 0 0\n14 4 0 13 0\n",
+    # Bytes of a binary DRAT proof, first those of the clause `3` or of its deletion, and bytes that stand in no text.
+    "binary": b"a\6\0a\0",
+    "binary_deletion": b"d\6\0a\0",
+    "line_of_a": LONG.replace("14 0", "a 14 0"),
+    **{f"byte_{byte}": LONG.encode().replace(b"9 5", b"9%c5" % byte) for byte in [0, 8, 11, 12, 14, 31, 127, 128, 255]},
     # Without hints, of the same clauses.
-    "hints_behind": "3 0\n" + LONG.split("\n", 1)[1],
+    "unit_alone": "3 0\n",
+    "deletion_alone": "d 3 -4 0\n",
     "literal_without_hints": "8 0\n0\n",
     "two_ends": "d 3 -4 0 0\n",
-    # Without hints, of opposed.aag: with 6 and 9 true, two inputs 2 and 3 differ and are the same.
-    "split": "2 0\n0\n",
+    # Without hints, of opposed.aag.
+    "split": SPLIT,
     "absent_deleted": "d 2 5 0\n2 0\n0\n",
-    "unit_deleted": "2 0\nd 2 0\n0\n",
+    "unit_deleted": "d 10 0\n" + SPLIT,
     "needed_deleted": "d 3 2 -6 0\n2 0\n0\n",
+    "empty_deleted": "d 0\n" + SPLIT,
+    "one_unit": "2 0\n",
+    "one_unit_without_line_feed": "2 0",
+    "junk_behind": "2 0\nno proof\n",
+    "hints_behind": "10 0\n" + OPPOSED,
+    "tautology_without_hints": "4 -4 0\n4 2 -2 0\n" + SPLIT,
+    "no_tautology_without_hints": "4 -5 0\n" + SPLIT,
+    "blanks_without_hints": "c solved\n\n\td  2 5 \t0\r\n \r\n 2\t0 \r\np\n0",
+    "comments_alone": "c 2 0\nc 0\n",
+    # With hints.
+    "opposed": OPPOSED,
     # Without hints, of three.aag: 2 and 3 follow of the clause of both, and that of both of no units.
     "of_two": "2 3 0\n2 0\n3 0\n0\n",
     "of_units": "2 0\n3 0\n0\n",
@@ -116,6 +162,27 @@ PROOFS = {
     "optimized_window": "21 3 0 20 18 0\n22 0 21 20 19 0\n",
     "raw_window": "31 3 0 30 28 0\n32 0 31 30 29 0\n",
 }
+# Ends of LONG behind its first step, and the whole of it but its line feed.
+CUTS = {f"cut_{i}": LONG[:i] for i in range(LONG.index("\n"), len(LONG) - 1)}
+
+# opposed.aag with 1,100 further inputs, whose variables are 4 to 1103, and proofs with a clause of these.
+WIDE = "aag 1109 1102 0 0 7 1\n" + "".join(f"{2 * i}\n" for i in range(1, 1103)) + "2218\n"
+WIDE += "2206 4 2\n2208 5 3\n2210 2209 2207\n2212 5 2\n2214 4 3\n2216 2215 2213\n2218 2216 2210\n"
+MANY = " ".join(str(i) for i in range(4, 1104))
+OF_WIDE = {
+    "many": f"2 {MANY} 0\nd {MANY} 2 0\nd {MANY} 0\n" + SPLIT,
+    "many_numbered": f"14 2 {MANY} 0 13 10 11 2 6 0\n14 d 14 0\n" + OPPOSED.replace("14 ", "16 ").replace("15 0", "17 0"),
+    "many_deleted": f"14 2 {MANY} 0 13 10 11 2 6 0\n14 d 14 0\n15 2 0 14 0\n",
+}
+# What costs no more than it touches: proofs about opposed.aag with so many steps, literals or hints, and a machine that at so many steps
+# has two literals that follow. Where each cost what is there already, these took a minute; SECONDS of the processor are enough.
+COUNT, SECONDS = 200_000, 10
+TIMED = {
+    "deletions": "10 2 3 0\n" * COUNT + "d 10 2 3 0\n" * COUNT + SPLIT,
+    "repeats": f"14 10{' 2' * COUNT} 0 13 0\n15 2 0{' 14' * COUNT} 13 10 11 2 6 0\n16 0 15 13 10 11 3 7 0\n",
+}
+# A latch that is 1 where it was and an input is, from any start, and is bad where it is 1.
+STAYING, LAST_STEP = b"aig 3 1 1 0 1 1\n6 4\n4\n\2\2", 500_000
 
 # Solvers' answers about step 1 of a latch that takes the input of the step before: 2 and 4 are the inputs, 3 is the latch's start.
 SOLVED = "s SATISFIABLE\nv -1 2 -3 -4 0\n"
@@ -250,7 +317,7 @@ def rows(folder):
     differing, opposed, three = (os.path.join(FILES, name + ".aag") for name in ["differing", "opposed", "three"])
     stateless, two = (os.path.join(FILES, name + ".aag") for name in ["stateless", "two"])
     of_stuck, of_waiting = (os.path.join(FILES, name + ".lrat") for name in ["stuck", "waiting"])
-    made = {name: os.path.join(folder, name) for name in PROOFS}
+    made = {name: os.path.join(folder, name) for name in [*PROOFS, *CUTS, *OF_WIDE, "wide"]}
     missing = os.path.join(folder, "missing")
     step = lambda k: answered(f"no bad state at step {k}\n")
     window = lambda k: answered(f"no bad state at any step, if none up to step {k}\n")
@@ -287,15 +354,45 @@ def rows(folder):
     yield window_of("raw_window"), refused(UNNAMED)
     # A proof is read up to the empty clause. To delete a clause that isn't there does nothing, and one of one literal stays.
     yield distinct(made["line_behind"]), window(0)
-    for name in ["split", "absent_deleted", "unit_deleted"]:
+    for name in ["split", "absent_deleted", "unit_deleted", "empty_deleted", "opposed"]:
         yield ["refuted", opposed, "0", made[name]], step(0)
     for name in ["empty_clause", "needed_deleted"]:
         yield ["refuted", opposed, "0", made[name]], refused(STEP)
+    yield ["refuted", opposed, "0", made["hints_behind"]], refused(LINE)
+    for name in ["empty", "comments_alone"]:
+        yield ["refuted", opposed, "0", made[name]], refused(UNFINISHED)
+    # Without hints, nothing is read once unit propagation is in conflict, and no step is needed where it is at first.
+    for name in ["one_unit", "one_unit_without_line_feed", "junk_behind"]:
+        yield ["refuted", opposed, "0", made[name]], step(0)
+    for name in ["empty", "unit_alone", "deletion_alone"]:
+        yield distinct(made[name]), window(0)
+    # Nothing of a proof is read where the clauses have an empty one, as where two states can't differ, or two of one literal each
+    # that are in conflict.
+    for name in ["junk", "empty", "binary"]:
+        yield ["inductive", opposed, "0", made[name], "distinct"], window(0)
+        yield ["refuted", stuck, "0", made[name]], step(0)
+    # What holds always is a step, in both forms.
+    for name in ["tautology", "long_tautology"]:
+        yield distinct(made[name]), window(0)
+    yield ["refuted", opposed, "0", made["tautology_without_hints"]], step(0)
+    yield ["refuted", opposed, "0", made["no_tautology_without_hints"]], refused(STEP)
+    for name in ["no_tautology", "same_twice", "by_a_tautology"]:
+        yield distinct(made[name]), refused(STEP)
+    # Blanks, comments, and the end of the last line.
+    for name in ["two_spaces", "blanks", "carriage_returns", "carriage_return_between", "comments", "lines_passed_over", "without_line_feed"]:
+        yield distinct(made[name]), window(0)
+    yield ["refuted", opposed, "0", made["blanks_without_hints"]], step(0)
+    for name in ["step_in_comment", "step_in_last_comment", *CUTS]:
+        yield distinct(made[name]), refused(UNFINISHED)
+    # Clauses of many literals.
+    for name in ["many", "many_numbered"]:
+        yield ["refuted", made["wide"], "0", made[name]], step(0)
+    yield ["refuted", made["wide"], "0", made["many_deleted"]], refused(UNNAMED)
     yield ["inductive", waiting, "0", made["split"]], refused(STEP)
     yield ["refuted", three, "0", made["of_two"], "raw"], step(0)
     yield ["refuted", three, "0", made["of_units"], "raw"], refused(STEP)
     # After a number is far above the others, and after clauses moved together.
-    for name in ["last_variable", "largest", "most_deleted"]:
+    for name in ["last_variable", "last_variable_first", "largest", "most_deleted", "repeated"]:
         yield distinct(made[name]), window(0)
     # Another file, step, form of window or command.
     yield ["refuted", toggle, "1", of_stuck], refused(STEP)
@@ -314,28 +411,36 @@ def rows(folder):
         ("rat", ASYMMETRY),
         ("junk", LINE),
         ("mixed", LINE),
-        ("empty", UNFINISHED),
-        ("cut", UNFINISHED),
-        ("cut_in_number", UNFINISHED),
-        ("without_line_feed", UNFINISHED),
         ("without_0", LINE),
         ("long_number", LINE),
         ("long_literal", LINE),
         ("number_0", LINE),
-        ("two_spaces", LINE),
         ("none_deleted", UNNAMED),
         ("inverse_deleted", LINE),
         ("deletion_without_space", LINE),
         ("in_one_line", LINE),
         ("number_alone", LINE),
+        ("inverse_alone", LINE),
+        ("clause_without_0", LINE),
+        ("numbered_without_0", LINE),
+        ("deletion_of_nothing", LINE),
+        ("deletion_without_0", LINE),
+        ("letter_ends_word", LINE),
+        ("minus_alone", LINE),
+        ("plus", LINE),
+        ("comment_behind_step", LINE),
         ("negative_number", LINE),
         ("larger", LARGE),
         ("most_deleted_and_one", UNNAMED),
         ("most_deleted_and_used", TWICE),
         ("last_deleted", UNNAMED),
-        ("hints_behind", LINE),
         ("literal_without_hints", LITERAL),
         ("two_ends", LINE),
+        ("binary", BINARY),
+        ("binary_deletion", BINARY),
+        ("line_of_a", BINARY),
+        *((f"byte_{byte}", BINARY) for byte in [0, 8, 14, 31, 127, 128, 255]),
+        *((f"byte_{byte}", LINE) for byte in [11, 12]),
     ]:
         yield distinct(made[name]), refused(why)
     # The clauses of a query, and which literals stand for inputs, latches and bads. Variable 1 is false.
@@ -416,9 +521,9 @@ def rows(folder):
     for words in [*wrong, [b"\xff"]]:
         yield words, (2, "", USAGE)
     # A folder can be opened, and not read.
-    for words in [["clauses", FILES, "0"], ["window", FILES, "0"], ["refuted", FILES, "0", of_stuck], ["refuted", stuck, "0", FILES]]:
+    for words in [["clauses", FILES, "0"], ["window", FILES, "0"], ["refuted", FILES, "0", of_stuck], ["refuted", opposed, "0", FILES]]:
         yield words, refused(READ)
-    for words in [["inductive", stuck, "0", FILES], ["witness", delayed, "1", FILES], ["run", FILES, of_stuck], ["run", stuck, FILES]]:
+    for words in [["inductive", opposed, "0", FILES], ["witness", delayed, "1", FILES], ["run", FILES, of_stuck], ["run", stuck, FILES]]:
         yield words, refused(READ)
     # Where the file and what is given beside it are both faulty, the file is named.
     for words in [["refuted", made["junk"], "0", made["junk"]], ["witness", made["junk"], "0", made["junk"]], ["run", made["junk"], made["junk"]]]:
@@ -440,6 +545,19 @@ def unwritten(folder):
     yield from [["witness", delayed, "1", os.path.join(folder, "solved")], ["run", counter, os.path.join(folder, "shown")]]
 
 
+def timed(folder):
+    """The words of what has to end within SECONDS, and what is wanted."""
+    opposed = os.path.join(FILES, "opposed.aag")
+    for name in TIMED:
+        yield ["refuted", opposed, "0", os.path.join(folder, name)], answered("no bad state at step 0\n")
+    yield ["refuted", os.path.join(folder, "staying"), str(LAST_STEP), os.path.join(folder, "empty_clause")], refused(STEP)
+
+
+def limit_time():
+    """Ends a program after SECONDS of the processor."""
+    resource.setrlimit(resource.RLIMIT_CPU, (SECONDS, SECONDS))
+
+
 def limit_memory():
     """Leaves 4 GB of memory to a program."""
     resource.setrlimit(resource.RLIMIT_AS, (4 << 30, 4 << 30))
@@ -451,18 +569,24 @@ def run(words, out=subprocess.PIPE, before=None):
     return done.returncode, done.stdout, done.stderr
 
 
+def made_files():
+    """The name and the bytes of each file that the rows are given, beside those of answers/."""
+    texts = {**PROOFS, **CUTS, **OF_WIDE, **TIMED, **SOLUTIONS, "wide": WIDE, "shown": SHOWN, "late": LATE, "staying": STAYING}
+    for name, text in texts.items():
+        yield name, text if isinstance(text, bytes) else text.encode()
+
+
 def main():
     tool = sys.argv[1] if len(sys.argv) > 1 else os.path.join(HERE, "..", "crates", "aigcheck", "out", "aigcheck")
     failed = count = 0
     with tempfile.TemporaryDirectory() as folder:
-        for name, text in [*PROOFS.items(), *SOLUTIONS.items(), ("shown", SHOWN), ("late", LATE)]:
-            with open(os.path.join(folder, name), "w", newline="") as out:
-                out.write(text)
+        for name, data in made_files():
+            with open(os.path.join(folder, name), "wb") as out:
+                out.write(data)
         tried = []
-        for words, wanted in rows(folder):
-            tried.append((words, wanted, run([tool, *words])))
-        for words, wanted in large(folder):
-            tried.append((words, wanted, run([tool, *words], before=limit_memory)))
+        for made, before in [(rows, None), (timed, limit_time), (large, limit_memory)]:
+            for words, wanted in made(folder):
+                tried.append((words, wanted, run([tool, *words], before=before)))
         with open("/dev/full", "wb") as full:
             for words in unwritten(folder):
                 tried.append((words, (1, None, WRITE), run([tool, *words], full)))

@@ -24,49 +24,17 @@ enum Visit {
     Conflict,
 }
 
-/// The clauses of some kind that watch one literal, and stale watches beside them: of clauses that
-/// were removed, are of another kind now or watch other literals, and second ones of a clause.
-#[derive(Drop)]
-struct List<O> {
-    watches: Vec<Watch<O>>,
-    /// How many of them are stale at most.
-    stale: usize,
-}
-
-impl<O: Copy> List<O> {
-    /// No clauses.
-    fn new(alloc: Global) -> List<O> {
-        List {
-            watches: Vec::new(alloc),
-            stale: 0,
-        }
-    }
-
-    /// Whether most of the watches may be stale.
-    fn is_sparse(&self) -> bool {
-        self.stale > self.watches.len() / 2
-    }
-
-    /// Drops the stale watches, where most may be.
-    fn sweep(&mut self, lit: Lit, kind: Kind, clauses: &mut Clauses) {
-        if !self.is_sparse() {
-            return;
-        }
-        self.watches
-            .retain(|watch| clauses.claim(watch.place, lit, kind));
-        for watch in &self.watches {
-            clauses.release(watch.place);
-        }
-        self.stale = 0;
-    }
-}
-
 /// For each literal the clauses of some kind that watch it, and so are looked at once it is false.
+///
+/// A watch may be stale: of a clause that was removed, is of another kind now or watches other
+/// literals, or a second one of a clause. Where most of a list are stale they are dropped.
 #[derive(Drop)]
 pub(crate) struct Watches<O> {
     alloc: Global,
     kind: Kind,
-    lists: Vec<List<O>>,
+    lists: Vec<Vec<Watch<O>>>,
+    /// How many watches of each list are stale at most.
+    stale: Vec<u32>,
     /// How many of the literals on the trail were propagated along these clauses.
     taken: usize,
 }
@@ -84,12 +52,13 @@ impl<O: Copy> Watches<O> {
     pub(crate) fn new(alloc: Global, count: usize, kind: Kind) -> Result<Watches<O>, MemoryError> {
         let mut lists = Vec::with_capacity(alloc, count)?;
         for _ in 0..count {
-            lists.push(List::new(alloc))?;
+            lists.push(Vec::new(alloc))?;
         }
         Ok(Watches {
             alloc,
             kind,
             lists,
+            stale: vec![in alloc; 0; count]?,
             taken: 0,
         })
     }
@@ -103,23 +72,47 @@ impl<O: Copy> Watches<O> {
     fn push(&mut self, lit: Lit, place: u32, others: O) -> Result<(), MemoryError> {
         let i = u32::from(lit) as usize;
         if i < self.lists.len() {
-            self.lists[i].watches.push(Watch { place, others })?;
+            self.lists[i].push(Watch { place, others })?;
         }
         Ok(())
+    }
+
+    /// Whether most watches of the literal of this number may be stale.
+    fn is_sparse(&self, i: usize) -> bool {
+        i < self.lists.len()
+            && i < self.stale.len()
+            && self.stale[i] as usize > self.lists[i].len() / 2
+    }
+
+    /// Drops the stale watches of a literal.
+    #[cold]
+    fn sweep(&mut self, lit: Lit, clauses: &mut Clauses) {
+        let i = u32::from(lit) as usize;
+        if i >= self.lists.len() || i >= self.stale.len() {
+            return;
+        }
+        let kind = self.kind;
+        let list = &mut self.lists[i];
+        list.retain(|watch| clauses.claim(watch.place, lit, kind));
+        for watch in &*list {
+            clauses.release(watch.place);
+        }
+        self.stale[i] = 0;
     }
 
     /// Takes note that a watch of a literal is stale.
     fn end_one(&mut self, lit: Lit, clauses: &mut Clauses) {
         let i = u32::from(lit) as usize;
-        if i < self.lists.len() {
-            let list = &mut self.lists[i];
-            list.stale = list.stale.saturating_add(1);
-            list.sweep(lit, self.kind, clauses);
+        if i < self.stale.len() {
+            self.stale[i] = self.stale[i].saturating_add(1);
+        }
+        if self.is_sparse(i) {
+            self.sweep(lit, clauses);
         }
     }
 
     /// Lets a clause that was removed, or is of another kind now, watch its first so many literals no
-    /// more. Its watches are left in their lists, and dropped when they are most of one.
+    /// more.
     pub(crate) fn end(&mut self, clauses: &mut Clauses, place: u32, count: u32) {
         for i in 0..count {
             self.end_one(clauses.lit(place, i), clauses);
@@ -128,9 +121,9 @@ impl<O: Copy> Watches<O> {
 
     /// Empties all lists.
     pub(crate) fn clear(&mut self) {
+        self.stale.fill(0);
         for list in self.lists.iter_mut() {
-            list.watches.clear();
-            list.stale = 0;
+            list.clear();
         }
     }
 
@@ -156,9 +149,17 @@ impl Watches<Lit> {
         self.push(second, place, first)
     }
 
-    /// Puts the list of a literal back.
-    fn put(&mut self, lit: Lit, list: List<Lit>) {
-        let i = u32::from(lit) as usize;
+    /// Takes the list of the literal of this number out.
+    fn take(&mut self, i: usize) -> Vec<Watch<Lit>> {
+        if i < self.lists.len() {
+            mem::replace(&mut self.lists[i], Vec::new(self.alloc))
+        } else {
+            Vec::new(self.alloc)
+        }
+    }
+
+    /// Puts the list of the literal of this number back.
+    fn put(&mut self, i: usize, list: Vec<Watch<Lit>>) {
         if i < self.lists.len() {
             self.lists[i] = list;
         }
@@ -227,13 +228,15 @@ impl Watches<Lit> {
         trail: &mut Trail,
     ) -> Result<Option<u32>, MemoryError> {
         let i = u32::from(lit) as usize;
-        if i >= self.lists.len() || self.lists[i].watches.is_empty() {
+        if i >= self.lists.len() || self.lists[i].is_empty() {
             return Ok(None);
         }
-        let mut list = mem::replace(&mut self.lists[i], List::new(self.alloc));
-        list.sweep(lit, self.kind, clauses);
-        let conflict = self.visit_list(lit, &mut list.watches, clauses, trail)?;
-        self.put(lit, list);
+        if self.is_sparse(i) {
+            self.sweep(lit, clauses);
+        }
+        let mut list = self.take(i);
+        let conflict = self.visit_list(lit, &mut list, clauses, trail)?;
+        self.put(i, list);
         Ok(conflict)
     }
 }
@@ -284,7 +287,7 @@ impl Watches<[Lit; 2]> {
         clauses: &Clauses,
         trail: &mut Trail,
     ) -> Option<u32> {
-        for watch in &self.lists.get(u32::from(lit) as usize)?.watches {
+        for watch in self.lists.get(u32::from(lit) as usize)? {
             if trail.is_forced(watch.others)
                 && clauses.is_there(watch.place)
                 && !watch.force(trail)
