@@ -1,7 +1,7 @@
 mod Pairs
 mod Growing
 pub mod Exactly
-mod Told
+pub mod Told
 pub mod Files
 mod Asking
 mod Checked

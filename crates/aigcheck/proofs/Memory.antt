@@ -1,8 +1,9 @@
 -- Memory that ran out after a file was read.
 use Rattle.std.proofs.Common.{ℕ, Bool, List, Option, Some, None, Err}
 use Rattle.aig_encode.specs.declared.error.EncodeError.TheVariants as encode
-use Rattle.aig_encode.specs.Encoding.{IsWithin, ConsumedFile}
-use Rattle.aig_encode.proofs.Exactly.{Tells}
+use Rattle.aig_encode.specs.Encoding.{IsWithin}
+use Rattle.aig_answers.specs.Exactly.{ConsumedFile}
+use Rattle.aig_answers.proofs.Exactly.{Tells}
 use Rattle.aig_answers.specs.declared.error.AnswerError.TheVariants as errors
 use Rattle.aig_answers.specs.Answers.{TellsOfFile}
 use Rattle.aig_answers.proofs.Files.{OfFile}

@@ -5,7 +5,7 @@ use Rattle.std.specs.Io.KnownBytes.{Appends, Consumes}
 use Rattle.aig_circuit.specs.declared.edge.AigEdge.{AigEdge}
 use Rattle.aig_format.specs.File.{File}
 use Rattle.aig_encode.specs.Encoding.{IsWithin}
-use Rattle.aig_encode.proofs.Exactly.{Tells}
+use Rattle.aig_answers.proofs.Exactly.{Tells}
 use Rattle.aig_output.specs.Sinks.{AppendsBeginning}
 use Rattle.aig_answers.specs.declared.error.AnswerError.TheVariants as refusals
 use Rattle.aig_answers.specs.Answers.{IsAsked}

@@ -20,7 +20,8 @@ use Rattle.aig_reader.specs.declared.error.ReadError.TheVariants as read
 use Rattle.aig_witness_check.specs.declared.file.ShowError.TheVariants as shows
 use Rattle.aig_witness_check.specs.declared.file.Shown.{Shown}
 use Rattle.aig_encode.specs.declared.query_clauses.Query.{Query}
-use Rattle.aig_encode.specs.Encoding.{IsQuery, ConsumedFile}
+use Rattle.aig_encode.specs.Encoding.{IsQuery}
+use Rattle.aig_answers.specs.Exactly.{ConsumedFile}
 use Rattle.aig_witness.specs.Witness.{Witness, witness_text}
 use Rattle.aig_witness_check.specs.Machine.{ShowsBad}
 use Rattle.aig_witness_check.specs.Files as witnesses
