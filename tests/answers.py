@@ -240,6 +240,7 @@ SOLUTIONS = {
     "word_after_answer": SOLVED.replace("E\n", "E it\n"),
     "answer_among_values": SOLVED.replace("-3", "\ns SATISFIABLE\nv -3"),
     "words_before_answer": "v -1 2 -3 -4 0 5 2\ns SATISFIABLE\n",
+    "values_after_0": "v -1 2 -3 -4 0\nv 2 0\ns SATISFIABLE\n",
     "cut_after_answer": SOLVED[:13],
     "cut_in_answer": SOLVED[:12],
     # About step 4 of two.aag: 7 is the input there, which is bad, and 6 the one before, of which the latch is bad too.
@@ -497,6 +498,7 @@ def rows(folder):
         ("without_space", SOLUTION_LINE),
         ("answer_among_values", SOLUTION_LINE),
         ("words_before_answer", NO_ANSWER),
+        ("values_after_0", NO_ANSWER),
         ("longer_answer", NO_ANSWER),
         ("letter_for_answer", NO_ANSWER),
         ("answer_without_space", NO_ANSWER),

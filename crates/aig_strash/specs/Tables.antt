@@ -3,15 +3,14 @@
 -- operands.
 use Rattle.std.specs.Prelude.{◌≡◌, ℕ, ◌^◌, ◌&&◌, Bool, false, Option, Some, nat_eq, List, unwrap_or}
 use Rattle.std.specs.HashMap.{get, HashMap}
-use Rattle.std.specs.declared.hash.FoldHasher.{FoldHasher}
-use Rattle.std.specs.declared.hash.BuildHasherDefault.{BuildHasherDefault}
+use Rattle.aig_strash.specs.declared.seeded.Seeded.{Seeded}
 use Rattle.aig_strash.specs.declared.numbers.Tables.{Tables}
 use Rattle.aig_strash.specs.declared.numbers.Tables.TheVariants.{Narrow, Wide}
 
 -- `found` is the value that was there, or `next` where there was none; it is there now, and all
 -- others are as before
 pub record PutsIfAbsent {K V : Type 0} (same : K → K → Bool)
-    (old new : HashMap K V (BuildHasherDefault FoldHasher)) (key : K) (next found : V)
+    (old new : HashMap K V Seeded) (key : K) (next found : V)
     : Type 0 where
   pub value : found ≡ unwrap_or (get same old key) next
   pub here : get same new key ≡ Some found
@@ -23,7 +22,7 @@ Literals = ℕ × ℕ
 
 -- new numbers of gates, by the literals of their operands
 abbrev pub Gates : Type 0
-Gates = HashMap Literals ℕ (BuildHasherDefault FoldHasher)
+Gates = HashMap Literals ℕ Seeded
 
 -- both literals are the same
 abbrev pub are_same : Literals → Literals → Bool

@@ -4,6 +4,7 @@
 mod hashing;
 mod laws;
 mod numbers;
+mod seeded;
 
 pub use hashing::strash;
 pub use laws::{

@@ -4,6 +4,7 @@ ghost use Rattle.std.specs.Prelude.{◌≡◌, ◌+◌, ◌*◌, ◌<◌, ◌≤
 ghost use Rattle.std.specs.HashMap.{IsEmpty};
 ghost use Rattle.aig_strash.specs.Tables.{PutsIfAbsent, are_same, gate_table, literal_limit, number_table};
 
+use crate::seeded::Seeded;
 use aig_base::MemoryError;
 use aig_circuit::AigNode;
 use std::alloc::Global;
@@ -19,11 +20,11 @@ const MOST_NARROW: usize = 1 << 31;
 pub(crate) enum Tables {
     Narrow {
         numbers: Vec<u32>,
-        gates: HashMap<(u32, u32), u32>,
+        gates: HashMap<(u32, u32), u32, Seeded>,
     },
     Wide {
         numbers: Vec<usize>,
-        gates: HashMap<(usize, usize), usize>,
+        gates: HashMap<(usize, usize), usize, Seeded>,
     },
 }
 
@@ -36,15 +37,16 @@ impl Tables {
     {
         let count = nodes.len();
         let gates = nodes.iter().filter(|node| node.is_and()).count();
+        let seeded = Seeded::of(nodes);
         if count <= MOST_NARROW {
             Ok(Tables::Narrow {
                 numbers: Vec::with_capacity(alloc, count)?,
-                gates: HashMap::with_capacity(alloc, gates)?,
+                gates: HashMap::with_capacity_and_hasher(alloc, gates, seeded)?,
             })
         } else {
             Ok(Tables::Wide {
                 numbers: Vec::with_capacity(alloc, count)?,
-                gates: HashMap::with_capacity(alloc, gates)?,
+                gates: HashMap::with_capacity_and_hasher(alloc, gates, seeded)?,
             })
         }
     }
@@ -116,7 +118,7 @@ impl Tables {
 
 /// Returns the value at the key, which is `next` from now on where there was none.
 fn value_at<K: Copy + Drop + Eq + Hash, V: Copy + Drop>(
-    map: &mut HashMap<K, V>,
+    map: &mut HashMap<K, V, Seeded>,
     key: K,
     next: V,
 ) -> Result<V, MemoryError>

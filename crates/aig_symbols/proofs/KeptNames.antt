@@ -2,6 +2,9 @@
 use Rattle.std.proofs.Common.{◌≡◌, ◌≢◌, ℕ, ◌+◌, ◌<◌, ◌⊎◌, inl, inr, Bool, true, false, ◌&&◌, ◌||◌, cond, eqb, List, [], ◌∷◌, ◌++◌, length, get_or, AllPairs, Option, Some, None, nat_cmp, nat_eq, refl, sym, ap, subst, ◌∙◌, append-nil, arith}
 use Rattle.std.specs.Prelude.{is_some, option_map, filter_map, slice_index}
 use Rattle.std.specs.List.{AllByRecursion, cons_option}
+use Rattle.std.specs.declared.cmp.Ordering.{Ordering}
+use Rattle.std.specs.Ordering.{is_eq, ordering_then}
+use Rattle.std.specs.Cmp.{both_tied}
 use Rattle.std.specs.FinMap.{find, from_entries, from_entries_push, nat_cmp-IsAntisymmetric}
 use Rattle.std.proofs.lemmas.Cmp.{nat_cmp_total}
 use Rattle.std.proofs.lemmas.Bool.{eqb-true, ne_eqb, or_parts}
@@ -22,6 +25,14 @@ use Rattle.aig_symbols.proofs.NameLines.{name_line, is_taken}
 -- whether two places are one
 abbrev pub same_spot : ℕ × ℕ → ℕ × ℕ → Bool
 same_spot a b = nat_eq a.0 b.0 && nat_eq a.1 b.1
+
+-- their order, by the letter and then by the position, has one place for both
+abbrev pub spot_cmp : ℕ × ℕ → ℕ × ℕ → Ordering
+spot_cmp a b = ordering_then (nat_cmp a.0 b.0) (nat_cmp a.1 b.1)
+
+pub equal_spots : (a b : ℕ × ℕ) → is_eq (spot_cmp a b) ≡ same_spot a b
+equal_spots a b =
+    sym (both_tied (nat_eq a.0 b.0) (nat_eq a.1 b.1) (nat_cmp a.0 b.0) (nat_cmp a.1 b.1) (sym (same_test a.0 b.0)) (sym (same_test a.1 b.1)))
 
 or_last : (x y : Bool) → cond x true y ≡ (y || (x || false))
 or_last true true = refl

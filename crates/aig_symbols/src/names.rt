@@ -21,7 +21,7 @@ use aig_lexer::{Header, InputBuffer};
 pub use error::NameError;
 use place::{named_node, next_place};
 use std::alloc::{AllocFailed, Global};
-use std::collections::{HashMap, HashSet};
+use std::collections::{BTreeSet, HashMap};
 use text::{kept_text, skip_text};
 
 /// Reads a name, and keeps it where it is that of a node.
@@ -75,7 +75,7 @@ pub fn read_names<R: Source>(
         (feed R.left R.failed R.pulls buffer.old r.old)
         (feed R.left R.failed R.pulls buffer.new r.new) result (tail_of (numbers_of header.now)) }
 {
-    let mut places = HashSet::new(alloc);
+    let mut places = BTreeSet::new(alloc);
     let mut names = HashMap::new(alloc);
     loop {
         let (letter, position) = match next_place(buffer, r, header) {

@@ -1,7 +1,8 @@
-use Rattle.std.proofs.Common.{◌<◌, refl, ap, sym, subst, ◌∙◌, arith}
+use Rattle.std.proofs.Common.{◌<◌, true, cond, refl, ap, sym, subst, ◌∙◌, arith}
 use Rattle.std.specs.List.{list_any}
+use Rattle.std.specs.Ordering.{is_eq}
 use Rattle.std.specs.Prelude.{is_some}
-use Rattle.std.specs.HashSet.{contains}
+use Rattle.std.specs.BTreeSet.{contains}
 use Rattle.std.proofs.lemmas.Bool.{not-false, not-true}
 use Rattle.std.proofs.lemmas.List.{length-map}
 use Rattle.aig_circuit.specs.declared.node.AigLatch.{AigLatch}
@@ -12,7 +13,7 @@ use Rattle.aig_lexer.specs.Header.{numbers_of}
 use Rattle.aig_lexer.specs.Takes.{feed, Misses}
 use Rattle.aig_lexer.proofs.Taking.{takes_fewer}
 use Rattle.aig_symbols.specs.NameSteps.{parse_place}
-use Rattle.aig_symbols.proofs.KeptNames.{same_spot}
+use Rattle.aig_symbols.proofs.KeptNames.{equal_spots, spot_cmp}
 use Rattle.aig_symbols.proofs.NameFaults.{on_name-from_shape, on_name-weaker}
 use Rattle.aig_symbols.proofs.NameLines.{name_text_at}
 use Rattle.aig_symbols.proofs.Places.{came_place, came_end, takes_within}
@@ -21,8 +22,8 @@ use Rattle.aig_symbols.proofs.names.read_names.Goals as goal
 
 pub loop-place-init : goal.loop-place-init
 loop-place-init g c =
-    so_far_none (numbers_of c.args.header.now) c.args.inputs.now (latch_leaves c.args.latchs.now) (feed g.R.Source.left g.R.Source.failed g.R.Source.pulls c.args.buffer.now c.args.r.now) (feed g.R.Source.left g.R.Source.failed g.R.Source.pulls c.args.buffer.now c.args.r.now) (contains same_spot c.new-places.result) (names_of c.new-names.result.entries)
-    (λ q. ap (list_any (same_spot q)) c.new-places.ensures.empty) (ap names_of c.new-names.ensures.empty)
+    so_far_none (numbers_of c.args.header.now) c.args.inputs.now (latch_leaves c.args.latchs.now) (feed g.R.Source.left g.R.Source.failed g.R.Source.pulls c.args.buffer.now c.args.r.now) (feed g.R.Source.left g.R.Source.failed g.R.Source.pulls c.args.buffer.now c.args.r.now) (contains spot_cmp c.new-places.result) (names_of c.new-names.result.entries)
+    (λ q. ap (list_any (λ k. is_eq (spot_cmp q k))) c.new-places.ensures.empty) (ap names_of c.new-names.ensures.empty)
 
 pub returns-in-Ok-None : goal.returns-in-Ok-None
 returns-in-Ok-None g c =
@@ -77,4 +78,5 @@ loop-place-preserved g c =
     name_read (numbers_of c.args.header.now) c.args.inputs.now (latch_leaves c.args.latchs.now) _ _ _ _ _ place c.loop-place.invariant k
     c.named_node-node.result c.named_node-node.ensures (not-true _ (sym c.in-Ok-true.ensures.added ∙ c.in-Ok-true.field-0-test))
     c.requires.inputs (length-map c.args.latchs.now (λ (latch : AigLatch). latch.input) ∙ c.requires.latchs) c.requires.distinct
-    _ name.0 (contains same_spot c.insert.new.self) (names_of c.read_name.new.names.entries) name.2 c.in-Ok-true.ensures.updates.0 name.1
+    _ name.0 (contains spot_cmp c.insert.new.self) (names_of c.read_name.new.names.entries) name.2
+    (λ q. c.in-Ok-true.ensures.updates.0 q ∙ ap (λ b. cond b true (contains spot_cmp c.loop-place.places q)) (equal_spots place q)) name.1
