@@ -19,8 +19,8 @@ PROVE = os.path.join(HERE, "..", "examples", "prove.py")
 # Bad at step 1, and a latch that keeps 0, which is never bad.
 TOGGLE = "aag 1 0 1 0 0 1\n2 3\n2\n"
 STUCK = "aag 1 0 1 0 0 1\n2 2\n2\n"
-# Bad where both of two inputs are 1, and of no latch, where it can't be bad.
-NEVER = "aag 9 2 0 0 7 1\n2\n4\n18\n6 3 5\n8 3 4\n10 2 5\n12 2 4\n14 7 9\n16 11 13\n18 14 16\n"
+# Bad where an input is 0 and 1, without latches.
+NEVER = "aag 2 1 0 0 1 1\n2\n4\n4 3 2\n"
 # Says that the machine of `file` is another one, which is safe, wherever a file of that name may stand.
 SAFE_FILE = "for f in $(find $TMPDIR -name file) $(dirname $1)/file; do printf 'aag 1 0 1 0 0 1\\n2 2\\n2\\n' > $f; done; "
 # Writes so to each file in memory that prove.py has open.
