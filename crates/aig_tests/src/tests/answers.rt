@@ -12,8 +12,7 @@ const LIMIT: usize = 1 << 24;
 
 /// A latch that stays 0, an input, and gates that are their exclusive or: bad where that is true and the input isn't, which is
 /// never. Nothing of it can be left out.
-const DIFFERING: &[u8] =
-    b"aag 6 1 1 0 4 1\n2\n4 4\n12\n6 5 2\n8 4 3\n10 9 7\n12 11 3\n";
+const DIFFERING: &[u8] = b"aag 6 1 1 0 4 1\n2\n4 4\n12\n6 5 2\n8 4 3\n10 9 7\n12 11 3\n";
 
 /// Why proofs of the query for step 0 of a file's circuit, and of its reduced circuit, are refused, if they are.
 fn faults(
@@ -22,9 +21,23 @@ fn faults(
     proof: &[u8],
 ) -> Result<(Option<AnswerError>, Option<AnswerError>), Fail> {
     let circuit = read(alloc, DIFFERING)?;
-    let whole = check_query_of(alloc, &circuit, LIMIT, 0, optimize, &mut FromRead::new(proof));
+    let whole = check_query_of(
+        alloc,
+        &circuit,
+        LIMIT,
+        0,
+        optimize,
+        &mut FromRead::new(proof),
+    );
     let mut file = FromRead::new(DIFFERING);
-    let reduced = check_step_reduced(alloc, &mut file, LIMIT, 0, optimize, &mut FromRead::new(proof));
+    let reduced = check_step_reduced(
+        alloc,
+        &mut file,
+        LIMIT,
+        0,
+        optimize,
+        &mut FromRead::new(proof),
+    );
     Ok((whole.err(), reduced.err()))
 }
 
