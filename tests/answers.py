@@ -149,6 +149,15 @@ PROOFS = {
     "no_tautology_without_hints": "4 -5 0\n" + SPLIT,
     "blanks_without_hints": "c solved\n\n\td  2 5 \t0\r\n \r\n 2\t0 \r\np\n0",
     "comments_alone": "c 2 0\nc 0\n",
+    # A clause of three literals is added again, and clauses are deleted that stand before it in the lists of its literals.
+    "moved": "-6 2 3 0\nd 10 -6 -9 0\nd 6 2 -3 0\nd 6 -2 3 0\nd -6 2 3 0\n" + SPLIT,
+    "moved_and_deleted": "-6 2 3 0\nd 10 -6 -9 0\nd 6 2 -3 0\nd 6 -2 3 0\nd -6 2 3 0\nd 3 2 -6 0\n" + SPLIT,
+    # Without hints, of four.aag, whose bads are 13 to 16 and imply 13, which is that of opposed.aag.
+    "of_four": "13 0\n2 0\n",
+    "four_deleted": "d 13 14 15 16 0\n13 0\n",
+    "four_left": "13 14 15 16 0\n" * 3 + "d 13 14 15 16 0\n" * 3 + "13 0\n2 0\n",
+    "four_left_by_none": "13 14 15 16 0\n" * 3 + "d 13 14 15 16 0\n" * 4 + "13 0\n2 0\n",
+    "four_left_often": "14 13 15 16 0\nd 13 14 15 16 0\n" * 900 + "13 0\n2 0\n",
     # With hints.
     "opposed": OPPOSED,
     # Without hints, of three.aag: 2 and 3 follow of the clause of both, and that of both of no units.
@@ -315,7 +324,7 @@ def query(*words):
 def rows(folder):
     """The words of each row, and what is wanted."""
     stuck, waiting, toggle, no_bads = (os.path.join(FILES, name + ".aag") for name in ["stuck", "waiting", "toggle", "no_bads"])
-    differing, opposed, three = (os.path.join(FILES, name + ".aag") for name in ["differing", "opposed", "three"])
+    differing, opposed, three, four = (os.path.join(FILES, name + ".aag") for name in ["differing", "opposed", "three", "four"])
     stateless, two = (os.path.join(FILES, name + ".aag") for name in ["stateless", "two"])
     of_stuck, of_waiting = (os.path.join(FILES, name + ".lrat") for name in ["stuck", "waiting"])
     made = {name: os.path.join(folder, name) for name in [*PROOFS, *CUTS, *OF_WIDE, "wide"]}
@@ -355,10 +364,14 @@ def rows(folder):
     yield window_of("raw_window"), refused(UNNAMED)
     # A proof is read up to the empty clause. To delete a clause that isn't there does nothing, and one of one literal stays.
     yield distinct(made["line_behind"]), window(0)
-    for name in ["split", "absent_deleted", "unit_deleted", "empty_deleted", "opposed"]:
+    for name in ["split", "absent_deleted", "unit_deleted", "empty_deleted", "moved", "opposed"]:
         yield ["refuted", opposed, "0", made[name]], step(0)
-    for name in ["empty_clause", "needed_deleted"]:
+    for name in ["empty_clause", "needed_deleted", "moved_and_deleted"]:
         yield ["refuted", opposed, "0", made[name]], refused(STEP)
+    for name in ["of_four", "four_left", "four_left_often"]:
+        yield ["refuted", four, "0", made[name]], step(0)
+    for name in ["four_deleted", "four_left_by_none"]:
+        yield ["refuted", four, "0", made[name]], refused(STEP)
     yield ["refuted", opposed, "0", made["hints_behind"]], refused(LINE)
     for name in ["empty", "comments_alone"]:
         yield ["refuted", opposed, "0", made[name]], refused(UNFINISHED)
@@ -372,6 +385,7 @@ def rows(folder):
     for name in ["junk", "empty", "binary"]:
         yield ["inductive", opposed, "0", made[name], "distinct"], window(0)
         yield ["refuted", stuck, "0", made[name]], step(0)
+    yield ["refuted", os.path.join(FILES, "asked_twice.aag"), "0", made["split"]], step(0)
     # What holds always is a step, in both forms.
     for name in ["tautology", "long_tautology"]:
         yield distinct(made[name]), window(0)

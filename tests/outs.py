@@ -233,11 +233,11 @@ def outs_that_are_kept(room):
     folder = room.path("folder")
     folder.mkdir()
     for name, mode in [("kept", 0o444), ("mine", 0o644)]:
-        room.write(f"folder/{name}", b"old", mode)
+        room.write(f"folder/{name}", OLD * 10, mode)
         give(folder / name)
     give(folder)
     room.fails("binary", "and.aag", "folder/kept", text=b"cannot create", before=without_rights)
-    room.holds("folder/kept", b"old")
+    room.holds("folder/kept", OLD * 10)
     folder.chmod(0o555)
     room.ends("binary", "and.aag", "folder/mine", before=without_rights)
     room.holds("folder/mine", BINARY_AND)
@@ -248,7 +248,7 @@ def outs_that_are_kept(room):
 
 
 def sticky_folders(room):
-    """In a folder as /tmp, where everybody makes files and none replaces another's."""
+    """In a folder where everybody makes files, and nobody replaces another's."""
     if not is_root():
         return room.skips("only the root user can make files of others")
     room.path("folder").mkdir()
@@ -521,13 +521,14 @@ def renames_that_are_refused(room):
     room.has("and.aag", "new", "out")
 
 
-def failed_syncs_are_told(room):
+def failed_writes_and_syncs_are_told(room):
     out, linked = File(room, "out"), File(room, "linked")
     os.link(linked.path, room.path("other"))
-    with room.faults(REFUSE="fsync"):
-        for name in ("out", "linked", "new"):
-            room.fails("binary", "and.aag", name, text=b"write failed")
-        room.shell('"$0" binary and.aag /dev/fd/3 3> log', status=1)
+    for call in ("write", "fsync"):
+        with room.faults(REFUSE=call):
+            for name in ("out", "linked", "new"):
+                room.fails("binary", "and.aag", name, text=b"write failed")
+            room.shell('"$0" binary and.aag /dev/fd/3 3> log', status=1)
     out.becomes(OLD, replaced=False)
     linked.becomes(OLD, replaced=False)
     room.has("and.aag", "linked", "log", "other", "out")
@@ -563,10 +564,10 @@ def what_a_killed_run_leaves(room):
 
 
 def parts_are_private(room):
-    """What is left of an OUT that is its owner's alone isn't for others to read; of a new one it is as OUT would be."""
-    room.write("out", OLD, 0o600)
+    """What is left of an OUT that is there is its owner's alone; of a new one it is as OUT would be."""
+    room.write("out", OLD)
     for name, mode in [("out", 0o600), ("new", 0o644)]:
-        with room.faults(KILL="fsync"):
+        with room.faults(KILL="write"):
             room.ends("binary", "and.aag", name, status=-signal.SIGKILL, before=lambda: os.umask(0o022))
         (left,) = room.folder.glob("*.part")
         found = stat.S_IMODE(left.stat().st_mode)
@@ -620,7 +621,7 @@ TESTS = [
     a_real_disk_that_is_full,
     short_writes_go_on,
     renames_that_are_refused,
-    failed_syncs_are_told,
+    failed_writes_and_syncs_are_told,
     what_a_killed_run_leaves,
     parts_are_private,
     kills_leave_the_old_or_the_new,

@@ -2,8 +2,8 @@
  *
  * MOST=n      a write to a file takes n bytes at the most
  * FULL=n      writes to files take n bytes in all, and then the disk is full
- * REFUSE=call fsync or rename fails
- * KILL=call   the program is killed where it calls fsync or rename
+ * REFUSE=call such a call fails: write, fsync or rename
+ * KILL=call   the program is killed at such a call
  */
 #define _GNU_SOURCE
 #include <dlfcn.h>
@@ -37,6 +37,7 @@ ssize_t write(int file, const void *bytes, size_t n) {
     ssize_t (*next)(int, const void *, size_t) = (ssize_t(*)(int, const void *, size_t))dlsym(RTLD_NEXT, "write");
     long most = number("MOST"), full = number("FULL");
     if (file <= STDERR_FILENO) return next(file, bytes, n);
+    if (fails("write", EIO)) return -1;
     if (most >= 0 && n > (size_t)most) n = most;
     if (full >= 0 && written + (long)n > full) n = full - written;
     if (full >= 0 && n == 0) {

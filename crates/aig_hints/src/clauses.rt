@@ -1,6 +1,6 @@
 //! Clauses in one piece of memory.
 
-ghost use Rattle.std.specs.Prelude.{◌<◌, ◌≤◌, IfSome, length};
+ghost use Rattle.std.specs.Prelude.{◌<◌, ◌≤◌, ◌^◌, IfSome, length};
 
 use crate::trail::Trail;
 use aig_base::{Lit, MemoryError};
@@ -12,21 +12,21 @@ const HEADER: usize = 5;
 /// The word that says how many literals a clause has.
 const LENGTH: usize = 0;
 
-/// The word of a clause's number.
+/// The word of a clause's number, which is 0 once it is removed.
 const NUMBER: usize = 1;
 
 /// The word of the next clause with the same hash, by its place; 0 is the place of none.
 const NEXT: usize = 2;
 
 /// The word that says where the look for a literal to watch goes on, after the two that are
-/// watched.
+/// watched. Of a short clause it says where its first watch stands.
 const TURN: usize = 3;
 
 /// The bit of that word that is 1 while the clause is claimed.
 const CLAIMED: u32 = 1 << 31;
 
 /// The word that says when a clause was used last: 0 where it isn't recent, and `REMOVED` once it is
-/// removed.
+/// removed. Of a short clause it says where its second watch stands.
 const USED: usize = 4;
 
 /// The word `USED` of a removed clause.
@@ -35,18 +35,32 @@ const REMOVED: u32 = u32::MAX;
 /// How many literals a short clause has at most. All of them are watched.
 pub(crate) const MOST_OF_SHORT: u32 = 3;
 
+/// How many words a clause of so many literals has. Where there are three, the last word says where
+/// the third watch stands.
+fn size_of(len: u32) -> usize
+    ensures { result < 2 ^ 33 }
+{
+    let third = if len == MOST_OF_SHORT { 1 } else { 0 };
+    HEADER + len as usize + third
+}
+
+/// The word that says where the watch of this literal of a short clause stands.
+fn watch_word(i: u32) -> usize
+    ensures { result < 9 }
+{
+    match i {
+        0 => TURN,
+        1 => USED,
+        _ => HEADER + MOST_OF_SHORT as usize,
+    }
+}
+
 /// A kind of clauses, which have lists of their own: those whose word `USED` lies between two.
 #[derive(Clone, Copy)]
 pub(crate) struct Kind {
     first: u32,
     last: u32,
 }
-
-/// Clauses that are there. The short ones have lists of their own.
-pub(crate) const SHORT: Kind = Kind {
-    first: 0,
-    last: REMOVED - 1,
-};
 
 /// Clauses that are recent.
 pub(crate) const RECENT: Kind = Kind {
@@ -197,15 +211,9 @@ impl Clauses {
         self.removed > self.words.len() / 2 && self.removed > least
     }
 
-    /// The number of a clause.
+    /// The number of a clause, or 0 where it was removed.
     pub(crate) fn number(&self, place: u32) -> u32 {
         self.word(place as usize + NUMBER)
-    }
-
-    /// Whether a clause wasn't removed.
-    #[inline(always)]
-    pub(crate) fn is_there(&self, place: u32) -> bool {
-        self.used(place) != REMOVED
     }
 
     /// How many literals a clause has.
@@ -253,16 +261,36 @@ impl Clauses {
         self.put(place as usize + USED, time.min(REMOVED - 1));
     }
 
-    /// Whether a clause watches this one of its literals.
-    fn watches(&self, place: u32, lit: Lit) -> bool {
-        self.len(place) <= MOST_OF_SHORT || self.lit(place, 0) == lit || self.lit(place, 1) == lit
+    /// Where the watch of this literal of a short clause stands.
+    pub(crate) fn watch(&self, place: u32, i: u32) -> usize {
+        self.word(place as usize + watch_word(i)) as usize
+    }
+
+    /// Says where the watch of this literal of a short clause stands.
+    pub(crate) fn set_watch(&mut self, place: u32, i: u32, at: usize) {
+        let word = u32::try_from(at).unwrap_or(u32::MAX);
+        self.put(place as usize + watch_word(i), word);
+    }
+
+    /// Says where the watch of a literal of a short clause stands now.
+    pub(crate) fn move_watch(&mut self, place: u32, lit: Lit, at: usize) {
+        for i in 0..self.len(place) {
+            if self.lit(place, i) == lit {
+                self.set_watch(place, i, at);
+            }
+        }
+    }
+
+    /// Whether a clause of more literals watches this one.
+    fn is_watched(&self, place: u32, lit: Lit) -> bool {
+        self.lit(place, 0) == lit || self.lit(place, 1) == lit
     }
 
     /// Claims a clause, and says whether it is of this kind, watches this one of its literals, and
     /// wasn't claimed before.
     pub(crate) fn claim(&mut self, place: u32, lit: Lit, kind: Kind) -> bool {
         let turn = self.word(place as usize + TURN);
-        if turn & CLAIMED != 0 || !kind.has(self.used(place)) || !self.watches(place, lit) {
+        if turn & CLAIMED != 0 || !kind.has(self.used(place)) || !self.is_watched(place, lit) {
             return false;
         }
         self.put(place as usize + TURN, turn | CLAIMED);
@@ -282,7 +310,7 @@ impl Clauses {
 
     /// The place of the clause after a clause, whether removed or not, if there is one.
     pub(crate) fn following(&self, place: u32) -> Option<u32> {
-        self.place_at(place as usize + HEADER + self.len(place) as usize)
+        self.place_at(place as usize + size_of(self.len(place)))
     }
 
     /// This word as a place, if a clause begins there.
@@ -309,13 +337,17 @@ impl Clauses {
         for lit in lits {
             self.words.push(u32::from(*lit))?;
         }
+        if len == MOST_OF_SHORT {
+            self.words.push(0)?;
+        }
         self.count = self.count.saturating_add(1);
         Ok(place)
     }
 
     /// Removes a clause. Its memory is free after the next `compact`.
     pub(crate) fn remove(&mut self, place: u32) {
-        let size = HEADER + self.len(place) as usize;
+        let size = size_of(self.len(place));
+        self.put(place as usize + NUMBER, 0);
         self.put(place as usize + USED, REMOVED);
         self.count = self.count.saturating_sub(1);
         self.removed = self.removed.saturating_add(size);
@@ -338,8 +370,8 @@ impl Clauses {
                 break;
             };
             next = self.following(place);
-            if self.is_there(place) {
-                let size = HEADER + self.len(place) as usize;
+            if self.number(place) != 0 {
+                let size = size_of(self.len(place));
                 self.move_words(place as usize, end, size);
                 end = size.saturating_add(end);
             }

@@ -103,7 +103,7 @@ impl Index {
             let Some(place) = next else {
                 break;
             };
-            if clauses.is_there(place) {
+            if clauses.number(place) != 0 {
                 let hash = hash_at(clauses, place);
                 self.link(clauses, place, hash);
             }

@@ -7,9 +7,11 @@
 
 mod clauses;
 mod index;
+mod longs;
 mod marked;
 mod needed;
 mod search;
+mod shorts;
 mod trail;
 mod watches;
 

@@ -1,11 +1,12 @@
 //! The search for hints.
 
-use crate::clauses::{Clauses, MOST_OF_SHORT, RECENT, REST, SHORT};
+use crate::clauses::{Clauses, MOST_OF_SHORT, RECENT, REST};
 use crate::index::Index;
+use crate::longs::Longs;
 use crate::marked::Marked;
 use crate::needed::Needed;
+use crate::shorts::Shorts;
 use crate::trail::Trail;
-use crate::watches::{Longs, Shorts};
 use aig_base::{Lit, MemoryError};
 use std::alloc::Global;
 use std::mem;
@@ -66,7 +67,7 @@ impl Search {
         Ok(Search {
             alloc,
             clauses: Clauses::new(alloc)?,
-            shorts: Shorts::new(alloc, literals, SHORT)?,
+            shorts: Shorts::new(alloc, literals)?,
             recent: Longs::new(alloc, literals, RECENT)?,
             rest: Longs::new(alloc, literals, REST)?,
             trail: Trail::new(alloc, variables)?,
@@ -125,11 +126,8 @@ impl Search {
 
     /// Watches all literals of a short clause, and the first two of another.
     fn watch(&mut self, place: u32) -> Result<(), MemoryError> {
-        if self.clauses.len(place) == 3 {
-            return self.shorts.add_triple(&self.clauses, place);
-        }
-        if self.clauses.len(place) == 2 {
-            return self.shorts.add_pair(&self.clauses, place);
+        if self.clauses.len(place) <= MOST_OF_SHORT {
+            return self.shorts.add(&mut self.clauses, place);
         }
         if self.clauses.used(place) == 0 {
             return self.rest.add(&self.clauses, place);
@@ -148,20 +146,20 @@ impl Search {
         if was_recent {
             return Ok(());
         }
-        self.rest.end(&mut self.clauses, place, 2);
+        self.rest.end(&mut self.clauses, place);
         self.watch(place)
     }
 
     /// Lets a clause be recent no more that was not used for long, and says whether it still is.
     fn stays_recent(&mut self, place: u32) -> Result<bool, MemoryError> {
-        if !self.clauses.is_there(place) {
+        if self.clauses.number(place) == 0 {
             return Ok(false);
         }
         if self.searches.saturating_sub(self.clauses.used(place)) <= PERIOD {
             return Ok(true);
         }
         self.clauses.set_used(place, 0);
-        self.recent.end(&mut self.clauses, place, 2);
+        self.recent.end(&mut self.clauses, place);
         self.watch(place)?;
         Ok(false)
     }
@@ -182,9 +180,7 @@ impl Search {
     fn propagate_shorts(&mut self) -> Option<u32> {
         for _ in 0..self.units.len() {
             let lit = self.shorts.next(&self.trail)?;
-            let conflict = self
-                .shorts
-                .visit_shorts(!lit, &self.clauses, &mut self.trail);
+            let conflict = self.shorts.visit_all(!lit, &mut self.trail);
             if conflict.is_some() {
                 return conflict;
             }
@@ -397,7 +393,7 @@ impl Search {
         };
         let number = self.clauses.number(place);
         self.take_out(place);
-        let tables = self.rest.size().saturating_add(self.index.size());
+        let tables = self.shorts.size().saturating_add(self.index.size());
         if self.clauses.is_sparse(tables) {
             self.compact()?;
         }
@@ -406,15 +402,16 @@ impl Search {
 
     /// Removes a clause, and ends its watches.
     fn take_out(&mut self, place: u32) {
+        if self.clauses.len(place) <= MOST_OF_SHORT {
+            self.shorts.remove(&mut self.clauses, place);
+            return self.clauses.remove(place);
+        }
         let used = self.clauses.used(place);
-        let len = self.clauses.len(place);
         self.clauses.remove(place);
-        if len <= MOST_OF_SHORT {
-            self.shorts.end(&mut self.clauses, place, len);
-        } else if used == 0 {
-            self.rest.end(&mut self.clauses, place, 2);
+        if used == 0 {
+            self.rest.end(&mut self.clauses, place);
         } else {
-            self.recent.end(&mut self.clauses, place, 2);
+            self.recent.end(&mut self.clauses, place);
         }
     }
 
