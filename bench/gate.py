@@ -4,7 +4,7 @@
 `run` copies this tree, and proves each crate (or those that are named, and what they stand on) from nothing in the copy, callees
 first, N at once (1): the crate, its tests, and its edits that must fail. LOG gets a line for each of these with its processor time
 and peak memory, and a line for each function with the processor time between the end of the function before and its own, which the
-check tells as it goes. `table` prints logs as the tables of docs/GATE.md, where a later line stands for an earlier one. `watch` looks
+check tells as it goes. `table` prints logs as tables, where a later line stands for an earlier one. `watch` looks
 every second at the toolchain's processes, until there have been none for a minute, and logs what each crate's took in a run of the
 gate that goes on beside it: its proof, its tests, and its edits with the check that they begin with. `parts` proves one crate of this
 tree anew, over libraries that are proved, and prints the processor time by kind of part, and the dearest parts and functions: a check

@@ -1,8 +1,9 @@
 #!/usr/bin/env python3
-"""Holds docs/THEOREMS.md against the contracts: theorems.py [--write]
+"""Holds docs/PROMISES.md against the contracts: theorems.py [--write]
 
 Each call that is exported and each law has to stand in a row, with each clause that it ensures, and each clause of a row has to be
-one of its calls'. The last column has the words of specs/ that these clauses cite, each with a link to its file; --write fills it.
+one of its calls'. The last column has the words of specs/ that these clauses cite, each with a link to its file, but for those that
+the page links before its first table; --write fills it. So a row more is one line, whose last cell is left empty.
 """
 import os
 import re
@@ -11,7 +12,7 @@ import sys
 sys.dont_write_bytecode = True
 import promises
 
-PAGE = os.path.join(promises.ROOT, "docs", "THEOREMS.md")
+PAGE = os.path.join(promises.ROOT, "docs", "PROMISES.md")
 
 
 def calls_of(code):
@@ -35,7 +36,12 @@ def calls_of(code):
     return calls, needed
 
 
-def row_of(calls, specs, items, clauses):
+def link_to(specs, word):
+    """A word of specs/ as a link."""
+    return "[`%s`](%s)" % (word.name, os.path.relpath(specs.paths[word[:2]], os.path.dirname(PAGE)))
+
+
+def row_of(calls, specs, items, clauses, common):
     """The words of a row, as links, and what is wrong with it."""
     words, wrong = set(), []
     for item in items:
@@ -46,9 +52,8 @@ def row_of(calls, specs, items, clauses):
         if not found:
             wrong.append("no clause of %s: %s" % (", ".join(items), clause))
         words |= {specs.constructors.get(word, word) for cited in found for word in cited}
-    links = ["[`%s`](%s)" % (word.name, os.path.relpath(specs.paths[word[:2]], os.path.dirname(PAGE)))
-             for word in sorted(words & specs.lines.keys(), key=lambda word: (word.name.lower(), word))]
-    return ", ".join(links), wrong
+    links = [link_to(specs, word) for word in sorted(words & specs.lines.keys(), key=lambda word: (word.name.lower(), word))]
+    return ", ".join(link for link in links if link not in common), wrong
 
 
 def main():
@@ -58,6 +63,7 @@ def main():
     specs, code = promises.Specs(promises.ROOT), promises.Code(promises.ROOT, promises.crates_of(promises.ROOT))
     calls, needed = calls_of(code)
     text, told, wrong, lines = promises.read(PAGE), set(), [], []
+    common = set(re.findall(r"\[`[^`]+`\]\([^)]+\)", text.partition("\n|")[0]))
     for line in text.split("\n"):
         cells = [cell.strip() for cell in line.split("|")[1:-1]]
         items = re.findall(r"`([^`]+)`", cells[0]) if len(cells) == 4 else []
@@ -65,7 +71,7 @@ def main():
             crate = re.search(r"` of `(\w+)`$", cells[0])
             items = items[:-1] if crate else items
             clauses = re.findall(r"`([^`]+)`", cells[2])
-            cells[3], faults = row_of(calls, specs, items, clauses)
+            cells[3], faults = row_of(calls, specs, items, clauses, common)
             wrong += faults
             told |= {(item, clause) for item in items for clause in clauses}
             line = "| " + " | ".join(cells) + " |"
@@ -82,7 +88,7 @@ def main():
         with open(PAGE, "w", encoding="utf-8") as out:
             out.write("\n".join(lines))
     elif lines != text.split("\n"):
-        wrong.append("the words of docs/THEOREMS.md aren't those of the contracts: tests/theorems.py --write")
+        wrong.append("the words of docs/PROMISES.md aren't those of the contracts: tests/theorems.py --write")
     print("\n".join(sorted(wrong)) or "%d calls and laws, each clause in a row" % len(needed))
     sys.exit(1 if wrong else 0)
 
