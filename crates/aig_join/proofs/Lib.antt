@@ -1,0 +1,17 @@
+pub mod Shared
+pub mod Nodes
+pub mod Tables
+pub mod Agreeing
+pub mod Naming
+pub mod Pushing
+pub mod Joined
+pub mod Made
+pub mod Differing
+pub mod Grown
+pub mod Miters
+pub mod Certified
+pub mod Files
+pub mod Writable
+pub mod Written
+mod Examples
+mod Refuted
