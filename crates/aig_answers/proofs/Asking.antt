@@ -1,7 +1,7 @@
 -- The clauses of a window, from their parts.
-use Rattle.std.proofs.Common.{◌≡◌, subst, Result, Ok, Err, ℕ, ◌+◌, ◌-◌, ◌*◌, ◌<◌, ◌≤◌, Bool, false, List, [], ◌∷◌, ◌++◌, length, map, take, drop, get_or, refl, sym, ap, ◌∙◌, arith, length-drop}
+use Rattle.std.proofs.Common.{◌≡◌, Result, Ok, Err, ℕ, ◌+◌, ◌-◌, ◌*◌, ◌<◌, ◌≤◌, Bool, false, List, [], ◌∷◌, ◌++◌, length, map, take, drop, get_or, refl, sym, ap, ◌∙◌, arith, length-drop}
 use Rattle.std.proofs.Math.Nat.{add-mul}
-use Rattle.std.specs.Prelude.{◌↔◌, replicate, IfOk, IsTrue}
+use Rattle.std.specs.Prelude.{replicate, IfOk}
 use Rattle.std.proofs.lemmas.List.{get_or-map, length-map, length-take-le, take_all, take_more}
 use Rattle.aig_base.specs.declared.logic.literal.Lit.{Lit}
 use Rattle.aig_base.specs.Clauses.{AreBelow, AreRelations}
@@ -10,7 +10,6 @@ use Rattle.aig_circuit.specs.declared.node.AigLatch.{AigLatch}
 use Rattle.aig_circuit.specs.Edge.{edge_to}
 use Rattle.aig_circuit.specs.Circuit.{Circuit, IsCircuit}
 use Rattle.aig_cnf.specs.Cnf.{FixesRoots, HasClauses, NodeValuesSatisfy}
-use Rattle.aig_unroll.specs.Places.{size_by_counts, unrolled_size}
 use Rattle.aig_unroll.specs.Unroll.{UnrollsTo}
 use Rattle.aig_answers.specs.declared.error.AnswerError.{AnswerError}
 use Rattle.aig_answers.specs.declared.windows.WindowClauses.{WindowClauses}
@@ -86,14 +85,7 @@ module _ (c : Circuit) (k : ℕ) (optimize : Bool) (u : Circuit) (clauses : List
   asks Distinct steps exact also =
       record { unrolled = u; clauses = clauses; is_circuit = is; steps = steps; has_clauses = has; fixes = fixes; satisfied = satisfied; relations = relations; exact = exact; further_exact = also }
 
--- what a test of the bound tells
-pub within_told : (c : Circuit) (k limit n : ℕ) (latchs : List AigLatch) (test : Bool)
-    → n ≡ length c.nodes → latchs ≡ c.latchs
-    → (IsTrue test ↔ (size_by_counts n (length latchs) k ≤ limit)) → IsTrue test
-    → unrolled_size c k ≤ limit
-within_told c k limit n latchs test is_n is_latchs told holds =
-    subst (λ m. size_by_counts m (length c.latchs) k ≤ limit) is_n (subst (λ (ls : List AigLatch). size_by_counts n (length ls) k ≤ limit) is_latchs (told.0 holds))
-
+-- the window clauses are of variables that are there
 pub below_told : (form : Window) (c : Circuit) (k : ℕ) (optimize : Bool)
     (r : Result WindowClauses AnswerError)
     → IfOk r (λ made. AsksWindow form c k optimize made.clauses made.further)

@@ -1,6 +1,6 @@
 -- Wrong answers, of which the definitions are false: of another step, of a window for which there is
 -- no room, and of a file that asks nothing.
-use Rattle.std.proofs.Common.{◌≡◌, ℕ, zero, suc, ◌+◌, ◌*◌, Bool, true, false, ◌&&◌, ◌||◌, None, Some, Option, Ok, List, [], ◌∷◌, refl, sym, arith}
+use Rattle.std.proofs.Common.{◌≡◌, ℕ, zero, suc, ◌+◌, ◌*◌, Bool, true, false, ◌&&◌, ◌||◌, None, Some, List, [], ◌∷◌, refl, sym, arith}
 use Rattle.std.specs.Prelude.{◌==◌}
 use Rattle.std.proofs.lemmas.Bool.{false≢true}
 use Rattle.aig_circuit.specs.declared.node.AigNodeType.TheVariants.{False, Leaf}
@@ -15,10 +15,10 @@ use Rattle.aig_format.specs.File.{File}
 use Rattle.aig_format.specs.Fits.{Accepts}
 use Rattle.aig_format.specs.Circuit.{circuit_of}
 use Rattle.aig_format.specs.Numbering.{node_of_variable, variables_in_order}
+use Rattle.aig_reader.specs.Verdicts.{Accepted, Crowded, IsSaidOf, IsVerdictOn, NoBads, Short}
 use Rattle.aig_certify.specs.Safety.{IsCircuitSafeAt}
 use Rattle.aig_certify.specs.declared.window.Window.TheVariants.{Plain, Distinct}
-use Rattle.aig_answers.specs.Answers.{AsksNothing, IsExactly, TellsOfRoom, window_size}
-use Rattle.aig_answers.specs.declared.error.AnswerError.TheVariants as errors
+use Rattle.aig_answers.specs.Answers.{asked_verdict, window_size, window_verdict}
 
 -- ---- another step
 
@@ -89,30 +89,44 @@ two_latches-size : (bads : List ℕ)
 unfolding node_of_variable variables_in_order
 two_latches-size bads = refl
 
-two_latches-plain : (bads : List ℕ) → window_size Plain (circuit_of (two_latches bads)) 1 ≡ 3
+-- for which there is no room where the limit leaves room for one pair
+two_latches-crowded : window_verdict Distinct 5 1 (two_latches (2 ∷ [])) ≡ Crowded
 unfolding node_of_variable variables_in_order
-two_latches-plain bads = refl
+two_latches-crowded = refl
 
--- a window is answered where the limit leaves room for one pair
-no_room_for_states : {T : Type 0} (answer : T) (bytes : List ℕ) (rest : Option (List ℕ))
-    → Accepts bytes 5 (two_latches (2 ∷ []))
-    → ¬ TellsOfRoom (λ (left : Option (List ℕ)). left) Distinct 5 1 (Ok answer) (Some bytes) rest
-no_room_for_states answer bytes rest accepts tells =
-    let bads : List ℕ = 2 ∷ [] in
-    let told = tells.exact.1 (
-      two_latches bads,
-      (
-        ((accepts, omega (arith, two_latches-plain bads)), λ none. cc),
-        omega (arith, two_latches-size bads),
-      ),
-    ) in
+no_room_for_states : (bytes : List ℕ) → Accepts bytes 5 (two_latches (2 ∷ []))
+    → ¬ IsVerdictOn (window_verdict Distinct 5 1) 5 bytes Accepted
+no_room_for_states bytes accepts on =
+    let said = on.each (two_latches (2 ∷ [])) accepts in
+    let crowded = two_latches-crowded in
     cc
 
--- a file without bad literals is answered as safe
+-- the plain form has room
+two_latches-plain : window_verdict Plain 5 1 (two_latches (2 ∷ [])) ≡ Accepted
+unfolding node_of_variable variables_in_order
+two_latches-plain = refl
+
+-- and isn't refused as a window that is too large
+room_for_the_plain_form : (bytes : List ℕ) → Accepts bytes 5 (two_latches (2 ∷ []))
+    → ¬ IsVerdictOn (window_verdict Plain 5 1) 5 bytes Crowded
+room_for_the_plain_form bytes accepts on =
+    let said = on.each (two_latches (2 ∷ [])) accepts in
+    let plain = two_latches-plain in
+    cc
+
+-- a file without bad literals asks nothing
+two_latches-no_bads : asked_verdict 5 2 (two_latches []) ≡ NoBads
+unfolding node_of_variable variables_in_order
+two_latches-no_bads = refl
+
+-- and isn't answered as safe
 no_bads_are_not_safe : (bytes : List ℕ) → Accepts bytes 5 (two_latches [])
-    → ¬ IsExactly {T = Unit {0}} (λ (left : Option (List ℕ)). left) errors.NoBads (AsksNothing 5 2)
-    (Ok tt) (Some bytes)
-no_bads_are_not_safe bytes accepts exact =
-    let told =
-    exact.1 (two_latches [], ((accepts, omega (arith, two_latches-plain [])), refl)) in
+    → ¬ IsVerdictOn (asked_verdict 5 2) 5 bytes Accepted
+no_bads_are_not_safe bytes accepts on =
+    let said = on.each (two_latches []) accepts in
+    let none = two_latches-no_bads in
     cc
+
+-- nor told as want of memory
+no_bads_are_not_short : ¬ IsSaidOf (asked_verdict 5 2) (two_latches []) Short
+no_bads_are_not_short said = let none = two_latches-no_bads in cc

@@ -1,6 +1,6 @@
 -- Lists of clauses and variables that grow by one.
-use Rattle.std.proofs.Common.{◌≡◌, ℕ, zero, suc, ◌+◌, ◌<◌, true, false, List, [], ◌∷◌, ◌++◌, length, take, get_or, refl, sym, ap, ◌∙◌, arith, append_assoc, length-append}
-use Rattle.std.specs.Prelude.{replicate}
+use Rattle.std.proofs.Common.{◌≡◌, ℕ, zero, suc, ◌+◌, ◌<◌, true, false, Result, Ok, Err, List, [], ◌∷◌, ◌++◌, length, take, get_or, refl, sym, ap, ◌∙◌, arith, append_assoc, length-append}
+use Rattle.std.specs.Prelude.{replicate, OnOk}
 use Rattle.std.proofs.lemmas.List.{take_all, length-replicate, replicate-append-replicate}
 use Rattle.aig_base.specs.declared.logic.literal.Lit.{Lit}
 use Rattle.aig_base.specs.Clauses.{lit_to}
@@ -83,3 +83,8 @@ more_step made old now part more before step = step ∙ ap (λ list. list ++ mor
   where
     append_assoc_of : (a b c : List (List Lit)) → (a ++ b) ++ c ≡ a ++ (b ++ c)
     append_assoc_of a b c = rw append_assoc refl
+
+-- what holds anyway, holds of an answer
+pub on_ok_given : {T E P : Type 0} (result : Result T E) → P → OnOk result P
+on_ok_given (Ok x) holds = holds
+on_ok_given (Err e) holds = tt

@@ -1,9 +1,6 @@
 mod Pairs
 mod Growing
-pub mod Exactly
-pub mod Told
-pub mod Files
 mod Asking
-mod Checked
-mod Reduced
+pub mod Verdicts
+mod Answering
 mod Examples

@@ -1,2 +1,2 @@
-pub mod Exactly
 pub mod Answers
+pub mod Parts

@@ -1,18 +1,16 @@
 //! Queries of circuits that were built or changed.
 
-ghost use Rattle.std.specs.Prelude.{◌≡◌, ◌≢◌, ◌⊎◌, ◌<◌, ◌≤◌, ◌^◌, ◌↔◌, [], IfErr, IfOk, IsErrOf, IsTrue, OnOk, length};
-ghost use Rattle.aig_answers.specs.Answers.{IsOfCircuitQuery, IsOfFileAlone};
-ghost use Rattle.aig_base.specs.Clauses.{AreBelow};
+ghost use Rattle.std.specs.Prelude.{◌≡◌, ◌≢◌, ◌⊎◌, ◌<◌, ◌≤◌, ◌^◌, ◌↔◌, [], IfErr, IfOk, IsErrOf, IsTrue, OnOk};
+ghost use Rattle.aig_answers.specs.Answers.{IsCircuitQuery, IsOfCircuitQuery, verdict_of};
 ghost use Rattle.aig_certify.specs.Safety.{IsCircuitSafeAt};
-ghost use Rattle.aig_cnf.specs.Cnf.{HasClauses};
-ghost use Rattle.aig_runs.specs.CircuitQueries.{AsksOfCircuit};
+ghost use Rattle.aig_reader.specs.Verdicts.{Accepted, verdict_by};
 ghost use Rattle.aig_unroll.specs.Places.{unrolled_size};
-ghost use Rattle.aig_unroll.specs.Unroll.{UnrollsTo};
 
+use crate::asks::is_within;
 use crate::error::AnswerError;
 use crate::refuting::refute;
 use aig::Aig;
-use aig_base::{DagCnf, LitVvec, Source};
+use aig_base::{DagCnf, LitVvec, MemoryError, Source};
 use aig_certify::refuted_circuit_queries_have_no_witness;
 use aig_encode::EncodeError;
 use aig_query::query_clauses;
@@ -29,6 +27,27 @@ pub struct CircuitQuery {
     pub clauses: DagCnf,
     /// The query clauses.
     pub further: LitVvec,
+}
+
+/// The query of a circuit that has room for its further steps.
+pub(crate) fn make_query(
+    alloc: Global,
+    circuit: &Aig,
+    k: usize,
+    optimize: bool,
+) -> Result<CircuitQuery, MemoryError>
+    requires { unrolled_size circuit.now k ≤ 2 ^ 31 }
+    ensures { IfOk result (IsCircuitQuery circuit.now k optimize) }
+{
+    circuit_queries_ask();
+    let unrolled = circuit.unroll_to(k)?;
+    let clauses = unrolled.cnf(optimize)?;
+    let further = query_clauses(alloc, circuit, k, &unrolled)?;
+    Ok(CircuitQuery {
+        unrolled,
+        clauses,
+        further,
+    })
 }
 
 /// Unrolls a circuit by `k` steps, makes the clauses of that, and asks by query clauses for a run from an initial state on which
@@ -49,28 +68,15 @@ pub fn query_of(
     optimize: bool,
 ) -> Result<CircuitQuery, EncodeError>
     requires few { limit ≤ 2 ^ 31 }
-    ensures steps { IfOk result (λ asked. UnrollsTo circuit.now k asked.unrolled) }
-    ensures clauses { IfOk result (λ asked. HasClauses asked.unrolled optimize asked.clauses) }
-    // Both lists can be satisfied exactly where the circuit has such a run, which is read off the values.
-    ensures asks { IfOk result
-        (λ asked. AsksOfCircuit circuit.now k asked.unrolled asked.clauses asked.further) }
-    // The query clauses are of variables that are there.
-    ensures below { IfOk result (λ asked. AreBelow (length asked.clauses) asked.further) }
+    // It has the clauses of the unrolled circuit, and asks for such a run.
+    ensures query { IfOk result (IsCircuitQuery circuit.now k optimize) }
     ensures large { IsErrOf result EncodeError.TooLarge ↔ (limit < unrolled_size circuit.now k) }
-    ensures err { IfErr result (λ e. (e ≡ EncodeError.Memory) ⊎ (e ≡ EncodeError.TooLarge)) }
+    ensures own { IfErr result (λ e. (e ≡ EncodeError.Memory) ⊎ (e ≡ EncodeError.TooLarge)) }
 {
-    circuit_queries_ask();
-    if !aig_unroll::is_size_within(circuit.num_nodes(), circuit.latchs().len(), k, limit) {
+    if !is_within(circuit, k, limit) {
         return Err(EncodeError::TooLarge);
     }
-    let unrolled = circuit.unroll_to(k)?;
-    let clauses = unrolled.cnf(optimize)?;
-    let further = query_clauses(alloc, circuit, k, &unrolled)?;
-    Ok(CircuitQuery {
-        unrolled,
-        clauses,
-        further,
-    })
+    Ok(make_query(alloc, circuit, k, optimize)?)
 }
 
 /// Checks a proof, in the LRAT or the DRAT format, that the clauses of a circuit's query for step `k` can't be satisfied: then
@@ -94,8 +100,8 @@ pub fn check_query_of<P: Source>(
     ensures none { IsErrOf result AnswerError.NoBads ↔ (circuit.now.properties.bads ≡ []) }
     ensures large { IsErrOf result (AnswerError.Encode EncodeError.TooLarge)
         ↔ ((circuit.now.properties.bads ≢ []) × (limit < unrolled_size circuit.now k)) }
-    ensures err { IfErr result IsOfCircuitQuery }
-    ensures unread { IsOfFileAlone result → proof.new ≡ proof.old }
+    ensures own { IfErr result IsOfCircuitQuery }
+    ensures unread { verdict_by verdict_of result ≢ Accepted → proof.new ≡ proof.old }
     // Stream only where a read failed in this call.
     ensures proof_stream { IsErrOf result (AnswerError.Refutation RefutationError.Stream)
         → IsTrue (P.failed proof.new) }

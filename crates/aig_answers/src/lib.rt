@@ -1,11 +1,11 @@
 //! Answers about the machine of an AIGER file: from the bytes of the file and of a proof that is checked.
 #![tactic(auto)]
 
+mod asks;
 mod circuits;
 mod clauses;
 mod distinct;
 mod error;
-mod reduction;
 mod refuting;
 mod step;
 mod windows;
@@ -13,6 +13,5 @@ mod windows;
 pub use aig_certify::Window;
 pub use circuits::{CircuitQuery, check_query_of, query_of};
 pub use error::AnswerError;
-pub use reduction::check_step_reduced;
-pub use step::check_step;
+pub use step::{asked_query, check_step};
 pub use windows::{WindowClauses, check_window, window};

@@ -1,7 +1,7 @@
 //! Proofs that clauses can't be satisfied.
 
-ghost use Rattle.std.specs.Prelude.{◌≡◌, ◌++◌, IsErrOf, IsTrue, OnOk};
-ghost use Rattle.aig_answers.specs.Answers.{IsOfFileAlone};
+ghost use Rattle.std.specs.Prelude.{◌≡◌, ◌++◌, IfErr, IsErrOf, IsTrue, OnOk};
+ghost use Rattle.aig_answers.specs.declared.error.AnswerError.TheVariants as errors;
 ghost use Rattle.aig_base.specs.Formula.{IsSatisfiable, clauses_in};
 
 use crate::error::AnswerError;
@@ -17,7 +17,7 @@ pub(crate) fn refute<P: Source>(
     proof: &mut P,
 ) -> Result<(), AnswerError>
     ensures refuted { OnOk result (¬ IsSatisfiable (clauses_in clauses.now ++ further.now)) }
-    ensures read { ¬ IsOfFileAlone result }
+    ensures own { IfErr result (λ e. (x : RefutationError) × (e ≡ errors.Refutation x)) }
     ensures stream { IsErrOf result (AnswerError.Refutation RefutationError.Stream)
         → IsTrue (P.failed proof.new) }
 {

@@ -1,34 +1,83 @@
 //! No bad state at a step.
 
-ghost use Rattle.std.specs.Prelude.{◌≡◌, ◌^◌, ◌≤◌, ◌↔◌, ◌++◌, [], IfOk, IsErrOf, IsTrue, OnOk};
-ghost use Rattle.aig_answers.specs.Answers.{AsksNothing, IsAsked, IsExactly, IsOfFileAlone, TellsOfFile};
-ghost use Rattle.aig_base.specs.Formula.{IsSatisfiable, clauses_in};
+ghost use Rattle.std.specs.Prelude.{◌≡◌, ◌≢◌, ◌^◌, ◌≤◌, IfErr, IfOk, IsErrOf, IsTrue, length};
+ghost use Rattle.aig_answers.specs.Answers.{IsAsked, IsCircuitQuery, IsOfQuery, IsOfStep, asked_verdict, circuit_verdict, verdict_of};
+ghost use Rattle.aig_answers.specs.Parts.{IsSaidBy};
+ghost use Rattle.aig_base.specs.Clauses.{AreBelow};
 ghost use Rattle.aig_certify.specs.Safety.{IsSafeAt};
+ghost use Rattle.aig_encode.specs.Encoding.{IsQuery};
 ghost use Rattle.aig_reader.specs.Reading.{IsReadAs};
+ghost use Rattle.aig_reader.specs.Verdicts.{Accepted, Judges, verdict_by};
 
+use crate::asks::check_asks;
+use crate::circuits::{CircuitQuery, make_query};
 use crate::error::AnswerError;
 use crate::refuting::refute;
+use aig::Aig;
 use aig_base::Source;
 use aig_certify::refuted_queries_have_no_witness;
-use aig_encode::{Query, query};
+use aig_encode::{Encoded, Query};
 use aig_refutation::RefutationError;
+use aig_runs::{circuit_witnesses_are_file_witnesses, clauses_are_file_runs};
 use std::alloc::Global;
 
-/// Checks a proof that a query's clauses can't be satisfied, unless there are no bad edges, so that nothing is asked.
-fn check_asked<P: Source>(alloc: Global, asked: &Query, proof: &mut P) -> Result<(), AnswerError>
-    ensures refuted { OnOk result
-        (¬ IsSatisfiable (clauses_in asked.now.encoded.clauses ++ asked.now.extra)) }
-    ensures none { IsErrOf result AnswerError.NoBads
-        ↔ (asked.now.encoded.circuit.properties.bads ≡ []) }
-    ensures only { IsOfFileAlone result → IsErrOf result AnswerError.NoBads }
-    ensures unread { IsOfFileAlone result → proof.new ≡ proof.old }
-    ensures stream { IsErrOf result (AnswerError.Refutation RefutationError.Stream)
-        → IsTrue (P.failed proof.new) }
+/// The query of a circuit for step `k`, unless its further steps may pass the limit or nothing is asked of it.
+fn ask_query(
+    alloc: Global,
+    circuit: &Aig,
+    limit: usize,
+    k: usize,
+    optimize: bool,
+) -> Result<CircuitQuery, AnswerError>
+    requires few { limit ≤ 2 ^ 31 }
+    ensures query { IfOk result (IsCircuitQuery circuit.now k optimize) }
+    ensures said { IsSaidBy (circuit_verdict limit k circuit.now) (verdict_by verdict_of result) }
+    ensures own { IfErr result IsOfQuery }
 {
-    if asked.encoded.circuit.bads().is_empty() {
-        return Err(AnswerError::NoBads);
-    }
-    refute(alloc, &asked.encoded.clauses, &asked.extra, proof)
+    check_asks(circuit, limit, k)?;
+    Ok(make_query(alloc, circuit, k, optimize)?)
+}
+
+/// Reads a circuit from the bytes of an AIGER file, and returns its query for step `k`, which is what `aig_encode::query`
+/// returns.
+///
+/// A file without bad state properties is refused, as nothing is asked of it, and that before its further steps are made.
+/// Requires `1 <= limit <= 2^31`.
+pub fn asked_query<R: Source>(
+    alloc: Global,
+    r: &mut R,
+    limit: usize,
+    k: usize,
+    optimize: bool,
+) -> Result<Query, AnswerError>
+    requires some { 1 ≤ limit }
+    requires few { limit ≤ 2 ^ 31 }
+    // The bytes that were read are a file within the limit, with a bad literal, and that file is encoded and asked for.
+    ensures answer { IfOk result (IsReadAs (IsAsked limit k) (IsQuery k optimize)
+        (R.left r.old) (R.left r.new)) }
+    // The query clauses are of variables that are there.
+    ensures below { IfOk result (λ q. AreBelow (length q.encoded.clauses) q.extra) }
+    // Each file within the limit that has a bad literal is answered, and a refusal says why.
+    ensures verdict { Judges (asked_verdict limit k) limit (R.left r.old) (R.left r.new)
+        (R.failed r.new) (verdict_by verdict_of result) }
+    ensures own { IfErr result IsOfQuery }
+{
+    clauses_are_file_runs();
+    circuit_witnesses_are_file_witnesses();
+    let circuit = Aig::from_aiger(alloc, r, limit)?;
+    let CircuitQuery {
+        unrolled,
+        clauses,
+        further,
+    } = ask_query(alloc, &circuit, limit, k, optimize)?;
+    Ok(Query {
+        encoded: Encoded {
+            circuit,
+            unrolled,
+            clauses,
+        },
+        extra: further,
+    })
 }
 
 /// Reads a circuit from the bytes of an AIGER file, and checks a proof, in the LRAT or the DRAT format, that the clauses of its
@@ -51,15 +100,16 @@ pub fn check_step<R: Source, P: Source>(
     // meets every constraint at the steps 0 to k and some bad literal at step k.
     ensures answer { IfOk result (IsReadAs (IsAsked limit k) (λ f _. IsSafeAt f k)
         (R.left r.old) (R.left r.new)) }
-    ensures file { TellsOfFile R.left R.failed limit k result r.old r.new }
-    // Memory and the stream aside, NoBads exactly where the bytes are a file within the limit without bad literals.
-    ensures bads { IsExactly R.left AnswerError.NoBads (AsksNothing limit k) result r.old }
-    ensures unread { IsOfFileAlone result → proof.new ≡ proof.old }
+    // A file is refused exactly where it isn't within the limit or has no bad literal, and a refusal says why.
+    ensures verdict { Judges (asked_verdict limit k) limit (R.left r.old) (R.left r.new)
+        (R.failed r.new) (verdict_by verdict_of result) }
+    ensures own { IfErr result IsOfStep }
+    ensures unread { verdict_by verdict_of result ≢ Accepted → proof.new ≡ proof.old }
     // Stream only where a read failed in this call.
     ensures proof_stream { IsErrOf result (AnswerError.Refutation RefutationError.Stream)
         → IsTrue (P.failed proof.new) }
 {
     refuted_queries_have_no_witness();
-    let asked = query(alloc, r, limit, k, optimize)?;
-    check_asked(alloc, &asked, proof)
+    let asked = asked_query(alloc, r, limit, k, optimize)?;
+    refute(alloc, &asked.encoded.clauses, &asked.extra, proof)
 }

@@ -1,17 +1,18 @@
 //! Windows of steps that keep a machine safe.
 
-ghost use Rattle.std.specs.Prelude.{◌≡◌, ◌≢◌, ◌+◌, ◌*◌, ◌<◌, ◌≤◌, ◌^◌, ◌↔◌, ◌++◌, [], false, IfErr, IfOk, IsErrOf, IsOk, IsTrue, OnOk, length, replicate};
-ghost use Rattle.std.specs.Io.KnownBytes.{IsAtEnd};
-ghost use Rattle.aig_answers.specs.Answers.{AsksNothing, IsAsked, IsExactly, IsOfCircuit, IsOfFileAlone, IsOfWindow, TellsOfFile, TellsOfRoom, window_size};
+ghost use Rattle.std.specs.Prelude.{◌≡◌, ◌≢◌, ◌+◌, ◌*◌, ◌≤◌, ◌<◌, ◌^◌, ◌↔◌, ◌++◌, [], IfErr, IfOk, IsErrOf, IsTrue, OnOk, length, replicate};
+ghost use Rattle.aig_answers.specs.Answers.{IsAsked, IsOfInduction, IsOfWindow, circuit_window_verdict, verdict_of, window_size, window_verdict};
+ghost use Rattle.aig_answers.specs.Parts.{IsSaidBy};
 ghost use Rattle.aig_base.specs.Clauses.{AreBelow};
 ghost use Rattle.aig_certify.specs.Induction.{IsKInductive};
 ghost use Rattle.aig_certify.specs.WindowClauses.{AsksWindow, count_free, states_clauses, watched};
 ghost use Rattle.aig_circuit.specs.Circuit.{Circuit};
 ghost use Rattle.aig_reader.specs.Reading.{IsReadAs};
+ghost use Rattle.aig_reader.specs.Verdicts.{Accepted, Judges, verdict_by};
 ghost use Rattle.aig_format.specs.Circuit.{circuit_of};
-ghost use Rattle.aig_unroll.specs.Places.{unrolled_size};
 ghost use Rattle.aig_unroll.specs.Unroll.{UnrollsTo};
 
+use crate::asks::check_asks;
 use crate::clauses::window_clauses;
 use crate::distinct::{pairs_of, push_distinct};
 use crate::error::AnswerError;
@@ -19,7 +20,6 @@ use crate::refuting::refute;
 use aig::{Aig, AigEdge, PropList};
 use aig_base::{DagCnf, LitVvec, MemoryError, Source};
 use aig_certify::{Window, refuted_windows_are_inductive};
-use aig_encode::EncodeError;
 use aig_refutation::RefutationError;
 use std::alloc::Global;
 
@@ -149,21 +149,11 @@ fn ask_window(
     requires steps { k < 2 ^ 32 }
     ensures asks { IfOk result
         (λ made. AsksWindow form circuit.old k optimize made.clauses made.further) }
-    ensures some { IsOk result → circuit.old.properties.bads ≢ [] }
-    ensures none { IsErrOf result AnswerError.NoBads → circuit.old.properties.bads ≡ [] }
-    ensures large { IsErrOf result (AnswerError.Encode EncodeError.TooLarge)
-        ↔ (limit < unrolled_size circuit.old (k + 1)) }
-    ensures room { IsErrOf result AnswerError.TooLarge
-        ↔ ((unrolled_size circuit.old (k + 1) ≤ limit) × (circuit.old.properties.bads ≢ [])
-        × (limit < window_size form circuit.old k)) }
-    ensures err { IfErr result IsOfCircuit }
+    ensures said { IsSaidBy (circuit_window_verdict form limit k circuit.old)
+        (verdict_by verdict_of result) }
+    ensures own { IfErr result IsOfWindow }
 {
-    if !aig_unroll::is_size_within(circuit.num_nodes(), circuit.latchs().len(), k + 1, limit) {
-        return Err(AnswerError::Encode(EncodeError::TooLarge));
-    }
-    if circuit.bads().is_empty() {
-        return Err(AnswerError::NoBads);
-    }
+    check_asks(circuit, limit, k + 1)?;
     if !has_room(circuit, k, form, limit) {
         return Err(AnswerError::TooLarge);
     }
@@ -198,13 +188,10 @@ pub fn window<R: Source>(
         (R.left r.old) (R.left r.new)) }
     // The window clauses are of variables that are there.
     ensures below { IfOk result (λ made. AreBelow (length made.clauses) made.further) }
-    ensures file { TellsOfFile R.left R.failed limit (k + 1) result r.old r.new }
-    // Memory and the stream aside, NoBads exactly where the bytes are a file within the limit without bad literals.
-    ensures bads { IsExactly R.left AnswerError.NoBads (AsksNothing limit (k + 1)) result r.old }
-    ensures room { TellsOfRoom R.left form limit k result r.old r.new }
-    // No read failed, and the stream was read to its end.
-    ensures whole { OnOk result ((R.failed r.new ≡ false) × IsAtEnd (R.left r.new)) }
-    ensures alone { IfErr result IsOfWindow }
+    // Each such file whose window has room is answered, and a refusal says why.
+    ensures verdict { Judges (window_verdict form limit k) limit (R.left r.old) (R.left r.new)
+        (R.failed r.new) (verdict_by verdict_of result) }
+    ensures own { IfErr result IsOfWindow }
 {
     let mut circuit = Aig::from_aiger(alloc, r, limit)?;
     ask_window(alloc, &mut circuit, limit, k, optimize, form)
@@ -228,11 +215,11 @@ pub fn check_window<R: Source, P: Source>(
     requires steps { k < 2 ^ 32 }
     ensures answer { IfOk result (IsReadAs (IsAsked limit (k + 1)) (λ f _. IsKInductive form f k)
         (R.left r.old) (R.left r.new)) }
-    ensures file { TellsOfFile R.left R.failed limit (k + 1) result r.old r.new }
-    // Memory and the stream aside, NoBads exactly where the bytes are a file within the limit without bad literals.
-    ensures bads { IsExactly R.left AnswerError.NoBads (AsksNothing limit (k + 1)) result r.old }
-    ensures room { TellsOfRoom R.left form limit k result r.old r.new }
-    ensures unread { IsOfFileAlone result → proof.new ≡ proof.old }
+    // A file is refused exactly where it isn't within the limit, has no bad literal or has no room, and a refusal says why.
+    ensures verdict { Judges (window_verdict form limit k) limit (R.left r.old) (R.left r.new)
+        (R.failed r.new) (verdict_by verdict_of result) }
+    ensures own { IfErr result IsOfInduction }
+    ensures unread { verdict_by verdict_of result ≢ Accepted → proof.new ≡ proof.old }
     // Stream only where a read failed in this call.
     ensures proof_stream { IsErrOf result (AnswerError.Refutation RefutationError.Stream)
         → IsTrue (P.failed proof.new) }

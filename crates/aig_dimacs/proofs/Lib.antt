@@ -1,4 +1,5 @@
 pub mod Words
 pub mod Reading
+pub mod Comments
 pub mod Pieces
 mod Examples

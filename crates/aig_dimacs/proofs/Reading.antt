@@ -9,7 +9,7 @@ use Rattle.aig_base.specs.declared.logic.literal.Lit.{Lit}
 use Rattle.aig_base.specs.Clauses.{AreBelow, is_positive, lit_to, variable_of}
 use Rattle.aig_parsing.specs.Parse.{◌>>=◌}
 use Rattle.aig_dimacs.specs.Text.{IsFormula, clause_line, dimacs_of, literal_text}
-use Rattle.aig_dimacs.specs.Reading.{clauses_from, counted_in, parse_formula, signed_in, words_from}
+use Rattle.aig_dimacs.specs.Reading.{after_comments, clauses_from, counted_in, parse_formula, signed_in, words_from}
 use Rattle.aig_dimacs.proofs.Words.{decimal_plain, decimal_some, number_in-decimal, signed_in-word_of, word_of, word_plain, word_some, words_from-word}
 
 -- a literal is that of its variable and polarity
@@ -90,7 +90,7 @@ counted variables clauses h =
     rw (number_in-decimal variables h.few, number_in-decimal (length clauses) h.count, clauses_from-lines variables clauses h.few (below_by_recursion variables clauses h.below), itself (length clauses)) refl
 
 pub parse_formula-dimacs_of : (variables : ℕ) (clauses : List (List Lit)) → IsFormula variables clauses → parse_formula (dimacs_of variables clauses) ≡ Some (variables, clauses)
-unfolding parse_formula dimacs_of
+unfolding parse_formula after_comments dimacs_of
 parse_formula-dimacs_of variables clauses h =
     ap counted_in (words_from-header variables (length clauses) (flat_map clause_line clauses) h.few h.count) ∙ counted variables clauses h
 

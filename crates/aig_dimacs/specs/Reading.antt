@@ -1,7 +1,7 @@
 -- Part of what is promised.
--- A plain reader of DIMACS: words apart by spaces and line feeds, of which a 0 ends a clause. It
--- knows no comments.
-use Rattle.std.specs.Prelude.{ℕ, ◌-◌, ◌==◌, nat_le, Bool, true, false, ◌||◌, if◌then◌else◌, List, [], ◌∷◌, ◌++◌, length, codes, Option, Some, None, option_map}
+-- A plain reader of DIMACS: comment lines, and then words apart by spaces and line feeds, of which
+-- a 0 ends a clause. (DIMACS CNF format.)
+use Rattle.std.specs.Prelude.{ℕ, ◌-◌, ◌==◌, nat_le, Bool, true, false, not, ◌||◌, if◌then◌else◌, List, [], ◌∷◌, ◌++◌, length, codes, Option, Some, None, option_map}
 use Rattle.std.specs.Str.{all_ascii_digits}
 use Rattle.std.specs.Str.Parse.{digits_value}
 use Rattle.aig_base.specs.declared.logic.literal.Lit.{Lit}
@@ -62,6 +62,15 @@ counted_in (first ∷ second ∷ words) = do
   clauses ← clauses_from variables [] words
   if length clauses == count then Some (variables, clauses) else None
 
+-- what follows the comment lines in front, each of which begins with a c and ends with a line feed;
+-- the bytes begin inside one, or not
+unfoldable pub after_comments : Bool → List ℕ → List ℕ
+after_comments inside [] = []
+after_comments true (b ∷ bs) = after_comments (not (b == 10)) bs
+after_comments false (b ∷ bs) = if b == 99 then after_comments true bs else b ∷ bs
+
 -- the count of variables and the clauses that bytes say, if they are such a text
 unfoldable pub parse_formula : List ℕ → Option (ℕ × List (List Lit))
-parse_formula bytes = strip (codes "p cnf ") bytes >>= λ rest. counted_in (words_from [] rest)
+parse_formula bytes = do
+  rest ← strip (codes "p cnf ") (after_comments false bytes)
+  counted_in (words_from [] rest)

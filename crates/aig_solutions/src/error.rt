@@ -6,7 +6,7 @@ ghost use Rattle.aig_solutions.specs.declared.error.SolutionError.TheVariants as
 ghost use Rattle.aig_solutions.specs.declared.error.ValuesError.TheVariants as valued;
 
 use aig_base::{MemoryError, StreamFault};
-use aig_witness_check::CheckError;
+use aig_witness_check::WitnessFault;
 use std::alloc::{AllocError, AllocFailed};
 use thiserror::Error;
 
@@ -115,7 +115,7 @@ pub enum CheckedWitnessError {
     Values(ValuesError),
     /// The witness shows no bad state.
     #[error("{0}")]
-    Check(CheckError),
+    Check(WitnessFault),
 }
 
 impl From<SolutionError> for CheckedWitnessError {
@@ -134,10 +134,10 @@ impl From<ValuesError> for CheckedWitnessError {
     }
 }
 
-impl From<CheckError> for CheckedWitnessError {
+impl From<WitnessFault> for CheckedWitnessError {
     ghost from_gives = { λ e r. r ≡ checked.Check e };
 
-    fn from(error: CheckError) -> CheckedWitnessError {
+    fn from(error: WitnessFault) -> CheckedWitnessError {
         CheckedWitnessError::Check(error)
     }
 }

@@ -1,38 +1,49 @@
 -- How a witness is read, byte by byte.
 use Rattle.std.proofs.Common.{◌≡◌, ◌≢◌, ℕ, Bool, true, false, cond, eqb, List, [], ◌∷◌, ◌++◌, Option, Some, None, Result, Ok, Err, refl, sym, ap, subst, ◌∙◌}
-use Rattle.std.specs.Prelude.{Vec}
+use Rattle.std.specs.Prelude.{IfSome, Vec, codes}
 use Rattle.std.specs.declared.alloc.Global.{Global}
 use Rattle.std.proofs.lemmas.Bool.{eq-eqb, eqb-true, ne_eqb}
 use Rattle.std.proofs.lemmas.List.{map-append}
+use Rattle.std.proofs.lemmas.Option.{IfSome_then}
 use Rattle.std.proofs.KnownBytes.{Consumes-trans}
 use Rattle.aig_base.specs.declared.logic.three.Lbool.{Lbool}
 use Rattle.aig_parsing.specs.Parse.{◌>>=◌, parse_ended, parse_map, strip}
-use Rattle.aig_lexer.specs.Takes.{Feed, Ends, Steps, Gives}
+use Rattle.aig_lexer.specs.Takes.{Feed, Ends, Gives, Misses, Steps, Takes}
 use Rattle.aig_lexer.specs.Words.{parse_expected}
-use Rattle.aig_lexer.proofs.Taking.{misses_mapped, takes_mapped}
-use Rattle.aig_lexer.proofs.Going.{GoesOn, goes_call, goes_done, goes_wrong}
+use Rattle.aig_lexer.proofs.Taking.{takes_mapped}
+use Rattle.aig_lexer.proofs.Going.{GoesOn, goes_call, goes_done, goes_wrong, known_rest}
 use Rattle.aig_witness.specs.declared.error.WitnessError.{WitnessError}
 use Rattle.aig_witness.specs.declared.error.WitnessError.TheVariants.{Memory, Stream, Status, Property, Values}
-use Rattle.aig_witness.specs.Faults.{EndsWithout, WitnessTells}
-use Rattle.aig_witness.specs.Reading.{after_comments, parse_first, parse_next, parse_parts, parse_point_after, parse_property, parse_row_after, parse_steps_after, value_of_letter, parse_witness, witness_from}
+use Rattle.aig_witness.specs.Faults.{EndsWithout, GivesOr, HasFault, IsFault, IsFaultAfterStatus, TellsOf, WitnessTells}
+use Rattle.aig_witness.specs.Reading.{after_comments, parse_first, parse_next, parse_parts, parse_point_after, parse_property, parse_row_after, parse_steps_after, parse_values, parse_witness, value_of_letter, witness_from}
 use Rattle.aig_witness.specs.declared.witness.Witness as lists
 use Rattle.aig_witness.specs.Witness.{Witness, parts_of, rows_of, said_by}
+
+-- ---- what errors tell
 
 pub witness-weaker : (e : WitnessError) (P Q : Type 0) (failed : Bool) → (P → Q) → WitnessTells e P failed → WitnessTells e Q failed
 witness-weaker Memory P Q failed f h = tt
 witness-weaker Stream P Q failed f h = h
-witness-weaker Status P Q failed f h = f h
-witness-weaker Property P Q failed f h = f h
-witness-weaker Values P Q failed f h = f h
+witness-weaker e P Q failed f h = f h
 
--- a call that reads all that is left
-pub gives_rest : {X Y : Type 0} (view : X → Y) (p q : List ℕ → Option (Y × List ℕ)) (before mid after : Feed) (r : Result X WitnessError)
-    → GoesOn p before q mid → Gives WitnessTells view mid after r q → Gives WitnessTells view before after r p
-gives_rest {X} view p q before mid after r h k = go r k
+pub kind-weaker : (kind e : WitnessError) (P Q : Type 0) (failed : Bool) → (P → Q) → TellsOf kind e P failed → TellsOf kind e Q failed
+kind-weaker kind e P Q failed f h = witness-weaker e ((e ≡ kind) × P) ((e ≡ kind) × Q) failed (λ x. (x.0, f x.1)) h
+
+-- a fault of one kind, among others
+pub kind-known : (kind e : WitnessError) (P : Type 0) (Fault : WitnessError → Type 0) (failed : Bool) → (P → Fault kind) → TellsOf kind e P failed → WitnessTells e (Fault e) failed
+kind-known kind e P Fault failed f h = witness-weaker e ((e ≡ kind) × P) (Fault e) failed (λ x. subst Fault (sym x.0) (f x.1)) h
+
+-- what is left is read by a call
+takes_rest : {Y : Type 0} (p q : List ℕ → Option (Y × List ℕ)) (before mid after : Feed) (y : Y) → GoesOn p before q mid → Takes q mid after y → Takes p before after y
+takes_rest p q before mid after y h k = goes_done p y before after (goes_call p q q (λ bs. Some (y, bs)) before mid after y h k (λ bs rest e. e))
+
+pub gives_rest : {X Y : Type 0} (kind : WitnessError) (view : X → Y) (p q : List ℕ → Option (Y × List ℕ)) (before mid after : Feed) (r : Result X WitnessError)
+    → GoesOn p before q mid → Gives (TellsOf kind) view mid after r q → Gives (TellsOf kind) view before after r p
+gives_rest {X} kind view p q before mid after r h k = go r k
   where
-    go : (r : Result X WitnessError) → Gives WitnessTells view mid after r q → Gives WitnessTells view before after r p
-    go (Ok x) k = goes_done p (view x) before after (goes_call p q q (λ bs. Some (view x, bs)) before mid after (view x) h k (λ bs rest e. e))
-    go (Err e) k = witness-weaker e _ _ after.failed (goes_wrong p q before mid h) k
+    go : (r : Result X WitnessError) → Gives (TellsOf kind) view mid after r q → Gives (TellsOf kind) view before after r p
+    go (Ok x) k = takes_rest p q before mid after (view x) h k
+    go (Err e) k = kind-weaker kind e _ _ after.failed (goes_wrong p q before mid h) k
 
 -- ---- a line of values
 
@@ -141,33 +152,89 @@ rows_more lists list = map-append (λ (l : Vec Lbool Global). l.items) lists (li
 pub property_begins : (b : ℕ) → b ≡ 98 → (bs : List ℕ) → parse_property (b ∷ bs) ≡ parse_ended 10 bs
 property_begins b is bs = subst (λ k. parse_property (k ∷ bs) ≡ parse_ended 10 bs) (sym is) refl
 
+-- ---- the lines after that of the status
+
+module _ (before mid : Feed) (bad : ℕ) (e : WitnessError) (failed : Bool) where
+  pub property_fault : TellsOf Property e (Misses parse_property before) failed → WitnessTells e (IfSome before.coming (IsFaultAfterStatus e)) failed
+  property_fault h = kind-known Property e (Misses parse_property before) (λ e. IfSome before.coming (IsFaultAfterStatus e)) failed (λ m. m) h
+
+  pub values_fault : Takes parse_property before mid bad → TellsOf Values e (Misses parse_values mid) failed → WitnessTells e (IfSome before.coming (IsFaultAfterStatus e)) failed
+  values_fault k h = kind-known Values e (Misses parse_values mid) (λ e. IfSome before.coming (IsFaultAfterStatus e)) failed
+      (λ m. known_rest before.coming mid.coming k.taken (IsFaultAfterStatus Values) (λ lines. parse_values lines ≡ None) k.advances.consumed m (λ lines none. (bad, lines, k.reads lines, none))) h
+
 -- ---- the status line
 
-pub status_wrong : (first : ℕ) → first ≢ 49 → (bs : List ℕ) → parse_witness (first ∷ bs) ≡ None
-status_wrong first ne bs = rw (other 49 first ne) refl
+-- of bytes of which the first came before
+abbrev pub IsFaultFrom : ℕ → WitnessError → List ℕ → Type 0
+IsFaultFrom first e bs = IsFault e (first ∷ bs)
+
+-- whatever the bytes are
+known_all : (text : Option (List ℕ)) (P : List ℕ → Type 0) → ((bs : List ℕ) → P bs) → IfSome text P
+known_all None P h = tt
+known_all (Some bs) P h = h bs
+
+none_empty : (first : ℕ) (bs : List ℕ) → first ∷ bs ≢ []
+none_empty first bs is = cc
+
+pub status_wrong : (first : ℕ) → first ≢ 49 → (text : Option (List ℕ)) → IfSome text (IsFaultFrom first Status)
+status_wrong first ne text = known_all text (IsFaultFrom first Status) (λ bs. (none_empty first bs, rw (other 49 first ne) refl))
 
 module _ (first : ℕ) (one : first ≡ 49) where
-  status_is : (bs : List ℕ) → parse_witness (first ∷ bs) ≡ (strip (10 ∷ []) bs >>= parse_map witness_from parse_parts)
-  status_is bs = subst (λ k. parse_witness (k ∷ bs) ≡ (strip (10 ∷ []) bs >>= parse_map witness_from parse_parts)) (sym one) refl
+  status_is : (bs : List ℕ) → strip (codes "1\n") (first ∷ bs) ≡ (parse_expected 10 bs >>= rest_of)
+  status_is bs = subst (λ k. strip (codes "1\n") (k ∷ bs) ≡ (parse_expected 10 bs >>= rest_of)) (sym one) (line_feed bs)
 
-  pub status_ends : (bs rest : List ℕ) → parse_expected 10 bs ≡ Some (10, rest) → parse_witness (first ∷ bs) ≡ parse_map witness_from parse_parts rest
-  status_ends bs rest is = status_is bs ∙ ap (λ o. o >>= parse_map witness_from parse_parts) (line_feed bs ∙ ap (λ o. o >>= rest_of) is)
+  pub status_long : (before : Feed) → Misses (parse_expected 10) before → IfSome before.coming (IsFaultFrom first Status)
+  status_long before m = IfSome_then before.coming m (λ bs none. (none_empty first bs, status_is bs ∙ ap (λ o. o >>= rest_of) none))
 
-  pub status_long : (bs : List ℕ) → parse_expected 10 bs ≡ None → parse_witness (first ∷ bs) ≡ None
-  status_long bs is = status_is bs ∙ ap (λ o. o >>= parse_map witness_from parse_parts) (line_feed bs ∙ ap (λ o. o >>= rest_of) is)
+  module _ (before mid : Feed) (line : Takes (parse_expected 10) before mid 10) where
+    status_ends : (lines : List ℕ) → strip (codes "1\n") (first ∷ (line.taken ++ lines)) ≡ Some lines
+    status_ends lines = status_is (line.taken ++ lines) ∙ ap (λ o. o >>= rest_of) (line.reads lines)
+
+    goes_status : GoesOn (λ bs. parse_witness (first ∷ bs)) before (parse_map witness_from parse_parts) mid
+    goes_status = record { taken = line.taken; goes = λ lines. ap (λ o. o >>= parse_map witness_from parse_parts) (status_ends lines); advances = line.advances }
+
+    fault_from : (e : WitnessError) (lines : List ℕ) → IsFaultAfterStatus e lines → IsFaultFrom first e (line.taken ++ lines)
+    fault_from Status lines f = absurd f
+    fault_from e lines f = (lines, status_ends lines, f)
+
+    -- the lines after that of the status are read by a call
+    pub gives_after : (after : Feed) (r : Result lists.Witness WitnessError) → GivesOr IsFaultAfterStatus parts_of mid after r parse_parts → GivesOr (IsFaultFrom first) said_by before after r (λ bs. parse_witness (first ∷ bs))
+    gives_after after (Ok w) h = takes_rest (λ bs. parse_witness (first ∷ bs)) (parse_map witness_from parse_parts) before mid after (said_by w) goes_status (takes_mapped witness_from parse_parts mid after (parts_of w) h)
+    gives_after after (Err e) h = witness-weaker e _ _ after.failed (λ m. known_rest before.coming mid.coming line.taken (IsFaultFrom first e) (IsFaultAfterStatus e) line.advances.consumed m (fault_from e)) h
 
 -- ---- comments
 
--- the next witness, where a comment has begun or not
+-- the bytes after comments, where one has begun or not
+abbrev pub past_comments : Bool → List ℕ → Option (Unit {0} × List ℕ)
+past_comments inside bs = Some (tt, after_comments inside bs)
+
+-- the next witness in them
 abbrev pub next_from : Bool → List ℕ → Option (Option Witness × List ℕ)
 next_from inside bs = parse_first (after_comments inside bs)
 
-pub next_starts : (bs : List ℕ) → parse_next bs ≡ next_from false bs
-unfolding parse_next
-next_starts bs = refl
+abbrev first_in : Unit {0} × List ℕ → Option (Option Witness × List ℕ)
+first_in x = parse_first x.1
 
-pub comment_begins : (b : ℕ) → b ≡ 99 → (bs : List ℕ) → next_from false (b ∷ bs) ≡ next_from true bs
-comment_begins b is bs = subst (λ k. next_from false (k ∷ bs) ≡ next_from true bs) (sym is) refl
+pub goes_next : (inside : Bool) (before now : Feed) → GoesOn (past_comments false) before (past_comments inside) now → GoesOn parse_next before (next_from inside) now
+unfolding parse_next
+goes_next inside before now h = record { taken = h.taken; goes = λ rest. ap (λ o. o >>= first_in) (h.goes rest); advances = h.advances }
+
+pub comment_begins : (b : ℕ) → b ≡ 99 → (bs : List ℕ) → past_comments false (b ∷ bs) ≡ past_comments true bs
+comment_begins b is bs = subst (λ k. past_comments false (k ∷ bs) ≡ past_comments true bs) (sym is) refl
+
+-- no comment begins
+pub comments_end : (b : ℕ) → b ≢ 99 → (bs : List ℕ) → past_comments false (b ∷ bs) ≡ Some (tt, b ∷ bs)
+comments_end b ne bs = rw (ne_eqb b 99 ne) refl
+
+abbrev left_of : Option (Unit {0} × List ℕ) → List ℕ
+left_of None = []
+left_of (Some x) = x.1
+
+-- a fault of what follows the comments
+pub fault_next : (e : WitnessError) (b : ℕ) (before mid : Feed) → GoesOn (past_comments false) before (λ bs. Some (tt, b ∷ bs)) mid → IfSome mid.coming (IsFaultFrom b e) → HasFault e before.coming
+fault_next e b before mid h known =
+    known_rest before.coming mid.coming h.taken (λ bytes. IsFault e (after_comments false bytes)) (IsFaultFrom b e) h.advances.consumed known
+    (λ rest f. subst (IsFault e) (sym (ap left_of (h.goes rest))) f)
 
 abbrev there : Witness × List ℕ → Option (Option Witness × List ℕ)
 there x = Some (Some x.0, x.1)
@@ -179,12 +246,10 @@ witness_begins b ne bs = rw (ne_eqb b 99 ne) refl
 pub witness_found : (b : ℕ) → b ≢ 99 → (w : Witness) (bs rest : List ℕ) → parse_witness (b ∷ bs) ≡ Some (w, rest) → next_from false (b ∷ bs) ≡ Some (Some w, rest)
 witness_found b ne w bs rest is = witness_begins b ne bs ∙ ap (λ o. o >>= there) is
 
-pub witness_missed : (b : ℕ) → b ≢ 99 → (bs : List ℕ) → parse_witness (b ∷ bs) ≡ None → next_from false (b ∷ bs) ≡ None
-witness_missed b ne bs is = witness_begins b ne bs ∙ ap (λ o. o >>= there) is
-
 -- no byte came: there is no witness
-pub nothing_left : (inside : Bool) (before now after : Feed) (o : Option ℕ) → GoesOn parse_next before (next_from inside) now → Steps now after o → o ≡ None → EndsWithout before after
-nothing_left inside before now after o h c is =
+pub nothing_left : (inside : Bool) (before now after : Feed) (o : Option ℕ) → GoesOn (past_comments false) before (past_comments inside) now → Steps now after o → o ≡ None → EndsWithout before after
+nothing_left inside before now after o comments c is =
+    let h = goes_next inside before now comments in
     let none : Ends now after [] = subst (Steps now after) is c in
     record {
       taken = h.taken ++ [];
@@ -199,9 +264,3 @@ nothing_left inside before now after o h c is =
     ends : (inside : Bool) → next_from inside [] ≡ Some (None, [])
     ends true = refl
     ends false = refl
-
--- ---- the parts, as a witness
-
-pub seen_as_witness : (mid after : Feed) (r : Result lists.Witness WitnessError) → Gives WitnessTells parts_of mid after r parse_parts → Gives WitnessTells said_by mid after r (parse_map witness_from parse_parts)
-seen_as_witness mid after (Ok w) h = takes_mapped witness_from parse_parts mid after (parts_of w) h
-seen_as_witness mid after (Err e) h = witness-weaker e _ _ after.failed (misses_mapped witness_from parse_parts mid) h

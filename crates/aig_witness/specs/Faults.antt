@@ -1,21 +1,54 @@
 -- Part of what is promised.
--- What an answer tells of the bytes.
-use Rattle.std.specs.Prelude.{◌≡◌, ℕ, Bool, true, false, List, [], Option, Some, None, Result, Ok, Err}
+-- What an answer tells of the bytes. (AIGER 1.9, "Witness format".)
+use Rattle.std.specs.Prelude.{◌≡◌, ◌≢◌, ℕ, Bool, true, false, List, [], codes, Option, Some, None, IfSome, Result, Ok, Err}
 use Rattle.aig_lexer.specs.Takes.{Feed, Ends, Misses, Takes}
 use Rattle.aig_lexer.specs.Words.{parse_expected}
+use Rattle.aig_parsing.specs.Parse.{strip}
 use Rattle.aig_witness.specs.declared.error.WitnessError.{WitnessError}
 use Rattle.aig_witness.specs.declared.error.WitnessError.TheVariants as errors
 use Rattle.aig_witness.specs.declared.witness.Witness as lists
-use Rattle.aig_witness.specs.Reading.{parse_next}
+use Rattle.aig_witness.specs.Reading.{after_comments, parse_next, parse_property, parse_values}
 use Rattle.aig_witness.specs.Witness.{said_by}
 
 -- this fact, or that the stream failed; nothing, where memory ran out
 abbrev pub WitnessTells : WitnessError → Type 0 → Bool → Type 0
 WitnessTells errors.Memory P failed = Unit {0}
 WitnessTells errors.Stream P failed = failed ≡ true
-WitnessTells errors.Status P failed = P
-WitnessTells errors.Property P failed = P
-WitnessTells errors.Values P failed = P
+WitnessTells e P failed = P
+
+-- the same, where no line but those of one kind is read
+abbrev pub TellsOf : WitnessError → WitnessError → Type 0 → Bool → Type 0
+TellsOf kind e P failed = WitnessTells e ((e ≡ kind) × P) failed
+
+-- ---- which line is the first that is malformed or cut
+
+-- of those after a line of the status: that of the property, or one of the values
+abbrev pub IsFaultAfterStatus : WitnessError → List ℕ → Type 0
+IsFaultAfterStatus errors.Property bytes = parse_property bytes ≡ None
+IsFaultAfterStatus errors.Values bytes =
+    (bad : ℕ) × (lines : List ℕ) × (parse_property bytes ≡ Some (bad, lines))
+    × (parse_values lines ≡ None)
+IsFaultAfterStatus e bytes = ⊥
+
+-- of all lines, where there are any
+abbrev pub IsFault : WitnessError → List ℕ → Type 0
+IsFault errors.Status bytes = (bytes ≢ []) × (strip (codes "1\n") bytes ≡ None)
+IsFault e bytes =
+    (lines : List ℕ) × (strip (codes "1\n") bytes ≡ Some lines) × IsFaultAfterStatus e lines
+
+-- where the bytes are known, of those after the comments
+abbrev pub HasFault : WitnessError → Option (List ℕ) → Type 0
+HasFault e text = IfSome text (λ bytes. IsFault e (after_comments false bytes))
+
+-- ---- answers
+
+-- a value that is seen as what was read, or where the bytes are known a fault in them, or that the
+-- stream failed
+abbrev pub GivesOr : {X Y : Type 0} → (WitnessError → List ℕ → Type 0) → (X → Y) → Feed → Feed
+    → Result X WitnessError → (List ℕ → Option (Y × List ℕ)) → Type 0
+GivesOr Fault view before after (Ok x) read = Takes read before after (view x)
+GivesOr Fault view before after (Err e) read =
+    WitnessTells e (IfSome before.coming (Fault e)) after.failed
 
 -- a line feed was taken, or another byte or none comes, or a read failed
 abbrev pub EndsLine : {E : Type 0} → Feed → Feed → Result Bool E → Type 0
@@ -29,9 +62,9 @@ pub record EndsWithout (before after : Feed) : Type 0 where
   pub none : parse_next taken ≡ Some (None, [])
   pub ends : Ends before after taken
 
--- the next witness, or none at the end, or a fault that tells that there is neither, or that a
+-- the next witness, or none at the end, or which line is the first that is malformed, or that a
 -- read failed
 abbrev pub GivesNext : Feed → Feed → Result (Option lists.Witness) WitnessError → Type 0
 GivesNext before after (Ok (Some w)) = Takes parse_next before after (Some (said_by w))
 GivesNext before after (Ok None) = EndsWithout before after
-GivesNext before after (Err e) = WitnessTells e (Misses parse_next before) after.failed
+GivesNext before after (Err e) = WitnessTells e (HasFault e before.coming) after.failed

@@ -41,10 +41,13 @@ parse_steps_after steps row (b ∷ bs) =
 abbrev pub parse_property : List ℕ → Option (ℕ × List ℕ)
 parse_property bytes = strip (98 ∷ []) bytes >>= parse_ended 10
 
+-- the state and the steps
+abbrev pub parse_values : List ℕ → Option ((List Lbool × List (List Lbool)) × List ℕ)
+parse_values = parse_both (parse_row_after []) (λ _. parse_steps_after [] [])
+
 -- the property, the state and the steps
 abbrev pub parse_parts : List ℕ → Option ((ℕ × (List Lbool × List (List Lbool))) × List ℕ)
-parse_parts =
-    parse_both parse_property (λ _. parse_both (parse_row_after []) (λ _. parse_steps_after [] []))
+parse_parts = parse_both parse_property (λ _. parse_values)
 
 -- the witness of these parts
 abbrev pub witness_from : ℕ × (List Lbool × List (List Lbool)) → Witness

@@ -46,6 +46,11 @@ rows_of lists = map (λ list. list.items) lists
 abbrev pub said_by : lists.Witness → Witness
 said_by w = record { bad = w.bad; state = w.state.items; steps = rows_of w.steps.items }
 
+-- the values of its lines
+abbrev pub values_of : Vec Lbool Global × Vec (Vec Lbool Global) Global
+    → List Lbool × List (List Lbool)
+values_of x = (x.0.items, rows_of x.1.items)
+
 -- its parts
 abbrev pub parts_of : lists.Witness → ℕ × (List Lbool × List (List Lbool))
 parts_of w = (w.bad, (w.state.items, rows_of w.steps.items))

@@ -2,9 +2,9 @@
 
 ghost use Rattle.std.specs.Prelude.{◌≡◌, ◌∷◌, []};
 ghost use Rattle.aig_lexer.specs.Takes.{Gives, feed};
-ghost use Rattle.aig_witness.specs.Faults.{EndsLine, GivesNext, WitnessTells};
-ghost use Rattle.aig_witness.specs.Reading.{parse_parts, parse_property, parse_row_after, parse_steps_after, value_of_letter, parse_witness};
-ghost use Rattle.aig_witness.specs.Witness.{parts_of, rows_of, said_by};
+ghost use Rattle.aig_witness.specs.Faults.{EndsLine, GivesNext, GivesOr, IsFault, IsFaultAfterStatus, TellsOf};
+ghost use Rattle.aig_witness.specs.Reading.{parse_parts, parse_property, parse_row_after, parse_steps_after, parse_values, value_of_letter, parse_witness};
+ghost use Rattle.aig_witness.specs.Witness.{parts_of, rows_of, said_by, values_of};
 
 use crate::error::WitnessError;
 use crate::witness::Witness;
@@ -31,7 +31,7 @@ fn read_row<R: Source>(
     r: &mut R,
     first: u8,
 ) -> Result<Vec<Lbool>, WitnessError>
-    ensures { Gives WitnessTells (λ row. row.items)
+    ensures { Gives (TellsOf WitnessError.Values) (λ row. row.items)
         (feed R.left R.failed R.pulls buffer.old r.old)
         (feed R.left R.failed R.pulls buffer.new r.new) result
         (λ bs. parse_row_after [] (first ∷ bs)) }
@@ -57,7 +57,8 @@ fn read_state<R: Source>(
     buffer: &mut InputBuffer,
     r: &mut R,
 ) -> Result<Vec<Lbool>, WitnessError>
-    ensures { Gives WitnessTells (λ row. row.items) (feed R.left R.failed R.pulls buffer.old r.old)
+    ensures { Gives (TellsOf WitnessError.Values) (λ row. row.items)
+        (feed R.left R.failed R.pulls buffer.old r.old)
         (feed R.left R.failed R.pulls buffer.new r.new) result (parse_row_after []) }
 {
     let Some(first) = buffer.next(r)? else {
@@ -83,7 +84,7 @@ fn read_steps<R: Source>(
     buffer: &mut InputBuffer,
     r: &mut R,
 ) -> Result<Vec<Vec<Lbool>>, WitnessError>
-    ensures { Gives WitnessTells (λ steps. rows_of steps.items)
+    ensures { Gives (TellsOf WitnessError.Values) (λ steps. rows_of steps.items)
         (feed R.left R.failed R.pulls buffer.old r.old)
         (feed R.left R.failed R.pulls buffer.new r.new) result (parse_steps_after [] []) }
 {
@@ -103,7 +104,8 @@ fn read_steps<R: Source>(
 
 /// Reads the line of a bad state property: `b` and its number.
 fn read_property<R: Source>(buffer: &mut InputBuffer, r: &mut R) -> Result<u32, WitnessError>
-    ensures { Gives WitnessTells (λ bad. bad) (feed R.left R.failed R.pulls buffer.old r.old)
+    ensures { Gives (TellsOf WitnessError.Property) (λ bad. bad)
+        (feed R.left R.failed R.pulls buffer.old r.old)
         (feed R.left R.failed R.pulls buffer.new r.new) result parse_property }
 {
     let Some(b'b') = buffer.next(r)? else {
@@ -116,18 +118,32 @@ fn read_property<R: Source>(buffer: &mut InputBuffer, r: &mut R) -> Result<u32, 
     }
 }
 
+/// Reads the lines of values: the state, and the inputs at each step.
+fn read_values<R: Source>(
+    alloc: Global,
+    buffer: &mut InputBuffer,
+    r: &mut R,
+) -> Result<(Vec<Lbool>, Vec<Vec<Lbool>>), WitnessError>
+    ensures { Gives (TellsOf WitnessError.Values) values_of
+        (feed R.left R.failed R.pulls buffer.old r.old)
+        (feed R.left R.failed R.pulls buffer.new r.new) result parse_values }
+{
+    let state = read_state(alloc, buffer, r)?;
+    let steps = read_steps(alloc, buffer, r)?;
+    Ok((state, steps))
+}
+
 /// Reads the lines after the status line.
 fn read_parts<R: Source>(
     alloc: Global,
     buffer: &mut InputBuffer,
     r: &mut R,
 ) -> Result<Witness, WitnessError>
-    ensures { Gives WitnessTells parts_of (feed R.left R.failed R.pulls buffer.old r.old)
+    ensures { GivesOr IsFaultAfterStatus parts_of (feed R.left R.failed R.pulls buffer.old r.old)
         (feed R.left R.failed R.pulls buffer.new r.new) result parse_parts }
 {
     let bad = read_property(buffer, r)?;
-    let state = read_state(alloc, buffer, r)?;
-    let steps = read_steps(alloc, buffer, r)?;
+    let (state, steps) = read_values(alloc, buffer, r)?;
     Ok(Witness { bad, state, steps })
 }
 
@@ -138,7 +154,8 @@ fn read_after<R: Source>(
     r: &mut R,
     first: u8,
 ) -> Result<Witness, WitnessError>
-    ensures { Gives WitnessTells said_by (feed R.left R.failed R.pulls buffer.old r.old)
+    ensures { GivesOr (λ e bs. IsFault e (first ∷ bs)) said_by
+        (feed R.left R.failed R.pulls buffer.old r.old)
         (feed R.left R.failed R.pulls buffer.new r.new) result (λ bs. parse_witness (first ∷ bs)) }
 {
     if first != b'1' {
@@ -167,7 +184,7 @@ pub fn read_witness<R: Source>(
     r: &mut R,
 ) -> Result<Option<Witness>, WitnessError>
     // A witness stands after comments in the bytes that were taken, whatever follows them; or these are comments alone, and
-    // nothing follows; or known bytes are neither, or a read failed.
+    // nothing follows; or the error names the first line after comments that is malformed in known bytes, or a read failed.
     ensures { GivesNext (feed R.left R.failed R.pulls buffer.old r.old)
         (feed R.left R.failed R.pulls buffer.new r.new) result }
 {

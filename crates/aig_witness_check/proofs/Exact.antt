@@ -29,8 +29,8 @@ use Rattle.aig_circuit.proofs.Lists.{All-from_map}
 use Rattle.aig_ternary.specs.Ternary.{IsFilling, value_in}
 use Rattle.aig_unroll.proofs.Lists.{zip_at}
 use Rattle.aig_witness.specs.Witness.{Witness}
-use Rattle.aig_witness_check.specs.declared.error.CheckError.{CheckError}
-use Rattle.aig_witness_check.specs.declared.error.CheckError.TheVariants as errors
+use Rattle.aig_witness_check.specs.declared.error.WitnessFault.{WitnessFault}
+use Rattle.aig_witness_check.specs.declared.error.WitnessFault.TheVariants as errors
 use Rattle.aig_witness_check.specs.Answers.{IsWrong}
 use Rattle.aig_witness_check.specs.Machine.{IsGiven, ShowsBad}
 use Rattle.aig_witness_check.specs.Shown.{AreStarts, IsKnownWitness, known_of, simulated}
@@ -117,7 +117,7 @@ module _ (f : File) (limit : ℕ) (w : Witness) (fits : Fits f limit) (given : I
       }
 
 -- what is wrong of a witness is not so of a known one
-wrong_not_known : (c : Circuit) (w : Witness) (e : CheckError) → e ≢ errors.Memory → IsWrong c w e → ¬ IsKnownWitness c w
+wrong_not_known : (c : Circuit) (w : Witness) (e : WitnessFault) → e ≢ errors.Memory → IsWrong c w e → ¬ IsKnownWitness c w
 wrong_not_known c w errors.Memory memory wrong known = memory refl
 wrong_not_known c w errors.Latches memory wrong known = wrong known.latches
 wrong_not_known c w (errors.Inputs t) memory wrong known = wrong.1.2 (known.steps.inputs t wrong.1.1)
@@ -128,5 +128,5 @@ wrong_not_known c w (errors.Constraint t) memory wrong known = wrong.1.3 (known.
 wrong_not_known c w errors.Bad memory wrong known = wrong.2 known.bad
 
 -- so a refusal of given values shows that there is nothing to show
-pub wrong_shows_nothing : (f : File) (limit : ℕ) (w : Witness) (e : CheckError) → Fits f limit → IsGiven w → e ≢ errors.Memory → IsWrong (circuit_of f) w e → ¬ ShowsBad f w
+pub wrong_shows_nothing : (f : File) (limit : ℕ) (w : Witness) (e : WitnessFault) → Fits f limit → IsGiven w → e ≢ errors.Memory → IsWrong (circuit_of f) w e → ¬ ShowsBad f w
 wrong_shows_nothing f limit w e fits given memory wrong shows = wrong_not_known (circuit_of f) w e memory wrong (given_known_witness f limit w fits given shows)

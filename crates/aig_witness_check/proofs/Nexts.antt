@@ -1,30 +1,29 @@
 -- What reading the next witness tells of known bytes.
-use Rattle.std.proofs.Common.{◌≡◌, ℕ, Bool, true, List, [], Option, Some, None, Err, sym, subst}
-use Rattle.std.specs.Prelude.{IfSome, IsErrOf}
+use Rattle.std.proofs.Common.{◌≡◌, ℕ, Bool, false, List, [], Option, Some, None, sym, subst}
+use Rattle.std.specs.Prelude.{IfSome}
 use Rattle.std.proofs.KnownBytes.{Consumes-whole, prepend_known-nil}
-use Rattle.std.proofs.lemmas.Option.{IfSome_then}
 use Rattle.aig_circuit.specs.declared.view.CircuitLists.{CircuitLists}
 use Rattle.aig_circuit.specs.Circuit.{Circuit, IsCircuit}
 use Rattle.aig_circuit.specs.View.{lists_circuit}
-use Rattle.aig_format.specs.File.{File}
 use Rattle.aig_format.specs.Fits.{Accepts}
 use Rattle.aig_format.proofs.Circuits.{IsCircuit-of_file}
-use Rattle.aig_lexer.specs.Takes.{Feed, feed, Takes, Misses}
+use Rattle.aig_lexer.specs.Takes.{Feed, feed, Takes}
 use Rattle.aig_lexer.proofs.Going.{known_after}
 use Rattle.aig_reader.specs.declared.error.ReadError.{ReadError}
 use Rattle.aig_reader.specs.Reading.{AreListsOf, IsReadAs}
-use Rattle.aig_reader.specs.Verdicts.{Accepted, IsOfFile, IsSettled, Judges, verdict_of}
-use Rattle.aig_reader.proofs.Verdicts.{of_no_file}
+use Rattle.aig_reader.specs.Verdicts.{Accepted, Judges}
+use Rattle.aig_reader.proofs.Verdicts.{short_of}
+use Rattle.aig_witness.specs.declared.error.WitnessError.{WitnessError}
 use Rattle.aig_witness.specs.declared.error.WitnessError.TheVariants as witness
-use Rattle.aig_witness.specs.Faults.{EndsWithout}
-use Rattle.aig_witness.specs.Reading.{parse_next}
+use Rattle.aig_witness.specs.Faults.{EndsWithout, HasFault, IsFault}
+use Rattle.aig_witness.specs.Reading.{after_comments, parse_next}
 use Rattle.aig_witness.specs.Witness.{Witness}
-use Rattle.aig_witness_check.specs.declared.error.CheckError.{CheckError}
+use Rattle.aig_witness_check.specs.declared.error.WitnessFault.{WitnessFault}
+use Rattle.aig_witness_check.specs.declared.error.WitnessFault.TheVariants as faults
 use Rattle.aig_witness_check.specs.declared.file.ShowError.{ShowError}
 use Rattle.aig_witness_check.specs.declared.file.ShowError.TheVariants as errors
-use Rattle.aig_witness_check.specs.declared.file.Shown.{Shown}
 use Rattle.aig_witness_check.specs.Answers.{IsWrong}
-use Rattle.aig_witness_check.specs.Files.{Answers, FailsNext, GivesFirst, HasNeither, HasNone, IsNextWitness}
+use Rattle.aig_witness_check.specs.Files.{FailsNext, HasNoNext, HasNone, IsNextWitness, Refuses, verdict_of}
 
 module _ {S : Type 0} (left : S → Option (List ℕ)) (failed : S → Bool) (pulls : S → ℕ) where
   -- nothing is held before the source
@@ -42,35 +41,41 @@ module _ {S : Type 0} (left : S → Option (List ℕ)) (failed : S → Bool) (pu
   ends_none s after h = alone (λ bytes. parse_next bytes ≡ Some (None, [])) s
       (Consumes-whole (start s).coming after.coming h.taken (λ bytes. parse_next bytes ≡ Some (None, [])) h.ends.consumed h.ends.at_end h.none)
 
-  pub has_neither : (s : S) → Misses parse_next (start s) → HasNeither (left s)
-  has_neither s h = alone (λ bytes. parse_next bytes ≡ None) s h
+  -- a fault after no bytes that are held
+  pub has_fault : (e : WitnessError) (s : S) → HasFault e (start s).coming → HasFault e (left s)
+  has_fault e s h = alone (λ bytes. IsFault e (after_comments false bytes)) s h
 
--- a witness that isn't read
-pub unread_answers : (limit : ℕ) (old new text : Option (List ℕ)) (failed : Bool) (e : ShowError) → GivesFirst text failed (Err e) → Answers limit old new text (Err e)
-unread_answers limit old new text failed (errors.File e) h = absurd h
-unread_answers limit old new text failed (errors.Witness witness.Memory) h = tt
-unread_answers limit old new text failed (errors.Witness witness.Stream) h = tt
-unread_answers limit old new text failed (errors.Witness witness.Status) h = h
-unread_answers limit old new text failed (errors.Witness witness.Property) h = h
-unread_answers limit old new text failed (errors.Witness witness.Values) h = h
-unread_answers limit old new text failed errors.NoWitness h = h
-unread_answers limit old new text failed (errors.Check e) h = absurd h
+-- ---- a witness that isn't read
 
-pub unread_failed : (text : Option (List ℕ)) (failed : Bool) (e : ShowError) → GivesFirst text failed (Err e) → IsErrOf {T = Shown} (Err e) (errors.Witness witness.Stream) → failed ≡ true
-unread_failed text failed e h is = let same : e ≡ errors.Witness witness.Stream = cc in subst (λ (e : ShowError). GivesFirst text failed (Err e)) same h
+module _ (text : Option (List ℕ)) (failed : Bool) where
+  -- it is no error of the file
+  pub not_of_file : (e : ShowError) (of : ReadError) → HasNoNext text failed e → e ≡ errors.File of → ⊥
+  not_of_file e of h is = subst (HasNoNext text failed) is h
 
--- a file that is refused
-pub refused : (limit : ℕ) (old new : Option (List ℕ)) (failed : Bool) (e : ReadError) → Judges (λ f. Accepted) limit old new failed (verdict_of e) → IsSettled (verdict_of e)
-    → IfSome old (λ bytes. (f : File) → ¬ Accepts bytes limit f)
-refused limit old new failed e told settled =
-    IfSome_then old (told.exact settled) (λ bytes on f accepts. of_no_file e (subst IsOfFile (sym (on.each f accepts)) tt))
+  module _ (limit : ℕ) (old new : Option (List ℕ)) where
+    pub refuses_next : (e : ShowError) → HasNoNext text failed e → Refuses limit old new text failed e
+    refuses_next (errors.File e) h = absurd h
+    refuses_next (errors.Check e) h = absurd h
+    refuses_next e h = h
+
+    pub judged_next : (failed_file : Bool) (e : ShowError) → Judges (λ f. Accepted) limit old new failed_file Accepted → HasNoNext text failed e → Judges (λ f. Accepted) limit old new failed_file (verdict_of e)
+    judged_next failed_file (errors.File e) told h = absurd h
+    judged_next failed_file (errors.Check e) told h = absurd h
+    judged_next failed_file (errors.Witness witness.Memory) told h = short_of (λ f. Accepted) limit old new failed_file told
+    judged_next failed_file e told h = told
+
+-- ---- a witness with a fault
+
+pub judged_fault : (limit : ℕ) (old new : Option (List ℕ)) (failed : Bool) (e : WitnessFault) → Judges (λ f. Accepted) limit old new failed Accepted → Judges (λ f. Accepted) limit old new failed (verdict_of (errors.Check e))
+judged_fault limit old new failed faults.Memory told = short_of (λ f. Accepted) limit old new failed told
+judged_fault limit old new failed e told = told
 
 -- the lists of a file are a circuit
 pub lists_are : (limit : ℕ) (old new : Option (List ℕ)) (lists : CircuitLists) → IsReadAs (λ bytes. Accepts bytes limit) AreListsOf old new lists → IsCircuit (lists_circuit lists)
 lists_are limit old new lists o = subst IsCircuit (sym o.means) (IsCircuit-of_file o.file limit o.holds.1)
 
 -- the fault of a witness, on the file's circuit
-pub fails_on : (limit : ℕ) (old new text : Option (List ℕ)) (lists : CircuitLists) (w : Witness) (e : CheckError) → IsReadAs (λ bytes. Accepts bytes limit) AreListsOf old new lists → IsNextWitness text w → IsWrong (lists_circuit lists) w e
+pub fails_on : (limit : ℕ) (old new text : Option (List ℕ)) (lists : CircuitLists) (w : Witness) (e : WitnessFault) → IsReadAs (λ bytes. Accepts bytes limit) AreListsOf old new lists → IsNextWitness text w → IsWrong (lists_circuit lists) w e
     → IsReadAs (λ bytes. Accepts bytes limit) (FailsNext text) old new e
 fails_on limit old new text lists w e o next wrong = record {
   file = o.file;

@@ -5,13 +5,13 @@ use Rattle.aig_base.specs.declared.logic.three.Lbool.TheVariants.{TRUE}
 use Rattle.aig_circuit.specs.Circuit.{Circuit}
 use Rattle.aig_ternary.specs.Ternary.{value_in}
 use Rattle.aig_witness.specs.Witness.{Witness}
-use Rattle.aig_witness_check.specs.declared.error.CheckError.{CheckError}
-use Rattle.aig_witness_check.specs.declared.error.CheckError.TheVariants as errors
+use Rattle.aig_witness_check.specs.declared.error.WitnessFault.{WitnessFault}
+use Rattle.aig_witness_check.specs.declared.error.WitnessFault.TheVariants as errors
 use Rattle.aig_witness_check.specs.Shown.{AreStarts, AreTrueIn, HoldsBefore, HoldsSteps, IsKnownWitness, named_bad, simulated}
 
 -- what is wrong first of the steps: it has too few or too many values, or some constraint is not
 -- known to hold
-abbrev pub IsWrongStep : Circuit → Witness → CheckError → Type 0
+abbrev pub IsWrongStep : Circuit → Witness → WitnessFault → Type 0
 IsWrongStep c w (errors.Inputs t) =
     HoldsBefore c w t × (t < length w.steps)
     × (length (slice_index_or w.steps t []) ≢ length c.inputs)
@@ -35,7 +35,7 @@ pub record IsStarted (c : Circuit) (w : Witness) : Type 0 where
   pub start : AreStarts c.latchs w.state
 
 -- what is wrong first of a witness
-abbrev pub IsWrong : Circuit → Witness → CheckError → Type 0
+abbrev pub IsWrong : Circuit → Witness → WitnessFault → Type 0
 IsWrong c w errors.Memory = Unit {0}
 IsWrong c w errors.Latches = length w.state ≢ length c.latchs
 IsWrong c w errors.NoStep = (length w.state ≡ length c.latchs) × (length w.steps ≡ 0)
@@ -51,6 +51,6 @@ IsWrong c w errors.Bad =
     × (value_in (simulated c w (length w.steps - 1)) (named_bad c w) ≢ TRUE)
 
 -- the values show the witness, or its first fault is named
-abbrev pub Checks : {T : Type 0} → Circuit → Witness → Result T CheckError → Type 0
+abbrev pub Checks : {T : Type 0} → Circuit → Witness → Result T WitnessFault → Type 0
 Checks c w (Ok x) = IsKnownWitness c w
 Checks c w (Err e) = IsWrong c w e

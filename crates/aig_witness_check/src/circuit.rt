@@ -8,7 +8,7 @@ ghost use Rattle.aig_witness.specs.Witness.{said_by};
 ghost use Rattle.aig_witness_check.specs.Answers.{Checks, IsWrongStep};
 ghost use Rattle.aig_witness_check.specs.Shown.{AreStarts, AreTrueIn, HoldsSteps};
 
-use crate::error::CheckError;
+use crate::error::WitnessFault;
 use aig_base::Lbool;
 use aig_circuit::{AigEdge, AigLatch, CircuitLists, CircuitView};
 use aig_ternary::Simulator;
@@ -51,7 +51,7 @@ fn check_steps(
     lists: &CircuitLists,
     simulator: &mut Simulator<'_>,
     witness: &Witness,
-) -> Result<(), CheckError>
+) -> Result<(), WitnessFault>
     requires circuit { IsCircuit (lists_circuit lists.now) }
     requires begins { simulator.old
         ≡ simulation_of (lists_circuit lists.now) witness.now.state.items }
@@ -62,11 +62,11 @@ fn check_steps(
 {
     for (t, inputs) in witness.steps.iter().enumerate() {
         if inputs.len() != lists.inputs.len() {
-            return Err(CheckError::Inputs(t));
+            return Err(WitnessFault::Inputs(t));
         }
         simulator.simulate(inputs)?;
         if !all_true(simulator, &lists.properties.constraints) {
-            return Err(CheckError::Constraint(t));
+            return Err(WitnessFault::Constraint(t));
         }
     }
     Ok(())
@@ -80,30 +80,30 @@ fn check_steps(
 ///
 /// # Errors
 ///
-/// What is wrong first, in the order of `CheckError`'s names but for `Inputs` and `Constraint`, which come step by step.
-pub fn check_circuit(lists: &CircuitLists, witness: &Witness) -> Result<(), CheckError>
+/// What is wrong first, in the order of `WitnessFault`'s names but for `Inputs` and `Constraint`, which come step by step.
+pub fn check_circuit(lists: &CircuitLists, witness: &Witness) -> Result<(), WitnessFault>
     requires { IsCircuit (lists_circuit lists.now) }
     ensures { Checks (lists_circuit lists.now) (said_by witness.now) result }
 {
     if witness.state.len() != lists.latchs.len() {
-        return Err(CheckError::Latches);
+        return Err(WitnessFault::Latches);
     }
     if witness.steps.is_empty() {
-        return Err(CheckError::NoStep);
+        return Err(WitnessFault::NoStep);
     }
     let named = witness.bad as usize;
     if named >= lists.properties.bads.len() {
-        return Err(CheckError::NoBad);
+        return Err(WitnessFault::NoBad);
     }
     if !starts(&lists.latchs, &witness.state) {
-        return Err(CheckError::Start);
+        return Err(WitnessFault::Start);
     }
     let view = CircuitView::new(lists);
     let state = witness.state.to_vec(view.allocator())?;
     let mut simulator = Simulator::new(view, state);
     check_steps(lists, &mut simulator, witness)?;
     if simulator.value(lists.properties.bads[named]) != Lbool::TRUE {
-        return Err(CheckError::Bad);
+        return Err(WitnessFault::Bad);
     }
     Ok(())
 }

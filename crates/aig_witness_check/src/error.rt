@@ -1,7 +1,7 @@
 //! Why a witness doesn't show a bad state.
 
 ghost use Rattle.std.specs.Prelude.{◌≡◌};
-ghost use Rattle.aig_witness_check.specs.declared.error.CheckError.TheVariants as errors;
+ghost use Rattle.aig_witness_check.specs.declared.error.WitnessFault.TheVariants as errors;
 
 use aig_base::MemoryError;
 use std::alloc::AllocError;
@@ -9,7 +9,7 @@ use thiserror::Error;
 
 /// Why a witness doesn't show a bad state of a circuit.
 #[derive(Clone, Copy, Debug, PartialEq, Eq, Error)]
-pub enum CheckError {
+pub enum WitnessFault {
     /// Memory ran out.
     #[error("out of memory")]
     Memory,
@@ -36,18 +36,18 @@ pub enum CheckError {
     Bad,
 }
 
-impl From<MemoryError> for CheckError {
+impl From<MemoryError> for WitnessFault {
     ghost from_gives = { λ _ r. r ≡ errors.Memory };
 
-    fn from(_error: MemoryError) -> CheckError {
-        CheckError::Memory
+    fn from(_error: MemoryError) -> WitnessFault {
+        WitnessFault::Memory
     }
 }
 
-impl From<AllocError> for CheckError {
+impl From<AllocError> for WitnessFault {
     ghost from_gives = { λ _ r. r ≡ errors.Memory };
 
-    fn from(_error: AllocError) -> CheckError {
-        CheckError::Memory
+    fn from(_error: AllocError) -> WitnessFault {
+        WitnessFault::Memory
     }
 }

@@ -1,11 +1,15 @@
 //! Checks that a witness shows a bad state of the machine of an AIGER file.
 
-ghost use Rattle.std.specs.Prelude.{◌≡◌, ◌^◌, ◌≤◌, IsErrOf, IsTrue};
-ghost use Rattle.aig_witness_check.specs.Files.{Answers, GivesFirst, IsOfFileAlone};
+ghost use Rattle.std.specs.Prelude.{◌≡◌, ◌^◌, ◌≤◌, IfErr, IfOk, IsErrOf};
+ghost use Rattle.aig_format.specs.Fits.{Accepts};
+ghost use Rattle.aig_reader.specs.Reading.{IsReadAs};
+ghost use Rattle.aig_reader.specs.Verdicts.{Accepted, Judges, verdict_by};
+ghost use Rattle.aig_witness.specs.Witness.{said_by};
+ghost use Rattle.aig_witness_check.specs.Files.{HasNoNext, IsNextWitness, Refuses, ShowsNext, verdict_of};
 ghost use Rattle.aig_witness_check.specs.declared.file.ShowError.TheVariants as errors;
 
 use crate::circuit::check_circuit;
-use crate::error::CheckError;
+use crate::error::WitnessFault;
 use crate::laws::known_witnesses_show;
 use aig_base::Source;
 use aig_lexer::InputBuffer;
@@ -37,7 +41,7 @@ pub enum ShowError {
     NoWitness,
     /// The witness doesn't show a bad state of the file's machine.
     #[error("{0}")]
-    Check(CheckError),
+    Check(WitnessFault),
 }
 
 impl From<ReadError> for ShowError {
@@ -56,17 +60,18 @@ impl From<WitnessError> for ShowError {
     }
 }
 
-impl From<CheckError> for ShowError {
+impl From<WitnessFault> for ShowError {
     ghost from_gives = { λ e r. r ≡ errors.Check e };
 
-    fn from(error: CheckError) -> ShowError {
+    fn from(error: WitnessFault) -> ShowError {
         ShowError::Check(error)
     }
 }
 
 /// Reads the next witness through a buffer.
 fn read_first<W: Source>(alloc: Global, w: &mut W) -> Result<Witness, ShowError>
-    ensures { GivesFirst (W.left w.old) (W.failed w.new) result }
+    ensures ok { IfOk result (λ witness. IsNextWitness (W.left w.old) (said_by witness)) }
+    ensures err { IfErr result (HasNoNext (W.left w.old) (W.failed w.new)) }
 {
     let mut buffer = InputBuffer::new();
     match read_witness(alloc, &mut buffer, w)? {
@@ -86,7 +91,7 @@ fn read_first<W: Source>(alloc: Global, w: &mut W) -> Result<Witness, ShowError>
 /// # Errors
 ///
 /// `File` where the file is refused, `Witness` where the witness is, and `NoWitness` where its stream has comments alone;
-/// `Check` names the fault of a witness that doesn't show a bad state, or doesn't for every value that is unknown.
+/// `Check` names the first fault of a witness that doesn't show a bad state, or doesn't for every value that is unknown.
 pub fn check_witness<R: Source, W: Source>(
     alloc: Global,
     r: &mut R,
@@ -95,13 +100,18 @@ pub fn check_witness<R: Source, W: Source>(
 ) -> Result<Shown, ShowError>
     requires some { 1 ≤ limit }
     requires few { limit ≤ 2 ^ 31 }
-    ensures answer { Answers limit (R.left r.old) (R.left r.new) (W.left w.old) result }
-    ensures unread { IsOfFileAlone result → w.new ≡ w.old }
-    // Stream only where a read failed in this call.
-    ensures file_stream { IsErrOf result (ShowError.File ReadError.Stream)
-        → IsTrue (R.failed r.new) }
-    ensures witness_stream { IsErrOf result (ShowError.Witness WitnessError.Stream)
-        → IsTrue (W.failed w.new) }
+    // The bytes that were read are a file that is accepted, and the next witness shows a bad state of its machine.
+    ensures answer { IfOk result
+        (IsReadAs (λ bytes. Accepts bytes limit) (ShowsNext (W.left w.old))
+        (R.left r.old) (R.left r.new)) }
+    // Each file that is accepted is taken, and a refusal of it says why.
+    ensures verdict { Judges (λ _. Accepted) limit (R.left r.old) (R.left r.new) (R.failed r.new)
+        (verdict_by verdict_of result) }
+    ensures never_open { IsErrOf result (ShowError.File ReadError.Open) → ⊥ }
+    // A refusal of the witness says why, and where the file is refused it wasn't read.
+    ensures refusal { IfErr result
+        (Refuses limit (R.left r.old) (R.left r.new) (W.left w.old) (W.failed w.new)) }
+    ensures unread { (e : ReadError) → IsErrOf result (ShowError.File e) → w.new ≡ w.old }
 {
     known_witnesses_show();
     let lists = aig_reader::read(alloc, r, limit)?;

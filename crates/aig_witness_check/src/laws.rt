@@ -6,8 +6,8 @@ ghost use Rattle.aig_format.specs.Circuit.{circuit_of};
 ghost use Rattle.aig_format.specs.File.{File};
 ghost use Rattle.aig_format.specs.Fits.{Fits};
 ghost use Rattle.aig_witness.specs.Witness.{Witness};
-ghost use Rattle.aig_witness_check.specs.declared.error.CheckError.{CheckError};
-ghost use Rattle.aig_witness_check.specs.declared.error.CheckError.TheVariants as errors;
+ghost use Rattle.aig_witness_check.specs.declared.error.WitnessFault.{WitnessFault};
+ghost use Rattle.aig_witness_check.specs.declared.error.WitnessFault.TheVariants as errors;
 ghost use Rattle.aig_witness_check.specs.Answers.{IsWrong};
 ghost use Rattle.aig_witness_check.specs.Machine.{IsGiven, ShowsBad};
 ghost use Rattle.aig_witness_check.specs.Shown.{IsKnownWitness};
@@ -36,6 +36,6 @@ pub fn given_witnesses_are_known()
 
 /// Law: where every value of a witness is given, a refusal that is not for want of memory means that it shows no bad state.
 pub fn wrong_witnesses_show_nothing()
-    ensures { (f : File) (limit : ℕ) (w : Witness) (e : CheckError) → Fits f limit → IsGiven w
+    ensures { (f : File) (limit : ℕ) (w : Witness) (e : WitnessFault) → Fits f limit → IsGiven w
         → e ≢ errors.Memory → IsWrong (circuit_of f) w e → ¬ ShowsBad f w }
 {}

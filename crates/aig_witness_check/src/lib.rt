@@ -7,7 +7,7 @@ mod file;
 mod laws;
 
 pub use circuit::check_circuit;
-pub use error::CheckError;
+pub use error::WitnessFault;
 pub use file::{ShowError, Shown, check_witness};
 pub use laws::{
     given_witnesses_are_known, known_witnesses_show, witnesses_are_unsafe,

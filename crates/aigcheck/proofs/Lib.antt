@@ -1,7 +1,6 @@
-mod Giving
 mod Commenting
-mod Memory
+mod Giving
+mod Outcomes
 mod Placing
 mod Shown
 mod Examples
-mod Printing

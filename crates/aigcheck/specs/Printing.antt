@@ -1,15 +1,14 @@
 -- Serves private clauses alone.
--- What is printed of what was read: a text, a beginning of it, or nothing.
-use Rattle.std.specs.Prelude.{◌≡◌, ◌≢◌, ◌⊎◌, ℕ, ◌+◌, Bool, false, List, [], ◌++◌, length, Option, Result, Ok, Err}
+-- What is printed of what was read: a text, or a beginning of it.
+use Rattle.std.specs.Prelude.{◌≡◌, ◌≢◌, ℕ, ◌+◌, Bool, false, List, ◌++◌, length, Option, Result, IfErr, IsErrOf, IsTrue, OnOk}
 use Rattle.std.specs.Io.KnownBytes.{Appends}
 use Rattle.aig_base.specs.Formula.{clauses_in}
-use Rattle.aig_circuit.specs.declared.edge.AigEdge.{AigEdge}
 use Rattle.aig_circuit.specs.Circuit.{Circuit}
 use Rattle.aig_dimacs.specs.Text.{dimacs_of}
-use Rattle.aig_encode.specs.declared.error.EncodeError.TheVariants as encode
 use Rattle.aig_encode.specs.declared.query_clauses.Query.{Query}
-use Rattle.aig_answers.specs.declared.error.AnswerError.TheVariants as answers
 use Rattle.aig_output.specs.Sinks.{Stops}
+use Rattle.aig_solutions.specs.declared.error.CheckedWitnessError.TheVariants as solutions
+use Rattle.aig_solutions.specs.declared.error.SolutionError.TheVariants as solution
 use Rattle.aig_witness.specs.Witness.{Witness, witness_text}
 use Rattle.aig_witness_check.specs.Shown.{IsKnownWitness}
 use Rattle.aigcheck.specs.Comments.{comments_of}
@@ -17,9 +16,9 @@ use Rattle.aigcheck.specs.declared.tool.CheckError.{CheckError}
 use Rattle.aigcheck.specs.declared.tool.CheckError.TheVariants as errors
 
 -- the text of a query for step k: its comments, and then its clauses
-abbrev pub IsQueryText : Query → ℕ → List ℕ → Type 0
-IsQueryText asked k text = text
-    ≡ comments_of asked.encoded.circuit asked.encoded.unrolled k
+abbrev pub query_text : Query → ℕ → List ℕ
+query_text asked k =
+    comments_of asked.encoded.circuit asked.encoded.unrolled k
     ++ dimacs_of (length asked.encoded.clauses) (clauses_in asked.encoded.clauses ++ asked.extra)
 
 -- the text of a witness of k + 1 steps of the circuit, which was checked in three values
@@ -29,19 +28,25 @@ pub record IsKnownText (c : Circuit) (k : ℕ) (text : List ℕ) : Type 0 where
   pub known : IsKnownWitness c witness
   pub exact : text ≡ witness_text witness
 
--- Such a text is held, or after a failed write a beginning of one. Before anything is written
--- memory may run out, and a solver's answer may be refused. Without bad edges nothing is printed.
-abbrev pub Prints : {W : Type 0} → (W → Option (List ℕ)) → (W → Bool) → List AigEdge
-    → (List ℕ → Type 0) → W → Result Unit CheckError → W → Type 0
-Prints held failed bads IsSuch w (Ok done) made =
-    (bads ≢ []) × (text : List ℕ) × IsSuch text × Appends (held w) (held made) text
-    × (failed made ≡ false)
-Prints held failed bads IsSuch w (Err errors.Write) made =
-    (bads ≢ []) × (text : List ℕ) × IsSuch text × Stops (held w) (held made) (failed made) text
-Prints held failed bads IsSuch w (Err (errors.Answer e)) made =
-    (((e ≡ answers.Encode encode.Memory) × (bads ≢ [])) ⊎ ((e ≡ answers.NoBads) × (bads ≡ [])))
-    × (made ≡ w)
-Prints held failed bads IsSuch w (Err (errors.Solution e)) made = (bads ≢ []) × (made ≡ w)
-Prints held failed bads IsSuch w (Err (errors.Show e)) made = ⊥
-Prints held failed bads IsSuch w (Err errors.Open) made = ⊥
-Prints held failed bads IsSuch w (Err errors.Memory) made = ⊥
+-- Such a text is held, or after a failed write a beginning of one. After any other error nothing
+-- was written.
+pub record Prints {W : Type 0} (held : W → Option (List ℕ)) (failed : W → Bool)
+    (IsSuch : List ℕ → Type 0) (w : W) (result : Result Unit CheckError) (made : W) : Type 0 where
+  pub ok : OnOk result
+      ((text : List ℕ) × IsSuch text × Appends (held w) (held made) text × (failed made ≡ false))
+  pub stopped : IsErrOf result errors.Write
+      → (text : List ℕ) × IsSuch text × Stops (held w) (held made) (failed made) text
+  pub kept : IfErr result (λ e. e ≢ errors.Write → made ≡ w)
+
+-- the errors of a query's text
+abbrev pub IsOfText : CheckError → Type 0
+IsOfText errors.Memory = Unit {0}
+IsOfText errors.Write = Unit {0}
+IsOfText e = ⊥
+
+-- the errors of a solver's answer, and what they tell of its reader
+abbrev pub IsOfSolution : Bool → CheckError → Type 0
+IsOfSolution failed (errors.Solution (solutions.Solution solution.Stream)) = IsTrue failed
+IsOfSolution failed (errors.Solution e) = Unit {0}
+IsOfSolution failed errors.Write = Unit {0}
+IsOfSolution failed e = ⊥

@@ -6,7 +6,7 @@ ghost use Rattle.aigcheck.specs.Words.{AreLast, Give, GiveSteps, clause_words, n
 ghost use Rattle.aigcheck.specs.declared.command.Command.{Command};
 
 use aig_answers::Window;
-use aig_words::steps;
+use aig_command_line::steps;
 
 /// What the program is asked to do.
 #[derive(Clone, Copy)]

@@ -1,25 +1,25 @@
 //! What the commands do with the bytes of a file, and of a proof, a solver's answer or a witness.
 
-ghost use Rattle.std.specs.Prelude.{◌≡◌, ◌≢◌, ◌<◌, ◌≤◌, ◌^◌, ◌++◌, ◌∷◌, [], IfErr, IsErrOf, IsTrue, None, OnOk, decimal, length};
-ghost use Rattle.aig_answers.specs.declared.error.AnswerError.TheVariants as answers;
+ghost use Rattle.std.specs.Prelude.{◌≡◌, ◌<◌, ◌≤◌, ◌^◌, ◌++◌, ◌∷◌, [], IfErr, decimal, length};
 ghost use Rattle.aig_base.specs.Clauses.{AreBelow};
-ghost use Rattle.aig_encode.specs.declared.error.EncodeError.TheVariants as encode;
+ghost use Rattle.aig_base.specs.Formula.{clauses_in};
+ghost use Rattle.aig_dimacs.specs.Text.{IsFormula};
 ghost use Rattle.aig_output.specs.Sinks.{BuffersOrStops, WritesOrStops};
 ghost use Rattle.aig_unroll.specs.Unroll.{UnrollsTo};
-ghost use Rattle.aigcheck.specs.Printing.{IsKnownText, IsQueryText, Prints};
-ghost use Rattle.aigcheck.specs.Running.{Runs, shown_line};
+ghost use Rattle.aigcheck.specs.Printing.{IsKnownText, IsOfSolution, IsOfText, Prints, query_text};
+ghost use Rattle.aigcheck.specs.Running.{Runs, nothing_fails, nothing_given, shown_line};
 ghost use Rattle.aigcheck.specs.declared.tool.CheckError.TheVariants as errors;
 
 use crate::command::Command;
 use crate::comments::write_comments;
 use crate::line::buffer_named;
-use aig_answers::{AnswerError, Window, check_step, check_window, window};
+use aig_answers::{AnswerError, Window, asked_query, check_step, check_window, window};
 use aig_base::{MemoryError, Sink, Source, StreamFault};
 use aig_certify::inductive_windows_are_safe;
 use aig_dimacs::write_dimacs;
-use aig_encode::{Query, query};
+use aig_encode::Query;
 use aig_output::OutputBuffer;
-use aig_solutions::{CheckedWitnessError, Places, SolutionError, checked_witness};
+use aig_solutions::{CheckedWitnessError, Places, checked_witness};
 use aig_witness::write_witness;
 use aig_witness_check::{ShowError, Shown, check_witness, known_witnesses_show};
 use std::alloc::Global;
@@ -65,10 +65,10 @@ impl From<AnswerError> for CheckError {
 }
 
 impl From<MemoryError> for CheckError {
-    ghost from_gives = { λ _ r. r ≡ errors.Answer (answers.Encode encode.Memory) };
+    ghost from_gives = { λ _ r. r ≡ errors.Memory };
 
-    fn from(error: MemoryError) -> CheckError {
-        CheckError::Answer(AnswerError::from(error))
+    fn from(_error: MemoryError) -> CheckError {
+        CheckError::Memory
     }
 }
 
@@ -153,7 +153,8 @@ pub fn print_window<R: Source, W: Sink>(
 ) -> Result<(), CheckError>
     requires { k < 2 ^ 32 }
     ensures { let command = Command.Window k form optimize in
-        Runs R.left R.failed W.held W.failed command LIMIT None r.old w.old result r.new w.new }
+        Runs R.left R.failed nothing_given nothing_fails W.held W.failed
+        command LIMIT r.old tt w.old result r.new tt w.new }
 {
     let asked = window(alloc, r, LIMIT, k, optimize, form)?;
     Ok(write_dimacs(w, &asked.clauses, &asked.further)?)
@@ -169,8 +170,8 @@ pub fn print_refuted<R: Source, P: Source, W: Sink>(
     w: &mut W,
 ) -> Result<(), CheckError>
     ensures { let command = Command.Refuted k optimize in
-        Runs R.left R.failed W.held W.failed command LIMIT (P.left proof.old)
-        r.old w.old result r.new w.new }
+        Runs R.left R.failed P.left P.failed W.held W.failed
+        command LIMIT r.old proof.old w.old result r.new proof.new w.new }
 {
     check_step(alloc, r, LIMIT, k, optimize, proof)?;
     Ok(write_line(w, b"no bad state at step ", k)?)
@@ -189,36 +190,34 @@ pub fn print_inductive<R: Source, P: Source, W: Sink>(
 ) -> Result<(), CheckError>
     requires { k < 2 ^ 32 }
     ensures { let command = Command.Inductive k form optimize in
-        Runs R.left R.failed W.held W.failed command LIMIT (P.left proof.old)
-        r.old w.old result r.new w.new }
+        Runs R.left R.failed P.left P.failed W.held W.failed
+        command LIMIT r.old proof.old w.old result r.new proof.new w.new }
 {
     inductive_windows_are_safe();
     check_window(alloc, r, LIMIT, k, optimize, form, proof)?;
     Ok(write_line(w, b"no bad state at any step, if none up to step ", k)?)
 }
 
-/// Refuses a query of a circuit without bad state properties, as nothing is asked of it.
-fn check_asks(asked: &Query) -> Result<(), AnswerError>
-    ensures some { OnOk result (asked.now.encoded.circuit.properties.bads ≢ []) }
-    ensures none { IfErr result (λ e. (e ≡ AnswerError.NoBads)
-        × (asked.now.encoded.circuit.properties.bads ≡ [])) }
+/// Tells that a query's clauses are read again from their text, as its counts of variables and of clauses fit.
+fn tell_formula(asked: &Query)
+    requires { AreBelow (length asked.now.encoded.clauses) asked.now.extra }
+    ensures { IsFormula (length asked.now.encoded.clauses)
+        (clauses_in asked.now.encoded.clauses ++ asked.now.extra) }
 {
-    if asked.encoded.circuit.bads().is_empty() {
-        return Err(AnswerError::NoBads);
-    }
-    Ok(())
+    let clauses = &asked.encoded.clauses;
+    let _counts = (clauses.num_vars(), clauses.num_clauses(), asked.extra.len());
 }
 
-/// Prints a query for step `k` that asks something: comments that say which literals stand for what, and then its clauses.
+/// Prints a query for step `k`: comments that say which literals stand for what, and then its clauses.
 fn print_query<W: Sink>(alloc: Global, asked: &Query, k: usize, w: &mut W) -> Result<(), CheckError>
     requires small { k < 2 ^ 32 }
     requires steps { UnrollsTo asked.now.encoded.circuit k asked.now.encoded.unrolled }
     requires few { length asked.now.encoded.unrolled.nodes ≤ 2 ^ 31 }
     requires below { AreBelow (length asked.now.encoded.clauses) asked.now.extra }
-    ensures { let bads = asked.now.encoded.circuit.properties.bads in
-        Prints W.held W.failed bads (IsQueryText asked.now k) w.old result w.new }
+    ensures prints { let text = query_text asked.now k in
+        Prints W.held W.failed (λ printed. printed ≡ text) w.old result w.new }
+    ensures own { IfErr result IsOfText }
 {
-    check_asks(asked)?;
     let places = Places::new(alloc, &asked.encoded.circuit)?;
     write_comments(w, asked, &places, k)?;
     Ok(write_dimacs(w, &asked.encoded.clauses, &asked.extra)?)
@@ -236,15 +235,15 @@ pub fn print_clauses<R: Source, W: Sink>(
 ) -> Result<(), CheckError>
     requires { k < 2 ^ 32 }
     ensures { let command = Command.Clauses k optimize in
-        Runs R.left R.failed W.held W.failed command LIMIT None r.old w.old result r.new w.new }
+        Runs R.left R.failed nothing_given nothing_fails W.held W.failed
+        command LIMIT r.old tt w.old result r.new tt w.new }
 {
-    match query(alloc, r, LIMIT, k, optimize) {
-        Ok(asked) => print_query(alloc, &asked, k, w),
-        Err(error) => Err(CheckError::Answer(AnswerError::Encode(error))),
-    }
+    let asked = asked_query(alloc, r, LIMIT, k, optimize)?;
+    tell_formula(&asked);
+    print_query(alloc, &asked, k, w)
 }
 
-/// Reads a solver's answer to a query for step `k` that asks something, and prints the witness that it says, which was checked.
+/// Reads a solver's answer to a query for step `k`, and prints the witness that it says, which was checked.
 fn print_solution<P: Source, W: Sink>(
     alloc: Global,
     asked: &Query,
@@ -255,13 +254,10 @@ fn print_solution<P: Source, W: Sink>(
     requires small { k < 2 ^ 32 }
     requires steps { UnrollsTo asked.now.encoded.circuit k asked.now.encoded.unrolled }
     ensures prints { let circuit = asked.now.encoded.circuit in
-        Prints W.held W.failed circuit.properties.bads (IsKnownText circuit k) w.old result w.new }
+        Prints W.held W.failed (IsKnownText circuit k) w.old result w.new }
     // A read of the solver's answer is said to have failed only where one did in this call.
-    ensures stream { IsErrOf result
-        (CheckError.Solution (CheckedWitnessError.Solution SolutionError.Stream))
-        → IsTrue (P.failed solution.new) }
+    ensures own { IfErr result (IsOfSolution (P.failed solution.new)) }
 {
-    check_asks(asked)?;
     let witness = checked_witness(alloc, asked, k, solution)?;
     Ok(write_witness(w, &witness)?)
 }
@@ -277,19 +273,13 @@ pub fn print_witness<R: Source, P: Source, W: Sink>(
     w: &mut W,
 ) -> Result<(), CheckError>
     requires { k < 2 ^ 32 }
-    ensures runs { let command = Command.Witness k optimize in
-        Runs R.left R.failed W.held W.failed command LIMIT (P.left solution.old)
-        r.old w.old result r.new w.new }
-    // A read of the solver's answer is said to have failed only where one did in this call.
-    ensures stream { IsErrOf result
-        (CheckError.Solution (CheckedWitnessError.Solution SolutionError.Stream))
-        → IsTrue (P.failed solution.new) }
+    ensures { let command = Command.Witness k optimize in
+        Runs R.left R.failed P.left P.failed W.held W.failed
+        command LIMIT r.old solution.old w.old result r.new solution.new w.new }
 {
     known_witnesses_show();
-    match query(alloc, r, LIMIT, k, optimize) {
-        Ok(asked) => print_solution(alloc, &asked, k, solution, w),
-        Err(error) => Err(CheckError::Answer(AnswerError::Encode(error))),
-    }
+    let asked = asked_query(alloc, r, LIMIT, k, optimize)?;
+    print_solution(alloc, &asked, k, solution, w)
 }
 
 /// Checks that a witness shows a bad state of a file's machine, and prints which bad state property that is, and at which
@@ -301,8 +291,8 @@ pub fn print_run<R: Source, P: Source, W: Sink>(
     w: &mut W,
 ) -> Result<(), CheckError>
     ensures { let command = Command.Run in
-        Runs R.left R.failed W.held W.failed command LIMIT (P.left witness.old)
-        r.old w.old result r.new w.new }
+        Runs R.left R.failed P.left P.failed W.held W.failed
+        command LIMIT r.old witness.old w.old result r.new witness.new w.new }
 {
     let shown = check_witness(alloc, r, LIMIT, witness)?;
     Ok(write_shown(w, shown)?)

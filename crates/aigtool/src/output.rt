@@ -3,15 +3,15 @@
 //! What takes paths to the system has them in its frame, 4,096 bytes each. So the calls of this crate that do aren't inlined: their
 //! frames are gone while the circuit is read and written.
 
-ghost use Rattle.std.specs.Prelude.{◌≡◌, ◌≤◌, IfOk, OnErr, length, option_and_then, take};
+ghost use Rattle.std.specs.Prelude.{◌≡◌, ◌≤◌, true, IfOk, OnErr, length, option_and_then, take};
 ghost use Rattle.std.specs.Io.KnownBytes.{Appends, Keeps};
 
 use crate::part::Names;
 use crate::system::size_limit;
 use crate::target::{AtEnd, Target};
-use crate::tool::ToolError;
 use aig::WriteError;
 use aig_base::{MemoryError, Sink, StreamFault, ToWrite};
+use aig_commands::{Commit, ToolError};
 use std::fs::{self, File, OpenFile};
 use std::random::RandomSource;
 use std::rt::Files;
@@ -121,41 +121,6 @@ impl<'a, R: Files + RandomSource + AllocGlobal> Output<'a, R> {
             None => Err(StreamFault::Failed),
         }
     }
-
-    /// Lets a file that was written whole take its place.
-    pub fn commit(self) -> Result<(), WriteError> {
-        let Output {
-            target,
-            names: _,
-            file,
-            at_end,
-            room: _,
-            refused: _,
-            failed: _,
-        } = self;
-        match file {
-            Some(file) => target.settle(file.into_inner(), at_end),
-            None => Ok(()),
-        }
-    }
-
-    /// Removes the new file where one was made, and says whether none could be made.
-    #[inline(never)]
-    pub fn discard(self) -> bool {
-        let Output {
-            target,
-            names: _,
-            file: _,
-            at_end,
-            room: _,
-            refused,
-            failed: _,
-        } = self;
-        if let AtEnd::Rename { name, old: _ } = at_end {
-            let _ = fs::remove_file(target.rt, name.as_str());
-        }
-        refused
-    }
 }
 
 impl<'a, R: Files + RandomSource + AllocGlobal> Sink for Output<'a, R> {
@@ -174,5 +139,42 @@ impl<'a, R: Files + RandomSource + AllocGlobal> Sink for Output<'a, R> {
                 Err(fault)
             }
         }
+    }
+}
+
+impl<'a, R: Files + RandomSource + AllocGlobal> Commit for Output<'a, R> {
+    ghost committed = { λ _. true };
+
+    fn commit(self) -> Result<(), WriteError> {
+        let Output {
+            target,
+            names: _,
+            file,
+            at_end,
+            room: _,
+            refused: _,
+            failed: _,
+        } = self;
+        match file {
+            Some(file) => target.settle(file.into_inner(), at_end),
+            None => Ok(()),
+        }
+    }
+
+    #[inline(never)]
+    fn discard(self) -> bool {
+        let Output {
+            target,
+            names: _,
+            file: _,
+            at_end,
+            room: _,
+            refused,
+            failed: _,
+        } = self;
+        if let AtEnd::Rename { name, old: _ } = at_end {
+            let _ = fs::remove_file(target.rt, name.as_str());
+        }
+        refused
     }
 }

@@ -2,8 +2,7 @@ use Rattle.std.proofs.Common.{◌≡◌, ◌<◌, ◌^◌, [], ◌∷◌, ◌++�
 use Rattle.std.proofs.lemmas.List.Elements.{All-get_or}
 use Rattle.std.proofs.lemmas.Result.{on_ok_weaker}
 use Rattle.aig_circuit.specs.declared.edge.AigEdge.{AigEdge}
-use Rattle.aig_answers.proofs.Checked.{on_ok_given}
-use Rattle.aig_answers.proofs.Growing.{difference_step, free, free_length, free_step, pair_done, variables_step}
+use Rattle.aig_answers.proofs.Growing.{difference_step, free, free_length, free_step, on_ok_given, pair_done, variables_step}
 use Rattle.aig_answers.proofs.distinct.push_pair.Goals as goal
 
 pub loop-i-preserved : goal.loop-i-preserved

@@ -1,39 +1,26 @@
-use Rattle.std.proofs.Common.{[]}
 use Rattle.std.proofs.lemmas.Result.{err_from_is_err_and}
-use Rattle.aig_parsing.specs.Parse.{parse_both}
 use Rattle.aig_lexer.specs.Takes.{feed}
-use Rattle.aig_lexer.proofs.Taking.{misses_both, misses_either, takes_both}
-use Rattle.aig_witness.specs.Reading.{parse_property, parse_row_after, parse_steps_after}
+use Rattle.aig_lexer.proofs.Taking.{takes_both}
+use Rattle.aig_witness.specs.Reading.{parse_property, parse_values}
 use Rattle.aig_witness.specs.Witness.{rows_of}
-use Rattle.aig_witness.proofs.Going.{witness-weaker}
+use Rattle.aig_witness.proofs.Going.{property_fault, values_fault}
 use Rattle.aig_witness.proofs.reading.read_parts.Goals as goal
 
 pub returns-in_err-bad : goal.returns-in_err-bad
 returns-in_err-bad g c =
     let p = err_from_is_err_and c.from_residual.result c.from_residual.ensures.1 in
-    rw (p.1, p.2) (witness-weaker c.in_err-bad.field-0.0 _ _ _ (misses_either parse_property (λ _. parse_both (parse_row_after []) (λ _. parse_steps_after [] [])) (feed g.R.Source.left g.R.Source.failed g.R.Source.pulls c.args.buffer.now c.args.r.now)) c.in_err-bad.ensures)
+    let before = feed g.R.Source.left g.R.Source.failed g.R.Source.pulls c.args.buffer.now c.args.r.now in
+    rw (p.1, p.2) (property_fault before before 0 c.in_err-bad.field-0.0 _ c.in_err-bad.ensures)
 
 pub returns-in_err-state : goal.returns-in_err-state
 returns-in_err-state g c =
     let p = err_from_is_err_and c.from_residual-in_err-state.result c.from_residual-in_err-state.ensures.1 in
+    let before = feed g.R.Source.left g.R.Source.failed g.R.Source.pulls c.args.buffer.now c.args.r.now in
     let mid = feed g.R.Source.left g.R.Source.failed g.R.Source.pulls c.read_property.new.buffer c.read_property.new.r in
-    rw (p.1, p.2) (witness-weaker c.in_err-state.field-0.0 _ _ _
-    (λ m. misses_both parse_property (λ _. parse_both (parse_row_after []) (λ _. parse_steps_after [] [])) _ mid c.in_ok-bad.bad c.in_ok-bad.ensures (misses_either (parse_row_after []) (λ _. parse_steps_after [] []) mid m))
-    c.in_err-state.ensures)
-
-pub returns-in_err-steps : goal.returns-in_err-steps
-returns-in_err-steps g c =
-    let p = err_from_is_err_and c.from_residual-in_err-steps.result c.from_residual-in_err-steps.ensures.1 in
-    let mid = feed g.R.Source.left g.R.Source.failed g.R.Source.pulls c.read_property.new.buffer c.read_property.new.r in
-    let late = feed g.R.Source.left g.R.Source.failed g.R.Source.pulls c.read_state.new.buffer c.read_state.new.r in
-    rw (p.1, p.2) (witness-weaker c.in_err-steps.field-0.0 _ _ _
-    (λ m. misses_both parse_property (λ _. parse_both (parse_row_after []) (λ _. parse_steps_after [] [])) _ mid c.in_ok-bad.bad c.in_ok-bad.ensures (misses_both (parse_row_after []) (λ _. parse_steps_after [] []) mid late c.in_ok-state.state.items c.in_ok-state.ensures m))
-    c.in_err-steps.ensures)
+    rw (p.1, p.2) (values_fault before mid c.in_ok-bad.bad c.in_err-state.field-0.0 _ c.in_ok-bad.ensures c.in_err-state.ensures)
 
 pub returns : goal.returns
 returns g c =
     let mid = feed g.R.Source.left g.R.Source.failed g.R.Source.pulls c.read_property.new.buffer c.read_property.new.r in
-    let late = feed g.R.Source.left g.R.Source.failed g.R.Source.pulls c.read_state.new.buffer c.read_state.new.r in
-    let after = feed g.R.Source.left g.R.Source.failed g.R.Source.pulls c.read_steps.new.buffer c.read_steps.new.r in
-    takes_both parse_property (λ _. parse_both (parse_row_after []) (λ _. parse_steps_after [] [])) _ mid after c.in_ok-bad.bad (c.in_ok-state.state.items, rows_of c.in_ok-steps.steps.items) c.in_ok-bad.ensures
-    (takes_both (parse_row_after []) (λ _. parse_steps_after [] []) mid late after c.in_ok-state.state.items (rows_of c.in_ok-steps.steps.items) c.in_ok-state.ensures c.in_ok-steps.ensures)
+    let after = feed g.R.Source.left g.R.Source.failed g.R.Source.pulls c.read_values.new.buffer c.read_values.new.r in
+    takes_both parse_property (λ _. parse_values) _ mid after c.in_ok-bad.bad (c.in_ok-state.state.items, rows_of c.in_ok-state.steps.items) c.in_ok-bad.ensures c.in_ok-state.ensures

@@ -1,37 +1,31 @@
-use Rattle.std.proofs.Common.{◌≤◌, refl, subst, sym, arith, Err, Ok}
+use Rattle.std.proofs.Common.{◌≤◌, refl, subst, sym, arith}
+use Rattle.std.proofs.lemmas.Result.{err_from_is_err_and}
 use Rattle.aig_circuit.specs.Circuit.{Circuit}
-use Rattle.aig_encode.specs.declared.query_clauses.Query.{Query}
-use Rattle.aig_encode.specs.Encoding.{IsQuery}
 use Rattle.aig_unroll.specs.Places.{unrolled_size}
-use Rattle.aig_answers.proofs.Told.{encodes_exactly, encodes_large, encodes_memory, encodes_stream}
-use Rattle.aig_answers.proofs.Files.{bads_alike, refused_alike}
-use Rattle.aigcheck.specs.declared.command.Command.TheVariants as commands
 use Rattle.aigcheck.specs.declared.tool.TheConstants.{LIMIT}
-use Rattle.aigcheck.specs.Printing.{IsQueryText}
-use Rattle.aigcheck.proofs.Printing.{prints}
+use Rattle.aigcheck.proofs.Commenting.{query_text-again}
+use Rattle.aigcheck.proofs.Outcomes.{no_query_proof, proof_refused, read_again, text_ends}
 use Rattle.aigcheck.proofs.tool.print_clauses.Goals as goal
 
 pub print_query-requires-clause-steps : goal.print_query-requires-clause-steps
-print_query-requires-clause-steps g c = c.in-Ok.ensures.answer.means.0.steps
+print_query-requires-clause-steps g c = c.in_ok-asked.ensures.answer.means.0.steps
 
 pub print_query-requires-clause-few : goal.print_query-requires-clause-few
 print_query-requires-clause-few g c =
-    let o = c.in-Ok.ensures.answer in
-    let low = subst (λ (d : Circuit). unrolled_size d c.args.k ≤ LIMIT) (sym o.means.0.of_file) o.holds.1 in
+    let o = c.in_ok-asked.ensures.answer in
+    let low = subst (λ (d : Circuit). unrolled_size d c.args.k ≤ LIMIT) (sym o.means.0.of_file) o.holds.0.1 in
     omega (arith, low, o.means.0.steps.size)
 
-pub returns-in-Err : goal.returns-in-Err
-returns-in-Err g c =
-    let told = c.in-Err.ensures in
-    (refused_alike g.R.Source.left g.R.Source.failed LIMIT c.args.k c.args.r.now _ Unit {X = Query} (IsQuery c.args.k c.args.optimize) c.in-Err.error (encodes_exactly Query (IsQuery c.args.k c.args.optimize) LIMIT c.args.k _ _ _ (Err c.in-Err.error) (tt, told.verdict)) (encodes_memory Query (IsQuery c.args.k c.args.optimize) LIMIT c.args.k _ _ _ (Err c.in-Err.error) (tt, told.verdict)) (encodes_large Query (IsQuery c.args.k c.args.optimize) LIMIT c.args.k _ _ _ (Err c.in-Err.error) (tt, told.verdict)) (encodes_stream Query (IsQuery c.args.k c.args.optimize) LIMIT c.args.k _ _ _ (Err c.in-Err.error) (tt, told.verdict)) told.never_open, refl {a = c.args.w.now})
+pub returns-in_err-asked : goal.returns-in_err-asked
+returns-in_err-asked g c =
+    let p = err_from_is_err_and c.from_residual.result c.from_residual.ensures.1 in
+    let told = c.in_err-asked.ensures in
+    let e = c.in_err-asked.field-0.0 in
+    rw (p.1, p.2) (proof_refused e told.verdict told.own refl (λ alone. refl) (λ is. absurd (no_query_proof e told.own is)))
 
-pub returns-in-Ok : goal.returns-in-Ok
-returns-in-Ok g c =
-    let o = c.in-Ok.ensures.answer in
-    let q = c.in-Ok.asked in
-    prints g.R.Source.left g.R.Source.failed g.W.Sink.held g.W.Sink.failed
-    (commands.Clauses c.args.k c.args.optimize) _ _ c.args.r.now c.args.w.now _ _ {X = Query}
-    (IsQuery c.args.k c.args.optimize) q (encodes_exactly Query (IsQuery c.args.k c.args.optimize) LIMIT c.args.k _ _ _ (Ok c.in-Ok.asked) (c.in-Ok.ensures.answer, c.in-Ok.ensures.verdict)) q.encoded.circuit.properties.bads
-    (IsQueryText q c.args.k) o.file o.bytes o.holds (bads_alike o.file q.encoded.circuit o.means.0.of_file) o.taken
-    (λ text is. record { query = q; asks = o.means; exact = is }) c.print_query.result
-    c.print_query.ensures
+pub returns : goal.returns
+returns g c =
+    let read = c.in_ok-asked.ensures in
+    let q = c.in_ok-asked.asked in
+    let told = c.print_query.ensures in
+    text_ends c.print_query.result _ read.verdict (λ text is. read_again read.answer (λ bytes f holds asks. record { query = q; asks = asks; exact = is; again = query_text-again q c.args.k text is c.tell_formula.ensures })) told.prints told.own tt

@@ -1,42 +1,33 @@
-use Rattle.std.proofs.Common.{refl}
+use Rattle.std.proofs.Common.{◌≡◌, refl, sym, subst}
 use Rattle.std.proofs.lemmas.Result.{err_from_is_err_and}
+use Rattle.aig_reader.specs.declared.error.ReadError.TheVariants as read
+use Rattle.aig_reader.specs.Reading.{IsReadAs}
+use Rattle.aig_witness_check.specs.declared.file.ShowError.TheVariants as shows
+use Rattle.aigcheck.specs.declared.command.Command.TheVariants as commands
+use Rattle.aigcheck.specs.declared.tool.CheckError.TheVariants as errors
 use Rattle.aigcheck.specs.declared.tool.TheConstants.{LIMIT}
-use Rattle.aigcheck.specs.Running.{shown_line}
-use Rattle.aigcheck.proofs.Shown.{asked_of}
+use Rattle.aigcheck.specs.Running.{Answers, shown_line}
+use Rattle.aigcheck.proofs.Outcomes.{answered, err_of, refused, refuses_shown, stopped}
+use Rattle.aigcheck.proofs.Shown.{shown_answers}
 use Rattle.aigcheck.proofs.tool.print_run.Goals as goal
+
+pub returns-in_err-shown : goal.returns-in_err-shown
+returns-in_err-shown g c =
+    let p = err_from_is_err_and c.from_residual.result c.from_residual.ensures.1 in
+    let told = c.in_err-shown.ensures in
+    let e = c.in_err-shown.field-0.0 in
+    rw (p.1, p.2) (refused (errors.Show e) told.verdict (λ is. told.never_open (err_of e (shows.File read.Open) is)) (λ is. cc) refl (refuses_shown e _ (λ x is. told.unread x (err_of e (shows.File x) is))) told.refusal)
 
 pub returns-in_err-write_shown : goal.returns-in_err-write_shown
 returns-in_err-write_shown g c =
     let p = err_from_is_err_and c.from_residual-in_err-write_shown.result c.from_residual-in_err-write_shown.ensures.1 in
-    let o = c.in_ok-shown.ensures.answer in
     let shown = c.in_ok-shown.shown in
-    let h = c.in_err-write_shown.ensures.err in
-    rw (p.1, p.2) (
-      record {
-        file = o.file;
-        bytes = o.bytes;
-        asked = asked_of o.file LIMIT o.bytes o.means.witness o.holds o.means.shows;
-        taken = o.taken;
-        text = shown_line shown.bad shown.step;
-        answers = (shown, o.means, refl);
-        holds = h.beginning;
-      },
-      h.has_failed,
-    )
+    let read = c.in_ok-shown.ensures in
+    rw (p.1, p.2) (stopped (shown_line shown.bad shown.step) read.verdict (shown_answers LIMIT _ _ _ shown read.answer) c.in_err-write_shown.ensures.err)
 
 pub returns : goal.returns
 returns g c =
-    let o = c.in_ok-shown.ensures.answer in
     let shown = c.in_ok-shown.shown in
-    let h = c.in_ok-write_shown.ensures in (
-      record {
-        file = o.file;
-        bytes = o.bytes;
-        asked = asked_of o.file LIMIT o.bytes o.means.witness o.holds o.means.shows;
-        taken = o.taken;
-        text = shown_line shown.bad shown.step;
-        answers = (shown, o.means, refl);
-        holds = h.ok;
-      },
-      h.sound,
-    )
+    let read = c.in_ok-shown.ensures in
+    let told = c.in_ok-write_shown.ensures in
+    answered tt (shown_line shown.bad shown.step) read.verdict (shown_answers LIMIT _ _ _ shown read.answer) told.ok told.sound

@@ -1,0 +1,67 @@
+-- The query and the window of the file that was read.
+use Rattle.std.proofs.Common.{◌≡◌, ◌≢◌, ℕ, ◌+◌, ◌≤◌, Bool, Option, Result, Ok, Err, List, [], sym, subst}
+use Rattle.std.specs.Prelude.{IfOk}
+use Rattle.aig_base.specs.declared.logic.literal.Lit.{Lit}
+use Rattle.aig_circuit.specs.Circuit.{Circuit}
+use Rattle.aig_cnf.specs.Cnf.{FixesRoots, HasClauses, NodeValuesSatisfy}
+use Rattle.aig_format.specs.Circuit.{circuit_of}
+use Rattle.aig_format.specs.File.{File}
+use Rattle.aig_format.specs.Fits.{Accepts, Fits}
+use Rattle.aig_reader.specs.Reading.{IsReadAs}
+use Rattle.aig_reader.specs.Verdicts.{Accepted, verdict_by}
+use Rattle.aig.specs.Reading.{IsFileCircuit}
+use Rattle.aig_unroll.specs.Places.{unrolled_size}
+use Rattle.aig_unroll.specs.Unroll.{UnrollsTo}
+use Rattle.aig_runs.specs.CircuitQueries.{AsksOfCircuit}
+use Rattle.aig_runs.specs.Encodes.{Encodes}
+use Rattle.aig_runs.specs.Queries.{IsQueryOf}
+use Rattle.aig_certify.specs.declared.window.Window.{Window}
+use Rattle.aig_certify.specs.WindowClauses.{AsksWindow}
+use Rattle.aig_encode.specs.Encoding.{IsQuery}
+use Rattle.aig_answers.specs.declared.circuits.CircuitQuery.{CircuitQuery}
+use Rattle.aig_answers.specs.declared.error.AnswerError.{AnswerError}
+use Rattle.aig_answers.specs.declared.windows.WindowClauses.{WindowClauses}
+use Rattle.aig_answers.specs.Answers.{IsAsked, IsCircuitQuery, circuit_verdict, circuit_window_verdict, verdict_of}
+use Rattle.aig_answers.specs.Parts.{IsSaidBy}
+use Rattle.aig_answers.proofs.Verdicts.{asked_circuit, bads_of}
+
+-- that what encodes a file's circuit encodes the file
+abbrev pub EncodesFiles : Type 0
+EncodesFiles = (f : File) (limit k : ℕ) (optimize : Bool) (unrolled : Circuit) (clauses : List (List (List Lit))) → Fits f limit → UnrollsTo (circuit_of f) k unrolled → HasClauses unrolled optimize clauses
+    → FixesRoots unrolled clauses → NodeValuesSatisfy unrolled clauses → Encodes f k optimize (circuit_of f) unrolled clauses
+
+-- that what asks for witnesses of a file's circuit asks for those of its machine
+abbrev pub AsksFiles : Type 0
+AsksFiles = (f : File) (limit k : ℕ) (unrolled : Circuit) (clauses : List (List (List Lit))) (further : List (List Lit)) → Fits f limit → AsksOfCircuit (circuit_of f) k unrolled clauses further
+    → IsQueryOf f k (circuit_of f) unrolled clauses further
+
+-- the query of a file's circuit is the file's
+query_of_file : (limit k : ℕ) (c : Circuit) (optimize : Bool) (q : CircuitQuery) → EncodesFiles → AsksFiles → IsCircuitQuery c k optimize q → (f : File) → Fits f limit → IsFileCircuit f c
+    → IsQuery k optimize f (record { encoded = record { circuit = c; unrolled = q.unrolled; clauses = q.clauses }; extra = q.further })
+query_of_file limit k c optimize q encodes asks made f fits is =
+    let steps = subst (λ d. UnrollsTo d k q.unrolled) is made.steps in
+    let asked = subst (λ d. AsksOfCircuit d k q.unrolled q.clauses q.further) is made.asks in (
+      subst (λ d. Encodes f k optimize d q.unrolled q.clauses) (sym is) (encodes f limit k optimize q.unrolled q.clauses fits steps made.has_clauses made.fixes made.satisfied),
+      subst (λ d. IsQueryOf f k d q.unrolled q.clauses q.further) (sym is) (asks f limit k q.unrolled q.clauses q.further fits asked),
+    )
+
+-- a circuit was read of which something is asked
+module _ (limit k : ℕ) (c : Circuit) (old new : Option (List ℕ)) (read : IsReadAs (λ bytes. Accepts bytes limit) IsFileCircuit old new c) where
+  asked_file : {X : Type 0} (steps : ℕ) (Means : File → X → Type 0) (x : X) → (unrolled_size c steps ≤ limit) × (c.properties.bads ≢ []) → ((f : File) → Fits f limit → IsFileCircuit f c → Means f x)
+      → IsReadAs (IsAsked limit steps) Means old new x
+  asked_file steps Means x asked means = record {
+    file = read.file;
+    bytes = read.bytes;
+    holds = ((read.holds, subst (λ d. unrolled_size d steps ≤ limit) read.means asked.0), bads_of c read.file read.means asked.1);
+    means = means read.file read.holds.1 read.means;
+    taken = read.taken;
+  }
+
+  pub query_answers : EncodesFiles → AsksFiles → (optimize : Bool) (q : CircuitQuery) → IsCircuitQuery c k optimize q → Accepted ≡ circuit_verdict limit k c
+      → IsReadAs (IsAsked limit k) (IsQuery k optimize) old new (record { encoded = record { circuit = c; unrolled = q.unrolled; clauses = q.clauses }; extra = q.further })
+  query_answers encodes asks optimize q made said = asked_file k (IsQuery k optimize) _ (asked_circuit limit k c Accepted said) (query_of_file limit k c optimize q encodes asks made)
+
+  pub window_answers : (form : Window) (optimize : Bool) (r : Result WindowClauses AnswerError) → IsSaidBy (circuit_window_verdict form limit k c) (verdict_by verdict_of r) → IfOk r (λ made. AsksWindow form c k optimize made.clauses made.further)
+      → IfOk r (IsReadAs (IsAsked limit (k + 1)) (λ f made. AsksWindow form (circuit_of f) k optimize made.clauses made.further) old new)
+  window_answers form optimize (Ok made) said asks = asked_file (k + 1) (λ f x. AsksWindow form (circuit_of f) k optimize x.clauses x.further) made (asked_circuit limit (k + 1) c _ said) (λ f fits is. subst (λ d. AsksWindow form d k optimize made.clauses made.further) is asks)
+  window_answers form optimize (Err e) said asks = tt

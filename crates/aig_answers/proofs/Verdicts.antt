@@ -1,0 +1,125 @@
+-- What is said of a circuit, and of the file that it is of.
+use Rattle.std.proofs.Common.{◌≡◌, ◌≢◌, ℕ, ◌+◌, ◌≤◌, Bool, true, false, Option, List, [], length, map, Result, Ok, Err, refl, sym, ap, subst, ◌∙◌}
+use Rattle.std.specs.Prelude.{◌==◌, nat_lt, if◌then◌else◌, IfErr}
+use Rattle.std.proofs.lemmas.Bool.{eqb-false, ltb-false}
+use Rattle.std.proofs.lemmas.Result.{IfErr-weaker}
+use Rattle.aig_circuit.specs.Circuit.{Circuit}
+use Rattle.aig_format.specs.Circuit.{circuit_of, edge_of}
+use Rattle.aig_format.specs.File.{File}
+use Rattle.aig_format.specs.Fits.{Accepts}
+use Rattle.aig_reader.specs.declared.error.ReadError.{ReadError}
+use Rattle.aig_reader.specs.Reading.{IsReadAs}
+use Rattle.aig_reader.specs.Verdicts as reading
+use Rattle.aig_reader.specs.Verdicts.{Accepted, Crowded, IsOfFile, IsSaidOf, IsSettled, Judges, NoBads, Short, TooLarge, Verdict, verdict_by}
+use Rattle.aig_reader.proofs.Verdicts.{of_no_file, refused_again, said_of_read}
+use Rattle.aig.specs.Reading.{IsFileCircuit}
+use Rattle.aig_unroll.specs.Places.{unrolled_size}
+use Rattle.aig_certify.specs.declared.window.Window.{Window}
+use Rattle.aig_refutation.specs.declared.error.RefutationError.{RefutationError}
+use Rattle.aig_answers.specs.Answers.{IsOfCircuitQuery, IsOfInduction, IsOfQuery, IsOfStep, IsOfWindow, circuit_verdict, circuit_window_verdict, verdict_of, window_size}
+use Rattle.aig_answers.specs.Parts.{IsSaidBy}
+use Rattle.aig_answers.specs.declared.error.AnswerError.{AnswerError}
+use Rattle.aig_answers.specs.declared.error.AnswerError.TheVariants as errors
+
+-- ---- by tests
+
+-- what is said by the tests of a query, and further where something is asked
+abbrev said_if : Bool → Bool → Verdict → Verdict
+said_if large empty further = if large then TooLarge else if empty then NoBads else further
+
+module _ (further : Verdict) where
+  of_file_by : (large empty : Bool) → IsOfFile further → IsOfFile (said_if large empty further)
+  of_file_by true empty is = tt
+  of_file_by false true is = tt
+  of_file_by false false is = is
+
+  -- what is asked has room for its further steps, and bad edges
+  asked_by : (large empty : Bool) → Accepted ≡ said_if large empty further
+      → (large ≡ false) × (empty ≡ false)
+  asked_by true empty is = cc
+  asked_by false true is = cc
+  asked_by false false is = (refl, refl)
+
+room_of_file : (crowded : Bool) → IsOfFile (if crowded then Crowded else Accepted)
+room_of_file true = tt
+room_of_file false = tt
+
+-- ---- of a circuit
+
+module _ (limit k : ℕ) (c : Circuit) where
+  pub circuit_of_file : IsOfFile (circuit_verdict limit k c)
+  circuit_of_file = of_file_by Accepted (nat_lt limit (unrolled_size c k)) (length c.properties.bads == 0) tt
+
+  pub window_of_file : (form : Window) → IsOfFile (circuit_window_verdict form limit k c)
+  window_of_file form = of_file_by (if nat_lt limit (window_size form c k) then Crowded else Accepted) (nat_lt limit (unrolled_size c (k + 1))) (length c.properties.bads == 0) (room_of_file (nat_lt limit (window_size form c k)))
+
+  -- what is asked has room for its further steps, and a bad edge
+  pub asked_circuit : (further : Verdict)
+      → Accepted ≡ said_if (nat_lt limit (unrolled_size c k)) (length c.properties.bads == 0) further
+      → (unrolled_size c k ≤ limit) × (c.properties.bads ≢ [])
+  asked_circuit further is =
+      let tests = asked_by further (nat_lt limit (unrolled_size c k)) (length c.properties.bads == 0) is in
+      (ltb-false limit (unrolled_size c k) tests.0, λ none. eqb-false (length c.properties.bads) 0 tests.1 (ap length none))
+
+-- ---- of a file
+
+-- what is said of a circuit is said of a file that it is of
+said_of : (of : Circuit → Verdict) (c : Circuit) (v : Verdict) → IsSaidBy (of c) v → (f : File)
+    → IsFileCircuit f c → IsSaidOf (λ g. of (circuit_of g)) f v
+said_of of c Short said f is = subst (λ d. of d ≡ Accepted) is said
+said_of of c v said f is = said ∙ ap of is
+
+said_of_some : (of v : Verdict) → IsOfFile of → IsSaidBy of v → IsOfFile v
+said_of_some of Short is said = tt
+said_of_some of v is said = subst IsOfFile (sym said) is
+
+-- a bad edge is a bad literal
+pub bads_of : (c : Circuit) (f : File) → IsFileCircuit f c → c.properties.bads ≢ []
+    → f.properties.bads ≢ []
+bads_of c f is some none = some (ap (λ (d : Circuit). d.properties.bads) is ∙ ap (λ bads. map (edge_of f) bads) none)
+
+module _ (of : Circuit → Verdict) (limit : ℕ) (old new : Option (List ℕ)) (failed : Bool) where
+  -- the bytes are refused in reading
+  pub unread : (e : ReadError) → Judges (λ f. Accepted) limit old new failed (reading.verdict_of e)
+      → Judges (λ f. of (circuit_of f)) limit old new failed (reading.verdict_of e)
+  unread e told = refused_again (λ f. Accepted) (λ f. of (circuit_of f)) limit old new failed (reading.verdict_of e) (of_no_file e) (λ f. tt) told
+
+  -- it is said of the circuit that was read
+  pub judged : (c : Circuit) (v : Verdict) → IsOfFile (of c)
+      → IsReadAs (λ bytes. Accepts bytes limit) IsFileCircuit old new c
+      → Judges (λ f. Accepted) limit old new failed Accepted → IsSaidBy (of c) v
+      → Judges (λ f. of (circuit_of f)) limit old new failed v
+  judged c v is read told said = said_of_read (λ f. Accepted) (λ f. of (circuit_of f)) limit old new failed v (said_of_some (of c) v is said) told read (said_of of c v said)
+
+-- ---- of a proof
+
+-- a proof is checked only where the file is taken
+pub proof_taken : (r : Result Unit AnswerError)
+    → IfErr r (λ e. (x : RefutationError) × (e ≡ errors.Refutation x))
+    → verdict_by verdict_of r ≡ Accepted
+proof_taken (Ok u) own = refl
+proof_taken (Err e) own = ap verdict_of own.1
+
+-- ---- errors
+
+pub query_of_step : (e : AnswerError) → IsOfQuery e → IsOfStep e
+query_of_step (errors.Encode e) own = own
+query_of_step errors.NoBads own = tt
+query_of_step errors.TooLarge own = own
+query_of_step (errors.Refutation e) own = tt
+
+pub window_of_induction : (e : AnswerError) → IsOfWindow e → IsOfInduction e
+window_of_induction (errors.Encode e) own is = own cc
+window_of_induction errors.NoBads own is = cc
+window_of_induction errors.TooLarge own is = cc
+window_of_induction (errors.Refutation e) own is = own
+
+module _ (r : Result Unit AnswerError) (own : IfErr r (λ e. (x : RefutationError) × (e ≡ errors.Refutation x))) where
+  pub proof_of_step : IfErr r IsOfStep
+  proof_of_step = IfErr-weaker r _ IsOfStep (λ e is. rw is.1 tt) own
+
+  pub proof_of_induction : IfErr r IsOfInduction
+  proof_of_induction = IfErr-weaker r _ IsOfInduction (λ e is same. cc) own
+
+  pub proof_of_circuit : IfErr r IsOfCircuitQuery
+  proof_of_circuit = IfErr-weaker r _ IsOfCircuitQuery (λ e is. rw is.1 tt) own

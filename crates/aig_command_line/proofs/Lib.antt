@@ -1,0 +1,3 @@
+mod Parsing
+pub mod Giving
+pub mod Apart

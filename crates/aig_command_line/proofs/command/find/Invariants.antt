@@ -1,0 +1,9 @@
+use Rattle.std.proofs.Common.{ℕ, ◌<◌, get_or, map}
+use Rattle.std.specs.Prelude.{string_bytes}
+use Rattle.aig_command_line.specs.Arguments.{Arguments, Gives}
+use Rattle.aig_command_line.proofs.command.find.Given as goal
+
+abbrev pub invariant-loop-action : goal.invariant-loop-action
+invariant-loop-action g l =
+    (k : ℕ) (d : _) → k < l.action-index → (a : Arguments)
+    → ¬ Gives (g.A.HasForm.name (get_or l.all k d)) (g.A.HasForm.form (get_or l.all k d)) (map string_bytes l.words) a

@@ -1,0 +1,55 @@
+-- Part of what is promised.
+-- Which words of a command line give a command's arguments.
+use Rattle.std.specs.Prelude.{◌≡◌, ℕ, Bool, true, false, not, IsTrue, List, [], ◌∷◌, ◌++◌, length, codes, map, string_bytes}
+use Rattle.aig_format.specs.Text.{IsNumber}
+use Rattle.aig_command_line.specs.declared.arguments.Form.{Form}
+use Rattle.aig_command_line.specs.declared.arguments.Given.{Given}
+
+-- what the words after a command's name give
+pub record Arguments : Type 0 where
+  pub paths : List (List ℕ)
+  pub step : ℕ
+  pub further : List (List ℕ)
+  pub distinct : Bool
+  pub optimize : Bool
+
+-- the form of a command that takes so many paths alone
+abbrev pub of_paths : ℕ → Form
+of_paths n = record { paths = n; step = false; further = 0; distinct = false; raw = false }
+
+-- the word, where it is there
+abbrev pub word_if : Bool → List ℕ → List (List ℕ)
+word_if true word = word ∷ []
+word_if false word = []
+
+-- the words of K, where one is wanted: one or more digits with a value of at most 2^32 - 1
+abbrev pub AreStep : Bool → ℕ → List (List ℕ) → Type 0
+AreStep true k words = (word : List ℕ) × (words ≡ word ∷ []) × IsNumber k word
+AreStep false k words = (k ≡ 0) × (words ≡ [])
+
+-- the words of the settings
+abbrev pub setting_words : Bool → Bool → List (List ℕ)
+setting_words distinct optimize =
+    word_if distinct (codes "distinct") ++ word_if (not optimize) (codes "raw")
+
+-- the words are a command's name, its paths, K, further paths, and settings that it may have
+pub record Gives (name : List ℕ) (form : Form) (words : List (List ℕ)) (a : Arguments)
+    : Type 0 where
+  pub steps : List (List ℕ)
+  pub spelled : words
+      ≡ name ∷ (a.paths ++ (steps ++ (a.further ++ setting_words a.distinct a.optimize)))
+  pub paths : length a.paths ≡ form.paths
+  pub step : AreStep form.step a.step steps
+  pub further : length a.further ≡ form.further
+  pub distinct : IsTrue a.distinct → IsTrue form.distinct
+  pub raw : IsTrue (not a.optimize) → IsTrue form.raw
+
+-- what is given, as bytes
+abbrev pub seen : Given → Arguments
+seen g = record {
+  paths = map string_bytes g.paths.now;
+  step = g.step;
+  further = map string_bytes g.further.now;
+  distinct = g.distinct;
+  optimize = g.optimize;
+}

@@ -1,0 +1,125 @@
+//! What a command takes after its name.
+
+ghost use Rattle.std.specs.Prelude.{◌≡◌, ◌↔◌, ◌<◌, ◌≤◌, ◌^◌, ◌++◌, ◌⊎◌, ℕ, Bool, true, IfNone, IfSome, IsTrue, List, Some, length, map, string_bytes};
+ghost use Rattle.aig_command_line.specs.Arguments.{AreStep, Arguments, Gives, of_paths, seen};
+ghost use Rattle.aig_command_line.specs.Settings.{AreSettings, IsRawSetting};
+
+use crate::number::steps;
+
+/// What a command takes after its name, in this order.
+#[derive(Clone, Copy)]
+pub struct Form {
+    /// How many paths.
+    pub paths: usize,
+    /// Whether K comes after them, which names a step.
+    pub step: bool,
+    /// How many further paths come after K.
+    pub further: usize,
+    /// Whether the word `distinct` may come after these.
+    pub distinct: bool,
+    /// Whether the word `raw` may come last.
+    pub raw: bool,
+}
+
+impl Form {
+    /// The form of a command that takes so many paths alone.
+    pub fn of_paths(paths: usize) -> Form
+        ensures { result ≡ of_paths paths }
+    {
+        Form {
+            paths,
+            step: false,
+            further: 0,
+            distinct: false,
+            raw: false,
+        }
+    }
+}
+
+/// What the words of a command line give.
+#[derive(Clone, Copy)]
+pub struct Given<'a> {
+    /// The paths after the command's name.
+    pub paths: &'a [String],
+    /// K, and 0 where the command names no step.
+    pub step: usize,
+    /// The paths after K.
+    pub further: &'a [String],
+    /// Whether the word `distinct` is there.
+    pub distinct: bool,
+    /// Whether clauses are optimised: the word `raw` isn't there.
+    pub optimize: bool,
+}
+
+/// Whether a word is a setting that is allowed.
+fn is_setting(allowed: bool, word: &String, setting: &str) -> bool
+    ensures { (result ≡ true) ↔ (IsTrue allowed × (string_bytes word.now ≡ setting.now)) }
+{
+    allowed && word.as_str() == setting
+}
+
+/// Whether to optimise clauses, as the last words say: `raw`, where it is allowed, or nothing.
+fn raw_setting(allowed: bool, words: &[String]) -> Option<bool>
+    ensures { (optimize : Bool) → (result ≡ Some optimize)
+        ↔ IsRawSetting allowed optimize (map string_bytes words.now) }
+{
+    match words {
+        [] => Some(true),
+        [word] if is_setting(allowed, word, "raw") => Some(false),
+        _ => None,
+    }
+}
+
+/// The settings that the last words give: `distinct` or nothing, and then `raw` or nothing, each where it is allowed.
+fn settings(form: Form, words: &[String]) -> Option<(bool, bool)>
+    ensures { (distinct optimize : Bool) → (result ≡ Some (distinct, optimize))
+        ↔ AreSettings form distinct optimize (map string_bytes words.now) }
+{
+    match words {
+        [word, rest @ ..] if is_setting(form.distinct, word, "distinct") => {
+            Some((true, raw_setting(form.raw, rest)?))
+        }
+        _ => Some((false, raw_setting(form.raw, words)?)),
+    }
+}
+
+/// The step that the first word names, where one is wanted, and the words after it.
+fn step(wanted: bool, words: &[String]) -> Option<(usize, &[String])>
+    ensures some { IfSome result (λ p. (word : List (List ℕ)) × AreStep wanted p.0 word
+        × (map string_bytes words.now ≡ word ++ map string_bytes p.1.now)) }
+    ensures none { IfNone result ((k : ℕ) (word rest : List (List ℕ)) → AreStep wanted k word
+        → ¬ (map string_bytes words.now ≡ word ++ rest)) }
+{
+    if !wanted {
+        return Some((0, words));
+    }
+    let (first, rest) = words.split_first()?;
+    Some((steps(first.as_str())?, rest))
+}
+
+/// What the words of a command line give a command of this name and form, or none where they don't fit it. It takes no memory.
+pub fn arguments_of<'a>(name: &str, form: Form, words: &'a [String]) -> Option<Given<'a>>
+    ensures some { IfSome result
+        (λ g. Gives name.now form (map string_bytes words.now) (seen g)) }
+    ensures none { IfNone result
+        ((a : Arguments) → ¬ Gives name.now form (map string_bytes words.now) a) }
+    ensures paths { IfSome result (λ g. length g.paths.now ≡ form.paths) }
+    ensures further { IfSome result (λ g. length g.further.now ≡ form.further) }
+    ensures small { IfSome result (λ g. g.step < 2 ^ 32) }
+{
+    let (first, rest) = words.split_first()?;
+    if first.as_str() != name {
+        return None;
+    }
+    let (paths, rest) = rest.split_at_checked(form.paths)?;
+    let (step, rest) = step(form.step, rest)?;
+    let (further, rest) = rest.split_at_checked(form.further)?;
+    let (distinct, optimize) = settings(form, rest)?;
+    Some(Given {
+        paths,
+        step,
+        further,
+        distinct,
+        optimize,
+    })
+}

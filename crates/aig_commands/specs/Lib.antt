@@ -1,0 +1,4 @@
+pub mod Printing
+pub mod Words
+pub mod Acting
+pub mod Running

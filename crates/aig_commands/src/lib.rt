@@ -1,0 +1,10 @@
+//! The commands of `aigtool`: which words give them, and what they do with the bytes of files.
+#![tactic(auto)]
+
+mod acting;
+mod command;
+mod tool;
+
+pub use acting::{Commit, Outs, act};
+pub use command::{Action, Command, call, parse};
+pub use tool::{LIMIT, ToolError, run};

@@ -1,5 +1,0 @@
-pub mod Running
-pub mod Answering
-pub mod Giving
-pub mod Outcomes
-mod Examples
