@@ -1,6 +1,7 @@
-"""Texts of circuits to measure with, multipliers of arrays and pipelines of random gates: circuits.py KIND COUNT FILE
+"""Texts of circuits to measure with: circuits.py KIND COUNT FILE
 
-KIND is `multiplier`, and COUNT its bits, or `pipeline`, and COUNT its gates.
+KIND is `multiplier`, and COUNT its bits; or `pipeline`, of random gates between latches, or `random`, of random gates, or `shuffled`,
+of the same gates in any order, and COUNT the gates. The same words make the same file.
 """
 import random
 import sys
@@ -89,10 +90,44 @@ def pipeline(gates):
     return "".join(" ".join(map(str, line)) + "\n" for line in lines)
 
 
+def random_lines(gates, inputs=1000, latches=1000, outputs=16):
+    """The lines of a file of random gates: operands are drawn from all smaller variables, half of them from the last thousand."""
+    rng = random.Random(1)
+    first_gate, end = inputs + latches + 1, inputs + latches + gates + 1
+
+    def literal(below):
+        low = max(1, below - 1000) if rng.random() < 0.5 else 1
+        return 2 * rng.randrange(low, below) + rng.randrange(2)
+
+    yield f"aag {end - 1} {inputs} {latches} {outputs} {gates}"
+    yield from (str(2 * v) for v in range(1, inputs + 1))
+    yield from (f"{2 * v} {literal(end)}" for v in range(inputs + 1, first_gate))
+    yield from (str(literal(end)) for _ in range(outputs))
+    for v in range(first_gate, end):
+        a, b = literal(v), literal(v)
+        yield f"{2 * v} {max(a, b)} {min(a, b)}"
+
+
+def random_circuit(gates):
+    """A file of random gates, with 1000 inputs and 1000 latches."""
+    return "".join(line + "\n" for line in random_lines(gates))
+
+
+def shuffled(gates):
+    """That file with its gates, which are the last lines, in any order."""
+    lines = [line + "\n" for line in random_lines(gates)]
+    last = lines[-gates:]
+    random.Random(1).shuffle(last)
+    return "".join(lines[:-gates] + last)
+
+
+KINDS = {"multiplier": multiplier, "pipeline": pipeline, "random": random_circuit, "shuffled": shuffled}
+
+
 def main():
     kind, count, file = sys.argv[1:]
     with open(file, "w", encoding="ascii") as out:
-        out.write({"multiplier": multiplier, "pipeline": pipeline}[kind](int(count)))
+        out.write(KINDS[kind](int(count)))
 
 
 if __name__ == "__main__":

@@ -18,8 +18,7 @@ import subprocess
 import sys
 import tempfile
 
-from circuits import multiplier, pipeline
-from measuring import HERE, instructions, make_random, row, run
+from measuring import instructions, make, row, run
 
 ABC = shutil.which("berkeley-abc")
 SEEN = 16 * 1024
@@ -44,16 +43,13 @@ ROWS = [
 
 
 def make_files(tool, gates, folder):
-    """Makes the files of so many gates. A process of its own makes each one, since a child's peak of memory counts its parent's."""
-    random, shuffled = (os.path.join(folder, name) for name in ["random.aag", "shuffled.aag"])
-    make_random(random, gates)
-    subprocess.run([sys.executable, os.path.join(HERE, "shuffle_gates.py"), random, shuffled, str(gates)], check=True)
-    for kind, count in [("multiplier", math.isqrt(gates // 10)), ("pipeline", gates // STEPS)]:
-        made = os.path.join(folder, kind + ".aag")
-        subprocess.run([sys.executable, os.path.join(HERE, "circuits.py"), kind, str(count), made], check=True)
-    for kind in ["random", "multiplier", "pipeline"]:
+    """Makes the files of so many gates."""
+    counts = {"random": gates, "shuffled": gates, "multiplier": math.isqrt(gates // 10), "pipeline": gates // STEPS}
+    for kind, count in counts.items():
         file = os.path.join(folder, kind)
-        subprocess.run([tool, "binary", file + ".aag", file + ".aig"], check=True)
+        make(kind, count, file + ".aag")
+        if kind != "shuffled":
+            subprocess.run([tool, "binary", file + ".aag", file + ".aig"], check=True)
 
 
 def programs(options, words, commands, file, folder):

@@ -11,7 +11,7 @@ import subprocess
 import sys
 import tempfile
 
-from measuring import HERE, instructions, make_random, row
+from measuring import HERE, instructions, make, row
 
 KEPT = os.path.join(HERE, "instructions.tsv")
 COMMANDS = ["text TEXT", "binary BINARY OUT", "strash BINARY", "cnf BINARY 0", "cnf BINARY 0 raw", "query TEXT 0"]
@@ -20,7 +20,7 @@ COMMANDS = ["text TEXT", "binary BINARY OUT", "strash BINARY", "cnf BINARY 0", "
 def count_all(tool, folder):
     """The instructions of each command."""
     paths = {name: os.path.join(folder, name.lower()) for name in ["TEXT", "BINARY", "OUT"]}
-    make_random(paths["TEXT"], 100_000)
+    make("random", 100_000, paths["TEXT"])
     add_bad(paths["TEXT"])
     subprocess.run([tool, "binary", paths["TEXT"], paths["BINARY"]], check=True)
     return {command: instructions([tool, *(paths.get(word, word) for word in command.split())]) for command in COMMANDS}

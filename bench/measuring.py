@@ -1,4 +1,4 @@
-"""Runs of a program as they are measured, and files of random gates to run it on."""
+"""Runs of a program as they are measured, and files to run it on."""
 import os
 import subprocess
 import sys
@@ -31,8 +31,6 @@ def row(words):
     print("| " + " | ".join(words) + " |", flush=True)
 
 
-def make_random(file, gates):
-    """Makes a text of so many random gates, with 1000 inputs and 1000 latches."""
-    maker = [sys.executable, os.path.join(HERE, "make_aag.py"), "1", "1000", "1000", str(gates)]
-    with open(file, "wb") as made:
-        subprocess.run(maker, stdout=made, check=True)
+def make(kind, count, file):
+    """Makes a file of circuits.py in a process of its own, since a child's peak of memory counts its parent's."""
+    subprocess.run([sys.executable, os.path.join(HERE, "circuits.py"), kind, str(count), file], check=True)

@@ -7,28 +7,24 @@ stdout. Says how long that took. With --proved what was proved here is copied to
 proved. With --jobs N so many processors work on each crate, where rt takes two. Run by hand.
 """
 import argparse
-import os
+import pathlib
 import shutil
 import subprocess
 import sys
 import tempfile
 import time
 
-TOP = os.path.normpath(os.path.join(os.path.dirname(os.path.abspath(__file__)), ".."))
-CALLER = os.path.join(TOP, "examples", "caller")
+from harness import TOP
+
+CALLER = TOP / "examples" / "caller"
 # Whose words its contracts cite, and whose items it calls.
 STANDS_ON = ["aig", "aig_base", "aig_circuit", "aig_encode", "aig_reader", "aig_runs"]
-LINE = "caller: %s anyhow\n" % " ".join(STANDS_ON)
-
-
-def read(*path):
-    with open(os.path.join(*path), encoding="utf-8") as file:
-        return file.read()
 
 
 def lines_below(names):
     """The lines of crates.txt of these crates and of all that they stand on."""
-    lines = {line.split(":")[0].split()[0]: line for line in read(TOP, "crates.txt").splitlines() if line and line[0] != "#"}
+    text = (TOP / "crates.txt").read_text()
+    lines = {line.split(":")[0].split()[0]: line for line in text.splitlines() if line and line[0] != "#"}
     found, todo = set(), list(names)
     while todo:
         name = todo.pop()
@@ -42,49 +38,47 @@ def copy(folder, proved):
     """The repository of the caller, with the files that it reads in the folder that it is run in; says which crates it has."""
     lines = lines_below(STANDS_ON)
     for name in lines:
-        if proved and not os.path.isdir(os.path.join(TOP, "crates", name, "out")):
-            sys.exit("not proved here: crates/%s" % name)
-        leave = shutil.ignore_patterns() if proved else shutil.ignore_patterns("out")
-        shutil.copytree(os.path.join(TOP, "crates", name), os.path.join(folder, "crates", name), symlinks=True, ignore=leave)
-    caller = os.path.join(folder, "crates", "caller")
+        if proved and not (TOP / "crates" / name / "out").is_dir():
+            sys.exit(f"not proved here: crates/{name}")
+        leave = None if proved else shutil.ignore_patterns("out")
+        shutil.copytree(TOP / "crates" / name, folder / "crates" / name, symlinks=True, ignore=leave)
+    caller = folder / "crates" / "caller"
     shutil.copytree(CALLER, caller)
-    os.mkdir(os.path.join(caller, "src"))
-    os.rename(os.path.join(caller, "main.rt.txt"), os.path.join(caller, "src", "main.rt"))
-    for name in os.listdir(os.path.join(caller, "data")):
-        shutil.copy(os.path.join(caller, "data", name), caller)
-    for name in ("crates.txt", "HANDLES"):
-        with open(os.path.join(folder, name), "w", encoding="utf-8") as file:
-            file.write("\n".join(lines.values()) + "\n" + LINE if name == "crates.txt" else read(TOP, name))
-    return lines
+    (caller / "src").mkdir()
+    (caller / "main.rt.txt").rename(caller / "src" / "main.rt")
+    shutil.copytree(caller / "data", caller, dirs_exist_ok=True)
+    (folder / "crates.txt").write_text("\n".join([*lines.values(), f"caller: {' '.join(STANDS_ON)} anyhow", ""]))
+    shutil.copy(TOP / "HANDLES", folder)
+    return caller, len(lines)
 
 
 def try_in(folder, proved, jobs):
-    crates = copy(folder, proved)
-    caller = os.path.join(folder, "crates", "caller")
-    print("%d crates in %s" % (len(crates), folder), flush=True)
+    """Makes the repository in a folder, and runs the caller. Returns the exit status."""
+    caller, count = copy(folder, proved)
+    print(f"{count} crates in {folder}", flush=True)
     begin = time.monotonic()
     ran = subprocess.run(["rt", "run", *jobs], cwd=caller, stdin=subprocess.DEVNULL, stdout=subprocess.PIPE, encoding="utf-8")
-    same = ran.stdout == read(CALLER, "stdout")
+    same = ran.stdout == (CALLER / "stdout").read_text()
     if not same:
-        print("printed:\n" + ran.stdout)
-    print("proved and run in %.1f minutes, status %d, %s" % (
-        (time.monotonic() - begin) / 60, ran.returncode, "as wanted" if same else "not as wanted"))
+        print(f"printed:\n{ran.stdout}")
+    minutes = (time.monotonic() - begin) / 60
+    print(f"proved and run in {minutes:.1f} minutes, status {ran.returncode}, {'as wanted' if same else 'not as wanted'}")
     return 0 if same and ran.returncode == 0 else 1
 
 
 def main():
     parser = argparse.ArgumentParser(description=__doc__, formatter_class=argparse.RawDescriptionHelpFormatter)
-    parser.add_argument("folder", nargs="?")
+    parser.add_argument("folder", nargs="?", type=pathlib.Path)
     parser.add_argument("--proved", action="store_true")
     parser.add_argument("--jobs", type=int)
     given = parser.parse_args()
     jobs = ["--jobs", str(given.jobs)] if given.jobs else []
     if given.folder:
-        os.mkdir(given.folder)
-        sys.exit(try_in(os.path.abspath(given.folder), given.proved, jobs))
+        given.folder.mkdir()
+        return try_in(given.folder.resolve(), given.proved, jobs)
     with tempfile.TemporaryDirectory() as folder:
-        sys.exit(try_in(folder, given.proved, jobs))
+        return try_in(pathlib.Path(folder), given.proved, jobs)
 
 
 if __name__ == "__main__":
-    main()
+    sys.exit(main())

@@ -9,19 +9,19 @@ showed a fault stand in ROWS and are tried first.
 
 A run is repeated by its seed and the same count of files: --seed S --files N.
 """
-import argparse
 import concurrent.futures
 import os
 import pathlib
 import random
 import re
 import resource
-import subprocess
 import sys
 import tempfile
 import time
 
-TOOL = pathlib.Path(__file__).resolve().parent.parent / "crates" / "aigtool" / "out" / "aigtool"
+import harness
+from aiger import Machine
+
 SECTIONS = ["inputs", "latches", "outputs", "bads", "constraints", "justice", "fairness", "gates"]
 TEXTS = {
     *("out of memory", "bad header line", "too many variables", "bad difference", "bad name line"),
@@ -62,89 +62,52 @@ def number(rng, spelled):
     return b"0" * rng.choice([0, 0, 0, 1, 40]) + b"%d" % rng.choice(near + borders)
 
 
-class Made:
-    """A circuit of random gates, and its files."""
-
-    def __init__(self, rng):
-        self.rng = rng
-        self.inputs, self.latches, count = rng.randint(0, 4), rng.randint(0, 4), rng.randint(0, 12)
-        leaves = self.inputs + self.latches
-        self.most = leaves + count
-        self.gates = []
-        for v in range(leaves + 1, self.most + 1):
-            operands = [rng.randrange(2 * v) for _ in range(2)]
-            self.gates.append((2 * v, max(operands), min(operands)))
-        self.states = [(self.literal(), rng.choice([None, 0, 1, 2])) for _ in range(self.latches)]
-        self.lists = [[self.literal() for _ in range(rng.choice([0, 0, 1, 2]))] for _ in range(3)]
-        self.justice = [[self.literal() for _ in range(rng.randint(0, 2))] for _ in range(rng.choice([0, 0, 1, 2]))]
-        self.fairness = [self.literal() for _ in range(rng.choice([0, 0, 1]))]
-
-    def literal(self):
-        return self.rng.randrange(2 * self.most + 2)
-
-    def header(self, form, most):
-        counts = [most, self.inputs, self.latches, len(self.lists[0]), len(self.gates)]
-        counts += [len(self.lists[1]), len(self.lists[2]), len(self.justice), len(self.fairness)]
-        least = max((n for n, count in enumerate(counts, 1) if count), default=5)
-        return " ".join([form, *map(str, counts[: max(5, self.rng.choice([least, 9]))])]) + "\n"
-
-    def state(self, v, next_literal, reset, named):
-        own = 2 * v
-        words = ([own] if named else []) + [next_literal] + ([] if reset is None else [own if reset == 2 else reset])
-        return " ".join(map(str, words)) + "\n"
-
-    def properties(self):
-        sizes = [len(one) for one in self.justice]
-        entries = [*self.lists[0], *self.lists[1], *self.lists[2], *sizes, *sum(self.justice, []), *self.fairness]
-        return "".join(f"{entry}\n" for entry in entries)
-
-    def names(self):
-        """Some names, in any order, and perhaps a comment."""
-        counts = dict(zip("ilobcj", [self.inputs, self.latches, *map(len, self.lists), len(self.justice)]))
-        places = [(letter, i) for letter, count in counts.items() for i in range(count) if self.rng.random() < 0.3]
-        self.rng.shuffle(places)
-        lines = [f"{letter}{i} {self.rng.choice(['', 'a', 'a b', '0', 'é', 'i0 x'])}\n" for letter, i in places]
-        return "".join(lines + self.rng.choice([[], [], ["c"], ["comment\ni0 x\n"]])).encode()
-
-    def text(self):
-        """A text file, perhaps with other numbers for its variables and with gates in any order."""
-        order = list(range(1, self.most + 1))
-        most = self.most
-        if self.rng.random() < 0.5:
-            most += self.rng.choice([0, 0, 1, 5])
-            order = self.rng.sample(range(1, most + 1), self.most)
-        spelled = [0, *order]
-        leaves = [f"{2 * v}\n" for v in range(1, self.inputs + 1)]
-        latches = [self.state(self.inputs + 1 + i, *state, True) for i, state in enumerate(self.states)]
-        gates = [" ".join(map(str, gate)) + "\n" for gate in self.gates]
-        if self.rng.random() < 0.5:
-            self.rng.shuffle(gates)
-
-        def renumbered(lines):
-            return re.sub(r"\d+", lambda m: str(2 * spelled[int(m[0]) // 2] + int(m[0]) % 2), "".join(lines))
-
-        # Sizes are no literals. Resets 0 and 1 keep their numbers, which are those of false and true.
-        sizes = "".join(f"{len(one)}\n" for one in self.justice)
-        before = renumbered(f"{entry}\n" for entry in [*self.lists[0], *self.lists[1], *self.lists[2]])
-        behind = renumbered(f"{entry}\n" for entry in [*sum(self.justice, []), *self.fairness])
-        body = renumbered([*leaves, *latches]) + before + sizes + behind + renumbered(gates)
-        return (self.header("aag", most) + body).encode() + self.names()
-
-    def binary(self):
-        """A binary file."""
-        states = [self.state(self.inputs + 1 + i, *state, False) for i, state in enumerate(self.states)]
-        head = self.header("aig", self.most) + "".join(states) + self.properties()
-        deltas = [delta for gate, left, right in self.gates for delta in (gate - left, left - right)]
-        return head.encode() + b"".join(map(spelled_delta, deltas)) + self.names()
+def made_machine(rng):
+    """A machine of random gates, whose literals are 2, 4, .. in the order of a binary file."""
+    inputs, latches, gates = rng.randint(0, 4), rng.randint(0, 4), rng.randint(0, 12)
+    leaves = inputs + latches
+    some = lambda *counts: [rng.randrange(2 * (leaves + gates) + 2) for _ in range(rng.choice(counts))]
+    operands = [sorted((rng.randrange(own), rng.randrange(own)), reverse=True) for own in range(2 * leaves + 2, 2 * (leaves + gates) + 2, 2)]
+    states = [[2 * v, *some(1), *rng.choice([[], [0], [1], [2 * v]])] for v in range(inputs + 1, leaves + 1)]
+    outputs, bads, constraints = (some(0, 0, 1, 2) for _ in range(3))
+    justice = [some(0, 1, 2) for _ in range(rng.choice([0, 0, 1, 2]))]
+    ands = [[2 * (leaves + 1 + i), *pair] for i, pair in enumerate(operands)]
+    made = Machine([2 * v for v in range(1, inputs + 1)], states, outputs, bads, constraints, justice, some(0, 0, 1), ands, {})
+    name_some(rng, made)
+    return made
 
 
-def spelled_delta(delta):
-    """A difference of a binary file, in its shortest spelling."""
-    spelled = b""
-    while delta > 127:
-        spelled += bytes([delta & 127 | 128])
-        delta >>= 7
-    return spelled + bytes([delta])
+def name_some(rng, machine):
+    """Gives names to some places, in any order."""
+    lists = [machine.inputs, machine.latches, machine.outputs, machine.bads, machine.constraints, machine.justice]
+    places = [f"{letter}{i}" for letter, one in zip("ilobcj", lists) for i in range(len(one)) if rng.random() < 0.3]
+    rng.shuffle(places)
+    machine.names = {place: rng.choice(["", "a", "a b", "0", "é", "i0 x"]) for place in places}
+
+
+def renumbered(rng, machine):
+    """The machine with other numbers for its variables, and its gates in any order; and its greatest variable, or one above."""
+    count = len(machine.inputs) + len(machine.latches) + len(machine.gates)
+    most = count + rng.choice([0, 0, 1, 5])
+    new = [0, *rng.sample(range(1, most + 1), count)]
+    turn = lambda literals: [2 * new[literal // 2] + literal % 2 for literal in literals]
+    lists = [machine.outputs, machine.bads, machine.constraints]
+    ands = rng.sample(machine.gates, len(machine.gates))
+    sets, last = [turn(one) for one in machine.justice], turn(machine.fairness)
+    leaves = turn(machine.inputs), list(map(turn, machine.latches))
+    return Machine(*leaves, *map(turn, lists), sets, last, list(map(turn, ands)), machine.names), most
+
+
+def undamaged(rng):
+    """A file of either form, perhaps with a comment."""
+    machine, most, all_counts = made_machine(rng), None, rng.random() < 0.5
+    if rng.random() < 0.5:
+        data = machine.binary(all_counts=all_counts)
+    else:
+        if rng.random() < 0.7:
+            machine, most = renumbered(rng, machine)
+        data = machine.text(most=most, all_counts=all_counts).encode()
+    return data + rng.choice([b"", b"", b"c", b"comment\ni0 x\n"])
 
 
 def damaged_bytes(rng, data):
@@ -182,8 +145,7 @@ def damaged_lines(rng, data):
 
 def made_file(rng):
     """A file, damaged a few times or not at all."""
-    made = Made(rng)
-    data = rng.choice([made.text, made.binary])()
+    data = undamaged(rng)
     for _ in range(rng.choice([0, 1, 1, 1, 2, 3])):
         data = rng.choice([damaged_bytes, damaged_number, damaged_lines])(rng, data)
     return data
@@ -212,18 +174,14 @@ class Tool:
         """Runs a command on a file of these bytes. Returns what it prints, or nothing if it was refused."""
         (self.folder / "file").write_bytes(data)
         most = MEMORY + OF_A_BYTE * len(data)
-        run = subprocess.run(
-            [self.tool, command, "file", *further],
-            cwd=self.folder,
-            capture_output=True,
-            preexec_fn=lambda: resource.setrlimit(resource.RLIMIT_AS, (most, most)),
-            timeout=60,
+        status, out, error = harness.run(
+            [self.tool, command, "file", *further], cwd=self.folder, preexec_fn=harness.limit(resource.RLIMIT_AS, most)
         )
-        what = f"{command} {' '.join(further)}: status {run.returncode}, {run.stderr}"
-        if run.returncode == 0 and not run.stderr:
-            return run.stdout
-        told = re.fullmatch(r"aigtool: (.*)\n", run.stderr.decode())
-        if run.returncode != 1 or run.stdout or not told:
+        what = f"{command} {' '.join(further)}: status {status}, {error}"
+        if status == 0 and not error:
+            return out
+        told = re.fullmatch(r"aigtool: (.*)\n", error.decode())
+        if status != 1 or out or not told:
             raise Fault(what)
         if told[1] not in TEXTS and (command not in ["cnf", "query"] or told[1] != TOO_LARGE):
             raise Fault(what)
@@ -281,45 +239,38 @@ def check(tool, rng, data):
     return True
 
 
-def search(given, worker, workers):
-    """Checks files until the time ends. Returns how many were accepted, how many refused, and the faults."""
+def search(given, worker):
+    """Checks each file of a worker's until the time ends. Returns how many were accepted, how many refused, and the faults."""
     end = time.monotonic() + given.seconds
-    accepted, refused, faults, i = 0, 0, [], worker
+    seen, faults, i = [0, 0], [], worker
     with tempfile.TemporaryDirectory() as folder:
-        tool = Tool(given.tool.resolve(), pathlib.Path(folder))
+        tool = Tool(given.aigtool, pathlib.Path(folder))
         while time.monotonic() < end and (given.files is None or i < given.files):
             rng = random.Random(given.seed * 1_000_003 + i)
             data = ROWS[i] if i < len(ROWS) else made_file(rng)
             try:
-                if check(tool, rng, data):
-                    accepted += 1
-                else:
-                    refused += 1
-            except (Fault, subprocess.TimeoutExpired, ValueError, AttributeError) as fault:
+                seen[not check(tool, rng, data)] += 1
+            except (Fault, ValueError, AttributeError) as fault:
                 faults.append(f"file {i}: {fault}: {data}")
-            i += workers
-    return accepted, refused, faults
+            i += given.jobs
+    return *seen, faults
 
 
 def main():
-    parser = argparse.ArgumentParser(description=__doc__, formatter_class=argparse.RawDescriptionHelpFormatter)
-    parser.add_argument("--tool", type=pathlib.Path, default=TOOL, help="the program aigtool")
+    parser = harness.parser(__doc__, "aigtool")
     parser.add_argument("--seed", type=int, default=1, help="which files are made (1)")
     parser.add_argument("--seconds", type=float, default=10, help="how long files are made (10)")
     parser.add_argument("--files", type=int, help="how many files are made at most")
     parser.add_argument("--jobs", type=int, default=os.cpu_count(), help="how many are checked side by side")
-    given = parser.parse_args()
-    workers = given.jobs
-    accepted, refused, faults = 0, 0, []
-    with concurrent.futures.ProcessPoolExecutor(workers) as pool:
-        for run in [pool.submit(search, given, worker, workers) for worker in range(workers)]:
-            more = run.result()
-            accepted, refused, faults = accepted + more[0], refused + more[1], faults + more[2]
-    for fault in faults:
-        print(f"FAILED: {fault}")
-    print(f"seed {given.seed}: {accepted} files accepted, {refused} refused")
-    print(f"{accepted + refused} passed, {len(faults)} failed")
-    return len(faults) > 0
+    given, tally, seen = parser.parse_args(), harness.Tally(), [0, 0]
+    with concurrent.futures.ProcessPoolExecutor(given.jobs) as pool:
+        for *counts, faults in pool.map(search, [given] * given.jobs, range(given.jobs)):
+            seen = [sum(both) for both in zip(seen, counts)]
+            for fault in faults:
+                tally.check(False, fault)
+    tally.passed += sum(seen)
+    print(f"seed {given.seed}: {seen[0]} files accepted, {seen[1]} refused")
+    return tally.end()
 
 
 if __name__ == "__main__":

@@ -11,16 +11,18 @@ Programs are looked for in each FOLDER, then in crates/NAME/out, where `rt run` 
 looks.
 """
 import os
+import pathlib
 import re
 import shutil
 import subprocess
 import sys
 import tempfile
 
-TOP = os.path.join(os.path.dirname(os.path.abspath(__file__)), "..")
+import harness
+from harness import TOP, spelled
+
 PAGES = ["COMMANDS.md"]
 ROWS = "FORMAT.md"
-LINKS = ["crates", "docs", "examples", "tests"]
 PROGRAMS = ["aigtool", "aigcheck"]
 BLOCK = re.compile(r"^```console(?: needs ([^\n]*))?\n(.*?)^```$", re.DOTALL | re.MULTILINE)
 ROW = re.compile(r"^\| `(a[ai]g [^`]*)` \| ([^|]*) \|", re.MULTILINE)
@@ -29,8 +31,7 @@ KINDS = ("aag ", "aig ")
 
 def page(name):
     """The text of a page."""
-    with open(os.path.join(TOP, "docs", name), encoding="utf-8") as file:
-        return file.read()
+    return (TOP / "docs" / name).read_text()
 
 
 def commands(block):
@@ -43,11 +44,6 @@ def commands(block):
         yield lines[0] + "".join(line[2:] for line in lines[1:count]), "".join(lines[count:])
 
 
-def spelled(span):
-    """The bytes that a code span spells."""
-    return re.sub(r"\\n|\\x([0-9a-f]{2})", lambda found: chr(int(found[1], 16)) if found[1] else "\n", span).encode("latin-1")
-
-
 def printed_by(cell, given):
     """The bytes that the second cell of a row says: the given file, another one, or a refusal."""
     span = given if cell == "the same" else cell.strip("`")
@@ -55,31 +51,20 @@ def printed_by(cell, given):
 
 
 class Pages:
-    """Counts of what was run."""
+    """Runs what pages say, in a folder."""
 
-    def __init__(self, folder, path, with_tools):
-        self.folder, self.with_tools = folder, with_tools
+    def __init__(self, folder, path, with_tools, tally):
+        self.folder, self.with_tools, self.tally = folder, with_tools, tally
         self.environment = {**os.environ, "PATH": path, "LC_ALL": "C.UTF-8"}
-        self.passed = self.failed = 0
 
     def has(self, tool):
         """Whether a tool is there to be run."""
         return (self.with_tools or tool in PROGRAMS) and shutil.which(tool, path=self.environment["PATH"]) is not None
 
-    def run(self, words):
-        """What a command prints, to both streams."""
-        done = subprocess.run(
-            words, cwd=self.folder, env=self.environment, stdin=subprocess.DEVNULL, stdout=subprocess.PIPE, stderr=subprocess.STDOUT
-        )
-        return done.stdout
-
-    def compare(self, where, wanted, given):
-        """Counts a comparison, and says where it fails."""
-        if given == wanted:
-            self.passed += 1
-        else:
-            self.failed += 1
-            print(f"{where}\n  wanted {wanted}\n  given  {given}")
+    def compare(self, where, wanted, words):
+        """Checks what a command prints, to both streams."""
+        streams = {"stdin": subprocess.DEVNULL, "stderr": subprocess.STDOUT}
+        self.tally.wants(where, wanted, harness.run(words, cwd=self.folder, env=self.environment, **streams)[1])
 
     def read_page(self, name):
         """Runs the blocks of a page."""
@@ -90,29 +75,31 @@ class Pages:
                 print(f"{name}:{line}: passed over, needs {block[1]}{'' if self.with_tools else ' and --tools'}")
                 continue
             for command, printed in commands(block[2]):
-                self.compare(f"{name}:{line}: {command.strip()}", printed.encode(), self.run(["sh", "-c", command]))
+                self.compare(f"{name}:{line}: {command.strip()}", printed.encode(), ["sh", "-c", command])
 
     def read_rows(self, name):
         """Reads the files of a page's tables."""
         for bytes_span, cell in ROW.findall(page(name)):
-            with open(os.path.join(self.folder, "row"), "wb") as file:
-                file.write(spelled(bytes_span))
-            self.compare(f"{name}: {bytes_span}", printed_by(cell, bytes_span), self.run(["aigtool", "text", "row"]))
+            (self.folder / "row").write_bytes(spelled(bytes_span))
+            self.compare(f"{name}: {bytes_span}", printed_by(cell, bytes_span), ["aigtool", "text", "row"])
 
 
 def main():
-    folders = [os.path.abspath(word) for word in sys.argv[1:] if word != "--tools"]
-    folders += [os.path.abspath(os.path.join(TOP, "crates", name, "out")) for name in PROGRAMS]
-    with tempfile.TemporaryDirectory() as folder:
-        for name in LINKS:
-            os.symlink(os.path.abspath(os.path.join(TOP, name)), os.path.join(folder, name))
-        pages = Pages(folder, os.pathsep.join([*folders, os.environ["PATH"]]), "--tools" in sys.argv)
-        for name in PAGES:
-            pages.read_page(name)
+    parser, tally = harness.parser(__doc__), harness.Tally()
+    parser.add_argument("--tools", action="store_true", help="run blocks that need programs of others, too")
+    parser.add_argument("folders", nargs="*", type=os.path.abspath, help="where programs are looked for first")
+    given = parser.parse_args()
+    places = [*given.folders, *(str(TOP / "crates" / name / "out") for name in PROGRAMS), os.environ["PATH"]]
+    with tempfile.TemporaryDirectory() as name:
+        folder = pathlib.Path(name)
+        for part in filter(pathlib.Path.is_dir, TOP.glob("[!.]*")):
+            (folder / part.name).symlink_to(part)
+        pages = Pages(folder, os.pathsep.join(places), given.tools, tally)
+        for page_name in PAGES:
+            pages.read_page(page_name)
         pages.read_rows(ROWS)
-    print(f"{pages.passed} passed, {pages.failed} failed")
-    sys.exit(1 if pages.failed else 0)
+    return tally.end()
 
 
 if __name__ == "__main__":
-    main()
+    sys.exit(main())

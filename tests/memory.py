@@ -11,21 +11,18 @@ file makes a large one, but for the room for nodes, which is reserved within the
 
 The shim memory/refuse.c is built with the C compiler and loaded by LD_PRELOAD.
 """
-import argparse
 import concurrent.futures
 import dataclasses
 import itertools
 import os
 import pathlib
 import shutil
-import subprocess
 import sys
 import tempfile
 
-HERE = pathlib.Path(__file__).resolve().parent
-CRATES = HERE.parent / "crates"
+import harness
+from aiger import AND
 
-AND = b"aag 3 2 0 1 1\n2\n4\n6\n6 4 2\n"
 # Two latches, an exclusive or, all kinds of properties, names, a comment, and gates in falling order with a gap.
 WHOLE = (
     b"aag 12 2 2 1 4 1 1 2 1\n4\n2\n6 20 1\n8 7 8\n21\n20\n7\n2\n0\n20\n8\n9\n"
@@ -60,26 +57,16 @@ CHECKS = [
 ASKED_FOR_LITTLE = 20_000
 
 
-class Failures:
-    """Counts checks, and prints those that fail."""
-
-    def __init__(self):
-        self.passed = self.failed = 0
-
-    def check(self, holds, what):
-        if holds:
-            self.passed += 1
-        else:
-            self.failed += 1
-            print(f"FAILED: {what}")
-
-
+@dataclasses.dataclass
 class Ended:
     """How a program ended, and what it asked for."""
 
-    def __init__(self, run, told):
-        self.status, self.out, self.err = run.returncode, run.stdout, run.stderr
-        self.requests, self.greatest, self.sum = told
+    status: int
+    out: bytes
+    err: bytes
+    requests: int
+    greatest: int
+    sum: int
 
     def whole(self):
         return self.status, self.out, self.err
@@ -88,10 +75,8 @@ class Ended:
 class Shim:
     """Runs programs with requests for memory that are counted and refused."""
 
-    def __init__(self, compiler, folder):
-        self.library = folder / "refuse.so"
-        source = HERE / "memory" / "refuse.c"
-        subprocess.run([compiler, "-O2", "-shared", "-fPIC", "-o", self.library, source, "-ldl"], check=True)
+    def __init__(self, folder):
+        self.library = harness.shim("memory/refuse.c", folder)
 
     def run(self, words, folder, refused=0, between=None):
         """Runs a program in a folder, with the request of this number refused; requests count between these lines."""
@@ -99,10 +84,10 @@ class Shim:
         env = {"LD_PRELOAD": str(self.library), "REFUSE": str(refused), "REFUSE_TELL": str(told)}
         if between:
             env["REFUSE_AFTER"], env["REFUSE_UNTIL"] = between
-        run = subprocess.run(words, cwd=folder, env=env, capture_output=True, timeout=60)
-        counts = tuple(map(int, told.read_text().split()))
+        ended = harness.run(words, cwd=folder, env=env)
+        counts = map(int, told.read_text().split())
         told.unlink()
-        return Ended(run, counts)
+        return Ended(*ended, *counts)
 
 
 # A file with an entry in every list: two inputs in falling order, three latches with all resets, a justice set of two edges and one
@@ -228,8 +213,7 @@ class Steps:
         """A folder of the case's own, with what steps read."""
         room = self.folder / " ".join([str(len(case.before)), case.step]).replace(" ", "_")
         room.mkdir()
-        for name, data in FILES.items():
-            (room / name).write_bytes(data)
+        harness.write_files(room, FILES)
         return room
 
     def printed(self, steps, room):
@@ -267,34 +251,30 @@ class Program:
     def __init__(self, shim, name, path, folder):
         self.shim, self.name, self.path, self.folder = shim, name, path, folder
 
-    def make(self, room, files):
-        """Makes a folder with these files."""
-        room.mkdir()
-        for name, data in files.items():
-            (room / name).write_bytes(data)
-
     def contents(self, room):
         return {path.name: path.read_bytes() for path in room.iterdir()}
 
     def check(self, number, words, files):
         """Failures of a command in a folder with these files, one line each, and the count of checks."""
         room, wrong = self.folder / f"{self.name}{number}", []
-        self.make(room, files)
+        room.mkdir()
+        harness.write_files(room, files)
         name = f"{self.name} {' '.join(words)}"
-        ample = subprocess.run([self.path, *words], cwd=room, capture_output=True)
+        status, out, _ = harness.run([self.path, *words], cwd=room)
         made = self.contents(room)
         for refused in itertools.count(1):
             shutil.rmtree(room)
-            self.make(room, files)
+            room.mkdir()
+            harness.write_files(room, files)
             ended = self.shim.run([self.path, *words], room, refused)
             if ended.requests < refused:
                 break
             told = f"{self.name}: out of memory\n".encode()
-            if (ended.status, ended.err) != (1, told) or not ample.stdout.startswith(ended.out):
+            if (ended.status, ended.err) != (1, told) or not out.startswith(ended.out):
                 wrong.append(f"{name}, request {refused}: status {ended.status}, {ended.err}")
             if self.contents(room) != files:
                 wrong.append(f"{name}, request {refused}: files {self.contents(room)}")
-        if ended.whole() != (0, ample.stdout, b"") or ample.returncode or self.contents(room) != made:
+        if ended.whole() != (0, out, b"") or status != 0 or self.contents(room) != made:
             wrong.append(f"{name}: another answer without a refusal")
         if refused == 1:
             wrong.append(f"{name}: no request")
@@ -304,7 +284,7 @@ class Program:
 def both_forms(tool, folder):
     """A file of each form, and what they hold."""
     (folder / "whole.aag").write_bytes(WHOLE)
-    subprocess.run([tool, "binary", "whole.aag", "whole.aig"], cwd=folder, check=True)
+    harness.run([tool, "binary", "whole.aag", "whole.aig"], cwd=folder)
     return {"whole.aag": WHOLE, "whole.aig": (folder / "whole.aig").read_bytes()}
 
 
@@ -318,7 +298,7 @@ def tool_cases(files):
         yield ["binary", form, out], files
 
 
-def sizes(shim, tool, folder, failures):
+def sizes(shim, tool, folder, tally):
     """What is read in pieces makes no further requests, and no count in a file makes a large one."""
 
     def asks(words, data):
@@ -328,8 +308,8 @@ def sizes(shim, tool, folder, failures):
     def makes_as_many(data, other, what):
         few, same = asks(["text", "file"], other), asks(["text", "file"], data)
         counts = (few.requests, few.greatest, few.sum)
-        failures.check(few.status == 0 and few.whole() == same.whole(), f"{what}: another answer")
-        failures.check(counts == (same.requests, same.greatest, same.sum), f"{what}: {same.requests} requests, not {counts}")
+        tally.check(few.status == 0 and few.whole() == same.whole(), f"{what}: another answer")
+        tally.check(counts == (same.requests, same.greatest, same.sum), f"{what}: {same.requests} requests, not {counts}")
 
     makes_as_many(b"aag " + b"0" * 5_000 + b" 0 0 0 0\n", b"aag 0 0 0 0 0\n", "5,000 digits")
     makes_as_many(AND + b"c" + bytes(1_000_000), AND, "a comment of 1,000,000 bytes")
@@ -349,46 +329,32 @@ def sizes(shim, tool, folder, failures):
         (b"aag 0 0 0 0 0 0 0 2\n4294967295\n4294967295\n0\n", "bad line in justice"),
     ]:
         ended = asks(["text", "file"], data)
-        failures.check(ended.err == f"aigtool: {fault}\n".encode(), f"{data}: {ended.err}")
-        failures.check(ended.sum <= ASKED_FOR_LITTLE, f"{data}: asks for {ended.sum} bytes, {ended.greatest} at once")
-
-
-def c_compiler():
-    """A C compiler that is installed."""
-    names = [os.environ.get("CC", "cc"), "clang", "gcc"]
-    return next(filter(shutil.which, names), names[0])
+        tally.check(ended.err == f"aigtool: {fault}\n".encode(), f"{data}: {ended.err}")
+        tally.check(ended.sum <= ASKED_FOR_LITTLE, f"{data}: asks for {ended.sum} bytes, {ended.greatest} at once")
 
 
 def main():
-    parser = argparse.ArgumentParser(description=__doc__, formatter_class=argparse.RawDescriptionHelpFormatter)
-    script = CRATES / "aig_script" / "out" / "aig_script"
-    parser.add_argument("--script", type=pathlib.Path, default=script, help="the program aig_script")
-    parser.add_argument("--tool", type=pathlib.Path, default=CRATES / "aigtool" / "out" / "aigtool", help="the program aigtool")
-    parser.add_argument("--checker", type=pathlib.Path, default=CRATES / "aigcheck" / "out" / "aigcheck", help="the program aigcheck")
-    parser.add_argument("--compiler", default=c_compiler(), help="the C compiler (%(default)s)")
+    parser = harness.parser(__doc__, "aig_script", "aigtool", "aigcheck")
     parser.add_argument("names", nargs="*", help="the steps to take (all, and the commands)")
-    given = parser.parse_args()
-    failures = Failures()
+    given, tally = parser.parse_args(), harness.Tally()
     with tempfile.TemporaryDirectory() as name:
         folder = pathlib.Path(name)
-        shim = Shim(given.compiler, folder)
-        steps = Steps(shim, given.script.resolve(), folder)
-        tool = Program(shim, "aigtool", given.tool.resolve(), folder)
-        checker = Program(shim, "aigcheck", given.checker.resolve(), folder)
+        shim = Shim(folder)
+        steps = Steps(shim, given.aig_script, folder)
+        tool, checker = (Program(shim, name, getattr(given, name), folder) for name in ("aigtool", "aigcheck"))
         with concurrent.futures.ThreadPoolExecutor(os.cpu_count()) as pool:
             running = [pool.submit(steps.check, case) for case in cases() if not given.names or case.step.split()[0] in given.names]
             if not given.names:
                 files = both_forms(tool.path, folder)
                 running += [pool.submit(tool.check, i, *case) for i, case in enumerate(tool_cases(files))]
                 running += [pool.submit(checker.check, i, words, files | CHECKED) for i, words in enumerate(CHECKS)]
-                sizes(shim, tool.path, folder, failures)
+                sizes(shim, tool.path, folder, tally)
         for count, wrong in (run.result() for run in running):
-            failures.passed += count - len(wrong)
-            failures.failed += len(wrong)
+            tally.passed += count - len(wrong)
+            tally.failed += len(wrong)
             for line in wrong[:3]:
                 print(f"FAILED: {line}")
-    print(f"{failures.passed} passed, {failures.failed} failed")
-    return failures.failed > 0
+    return tally.end()
 
 
 if __name__ == "__main__":

@@ -7,24 +7,26 @@ Hashing against trees: the nodes of a hashed circuit are the trees of the old on
 hundred thousand gates, each on the one before, which no call may take for a deep stack. And sinks and formatters with room for a part
 of what is written.
 """
-import argparse
-import dataclasses
+import itertools
 import pathlib
 import re
-import subprocess
 import sys
 import tempfile
 
+import harness
 import scripts
+from aiger import AND, BINARY_AND, machine_of
 
 
 def answers(program, steps, files={}):
     """The lines that the program prints for each of the steps, with files that they name."""
     with tempfile.TemporaryDirectory() as folder:
-        for name, text in {**files, "steps": "".join(it + "\n" for it in steps)}.items():
-            (pathlib.Path(folder) / name).write_text(text)
-        run = subprocess.run([program, "steps"], cwd=folder, capture_output=True, text=True, timeout=100, check=True)
-    return scripts.answers(run.stdout)
+        texts = {**files, "steps": "".join(it + "\n" for it in steps)}
+        harness.write_files(pathlib.Path(folder), {name: text.encode() for name, text in texts.items()})
+        status, out, error = harness.run([program, "steps"], cwd=folder)
+    if status != 0:
+        sys.exit(f"{program} ended with {status}: {error}")
+    return scripts.answers(out.decode())
 
 
 # ---- circuits, as they are printed
@@ -53,72 +55,28 @@ def sets(words):
 # ---- the simulator
 
 
-@dataclasses.dataclass
-class Lines:
-    """What the lines of a text file say. Of justice there is one set, or none."""
-
-    inputs: list
-    latches: list
-    outputs: list
-    gates: list
-    bads: list
-    constraints: list
-    justice: list
-    fairness: list
-
-
-def lines_of(text):
-    """The lines of a text file with at most one justice set."""
-    header, *rest = text.splitlines()
-    counts = ([int(word) for word in header.split()[2:]] + [0] * 9)[:9]
-    rest = iter([int(word) for word in line.split()] for line in rest)
-
-    def section(count):
-        return [next(rest) for _ in range(count)]
-
-    def literals(count):
-        return [literal for (literal,) in section(count)]
-
-    inputs, latches, outputs, gates, bads, constraints, justice, fairness = counts[:8]
-    heads = literals(inputs), section(latches), literals(outputs)
-    properties = literals(bads), literals(constraints), literals(sum(literals(justice))), literals(fairness)
-    return Lines(sorted(heads[0]), *heads[1:], section(gates), *properties)
-
-
-def value(step, literal):
-    return step[literal // 2] != bool(literal % 2)
-
-
-def start_of(latch):
-    """A latch's initial value, or none where it is open."""
-    reset = latch[2] if len(latch) > 2 else 0
-    return bool(reset) if reset < 2 else None
-
-
-def run_of(lines, k, bits):
+def run_of(machine, k, number):
     """The values of the steps 0 to k of a run, whose first state and inputs are the bits of a number, the lowest first."""
-    state, steps = {0: False}, []
-    for literal, *_ in lines.latches:
-        state[literal // 2], bits = bool(bits % 2), bits // 2
+    bits = (bool(number >> i & 1) for i in itertools.count())
+    state, steps = [next(bits) for _ in machine.latches], []
     for _ in range(k + 1):
-        step = dict(state)
-        for literal in lines.inputs:
-            step[literal // 2], bits = bool(bits % 2), bits // 2
-        for gate, left, right in lines.gates:
-            step[gate // 2] = value(step, left) and value(step, right)
-        steps.append(step)
-        state = {0: False, **{latch[0] // 2: value(step, latch[1]) for latch in lines.latches}}
+        steps.append(machine.values(state, [next(bits) for _ in machine.inputs]))
+        state = machine.following(steps[-1])
     return steps
 
 
-def is_witness(lines, steps):
+def is_witness(machine, steps):
     """Whether a run begins with the initial values, meets all constraints, and ends in a bad state."""
-    starts = all(start_of(it) in (None, value(steps[0], it[0])) for it in lines.latches)
-    allowed = all(value(step, literal) for step in steps for literal in lines.constraints)
-    return starts and allowed and any(value(steps[-1], literal) for literal in lines.bads)
+    start = tuple(steps[0][latch[0]] for latch in machine.latches)
+    return start in machine.starts() and all(map(machine.is_allowed, steps)) and any(steps[-1][literal] for literal in machine.bads)
 
 
 # ---- the solver
+
+
+def value(values, literal):
+    """The value of a literal, by those of variables."""
+    return values[literal // 2] != bool(literal % 2)
 
 
 def fixed(clauses, values):
@@ -156,44 +114,47 @@ def query(program, text, k, name):
     return sections([line for line in lines[:end] if not line.startswith(("clause", "variable"))][:-1]), clauses, extra
 
 
-def leaves(lines, circuit, steps):
+def leaves(machine, circuit, steps):
     """The values that a run gives to the leaves of the circuit: at the first step the file's own, and then the inputs that were added."""
-    values = {it[0] // 2: value(steps[0], it[0]) for it in lines.latches}
-    places = [literal // 2 for literal in lines.inputs] + [int(word) for word in circuit["inputs"][len(lines.inputs):]]
-    given = [value(step, literal) for step in steps for literal in lines.inputs]
+    values = {latch[0] // 2: steps[0][latch[0]] for latch in machine.latches}
+    places = [literal // 2 for literal in machine.inputs] + [int(word) for word in circuit["inputs"][len(machine.inputs):]]
+    given = [step[literal] for step in steps for literal in machine.inputs]
     return {**values, **dict(zip(places, given, strict=True))}
 
 
-def agree(lines, circuit, steps, values):
+def agree(machine, circuit, steps, values):
     """Whether all properties of the circuit, and its next edges, have the values of the run."""
     def are(edges, part, literals):
         found = [values[id] != inverted for id, inverted in edges]
-        return found == [value(step, literal) for step in part for literal in literals]
+        return found == [step[literal] for step in part for literal in literals]
 
     lists = ("outputs", "bads", "constraints", "fairness")
     justice = sets(circuit["justice"])
+    wanted = [(step, one) for step in steps for one in machine.justice]
     latches = [edge(word.split(":")[1]) for word in circuit["latches"]]
     return (
-        all(are(map(edge, circuit[name]), steps, getattr(lines, name)) for name in lists)
-        and len(justice) == (len(steps) if lines.justice else 0)
-        and all(are(it, [step], lines.justice) for it, step in zip(justice, steps))
-        and are(latches, steps[-1:], [it[1] for it in lines.latches])
+        all(are(map(edge, circuit[name]), steps, getattr(machine, name)) for name in lists)
+        and len(justice) == len(wanted)
+        and all(are(it, [step], one) for it, (step, one) in zip(justice, wanted))
+        and are(latches, steps[-1:], [latch[1] for latch in machine.latches])
     )
 
 
-def count_witnesses(program, text, k, name, runs):
-    """How many runs are witnesses, or none where the clauses say otherwise of one."""
-    lines = lines_of(text)
+def check_runs(tally, program, row, name):
+    """Checks that clauses hold on each run of a file as it goes, and how many runs are witnesses."""
+    text, k, runs, witnesses = row
+    machine, what = machine_of(text), f"{name} of {text.splitlines()[0]} with {k} steps"
+    machine.inputs.sort()
     circuit, clauses, extra = query(program, text, k, name)
     count = 0
-    for bits in range(runs):
-        steps = run_of(lines, k, bits)
-        values = fixed(clauses, leaves(lines, circuit, steps))
-        witness = is_witness(lines, steps)
-        if not holds(values, clauses) or not agree(lines, circuit, steps, values) or holds(values, extra) != witness:
-            return None
+    for number in range(runs):
+        steps = run_of(machine, k, number)
+        values = fixed(clauses, leaves(machine, circuit, steps))
+        witness = is_witness(machine, steps)
+        right = holds(values, clauses) and agree(machine, circuit, steps, values) and holds(values, extra) == witness
+        tally.check(right, f"{what}: run {number}")
         count += witness
-    return count
+    tally.wants(what, witnesses, count)
 
 
 # A counter of two bits, which begins odd, has to count at each step, and is bad where both bits are set. It has two exclusive ors, and
@@ -308,8 +269,6 @@ def reads_falling(program):
 
 # ---- what is written where there is no room for all of it
 
-AND = b"aag 3 2 0 1 1\n2\n4\n6\n6 4 2\n"
-BINARY_AND = b"aig 3 2 0 1 1\n6\n\x02\x02"
 # A file that doesn't fit into a buffer: three hundred inputs, the last of which has a long name.
 LONG = b"aag 300 300 0 0 0\n" + b"".join(b"%d\n" % (2 * i) for i in range(1, 301)) + b"i299 " + b"a" * 5000 + b"\n"
 # Two nodes with names: what is printed has 32 bytes.
@@ -349,28 +308,14 @@ def displays_whole(program):
 
 
 def main():
-    parser = argparse.ArgumentParser(description=__doc__)
-    parser.add_argument("--program", type=pathlib.Path, default=scripts.PROGRAM)
-    program = parser.parse_args().program
-    faults, count = [], 0
-    for text, k, runs, witnesses in RUNS:
-        for name in ("query", "query_raw"):
-            found = count_witnesses(program, text, k, name, runs)
-            count += runs
-            if found != witnesses:
-                faults.append(f"{name} of {text.splitlines()[0]} with {k} steps: {found} witnesses, not {witnesses}")
+    program, tally = harness.parser(__doc__, "aig_script").parse_args().aig_script, harness.Tally()
+    for row, name in itertools.product(RUNS, ("query", "query_raw")):
+        check_runs(tally, program, row, name)
     for seed in range(40):
-        count += 1
-        if not hashes(program, seed, 14):
-            faults.append(f"hashing the circuit of {seed}")
+        tally.check(hashes(program, seed, 14), f"hashing the circuit of {seed}")
     for holds_so in (refines_deep, reads_falling, leaves_beginnings, writes_long, displays_whole):
-        count += 1
-        if not holds_so(program):
-            faults.append(holds_so.__doc__)
-    for fault in faults:
-        print(fault)
-    print(f"{count} runs and circuits, {len(faults)} faults")
-    return 1 if faults else 0
+        tally.check(holds_so(program), holds_so.__doc__)
+    return tally.end()
 
 
 if __name__ == "__main__":

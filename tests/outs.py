@@ -6,10 +6,8 @@ fail, is built with the C compiler and loaded by LD_PRELOAD.
 """
 import contextlib
 import os
-import pathlib
 import random
 import re
-import resource
 import signal
 import stat
 import struct
@@ -17,9 +15,9 @@ import subprocess
 import threading
 import time
 
-HERE = pathlib.Path(__file__).resolve().parent
-AND = b"aag 3 2 0 1 1\n2\n4\n6\n6 4 2\n"
-BINARY_AND = b"aig 3 2 0 1 1\n6\n\x02\x02"
+from aiger import AND, BINARY_AND, difference
+from harness import limit_files, run
+
 OLD = b"the old bytes"
 NOBODY, STRANGER, STRANGERS = 65534, 1234, 4321
 PART = re.compile(r"(out\.)?[0-9a-f]{16}\.part")
@@ -39,17 +37,8 @@ def chain(gates, falling=False):
 
 def chain_in_binary(gates):
     """The binary form of that text: each gate is one more than its greater operand, which is a letter behind it."""
-    lines = [b"\x01" + spelled(2 * v - 3) for v in range(2, gates + 2)]
+    lines = [b"\x01" + difference(2 * v - 3) for v in range(2, gates + 2)]
     return b"aig %d 1 0 1 %d\n%d\n" % (gates + 1, gates, 2 * gates + 2) + b"".join(lines)
-
-
-def spelled(n):
-    """A number in groups of seven bits, the least first, each but the last with the eighth bit set."""
-    groups = []
-    while n >= 128:
-        groups.append(n % 128 + 128)
-        n //= 128
-    return bytes([*groups, n])
 
 
 def is_root():
@@ -68,25 +57,6 @@ def give(path):
     """Gives a file or a folder to the user that `without_rights` leaves."""
     if is_root():
         os.chown(path, NOBODY, NOBODY)
-
-
-def limit_files(count, ignore):
-    """A limit on the size of files, past which a write fails, and by default ends the program by a signal."""
-
-    def before():
-        if ignore:
-            signal.signal(signal.SIGXFSZ, signal.SIG_IGN)
-        resource.setrlimit(resource.RLIMIT_FSIZE, (count, count))
-
-    return before
-
-
-def build_faults(compiler, folder):
-    """The shim by which calls of the system fail."""
-    library = folder / "faults.so"
-    source = HERE / "outs" / "faults.c"
-    subprocess.run([compiler, "-O2", "-shared", "-fPIC", "-o", library, source, "-ldl"], check=True)
-    return library
 
 
 def contents(name, folder=None):
@@ -242,9 +212,8 @@ def outs_that_are_kept(room):
     room.ends("binary", "and.aag", "folder/mine", before=without_rights)
     room.holds("folder/mine", BINARY_AND)
     room.fails("binary", "and.aag", "folder/new", text=b"cannot create", before=without_rights)
-    found = sorted(path.name for path in folder.iterdir())
+    room.has("kept", "mine", below="folder")
     folder.chmod(0o755)
-    room.check(found == ["kept", "mine"], f"files {found}")
 
 
 def sticky_folders(room):
@@ -258,8 +227,7 @@ def sticky_folders(room):
     out.path = room.path("folder/out")
     room.holds("folder/out", BINARY_AND)
     room.check(out.path.stat().st_ino == out.before.st_ino, "it is written in place")
-    found = sorted(path.name for path in room.path("folder").iterdir())
-    room.check(found == ["out"], f"files {found}")
+    room.has("out", below="folder")
 
 
 def outs_that_cannot_be_made(room):
@@ -469,7 +437,7 @@ def a_real_disk_that_is_full(room):
     folder, size = room.path("disk"), 128 << 10
     folder.mkdir()
     words = ["mount", "-t", "tmpfs", "-o", f"size={size},mode=755", "none", folder]
-    if not is_root() or subprocess.run(words, capture_output=True).returncode:
+    if not is_root() or run(words)[0] != 0:
         return room.skips("no right to mount a small disk")
     try:
         room.write("deep", chain(20_000))
@@ -489,10 +457,9 @@ def a_real_disk_that_is_full(room):
         (folder / "fill").unlink()
         room.ends("binary", "deep", "disk/linked")
         room.holds("disk/linked", chain_in_binary(20_000))
-        found = sorted(path.name for path in folder.iterdir())
-        room.check(found == ["linked"], f"files {found}")
+        room.has("linked", below="disk")
     finally:
-        subprocess.run(["umount", folder], check=True)
+        room.check(run(["umount", folder])[0] == 0, "the disk goes again")
 
 
 def short_writes_go_on(room):
@@ -592,37 +559,3 @@ def kills_leave_the_old_or_the_new(room):
     left = set(room.names()) - {"and.aag", "deep", "out"}
     room.check(all(map(PART.fullmatch, left)), f"left are {left}")
     room.check(set(seen) == {False, True}, f"{sum(seen)} of {len(seen)} runs ended")
-
-
-TESTS = [
-    a_new_out_is_made,
-    a_plain_out_is_replaced,
-    names_may_be_long,
-    rights_of_the_group_are_kept,
-    access_control_lists_are_kept,
-    files_of_others_stay_theirs,
-    special_bits_stay,
-    hard_links_stay_one_file,
-    a_longer_out_is_cut,
-    outs_that_are_kept,
-    sticky_folders,
-    outs_that_cannot_be_made,
-    links_are_followed,
-    links_come_to_an_end,
-    links_to_names_that_are_no_text,
-    links_in_folders_without_a_path,
-    standard_output_goes_on,
-    other_descriptors_are_appended_to,
-    a_descriptor_that_is_none,
-    devices_and_fifos,
-    a_refused_file_leaves_out,
-    limits_on_files_are_told,
-    full_disks_leave_out,
-    a_real_disk_that_is_full,
-    short_writes_go_on,
-    renames_that_are_refused,
-    failed_writes_and_syncs_are_told,
-    what_a_killed_run_leaves,
-    parts_are_private,
-    kills_leave_the_old_or_the_new,
-]

@@ -4,22 +4,22 @@
 Paths that aren't there, folders and closed streams; words that are no command; limits on memory and on the stack, of aigcheck too;
 and, in outs.py, what becomes of OUT.
 """
-import argparse
 import contextlib
+import inspect
 import os
 import pathlib
 import resource
 import shutil
-import subprocess
 import sys
 import tempfile
 
+import harness
 import memory
 import outs
-from outs import AND, BINARY_AND, chain
+from aiger import AND, BINARY_AND
+from harness import limit, limit_files
+from outs import chain
 
-CRATES = pathlib.Path(__file__).resolve().parent.parent / "crates"
-USAGE = b"usage: aigtool text FILE, binary FILE OUT, strash FILE, cnf FILE K [raw], query FILE K [raw]\n"
 CLAUSES_OF_AND = b"p cnf 4 4\n-1 0\n-4 2 0\n-4 3 0\n4 -2 -3 0\n"
 DEEP = 1_000_000
 # As much stack as docs/COMMANDS.md says is enough.
@@ -43,14 +43,12 @@ class Room:
         self.path(name).write_bytes(data)
         self.path(name).chmod(mode)
 
-    def names(self):
-        return sorted(path.name for path in self.folder.iterdir())
+    def names(self, below="."):
+        return sorted(path.name for path in self.path(below).iterdir())
 
     def run(self, *words, before=None, **how):
-        """Runs the program with these words, after a call of `before` in its process."""
-        how.setdefault("stdout", subprocess.PIPE)
-        how.setdefault("stderr", subprocess.PIPE)
-        return subprocess.run([self.tool, *words], cwd=self.folder, env=self.env, preexec_fn=before, timeout=100, **how)
+        """How the program ends with these words, and what it writes, after a call of `before` in its process."""
+        return harness.run([self.tool, *words], cwd=self.folder, env=self.env, preexec_fn=before, **how)
 
     @contextlib.contextmanager
     def faults(self, **calls):
@@ -63,21 +61,19 @@ class Room:
 
     def shell(self, script, *words, status=0):
         """Runs a script in which `$0` is the program and `$1` the first of the words, and checks its status."""
-        run = subprocess.run(["sh", "-c", script, self.tool, *words], cwd=self.folder, env=self.env, capture_output=True, timeout=100)
-        self.check(run.returncode == status, f"{script}, {words}: status {run.returncode}, {run.stderr}")
+        found, _, error = harness.run(["sh", "-c", script, self.tool, *words], cwd=self.folder, env=self.env)
+        self.check(found == status, f"{script}, {words}: status {found}, {error}")
 
     def skips(self, why):
         print(f"skipped: {self.folder.name}: {why}")
 
     def check(self, holds, what):
-        self.tally.append((self.folder.name, what, holds))
+        self.tally.check(holds, f"{self.folder.name}: {what}")
 
     def ends(self, *words, status=0, out=b"", err=b"", **how):
         """Checks how a run ends and what it writes."""
-        run = self.run(*words, **how)
-        found = (run.returncode, run.stdout or b"", run.stderr or b"")
-        what = f"{words}: status {found[0]}, {found[1][:80]}, {found[2][:80]}"
-        self.check(found == (status, out, err), what)
+        found = self.run(*words, **how)
+        self.check(found == (status, out, err), f"{words}: status {found[0]}, {found[1][:80]}, {found[2][:80]}")
 
     def fails(self, *words, text, **how):
         """Checks that a run is refused with this text, and writes nothing else."""
@@ -87,8 +83,8 @@ class Room:
         found = self.path(name).read_bytes() if self.path(name).is_file() else None
         self.check(found == data, f"{name} holds {found and found[:80]}")
 
-    def has(self, *names):
-        self.check(self.names() == sorted(names), f"files {self.names()}")
+    def has(self, *names, below="."):
+        self.check(self.names(below) == sorted(names), f"files {self.names(below)}")
 
 
 # ---- words
@@ -114,7 +110,7 @@ def other_words_are_wrong(room):
     wrong += [["strash", "and.aag", "out.aag"], ["text", "and.aag", "0", "raw"]]
     wrong += [["binary", "and.aag", b"out\xff"]]
     for words in wrong:
-        room.ends(*words, status=2, err=USAGE)
+        room.ends(*words, status=2, err=harness.USAGE["aigtool"])
     room.has("and.aag")
 
 
@@ -161,16 +157,11 @@ def a_limit_on_the_printed_file_is_told(room):
     text = chain(20_000)
     room.write("deep", text)
     with open(room.path("printed"), "wb") as printed:
-        room.fails("text", "deep", text=b"write failed", stdout=printed, before=outs.limit_files(10_000, ignore=True))
+        room.fails("text", "deep", text=b"write failed", stdout=printed, before=limit_files(10_000))
     room.holds("printed", text[:10_000])
 
 
 # ---- limits
-
-
-def limit(what, count):
-    """A limit on what a process may take."""
-    return lambda: resource.setrlimit(what, (count, count))
 
 
 def memory_is_limited(room):
@@ -191,11 +182,11 @@ def depth_takes_no_stack(room):
     room.ends("binary", "deep", "out", before=small)
     room.ends("text", "out", out=text, before=small)
     for command in ["cnf", "query"]:
-        run = room.run(command, "deep", "0", before=small)
+        status, out, _ = room.run(command, "deep", "0", before=small)
         extra = command == "query"
         head = b"p cnf %d %d\n-1 0\n" % (DEEP + 2, 3 * DEEP + 1 + extra)
-        room.check(run.returncode == 0 and run.stdout.startswith(head), f"{command}: {run.stdout[:80]}")
-        room.check(run.stdout.count(b"\n") == 3 * DEEP + 2 + extra, f"{command}: lines")
+        room.check(status == 0 and out.startswith(head), f"{command}: {out[:80]}")
+        room.check(out.count(b"\n") == 3 * DEEP + 2 + extra, f"{command}: lines")
 
 
 def a_small_stack_is_enough(room):
@@ -208,26 +199,12 @@ def a_small_stack_is_enough(room):
     commands = [(room.tool, words) for words, _ in memory.tool_cases(files)]
     commands += [(room.tool, ["binary", "and.aag", out]) for out in ("old", "link", "/dev/fd/1", "/dev/null")]
     commands += [(room.checker, words) for words in memory.CHECKS]
-    room.write("deep", outs.chain(200_000).replace(b" 1 200000\n", b" 0 200000 1\n", 1))
+    room.write("deep", chain(200_000).replace(b" 1 200000\n", b" 0 200000 1\n", 1))
     commands += [(room.checker, [command, "deep", "0"]) for command in ("clauses", "window")]
     for program, words in commands:
         for _ in range(10):
-            run = subprocess.run([program, *words], cwd=room.folder, preexec_fn=limit(resource.RLIMIT_STACK, STACK), capture_output=True)
-            room.check((run.returncode, run.stderr) == (0, b""), f"{program.name} {words}: status {run.returncode}, {run.stderr}")
-
-
-TESTS = [
-    words_give_commands,
-    other_words_are_wrong,
-    files_that_cannot_be_read,
-    the_limit_is_on_variables,
-    a_failed_output_is_told,
-    a_limit_on_the_printed_file_is_told,
-    *outs.TESTS,
-    memory_is_limited,
-    depth_takes_no_stack,
-    a_small_stack_is_enough,
-]
+            status, _, error = harness.run([program, *words], cwd=room.folder, preexec_fn=limit(resource.RLIMIT_STACK, STACK))
+            room.check((status, error) == (0, b""), f"{program.name} {words}: status {status}, {error}")
 
 
 def program(path, folder):
@@ -238,28 +215,27 @@ def program(path, folder):
     return copy
 
 
+def tests():
+    """The functions of a room alone, those of outs.py behind the others."""
+    found = [it for module in (sys.modules[__name__], outs) for it in vars(module).values() if inspect.isfunction(it)]
+    return [it for it in found if [*inspect.signature(it).parameters] == ["room"]]
+
+
 def main():
-    parser = argparse.ArgumentParser(description=__doc__, formatter_class=argparse.RawDescriptionHelpFormatter)
-    parser.add_argument("--tool", type=pathlib.Path, default=CRATES / "aigtool" / "out" / "aigtool", help="the program aigtool")
-    parser.add_argument("--checker", type=pathlib.Path, default=CRATES / "aigcheck" / "out" / "aigcheck", help="the program aigcheck")
-    parser.add_argument("--compiler", default=memory.c_compiler(), help="the C compiler (%(default)s)")
+    parser = harness.parser(__doc__, "aigtool", "aigcheck")
     parser.add_argument("names", nargs="*", help="the tests to run (all)")
-    given = parser.parse_args()
-    tally = []
+    given, tally = parser.parse_args(), harness.Tally()
     with tempfile.TemporaryDirectory() as name:
         folder = pathlib.Path(name)
         folder.chmod(0o755)
-        tool, checker = program(given.tool, folder), given.checker.resolve()
-        faults = outs.build_faults(given.compiler, folder)
-        for test in TESTS:
+        tool, faults = program(given.aigtool, folder), harness.shim("outs/faults.c", folder)
+        for test in tests():
             if not given.names or test.__name__ in given.names:
-                test(Room(tool, checker, faults, folder / test.__name__, tally))
-    for test, what, holds in tally:
-        if not holds:
-            print(f"FAILED: {test}: {what}")
-    failed = sum(not holds for _, _, holds in tally)
-    print(f"{len(tally) - failed} passed, {failed} failed")
-    return failed > 0
+                try:
+                    test(Room(tool, given.aigcheck, faults, folder / test.__name__, tally))
+                except OSError as error:
+                    tally.check(False, f"{test.__name__}: {error}")
+    return tally.end()
 
 
 if __name__ == "__main__":

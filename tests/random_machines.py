@@ -13,7 +13,6 @@ and ABC are the Debian packages cadical and berkeley-abc. It is run by hand, and
 import collections
 import concurrent.futures
 import dataclasses
-import itertools
 import json
 import os
 import random
@@ -21,6 +20,8 @@ import re
 import subprocess
 import sys
 import tempfile
+
+from aiger import Machine, machine_of
 
 TOP = os.path.join(os.path.dirname(os.path.abspath(__file__)), "..")
 EXAMPLES = [os.path.join(TOP, "examples", f"{name}.aag") for name in ["credits", "queue", "pipeline", "handshake"]]
@@ -67,79 +68,6 @@ def witness_of(text):
     return Witness(int(bad[1:]), start, steps)
 
 
-@dataclasses.dataclass
-class Machine:
-    """A file: its lines as lists of literals, and names by their places."""
-
-    inputs: list
-    latches: list
-    bads: list
-    constraints: list
-    gates: list
-    names: dict
-
-    def text(self):
-        """Its text."""
-        variables = len(self.inputs) + len(self.latches) + len(self.gates)
-        lines = [["aag", variables, len(self.inputs), len(self.latches), 0, len(self.gates), len(self.bads), len(self.constraints)]]
-        lines += [*([literal] for literal in self.inputs), *self.latches]
-        lines += [*([literal] for literal in self.bads + self.constraints), *self.gates, *self.names.items()]
-        return "".join(" ".join(map(str, line)) + "\n" for line in lines)
-
-    def values(self, state, inputs):
-        """The values of all literals in a step."""
-        values = {0: False, 1: True}
-        leaves = [*self.inputs, *(latch[0] for latch in self.latches)]
-        for literal, bit in zip(leaves, [*inputs, *state]):
-            values[literal], values[literal + 1] = bit, not bit
-        for gate, left, right in self.gates:
-            values[gate] = values[left] and values[right]
-            values[gate + 1] = not values[gate]
-        return values
-
-    def is_allowed(self, values):
-        """Whether the constraints hold in a step."""
-        return all(values[literal] for literal in self.constraints)
-
-    def following(self, values):
-        """The state after a step."""
-        return tuple(values[latch[1]] for latch in self.latches)
-
-    def starts(self):
-        """All first states."""
-        choices = [[bool(reset)] if reset < 2 else [False, True] for _, _, reset in self.latches]
-        return set(itertools.product(*choices))
-
-    def first_bad(self):
-        """The first step at which a bad state is reached, if ever."""
-        states, seen = self.starts(), set()
-        for k in itertools.count():
-            if not states:
-                return None
-            after = set()
-            for state in states:
-                for inputs in itertools.product([False, True], repeat=len(self.inputs)):
-                    values = self.values(state, inputs)
-                    if self.is_allowed(values):
-                        if any(values[literal] for literal in self.bads):
-                            return k
-                        after.add(self.following(values))
-            seen |= states
-            states = after - seen
-
-    def is_shown(self, witness):
-        """Whether a witness shows its bad state, by simulation."""
-        state = tuple(bit == "1" for bit in witness.start)
-        if state not in self.starts():
-            return False
-        for bits in witness.steps:
-            values = self.values(state, [bit == "1" for bit in bits])
-            if not self.is_allowed(values):
-                return False
-            state = self.following(values)
-        return values[self.bads[witness.bad]]
-
-
 def random_machine(rng):
     """A machine of random gates, with constraints that hold for most inputs."""
     inputs, latches, gates = rng.randint(0, 3), rng.randint(1, 5), rng.randint(3, 20)
@@ -170,7 +98,7 @@ def random_machine(rng):
     sections = {"i": inputs, "l": latches, "b": len(bads)}
     places = [f"{letter}{i}" for letter, count in sections.items() for i in range(count)]
     names = {place: rng.choice(NAMES) for place in places if rng.random() < 0.7}
-    return Machine(leaves[:inputs], resets, bads, constraints, made, names)
+    return Machine(leaves[:inputs], resets, [], bads, constraints, [], [], made, names)
 
 
 def deep_machine(rng):
@@ -179,18 +107,6 @@ def deep_machine(rng):
         machine = random_machine(rng)
         if rng.random() < {0: 0.05, 1: 0.2, None: 0.3}.get(machine.first_bad(), 1):
             return machine
-
-
-def machine_of(file):
-    """The machine of a file without outputs, justice and fairness."""
-    header, *lines = output([TOOL, "text", file]).split("\n")[:-1]
-    inputs, latches, outputs, gates, bads, constraints = ([int(word) for word in header.split()[2:]] + [0] * 4)[:6]
-    lines = iter(lines)
-    section = lambda count: [[int(word) for word in next(lines).split()] for _ in range(count)]
-    given, states = section(inputs), [[*latch, 0][:3] for latch in section(latches)]
-    section(outputs)
-    bads, constraints = ([literal for (literal,) in section(count)] for count in [bads, constraints])
-    return Machine([literal for (literal,) in given], states, bads, constraints, section(gates), {})
 
 
 class Trial:
@@ -381,7 +297,7 @@ class Mangler:
 def main():
     files, tries, seed = [int(word) for word in sys.argv[1:]] + [300, 1000, 1][len(sys.argv) - 1 :]
     rng = random.Random(seed)
-    machines = [machine_of(file) for file in EXAMPLES] + [deep_machine(rng) for _ in range(files)]
+    machines = [machine_of(output([TOOL, "text", file])) for file in EXAMPLES] + [deep_machine(rng) for _ in range(files)]
     with tempfile.TemporaryDirectory() as folder, concurrent.futures.ThreadPoolExecutor() as pool:
         trial = lambda i: Trial(machines[i], os.path.join(folder, str(i))).compare()
         trials = list(pool.map(trial, range(len(machines))))

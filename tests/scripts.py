@@ -8,16 +8,14 @@ out. Below a line `@ WORD ..` the steps are taken once for each of these words, 
 a line that begins with `##`, below which the circuit is a new one. `{PIECE}*N` is the piece N times, with 2, 4, .. for a `#` in it. Other
 lines that begin with `#` say something.
 """
-import argparse
 import ast
 import pathlib
 import re
-import subprocess
 import sys
 import tempfile
 
-HERE = pathlib.Path(__file__).resolve().parent
-PROGRAM = HERE.parent / "crates" / "aig_script" / "out" / "aig_script"
+import harness
+
 EDGE = re.compile(r"AigEdge \{ node_id: (\d+), compl: (true|false) \}")
 GATE = re.compile(r"AigNode \{ node_id: \d+, typ: And\(([^,]*), ([^)]*)\) \}")
 NODE = re.compile(r"AigNode \{ node_id: \d+, typ: ([FL])\w+ \}")
@@ -26,7 +24,6 @@ LITERAL = re.compile(r"(?:Lit \{ code|Var \{ number): (\d+) \}")
 LIST = re.compile(r"(?:(\w+) )?[\[{](.*)[\]}]")
 THREE = {"FALSE": "0", "TRUE": "1", "NONE": "x"}
 QUOTED = re.compile(r'b?"(?:[^"\\]|\\.)*"')
-REPEATED = re.compile(r"\{([^{}]*)\}\*(\d+)")
 CONNECTIVES = {"and", "or", "imply", "eq", "ands", "ors", "trivial_and", "trivial_or", "trivial_ands", "trivial_ors"}
 
 
@@ -64,11 +61,6 @@ def answers(out):
     return [[plain(it) for it in piece.splitlines() if it not in ("call", "answer", "()")] for piece in pieces]
 
 
-def repeated(line):
-    """The line with each piece in braces as often as the number behind it says, and twice the count so far for a `#` in it."""
-    return REPEATED.sub(lambda piece: "".join(piece[1].replace("#", str(2 * i)) for i in range(1, int(piece[2]) + 1)), line)
-
-
 def value(quoted):
     """The bytes that a quoted word says."""
     read = ast.literal_eval(quoted)
@@ -77,7 +69,7 @@ def value(quoted):
 
 def wanted(line):
     """What a line behind `=` says is printed."""
-    line = repeated(line)
+    line = harness.repeated(line)
     return " ".join(map(str, value(line))) if line.startswith('b"') else line
 
 
@@ -103,7 +95,7 @@ def unrolled(path):
         for word in words if steps else []:
             yield steps[0][0], "new", []
             for number, line, prints in steps:
-                yield number, repeated(line.replace("$", word)), prints
+                yield number, harness.repeated(line.replace("$", word)), prints
 
 
 def script_of(steps, folder):
@@ -119,11 +111,11 @@ def script_of(steps, folder):
 
 
 def printed(steps, program, folder):
-    """What the program prints for each step."""
+    """What the program prints for each step, its status, and what it says on standard error."""
     script = folder / "steps"
     script.write_text(script_of(steps, folder))
-    run = subprocess.run([program, script], cwd=folder, capture_output=True, timeout=100)
-    return answers(run.stdout.decode()), run.returncode, run.stderr.decode()
+    status, out, error = harness.run([program, script], cwd=folder)
+    return answers(out.decode()), status, error.decode()
 
 
 def is_as_wanted(line, prints, found):
@@ -133,35 +125,24 @@ def is_as_wanted(line, prints, found):
     return found == prints
 
 
-def failures(path, program):
-    """What is printed otherwise than is wanted, a line each, and the count of steps."""
+def check(tally, path, program):
+    """Checks what is printed for each step of a file."""
     steps = list(unrolled(path))
     with tempfile.TemporaryDirectory() as folder:
         found, status, error = printed(steps, program, pathlib.Path(folder))
-    faults = [
-        f"{path.name}:{number}: {line}: {got}"
-        for (number, line, prints), got in zip(steps, found)
-        if not is_as_wanted(line, prints, got)
-    ]
-    if status or len(found) != len(steps):
-        faults.append(f"{path.name}: ended with {status} after {len(found)} of {len(steps)} steps: {error}")
-    return faults, len(steps)
+    for (number, line, prints), got in zip(steps, found):
+        tally.check(is_as_wanted(line, prints, got), f"{path.name}:{number}: {line}: {got}")
+    if status != 0 or len(found) != len(steps):
+        tally.check(False, f"{path.name}: ended with {status} after {len(found)} of {len(steps)} steps: {error}")
 
 
 def main():
-    parser = argparse.ArgumentParser(description=__doc__)
-    parser.add_argument("--program", type=pathlib.Path, default=PROGRAM)
-    parser.add_argument("names", nargs="*")
-    words = parser.parse_args()
-    paths = [HERE / "scripts" / f"{name}.steps" for name in words.names] or sorted((HERE / "scripts").glob("*.steps"))
-    count, faults = 0, []
-    for path in paths:
-        found, steps = failures(path, words.program)
-        count, faults = count + steps, faults + found
-    for fault in faults:
-        print(fault)
-    print(f"{count - len(faults)} steps as wanted, {len(faults)} not")
-    return 1 if faults or not count else 0
+    parser = harness.parser(__doc__, "aig_script")
+    parser.add_argument("names", nargs="*", help="the files to take (all)")
+    words, tally = parser.parse_args(), harness.Tally()
+    for name in words.names or sorted(path.stem for path in (harness.TESTS / "scripts").glob("*.steps")):
+        check(tally, harness.TESTS / "scripts" / f"{name}.steps", words.aig_script)
+    return tally.end()
 
 
 if __name__ == "__main__":

@@ -1,0 +1,140 @@
+"""Machines as files in AIGER form have them, read, written and run: what tests know of the form without the library.
+
+Literals are those of the text form. A latch is its own literal, the next one and perhaps its reset, which is its own literal where the
+latch begins with either value.
+"""
+import dataclasses
+import itertools
+
+# The and of two inputs, in both forms.
+AND = b"aag 3 2 0 1 1\n2\n4\n6\n6 4 2\n"
+BINARY_AND = b"aig 3 2 0 1 1\n6\n\x02\x02"
+
+
+@dataclasses.dataclass
+class Machine:
+    """The sections of a file, gates above their operands, sets of justice as lists, and names by their places, as i0 and l0."""
+
+    inputs: list
+    latches: list
+    outputs: list
+    bads: list
+    constraints: list
+    justice: list
+    fairness: list
+    gates: list
+    names: dict
+
+    def header(self, form, most=None, all_counts=False):
+        """The header line: with this greatest variable, and with all counts or up to the last that has to be there."""
+        least = len(self.inputs) + len(self.latches) + len(self.gates)
+        counts = [least if most is None else most, *map(len, [self.inputs, self.latches, self.outputs, self.gates])]
+        further = [*map(len, [self.bads, self.constraints, self.justice, self.fairness])]
+        while further and further[-1] == 0 and not all_counts:
+            further.pop()
+        return " ".join([form, *map(str, counts + further)])
+
+    def properties(self):
+        """The lines from the first output to the last fairness literal."""
+        sizes = [len(one) for one in self.justice]
+        return [*self.outputs, *self.bads, *self.constraints, *sizes, *itertools.chain(*self.justice), *self.fairness]
+
+    def name_lines(self):
+        """The lines of names."""
+        return [f"{place} {name}" for place, name in self.names.items()]
+
+    def text(self, **header):
+        """The text file."""
+        rows = [" ".join(map(str, row)) for row in self.latches], [" ".join(map(str, row)) for row in self.gates]
+        return joined([self.header("aag", **header), *self.inputs, *rows[0], *self.properties(), *rows[1], *self.name_lines()])
+
+    def binary(self, **header):
+        """The binary file, of a machine whose inputs, latches and gates have the literals 2, 4, .. in this order."""
+        states = [" ".join(map(str, row[1:])) for row in self.latches]
+        head = joined([self.header("aig", **header), *states, *self.properties()]).encode()
+        gates = (difference(gate - left) + difference(left - right) for gate, left, right in self.gates)
+        return head + b"".join(gates) + joined(self.name_lines()).encode()
+
+    def values(self, state, inputs):
+        """The values of all literals in a step."""
+        values = {0: False, 1: True}
+        leaves = [*self.inputs, *(latch[0] for latch in self.latches)]
+        for literal, bit in zip(leaves, [*inputs, *state], strict=True):
+            values[literal], values[literal + 1] = bit, not bit
+        for gate, left, right in self.gates:
+            values[gate] = values[left] and values[right]
+            values[gate + 1] = not values[gate]
+        return values
+
+    def is_allowed(self, values):
+        """Whether the constraints hold in a step."""
+        return all(values[literal] for literal in self.constraints)
+
+    def following(self, values):
+        """The state after a step."""
+        return tuple(values[latch[1]] for latch in self.latches)
+
+    def starts(self):
+        """All first states."""
+        resets = [latch[2] if len(latch) > 2 else 0 for latch in self.latches]
+        return set(itertools.product(*([bool(reset)] if reset < 2 else [False, True] for reset in resets)))
+
+    def first_bad(self):
+        """The first step at which a bad state is reached, if ever."""
+        states, seen = self.starts(), set()
+        for k in itertools.count():
+            if not states:
+                return None
+            after = set()
+            for state in states:
+                for inputs in itertools.product([False, True], repeat=len(self.inputs)):
+                    values = self.values(state, inputs)
+                    if self.is_allowed(values):
+                        if any(values[literal] for literal in self.bads):
+                            return k
+                        after.add(self.following(values))
+            seen |= states
+            states = after - seen
+
+    def is_shown(self, witness):
+        """Whether a witness shows its bad state, by simulation."""
+        state = tuple(bit == "1" for bit in witness.start)
+        if state not in self.starts():
+            return False
+        for bits in witness.steps:
+            values = self.values(state, [bit == "1" for bit in bits])
+            if not self.is_allowed(values):
+                return False
+            state = self.following(values)
+        return values[self.bads[witness.bad]]
+
+
+def joined(lines):
+    """Lines as a text."""
+    return "".join(f"{line}\n" for line in lines)
+
+
+def difference(number):
+    """A number as binary files spell it: groups of seven bits, the lowest first, each but the last with the eighth bit set."""
+    groups = []
+    while number > 127:
+        groups.append(number & 127 | 128)
+        number >>= 7
+    return bytes([*groups, number])
+
+
+def machine_of(text):
+    """The machine of a text file, without its names; each latch has a reset."""
+    header, *lines = text.splitlines()
+    inputs, latches, outputs, gates, bads, constraints, justice, fairness = ([int(word) for word in header.split()[2:]] + [0] * 4)[:8]
+    rest = iter(lines)
+
+    def rows(count):
+        return [[int(word) for word in next(rest).split()] for _ in range(count)]
+
+    def literals(count):
+        return [literal for (literal,) in rows(count)]
+
+    heads = literals(inputs), [[*row, 0][:3] for row in rows(latches)], literals(outputs), literals(bads), literals(constraints)
+    sets = [literals(size) for size in literals(justice)]
+    return Machine(*heads, sets, literals(fairness), rows(gates), {})

@@ -1,0 +1,103 @@
+"""What the scripts of this folder stand on: where the programs are, how one is run, spelled bytes, and checks that are counted."""
+import argparse
+import os
+import pathlib
+import re
+import resource
+import shutil
+import signal
+import subprocess
+
+TESTS = pathlib.Path(__file__).resolve().parent
+TOP = TESTS.parent
+# What each program says of wrong words.
+USAGE = {
+    "aigtool": b"usage: aigtool text FILE, binary FILE OUT, strash FILE, cnf FILE K [raw], query FILE K [raw]\n",
+    "aigcheck": b"usage: aigcheck clauses FILE K [raw], window FILE K [distinct] [raw], refuted FILE K PROOF [raw], "
+    b"inductive FILE K PROOF [distinct] [raw], witness FILE K SOLUTION [raw], run FILE WITNESS\n",
+}
+# How many seconds a program has to end.
+SECONDS = 100
+REPEATED = re.compile(r"\{([^{}]*)\}\*(\d+)")
+SPELLED = re.compile(r"\\n|\\x([0-9a-f]{2})")
+
+
+def parser(doc, *programs):
+    """The words of a script, with an option for the path of each of these programs, as `--aigtool PATH`: that which `rt run` builds."""
+    made = argparse.ArgumentParser(description=doc, formatter_class=argparse.RawDescriptionHelpFormatter)
+    for name in programs:
+        path = TOP / "crates" / name / "out" / name
+        made.add_argument(f"--{name}", metavar="PATH", type=lambda word: pathlib.Path(word).resolve(), default=path, help="the built program")
+    return made
+
+
+class Tally:
+    """Counts checks, and prints those that fail."""
+
+    def __init__(self):
+        self.passed = self.failed = 0
+
+    def check(self, holds, what):
+        """Counts whether something holds."""
+        self.passed += bool(holds)
+        self.failed += not holds
+        if not holds:
+            print(f"FAILED: {what}")
+
+    def wants(self, what, wanted, given):
+        """Counts whether what is given is what is wanted."""
+        self.check(given == wanted, f"{what}\n  wanted {wanted}\n  given  {given}")
+
+    def end(self):
+        """Prints the counts, and gives the exit status: 1 where a check failed or none was made."""
+        print(f"{self.passed} passed, {self.failed} failed")
+        return 0 if self.passed and not self.failed else 1
+
+
+def run(words, **how):
+    """The status of a program, what it prints, and what it says on standard error, as bytes. One that doesn't end has no status."""
+    try:
+        done = subprocess.run(words, **{"stdout": subprocess.PIPE, "stderr": subprocess.PIPE, "timeout": SECONDS, **how})
+    except subprocess.TimeoutExpired:
+        return None, b"", b"it did not end"
+    return done.returncode, done.stdout or b"", done.stderr or b""
+
+
+def limit(what, count):
+    """What limits a process: a call for `preexec_fn`."""
+    return lambda: resource.setrlimit(what, (count, count))
+
+
+def limit_files(count, ignore=True):
+    """Limits the size of files. A write past that fails where the signal is ignored, and by default ends the program by it."""
+
+    def before():
+        if ignore:
+            signal.signal(signal.SIGXFSZ, signal.SIG_IGN)
+        resource.setrlimit(resource.RLIMIT_FSIZE, (count, count))
+
+    return before
+
+
+def shim(source, folder):
+    """A library that LD_PRELOAD puts before the system's, of a file of C in this folder. The compiler is $CC, cc, clang or gcc."""
+    library = folder / f"{pathlib.Path(source).stem}.so"
+    compiler = next(filter(shutil.which, [os.environ.get("CC", "cc"), "clang", "gcc"]), "cc")
+    subprocess.run([compiler, "-O2", "-shared", "-fPIC", "-o", library, TESTS / source, "-ldl"], check=True)
+    return library
+
+
+def write_files(folder, files):
+    """Writes files of these names and bytes."""
+    for name, data in files.items():
+        (folder / name).write_bytes(data)
+
+
+def repeated(line):
+    """The line with each piece in braces, `{PIECE}*N`, N times, and 2, 4, .. for a `#` in it."""
+    return REPEATED.sub(lambda piece: "".join(piece[1].replace("#", str(2 * i)) for i in range(1, int(piece[2]) + 1)), line)
+
+
+def spelled(text):
+    """The bytes of a text in which `\\n` is a line feed and `\\x` a byte in hexadecimal."""
+    return SPELLED.sub(lambda found: chr(int(found[1], 16)) if found[1] else "\n", text).encode("latin-1")
