@@ -1,11 +1,10 @@
 #!/usr/bin/env python3
-"""Measures examples/prove.py beside the questions that it asks: model_checks.py [GATES [BOUND]]
+"""Measures bin/aigprove beside the questions that it asks: model_checks.py [GATES [BOUND]]
 
 It makes a file of GATES (10000) gates in which tokens go through 52 stages, so that the bad state, which is four tokens in the
 last one, isn't reached up to step BOUND (50). Each row has seconds of processor time and by the clock, all programs together: of
-`aigtool query` and cadical for all steps, of these and `aigcheck window` and cadical for the windows, and of prove.py, which asks
-the same and has the answers checked; and what part of the first two the last is.
-"""
+`aigtool query` and cadical for all steps, and of `aigprove --engine steps`, which asks the same and has the answers checked; and
+what part of the first the last is."""
 import os
 import subprocess
 import sys
@@ -15,8 +14,8 @@ import time
 from circuits import pipeline
 
 TOP = os.path.join(os.path.dirname(os.path.abspath(__file__)), "..")
-PROVE = os.path.join(TOP, "examples", "prove.py")
-TOOL, CHECK = (os.path.join(TOP, "crates", name, "out", name) for name in ["aigtool", "aigcheck"])
+PROVE = os.path.join(TOP, "bin", "aigprove")
+TOOL = os.path.join(TOP, "crates", "aigtool", "out", "aigtool")
 
 
 def measured(call):
@@ -43,13 +42,11 @@ def main():
         with open(file, "w", encoding="ascii") as out:
             out.write(pipeline(gates))
         steps = measured(lambda: [ask([TOOL, "query", file, str(k)], folder) for k in range(bound + 1)])
-        windows = measured(lambda: [ask([CHECK, "window", file, str(k)], folder) for k in range(bound + 1) if k & (k - 1) == 0])
-        proved = measured(lambda: subprocess.run([PROVE, file, str(bound)], stdout=subprocess.DEVNULL, check=True))
-    asked = [step + window for step, window in zip(steps, windows)]
-    for name, times in [("query and solver", steps), ("with windows", asked), ("prove.py", proved)]:
+        words = [PROVE, "--engine", "steps", "--bound", str(bound), file]
+        proved = measured(lambda: subprocess.run(words, stdout=subprocess.DEVNULL, check=True))
+    for name, times in [("query and solver", steps), ("aigprove", proved)]:
         print(f"| {name} | {times[0]:.1f} s | {times[1]:.1f} s |")
-    for name, times in [("query and solver", steps), ("query, window and solver", asked)]:
-        print(f"prove.py / {name}: {proved[0] / times[0]:.2f} of processor time, {proved[1] / times[1]:.2f} by the clock")
+    print(f"aigprove / query and solver: {proved[0] / steps[0]:.2f} of processor time, {proved[1] / steps[1]:.2f} by the clock")
 
 
 main()

@@ -25,7 +25,7 @@ CALLS = [
     ("aig and aig_encode", ["aig", "aig_encode"]),
     ("with the programs", ["aigtool", "aigcheck"]),
     ("with checked answers, witnesses and DIMACS", [
-        "aig_answers", "aig_reduction", "aig_refutation", "aig_witness", "aig_witness_check", "aig_solutions", "aig_dimacs"]),
+        "aig_answers", "aig_edits", "aig_certificates", "aig_reduction", "aig_refutation", "aig_witness", "aig_witness_check", "aig_solutions", "aig_dimacs"]),
 ]
 LAWS = "with the laws"
 # The crates that pass on what their promises rest on, each but for what those before it do.

@@ -2,14 +2,14 @@
 """Compares model checks of small machines: random_machines.py [FILES [TRIES [SEED]]]
 
 For the examples and for FILES (300) random files, with constraints, resets of all three kinds, several bad states and odd names:
-each answer of examples/prove.py, with windows of both forms, is that of a search over all states, and that of ABC's bmc3 and pdr.
-What it prints is the witness that it writes, by names that tell signals apart. `aigcheck run` takes that witness and ABC's
-counterexamples, and takes a witness that is turned at one place exactly where a simulation says that it still shows its bad state.
-`aigcheck refuted` takes none of TRIES (1000) proofs of other clauses, mangled, for steps at which a bad state is reached.
+each answer of bin/aigprove, by each engine alone and by all together, is that of a search over all states, and that of ABC's bmc3
+and pdr. What it prints is the witness that it writes, by names that tell signals apart, and what it keeps is shown again by
+check.sh. `aigcheck run` takes that witness and ABC's counterexamples, and takes a witness that is turned at one place exactly
+where a simulation says that it still shows its bad state. `aigcheck refuted` takes none of TRIES (1000) proofs of other clauses,
+mangled, for steps at which a bad state is reached.
 
-It ends at the first that differs, and else prints one line. The programs are those that were built last, below crates/; the solver
-and ABC are the Debian packages cadical and berkeley-abc. It is run by hand, and is no part of the gate.
-"""
+It ends at the first that differs, and else prints one line. The programs are those that were built last, below crates/; the
+solver and ABC are the Debian packages cadical and berkeley-abc. It is run by hand, and is no part of the gate."""
 import collections
 import concurrent.futures
 import dataclasses
@@ -25,12 +25,12 @@ from aiger import Machine, machine_of
 
 TOP = os.path.join(os.path.dirname(os.path.abspath(__file__)), "..")
 EXAMPLES = [os.path.join(TOP, "examples", f"{name}.aag") for name in ["credits", "queue", "pipeline", "handshake"]]
-PROVE = os.path.join(TOP, "examples", "prove.py")
+PROVE = os.path.join(TOP, "bin", "aigprove")
 TOOL, CHECK = (os.path.join(TOP, "crates", name, "out", name) for name in ["aigtool", "aigcheck"])
 BOUND = 6
-NAMES = ["a", "a", "a b", "a=1", "i0", "l1", "b0", '"a"', "é", "a\\b", "x[0]", "\t", "i0:a"]
+NAMES = ["a", "a", "a b", "a=1", "i0", "l1", "b0", '"a"', "é", "a\\b", "x[0]", "\t", "i0:a", "d[0]", "d[0]", "d[1]", "d[1]", "d[2]", "d"]
 # A signal as it is printed, and its value: its place, a word, or a JSON string that may stand behind the place.
-SIGNAL = re.compile(r'((?:[il]\d+:)?"(?:[^"\\]|\\.)*"|[^\s"=]+)=([01])(?: |$)')
+SIGNAL = re.compile(r'((?:[il]\d+:)?"(?:[^"\\]|\\.)*"|[^\s"=]+)=(?:([01])|(\d+)\'h([0-9a-f]+))(?: |$)')
 
 
 def output(words, statuses=(0,)):
@@ -137,46 +137,76 @@ class Trial:
 
     def compare(self):
         """Compares all answers."""
-        self.compare_proved(self.text, self.machine.names)
-        self.compare_proved(self.binary, {place: name for place, name in self.machine.names.items() if place[0] != "b"}, "--distinct")
+        binary_names = {place: name for place, name in self.machine.names.items() if place[0] != "b"}
+        self.compare_proved(self.text, self.machine.names, "steps", self.first_to(BOUND))
+        self.compare_proved(self.binary, binary_names, "steps,windows", self.first_to(BOUND), "--jobs", "1")
+        self.compare_proved(self.text, self.machine.names, "bmc3", self.first_to(BOUND))
+        self.compare_proved(self.binary, binary_names, "pdr", self.first)
+        self.compare_proved(self.text, self.machine.names, "steps,windows,bmc3,pdr", self.first)
         self.compare_abc("bmc3", f"bmc3 -F {BOUND + 1}", BOUND)
         self.compare_abc("pdr", "pdr", None)
         return self
 
-    def compare_proved(self, file, names, *options):
-        """Compares the answer of the example, which is a step, none at all, or nothing up to the bound."""
-        printed = output([PROVE, *options, file, "--witness", self.witness, str(BOUND)], [0, 10, 20])
-        lines = [line for line in printed.split("\n")[:-1] if not line.startswith("no bad state at step ")]
-        if self.first is not None and self.first <= BOUND:
+    def first_to(self, bound):
+        """The first step at which a bad state is reached, if it is one up to the bound."""
+        return self.first if self.first is not None and self.first <= bound else None
+
+    def compare_proved(self, file, names, engines, first, *options):
+        """Compares an answer, which is a run to a bad state, none at all, or nothing up to the bound. A run has to come where
+        there is a first step, and be no longer by engines that look for the shortest."""
+        keep = f"{file}-{engines}"
+        words = [PROVE, "--engine", engines, *options, file, "--witness", self.witness, "--bound", str(BOUND), "--keep", keep]
+        printed = output(words, [0, 10, 20])
+        lines = [line for line in printed.split("\n")[:-1] if not line.startswith(("no bad state at step ", "certificate: "))]
+        if first is not None:
             with open(self.witness, encoding="ascii") as given:
                 witness = witness_of(given.read())
             self.compare_lines(lines, witness, names)
-            self.compare_witness(witness, len(witness.steps) - 1 == self.first)
+            self.compare_witness(witness, len(witness.steps) - 1 == first or ("pdr" in engines and len(witness.steps) > first))
             self.counts["reached"] += 1
         elif lines[-1] == "no bad state at any step" and self.first is None:
             self.counts["proved safe"] += 1
-        elif lines == [f"no bad state up to step {BOUND}"]:
+        elif lines == [f"no bad state up to step {BOUND}"] if "steps" in engines else lines == ["nothing was shown"] and engines == "bmc3":
             self.counts["open"] += 1
         else:
-            self.fail(f"prove.py: {printed}")
+            self.fail(f"aigprove: {printed}")
+        self.compare_kept(keep, printed)
+
+    def compare_kept(self, folder, printed):
+        """Has what was kept shown again, which prints the same lines, but for those of a run and of what is open."""
+        again = output(["sh", "-c", 'AIGTOOL="$1" AIGCHECK="$2" "$0"/check.sh', folder, TOOL, CHECK])
+        shown = [line.removeprefix("certificate: ") for line in printed.splitlines() if line.startswith(("no bad state at", "certificate: "))]
+        if [line for line in again.splitlines() if line[0] != "b"] != shown:
+            self.fail(f"check.sh prints {again}, and aigprove {printed}")
 
     def compare_lines(self, lines, witness, names):
         """Compares the printed lines with a witness."""
         first, *rest = lines
-        bad = re.fullmatch(rf"a bad state at step {self.first}: b{witness.bad}(?: (.*))?", first)
+        bad = re.fullmatch(rf"a bad state at step {len(witness.steps) - 1}: b{witness.bad}(?: (.*))?", first)
         name = names.get(f"b{witness.bad}")
         if bad is None or (bad[1] and (json.loads(bad[1]) if bad[1][0] == '"' else bad[1])) != name:
-            self.fail(f"prove.py: {first}")
+            self.fail(f"aigprove: {first}")
         for t, (line, bits) in enumerate(zip(rest, [witness.start, *witness.steps], strict=True)):
             letter, label = "li"[t > 0], f"step {t - 1}:" if t else "start:"
-            signals = SIGNAL.findall(line)
-            again = " ".join([label, *(f"{signal}={bit}" for signal, bit in signals)])
-            named = [self.names_place(signal, f"{letter}{i}", names) for i, (signal, _) in enumerate(signals)]
-            if line != again or "".join(bit for _, bit in signals) != bits or not all(named):
-                self.fail(f"prove.py: {line}, and the witness has {bits}")
-        signals = [signal for line in rest[:2] for signal, _ in SIGNAL.findall(line)]
+            if not line.startswith(label) or self.bits_of(line.removeprefix(label).lstrip(" "), letter, len(bits), names) != bits:
+                self.fail(f"aigprove: {line}, and the witness has {bits}")
+        signals = [signal for line in rest[:2] for signal, *_ in SIGNAL.findall(line)]
         if len(set(signals)) < len(signals):
-            self.fail(f"prove.py tells signals not apart: {signals}")
+            self.fail(f"aigprove tells signals not apart: {signals}")
+
+    def bits_of(self, line, letter, count, names):
+        """The bits of all inputs or latches that a line shows, a word's at the places that have its bits' names; None where it
+        doesn't."""
+        bits = {}
+        for signal, bit, width, digits in SIGNAL.findall(line):
+            if bit:
+                place = next(i for i in range(count + 1) if i not in bits and (i == count or self.names_place(signal, f"{letter}{i}", names)))
+                bits[place] = bit
+                continue
+            for n, value in enumerate(reversed(f"{int(digits, 16):0{width}b}")):
+                (place,) = [i for i in range(count) if names.get(f"{letter}{i}") == f"{signal}[{n}]"]
+                bits[place] = value
+        return "".join(bits[i] for i in range(count)) if set(bits) == set(range(count)) and SIGNAL.sub("", line) == "" else None
 
     def names_place(self, signal, place, names):
         """Whether a signal is printed by its name, or by its place where it has none."""

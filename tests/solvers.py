@@ -1,10 +1,12 @@
 #!/usr/bin/env python3
-"""Runs examples/prove.py with solvers that lie, meddle or break, and under closed outputs and signals: solvers.py [AIGTOOL AIGCHECK]
+"""Runs bin/aigprove with engines that lie, meddle or break, and under closed outputs and signals: solvers.py [AIGTOOL AIGCHECK]
 
-The solvers are shell scripts that were written by hand. Each row says what is wanted: the exit status, the lines of standard
-output and standard error (its first line, where more follow). After each nothing is left in the temporary folder.
-"""
+The engines are shell scripts that were written by hand: a SAT solver, and one in the place of ABC. Each row says what is wanted:
+the exit status, the lines of standard output and standard error (its first line, where more follow). After each nothing is left
+in the temporary folder, and no program that was started by an engine runs."""
+import gzip
 import os
+import pty
 import shlex
 import signal
 import subprocess
@@ -14,20 +16,32 @@ import time
 
 HERE = os.path.dirname(os.path.abspath(__file__))
 CRATES = os.path.join(HERE, "..", "crates")
-PROVE = os.path.join(HERE, "..", "examples", "prove.py")
+PROVE = os.path.join(HERE, "..", "bin", "aigprove")
 
 # Bad at step 1, and a latch that keeps 0, which is never bad.
 TOGGLE = "aag 1 0 1 0 0 1\n2 3\n2\n"
 STUCK = "aag 1 0 1 0 0 1\n2 2\n2\n"
+# A latch that is 1 at first, which is bad, and then 0.
+GONE = "aag 1 0 1 0 0 1\n2 0 1\n2\n"
 # Bad where an input is 0 and 1, without latches.
 NEVER = "aag 2 1 0 0 1 1\n2\n4\n4 3 2\n"
-# Says that the machine of `file` is another one, which is safe, wherever a file of that name may stand.
-SAFE_FILE = "for f in $(find $TMPDIR -name file) $(dirname $1)/file; do printf 'aag 1 0 1 0 0 1\\n2 2\\n2\\n' > $f; done; "
-# Writes so to each file in memory that prove.py has open.
-MEMORY = "for f in /proc/$PPID/fd/*; do case $(readlink $f) in /memfd*) (printf 'aag 1 0 1 0 0 1\\n2 2\\n2\\n' > $f) 2> /dev/null;; esac; done; "
+# Bad where the input is 1 at the step after one at which it was 1, from a latch that is open at first, and the constraint is the input.
+OPENED = "aag 3 1 1 0 1 1 1\n2\n4 2 4\n6\n2\n6 4 2\n"
+# The same, of the time before bad state properties.
+OLD = "aag 1 0 1 1 0\n2 3\n2\no0 high\n"
+SAFE = "'aag 1 0 1 0 0 1\\n2 2\\n2\\n'"
+# Says that the machine is another one, which is safe, in each file of the folder above and in each file in memory.
+FILES = f"for f in $(find .. -type f ! -name err); do printf {SAFE} > $f; done; "
+MEMORY = f"for f in /proc/$PPID/fd/*; do case $(readlink $f) in /memfd*) (printf {SAFE} > $f) 2> /dev/null;; esac; done; "
 REFUTES = "echo 0 > $2; exit 20"
-FAULT = "prove: ./solver "
-DISTINCT = "no bad state at any step, if none up to step 0\nno bad state at any step\n"
+SOLVES = "echo 's SATISFIABLE'; echo 'v -1 -2 0'; exit 10"
+# An invariant that excludes nothing, and a counterexample of two steps.
+ANYTHING = "printf '.i 0\\n.o 1\\n.p 0\\n.ilb \\n.ob inv\\n.e\\n' > inv.pla"
+RUN = "printf '# COUNTEREXAMPLE LENGTH: 2\\nl0@0=0\\n# DONE\\n' > run"
+WITNESS = "1\nb0\n0\n\n\n.\n"
+FOLLOWS = "aigcheck: proof step does not follow"
+INDUCTION = "no bad state at any step, if none up to step 0\nno bad state at any step\n"
+REACHED = "a bad state at step 1: b0\nstart: l0=0\nstep 0:\nstep 1:\n"
 
 
 def step(k):
@@ -35,77 +49,205 @@ def step(k):
     return f"no bad state at step {k}\n"
 
 
-def rows():
+def solver_rows():
     """File, what the solver's script does, options, and the status, standard output and first line of standard error."""
-    follows = "aigcheck: proof step does not follow"
-    yield TOGGLE, SAFE_FILE + REFUTES, [], (1, step(0), follows)
-    yield TOGGLE, MEMORY + REFUTES, [], (1, step(0), follows)
-    yield TOGGLE, "printf 'aag 1 0 1 0 0 1\\n2 2\\n2\\n' > t.aag; " + REFUTES, [], (1, step(0), follows)
-    yield TOGGLE, REFUTES, [], (1, step(0), follows)
-    yield TOGGLE, "rm -f $2; mkfifo $2; exit 20", [], (1, step(0), FAULT + "left no file as its proof")
-    yield TOGGLE, "rm -f $2; mkdir $2; exit 20", [], (1, step(0), FAULT + "left no file as its proof")
-    yield TOGGLE, "rm -f $2; ln -s /dev/zero $2; exit 20", [], (1, step(0), FAULT + "left no file as its proof")
-    yield TOGGLE, "rm -f $2; exit 20", [], (1, step(0), "prove: [Errno 2] No such file or directory: ")
-    yield TOGGLE, "exit 0", [], (1, step(0), FAULT + "ended with status 0")
-    yield TOGGLE, "kill -SEGV $$", [], (1, step(0), FAULT + "was ended by SIGSEGV")
+    fault = "aigprove: steps: "
+    for meddling in [FILES, MEMORY, f"printf {SAFE} > $(dirname $0)/t.aag; ", ""]:
+        yield TOGGLE, meddling + REFUTES, [], (1, step(0), fault + FOLLOWS)
+    for leaving in ["mkfifo $2", "mkdir $2", "ln -s /dev/zero $2", "true"]:
+        yield TOGGLE, f"rm -f $2; {leaving}; exit 20", [], (1, step(0), fault + "left no file as its proof")
+    yield TOGGLE, "exit 0", [], (1, step(0), fault + "solver ended with status 0")
+    yield TOGGLE, "kill -SEGV $$", [], (1, step(0), fault + "solver was ended by SIGSEGV")
     yield TOGGLE, "printf '\\033]0;title\\a\\033[2J\\377' >&2; exit 3", [], (1, step(0), "\\x1b]0;title\\x07\\x1b[2J\\xff")
     yield TOGGLE, "head -c 1000000 /dev/zero | tr '\\0' a >&2; exit 3", [], (1, step(0), 4096 * "a")
-    yield TOGGLE, "cat > /dev/null; echo 's SATISFIABLE'; echo 'v -1 -2 0'; exit 10", [], (10, step(0) + "a bad state at step 1: b0\nstart: l0=0\nstep 0:\nstep 1:\n", "")
-    yield TOGGLE, "echo 's SATISFIABLE'; echo 'v 1 2 0'; exit 10", [], (1, step(0), "aigcheck: no bad state property is true in the solution")
-    yield STUCK, "exit 3", ["--distinct"], (1, step(0), FAULT + "ended with status 3")
+    yield TOGGLE, "cat > /dev/null; " + SOLVES, [], (10, step(0) + REACHED, "")
+    yield TOGGLE, "echo 's SATISFIABLE'; echo 'v 1 2 0'; exit 10", [], (1, step(0), fault + "aigcheck: no bad state property is true in the solution")
+    yield TOGGLE, "setsid sleep 1000 & " + SOLVES, [], (10, step(0) + REACHED, "")
+    yield STUCK, "exit 3", ["windows"], (1, "", "aigprove: windows: solver ended with status 3")
+    yield TOGGLE, REFUTES, ["windows"], (1, "", "aigprove: windows: " + FOLLOWS)
+    yield GONE, REFUTES, ["windows"], (0, "nothing was shown\n", "")
+    yield STUCK, REFUTES, ["windows"], (0, "nothing was shown\n", "")
+    yield STUCK, REFUTES, ["steps,windows", "--bound", "0"], (20, step(0) + INDUCTION, "")
     # As cadical does, where the window's clauses have an empty one.
-    yield NEVER, "echo 'd 2 3 0' > $2; exit 20", ["--distinct"], (20, step(0) + DISTINCT, "")
+    yield NEVER, "echo 'd 2 3 0' > $2; exit 20", ["steps,windows", "--bound", "0"], (20, step(0) + INDUCTION, "")
+    yield OLD, SOLVES, [], (10, "the outputs are taken for bad state properties: the file is of a time before these\n" + step(0) + REACHED.replace("b0", "b0 high"), "")
 
 
-def made(folder, file, script):
-    """The words that run prove.py on a file, with a solver that is such a script."""
-    with open(os.path.join(folder, "t.aag"), "w", encoding="ascii") as out:
-        out.write(file)
-    with open(os.path.join(folder, "solver"), "w", encoding="ascii") as out:
-        out.write(f"#!/bin/sh\n{script}\n")
-    os.chmod(os.path.join(folder, "solver"), 0o755)
-    return [PROVE, "--aigtool", TOOLS[0], "--aigcheck", TOOLS[1], "t.aag", "3", "./solver"]
+def abc_rows():
+    """File, what the script in the place of ABC does, options, and the status, standard output and first line of standard error."""
+    yield TOGGLE, ANYTHING, ["pdr"], (1, "", "aigprove: pdr: " + FOLLOWS)
+    yield TOGGLE, FILES + MEMORY + ANYTHING, ["pdr"], (1, "", "aigprove: pdr: " + FOLLOWS)
+    yield TOGGLE, "printf '.ilb l1\\n1 1\\n.e\\n' > inv.pla", ["pdr"], (1, "", "aigprove: pdr: its invariant isn't one of the machine")
+    yield TOGGLE, "printf '.ilb l0\\n111 1\\n.e\\n' > inv.pla", ["pdr"], (1, "", "aigprove: pdr: its invariant isn't one of the machine")
+    yield TOGGLE, "printf 'l0@0=0\\n' > run", ["bmc3"], (1, "", "aigprove: bmc3: its counterexample reaches no bad state")
+    yield TOGGLE, "printf 'l0@999999999999=0\\n' > run", ["bmc3"], (1, "", "aigprove: bmc3: its counterexample reaches no bad state")
+    yield TOGGLE, "printf '# COUNTEREXAMPLE LENGTH: 999999999\\n' > run", ["bmc3"], (1, "", "aigprove: bmc3: its counterexample has too many steps")
+    yield TOGGLE, "head -c 100000 /dev/urandom > run", ["bmc3"], (1, "", "aigprove: bmc3: its counterexample reaches no bad state")
+    yield TOGGLE, "kill -SEGV $$", ["bmc3"], (1, "", "aigprove: bmc3: ABC was ended by SIGSEGV")
+    yield TOGGLE, "ln -s /dev/zero run; mkfifo inv.pla", ["bmc3"], (0, "nothing was shown\n", "")
+    yield TOGGLE, "echo proved; yes | head -c 1000000", ["pdr"], (0, "nothing was shown\n", "")
+    yield TOGGLE, RUN, ["bmc3"], (10, REACHED, "")
+    yield STUCK, ANYTHING, ["pdr"], (20, "certificate: no bad state at step 0\ncertificate: " + INDUCTION, "")
+    # An open latch that is 1 at first, by the name that the machine for ABC has for its input.
+    yield OPENED, "printf '# COUNTEREXAMPLE LENGTH: 1\\ni0@0=1\\nl0@0=0\\nr0@0=1\\n' > run", ["bmc3"], (10, "a bad state at step 0: b0\nstart: l0=1\nstep 0: i0=1\n", "")
+
+
+def given_rows():
+    """File, what somebody else gives, how, and the status, standard output and first line of standard error."""
+    yield TOGGLE, WITNESS, "--run", (10, REACHED, "")
+    yield TOGGLE, "0\n\n# DONE\n", "--run", (1, "", "aigprove: run: WITNESS is neither")
+    yield TOGGLE, "# COUNTEREXAMPLE LENGTH: 2\nl0@0=0\n# DONE\n", "--run", (10, REACHED, "")
+    yield OPENED, "00\n11\n00# DONE\n", "--run", (10, "a bad state at step 0: b0\nstart: l0=1\nstep 0: i0=1\n", "")
+    yield OPENED, "# COUNTEREXAMPLE LENGTH: 1\nlo0@0=0\nlo1@0=0\npi0@0=1\npi1@0=1\n# DONE\n", "--run", (10, "a bad state at step 0: b0\nstart: l0=1\nstep 0: i0=1\n", "")
+    yield STUCK, WITNESS, "--run", (1, "", "aigprove: run: aigcheck: the bad literal is not known to hold")
+    yield STUCK, "1\nb0\n\x1b]0;t\x07\n\n.\n", "--run", (1, "", "aigprove: run: aigcheck: ")
+    yield STUCK, STUCK, "--certificate", (20, "certificate: no bad state at step 0\ncertificate: " + INDUCTION, "")
+    # Certificates of another machine, of too few latches, and of a machine that reaches a bad state.
+    yield TOGGLE, STUCK, "--certificate", (1, "", "aigprove: certificate: " + FOLLOWS)
+    # Inductive, and bad at step 0.
+    yield GONE, GONE, "--certificate", (1, "", "aigprove: certificate: " + FOLLOWS)
+    # With a bad state property that is never true, and with a constraint that makes it so.
+    yield TOGGLE, "aag 1 0 1 0 0 1\n2 3\n0\n", "--certificate", (1, "", "aigprove: certificate: " + FOLLOWS)
+    yield TOGGLE, "aag 1 0 1 0 0 1 1\n2 3\n0\n3\n", "--certificate", (1, "", "aigprove: certificate: " + FOLLOWS)
+    # With a further latch and input, in a text that begins with other variables; and of the time before bad state properties.
+    yield STUCK, "aag 4 1 2 0 0 1\n8\n6 6\n2 8 1\n6\n", "--certificate", (20, "certificate: no bad state at step 0\ncertificate: " + INDUCTION, "")
+    yield STUCK, "aag 1 0 1 1 0\n2 3\n2\n", "--certificate", (20, "certificate: no bad state at step 0\ncertificate: " + INDUCTION, "")
+    yield TOGGLE, NEVER, "--certificate", (1, "", "aigprove: certificate: CERT has fewer inputs or latches than FILE")
+    yield TOGGLE, "aag 1 0 1\n", "--certificate", (1, "", "aigprove: certificate: bad header line in CERT")
+
+
+def file_rows():
+    """What FILE has, and the first line of standard error, with status 1."""
+    yield b"", "aigprove: t.aag: bad header line"
+    yield b"aag 1 0 1 0 0\n2 3\n", "aigprove: t.aag: no bad state property"
+    yield b"aag 1 0 1 1 0 0\n2 3\n2\n", "aigprove: t.aag: no bad state property"
+    yield b"aag 1 0 1 0 0 1\n2 3\n4\n", "aigprove: t.aag: bad literal in bads"
+    yield b"\x1f\x8b\x08", "aigprove: t.aag: "
+
+
+def write(folder, name, text):
+    """Writes a file, which is a program where it is a script."""
+    path = os.path.join(folder, name)
+    with open(path, "wb") as out:
+        out.write(text if isinstance(text, bytes) else text.encode())
+    if text[:2] == "#!":
+        os.chmod(path, 0o755)
 
 
 class Run:
-    """A folder with a file and a solver, and a temporary folder in it."""
+    """A folder with a file and engines, and a temporary folder in it."""
 
-    def __init__(self, folder, file, script):
+    def __init__(self, folder, file, solver="exit 3", abc="exit 3"):
         self.folder, self.temporary = folder, os.path.join(folder, "temporary")
         os.mkdir(self.temporary)
-        self.words = made(folder, file, script)
-        self.environment = {**os.environ, "TMPDIR": self.temporary}
+        write(folder, "t.aag", file)
+        write(folder, "solver", f"#!/bin/sh\n{solver}\n")
+        write(folder, "abc", f"#!/bin/sh\n{abc}\n")
+        self.words = [PROVE, "--aigtool", TOOLS[0], "--aigcheck", TOOLS[1], "--solver", "./solver", "--abc", "./abc", "t.aag"]
+        self.environment = {**os.environ, "TMPDIR": self.temporary, "FOLDER": folder}
 
     def start(self, words, **streams):
         """Starts it."""
         return subprocess.Popen(words, cwd=self.folder, env=self.environment, encoding="ascii", errors="backslashreplace", **streams)
 
+    def result(self, options):
+        """The status, standard output and standard error with further words, and what is left."""
+        process = self.start([*self.words, *options], stdout=subprocess.PIPE, stderr=subprocess.PIPE)
+        given, said = finish(process)
+        return process.returncode, given, said, self.left()
+
     def left(self):
-        """What is left in the temporary folder."""
-        return os.listdir(self.temporary)
+        """What is left in the temporary folder, and the programs that still run with this one's environment."""
+        return os.listdir(self.temporary) + [name for name in os.listdir("/proc") if name.isdecimal() and self.is_ours(name)]
+
+    def is_ours(self, process):
+        """Whether a process has the environment of this run."""
+        try:
+            with open(f"/proc/{process}/environ", "rb") as file:
+                return f"FOLDER={self.folder}".encode() in file.read().split(b"\0")
+        except OSError:
+            return False
 
 
 def finish(process):
     """What a process writes, which is ended after a while if it doesn't end."""
     try:
-        return process.communicate(timeout=20)
+        return process.communicate(timeout=100)
     except subprocess.TimeoutExpired:
-        process.kill()
+        # It ends its engines then.
+        process.terminate()
+        process.wait(60)
         process.stdout and process.stdout.close()
         return "", "it did not end"
 
 
+def compared(given, error):
+    """What a run gave, with the first line of standard error, or whether it begins as it is wanted."""
+    status, out, said, left = given
+    first = said.partition("\n")[0]
+    same = first.startswith(error) if error else said == ""
+    return status, out, same or first, left
+
+
 def answers():
     """What the rows give, and what is wanted."""
-    for file, script, options, (status, out, error) in rows():
+    for file, script, options, (status, out, error) in solver_rows():
         with tempfile.TemporaryDirectory() as folder:
-            run = Run(folder, file, script)
-            words = [*run.words[:-3], *options, *run.words[-3:]]
-            process = run.start(words, stdout=subprocess.PIPE, stderr=subprocess.PIPE)
-            given, said = finish(process)
-            first = said.partition("\n")[0]
-            same = first.startswith(error) if error else said == ""
-            yield script, (status, out, True, []), (process.returncode, given, same or first, run.left())
+            given = Run(folder, file, solver=script).result(["--engine", *(options or ["steps"])] + ["--bound", "3"] * (len(options) < 3))
+            yield script, (status, out, True, []), compared(given, error)
+    for file, script, engine, (status, out, error) in abc_rows():
+        with tempfile.TemporaryDirectory() as folder:
+            given = Run(folder, file, solver=REFUTES, abc=script).result(["--engine", *engine])
+            yield script, (status, out, True, []), compared(given, error)
+    for file, text, option, (status, out, error) in given_rows():
+        with tempfile.TemporaryDirectory() as folder:
+            run = Run(folder, file, solver=REFUTES)
+            write(folder, "given", text)
+            yield (option, text), (status, out, True, []), compared(run.result([option, "given"]), error)
+
+
+def files():
+    """Files that are refused, one that is packed, and one whose names would drive a terminal."""
+    for data, error in file_rows():
+        with tempfile.TemporaryDirectory() as folder:
+            yield data, (1, "", True, []), compared(Run(folder, data).result([]), error)
+    with tempfile.TemporaryDirectory() as folder:
+        run = Run(folder, "")
+        os.rename(os.path.join(folder, "t.aag"), os.path.join(folder, "\x1b[2J.aag"))
+        process = run.start([*run.words[:-1], "\x1b[2J.aag"], stdout=subprocess.PIPE, stderr=subprocess.PIPE)
+        yield "a path", ("", "aigprove: \\x1b[2J.aag: bad header line\n"), finish(process)
+    named = TOGGLE + "l0 a\x1b[2J\nb0 \x1b]0;t\x07\n"
+    shown = 'a bad state at step 1: b0 "\\u001b]0;t\\u0007"\nstart: "a\\u001b[2J"=0\nstep 0:\nstep 1:\n'
+    for data in [named.encode(), gzip.compress(named.encode())]:
+        with tempfile.TemporaryDirectory() as folder:
+            yield data, (10, shown, True, []), compared(Run(folder, data, abc=RUN).result(["--engine", "bmc3"]), "")
+
+
+def hung():
+    """An engine that hangs, where there is a limit of time, and where standard error is a terminal."""
+    with tempfile.TemporaryDirectory() as folder:
+        run = Run(folder, TOGGLE, abc="sleep 1000")
+        yield "a limit of time", (0, "nothing was shown\n", True, []), compared(run.result(["--engine", "pdr", "--timeout", "0.5"]), "")
+    with tempfile.TemporaryDirectory() as folder:
+        run = Run(folder, TOGGLE, abc="sleep 1000")
+        own, other = pty.openpty()
+        process = run.start([*run.words, "--engine", "pdr", "--timeout", "2"], stdout=subprocess.PIPE, stderr=other)
+        given, _ = finish(process)
+        said = os.read(own, 4096).decode()
+        yield "a terminal", (True, True, True, "nothing was shown\n"), ("pdr: 0 s" in said, "pdr: 1 s" in said, said.endswith("\r\x1b[K"), given)
+
+
+def together():
+    """Engines of which all but one lie, break or hang: the answer of that one comes, and the others are ended."""
+    hang = "trap '' TERM INT; setsid sleep 1000 & sleep 1000"
+    for abc in [hang, ANYTHING, FILES + "kill -SEGV $$", "printf 'l0@0=0\\n' > run", "while :; do mkdir d; cd d; done"]:
+        with tempfile.TemporaryDirectory() as folder:
+            status, out, _, left = Run(folder, TOGGLE, solver="sleep 1; " + SOLVES, abc=abc).result([])
+            yield abc, (10, REACHED, []), (status, out[-len(REACHED):], left)
+    for solver in [hang, "exit 0", FILES + REFUTES, "kill -KILL $$"]:
+        with tempfile.TemporaryDirectory() as folder:
+            status, out, _, left = Run(folder, TOGGLE, solver=solver, abc=f"sleep 1; {RUN}").result(["--jobs", "1"])
+            yield solver, (10, REACHED, []), (status, out[-len(REACHED):], left)
 
 
 def closed():
@@ -113,27 +255,73 @@ def closed():
     for redirection in [">&-", "> /dev/full"]:
         with tempfile.TemporaryDirectory() as folder:
             run = Run(folder, TOGGLE, REFUTES)
-            process = run.start(["sh", "-c", f"{shlex.join(run.words)} {redirection}"], stderr=subprocess.PIPE)
+            process = run.start(["sh", "-c", f"{shlex.join(run.words)} --engine steps {redirection}"], stderr=subprocess.PIPE)
             _, said = finish(process)
-            yield redirection, (1, 1, "prove:", []), (process.returncode, said.count("\n"), said[:6], run.left())
+            yield redirection, (1, 1, "aigprove:", []), (process.returncode, said.count("\n"), said[:9], run.left())
 
 
 def ended():
-    """Signals while the solver runs: the folder is removed, and the status tells which."""
+    """Signals while engines run: all is ended and removed in time, and the status tells which. On a quiet machine that is a tenth
+    of a second."""
     for number in [signal.SIGTERM, signal.SIGHUP, signal.SIGINT]:
         with tempfile.TemporaryDirectory() as folder:
-            run = Run(folder, TOGGLE, "touch started; sleep 1; exit 3")
+            run = Run(folder, TOGGLE, "touch $FOLDER/started; setsid sleep 1000 & sleep 1000", "sleep 1000")
             process = run.start(run.words, stdout=subprocess.DEVNULL, stderr=subprocess.PIPE)
             while not os.path.exists(os.path.join(folder, "started")):
                 time.sleep(0.01)
             process.send_signal(number)
+            begun = time.monotonic()
             _, said = finish(process)
-            yield number.name, (128 + number, "", []), (process.returncode, said, run.left())
+            yield number.name, (128 + number, "", [], True), (process.returncode, said, run.left(), time.monotonic() - begun < 5)
+
+
+def killed():
+    """A prover that is killed: its engines end too, though its folder is left."""
+    with tempfile.TemporaryDirectory() as folder:
+        run = Run(folder, TOGGLE, "sleep 2; touch $FOLDER/started; sleep 1000", "sleep 1000")
+        process = run.start(run.words, stdout=subprocess.DEVNULL)
+        while not os.path.exists(os.path.join(folder, "started")):
+            time.sleep(0.01)
+        process.kill()
+        process.wait()
+        begun = time.monotonic()
+        while len(run.left()) > 1 and time.monotonic() - begun < 10:
+            time.sleep(0.01)
+        yield "SIGKILL", 1, len(run.left())
+
+
+def missing():
+    """Engines that aren't installed: each is passed over with a line."""
+    with tempfile.TemporaryDirectory() as folder:
+        run = Run(folder, TOGGLE)
+        run.environment["PATH"] = run.temporary
+        words = [sys.executable, *run.words[:5], "t.aag"]
+        process = run.start(words, stdout=subprocess.PIPE, stderr=subprocess.PIPE)
+        solver, abc = "passed over: cadical is not installed", "passed over: none of berkeley-abc, yosys-abc, abc is installed"
+        wanted = "".join(f"aigprove: {name}: {why}\n" for name, why in [("steps", solver), ("windows", solver), ("bmc3", abc), ("pdr", abc)])
+        yield "nothing is installed", ("", wanted, 1), (*finish(process), process.returncode)
+
+
+def installed():
+    """Programs that are installed, and run with nothing but their folder in PATH."""
+    with tempfile.TemporaryDirectory() as folder:
+        run = Run(folder, TOGGLE, abc=RUN)
+        status = subprocess.run([os.path.join(HERE, "..", "install"), "prefix"], cwd=folder).returncode
+        names = ["aigcheck", "aigprove", "aigtool", "aigwaves"]
+        yield "install", (0, names), (status, sorted(os.listdir(os.path.join(folder, "prefix", "bin"))))
+        prove = os.path.join("prefix", "bin", "aigprove")
+        process = run.start([prove, "--abc", "./abc", "--engine", "bmc3", "--witness", "w", "t.aag"], stdout=subprocess.PIPE, stderr=subprocess.PIPE)
+        yield "installed aigprove", (REACHED, ""), finish(process)
+        process = run.start([os.path.join("prefix", "bin", "aigwaves"), "t.aag", "w"], stdout=subprocess.PIPE, stderr=subprocess.PIPE)
+        given, said = finish(process)
+        yield "installed aigwaves", (True, ""), (given.endswith("#2\n"), said)
 
 
 def main():
+    # Where this is run in the background, what it starts has to end by SIGINT still.
+    signal.signal(signal.SIGINT, signal.default_int_handler)
     failed = count = 0
-    for what, wanted, given in [*answers(), *closed(), *ended()]:
+    for what, wanted, given in [*answers(), *files(), *hung(), *together(), *closed(), *ended(), *killed(), *missing(), *installed()]:
         count += 1
         if given != wanted:
             failed += 1

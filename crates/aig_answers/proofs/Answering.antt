@@ -21,8 +21,8 @@ use Rattle.aig_encode.specs.Encoding.{IsQuery}
 use Rattle.aig_answers.specs.declared.circuits.CircuitQuery.{CircuitQuery}
 use Rattle.aig_answers.specs.declared.error.AnswerError.{AnswerError}
 use Rattle.aig_answers.specs.declared.windows.WindowClauses.{WindowClauses}
-use Rattle.aig_answers.specs.Answers.{IsAsked, IsCircuitQuery, circuit_verdict, circuit_window_verdict, verdict_of}
-use Rattle.aig_answers.specs.Parts.{IsSaidBy}
+use Rattle.aig_answers.specs.Answers.{IsAsked, IsCircuitQuery, verdict_of}
+use Rattle.aig_answers.specs.Parts.{IsSaidBy, circuit_verdict, circuit_window_verdict}
 use Rattle.aig_answers.proofs.Verdicts.{asked_circuit, bads_of}
 
 -- that what encodes a file's circuit encodes the file

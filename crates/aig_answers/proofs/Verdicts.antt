@@ -1,6 +1,7 @@
 -- What is said of a circuit, and of the file that it is of.
 use Rattle.std.proofs.Common.{◌≡◌, ◌≢◌, ℕ, ◌+◌, ◌≤◌, Bool, true, false, Option, List, [], length, map, Result, Ok, Err, refl, sym, ap, subst, ◌∙◌}
 use Rattle.std.specs.Prelude.{◌==◌, nat_lt, if◌then◌else◌, IfErr}
+use Rattle.std.proofs.lemmas.List.{length-map}
 use Rattle.std.proofs.lemmas.Bool.{eqb-false, ltb-false}
 use Rattle.std.proofs.lemmas.Result.{IfErr-weaker}
 use Rattle.aig_circuit.specs.Circuit.{Circuit}
@@ -16,8 +17,8 @@ use Rattle.aig.specs.Reading.{IsFileCircuit}
 use Rattle.aig_unroll.specs.Places.{unrolled_size}
 use Rattle.aig_certify.specs.declared.window.Window.{Window}
 use Rattle.aig_refutation.specs.declared.error.RefutationError.{RefutationError}
-use Rattle.aig_answers.specs.Answers.{IsOfCircuitQuery, IsOfInduction, IsOfQuery, IsOfStep, IsOfWindow, circuit_verdict, circuit_window_verdict, verdict_of, window_size}
-use Rattle.aig_answers.specs.Parts.{IsSaidBy}
+use Rattle.aig_answers.specs.Answers.{IsOfCircuitQuery, IsOfInduction, IsOfQuery, IsOfStep, IsOfWindow, asked_verdict, verdict_of, window_size, window_verdict}
+use Rattle.aig_answers.specs.Parts.{IsSaidBy, circuit_verdict, circuit_window_verdict}
 use Rattle.aig_answers.specs.declared.error.AnswerError.{AnswerError}
 use Rattle.aig_answers.specs.declared.error.AnswerError.TheVariants as errors
 
@@ -63,33 +64,50 @@ module _ (limit k : ℕ) (c : Circuit) where
 
 -- ---- of a file
 
--- what is said of a circuit is said of a file that it is of
-said_of : (of : Circuit → Verdict) (c : Circuit) (v : Verdict) → IsSaidBy (of c) v → (f : File)
-    → IsFileCircuit f c → IsSaidOf (λ g. of (circuit_of g)) f v
-said_of of c Short said f is = subst (λ d. of d ≡ Accepted) is said
-said_of of c v said f is = said ∙ ap of is
-
-said_of_some : (of v : Verdict) → IsOfFile of → IsSaidBy of v → IsOfFile v
-said_of_some of Short is said = tt
-said_of_some of v is said = subst IsOfFile (sym said) is
-
 -- a bad edge is a bad literal
 pub bads_of : (c : Circuit) (f : File) → IsFileCircuit f c → c.properties.bads ≢ []
     → f.properties.bads ≢ []
 bads_of c f is some none = some (ap (λ (d : Circuit). d.properties.bads) is ∙ ap (λ bads. map (edge_of f) bads) none)
 
-module _ (of : Circuit → Verdict) (limit : ℕ) (old new : Option (List ℕ)) (failed : Bool) where
-  -- the bytes are refused in reading
-  pub unread : (e : ReadError) → Judges (λ f. Accepted) limit old new failed (reading.verdict_of e)
-      → Judges (λ f. of (circuit_of f)) limit old new failed (reading.verdict_of e)
-  unread e told = refused_again (λ f. Accepted) (λ f. of (circuit_of f)) limit old new failed (reading.verdict_of e) (of_no_file e) (λ f. tt) told
+empty_alike : (f : File)
+    → (length (circuit_of f).properties.bads == 0) ≡ (length f.properties.bads == 0)
+empty_alike f = ap (λ (n : ℕ). n == 0) (length-map f.properties.bads (edge_of f))
 
-  -- it is said of the circuit that was read
-  pub judged : (c : Circuit) (v : Verdict) → IsOfFile (of c)
-      → IsReadAs (λ bytes. Accepts bytes limit) IsFileCircuit old new c
-      → Judges (λ f. Accepted) limit old new failed Accepted → IsSaidBy (of c) v
-      → Judges (λ f. of (circuit_of f)) limit old new failed v
-  judged c v is read told said = said_of_read (λ f. Accepted) (λ f. of (circuit_of f)) limit old new failed v (said_of_some (of c) v is said) told read (said_of of c v said)
+-- the verdict on a file is that on its circuit
+pub asked_alike : (limit k : ℕ) (f : File)
+    → circuit_verdict limit k (circuit_of f) ≡ asked_verdict limit k f
+asked_alike limit k f = ap (λ (empty : Bool). said_if (nat_lt limit (unrolled_size (circuit_of f) k)) empty Accepted) (empty_alike f)
+
+pub window_alike : (form : Window) (limit k : ℕ) (f : File)
+    → circuit_window_verdict form limit k (circuit_of f) ≡ window_verdict form limit k f
+window_alike form limit k f =
+    let room : Verdict = if nat_lt limit (window_size form (circuit_of f) k) then Crowded else Accepted in
+    ap (λ (empty : Bool). said_if (nat_lt limit (unrolled_size (circuit_of f) (k + 1))) empty room) (empty_alike f)
+
+said_of_some : (of v : Verdict) → IsOfFile of → IsSaidBy of v → IsOfFile v
+said_of_some of Short is said = tt
+said_of_some of v is said = subst IsOfFile (sym said) is
+
+module _ (of : Circuit → Verdict) (also : File → Verdict) (alike : (f : File) → of (circuit_of f) ≡ also f) where
+  -- what is said of a circuit is said of a file that it is of
+  said_of : (c : Circuit) (v : Verdict) → IsSaidBy (of c) v → (f : File) → IsFileCircuit f c
+      → IsSaidOf also f v
+  said_of c Short said f is = sym (alike f) ∙ subst (λ d. of d ≡ Accepted) is said
+  said_of c v said f is = said ∙ ap of is ∙ alike f
+
+  module _ (limit : ℕ) (old new : Option (List ℕ)) (failed : Bool) where
+    -- the bytes are refused in reading
+    pub unread : (e : ReadError)
+        → Judges (λ f. Accepted) limit old new failed (reading.verdict_of e)
+        → Judges also limit old new failed (reading.verdict_of e)
+    unread e told = refused_again (λ f. Accepted) also limit old new failed (reading.verdict_of e) (of_no_file e) (λ f. tt) told
+
+    -- it is said of the circuit that was read
+    pub judged : (c : Circuit) (v : Verdict) → IsOfFile (of c)
+        → IsReadAs (λ bytes. Accepts bytes limit) IsFileCircuit old new c
+        → Judges (λ f. Accepted) limit old new failed Accepted → IsSaidBy (of c) v
+        → Judges also limit old new failed v
+    judged c v is read told said = said_of_read (λ f. Accepted) also limit old new failed v (said_of_some (of c) v is said) told read (said_of c v said)
 
 -- ---- of a proof
 

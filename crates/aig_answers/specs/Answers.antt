@@ -49,27 +49,19 @@ IsAsked limit k bytes f = IsWithin limit k bytes f × (f.properties.bads ≢ [])
 abbrev pub window_size : Window → Circuit → ℕ → ℕ
 window_size form c k = unrolled_size c (k + 1) + count_free form c k
 
--- the verdict on a circuit that is asked for a bad state at step k: its further steps may pass the
--- limit, it has no bad edge, or it is taken
-abbrev pub circuit_verdict : ℕ → ℕ → Circuit → Verdict
-circuit_verdict limit k c =
-    if nat_lt limit (unrolled_size c k) then TooLarge
-    else if length c.properties.bads == 0 then NoBads else Accepted
+-- the verdict on a file that fits and is asked for a bad state at step k: its further steps may
+-- pass the limit, it has no bad literal, or it is taken
+abbrev pub asked_verdict : ℕ → ℕ → File → Verdict
+asked_verdict limit k f =
+    if nat_lt limit (unrolled_size (circuit_of f) k) then TooLarge
+    else if length f.properties.bads == 0 then NoBads else Accepted
 
 -- and on one that is asked for a window, which may have more variables than the limit
-abbrev pub circuit_window_verdict : Window → ℕ → ℕ → Circuit → Verdict
-circuit_window_verdict form limit k c =
-    if nat_lt limit (unrolled_size c (k + 1)) then TooLarge
-    else if length c.properties.bads == 0 then NoBads
-    else if nat_lt limit (window_size form c k) then Crowded else Accepted
-
--- the verdict on a file that fits and is asked for a bad state at step k
-abbrev pub asked_verdict : ℕ → ℕ → File → Verdict
-asked_verdict limit k f = circuit_verdict limit k (circuit_of f)
-
--- the verdict on a file that fits and is asked for a window
 abbrev pub window_verdict : Window → ℕ → ℕ → File → Verdict
-window_verdict form limit k f = circuit_window_verdict form limit k (circuit_of f)
+window_verdict form limit k f =
+    if nat_lt limit (unrolled_size (circuit_of f) (k + 1)) then TooLarge
+    else if length f.properties.bads == 0 then NoBads
+    else if nat_lt limit (window_size form (circuit_of f) k) then Crowded else Accepted
 
 -- ---- errors
 

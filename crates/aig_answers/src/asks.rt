@@ -1,7 +1,8 @@
 //! Whether something is asked of a circuit, and whether there is room for it.
 
 ghost use Rattle.std.specs.Prelude.{◌≡◌, ◌≤◌, ◌↔◌, IfErr, IsTrue};
-ghost use Rattle.aig_answers.specs.Answers.{IsOfQuery, circuit_verdict, verdict_of};
+ghost use Rattle.aig_answers.specs.Answers.{IsOfQuery, verdict_of};
+ghost use Rattle.aig_answers.specs.Parts.{circuit_verdict};
 ghost use Rattle.aig_reader.specs.Verdicts.{verdict_by};
 ghost use Rattle.aig_unroll.specs.Places.{unrolled_size};
 

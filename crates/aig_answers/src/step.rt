@@ -1,8 +1,8 @@
 //! No bad state at a step.
 
 ghost use Rattle.std.specs.Prelude.{◌≡◌, ◌≢◌, ◌^◌, ◌≤◌, IfErr, IfOk, IsErrOf, IsTrue, length};
-ghost use Rattle.aig_answers.specs.Answers.{IsAsked, IsCircuitQuery, IsOfQuery, IsOfStep, asked_verdict, circuit_verdict, verdict_of};
-ghost use Rattle.aig_answers.specs.Parts.{IsSaidBy};
+ghost use Rattle.aig_answers.specs.Answers.{IsAsked, IsCircuitQuery, IsOfQuery, IsOfStep, asked_verdict, verdict_of};
+ghost use Rattle.aig_answers.specs.Parts.{IsSaidBy, circuit_verdict};
 ghost use Rattle.aig_base.specs.Clauses.{AreBelow};
 ghost use Rattle.aig_certify.specs.Safety.{IsSafeAt};
 ghost use Rattle.aig_encode.specs.Encoding.{IsQuery};

@@ -1,8 +1,8 @@
 //! Windows of steps that keep a machine safe.
 
 ghost use Rattle.std.specs.Prelude.{◌≡◌, ◌≢◌, ◌+◌, ◌*◌, ◌≤◌, ◌<◌, ◌^◌, ◌↔◌, ◌++◌, [], IfErr, IfOk, IsErrOf, IsTrue, OnOk, length, replicate};
-ghost use Rattle.aig_answers.specs.Answers.{IsAsked, IsOfInduction, IsOfWindow, circuit_window_verdict, verdict_of, window_size, window_verdict};
-ghost use Rattle.aig_answers.specs.Parts.{IsSaidBy};
+ghost use Rattle.aig_answers.specs.Answers.{IsAsked, IsOfInduction, IsOfWindow, verdict_of, window_size, window_verdict};
+ghost use Rattle.aig_answers.specs.Parts.{IsSaidBy, circuit_window_verdict};
 ghost use Rattle.aig_base.specs.Clauses.{AreBelow};
 ghost use Rattle.aig_certify.specs.Induction.{IsKInductive};
 ghost use Rattle.aig_certify.specs.WindowClauses.{AsksWindow, count_free, states_clauses, watched};

@@ -1,6 +1,8 @@
 //! Small callers of the library, as a crate above it writes them: their proofs cite public clauses and laws alone.
 #![tactic(auto)]
 
+mod shown;
+
 ghost use Rattle.std.specs.Prelude.{◌≡◌, ◌&&◌, ◌||◌, ◌<◌, ◌≤◌, ◌^◌, ℕ, Bool, IfOk, IfSome, length, not, true};
 ghost use Rattle.aig.specs.Build.{AddsOnlyGates};
 ghost use Rattle.aig.specs.Circuit.{IsClosed, IsInRange};
@@ -18,6 +20,7 @@ use aig::{Aig, AigEdge, TernarySimulate};
 use aig_base::{DagCnf, Lbool, Lit, MemoryError, VarVMap};
 use aig_circuit::{further_gates_are_gates, inverses_have_other_values, leaves_fix_values};
 use aig_cnf::literals_have_edge_values;
+pub use shown::is_shown_safe;
 
 /// Adds gates for: one of both edges is true, and the other isn't.
 pub fn exclusive_or(aig: &mut Aig, one: AigEdge, other: AigEdge) -> Result<AigEdge, MemoryError>

@@ -28,6 +28,7 @@ use Rattle.aig_join.specs.Joined.{CanShare, first_leaves, further_leaves, joined
 use Rattle.aig_join.specs.Names.{is_taken, other_name}
 use Rattle.aig_join.specs.Numbers.{AreShared}
 use Rattle.aig_join.specs.Pairs.{AgreeOnShared, JoinsRuns, without_latches}
+use Rattle.aig_join.proofs.Grown.{init-back, init-forth}
 use Rattle.aig_join.proofs.Naming.{any-name, get-with_names, get-with_names_other, names-within, unnamed, with_names-have, within-names}
 use Rattle.aig_join.proofs.Shared.{IsOther, cases, leaf-some, number-shared}
 use Rattle.aig_join.proofs.Nodes.{AreNodes-joint, Grows-joint, IsOrdered-joint, Renumbers-joint, added, joint, kind-number, number-of_other, number-of_shared, number-within, other-past, others-apart}
@@ -521,16 +522,6 @@ module _ (latches : ℕ) (first second : Circuit) (is : IsCircuit first) (other 
         (rest_latchs-are k d l).next))),
   )
 
-  first_forth : (z : ℕ → Bool) (n : ℕ) (o : Option AigEdge) → IfSome o (IsInRange first.nodes)
-      → IfSome o (λ e. edge_value new z e ≡ z n) → IfSome o (λ e. edge_value first.nodes z e ≡ z n)
-  first_forth z n (Some e) s h = sym (first_value z e s) ∙ h
-  first_forth z n None s h = tt
-
-  first_back : (z : ℕ → Bool) (n : ℕ) (o : Option AigEdge) → IfSome o (IsInRange first.nodes)
-      → IfSome o (λ e. edge_value first.nodes z e ≡ z n) → IfSome o (λ e. edge_value new z e ≡ z n)
-  first_back z n (Some e) s h = first_value z e s ∙ h
-  first_back z n None s h = tt
-
   second_forth : (z : ℕ → Bool) (n : ℕ) (o : Option AigEdge) → IfSome o (IsInRange second.nodes)
       → IfSome (option_map (renumbered_edge number) o) (λ e. edge_value new z e ≡ z (number n))
       → IfSome o (λ e. edge_value second.nodes (λ m. z (number m)) e ≡ z (number n))
@@ -550,7 +541,7 @@ module _ (latches : ℕ) (first second : Circuit) (is : IsCircuit first) (other 
     λ start. (
       λ k d l.
           let latch = get_or first.latchs k d in
-          first_forth z latch.input latch.init (is.latchs k d l).init
+          init-forth first.nodes new z (first_value z) latch.input latch.init (is.latchs k d l).init
           (All-first (λ latch. IfSome latch.init (λ e. edge_value new z e ≡ z latch.input))
           first.latchs (map (renumbered_latch number) rest_latchs) start k d l),
       λ k d l.
@@ -563,8 +554,8 @@ module _ (latches : ℕ) (first second : Circuit) (is : IsCircuit first) (other 
     ),
     λ both. All-append (λ latch. IfSome latch.init (λ e. edge_value new z e ≡ z latch.input))
         first.latchs (map (renumbered_latch number) rest_latchs)
-        (λ k d l. first_back z (get_or first.latchs k d).input (get_or first.latchs k d).init
-        (is.latchs k d l).init (both.0 k d l))
+        (λ k d l. init-back first.nodes new z (first_value z) (get_or first.latchs k d).input
+        (get_or first.latchs k d).init (is.latchs k d l).init (both.0 k d l))
         (All-map (λ latch. IfSome latch.init (λ e. edge_value new z e ≡ z latch.input))
         (renumbered_latch number) rest_latchs
         (λ k d l. second_back z (get_or rest_latchs k d).input (get_or rest_latchs k d).init

@@ -1,4 +1,4 @@
--- Part of what laws say, and of no promise of a call.
+-- Part of what is promised.
 -- Machines of two files that have the same inputs, and whose outputs and bad states are the same.
 use Rattle.std.specs.Prelude.{◌≡◌, ℕ, ◌/◌, ◌≤◌, Bool, ◌++◌, length}
 use Rattle.std.specs.List.{AllZip}

@@ -1,4 +1,4 @@
--- Part of what laws say, and of no promise of a call.
+-- Part of what is promised.
 -- Two circuits joined in one by leaves that both have: the first inputs, and perhaps the first
 -- latches. (Miters of equivalence checking; witness circuits of the hardware model checking
 -- competition.)

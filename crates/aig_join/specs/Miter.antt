@@ -1,4 +1,4 @@
--- Part of what laws say, and of no promise of a call.
+-- Part of what is promised.
 -- The miter of two circuits: both over the same inputs, with a bad edge for each pair of outputs
 -- and of bad edges that is true where the two differ. (Equivalence checking.)
 use Rattle.std.specs.Prelude.{◌≡◌, ◌≢◌, ℕ, ◌≤◌, ◌↔◌, Bool, IsTrue, List, [], ◌∷◌, ◌++◌, map, length, Some, slice_get}

@@ -1,4 +1,4 @@
--- Part of what laws say, and of no promise of a call.
+-- Part of what is promised.
 -- The names of a joint circuit: those of the first, and those of the second one's further inputs
 -- and latches behind a prefix.
 use Rattle.std.specs.Prelude.{ℕ, if◌then◌else◌, Bool, false, codes, Option, Some, None, List, [], ◌∷◌, ◌++◌}

@@ -1,2 +1,5 @@
 pub mod Turns
 pub mod Solutions
+pub mod Reading
+pub mod Lines
+pub mod Checked

@@ -2,7 +2,7 @@
 -- From values of the variables of a query's clauses to the witness that they say. (Bounded model
 -- checking; AIGER 1.9, "Witness format".) A variable of the clauses is a node of the unrolled
 -- circuit.
-use Rattle.std.specs.Prelude.{◌≡◌, ◌≢◌, ℕ, ◌+◌, ◌<◌, ◌≤◌, ◌^◌, Bool, false, Some, List, length, map, slice_get, slice_index_or}
+use Rattle.std.specs.Prelude.{◌≡◌, ◌≢◌, ℕ, ◌+◌, ◌<◌, ◌≤◌, ◌^◌, Bool, false, Option, Some, None, List, length, map, slice_get, slice_index_or}
 use Rattle.aig_base.specs.declared.logic.three.Lbool.{Lbool}
 use Rattle.aig_base.specs.declared.logic.three.Lbool.TheVariants.{TRUE, NONE}
 use Rattle.aig_base.specs.Three.{lbool_not_if}
@@ -11,7 +11,9 @@ use Rattle.aig_circuit.specs.Edge.{edge_to}
 use Rattle.aig_circuit.specs.Circuit.{Circuit}
 use Rattle.aig_unroll.specs.Places.{place_at}
 use Rattle.aig_runs.specs.Queries.{last_bads}
-use Rattle.aig_witness.specs.Witness.{Witness}
+use Rattle.aig_encode.specs.declared.encoding.Encoded.{Encoded}
+use Rattle.aig_witness.specs.declared.witness.Witness as lists
+use Rattle.aig_witness.specs.Witness.{Witness, said_by}
 use Rattle.aig_witness_check.specs.Shown.{known_of}
 
 -- the value of variable n: unknown where there is none
@@ -57,6 +59,11 @@ pub record IsWitnessIn (c unrolled : Circuit) (k : ℕ) (values : List Lbool) (w
   pub state : w.state ≡ state_in c values
   pub steps : AreInputsTo c unrolled k values w.steps
   pub bad : IsFirstTrue (last_bads c k unrolled) values w.bad
+
+-- that witness of a query for step k, or none where no bad edge is true
+abbrev pub WitnessOf : Encoded → ℕ → List Lbool → Option lists.Witness → Type 0
+WitnessOf e k values (Some w) = IsWitnessIn e.circuit e.unrolled k values (said_by w)
+WitnessOf e k values None = HasNoTrue (last_bads e.circuit k e.unrolled) values
 
 -- the values are those of the assignment, for each variable below the count
 abbrev pub AreValuesOf : (ℕ → Bool) → ℕ → List Lbool → Type 0

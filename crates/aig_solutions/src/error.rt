@@ -1,16 +1,13 @@
 //! Why there is no witness.
 
 ghost use Rattle.std.specs.Prelude.{◌≡◌};
-ghost use Rattle.aig_solutions.specs.declared.error.CheckedWitnessError.TheVariants as checked;
-ghost use Rattle.aig_solutions.specs.declared.error.SolutionError.TheVariants as solutions;
-ghost use Rattle.aig_solutions.specs.declared.error.ValuesError.TheVariants as valued;
+ghost use Rattle.aig_solutions.specs.declared.error.SolutionError.TheVariants as errors;
 
 use aig_base::{MemoryError, StreamFault};
 use aig_witness_check::WitnessFault;
-use std::alloc::{AllocError, AllocFailed};
 use thiserror::Error;
 
-/// Why a solver's answer gives no values.
+/// Why a solver's answer gives no values, or these no witness of a bad state.
 #[derive(Clone, Copy, Debug, PartialEq, Eq, Error)]
 pub enum SolutionError {
     /// Memory ran out.
@@ -43,109 +40,34 @@ pub enum SolutionError {
     /// The stream ended before the 0.
     #[error("solution ends before its 0")]
     Unfinished,
+    /// No bad state property is true at the last step.
+    #[error("no bad state property is true in the solution")]
+    NoBad,
+    /// The witness that the values say shows no bad state.
+    #[error("{0}")]
+    Check(WitnessFault),
 }
 
-impl From<AllocError> for SolutionError {
-    ghost from_gives = { λ _ r. r ≡ solutions.Memory };
+impl From<MemoryError> for SolutionError {
+    ghost from_gives = { λ _ r. r ≡ errors.Memory };
 
-    fn from(_error: AllocError) -> SolutionError {
-        SolutionError::Memory
-    }
-}
-
-impl<T: Drop> From<AllocFailed<T>> for SolutionError {
-    ghost from_gives = { λ _ r. r ≡ solutions.Memory };
-
-    fn from(_error: AllocFailed<T>) -> SolutionError {
+    fn from(_error: MemoryError) -> SolutionError {
         SolutionError::Memory
     }
 }
 
 impl From<StreamFault> for SolutionError {
-    ghost from_gives = { λ _ r. r ≡ solutions.Stream };
+    ghost from_gives = { λ _ r. r ≡ errors.Stream };
 
     fn from(_fault: StreamFault) -> SolutionError {
         SolutionError::Stream
     }
 }
 
-/// Why values of the variables of a query's clauses give no witness.
-#[derive(Clone, Copy, Debug, PartialEq, Eq, Error)]
-pub enum ValuesError {
-    /// Memory ran out.
-    #[error("out of memory")]
-    Memory,
-    /// No bad state property is true at the last step.
-    #[error("no bad state property is true in the solution")]
-    NoBad,
-}
+impl From<WitnessFault> for SolutionError {
+    ghost from_gives = { λ e r. r ≡ errors.Check e };
 
-impl From<MemoryError> for ValuesError {
-    ghost from_gives = { λ _ r. r ≡ valued.Memory };
-
-    fn from(_error: MemoryError) -> ValuesError {
-        ValuesError::Memory
-    }
-}
-
-impl From<AllocError> for ValuesError {
-    ghost from_gives = { λ _ r. r ≡ valued.Memory };
-
-    fn from(_error: AllocError) -> ValuesError {
-        ValuesError::Memory
-    }
-}
-
-impl<T: Drop> From<AllocFailed<T>> for ValuesError {
-    ghost from_gives = { λ _ r. r ≡ valued.Memory };
-
-    fn from(_error: AllocFailed<T>) -> ValuesError {
-        ValuesError::Memory
-    }
-}
-
-/// Why a solver's answer gives no checked witness.
-#[derive(Clone, Copy, Debug, PartialEq, Eq, Error)]
-pub enum CheckedWitnessError {
-    /// The answer gives no values.
-    #[error("{0}")]
-    Solution(SolutionError),
-    /// The values give no witness.
-    #[error("{0}")]
-    Values(ValuesError),
-    /// The witness shows no bad state.
-    #[error("{0}")]
-    Check(WitnessFault),
-}
-
-impl From<SolutionError> for CheckedWitnessError {
-    ghost from_gives = { λ e r. r ≡ checked.Solution e };
-
-    fn from(error: SolutionError) -> CheckedWitnessError {
-        CheckedWitnessError::Solution(error)
-    }
-}
-
-impl From<ValuesError> for CheckedWitnessError {
-    ghost from_gives = { λ e r. r ≡ checked.Values e };
-
-    fn from(error: ValuesError) -> CheckedWitnessError {
-        CheckedWitnessError::Values(error)
-    }
-}
-
-impl From<WitnessFault> for CheckedWitnessError {
-    ghost from_gives = { λ e r. r ≡ checked.Check e };
-
-    fn from(error: WitnessFault) -> CheckedWitnessError {
-        CheckedWitnessError::Check(error)
-    }
-}
-
-impl From<MemoryError> for CheckedWitnessError {
-    ghost from_gives = { λ _ r. r ≡ checked.Values valued.Memory };
-
-    fn from(_error: MemoryError) -> CheckedWitnessError {
-        CheckedWitnessError::Values(ValuesError::Memory)
+    fn from(fault: WitnessFault) -> SolutionError {
+        SolutionError::Check(fault)
     }
 }

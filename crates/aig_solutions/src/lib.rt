@@ -1,16 +1,18 @@
 //! From a solver's answer to a query to a witness of a bad state.
 #![tactic(auto)]
 
+mod answer;
 mod checked;
 mod error;
 mod laws;
 mod places;
 mod reading;
+mod values;
 mod witness;
 mod words;
 
 pub use checked::checked_witness;
-pub use error::{CheckedWitnessError, SolutionError, ValuesError};
+pub use error::SolutionError;
 pub use laws::solutions_show;
 pub use places::Places;
 pub use reading::read_solution;

@@ -1,177 +1,131 @@
 //! Reading solvers' answers, as in the SAT competitions.
 
-ghost use Rattle.std.specs.Prelude.{◌≡◌, IfOk, IsErrOf, IsTrue, length, true};
+ghost use Rattle.std.specs.Prelude.{◌≡◌, false, IfOk, replicate};
+ghost use Rattle.aig_base.specs.declared.logic.three.Lbool.TheVariants.{NONE};
+ghost use Rattle.aig_lexer.specs.Takes.{feed};
+ghost use Rattle.aig_solutions.specs.Lines.{Answers, AnswersLast, FindsLine, GoesOnAnswered, TakesValueLine};
+ghost use Rattle.aig_solutions.specs.Reading.{GivesSolution, lines_of, solution_from, wrong_end};
 
+use crate::answer::read_answer;
 use crate::error::SolutionError;
-use crate::words::{Word, is_blank, next_word};
-use aig_base::{Lbool, Source};
+use crate::values::{Reached, read_values};
+use crate::words::end_of;
+use aig_base::{Lbool, MemoryError, Source, StreamFault};
 use aig_lexer::InputBuffer;
 use std::alloc::Global;
 
 /// The first byte of the next line that is neither empty nor a comment, past blanks, if there is one.
-fn first_byte<R: Source>(buffer: &mut InputBuffer, r: &mut R) -> Result<Option<u8>, SolutionError>
-    ensures { IsErrOf result SolutionError.Stream → R.failed r.new ≡ true }
+fn first_byte<R: Source>(buffer: &mut InputBuffer, r: &mut R) -> Result<Option<u8>, StreamFault>
+    ensures { FindsLine (feed R.left R.failed R.pulls buffer.old r.old)
+        (feed R.left R.failed R.pulls buffer.new r.new) result }
 {
     let mut is_comment = false;
     while let Some(b) = buffer.next(r)? {
-        if b == b'\n' {
-            is_comment = false;
+        if is_comment {
+            is_comment = b != b'\n';
         } else if b == b'c' {
             is_comment = true;
-        } else if !is_comment && !is_blank(b) {
-            return Ok(Some(b));
+        } else {
+            match end_of(b) {
+                Some(_) => {}
+                None => return Ok(Some(b)),
+            }
         }
     }
     Ok(None)
 }
 
-/// The most bytes that are held of the line of an answer.
-const LONGEST: usize = 16;
-
-/// Appends what stands in a line after its first byte: its words, with a space for the blanks before each.
-fn push_rest_of_line<R: Source>(
-    buffer: &mut InputBuffer,
-    r: &mut R,
-    rest: &mut Vec<u8>,
-) -> Result<(), SolutionError>
-    ensures { IsErrOf result SolutionError.Stream → R.failed r.new ≡ true }
+/// Reads the line of the answer after all values, past lines that say nothing.
+fn read_last_answer<R: Source>(buffer: &mut InputBuffer, r: &mut R) -> Result<(), SolutionError>
+    ensures { AnswersLast (feed R.left R.failed R.pulls buffer.old r.old)
+        (feed R.left R.failed R.pulls buffer.new r.new) result }
 {
-    let mut is_apart = false;
-    while let Some(b) = buffer.next(r)? {
-        if b == b'\n' {
-            return Ok(());
-        }
-        if is_blank(b) {
-            is_apart = true;
-            continue;
-        }
-        if rest.len() >= LONGEST {
-            return Err(SolutionError::Answer);
-        }
-        if is_apart {
-            rest.push(b' ')?;
-            is_apart = false;
-        }
-        rest.push(b)?;
+    let Some(first) = first_byte(buffer, r)? else {
+        return Err(SolutionError::Answer);
+    };
+    if first != b's' {
+        return Err(SolutionError::Answer);
+    }
+    read_answer(buffer, r)?;
+    Ok(())
+}
+
+/// What is wrong where the lines end, by whether an answer was read.
+fn wrong_end(is_answered: bool) -> SolutionError
+    ensures { result ≡ wrong_end is_answered }
+{
+    if is_answered {
+        SolutionError::Unfinished
+    } else {
+        SolutionError::Answer
+    }
+}
+
+/// Reads the line of the answer after its first byte, which other lines are to follow.
+fn read_answered<R: Source>(buffer: &mut InputBuffer, r: &mut R) -> Result<(), SolutionError>
+    ensures { GoesOnAnswered (feed R.left R.failed R.pulls buffer.old r.old)
+        (feed R.left R.failed R.pulls buffer.new r.new) result }
+{
+    if !read_answer(buffer, r)? {
+        return Err(SolutionError::Unfinished);
     }
     Ok(())
 }
 
-/// Whether the answer is `SATISFIABLE`, by what stands in its line after the first byte.
-fn accept_answer(rest: &[u8]) -> Result<(), SolutionError>
-    ensures { IsErrOf result SolutionError.Stream → ⊥ }
-{
-    if rest == b" SATISFIABLE".as_slice() {
-        Ok(())
-    } else if rest == b" UNSATISFIABLE".as_slice() {
-        Err(SolutionError::Unsatisfiable)
-    } else if rest == b" UNKNOWN".as_slice() {
-        Err(SolutionError::Unknown)
-    } else {
-        Err(SolutionError::Answer)
-    }
-}
-
-/// Reads the line of an answer after its `s`. Other answers than `SATISFIABLE` are refused.
-fn read_answer<R: Source>(
-    alloc: Global,
-    buffer: &mut InputBuffer,
-    r: &mut R,
-) -> Result<(), SolutionError>
-    ensures { IsErrOf result SolutionError.Stream → R.failed r.new ≡ true }
-{
-    let mut rest = Vec::with_capacity(alloc, LONGEST)?;
-    push_rest_of_line(buffer, r, &mut rest)?;
-    accept_answer(rest.as_slice())
-}
-
-/// Gives the variable of a literal its value.
-fn set_value(values: &mut [Lbool], word: &Word) -> Result<(), SolutionError>
-    ensures { IsErrOf result SolutionError.Stream → ⊥ }
-{
-    let Some(variable) = word.number.checked_sub(1) else {
-        return Err(SolutionError::Literal);
-    };
-    let variable = variable as usize;
-    if variable >= values.len() {
-        return Err(SolutionError::Variable);
-    }
-    let value = if word.positive {
-        Lbool::TRUE
-    } else {
-        Lbool::FALSE
-    };
-    if values[variable] == !value {
-        return Err(SolutionError::Clash);
-    }
-    values[variable] = value;
-    Ok(())
-}
-
-/// Takes the byte after the first of a line of values, and says whether the line goes on.
-fn goes_on<R: Source>(buffer: &mut InputBuffer, r: &mut R) -> Result<bool, SolutionError>
-    ensures { IsErrOf result SolutionError.Stream → R.failed r.new ≡ true }
-{
-    match buffer.next(r)? {
-        None | Some(b'\n') => Ok(false),
-        Some(b) if is_blank(b) => Ok(true),
-        Some(_) => Err(SolutionError::Line),
-    }
-}
-
-/// Reads the literals of a line, after its first byte, and says whether the 0 stands there.
-fn read_values<R: Source>(
+/// Reads a line of values after its first byte, and says whether all lines were read up to the answer and to the 0.
+fn read_value_line<R: Source>(
     buffer: &mut InputBuffer,
     r: &mut R,
     values: &mut [Lbool],
+    is_answered: bool,
 ) -> Result<bool, SolutionError>
-    ensures { IsErrOf result SolutionError.Stream → R.failed r.new ≡ true }
+    ensures { TakesValueLine is_answered (feed R.left R.failed R.pulls buffer.old r.old)
+        (feed R.left R.failed R.pulls buffer.new r.new) values.old result values.new }
 {
-    if !goes_on(buffer, r)? {
-        return Ok(false);
-    }
-    for _ in 0..u64::MAX {
-        let Some(word) = next_word(buffer, r)? else {
-            break;
-        };
-        if word.positive && word.number == 0 {
-            return Ok(true);
+    match read_values(buffer, r, values)? {
+        Reached::Stream => Err(wrong_end(is_answered)),
+        Reached::Zero if is_answered => Ok(true),
+        Reached::Zero => {
+            read_last_answer(buffer, r)?;
+            Ok(true)
         }
-        set_value(values, &word)?;
-        if word.last {
-            break;
-        }
+        _ => Ok(false),
     }
-    Ok(false)
 }
 
 /// Reads lines up to the answer and to the 0 of the values, whichever comes last.
 fn read_lines<R: Source>(
-    alloc: Global,
     buffer: &mut InputBuffer,
     r: &mut R,
     values: &mut [Lbool],
 ) -> Result<(), SolutionError>
-    ensures { IsErrOf result SolutionError.Stream → R.failed r.new ≡ true }
+    ensures { Answers (λ bytes. solution_from false values.old (lines_of bytes))
+        (feed R.left R.failed R.pulls buffer.old r.old)
+        (feed R.left R.failed R.pulls buffer.new r.new) result values.new }
 {
     let mut is_answered = false;
-    let mut is_complete = false;
-    for _ in 0..u64::MAX {
-        match first_byte(buffer, r)? {
-            Some(b's') if !is_answered => {
-                read_answer(alloc, buffer, r)?;
-                is_answered = true;
+    while let Some(first) = first_byte(buffer, r)? {
+        if first == b'v' {
+            if read_value_line(buffer, r, values, is_answered)? {
+                return Ok(());
             }
-            Some(b'v') if !is_complete => is_complete = read_values(buffer, r, values)?,
-            _ if !is_answered => return Err(SolutionError::Answer),
-            Some(_) => return Err(SolutionError::Line),
-            None => break,
-        }
-        if is_answered && is_complete {
-            return Ok(());
+        } else if is_answered {
+            return Err(SolutionError::Line);
+        } else if first == b's' {
+            read_answered(buffer, r)?;
+            is_answered = true;
+        } else {
+            return Err(SolutionError::Answer);
         }
     }
-    Err(SolutionError::Unfinished)
+    Err(wrong_end(is_answered))
+}
+
+/// No values.
+fn no_values(alloc: Global, variables: usize) -> Result<Vec<Lbool>, MemoryError>
+    ensures { IfOk result (λ values. values.items ≡ replicate variables NONE) }
+{
+    Ok(vec![in alloc; Lbool::NONE; variables]?)
 }
 
 /// Reads a solver's answer to clauses of so many variables, and returns the value of each: unknown where the solver says
@@ -192,12 +146,11 @@ pub fn read_solution<R: Source>(
     r: &mut R,
     variables: usize,
 ) -> Result<Vec<Lbool>, SolutionError>
-    ensures count { IfOk result (λ values. length values.items ≡ variables) }
-    // Stream only where a read failed in this call.
-    ensures stream { IsErrOf result SolutionError.Stream → IsTrue (R.failed r.new) }
+    // Of known bytes, memory and the stream aside, these are the values that they say, or the error is theirs.
+    ensures { GivesSolution (R.left r.old) variables (R.failed r.new) result }
 {
     let mut buffer = InputBuffer::new();
-    let mut values = vec![in alloc; Lbool::NONE; variables]?;
-    read_lines(alloc, &mut buffer, r, &mut values)?;
+    let mut values = no_values(alloc, variables)?;
+    read_lines(&mut buffer, r, &mut values)?;
     Ok(values)
 }

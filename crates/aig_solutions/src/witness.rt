@@ -1,13 +1,11 @@
 //! Witnesses, read off values of the variables of a query's clauses.
 
-ghost use Rattle.std.specs.Prelude.{◌≡◌, ◌<◌, ◌^◌, IfNone, IfOk, IfSome, IsErrOf};
-ghost use Rattle.aig_runs.specs.Queries.{last_bads};
-ghost use Rattle.aig_solutions.specs.Solutions.{AreInputsTo, HasNoTrue, IsFirstTrue, IsWitnessIn, inputs_in, state_in, value_at};
+ghost use Rattle.std.specs.Prelude.{◌≡◌, ◌<◌, ◌^◌, IfNone, IfOk, IfSome};
+ghost use Rattle.aig_solutions.specs.Solutions.{AreInputsTo, HasNoTrue, IsFirstTrue, WitnessOf, inputs_in, state_in, value_at};
 ghost use Rattle.aig_solutions.specs.Turns.{HasStep};
 ghost use Rattle.aig_unroll.specs.Unroll.{UnrollsTo};
-ghost use Rattle.aig_witness.specs.Witness.{rows_of, said_by};
+ghost use Rattle.aig_witness.specs.Witness.{rows_of};
 
-use crate::error::ValuesError;
 use crate::places::Places;
 use aig::{Aig, AigEdge};
 use aig_base::{Lbool, MemoryError};
@@ -98,35 +96,28 @@ fn first_true(edges: &[AigEdge], values: &[Lbool]) -> Option<u32>
 
 /// Returns the witness that values of the variables of a query's clauses say: the values of the latches' leaves, at each
 /// step those at the places of the inputs, and the first bad state property that is true at step `k`. A value is unknown
-/// where there is none for its variable. Requires that the query is of step `k`, which is below 2^32.
+/// where there is none for its variable. There is none where no bad state property is known to be true at step `k`. The one
+/// error is refused memory. Requires that the query is of step `k`, which is below 2^32.
 ///
 /// Where the values are a solution of the query, the witness shows a bad state of the file's machine (`solutions_show`).
-///
-/// # Errors
-///
-/// `NoBad` where no bad state property is known to be true at step `k`; `Memory`.
 pub fn witness_of(
     alloc: Global,
     asked: &Query,
     k: usize,
     values: &[Lbool],
-) -> Result<Witness, ValuesError>
+) -> Result<Option<Witness>, MemoryError>
     requires small { k < 2 ^ 32 }
     requires steps { UnrollsTo asked.now.encoded.circuit k asked.now.encoded.unrolled }
-    ensures witness { IfOk result (λ w. IsWitnessIn asked.now.encoded.circuit
-        asked.now.encoded.unrolled k values.now (said_by w)) }
-    ensures no_bad { IsErrOf result ValuesError.NoBad
-        → HasNoTrue
-        (last_bads asked.now.encoded.circuit k asked.now.encoded.unrolled) values.now }
+    ensures { IfOk result (WitnessOf asked.now.encoded k values.now) }
 {
     let circuit = &asked.encoded.circuit;
     let unrolled = &asked.encoded.unrolled;
     let bads = unrolled.bads();
     let first = k * circuit.bads().len();
     let Some(bad) = first_true(&bads[first..], values) else {
-        return Err(ValuesError::NoBad);
+        return Ok(None);
     };
     let state = read_state(alloc, circuit, values)?;
     let steps = read_steps(alloc, circuit, unrolled, values, k)?;
-    Ok(Witness { bad, state, steps })
+    Ok(Some(Witness { bad, state, steps }))
 }

@@ -1,14 +1,43 @@
 //! Words of a line of a solver's answer.
 
-ghost use Rattle.std.specs.Prelude.{◌≡◌, IsErrOf, true};
+ghost use Rattle.std.specs.Prelude.{◌≡◌, false, not, IsTrue};
+ghost use Rattle.aig_lexer.specs.Takes.{feed};
+ghost use Rattle.aig_solutions.specs.Lines.{GivesNumber, GivesWord, digit_after, end_of};
+ghost use Rattle.aig_solutions.specs.Reading.{is_blank, is_end};
 
 use crate::error::SolutionError;
 use aig_base::Source;
 use aig_lexer::InputBuffer;
 
+/// How a word ends.
+#[derive(Clone, Copy, Debug, PartialEq, Eq)]
+pub(crate) enum End {
+    /// A blank comes.
+    Blank,
+    /// A line feed comes.
+    Line,
+    /// The stream ends.
+    Stream,
+}
+
 /// Whether a byte may stand between words: a space, a tab or a carriage return.
-pub(crate) fn is_blank(byte: u8) -> bool {
+pub(crate) fn is_blank(byte: u8) -> bool
+    ensures { result ≡ is_blank byte }
+{
     matches!(byte, b' ' | b'\t' | b'\r')
+}
+
+/// How a byte ends a word, if it does.
+pub(crate) fn end_of(byte: u8) -> Option<End>
+    ensures { result ≡ end_of byte }
+{
+    if byte == b'\n' {
+        Some(End::Line)
+    } else if is_blank(byte) {
+        Some(End::Blank)
+    } else {
+        None
+    }
 }
 
 /// A literal of a solution.
@@ -18,81 +47,92 @@ pub(crate) struct Word {
     pub(crate) number: u32,
     /// Whether it has no minus in front.
     pub(crate) positive: bool,
-    /// Whether it ends the line.
-    pub(crate) last: bool,
+    /// How it ends.
+    pub(crate) end: End,
 }
 
-/// Reads the digits of a number of which this is the first: their value, and the byte after them. The end of the stream is that
-/// of the line.
+impl Word {
+    /// Whether it is the 0 after the last literal.
+    pub(crate) fn is_end(&self) -> bool
+        ensures { result ≡ is_end (self.now.positive, self.now.number) }
+    {
+        self.positive && self.number == 0
+    }
+}
+
+/// The number after one digit more, if it is a digit and the number is below 2^32.
+fn digit_after(value: u32, digit: u8) -> Option<u32>
+    ensures { result ≡ digit_after value digit }
+{
+    if !digit.is_ascii_digit() {
+        return None;
+    }
+    let more = 10 * value as u64 + (digit - b'0') as u64;
+    if more > u32::MAX as u64 {
+        return None;
+    }
+    Some(more as u32)
+}
+
+/// Reads the digits of a number of which this is the first: their value, and how they end.
 fn read_digits<R: Source>(
     buffer: &mut InputBuffer,
     r: &mut R,
     first: u8,
-) -> Result<(u32, u8), SolutionError>
-    ensures { IsErrOf result SolutionError.Stream → R.failed r.new ≡ true }
+) -> Result<(u32, End), SolutionError>
+    ensures { GivesNumber first (feed R.left R.failed R.pulls buffer.old r.old)
+        (feed R.left R.failed R.pulls buffer.new r.new) result }
 {
-    if !first.is_ascii_digit() {
+    let Some(mut value) = digit_after(0, first) else {
         return Err(SolutionError::Literal);
-    }
-    let mut value = (first - b'0') as u64;
+    };
     while let Some(b) = buffer.next(r)? {
-        if !b.is_ascii_digit() {
-            return Ok((value as u32, b));
+        if let Some(end) = end_of(b) {
+            return Ok((value, end));
         }
-        value = 10 * value + (b - b'0') as u64;
-        if value > u32::MAX as u64 {
+        let Some(more) = digit_after(value, b) else {
             return Err(SolutionError::Literal);
-        }
+        };
+        value = more;
     }
-    Ok((value as u32, b'\n'))
-}
-
-/// The digit after a minus.
-fn digit_after_minus<R: Source>(buffer: &mut InputBuffer, r: &mut R) -> Result<u8, SolutionError>
-    ensures { IsErrOf result SolutionError.Stream → R.failed r.new ≡ true }
-{
-    buffer.next(r)?.ok_or(SolutionError::Literal)
+    Ok((value, End::Stream))
 }
 
 /// Reads the literal that begins with this byte.
-fn read_word<R: Source>(
+pub(crate) fn read_word<R: Source>(
     buffer: &mut InputBuffer,
     r: &mut R,
     first: u8,
 ) -> Result<Word, SolutionError>
-    ensures { IsErrOf result SolutionError.Stream → R.failed r.new ≡ true }
+    ensures { GivesWord first (feed R.left R.failed R.pulls buffer.old r.old)
+        (feed R.left R.failed R.pulls buffer.new r.new) result }
 {
-    let positive = first != b'-';
-    let digit = if positive {
-        first
-    } else {
-        digit_after_minus(buffer, r)?
-    };
-    let (number, end) = read_digits(buffer, r, digit)?;
-    if end != b'\n' && !is_blank(end) {
-        return Err(SolutionError::Literal);
+    if first == b'-' {
+        return read_inverted(buffer, r);
     }
+    let (number, end) = read_digits(buffer, r, first)?;
     Ok(Word {
         number,
-        positive,
-        last: end == b'\n',
+        positive: true,
+        end,
     })
 }
 
-/// Reads the next literal of a line, past blanks. There is none where the line ends, or the stream.
-pub(crate) fn next_word<R: Source>(
-    buffer: &mut InputBuffer,
-    r: &mut R,
-) -> Result<Option<Word>, SolutionError>
-    ensures { IsErrOf result SolutionError.Stream → R.failed r.new ≡ true }
+/// Reads the literal that begins with a minus, which was read before.
+fn read_inverted<R: Source>(buffer: &mut InputBuffer, r: &mut R) -> Result<Word, SolutionError>
+    ensures { GivesWord 45 (feed R.left R.failed R.pulls buffer.old r.old)
+        (feed R.left R.failed R.pulls buffer.new r.new) result }
 {
-    while let Some(b) = buffer.next(r)? {
-        if b == b'\n' {
-            return Ok(None);
-        }
-        if !is_blank(b) {
-            return Ok(Some(read_word(buffer, r, b)?));
-        }
+    let Some(digit) = buffer.next(r)? else {
+        return Err(SolutionError::Literal);
+    };
+    if end_of(digit).is_some() {
+        return Err(SolutionError::Literal);
     }
-    Ok(None)
+    let (number, end) = read_digits(buffer, r, digit)?;
+    Ok(Word {
+        number,
+        positive: false,
+        end,
+    })
 }

@@ -21,27 +21,37 @@ use Rattle.aig_witness.specs.Witness.{Witness, parts_of, rows_of, said_by}
 
 -- ---- what errors tell
 
-pub witness-weaker : (e : WitnessError) (P Q : Type 0) (failed : Bool) → (P → Q) → WitnessTells e P failed → WitnessTells e Q failed
+pub witness-weaker : (e : WitnessError) (P Q : Type 0) (failed : Bool) → (P → Q)
+    → WitnessTells e P failed → WitnessTells e Q failed
 witness-weaker Memory P Q failed f h = tt
 witness-weaker Stream P Q failed f h = h
 witness-weaker e P Q failed f h = f h
 
-pub kind-weaker : (kind e : WitnessError) (P Q : Type 0) (failed : Bool) → (P → Q) → TellsOf kind e P failed → TellsOf kind e Q failed
-kind-weaker kind e P Q failed f h = witness-weaker e ((e ≡ kind) × P) ((e ≡ kind) × Q) failed (λ x. (x.0, f x.1)) h
+pub kind-weaker : (kind e : WitnessError) (P Q : Type 0) (failed : Bool) → (P → Q)
+    → TellsOf kind e P failed → TellsOf kind e Q failed
+kind-weaker kind e P Q failed f h = witness-weaker e ((e ≡ kind) × P) ((e ≡ kind) × Q) failed
+    (λ x. (x.0, f x.1)) h
 
 -- a fault of one kind, among others
-pub kind-known : (kind e : WitnessError) (P : Type 0) (Fault : WitnessError → Type 0) (failed : Bool) → (P → Fault kind) → TellsOf kind e P failed → WitnessTells e (Fault e) failed
-kind-known kind e P Fault failed f h = witness-weaker e ((e ≡ kind) × P) (Fault e) failed (λ x. subst Fault (sym x.0) (f x.1)) h
+pub kind-known : (kind e : WitnessError) (P : Type 0) (Fault : WitnessError → Type 0)
+    (failed : Bool) → (P → Fault kind) → TellsOf kind e P failed → WitnessTells e (Fault e) failed
+kind-known kind e P Fault failed f h = witness-weaker e ((e ≡ kind) × P) (Fault e) failed
+    (λ x. subst Fault (sym x.0) (f x.1)) h
 
 -- what is left is read by a call
-takes_rest : {Y : Type 0} (p q : List ℕ → Option (Y × List ℕ)) (before mid after : Feed) (y : Y) → GoesOn p before q mid → Takes q mid after y → Takes p before after y
-takes_rest p q before mid after y h k = goes_done p y before after (goes_call p q q (λ bs. Some (y, bs)) before mid after y h k (λ bs rest e. e))
+takes_rest : {Y : Type 0} (p q : List ℕ → Option (Y × List ℕ)) (before mid after : Feed) (y : Y)
+    → GoesOn p before q mid → Takes q mid after y → Takes p before after y
+takes_rest p q before mid after y h k = goes_done p y before after
+    (goes_call p q q (λ bs. Some (y, bs)) before mid after y h k (λ bs rest e. e))
 
-pub gives_rest : {X Y : Type 0} (kind : WitnessError) (view : X → Y) (p q : List ℕ → Option (Y × List ℕ)) (before mid after : Feed) (r : Result X WitnessError)
-    → GoesOn p before q mid → Gives (TellsOf kind) view mid after r q → Gives (TellsOf kind) view before after r p
+pub gives_rest : {X Y : Type 0} (kind : WitnessError) (view : X → Y) (p q : List ℕ
+    → Option (Y × List ℕ)) (before mid after : Feed) (r : Result X WitnessError)
+    → GoesOn p before q mid → Gives (TellsOf kind) view mid after r q
+    → Gives (TellsOf kind) view before after r p
 gives_rest {X} kind view p q before mid after r h k = go r k
   where
-    go : (r : Result X WitnessError) → Gives (TellsOf kind) view mid after r q → Gives (TellsOf kind) view before after r p
+    go : (r : Result X WitnessError) → Gives (TellsOf kind) view mid after r q
+        → Gives (TellsOf kind) view before after r p
     go (Ok x) k = takes_rest p q before mid after (view x) h k
     go (Err e) k = kind-weaker kind e _ _ after.failed (goes_wrong p q before mid h) k
 
@@ -52,13 +62,17 @@ module _ (row : List Lbool) (b : ℕ) where
   unfolding parse_row_after
   row_ends is bs = rw (eq-eqb b 10 is) refl
 
-  pub row_goes : (v : Lbool) → b ≢ 10 → value_of_letter b ≡ Some v → (bs : List ℕ) → parse_row_after row (b ∷ bs) ≡ parse_row_after (row ++ v ∷ []) bs
+  pub row_goes : (v : Lbool) → b ≢ 10 → value_of_letter b ≡ Some v → (bs : List ℕ)
+      → parse_row_after row (b ∷ bs) ≡ parse_row_after (row ++ v ∷ []) bs
   unfolding parse_row_after
-  row_goes v ne is bs = rw (ne_eqb b 10 ne) (ap (λ o. o >>= λ w. parse_row_after (row ++ w ∷ []) bs) is)
+  row_goes v ne is bs = rw (ne_eqb b 10 ne) (ap (λ o. o >>= λ w. parse_row_after (row ++ w ∷ []) bs)
+      is)
 
-  pub row_stops : b ≢ 10 → value_of_letter b ≡ None → (bs : List ℕ) → parse_row_after row (b ∷ bs) ≡ None
+  pub row_stops : b ≢ 10 → value_of_letter b ≡ None → (bs : List ℕ) → parse_row_after row
+      (b ∷ bs) ≡ None
   unfolding parse_row_after
-  row_stops ne is bs = rw (ne_eqb b 10 ne) (ap (λ o. o >>= λ w. parse_row_after (row ++ w ∷ []) bs) is)
+  row_stops ne is bs = rw (ne_eqb b 10 ne) (ap (λ o. o >>= λ w. parse_row_after (row ++ w ∷ []) bs)
+      is)
 
 pub row_cut : (row : List Lbool) → parse_row_after row [] ≡ None
 unfolding parse_row_after
@@ -71,55 +85,77 @@ then_lines steps x = parse_steps_after (steps ++ x.0 ∷ []) [] x.1
 
 -- a line that has begun goes on, where its next value is this one
 abbrev Joins : List (List Lbool) → Lbool → List Lbool → List ℕ → Lbool → Type 0
-Joins steps v row bs w = parse_steps_after steps (v ∷ row ++ w ∷ []) bs ≡ (parse_row_after (v ∷ row ++ w ∷ []) bs >>= then_lines steps)
+Joins steps v row bs w = parse_steps_after steps (v ∷ row ++ w ∷ []) bs ≡
+    (parse_row_after (v ∷ row ++ w ∷ []) bs >>= then_lines steps)
 
 -- a line that has begun, and then the lines after it
-line_joins : (steps : List (List Lbool)) (v : Lbool) (row : List Lbool) (bs : List ℕ) → parse_steps_after steps (v ∷ row) bs ≡ (parse_row_after (v ∷ row) bs >>= then_lines steps)
+line_joins : (steps : List (List Lbool)) (v : Lbool) (row : List Lbool) (bs : List ℕ)
+    → parse_steps_after steps (v ∷ row) bs ≡ (parse_row_after (v ∷ row) bs >>= then_lines steps)
 unfolding parse_row_after parse_steps_after
 line_joins steps v row [] = refl
 line_joins steps v row (b ∷ bs) = by_end (λ w. line_joins steps v (row ++ w ∷ []) bs) (eqb b 10)
   where
-    by_value : ((w : Lbool) → Joins steps v row bs w) → (o : Option Lbool) → (o >>= λ w. parse_steps_after steps (v ∷ row ++ w ∷ []) bs) ≡ ((o >>= λ w. parse_row_after (v ∷ row ++ w ∷ []) bs) >>= then_lines steps)
+    by_value : ((w : Lbool) → Joins steps v row bs w) → (o : Option Lbool)
+        → (o >>= λ w. parse_steps_after steps (v ∷ row ++ w ∷ []) bs) ≡
+        ((o >>= λ w. parse_row_after (v ∷ row ++ w ∷ []) bs) >>= then_lines steps)
     by_value joins None = refl
     by_value joins (Some w) = joins w
 
-    by_point : ((w : Lbool) → Joins steps v row bs w) → (t : Bool) → eqb b 46 ≡ t → cond t None (value_of_letter b >>= λ w. parse_steps_after steps (v ∷ row ++ w ∷ []) bs) ≡ ((value_of_letter b >>= λ w. parse_row_after (v ∷ row ++ w ∷ []) bs) >>= then_lines steps)
-    by_point joins true is = subst (λ k. None ≡ ((value_of_letter k >>= λ w. parse_row_after (v ∷ row ++ w ∷ []) bs) >>= then_lines steps)) (sym (eqb-true b 46 is)) refl
+    by_point : ((w : Lbool) → Joins steps v row bs w) → (t : Bool) → eqb b 46 ≡ t
+        → cond t None (value_of_letter b >>= λ w. parse_steps_after steps (v ∷ row ++ w ∷ []) bs) ≡
+        ((value_of_letter b >>= λ w. parse_row_after (v ∷ row ++ w ∷ []) bs) >>= then_lines steps)
+    by_point joins true is =
+        subst (λ k. None ≡ ((value_of_letter k >>= λ w. parse_row_after (v ∷ row ++ w ∷ []) bs) >>=
+        then_lines steps)) (sym (eqb-true b 46 is)) refl
     by_point joins false is = by_value joins (value_of_letter b)
 
-    by_end : ((w : Lbool) → Joins steps v row bs w) → (t : Bool) → cond t (parse_steps_after (steps ++ (v ∷ row) ∷ []) [] bs) (cond (eqb b 46) None (value_of_letter b >>= λ w. parse_steps_after steps (v ∷ row ++ w ∷ []) bs))
-        ≡ (cond t (Some (v ∷ row, bs)) (value_of_letter b >>= λ w. parse_row_after (v ∷ row ++ w ∷ []) bs) >>= then_lines steps)
+    by_end : ((w : Lbool) → Joins steps v row bs w) → (t : Bool)
+        → cond t (parse_steps_after (steps ++ (v ∷ row) ∷ []) [] bs)
+        (cond (eqb b 46) None (value_of_letter b >>= λ w. parse_steps_after steps
+        (v ∷ row ++ w ∷ []) bs))
+        ≡ (cond t (Some (v ∷ row, bs)) (value_of_letter b >>= λ w. parse_row_after
+        (v ∷ row ++ w ∷ []) bs) >>= then_lines steps)
     by_end joins true = refl
     by_end joins false = by_point joins (eqb b 46) refl
 
 -- a line that isn't that of the point, and then the lines after it
-pub line_starts : (steps : List (List Lbool)) (b : ℕ) → b ≢ 46 → (bs : List ℕ) → parse_steps_after steps [] (b ∷ bs) ≡ (parse_row_after [] (b ∷ bs) >>= then_lines steps)
+pub line_starts : (steps : List (List Lbool)) (b : ℕ) → b ≢ 46 → (bs : List ℕ)
+    → parse_steps_after steps [] (b ∷ bs) ≡ (parse_row_after [] (b ∷ bs) >>= then_lines steps)
 unfolding parse_row_after parse_steps_after
 line_starts steps b ne bs = rw (ne_eqb b 46 ne) (by_end (eqb b 10))
   where
-    by_value : (o : Option Lbool) → (o >>= λ w. parse_steps_after steps (w ∷ []) bs) ≡ ((o >>= λ w. parse_row_after (w ∷ []) bs) >>= then_lines steps)
+    by_value : (o : Option Lbool) → (o >>= λ w. parse_steps_after steps (w ∷ []) bs) ≡
+        ((o >>= λ w. parse_row_after (w ∷ []) bs) >>= then_lines steps)
     by_value None = refl
     by_value (Some w) = line_joins steps w [] bs
 
-    by_end : (t : Bool) → cond t (parse_steps_after (steps ++ [] ∷ []) [] bs) (value_of_letter b >>= λ w. parse_steps_after steps (w ∷ []) bs)
-        ≡ (cond t (Some ([], bs)) (value_of_letter b >>= λ w. parse_row_after (w ∷ []) bs) >>= then_lines steps)
+    by_end : (t : Bool) → cond t (parse_steps_after (steps ++ [] ∷ []) [] bs)
+        (value_of_letter b >>= λ w. parse_steps_after steps (w ∷ []) bs)
+        ≡ (cond t (Some ([], bs)) (value_of_letter b >>= λ w. parse_row_after (w ∷ []) bs) >>=
+        then_lines steps)
     by_end true = refl
     by_end false = by_value (value_of_letter b)
 
 -- the line is read, or isn't
-pub line_read : (steps : List (List Lbool)) (b : ℕ) → b ≢ 46 → (row : List Lbool) (bs rest : List ℕ) → parse_row_after [] (b ∷ bs) ≡ Some (row, rest) → parse_steps_after steps [] (b ∷ bs) ≡ parse_steps_after (steps ++ row ∷ []) [] rest
-line_read steps b ne row bs rest is = line_starts steps b ne bs ∙ ap (λ o. o >>= then_lines steps) is
+pub line_read : (steps : List (List Lbool)) (b : ℕ) → b ≢ 46 → (row : List Lbool) (bs rest : List ℕ)
+    → parse_row_after [] (b ∷ bs) ≡ Some (row, rest) → parse_steps_after steps []
+    (b ∷ bs) ≡ parse_steps_after (steps ++ row ∷ []) [] rest
+line_read steps b ne row bs rest is = line_starts steps b ne bs
+    ∙ ap (λ o. o >>= then_lines steps) is
 
-pub line_wrong : (steps : List (List Lbool)) (b : ℕ) → b ≢ 46 → (bs : List ℕ) → parse_row_after [] (b ∷ bs) ≡ None → parse_steps_after steps [] (b ∷ bs) ≡ None
+pub line_wrong : (steps : List (List Lbool)) (b : ℕ) → b ≢ 46 → (bs : List ℕ) → parse_row_after []
+    (b ∷ bs) ≡ None → parse_steps_after steps [] (b ∷ bs) ≡ None
 line_wrong steps b ne bs is = line_starts steps b ne bs ∙ ap (λ o. o >>= then_lines steps) is
 
 pub steps_cut : (steps : List (List Lbool)) → parse_steps_after steps [] [] ≡ None
 unfolding parse_steps_after
 steps_cut steps = refl
 
-pub point_comes : (steps : List (List Lbool)) (b : ℕ) → b ≡ 46 → (bs : List ℕ) → parse_steps_after steps [] (b ∷ bs) ≡ parse_point_after steps [] bs
+pub point_comes : (steps : List (List Lbool)) (b : ℕ) → b ≡ 46 → (bs : List ℕ)
+    → parse_steps_after steps [] (b ∷ bs) ≡ parse_point_after steps [] bs
 unfolding parse_steps_after
-point_comes steps b is bs = subst (λ k. parse_steps_after steps [] (k ∷ bs) ≡ parse_point_after steps [] bs) (sym is) refl
+point_comes steps b is bs = subst (λ k. parse_steps_after steps [] (k ∷ bs) ≡ parse_point_after
+    steps [] bs) (sym is) refl
 
 abbrev rest_of : ℕ × List ℕ → Option (List ℕ)
 rest_of x = Some x.1
@@ -133,18 +169,23 @@ line_feed (b ∷ bs) = go (eqb 10 b)
     go true = refl
     go false = refl
 
-pub point_ends : (steps : List (List Lbool)) (bs rest : List ℕ) → parse_expected 10 bs ≡ Some (10, rest) → parse_point_after steps [] bs ≡ Some (steps, rest)
-point_ends steps bs rest is = ap (λ o. o >>= λ r. Some (steps, r)) (line_feed bs ∙ ap (λ o. o >>= rest_of) is)
+pub point_ends : (steps : List (List Lbool)) (bs rest : List ℕ) → parse_expected 10 bs ≡ Some
+    (10, rest) → parse_point_after steps [] bs ≡ Some (steps, rest)
+point_ends steps bs rest is = ap (λ o. o >>= λ r. Some (steps, r)) (line_feed bs
+    ∙ ap (λ o. o >>= rest_of) is)
 
-pub point_wrong : (steps : List (List Lbool)) (bs : List ℕ) → parse_expected 10 bs ≡ None → parse_point_after steps [] bs ≡ None
-point_wrong steps bs is = ap (λ o. o >>= λ r. Some (steps, r)) (line_feed bs ∙ ap (λ o. o >>= rest_of) is)
+pub point_wrong : (steps : List (List Lbool)) (bs : List ℕ) → parse_expected 10 bs ≡ None
+    → parse_point_after steps [] bs ≡ None
+point_wrong steps bs is = ap (λ o. o >>= λ r. Some (steps, r)) (line_feed bs
+    ∙ ap (λ o. o >>= rest_of) is)
 
 -- another byte than this one
 other : (n b : ℕ) → b ≢ n → eqb n b ≡ false
 other n b ne = ne_eqb n b (λ e. ne (sym e))
 
 -- one line more
-pub rows_more : (lists : List (Vec Lbool Global)) (list : Vec Lbool Global) → rows_of (lists ++ list ∷ []) ≡ rows_of lists ++ list.items ∷ []
+pub rows_more : (lists : List (Vec Lbool Global)) (list : Vec Lbool Global)
+    → rows_of (lists ++ list ∷ []) ≡ rows_of lists ++ list.items ∷ []
 rows_more lists list = map-append (λ (l : Vec Lbool Global). l.items) lists (list ∷ [])
 
 -- ---- the property
@@ -155,12 +196,19 @@ property_begins b is bs = subst (λ k. parse_property (k ∷ bs) ≡ parse_ended
 -- ---- the lines after that of the status
 
 module _ (before mid : Feed) (bad : ℕ) (e : WitnessError) (failed : Bool) where
-  pub property_fault : TellsOf Property e (Misses parse_property before) failed → WitnessTells e (IfSome before.coming (IsFaultAfterStatus e)) failed
-  property_fault h = kind-known Property e (Misses parse_property before) (λ e. IfSome before.coming (IsFaultAfterStatus e)) failed (λ m. m) h
+  pub property_fault : TellsOf Property e (Misses parse_property before) failed
+      → WitnessTells e (IfSome before.coming (IsFaultAfterStatus e)) failed
+  property_fault h = kind-known Property e (Misses parse_property before) (λ e. IfSome before.coming
+      (IsFaultAfterStatus e)) failed (λ m. m) h
 
-  pub values_fault : Takes parse_property before mid bad → TellsOf Values e (Misses parse_values mid) failed → WitnessTells e (IfSome before.coming (IsFaultAfterStatus e)) failed
-  values_fault k h = kind-known Values e (Misses parse_values mid) (λ e. IfSome before.coming (IsFaultAfterStatus e)) failed
-      (λ m. known_rest before.coming mid.coming k.taken (IsFaultAfterStatus Values) (λ lines. parse_values lines ≡ None) k.advances.consumed m (λ lines none. (bad, lines, k.reads lines, none))) h
+  pub values_fault : Takes parse_property before mid bad
+      → TellsOf Values e (Misses parse_values mid) failed
+      → WitnessTells e (IfSome before.coming (IsFaultAfterStatus e)) failed
+  values_fault k h = kind-known Values e (Misses parse_values mid) (λ e. IfSome before.coming
+      (IsFaultAfterStatus e)) failed
+      (λ m. known_rest before.coming mid.coming k.taken (IsFaultAfterStatus Values)
+      (λ lines. parse_values lines ≡ None) k.advances.consumed m
+      (λ lines none. (bad, lines, k.reads lines, none))) h
 
 -- ---- the status line
 
@@ -176,31 +224,54 @@ known_all (Some bs) P h = h bs
 none_empty : (first : ℕ) (bs : List ℕ) → first ∷ bs ≢ []
 none_empty first bs is = cc
 
-pub status_wrong : (first : ℕ) → first ≢ 49 → (text : Option (List ℕ)) → IfSome text (IsFaultFrom first Status)
-status_wrong first ne text = known_all text (IsFaultFrom first Status) (λ bs. (none_empty first bs, rw (other 49 first ne) refl))
+pub status_wrong : (first : ℕ) → first ≢ 49 → (text : Option (List ℕ))
+    → IfSome text (IsFaultFrom first Status)
+status_wrong first ne text = known_all text (IsFaultFrom first Status)
+    (λ bs. (none_empty first bs, rw (other 49 first ne) refl))
 
 module _ (first : ℕ) (one : first ≡ 49) where
   status_is : (bs : List ℕ) → strip (codes "1\n") (first ∷ bs) ≡ (parse_expected 10 bs >>= rest_of)
-  status_is bs = subst (λ k. strip (codes "1\n") (k ∷ bs) ≡ (parse_expected 10 bs >>= rest_of)) (sym one) (line_feed bs)
+  status_is bs = subst (λ k. strip (codes "1\n") (k ∷ bs) ≡ (parse_expected 10 bs >>= rest_of))
+      (sym one) (line_feed bs)
 
-  pub status_long : (before : Feed) → Misses (parse_expected 10) before → IfSome before.coming (IsFaultFrom first Status)
-  status_long before m = IfSome_then before.coming m (λ bs none. (none_empty first bs, status_is bs ∙ ap (λ o. o >>= rest_of) none))
+  pub status_long : (before : Feed) → Misses (parse_expected 10) before → IfSome before.coming
+      (IsFaultFrom first Status)
+  status_long before m = IfSome_then before.coming m (λ bs none. (
+    none_empty first bs,
+    status_is bs
+        ∙ ap (λ o. o >>= rest_of) none,
+  ))
 
   module _ (before mid : Feed) (line : Takes (parse_expected 10) before mid 10) where
-    status_ends : (lines : List ℕ) → strip (codes "1\n") (first ∷ (line.taken ++ lines)) ≡ Some lines
+    status_ends : (lines : List ℕ) → strip (codes "1\n") (first ∷ (line.taken ++ lines)) ≡ Some
+        lines
     status_ends lines = status_is (line.taken ++ lines) ∙ ap (λ o. o >>= rest_of) (line.reads lines)
 
-    goes_status : GoesOn (λ bs. parse_witness (first ∷ bs)) before (parse_map witness_from parse_parts) mid
-    goes_status = record { taken = line.taken; goes = λ lines. ap (λ o. o >>= parse_map witness_from parse_parts) (status_ends lines); advances = line.advances }
+    goes_status : GoesOn (λ bs. parse_witness (first ∷ bs)) before
+        (parse_map witness_from parse_parts) mid
+    goes_status = record {
+      taken = line.taken;
+      goes = λ lines. ap
+          (λ o. o >>= parse_map witness_from parse_parts) (status_ends lines);
+      advances =
+          line.advances;
+    }
 
-    fault_from : (e : WitnessError) (lines : List ℕ) → IsFaultAfterStatus e lines → IsFaultFrom first e (line.taken ++ lines)
+    fault_from : (e : WitnessError) (lines : List ℕ) → IsFaultAfterStatus e lines
+        → IsFaultFrom first e (line.taken ++ lines)
     fault_from Status lines f = absurd f
     fault_from e lines f = (lines, status_ends lines, f)
 
     -- the lines after that of the status are read by a call
-    pub gives_after : (after : Feed) (r : Result lists.Witness WitnessError) → GivesOr IsFaultAfterStatus parts_of mid after r parse_parts → GivesOr (IsFaultFrom first) said_by before after r (λ bs. parse_witness (first ∷ bs))
-    gives_after after (Ok w) h = takes_rest (λ bs. parse_witness (first ∷ bs)) (parse_map witness_from parse_parts) before mid after (said_by w) goes_status (takes_mapped witness_from parse_parts mid after (parts_of w) h)
-    gives_after after (Err e) h = witness-weaker e _ _ after.failed (λ m. known_rest before.coming mid.coming line.taken (IsFaultFrom first e) (IsFaultAfterStatus e) line.advances.consumed m (fault_from e)) h
+    pub gives_after : (after : Feed) (r : Result lists.Witness WitnessError)
+        → GivesOr IsFaultAfterStatus parts_of mid after r parse_parts
+        → GivesOr (IsFaultFrom first) said_by before after r (λ bs. parse_witness (first ∷ bs))
+    gives_after after (Ok w) h = takes_rest (λ bs. parse_witness (first ∷ bs))
+        (parse_map witness_from parse_parts) before mid after (said_by w) goes_status
+        (takes_mapped witness_from parse_parts mid after (parts_of w) h)
+    gives_after after (Err e) h = witness-weaker e _ _ after.failed
+        (λ m. known_rest before.coming mid.coming line.taken (IsFaultFrom first e)
+        (IsFaultAfterStatus e) line.advances.consumed m (fault_from e)) h
 
 -- ---- comments
 
@@ -215,15 +286,24 @@ next_from inside bs = parse_first (after_comments inside bs)
 abbrev first_in : Unit {0} × List ℕ → Option (Option Witness × List ℕ)
 first_in x = parse_first x.1
 
-pub goes_next : (inside : Bool) (before now : Feed) → GoesOn (past_comments false) before (past_comments inside) now → GoesOn parse_next before (next_from inside) now
+pub goes_next : (inside : Bool) (before now : Feed) → GoesOn (past_comments false) before
+    (past_comments inside) now → GoesOn parse_next before (next_from inside) now
 unfolding parse_next
-goes_next inside before now h = record { taken = h.taken; goes = λ rest. ap (λ o. o >>= first_in) (h.goes rest); advances = h.advances }
+goes_next inside before now h = record {
+  taken = h.taken;
+  goes = λ rest. ap (λ o. o >>= first_in)
+      (h.goes rest);
+  advances = h.advances;
+}
 
-pub comment_begins : (b : ℕ) → b ≡ 99 → (bs : List ℕ) → past_comments false (b ∷ bs) ≡ past_comments true bs
-comment_begins b is bs = subst (λ k. past_comments false (k ∷ bs) ≡ past_comments true bs) (sym is) refl
+pub comment_begins : (b : ℕ) → b ≡ 99 → (bs : List ℕ) → past_comments false (b ∷ bs) ≡ past_comments
+    true bs
+comment_begins b is bs = subst (λ k. past_comments false (k ∷ bs) ≡ past_comments true bs)
+    (sym is) refl
 
 -- no comment begins
-pub comments_end : (b : ℕ) → b ≢ 99 → (bs : List ℕ) → past_comments false (b ∷ bs) ≡ Some (tt, b ∷ bs)
+pub comments_end : (b : ℕ) → b ≢ 99 → (bs : List ℕ) → past_comments false (b ∷ bs) ≡ Some
+    (tt, b ∷ bs)
 comments_end b ne bs = rw (ne_eqb b 99 ne) refl
 
 abbrev left_of : Option (Unit {0} × List ℕ) → List ℕ
@@ -231,23 +311,30 @@ left_of None = []
 left_of (Some x) = x.1
 
 -- a fault of what follows the comments
-pub fault_next : (e : WitnessError) (b : ℕ) (before mid : Feed) → GoesOn (past_comments false) before (λ bs. Some (tt, b ∷ bs)) mid → IfSome mid.coming (IsFaultFrom b e) → HasFault e before.coming
+pub fault_next : (e : WitnessError) (b : ℕ) (before mid : Feed)
+    → GoesOn (past_comments false) before (λ bs. Some (tt, b ∷ bs)) mid
+    → IfSome mid.coming (IsFaultFrom b e) → HasFault e before.coming
 fault_next e b before mid h known =
-    known_rest before.coming mid.coming h.taken (λ bytes. IsFault e (after_comments false bytes)) (IsFaultFrom b e) h.advances.consumed known
+    known_rest before.coming mid.coming h.taken (λ bytes. IsFault e (after_comments false bytes))
+    (IsFaultFrom b e) h.advances.consumed known
     (λ rest f. subst (IsFault e) (sym (ap left_of (h.goes rest))) f)
 
 abbrev there : Witness × List ℕ → Option (Option Witness × List ℕ)
 there x = Some (Some x.0, x.1)
 
 -- a witness, where no comment begins
-pub witness_begins : (b : ℕ) → b ≢ 99 → (bs : List ℕ) → next_from false (b ∷ bs) ≡ (parse_witness (b ∷ bs) >>= there)
+pub witness_begins : (b : ℕ) → b ≢ 99 → (bs : List ℕ) → next_from false (b ∷ bs) ≡
+    (parse_witness (b ∷ bs) >>= there)
 witness_begins b ne bs = rw (ne_eqb b 99 ne) refl
 
-pub witness_found : (b : ℕ) → b ≢ 99 → (w : Witness) (bs rest : List ℕ) → parse_witness (b ∷ bs) ≡ Some (w, rest) → next_from false (b ∷ bs) ≡ Some (Some w, rest)
+pub witness_found : (b : ℕ) → b ≢ 99 → (w : Witness) (bs rest : List ℕ)
+    → parse_witness (b ∷ bs) ≡ Some (w, rest) → next_from false (b ∷ bs) ≡ Some (Some w, rest)
 witness_found b ne w bs rest is = witness_begins b ne bs ∙ ap (λ o. o >>= there) is
 
 -- no byte came: there is no witness
-pub nothing_left : (inside : Bool) (before now after : Feed) (o : Option ℕ) → GoesOn (past_comments false) before (past_comments inside) now → Steps now after o → o ≡ None → EndsWithout before after
+pub nothing_left : (inside : Bool) (before now after : Feed) (o : Option ℕ)
+    → GoesOn (past_comments false) before (past_comments inside) now → Steps now after o → o ≡ None
+    → EndsWithout before after
 nothing_left inside before now after o comments c is =
     let h = goes_next inside before now comments in
     let none : Ends now after [] = subst (Steps now after) is c in
@@ -255,7 +342,8 @@ nothing_left inside before now after o comments c is =
       taken = h.taken ++ [];
       none = h.goes [] ∙ ends inside;
       ends = record {
-        consumed = Consumes-trans before.coming now.coming after.coming h.taken [] h.advances.consumed none.consumed;
+        consumed = Consumes-trans before.coming now.coming after.coming h.taken []
+            h.advances.consumed none.consumed;
         at_end = none.at_end;
         sound = none.sound;
       };

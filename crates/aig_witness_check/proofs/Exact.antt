@@ -43,17 +43,22 @@ use Rattle.aig_witness_check.proofs.Zips.{zip_unmade}
 constant_init : (l : LatchLine) → IfSome (initial_of l) (λ e. e.node_id ≡ 0)
 constant_init l = by (nat_lt (unwrap_or l.reset 0) 2)
   where
-    by : (t : Bool) → IfSome (cond t (Some (edge_to 0 (unwrap_or l.reset 0 == 1))) None) (λ (e : AigEdge). e.node_id ≡ 0)
+    by : (t : Bool) → IfSome (cond t (Some (edge_to 0 (unwrap_or l.reset 0 == 1))) None)
+        (λ (e : AigEdge). e.node_id ≡ 0)
     by true = refl
     by false = tt
 
 -- a start whose leaf has a known value
-known_start : (c : Circuit) → IsCircuit c → (x : ℕ → Bool) (leaf : ℕ) (v : Lbool) (init : Option AigEdge) → IfSome init (λ e. e.node_id ≡ 0) → IfSome init (λ e. edge_value c.nodes x e ≡ x leaf) → v ≡ known_of (x leaf)
+known_start : (c : Circuit) → IsCircuit c → (x : ℕ → Bool) (leaf : ℕ) (v : Lbool)
+    (init : Option AigEdge) → IfSome init (λ e. e.node_id ≡ 0)
+    → IfSome init (λ e. edge_value c.nodes x e ≡ x leaf) → v ≡ known_of (x leaf)
     → IfSome init (λ e. (e.node_id ≡ 0) × (v ≡ known_of e.compl))
 known_start c is x leaf v None constant start known = tt
-known_start c is x leaf v (Some e) constant start known = (constant, known ∙ ap known_of (sym start ∙ constant_edge c is x e constant))
+known_start c is x leaf v (Some e) constant start known =
+    (constant, known ∙ ap known_of (sym start ∙ constant_edge c is x e constant))
 
-module _ (f : File) (limit : ℕ) (w : Witness) (fits : Fits f limit) (given : IsGiven w) (shows : ShowsBad f w) where
+module _ (f : File) (limit : ℕ) (w : Witness) (fits : Fits f limit) (given : IsGiven w)
+    (shows : ShowsBad f w) where
   abbrev c : Circuit
   c = circuit_of f
 
@@ -76,57 +81,84 @@ module _ (f : File) (limit : ℕ) (w : Witness) (fits : Fits f limit) (given : I
   filling = is_filling f limit w fits run shows.there.1 shows.there.2
 
   -- a literal that holds has an edge that is known to
-  seen : (t e : ℕ) → t < length w.steps → IsKnown f e → IsInRange c.nodes (edge_of f e) → IsTrue (value_of_literal (run t) e) → value_in (simulated c w t) (edge_of f e) ≡ TRUE
+  seen : (t e : ℕ) → t < length w.steps → IsKnown f e → IsInRange c.nodes (edge_of f e)
+      → IsTrue (value_of_literal (run t) e) → value_in (simulated c w t) (edge_of f e) ≡ TRUE
   seen t e h is there holds =
       let low : t ≤ last = omega arith in
-      value_known c is_circuit (IsClosed-of_file f limit fits) w given x filling t h (edge_of f e) there ∙ ap known_of (literal_is f last x run values t e low is ∙ holds)
+      value_known c is_circuit (IsClosed-of_file f limit fits) w given x filling t h
+      (edge_of f e) there ∙ ap known_of (literal_is f last x run values t e low is ∙ holds)
 
   starts : AreStarts c.latchs w.state
   starts i d h =
       let latch = get_or c.latchs i d in
-      let constant : All (λ (l : AigLatch). IfSome l.init (λ e. e.node_id ≡ 0)) c.latchs = All-map (λ (l : AigLatch). IfSome l.init (λ e. e.node_id ≡ 0)) (latch_of f) f.latches (λ j b lt. constant_init (get_or f.latches j b)) in
-      let start : IsInitial c (x 0) = (starts_agree f limit last x run fits values).0 (shows.each run shows.there.1 shows.there.2).0.start in
-      let zip = zip_unmade (λ (l : AigLatch). l.input) (λ n v. v ≡ known_of (x 0 n)) c.latchs w.state (known_zip (x 0) (latch_leaves c.latchs) w.state given.state filling.first) in
-      known_start c is_circuit (x 0) latch.input (get_or w.state i NONE) latch.init (constant i d h) (start i d h) (zip_at (λ (l : AigLatch) v. v ≡ known_of (x 0 l.input)) c.latchs w.state i d NONE zip h)
+      let constant : All (λ (l : AigLatch). IfSome l.init (λ e. e.node_id ≡ 0)) c.latchs = All-map
+      (λ (l : AigLatch). IfSome l.init (λ e. e.node_id ≡ 0)) (latch_of f) f.latches
+      (λ j b lt. constant_init (get_or f.latches j b)) in
+      let start : IsInitial c (x 0) = (starts_agree f limit last x run fits values).0
+      (shows.each run shows.there.1 shows.there.2).0.start in
+      let zip = zip_unmade (λ (l : AigLatch). l.input) (λ n v. v ≡ known_of (x 0 n)) c.latchs
+      w.state (known_zip (x 0) (latch_leaves c.latchs) w.state given.state filling.first) in
+      known_start c is_circuit (x 0) latch.input (get_or w.state i NONE) latch.init (constant i d h)
+      (start i d h) (zip_at (λ (l : AigLatch) v. v ≡ known_of (x 0 l.input)) c.latchs w.state i
+      d NONE zip h)
 
   pub given_known_witness : IsKnownWitness c w
   given_known_witness =
       let some = shows.some in
       let shown = shows.each run shows.there.1 shows.there.2 in
       let used = used_by_section (IsKnown f) f (used_known f limit fits) in
-      let within : w.bad < length f.properties.bads = slice_get_within f.properties.bads w.bad shows.named.0 shows.named.1 in
-      let named : get_or f.properties.bads w.bad 0 ≡ shows.named.0 = get_or_from_slice_get f.properties.bads w.bad shows.named.0 0 shows.named.1 in
+      let within : w.bad < length f.properties.bads = slice_get_within f.properties.bads w.bad
+      shows.named.0 shows.named.1 in
+      let named : get_or f.properties.bads w.bad 0 ≡ shows.named.0 =
+      get_or_from_slice_get f.properties.bads w.bad shows.named.0 0 shows.named.1 in
       let end : last < length w.steps = omega arith in
       record {
-        latches = zip_long (λ (l : LatchLine) known. Agrees known (run 0 (l.literal / 2))) f.latches w.state shows.there.2.state ∙ sym (length-map f.latches (latch_of f));
+        latches = zip_long (λ (l : LatchLine) known. Agrees known (run 0 (l.literal / 2))) f.latches
+            w.state shows.there.2.state ∙ sym (length-map f.latches (latch_of f));
         some = some;
         named = omega (arith, within, length-map f.properties.bads (edge_of f));
         start = starts;
         steps = record {
           inputs = λ t h.
-              zip_long (λ e known. Agrees known (run t (e / 2))) f.inputs (get_or w.steps t []) (shows.there.2.inputs t (get_or w.steps t []) (slice_get-get_or w.steps t [] h)) ∙ sym (length-map f.inputs (λ e. node_of_variable f (e / 2)));
-          constraints = λ t h. All-map (λ e. value_in (simulated c w t) e ≡ TRUE) (edge_of f) f.properties.constraints (λ i d lt.
+              zip_long (λ e known. Agrees known (run t (e / 2))) f.inputs (get_or w.steps t [])
+              (shows.there.2.inputs t (get_or w.steps t []) (slice_get-get_or w.steps t [] h))
+              ∙ sym (length-map f.inputs (λ e. node_of_variable f (e / 2)));
+          constraints = λ t h. All-map (λ e. value_in (simulated c w t) e ≡ TRUE)
+              (edge_of f) f.properties.constraints (λ i d lt.
               let low : t ≤ last = omega arith in
-              seen t (get_or f.properties.constraints i d) h (used.properties.constraints i d lt) (All-from_map (edge_of f) (IsInRange c.nodes) f.properties.constraints is_circuit.properties.constraints i d lt)
-              (All-from_recursion (λ e. IsTrue (value_of_literal (run t) e)) f.properties.constraints (shown.0.constraints t low) i d lt));
+              seen t (get_or f.properties.constraints i d) h (used.properties.constraints i d lt)
+              (All-from_map (edge_of f) (IsInRange c.nodes) f.properties.constraints
+              is_circuit.properties.constraints i d lt)
+              (All-from_recursion (λ e. IsTrue (value_of_literal (run t) e))
+              f.properties.constraints (shown.0.constraints t low) i d lt));
         };
         bad =
-            ap (value_in (simulated c w last)) (get_or-map (edge_of f) f.properties.bads w.bad 0 (edge_to 0 false) within)
-            ∙ seen last (get_or f.properties.bads w.bad 0) end (used.properties.bads w.bad 0 within) (All-from_map (edge_of f) (IsInRange c.nodes) f.properties.bads is_circuit.properties.bads w.bad 0 within)
+            ap (value_in (simulated c w last)) (get_or-map (edge_of f) f.properties.bads w.bad 0
+            (edge_to 0 false) within)
+            ∙ seen last (get_or f.properties.bads w.bad 0) end (used.properties.bads w.bad 0 within)
+            (All-from_map (edge_of f) (IsInRange c.nodes) f.properties.bads
+            is_circuit.properties.bads w.bad 0 within)
             (subst (λ e. IsTrue (value_of_literal (run last) e)) (sym named) shown.1);
       }
 
 -- what is wrong of a witness is not so of a known one
-wrong_not_known : (c : Circuit) (w : Witness) (e : WitnessFault) → e ≢ errors.Memory → IsWrong c w e → ¬ IsKnownWitness c w
+wrong_not_known : (c : Circuit) (w : Witness) (e : WitnessFault) → e ≢ errors.Memory → IsWrong c w e
+    → ¬ IsKnownWitness c w
 wrong_not_known c w errors.Memory memory wrong known = memory refl
 wrong_not_known c w errors.Latches memory wrong known = wrong known.latches
-wrong_not_known c w (errors.Inputs t) memory wrong known = wrong.1.2 (known.steps.inputs t wrong.1.1)
-wrong_not_known c w errors.NoStep memory wrong known = let some = known.some in let none = wrong.1 in omega arith
-wrong_not_known c w errors.NoBad memory wrong known = let named = known.named in let above = wrong.2 in omega arith
+wrong_not_known c w (errors.Inputs t) memory wrong known = wrong.1.2
+    (known.steps.inputs t wrong.1.1)
+wrong_not_known c w errors.NoStep memory wrong known = let some = known.some in let none =
+    wrong.1 in omega arith
+wrong_not_known c w errors.NoBad memory wrong known = let named = known.named in let above =
+    wrong.2 in omega arith
 wrong_not_known c w errors.Start memory wrong known = wrong.3 known.start
-wrong_not_known c w (errors.Constraint t) memory wrong known = wrong.1.3 (known.steps.constraints t wrong.1.1)
+wrong_not_known c w (errors.Constraint t) memory wrong known = wrong.1.3
+    (known.steps.constraints t wrong.1.1)
 wrong_not_known c w errors.Bad memory wrong known = wrong.2 known.bad
 
 -- so a refusal of given values shows that there is nothing to show
-pub wrong_shows_nothing : (f : File) (limit : ℕ) (w : Witness) (e : WitnessFault) → Fits f limit → IsGiven w → e ≢ errors.Memory → IsWrong (circuit_of f) w e → ¬ ShowsBad f w
-wrong_shows_nothing f limit w e fits given memory wrong shows = wrong_not_known (circuit_of f) w e memory wrong (given_known_witness f limit w fits given shows)
+pub wrong_shows_nothing : (f : File) (limit : ℕ) (w : Witness) (e : WitnessFault) → Fits f limit
+    → IsGiven w → e ≢ errors.Memory → IsWrong (circuit_of f) w e → ¬ ShowsBad f w
+wrong_shows_nothing f limit w e fits given memory wrong shows = wrong_not_known (circuit_of f) w e
+    memory wrong (given_known_witness f limit w fits given shows)

@@ -1,16 +1,14 @@
 -- What reading the next witness tells of known bytes.
-use Rattle.std.proofs.Common.{◌≡◌, ℕ, Bool, false, List, [], Option, Some, None, sym, subst}
+use Rattle.std.proofs.Common.{◌≡◌, ℕ, Bool, false, List, [], Option, Some, None, subst}
 use Rattle.std.specs.Prelude.{IfSome}
 use Rattle.std.proofs.KnownBytes.{Consumes-whole, prepend_known-nil}
-use Rattle.aig_circuit.specs.declared.view.CircuitLists.{CircuitLists}
-use Rattle.aig_circuit.specs.Circuit.{Circuit, IsCircuit}
-use Rattle.aig_circuit.specs.View.{lists_circuit}
+use Rattle.aig.specs.Reading.{IsFileCircuit}
+use Rattle.aig_circuit.specs.Circuit.{Circuit}
 use Rattle.aig_format.specs.Fits.{Accepts}
-use Rattle.aig_format.proofs.Circuits.{IsCircuit-of_file}
 use Rattle.aig_lexer.specs.Takes.{Feed, feed, Takes}
 use Rattle.aig_lexer.proofs.Going.{known_after}
 use Rattle.aig_reader.specs.declared.error.ReadError.{ReadError}
-use Rattle.aig_reader.specs.Reading.{AreListsOf, IsReadAs}
+use Rattle.aig_reader.specs.Reading.{IsReadAs}
 use Rattle.aig_reader.specs.Verdicts.{Accepted, Judges}
 use Rattle.aig_reader.proofs.Verdicts.{short_of}
 use Rattle.aig_witness.specs.declared.error.WitnessError.{WitnessError}
@@ -33,13 +31,18 @@ module _ {S : Type 0} (left : S → Option (List ℕ)) (failed : S → Bool) (pu
   alone : (P : List ℕ → Type 0) (s : S) → IfSome (start s).coming P → IfSome (left s) P
   alone P s h = subst (λ (text : Option (List ℕ)). IfSome text P) (prepend_known-nil (left s)) h
 
-  pub takes_next : (s : S) (after : Feed) (w : Witness) → Takes parse_next (start s) after (Some w) → IsNextWitness (left s) w
-  takes_next s after w h = alone (λ bytes. (rest : List ℕ) × (parse_next bytes ≡ Some (Some w, rest))) s
-      (known_after (start s).coming after.coming h.taken (λ bytes. (rest : List ℕ) × (parse_next bytes ≡ Some (Some w, rest))) h.advances.consumed (λ rest. (rest, h.reads rest)))
+  pub takes_next : (s : S) (after : Feed) (w : Witness) → Takes parse_next (start s) after (Some w)
+      → IsNextWitness (left s) w
+  takes_next s after w h = alone (λ bytes. (rest : List ℕ)
+      × (parse_next bytes ≡ Some (Some w, rest))) s
+      (known_after (start s).coming after.coming h.taken (λ bytes. (rest : List ℕ)
+      × (parse_next bytes ≡ Some (Some w, rest))) h.advances.consumed
+      (λ rest. (rest, h.reads rest)))
 
   pub ends_none : (s : S) (after : Feed) → EndsWithout (start s) after → HasNone (left s)
   ends_none s after h = alone (λ bytes. parse_next bytes ≡ Some (None, [])) s
-      (Consumes-whole (start s).coming after.coming h.taken (λ bytes. parse_next bytes ≡ Some (None, [])) h.ends.consumed h.ends.at_end h.none)
+      (Consumes-whole (start s).coming after.coming h.taken (λ bytes. parse_next bytes ≡ Some
+      (None, [])) h.ends.consumed h.ends.at_end h.none)
 
   -- a fault after no bytes that are held
   pub has_fault : (e : WitnessError) (s : S) → HasFault e (start s).coming → HasFault e (left s)
@@ -49,38 +52,49 @@ module _ {S : Type 0} (left : S → Option (List ℕ)) (failed : S → Bool) (pu
 
 module _ (text : Option (List ℕ)) (failed : Bool) where
   -- it is no error of the file
-  pub not_of_file : (e : ShowError) (of : ReadError) → HasNoNext text failed e → e ≡ errors.File of → ⊥
+  pub not_of_file : (e : ShowError) (of : ReadError) → HasNoNext text failed e → e ≡ errors.File of
+      → ⊥
   not_of_file e of h is = subst (HasNoNext text failed) is h
 
   module _ (limit : ℕ) (old new : Option (List ℕ)) where
-    pub refuses_next : (e : ShowError) → HasNoNext text failed e → Refuses limit old new text failed e
+    pub refuses_next : (e : ShowError) → HasNoNext text failed e
+        → Refuses limit old new text failed e
     refuses_next (errors.File e) h = absurd h
     refuses_next (errors.Check e) h = absurd h
     refuses_next e h = h
 
-    pub judged_next : (failed_file : Bool) (e : ShowError) → Judges (λ f. Accepted) limit old new failed_file Accepted → HasNoNext text failed e → Judges (λ f. Accepted) limit old new failed_file (verdict_of e)
+    pub judged_next : (failed_file : Bool) (e : ShowError) → Judges (λ f. Accepted) limit old new
+        failed_file Accepted → HasNoNext text failed e → Judges (λ f. Accepted) limit old new
+        failed_file (verdict_of e)
     judged_next failed_file (errors.File e) told h = absurd h
     judged_next failed_file (errors.Check e) told h = absurd h
-    judged_next failed_file (errors.Witness witness.Memory) told h = short_of (λ f. Accepted) limit old new failed_file told
+    judged_next failed_file (errors.Witness witness.Memory) told h = short_of (λ f. Accepted) limit
+        old new failed_file told
     judged_next failed_file e told h = told
 
 -- ---- a witness with a fault
 
-pub judged_fault : (limit : ℕ) (old new : Option (List ℕ)) (failed : Bool) (e : WitnessFault) → Judges (λ f. Accepted) limit old new failed Accepted → Judges (λ f. Accepted) limit old new failed (verdict_of (errors.Check e))
-judged_fault limit old new failed faults.Memory told = short_of (λ f. Accepted) limit old new failed told
+pub judged_fault : (limit : ℕ) (old new : Option (List ℕ)) (failed : Bool) (e : WitnessFault)
+    → Judges (λ f. Accepted) limit old new failed Accepted → Judges (λ f. Accepted) limit old new
+    failed (verdict_of (errors.Check e))
+judged_fault limit old new failed faults.Memory told = short_of (λ f. Accepted) limit old new failed
+    told
 judged_fault limit old new failed e told = told
 
--- the lists of a file are a circuit
-pub lists_are : (limit : ℕ) (old new : Option (List ℕ)) (lists : CircuitLists) → IsReadAs (λ bytes. Accepts bytes limit) AreListsOf old new lists → IsCircuit (lists_circuit lists)
-lists_are limit old new lists o = subst IsCircuit (sym o.means) (IsCircuit-of_file o.file limit o.holds.1)
-
 -- the fault of a witness, on the file's circuit
-pub fails_on : (limit : ℕ) (old new text : Option (List ℕ)) (lists : CircuitLists) (w : Witness) (e : WitnessFault) → IsReadAs (λ bytes. Accepts bytes limit) AreListsOf old new lists → IsNextWitness text w → IsWrong (lists_circuit lists) w e
+pub fails_on : (limit : ℕ) (old new text : Option (List ℕ)) (c : Circuit) (w : Witness)
+    (e : WitnessFault) → IsReadAs (λ bytes. Accepts bytes limit) IsFileCircuit old new c
+    → IsNextWitness text w → IsWrong c w e
     → IsReadAs (λ bytes. Accepts bytes limit) (FailsNext text) old new e
-fails_on limit old new text lists w e o next wrong = record {
+fails_on limit old new text c w e o next wrong = record {
   file = o.file;
   bytes = o.bytes;
   holds = o.holds;
-  means = record { witness = w; next = next; wrong = subst (λ (c : Circuit). IsWrong c w e) o.means wrong };
+  means = record {
+    witness = w;
+    next = next;
+    wrong = subst (λ (c : Circuit). IsWrong c w e) o.means
+        wrong;
+  };
   taken = o.taken;
 }

@@ -57,8 +57,8 @@ HasNoNext text failed errors.NoWitness = HasNone text
 HasNoNext text failed e = ⊥
 
 -- what a refusal tells of the witness, by the bytes that the file's reader has left before and
--- after: nothing, where the file is refused; why there is none; or the fault that it has of the
--- file that was read
+-- after: nothing, where the file is refused; why there is none; or its fault on the file that was
+-- read
 abbrev pub Refuses : ℕ → Option (List ℕ) → Option (List ℕ) → Option (List ℕ) → Bool → ShowError
     → Type 0
 Refuses limit old new text failed (errors.File e) = Unit {0}

@@ -1,18 +1,16 @@
 //! Checks that a witness shows a bad state of a circuit.
 
 ghost use Rattle.std.specs.Prelude.{◌≡◌, ◌<◌, ◌≤◌, [], All, OnOk, IfErr, false, length, true};
-ghost use Rattle.aig_circuit.specs.Circuit.{IsCircuit};
-ghost use Rattle.aig_circuit.specs.View.{lists_circuit};
 ghost use Rattle.aig_ternary.specs.Ternary.{HasValue, simulation_of, stepped_all};
 ghost use Rattle.aig_witness.specs.Witness.{said_by};
 ghost use Rattle.aig_witness_check.specs.Answers.{Checks, IsWrongStep};
 ghost use Rattle.aig_witness_check.specs.Shown.{AreStarts, AreTrueIn, HoldsSteps};
 
 use crate::error::WitnessFault;
+use aig::{Aig, AigEdge, AigLatch, TernarySimulate};
 use aig_base::Lbool;
-use aig_circuit::{AigEdge, AigLatch, CircuitLists, CircuitView};
-use aig_ternary::Simulator;
 use aig_witness::Witness;
+use std::alloc::Global;
 
 /// Whether each latch that has an initial edge has the constant one of its value in the state.
 fn starts(latchs: &[AigLatch], state: &[Lbool]) -> bool
@@ -32,13 +30,13 @@ fn starts(latchs: &[AigLatch], state: &[Lbool]) -> bool
 }
 
 /// Whether all edges are known to be true in the last step.
-fn all_true(simulator: &Simulator<'_>, edges: &[AigEdge]) -> bool
-    requires { All (HasValue simulator.now) edges.now }
-    ensures yes { result ≡ true → AreTrueIn simulator.now edges.now }
-    ensures no { result ≡ false → ¬ AreTrueIn simulator.now edges.now }
+fn all_true(simulation: &TernarySimulate<'_>, edges: &[AigEdge]) -> bool
+    requires { All (HasValue simulation.now) edges.now }
+    ensures yes { result ≡ true → AreTrueIn simulation.now edges.now }
+    ensures no { result ≡ false → ¬ AreTrueIn simulation.now edges.now }
 {
     for e in edges {
-        if simulator.value(*e) != Lbool::TRUE {
+        if simulation.value(*e) != Lbool::TRUE {
             return false;
         }
     }
@@ -48,24 +46,25 @@ fn all_true(simulator: &Simulator<'_>, edges: &[AigEdge]) -> bool
 /// Simulates the steps of a witness, and checks that each has a value for each input, and that all constraints are known to
 /// hold at each.
 fn check_steps(
-    lists: &CircuitLists,
-    simulator: &mut Simulator<'_>,
+    alloc: Global,
+    circuit: &Aig,
+    simulation: &mut TernarySimulate<'_>,
     witness: &Witness,
 ) -> Result<(), WitnessFault>
-    requires circuit { IsCircuit (lists_circuit lists.now) }
-    requires begins { simulator.old
-        ≡ simulation_of (lists_circuit lists.now) witness.now.state.items }
-    ensures ok { OnOk result (HoldsSteps (lists_circuit lists.now) (said_by witness.now)) }
+    requires { simulation.old ≡ simulation_of circuit.now witness.now.state.items }
+    ensures ok { OnOk result (HoldsSteps circuit.now (said_by witness.now)) }
     ensures moved { OnOk result
-        (simulator.new ≡ stepped_all simulator.old (said_by witness.now).steps) }
-    ensures wrong { IfErr result (IsWrongStep (lists_circuit lists.now) (said_by witness.now)) }
+        (simulation.new ≡ stepped_all simulation.old (said_by witness.now).steps) }
+    ensures wrong { IfErr result (IsWrongStep circuit.now (said_by witness.now)) }
 {
+    let count = circuit.inputs().len();
+    let constraints = circuit.constraints();
     for (t, inputs) in witness.steps.iter().enumerate() {
-        if inputs.len() != lists.inputs.len() {
+        if inputs.len() != count {
             return Err(WitnessFault::Inputs(t));
         }
-        simulator.simulate(inputs)?;
-        if !all_true(simulator, &lists.properties.constraints) {
+        simulation.simulate(inputs.to_vec(alloc)?)?;
+        if !all_true(simulation, constraints) {
             return Err(WitnessFault::Constraint(t));
         }
     }
@@ -81,28 +80,28 @@ fn check_steps(
 /// # Errors
 ///
 /// What is wrong first, in the order of `WitnessFault`'s names but for `Inputs` and `Constraint`, which come step by step.
-pub fn check_circuit(lists: &CircuitLists, witness: &Witness) -> Result<(), WitnessFault>
-    requires { IsCircuit (lists_circuit lists.now) }
-    ensures { Checks (lists_circuit lists.now) (said_by witness.now) result }
+pub fn check_circuit(alloc: Global, circuit: &Aig, witness: &Witness) -> Result<(), WitnessFault>
+    ensures { Checks circuit.now (said_by witness.now) result }
 {
-    if witness.state.len() != lists.latchs.len() {
+    let latchs = circuit.latchs();
+    let bads = circuit.bads();
+    let named = witness.bad as usize;
+    if witness.state.len() != latchs.len() {
         return Err(WitnessFault::Latches);
     }
     if witness.steps.is_empty() {
         return Err(WitnessFault::NoStep);
     }
-    let named = witness.bad as usize;
-    if named >= lists.properties.bads.len() {
+    if named >= bads.len() {
         return Err(WitnessFault::NoBad);
     }
-    if !starts(&lists.latchs, &witness.state) {
+    if !starts(latchs, &witness.state) {
         return Err(WitnessFault::Start);
     }
-    let view = CircuitView::new(lists);
-    let state = witness.state.to_vec(view.allocator())?;
-    let mut simulator = Simulator::new(view, state);
-    check_steps(lists, &mut simulator, witness)?;
-    if simulator.value(lists.properties.bads[named]) != Lbool::TRUE {
+    let state = witness.state.to_vec(alloc)?;
+    let mut simulation = TernarySimulate::new(circuit, state);
+    check_steps(alloc, circuit, &mut simulation, witness)?;
+    if simulation.value(bads[named]) != Lbool::TRUE {
         return Err(WitnessFault::Bad);
     }
     Ok(())

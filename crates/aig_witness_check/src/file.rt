@@ -11,9 +11,9 @@ ghost use Rattle.aig_witness_check.specs.declared.file.ShowError.TheVariants as 
 use crate::circuit::check_circuit;
 use crate::error::WitnessFault;
 use crate::laws::known_witnesses_show;
+use aig::{Aig, ReadError};
 use aig_base::Source;
 use aig_lexer::InputBuffer;
-use aig_reader::ReadError;
 use aig_witness::{Witness, WitnessError, read_witness};
 use std::alloc::Global;
 use thiserror::Error;
@@ -114,9 +114,9 @@ pub fn check_witness<R: Source, W: Source>(
     ensures unread { (e : ReadError) → IsErrOf result (ShowError.File e) → w.new ≡ w.old }
 {
     known_witnesses_show();
-    let lists = aig_reader::read(alloc, r, limit)?;
+    let circuit = Aig::from_aiger(alloc, r, limit)?;
     let witness = read_first(alloc, w)?;
-    check_circuit(&lists, &witness)?;
+    check_circuit(alloc, &circuit, &witness)?;
     Ok(Shown {
         bad: witness.bad as usize,
         step: witness.steps.len() - 1,

@@ -9,9 +9,16 @@ use Rattle.aig_circuit.specs.Circuit.{Circuit, only_false}
 use Rattle.aig_circuit.specs.Edge.{edge_to}
 use Rattle.aig_circuit.specs.Properties.{no_properties}
 use Rattle.aig_format.specs.File.{File}
+use Rattle.aig_reader.specs.Verdicts.{Accepted, Judges}
+use Rattle.aig_refutation.specs.declared.error.RefutationError.{RefutationError}
+use Rattle.aig_answers.specs.declared.error.AnswerError.TheVariants as answers
+use Rattle.aig_witness.specs.declared.error.WitnessError.TheVariants as witness
+use Rattle.aig_witness_check.specs.declared.file.ShowError.TheVariants as shows
+use Rattle.aigcheck.specs.declared.command.Command.{Command}
 use Rattle.aigcheck.specs.declared.command.Command.TheVariants as commands
+use Rattle.aigcheck.specs.declared.tool.CheckError.TheVariants as errors
 use Rattle.aigcheck.specs.Comments.{comments_of, input_lines, literal_line}
-use Rattle.aigcheck.specs.Running.{Answers, shown_line, window_line}
+use Rattle.aigcheck.specs.Running.{Answers, IsErrorOf, TellsOfGiven, file_verdict, shown_line, window_line}
 use Rattle.aigcheck.specs.Words.{Give}
 
 -- ---- words
@@ -76,3 +83,21 @@ no_window_told : (optimize : Bool) (given : Option (List ℕ)) (f : File)
 unfolding digits
 no_window_told optimize given f answers =
     let word : 97 ≡ 115 = ap (λ text. slice_index text 16) answers.0 in omega (arith, word)
+
+-- ---- errors
+
+-- clauses are refused as a proof would be
+no_proof_of_clauses : (k : ℕ) (optimize : Bool) (e : RefutationError)
+    → ¬ IsErrorOf (commands.Clauses k optimize) (errors.Answer (answers.Refutation e))
+no_proof_of_clauses k optimize e is = is
+
+-- a witness that is refused is told as a read that failed, where none did
+no_failed_read : (limit : ℕ) (old new given : Option (List ℕ))
+    → ¬ TellsOfGiven commands.Run limit old new given false (errors.Show (shows.Witness witness.Stream))
+no_failed_read limit old new given tells = let failed : false ≡ true = tells in cc
+
+-- a file is answered, a read of which failed
+no_answer_after_a_failure : (c : Command) (limit : ℕ) (old new : Option (List ℕ))
+    → ¬ Judges (file_verdict c limit) limit old new true Accepted
+no_answer_after_a_failure c limit old new said =
+    let failed : true ≡ false = (said.whole tt).0 in cc

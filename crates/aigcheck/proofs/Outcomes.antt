@@ -8,49 +8,37 @@ use Rattle.aig_reader.specs.Reading.{IsReadAs}
 use Rattle.aig_reader.specs.Verdicts.{Accepted, IsOfFile, Judges}
 use Rattle.aig_reader.proofs.Verdicts.{of_no_file, short_of}
 use Rattle.aig_output.specs.Sinks.{Stops}
+use Rattle.aig_encode.specs.declared.encoding.Encoded.{Encoded}
 use Rattle.aig_encode.specs.declared.error.EncodeError.TheVariants as encode
 use Rattle.aig_refutation.specs.declared.error.RefutationError.TheVariants as refutation
 use Rattle.aig_answers.specs.declared.error.AnswerError.{AnswerError}
 use Rattle.aig_answers.specs.declared.error.AnswerError.TheVariants as answers
 use Rattle.aig_answers.specs.Answers as asking
 use Rattle.aig_answers.specs.Answers.{IsAsked, IsOfQuery, IsOfWindow}
-use Rattle.aig_solutions.specs.declared.error.CheckedWitnessError.{CheckedWitnessError}
-use Rattle.aig_solutions.specs.declared.error.CheckedWitnessError.TheVariants as solutions
-use Rattle.aig_solutions.specs.declared.error.SolutionError.TheVariants as solution
+use Rattle.aig_solutions.specs.declared.error.SolutionError.{SolutionError}
+use Rattle.aig_solutions.specs.Checked.{RefusesSolution}
 use Rattle.aig_witness_check.specs.declared.file.ShowError.{ShowError}
 use Rattle.aig_witness_check.specs.declared.file.ShowError.TheVariants as shows
 use Rattle.aigcheck.specs.declared.command.Command.{Command}
 use Rattle.aigcheck.specs.declared.tool.CheckError.{CheckError}
 use Rattle.aigcheck.specs.declared.tool.CheckError.TheVariants as errors
 use Rattle.aigcheck.specs.Printing.{IsOfSolution, IsOfText, Prints}
-use Rattle.aigcheck.specs.Running.{Answers, IsErrorOf, IsOfFileAlone, Runs, TellsOfGiven, file_verdict, steps_of, verdict_of}
+use Rattle.aigcheck.specs.Running.{Answers, IsErrorOf, IsOfFileAlone, Runs, TellsOfGiven, TellsOfSolution, file_verdict, steps_of, verdict_of}
 
 is_error : (T E : Type 0) (e x : E) → IsErrOf {T = T} (Err e) x → e ≡ x
 is_error T E e x is = cc
 
--- what an error tells of a proof, and of a solver's answer
-tells_of_proof : (limit : ℕ) (old new given : Option (List ℕ)) (failed : Bool) (e : AnswerError)
-    → (e ≡ answers.Refutation refutation.Stream → IsTrue failed)
-    → TellsOfGiven limit old new given failed (errors.Answer e)
-tells_of_proof limit old new given failed (answers.Refutation refutation.Stream) stream = stream refl
-tells_of_proof limit old new given failed e stream = tt
-
-tells_of_solution : (limit : ℕ) (old new given : Option (List ℕ)) (failed : Bool)
-    (e : CheckedWitnessError) → IsOfSolution failed (errors.Solution e)
-    → TellsOfGiven limit old new given failed (errors.Solution e)
-tells_of_solution limit old new given failed (solutions.Solution solution.Stream) own = own
-tells_of_solution limit old new given failed e own = tt
-
-pub solution_own : (failed : Bool) (e : CheckedWitnessError)
-    → (e ≡ solutions.Solution solution.Stream → IsTrue failed)
-    → IsOfSolution failed (errors.Solution e)
-solution_own failed (solutions.Solution solution.Stream) stream = stream refl
-solution_own failed e stream = tt
+-- what an error tells of a proof
+tells_of_proof : (c : Command) (limit : ℕ) (old new given : Option (List ℕ)) (failed : Bool)
+    (e : AnswerError) → (e ≡ answers.Refutation refutation.Stream → IsTrue failed)
+    → TellsOfGiven c limit old new given failed (errors.Answer e)
+tells_of_proof c limit old new given failed (answers.Refutation refutation.Stream) stream = stream refl
+tells_of_proof c limit old new given failed e stream = tt
 
 module _ {R P W : Type 0} {left : R → Option (List ℕ)} {read_failed : R → Bool} {given : P → Option (List ℕ)} {given_failed : P → Bool} {held : W → Option (List ℕ)} {write_failed : W → Bool} {c : Command} {limit : ℕ} {r rest : R} {p used : P} {w made : W} where
   -- the file or what is given beside it is refused, or memory ran out
   pub refused : (e : CheckError) → Judges (file_verdict c limit) limit (left r) (left rest) (read_failed rest) (verdict_of e) → IsErrorOf c e → e ≢ errors.Write → made ≡ w → (IsOfFileAlone e → used ≡ p)
-      → TellsOfGiven limit (left r) (left rest) (given p) (given_failed used) e
+      → TellsOfGiven c limit (left r) (left rest) (given p) (given_failed used) e
       → Runs left read_failed given given_failed held write_failed c limit r p w (Err e) rest used made
   refused e said own other same unread tells = record {
     verdict = said;
@@ -65,7 +53,7 @@ module _ {R P W : Type 0} {left : R → Option (List ℕ)} {read_failed : R → 
   -- the file or its proof is refused
   pub proof_refused : (e : AnswerError) → Judges (file_verdict c limit) limit (left r) (left rest) (read_failed rest) (asking.verdict_of e) → IsErrorOf c (errors.Answer e) → made ≡ w → (IsOfFileAlone (errors.Answer e) → used ≡ p) → (e ≡ answers.Refutation refutation.Stream → IsTrue (given_failed used))
       → Runs left read_failed given given_failed held write_failed c limit r p w (Err (errors.Answer e)) rest used made
-  proof_refused e said own same unread stream = refused (errors.Answer e) said own (λ is. cc) same unread (tells_of_proof limit (left r) (left rest) (given p) (given_failed used) e stream)
+  proof_refused e said own same unread stream = refused (errors.Answer e) said own (λ is. cc) same unread (tells_of_proof c limit (left r) (left rest) (given p) (given_failed used) e stream)
 
   -- the answer was written
   pub answered : (u : Unit {0}) (text : List ℕ) → Judges (file_verdict c limit) limit (left r) (left rest) (read_failed rest) Accepted
@@ -92,12 +80,12 @@ module _ {R P W : Type 0} {left : R → Option (List ℕ)} {read_failed : R → 
 
   -- a witness was printed, or a solver's answer was refused before
   pub solution_ends : (result : Result Unit CheckError) (IsSuch : List ℕ → Type 0) → Judges (file_verdict c limit) limit (left r) (left rest) (read_failed rest) Accepted
-      → ((text : List ℕ) → IsSuch text → IsReadAs (IsAsked limit (steps_of c)) (Answers c (given p)) (left r) (left rest) text) → Prints held write_failed IsSuch w result made → IfErr result (IsOfSolution (given_failed used)) → ((e : CheckedWitnessError) → IsErrorOf c (errors.Solution e))
+      → ((text : List ℕ) → IsSuch text → IsReadAs (IsAsked limit (steps_of c)) (Answers c (given p)) (left r) (left rest) text) → Prints held write_failed IsSuch w result made → (x : Encoded) (k : ℕ) → IfErr result (IsOfSolution (given p) (given_failed used) x k) → ((e : SolutionError) → IsErrorOf c (errors.Solution e)) → ((e : SolutionError) → RefusesSolution (given p) x k (given_failed used) e → TellsOfSolution c limit (left r) (left rest) (given p) (given_failed used) e)
       → Runs left read_failed given given_failed held write_failed c limit r p w result rest used made
-  solution_ends (Ok u) IsSuch said answers prints own has = let done = prints.ok in answered u done.0 said (answers done.0 done.1) done.2 done.3
-  solution_ends (Err errors.Write) IsSuch said answers prints own has = let done = prints.stopped refl in stopped done.0 said (answers done.0 done.1) done.2
-  solution_ends (Err (errors.Solution e)) IsSuch said answers prints own has = refused (errors.Solution e) said (has e) (λ is. cc) (prints.kept (λ is. cc)) (λ alone. absurd alone) (tells_of_solution limit (left r) (left rest) (given p) (given_failed used) e own)
-  solution_ends (Err e) IsSuch said answers prints own has = absurd own
+  solution_ends (Ok u) IsSuch said answers prints x k own has tells = let done = prints.ok in answered u done.0 said (answers done.0 done.1) done.2 done.3
+  solution_ends (Err errors.Write) IsSuch said answers prints x k own has tells = let done = prints.stopped refl in stopped done.0 said (answers done.0 done.1) done.2
+  solution_ends (Err (errors.Solution e)) IsSuch said answers prints x k own has tells = refused (errors.Solution e) said (has e) (λ is. cc) (prints.kept (λ is. cc)) (λ alone. absurd alone) (tells e own)
+  solution_ends (Err e) IsSuch said answers prints x k own has tells = absurd own
 
 -- ---- what is printed
 

@@ -1,14 +1,14 @@
 -- Serves private clauses alone.
 -- What is printed of what was read: a text, or a beginning of it.
-use Rattle.std.specs.Prelude.{◌≡◌, ◌≢◌, ℕ, ◌+◌, Bool, false, List, ◌++◌, length, Option, Result, IfErr, IsErrOf, IsTrue, OnOk}
+use Rattle.std.specs.Prelude.{◌≡◌, ◌≢◌, ℕ, ◌+◌, Bool, false, List, ◌++◌, length, Option, Result, IfErr, IsErrOf, OnOk}
 use Rattle.std.specs.Io.KnownBytes.{Appends}
 use Rattle.aig_base.specs.Formula.{clauses_in}
 use Rattle.aig_circuit.specs.Circuit.{Circuit}
 use Rattle.aig_dimacs.specs.Text.{dimacs_of}
+use Rattle.aig_encode.specs.declared.encoding.Encoded.{Encoded}
 use Rattle.aig_encode.specs.declared.query_clauses.Query.{Query}
 use Rattle.aig_output.specs.Sinks.{Stops}
-use Rattle.aig_solutions.specs.declared.error.CheckedWitnessError.TheVariants as solutions
-use Rattle.aig_solutions.specs.declared.error.SolutionError.TheVariants as solution
+use Rattle.aig_solutions.specs.Checked.{RefusesSolution}
 use Rattle.aig_witness.specs.Witness.{Witness, witness_text}
 use Rattle.aig_witness_check.specs.Shown.{IsKnownWitness}
 use Rattle.aigcheck.specs.Comments.{comments_of}
@@ -44,9 +44,8 @@ IsOfText errors.Memory = Unit {0}
 IsOfText errors.Write = Unit {0}
 IsOfText e = ⊥
 
--- the errors of a solver's answer, and what they tell of its reader
-abbrev pub IsOfSolution : Bool → CheckError → Type 0
-IsOfSolution failed (errors.Solution (solutions.Solution solution.Stream)) = IsTrue failed
-IsOfSolution failed (errors.Solution e) = Unit {0}
-IsOfSolution failed errors.Write = Unit {0}
-IsOfSolution failed e = ⊥
+-- the errors of a solver's answer to a query for step k, and what they tell
+abbrev pub IsOfSolution : Option (List ℕ) → Bool → Encoded → ℕ → CheckError → Type 0
+IsOfSolution given failed e k (errors.Solution error) = RefusesSolution given e k failed error
+IsOfSolution given failed e k errors.Write = Unit {0}
+IsOfSolution given failed e k error = ⊥

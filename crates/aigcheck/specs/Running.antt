@@ -30,8 +30,8 @@ use Rattle.aig_witness_check.specs.declared.file.Shown.{Shown}
 use Rattle.aig_witness_check.specs.Files as showing
 use Rattle.aig_witness_check.specs.Files.{ShowsNext}
 use Rattle.aig_witness_check.specs.Machine.{ShowsBad}
-use Rattle.aig_solutions.specs.declared.error.CheckedWitnessError.TheVariants as solutions
-use Rattle.aig_solutions.specs.declared.error.SolutionError.TheVariants as solution
+use Rattle.aig_solutions.specs.declared.error.SolutionError.{SolutionError}
+use Rattle.aig_solutions.specs.Checked.{RefusesSolution}
 use Rattle.aigcheck.specs.Comments.{comments_of, named_text}
 use Rattle.aigcheck.specs.declared.command.Command.{Command}
 use Rattle.aigcheck.specs.declared.command.Command.TheVariants as commands
@@ -157,17 +157,30 @@ IsOfFileAlone (errors.Answer e) = Unit {0}
 IsOfFileAlone (errors.Show (shows.File e)) = Unit {0}
 IsOfFileAlone e = ⊥
 
+-- the solver's answer to the query of the file is refused so
+pub record RefusesAnswer (given : Option (List ℕ)) (failed : Bool) (k : ℕ) (optimize : Bool)
+    (f : File) (e : SolutionError) : Type 0 where
+  pub query : Query
+  pub asks : IsQuery k optimize f query
+  pub refusal : RefusesSolution given query.encoded k failed e
+
+abbrev pub TellsOfSolution : Command → ℕ → Option (List ℕ) → Option (List ℕ) → Option (List ℕ)
+    → Bool → SolutionError → Type 0
+TellsOfSolution (commands.Witness k optimize) limit old new given failed e =
+    IsReadAs (IsAsked limit k) (RefusesAnswer given failed k optimize) old new e
+TellsOfSolution c limit old new given failed e = ⊥
+
 -- what a refusal of what is given beside the file tells of it: a read of it is said to have failed
--- only where one did, and a witness to have a fault only where it has that
-abbrev pub TellsOfGiven : ℕ → Option (List ℕ) → Option (List ℕ) → Option (List ℕ) → Bool
+-- only where one did, and a solver's answer or a witness is refused as is promised of these
+abbrev pub TellsOfGiven : Command → ℕ → Option (List ℕ) → Option (List ℕ) → Option (List ℕ) → Bool
     → CheckError → Type 0
-TellsOfGiven limit old new given failed (errors.Answer (answers.Refutation refutation.Stream)) =
+TellsOfGiven c limit old new given failed (errors.Answer (answers.Refutation refutation.Stream)) =
     IsTrue failed
-TellsOfGiven limit old new given failed (errors.Solution (solutions.Solution solution.Stream)) =
-    IsTrue failed
-TellsOfGiven limit old new given failed (errors.Show e) =
+TellsOfGiven c limit old new given failed (errors.Solution e) =
+    TellsOfSolution c limit old new given failed e
+TellsOfGiven c limit old new given failed (errors.Show e) =
     showing.Refuses limit old new given failed e
-TellsOfGiven limit old new given failed e = Unit {0}
+TellsOfGiven c limit old new given failed e = Unit {0}
 
 -- ---- runs
 
@@ -175,6 +188,7 @@ TellsOfGiven limit old new given failed e = Unit {0}
 abbrev pub nothing_given : Unit {0} → Option (List ℕ)
 nothing_given p = None
 
+-- and no read of it fails
 abbrev pub nothing_fails : Unit {0} → Bool
 nothing_fails p = false
 
@@ -201,4 +215,4 @@ pub record Runs {R P W : Type 0} (left : R → Option (List ℕ)) (read_failed :
   pub unread : IfErr result (λ e. IsOfFileAlone e → used ≡ p)
   -- and a refusal of it tells why
   pub refusal : IfErr result
-      (TellsOfGiven limit (left r) (left rest) (given p) (given_failed used))
+      (TellsOfGiven c limit (left r) (left rest) (given p) (given_failed used))

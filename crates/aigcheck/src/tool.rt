@@ -19,7 +19,7 @@ use aig_certify::inductive_windows_are_safe;
 use aig_dimacs::write_dimacs;
 use aig_encode::Query;
 use aig_output::OutputBuffer;
-use aig_solutions::{CheckedWitnessError, Places, checked_witness};
+use aig_solutions::{Places, SolutionError, checked_witness};
 use aig_witness::write_witness;
 use aig_witness_check::{ShowError, Shown, check_witness, known_witnesses_show};
 use std::alloc::Global;
@@ -47,7 +47,7 @@ pub enum CheckError {
     Answer(AnswerError),
     /// The solver's answer gives no witness of a bad state.
     #[error("{0}")]
-    Solution(CheckedWitnessError),
+    Solution(SolutionError),
     /// The witness shows no bad state.
     #[error("{0}")]
     Show(ShowError),
@@ -72,10 +72,10 @@ impl From<MemoryError> for CheckError {
     }
 }
 
-impl From<CheckedWitnessError> for CheckError {
+impl From<SolutionError> for CheckError {
     ghost from_gives = { λ e r. r ≡ errors.Solution e };
 
-    fn from(error: CheckedWitnessError) -> CheckError {
+    fn from(error: SolutionError) -> CheckError {
         CheckError::Solution(error)
     }
 }
@@ -255,8 +255,9 @@ fn print_solution<P: Source, W: Sink>(
     requires steps { UnrollsTo asked.now.encoded.circuit k asked.now.encoded.unrolled }
     ensures prints { let circuit = asked.now.encoded.circuit in
         Prints W.held W.failed (IsKnownText circuit k) w.old result w.new }
-    // A read of the solver's answer is said to have failed only where one did in this call.
-    ensures own { IfErr result (IsOfSolution (P.failed solution.new)) }
+    // The solver's answer is refused as `checked_witness` refuses it.
+    ensures own { IfErr result
+        (IsOfSolution (P.left solution.old) (P.failed solution.new) asked.now.encoded k) }
 {
     let witness = checked_witness(alloc, asked, k, solution)?;
     Ok(write_witness(w, &witness)?)

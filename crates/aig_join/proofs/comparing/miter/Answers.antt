@@ -1,7 +1,7 @@
-use Rattle.std.proofs.Common.{◌≡◌, [], Vec, Global, ◌∙◌, ap, length, map, subst, sym}
+use Rattle.std.proofs.Common.{◌≡◌, List, [], Vec, Global, ◌∙◌, ap, length, map, subst, sym}
 use Rattle.std.specs.Prelude.{All}
 use Rattle.aig_circuit.specs.declared.edge.AigEdge.{AigEdge}
-use Rattle.aig_circuit.specs.Circuit.{IsCircuit, IsInRange}
+use Rattle.aig_circuit.specs.Circuit.{Circuit, IsCircuit, IsInRange}
 use Rattle.aig_circuit.specs.View.{lists_circuit}
 use Rattle.aig_join.specs.Miter.{IsMiter, compared, moved_compared}
 use Rattle.aig_join.proofs.Made.{IsCircuit-mitered, IsMiter-made, back-is, compared-there, count-is, front-is, others-compared-there}
@@ -54,47 +54,35 @@ left c = (
   c.clear-3.ensures.items,
 )
 
+-- the lists that are returned, with these properties beside bad edges and constraints
+abbrev with_properties : goal.After-drop-edges-2 → List AigEdge → List (List AigEdge)
+    → List AigEdge → Circuit
+with_properties c o j f = record (lists_circuit c.in_ok-lists.lists) {
+  nodes = c.differences.new.nodes.items;
+  properties = record {
+    outputs = o;
+    bads = c.in_ok-bads.bads.items;
+    constraints = c.in_ok-lists.lists.properties.constraints.items;
+    justice = j;
+    fairness = f;
+  };
+}
+
 pub returns-clause-miter : goal.returns-clause-miter
 returns-clause-miter c =
     let a = c.args.a.now in
     let b = c.args.b.now in
     let lists = lists_circuit c.in_ok-lists.lists in
     let at = (goal.at.returns-clause-miter c).After-deref-2 in
-    let o = (left c).0 in
-    let j = (left c).1 in
-    let f = (left c).2 in
     subst (IsMiter a b)
-    (sym (λ i. record lists {
-      nodes = c.differences.new.nodes.items;
-      properties = record {
-        outputs = o i;
-        bads = c.in_ok-bads.bads.items;
-        constraints = lists.properties.constraints;
-        justice = j i;
-        fairness = f i;
-      };
-    }))
+    (sym (λ i. with_properties c ((left c).0 i) ((left c).1 i) ((left c).2 i)))
     (IsMiter-made a b lists c.in_ok-lists.ensures.joined c.differences.new.nodes.items
     c.deref.result.now c.deref-2.result.now c.in_ok-bads.bads.items (edges_are at)
     (others_are at) c.in_ok-bads.ensures.gates c.in_ok-bads.ensures.steps)
 
 pub returns-clause-circuit : goal.returns-clause-circuit
 returns-clause-circuit c =
-    let lists = lists_circuit c.in_ok-lists.lists in
-    let o = (left c).0 in
-    let j = (left c).1 in
-    let f = (left c).2 in
-    subst IsCircuit
-    (sym (λ i. record lists {
-      nodes = c.differences.new.nodes.items;
-      properties = record {
-        outputs = o i;
-        bads = c.in_ok-bads.bads.items;
-        constraints = lists.properties.constraints;
-        justice = j i;
-        fairness = f i;
-      };
-    }))
-    (IsCircuit-mitered lists c.in_ok-lists.ensures.circuit c.differences.new.nodes.items
-    c.deref.result.now c.deref-2.result.now c.in_ok-bads.bads.items
-    c.in_ok-bads.ensures.gates c.in_ok-bads.ensures.steps)
+    subst IsCircuit (sym (λ i. with_properties c ((left c).0 i) ((left c).1 i) ((left c).2 i)))
+    (IsCircuit-mitered (lists_circuit c.in_ok-lists.lists) c.in_ok-lists.ensures.circuit
+    c.differences.new.nodes.items c.deref.result.now c.deref-2.result.now
+    c.in_ok-bads.bads.items c.in_ok-bads.ensures.gates c.in_ok-bads.ensures.steps)

@@ -9,18 +9,27 @@ use Rattle.aig_witness.proofs.reading.read_parts.Goals as goal
 pub returns-in_err-bad : goal.returns-in_err-bad
 returns-in_err-bad g c =
     let p = err_from_is_err_and c.from_residual.result c.from_residual.ensures.1 in
-    let before = feed g.R.Source.left g.R.Source.failed g.R.Source.pulls c.args.buffer.now c.args.r.now in
+    let before = feed g.R.Source.left g.R.Source.failed g.R.Source.pulls c.args.buffer.now
+    c.args.r.now in
     rw (p.1, p.2) (property_fault before before 0 c.in_err-bad.field-0.0 _ c.in_err-bad.ensures)
 
 pub returns-in_err-state : goal.returns-in_err-state
 returns-in_err-state g c =
-    let p = err_from_is_err_and c.from_residual-in_err-state.result c.from_residual-in_err-state.ensures.1 in
-    let before = feed g.R.Source.left g.R.Source.failed g.R.Source.pulls c.args.buffer.now c.args.r.now in
-    let mid = feed g.R.Source.left g.R.Source.failed g.R.Source.pulls c.read_property.new.buffer c.read_property.new.r in
-    rw (p.1, p.2) (values_fault before mid c.in_ok-bad.bad c.in_err-state.field-0.0 _ c.in_ok-bad.ensures c.in_err-state.ensures)
+    let p = err_from_is_err_and c.from_residual-in_err-state.result
+    c.from_residual-in_err-state.ensures.1 in
+    let before = feed g.R.Source.left g.R.Source.failed g.R.Source.pulls c.args.buffer.now
+    c.args.r.now in
+    let mid = feed g.R.Source.left g.R.Source.failed g.R.Source.pulls c.read_property.new.buffer
+    c.read_property.new.r in
+    rw (p.1, p.2) (values_fault before mid c.in_ok-bad.bad c.in_err-state.field-0.0 _
+    c.in_ok-bad.ensures c.in_err-state.ensures)
 
 pub returns : goal.returns
 returns g c =
-    let mid = feed g.R.Source.left g.R.Source.failed g.R.Source.pulls c.read_property.new.buffer c.read_property.new.r in
-    let after = feed g.R.Source.left g.R.Source.failed g.R.Source.pulls c.read_values.new.buffer c.read_values.new.r in
-    takes_both parse_property (λ _. parse_values) _ mid after c.in_ok-bad.bad (c.in_ok-state.state.items, rows_of c.in_ok-state.steps.items) c.in_ok-bad.ensures c.in_ok-state.ensures
+    let mid = feed g.R.Source.left g.R.Source.failed g.R.Source.pulls c.read_property.new.buffer
+    c.read_property.new.r in
+    let after = feed g.R.Source.left g.R.Source.failed g.R.Source.pulls c.read_values.new.buffer
+    c.read_values.new.r in
+    takes_both parse_property (λ _. parse_values) _ mid after c.in_ok-bad.bad
+    (c.in_ok-state.state.items, rows_of c.in_ok-state.steps.items) c.in_ok-bad.ensures
+    c.in_ok-state.ensures

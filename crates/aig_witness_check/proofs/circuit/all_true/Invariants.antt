@@ -6,4 +6,5 @@ use Rattle.aig_ternary.specs.Ternary.{value_in}
 use Rattle.aig_witness_check.proofs.circuit.all_true.Given as goal
 
 abbrev pub invariant-loop-e : goal.invariant-loop-e
-invariant-loop-e l = (k : ℕ) (d : AigEdge) → k < l.e-index → value_in l.simulator (slice_index_or l.edges k d) ≡ TRUE
+invariant-loop-e l = (k : ℕ) (d : AigEdge) → k < l.e-index → value_in l.simulation
+    (slice_index_or l.edges k d) ≡ TRUE

@@ -8,12 +8,16 @@ pub returns-in_err-witness-clause-err : goal.returns-in_err-witness-clause-err
 returns-in_err-witness-clause-err g c =
     let p = err_from_is_err_and c.from_residual.result c.from_residual.ensures.1 in
     let e = c.in_err-witness.field-0.0 in
-    rw (p.1, p.2) (witness-weaker e _ _ _ (has_fault g.W.Source.left g.W.Source.failed g.W.Source.pulls e c.args.w.now) (rw c.new-buffer.ensures at c.in_err-witness.ensures))
+    rw (p.1, p.2) (witness-weaker e _ _ _ (has_fault g.W.Source.left g.W.Source.failed
+    g.W.Source.pulls e c.args.w.now) (rw c.new-buffer.ensures at c.in_err-witness.ensures))
 
 pub returns-in-Some-clause-ok : goal.returns-in-Some-clause-ok
 returns-in-Some-clause-ok g c =
-    takes_next g.W.Source.left g.W.Source.failed g.W.Source.pulls c.args.w.now _ (said_by c.in-Some.witness) (rw (c.in-Some.is, c.new-buffer.ensures) at c.in_ok-witness.ensures)
+    takes_next g.W.Source.left g.W.Source.failed g.W.Source.pulls c.args.w.now _
+    (said_by c.in-Some.witness) (rw (c.in-Some.is, c.new-buffer.ensures) at
+    c.in_ok-witness.ensures)
 
 pub returns-in-None-clause-err : goal.returns-in-None-clause-err
 returns-in-None-clause-err g c =
-    ends_none g.W.Source.left g.W.Source.failed g.W.Source.pulls c.args.w.now _ (rw (c.in-None.is, c.new-buffer.ensures) at c.in_ok-witness.ensures)
+    ends_none g.W.Source.left g.W.Source.failed g.W.Source.pulls c.args.w.now _
+    (rw (c.in-None.is, c.new-buffer.ensures) at c.in_ok-witness.ensures)

@@ -1,12 +1,10 @@
-use Rattle.std.proofs.Common.{◌≡◌, refl, sym, subst}
+use Rattle.std.proofs.Common.{refl}
 use Rattle.std.proofs.lemmas.Result.{err_from_is_err_and}
 use Rattle.aig_reader.specs.declared.error.ReadError.TheVariants as read
-use Rattle.aig_reader.specs.Reading.{IsReadAs}
 use Rattle.aig_witness_check.specs.declared.file.ShowError.TheVariants as shows
-use Rattle.aigcheck.specs.declared.command.Command.TheVariants as commands
 use Rattle.aigcheck.specs.declared.tool.CheckError.TheVariants as errors
 use Rattle.aigcheck.specs.declared.tool.TheConstants.{LIMIT}
-use Rattle.aigcheck.specs.Running.{Answers, shown_line}
+use Rattle.aigcheck.specs.Running.{shown_line}
 use Rattle.aigcheck.proofs.Outcomes.{answered, err_of, refused, refuses_shown, stopped}
 use Rattle.aigcheck.proofs.Shown.{shown_answers}
 use Rattle.aigcheck.proofs.tool.print_run.Goals as goal

@@ -1,10 +1,8 @@
 use Rattle.std.proofs.Common.{refl}
 use Rattle.std.proofs.lemmas.Result.{err_from_is_err_and}
 use Rattle.aig_witness.specs.Witness.{said_by, witness_text}
-use Rattle.aig_solutions.specs.declared.error.CheckedWitnessError.TheVariants as solutions
-use Rattle.aig_solutions.specs.declared.error.SolutionError.TheVariants as solution
 use Rattle.aigcheck.specs.declared.tool.CheckError.TheVariants as errors
-use Rattle.aigcheck.proofs.Outcomes.{err_of, nothing_printed, solution_own, some_printed, text_printed}
+use Rattle.aigcheck.proofs.Outcomes.{nothing_printed, some_printed, text_printed}
 use Rattle.aigcheck.proofs.tool.print_solution.Goals as goal
 
 pub returns-in_err-witness-clause-prints : goal.returns-in_err-witness-clause-prints
@@ -15,8 +13,7 @@ returns-in_err-witness-clause-prints g c =
 pub returns-in_err-witness-clause-own : goal.returns-in_err-witness-clause-own
 returns-in_err-witness-clause-own g c =
     let p = err_from_is_err_and c.from_residual.result c.from_residual.ensures.1 in
-    let e = c.in_err-witness.field-0.0 in
-    rw (p.1, p.2) (solution_own _ e (λ is. c.in_err-witness.ensures.stream (err_of e (solutions.Solution solution.Stream) is)))
+    rw (p.1, p.2) c.in_err-witness.ensures.refusal
 
 pub returns-in_err-write_witness-clause-prints : goal.returns-in_err-write_witness-clause-prints
 returns-in_err-write_witness-clause-prints g c =

@@ -1,5 +1,5 @@
-use Rattle.std.proofs.Common.{ap, inl, inr, refl, subst}
-use Rattle.std.proofs.lemmas.Result.{IfErr-weaker, err_from_is_err_and}
+use Rattle.std.proofs.Common.{refl, subst}
+use Rattle.std.proofs.lemmas.Result.{err_from_is_err_and}
 use Rattle.aig_circuit.specs.Circuit.{Circuit}
 use Rattle.aig_witness_check.specs.Shown.{IsKnownWitness}
 use Rattle.aigcheck.specs.declared.tool.TheConstants.{LIMIT}
@@ -24,4 +24,5 @@ returns g c =
     solution_ends c.print_solution.result _ read.verdict
     (λ text is. read_again read.answer (λ bytes f holds asks.
     let known = subst (λ (d : Circuit). IsKnownWitness d is.witness) asks.0.of_file is.known in
-    record { witness = is.witness; steps = is.steps; shows = c.known_witnesses_show.ensures f LIMIT is.witness holds.0.0.1 known; exact = is.exact })) told.prints told.own (λ e. tt)
+    record { witness = is.witness; steps = is.steps; shows = c.known_witnesses_show.ensures f LIMIT is.witness holds.0.0.1 known; exact = is.exact })) told.prints q.encoded c.args.k told.own (λ e. tt)
+    (λ e refuses. read_again read.answer (λ bytes f holds asks. record { query = q; asks = asks; refusal = refuses }))

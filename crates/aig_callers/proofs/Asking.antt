@@ -1,0 +1,56 @@
+-- What the verdict on known bytes says of the file that they are.
+use Rattle.std.proofs.Common.{◌≡◌, ◌≢◌, ℕ, ◌≤◌, Bool, true, false, Option, Some, List, [], length, refl, sym, ap, subst, ◌∙◌}
+use Rattle.std.specs.Prelude.{◌==◌, nat_lt, if◌then◌else◌, IfSome}
+use Rattle.std.proofs.lemmas.Bool.{eqb-false, eqb-true, ltb-false}
+use Rattle.std.proofs.lemmas.List.{nil_from_length}
+use Rattle.aig_format.specs.Circuit.{circuit_of}
+use Rattle.aig_format.specs.File.{File}
+use Rattle.aig_format.specs.Fits.{Accepts}
+use Rattle.aig_reader.specs.Verdicts.{Accepted, IsOfFile, IsSettled, IsVerdictOn, Judges, NoBads, TooLarge, Verdict}
+use Rattle.aig_unroll.specs.Places.{unrolled_size}
+use Rattle.aig_answers.specs.Answers.{IsAsked, asked_verdict}
+
+abbrev said_if : Bool → Bool → Verdict
+said_if large empty = if large then TooLarge else if empty then NoBads else Accepted
+
+asked_by : (large empty : Bool) → Accepted ≡ said_if large empty
+    → (large ≡ false) × (empty ≡ false)
+asked_by true empty is = cc
+asked_by false true is = cc
+asked_by false false is = (refl, refl)
+
+empty_by : (large empty : Bool) → NoBads ≡ said_if large empty → empty ≡ true
+empty_by true empty is = cc
+empty_by false true is = refl
+empty_by false false is = cc
+
+module _ (limit k : ℕ) (f : File) where
+  within : Accepted ≡ asked_verdict limit k f
+      → (unrolled_size (circuit_of f) k ≤ limit) × (f.properties.bads ≢ [])
+  within is =
+      let tests = asked_by (nat_lt limit (unrolled_size (circuit_of f) k)) (length f.properties.bads == 0) is in
+      (ltb-false limit (unrolled_size (circuit_of f) k) tests.0, λ none. eqb-false (length f.properties.bads) 0 tests.1 (ap length none))
+
+  none : NoBads ≡ asked_verdict limit k f → f.properties.bads ≡ []
+  none is = nil_from_length f.properties.bads (eqb-true (length f.properties.bads) 0 (empty_by (nat_lt limit (unrolled_size (circuit_of f) k)) (length f.properties.bads == 0) is))
+
+module _ (limit k : ℕ) (bytes : List ℕ) (old new : Option (List ℕ)) (failed : Bool) (is : old ≡ Some bytes) where
+  on_bytes : (v : Verdict) → IfSome old (λ b. IsVerdictOn (asked_verdict limit k) limit b v)
+      → IsVerdictOn (asked_verdict limit k) limit bytes v
+  on_bytes v told = subst (λ known. IfSome known (λ b. IsVerdictOn (asked_verdict limit k) limit b v)) is told
+
+  pub asked : Judges (asked_verdict limit k) limit old new failed Accepted
+      → (f : File) × IsAsked limit k bytes f
+  asked told =
+      let on = on_bytes Accepted (told.exact tt) in
+      let f = on.only tt in
+      let fits = within limit k f.0 (on.each f.0 f.1) in
+      (f.0, ((f.1, fits.0), fits.1))
+
+  pub nothing : (v : Verdict) → v ≡ NoBads
+      → Judges (asked_verdict limit k) limit old new failed v
+      → (f : File) × Accepts bytes limit f × (f.properties.bads ≡ [])
+  nothing v same told =
+      let on = on_bytes v (told.exact (subst IsSettled (sym same) tt)) in
+      let f = on.only (subst IsOfFile (sym same) tt) in
+      (f.0, f.1, none limit k f.0 (sym same ∙ on.each f.0 f.1))

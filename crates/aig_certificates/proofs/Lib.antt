@@ -1,0 +1,3 @@
+pub mod TextFiles
+pub mod Texts
+pub mod Answering

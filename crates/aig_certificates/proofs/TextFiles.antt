@@ -1,0 +1,45 @@
+-- A text in memory that was read as a file.
+use Rattle.std.proofs.Common.{◌≡◌, ℕ, ◌≤◌, Bool, List, Option, Some, Result, Ok, Err, sym, subst, ◌∙◌, arith}
+use Rattle.std.specs.Prelude.{IfOk}
+use Rattle.std.proofs.KnownBytes.{Consumes-whole}
+use Rattle.std.proofs.lemmas.Option.{same_Some}
+use Rattle.aig_answers.specs.declared.error.AnswerError.{AnswerError}
+use Rattle.aig_answers.specs.Answers.{verdict_of}
+use Rattle.aig_certify.specs.Safety.{IsSafeAt}
+use Rattle.aig_format.specs.File.{File}
+use Rattle.aig_format.specs.Fits.{Accepts}
+use Rattle.aig_format.specs.Spells.{Spells}
+use Rattle.aig_parsing.proofs.AnyFile.{any_complete}
+use Rattle.aig_reader.specs.Reading.{IsReadAs}
+use Rattle.aig_reader.specs.Verdicts.{Judges, Verdict, verdict_by}
+use Rattle.aig_certificates.specs.Parts.{ChecksText, IsFileWith}
+
+-- bytes spell one file at most
+pub one_spelled : (f g : File) (bytes : List ℕ) → Spells f bytes → Spells g bytes → f ≡ g
+one_spelled f g bytes p q = same_Some f g (sym (any_complete f bytes p) ∙ any_complete g bytes q)
+
+-- what is safe at step 0 is so at each step up to it
+pub at_none : (h : File) → IsSafeAt h 0 → (k : ℕ) → k ≤ 0 → IsSafeAt h k
+at_none h safe k low = let none : 0 ≡ k = omega arith in subst (IsSafeAt h) none safe
+
+-- what a call on the file of a text tells of the text
+module _ (of : File → Verdict) (limit : ℕ) (text : List ℕ) (new : Option (List ℕ))
+    (failed : Bool) (Asked : List ℕ → File → Type 0) (Holds : File → Type 0) where
+  read_whole : ((bytes : List ℕ) (f : File) → Asked bytes f → Accepts bytes limit f)
+      → (result : Result Unit AnswerError)
+      → Judges of limit (Some text) new failed (verdict_by verdict_of result)
+      → IfOk result (IsReadAs Asked (λ f _. Holds f) (Some text) new)
+      → IfOk result (λ _. IsFileWith limit Holds text)
+  read_whole accepts (Err e) told read = tt
+  read_whole accepts (Ok done) told read =
+      let whole = Consumes-whole (Some text) new read.bytes (λ bytes. Accepts bytes limit read.file)
+      read.taken (told.whole tt).1 (accepts read.bytes read.file read.holds) in
+      (read.file, whole, read.means)
+
+  pub checked : ((bytes : List ℕ) (f : File) → Asked bytes f → Accepts bytes limit f)
+      → (result : Result Unit AnswerError)
+      → Judges of limit (Some text) new failed (verdict_by verdict_of result)
+      → IfOk result (IsReadAs Asked (λ f _. Holds f) (Some text) new)
+      → ChecksText of limit Holds text result
+  checked accepts result told read =
+      record { answer = read_whole accepts result told read; exact = told.exact }

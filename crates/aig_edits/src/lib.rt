@@ -1,0 +1,14 @@
+//! What is made of AIGER files and printed as AIGER text again: from the bytes of the files to those of the text.
+#![tactic(auto)]
+
+mod error;
+mod format;
+mod joining;
+mod pairing;
+mod pairs;
+mod printing;
+
+pub use error::PairError;
+pub use joining::read_joint;
+pub use pairing::Pairing;
+pub use printing::print_joint;

@@ -1,0 +1,2 @@
+"""Answers of model checkers, kept apart from what checks them: the package of bin/aigprove and examples/waves.py."""
+VERSION = "0.1.0"

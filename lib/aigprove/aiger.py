@@ -1,0 +1,195 @@
+"""Files in AIGER form, text and binary: what they say, as lists of literals."""
+import itertools
+import re
+
+KINDS = {"i": "inputs", "l": "latches", "o": "outputs", "b": "bads", "c": "constraints"}
+LIMIT = 1 << 24
+COMMENT = re.compile(rb"c(?![0-9])")
+
+
+class Fault(Exception):
+    """Why a file isn't taken, or nothing is printed."""
+
+
+class Lines:
+    """A stream of bytes that is read from the front, and what it is called in faults."""
+
+    def __init__(self, data, what):
+        self.data, self.place, self.what = data, 0, what
+
+    def is_read(self):
+        """Whether nothing is left."""
+        return self.place == len(self.data)
+
+    def line(self):
+        """The next line, without its line feed."""
+        end = self.data.find(b"\n", self.place)
+        if end < 0:
+            raise Fault(f"{self.what} ends too early")
+        line = self.data[self.place:end]
+        self.place = end + 1
+        return line
+
+    def numbers(self, least, most):
+        """A line of so many numbers."""
+        words = self.line().split(b" ")
+        if not least <= len(words) <= most or not all(word.isdigit() for word in words):
+            raise Fault(f"{self.what} has a bad line of numbers")
+        return [int(word) for word in words]
+
+    def number(self):
+        """A line of one number."""
+        return self.numbers(1, 1)[0]
+
+    def difference(self):
+        """A number in groups of seven bits, the lowest first."""
+        number = 0
+        for shift in range(0, 35, 7):
+            if self.is_read():
+                raise Fault(f"{self.what} ends too early")
+            group = self.data[self.place]
+            self.place += 1
+            number |= (group & 127) << shift
+            if group < 128:
+                return number
+        raise Fault(f"bad difference in {self.what}")
+
+
+class Header:
+    """The first line: the form, and how many there are of each kind."""
+
+    def __init__(self, lines):
+        form, *words = lines.line().split(b" ")
+        if form not in (b"aag", b"aig") or not 5 <= len(words) <= 9 or not all(word.isdigit() for word in words):
+            raise Fault(f"bad header line in {lines.what}")
+        counts = [int(word) for word in words]
+        if max(counts) >= LIMIT:
+            raise Fault(f"{lines.what} is too large")
+        self.is_text = form == b"aag"
+        # Before version 1.9 a file had no bad state properties, and its outputs were taken for them.
+        self.is_old = len(counts) == 5
+        counts += [0] * 4
+        self.inputs, self.latches, self.outputs, self.gates = counts[1:5]
+        self.bads, self.constraints, self.justice, self.fairness = counts[5:9]
+
+
+class Circuit:
+    """What a file says: its lists of literals, its gates in order, and its names."""
+
+    def __init__(self, lines):
+        self.what = lines.what
+        header = self.header = Header(lines)
+        first_latch = 2 * (header.inputs + 1)
+        first_gate = first_latch + 2 * header.latches
+        if header.is_text:
+            self.inputs = [lines.number() for _ in range(header.inputs)]
+            rows = [lines.numbers(2, 3) for _ in range(header.latches)]
+        else:
+            self.inputs = range(2, first_latch, 2)
+            rows = [[latch, *lines.numbers(1, 2)] for latch in range(first_latch, first_gate, 2)]
+        self.latches, self.nexts, self.resets = ([[*row, 0][i] for row in rows] for i in range(3))
+        counts = [header.outputs, header.bads, header.constraints]
+        self.outputs, self.bads, self.constraints = ([lines.number() for _ in range(count)] for count in counts)
+        sizes = [lines.number() for _ in range(header.justice)]
+        # How many lines of justice and fairness there are, of which nothing is kept.
+        self.further = header.justice + sum(sizes) + header.fairness
+        for _ in range(sum(sizes) + header.fairness):
+            lines.number()
+        if header.is_text:
+            self.gates = [lines.numbers(3, 3) for _ in range(header.gates)]
+        else:
+            self.gates = [binary_gate(lines, first_gate + 2 * i) for i in range(header.gates)]
+        # Where the names begin.
+        self.end = lines.place
+        self.names = names(lines)
+        self.check()
+        self.put_in_order()
+
+    def check(self):
+        """Refuses what is defined twice, or used and not defined."""
+        defined = [*self.inputs, *self.latches, *(gate for gate, _, _ in self.gates)]
+        known = {0, *defined}
+        if len(known) <= len(defined) or any(literal & 1 for literal in defined):
+            raise Fault(f"bad literal of an input, latch or gate in {self.what}")
+        operands = (operand for _, left, right in self.gates for operand in (left, right))
+        for literal in itertools.chain(self.nexts, self.outputs, self.bads, self.constraints, operands):
+            if literal & ~1 not in known:
+                raise Fault(f"literal {literal} is not defined in {self.what}")
+
+    def put_in_order(self):
+        """Puts each gate behind those that it stands on."""
+        gates = {gate: (gate, left, right) for gate, left, right in self.gates}
+        known, begun, self.gates = {0, *self.inputs, *self.latches}, set(), []
+        path = list(reversed(gates))
+        while path:
+            literal = path[-1]
+            below = [] if literal in known else [under & ~1 for under in gates[literal][1:] if under & ~1 not in known]
+            if not below:
+                path.pop()
+                if literal not in known:
+                    known.add(literal)
+                    self.gates.append(gates[literal])
+                continue
+            begun.add(literal)
+            if below[0] in begun:
+                raise Fault(f"gate {literal} stands on itself in {self.what}")
+            path.append(below[0])
+
+    def signals(self):
+        """The letter, the position and the literal of each signal."""
+        lists = [self.inputs, self.latches, self.outputs, self.bads, self.constraints]
+        for letter, literals in zip(KINDS, lists):
+            for position, literal in enumerate(literals):
+                yield letter, position, literal
+
+    def name(self, letter, position):
+        """The name of a signal, as bytes."""
+        return self.names.get((letter, position)) or f"{letter}{position}".encode()
+
+    def run(self, state, inputs):
+        """The values of all even literals in each step."""
+        for given in inputs:
+            values = {0: "0", **dict(zip(self.latches, state)), **dict(zip(self.inputs, given))}
+            for gate, left, right in self.gates:
+                values[gate] = both(value(values, left), value(values, right))
+            yield values
+            state = [value(values, literal) for literal in self.nexts]
+
+
+def binary_gate(lines, gate):
+    """A gate of the binary form, by its differences."""
+    left = gate - lines.difference()
+    right = left - lines.difference()
+    if right < 0:
+        raise Fault(f"bad difference in {lines.what}")
+    return gate, left, right
+
+
+def names(lines):
+    """The names behind the gates, by letter and position, up to the comment: a c without a digit behind it."""
+    found = {}
+    while not lines.is_read() and not COMMENT.match(lines.data, lines.place):
+        symbol = re.fullmatch(rb"([ilobcjf])([0-9]+) (.*)", lines.line(), re.DOTALL)
+        if symbol is None:
+            raise Fault(f"bad line of a name in {lines.what}")
+        found[symbol[1].decode(), int(symbol[2])] = symbol[3]
+    return found
+
+
+def value(values, literal):
+    """The value of a literal."""
+    known = values[literal & ~1]
+    return {"0": "1", "1": "0", "x": "x"}[known] if literal & 1 else known
+
+
+def both(left, right):
+    """The value of an and."""
+    return "0" if "0" in (left, right) else "x" if "x" in (left, right) else "1"
+
+
+def text(inputs, latches, bads, constraints, gates):
+    """The text form of a circuit, of lists of lines that are lists of numbers."""
+    variables = len(inputs) + len(latches) + len(gates)
+    header = ["aag", variables, len(inputs), len(latches), 0, len(gates), len(bads), len(constraints)]
+    lines = [header, *([literal] for literal in inputs), *latches, *([literal] for literal in [*bads, *constraints]), *gates]
+    return "".join(" ".join(map(str, line)) + "\n" for line in lines).encode()

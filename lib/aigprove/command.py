@@ -1,0 +1,173 @@
+"""The command line of aigprove."""
+import argparse
+import os
+import re
+import shlex
+import shutil
+import signal
+import sys
+import tempfile
+
+from aigprove import VERSION, aiger, programs
+from aigprove.judge import Judge
+from aigprove.questions import cadical
+from aigprove.race import FAILED, Race
+from aigprove.source import Source, read
+
+TOP = os.path.dirname(os.path.dirname(os.path.dirname(os.path.realpath(__file__))))
+ENGINES = ["steps", "windows", "bmc3", "pdr"]
+ABOUT = """\
+Asks whether the machine of an AIGER file can reach a bad state, and believes no engine: what is printed was checked by aigcheck.
+
+Engines look for an answer side by side, and the first that is checked is printed:
+  steps     asks a SAT solver about step 0, 1 and so on
+  windows   asks it about K + 2 steps from any state, bad at the last alone (k-induction)
+  bmc3, pdr commands of ABC, whose counterexamples become witnesses and whose invariant becomes a certificate
+An engine that isn't installed, lies or breaks is told of on standard error, and changes nothing else.
+
+Two files are written by this script, and not by a proved program: the machine of FILE with what a certificate adds, about which aigcheck
+is asked where a certificate is the answer, and FILE with its outputs as bad state properties, where it is older than these. Both have
+FILE's lines, and check.sh compares them.
+"""
+ENDS = """\
+Exit status 20: no bad state at any step. 10: a bad state is reached. 0: neither was shown. 1: something went wrong.
+2: wrong words.
+"""
+
+
+def number(word):
+    """A number of steps."""
+    if not re.fullmatch("[0-9]{1,10}", word) or int(word) >= 1 << 32:
+        raise argparse.ArgumentTypeError(f"{word} is no number of steps")
+    return int(word)
+
+
+def jobs(word):
+    """A number of programs."""
+    if not re.fullmatch("[1-9][0-9]{0,4}", word):
+        raise argparse.ArgumentTypeError(f"{word} is no number of programs")
+    return int(word)
+
+
+def seconds(word):
+    """A number of seconds."""
+    if not re.fullmatch(r"[0-9]{1,9}(\.[0-9]{1,9})?", word):
+        raise argparse.ArgumentTypeError(f"{word} is no number of seconds")
+    return float(word)
+
+
+def engines(word):
+    """Names of engines."""
+    names = word.replace("abc", "bmc3,pdr").split(",")
+    if not set(names) <= set(ENGINES):
+        raise argparse.ArgumentTypeError(f"{word} names others than {', '.join(ENGINES)} and abc")
+    return names
+
+
+def parser():
+    """The words of the command line."""
+    it = argparse.ArgumentParser("aigprove", description=ABOUT, epilog=ENDS, formatter_class=argparse.RawDescriptionHelpFormatter)
+    file = "a file in AIGER form, text or binary, which may be packed by gzip, or a design in Verilog (.v, .sv)"
+    bound = "ask about the steps 0 to N; once they were shown, other engines have as long again, and a second (no bound)"
+    running, processors = "run so many programs at once, and others by turns (one for each processor)", len(os.sched_getaffinity(0))
+    solver = "a SAT solver that writes a proof in text: it is given a DIMACS file and the proof's name (cadical)"
+    it.add_argument("file", metavar="FILE", help=file)
+    it.add_argument("top", metavar="TOP", nargs="?", help="the top module of a design (the one that no other has)")
+    it.add_argument("--version", action="version", version=f"aigprove {VERSION}")
+    it.add_argument("--bound", metavar="N", type=number, help=bound)
+    it.add_argument("--timeout", metavar="S", type=seconds, help="end after so many seconds (never)")
+    it.add_argument("--jobs", metavar="N", type=jobs, default=processors, help=running)
+    it.add_argument("--engine", metavar="NAMES", type=engines, help="ask these engines alone, with commas between; abc is bmc3 and pdr")
+    it.add_argument("--certificate", metavar="CERT", help="check an inductive machine in AIGER form that somebody else made")
+    it.add_argument("--run", metavar="WITNESS", help="check a witness that somebody else made, or what ABC's write_cex wrote")
+    it.add_argument("--keep", metavar="FOLDER", help="make FOLDER, with what shows each line, and check.sh, which shows it again")
+    it.add_argument("--witness", metavar="OUT", help="write the witness of a bad state to OUT, in the form of the AIGER report")
+    it.add_argument("--vcd", metavar="OUT", help="write the run to a bad state to OUT, as a value change dump for wave viewers")
+    it.add_argument("--solver", metavar="WORDS", type=shlex.split, help=solver)
+    for name in ["abc", "aigtool", "aigcheck"]:
+        it.add_argument(f"--{name}", metavar="PROGRAM", help=f"another program {name} than the one that is found")
+    return it
+
+
+def found(name, given):
+    """The path of one of our programs: the one that is given, beside this script, built here, or in PATH."""
+    places = [given] if given else [os.path.join(TOP, "bin", name), os.path.join(TOP, "crates", name, "out", name), name]
+    path = next(filter(None, map(shutil.which, places)), None)
+    if path is None:
+        raise programs.Fault(f"{given or name} is not there; tests/run builds it, and so does `rt run` in crates/{name}")
+    return os.path.abspath(path)
+
+
+def engine(name):
+    """The path of an engine's program."""
+    path = shutil.which(name)
+    if path is None:
+        raise programs.Fault(f"{name} is not there")
+    return os.path.abspath(path)
+
+
+def parse(line):
+    """What the words of a command line say, with paths that hold in any folder."""
+    words = parser().parse_intermixed_args(line)
+    given = words.certificate or words.run
+    words.engines = words.engine or ([] if given else ENGINES)
+    words.certificate, words.run = (path and read(path) for path in [words.certificate, words.run])
+    words.aigtool, words.aigcheck = found("aigtool", words.aigtool), found("aigcheck", words.aigcheck)
+    words.solver = words.solver or cadical()
+    words.solver[:1] = map(engine, words.solver[:1])
+    words.abc = words.abc and engine(words.abc)
+    return words
+
+
+def open_streams():
+    """Opens those of the three standard streams that are closed, so that no other file gets their numbers. What is printed to
+    a closed standard output fails."""
+    while (opened := os.open(os.devnull, os.O_RDONLY)) < 3:
+        pass
+    os.close(opened)
+    sys.stdout = sys.stdout or open(1, "w", encoding="ascii")
+    sys.stderr = sys.stderr or open(os.devnull, "w", encoding="ascii")
+
+
+def end(number, _):
+    """Ends by a signal, after the folder was removed."""
+    sys.exit(128 + number)
+
+
+def hush():
+    """Has what standard output didn't take not be written again at the end."""
+    os.dup2(os.open(os.devnull, os.O_WRONLY), sys.stdout.fileno())
+
+
+def answer(line):
+    """Answers what a command line asks, and gives the exit status."""
+    words = parse(line)
+    running = programs.Programs(words.jobs)
+    programs.adopt()
+    above = tempfile.mkdtemp(prefix="aigprove-")
+    try:
+        source = Source(words.file, words.top, above)
+        return Race(words, running, Judge(running, words.aigtool, words.aigcheck), above, source).run()
+    finally:
+        running.stop()
+        programs.bury()
+        programs.remove(above)
+
+
+def main():
+    open_streams()
+    for number in [signal.SIGTERM, signal.SIGHUP]:
+        signal.signal(number, end)
+    try:
+        status = answer(sys.argv[1:])
+        sys.stdout.flush()
+    except KeyboardInterrupt:
+        status = 128 + signal.SIGINT
+    except BrokenPipeError:
+        status = 128 + signal.SIGPIPE
+        hush()
+    except (programs.Fault, aiger.Fault, OSError) as error:
+        programs.say(error)
+        status = FAILED
+        hush()
+    sys.exit(status)

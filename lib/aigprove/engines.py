@@ -1,0 +1,205 @@
+"""Engines: each looks for an answer in a thread of its own, and hands in what was checked.
+
+What an engine's programs leave is copied, and goes to aigcheck. A program that isn't there, lies or breaks ends its engine with a
+line of why, and nothing else."""
+import collections
+import concurrent.futures
+import itertools
+import shutil
+
+from aigprove import aiger, joint, plain, witness
+from aigprove.programs import Fault, Folder, Sealed, ending
+from aigprove.questions import Question
+
+# How many proofs are checked at once, beside the next question.
+CHECKS = 2
+# How many variables the windows without repeated states may have to tell states apart.
+PAIRS = 1 << 22
+ABCS = ["berkeley-abc", "yosys-abc", "abc"]
+
+
+class Missing(Fault):
+    """Why an engine is passed over."""
+
+
+def powers(bound):
+    """0, 1, 2, 4 and so on, up to the bound."""
+    return itertools.takewhile(lambda k: bound is None or k <= bound, itertools.chain([0], (1 << i for i in itertools.count())))
+
+
+class Steps:
+    """Asks about step 0, 1 and so on, up to the bound; while proofs are checked the next question is asked."""
+
+    def __init__(self, race):
+        self.race, self.solver, self.judge, self.file = race, race.needs_solver(), race.judge, race.file
+        # Steps that unit propagation is tried on, and proofs that are being checked.
+        self.tried, self.checking = {}, collections.deque()
+
+    def run(self):
+        """Asks step by step."""
+        propagates = False
+        with concurrent.futures.ThreadPoolExecutor(CHECKS) as self.checker:
+            for k in itertools.count() if self.race.bound is None else range(self.race.bound + 1):
+                is_power = k & (k - 1) == 0
+                self.race.progress("step", k)
+                propagates = (propagates or is_power) and self.propagates(k, CHECKS if propagates else 0)
+                if not propagates and self.reaches(Question("query", k)):
+                    return
+            self.finish()
+            self.race.bound_reached()
+
+    def propagates(self, k, ahead):
+        """Whether unit propagation finds that no bad state is reached at step k, while so many steps further on are tried."""
+        for step in range(k, k + ahead + 1):
+            if step not in self.tried:
+                words = Question("query", step), self.file, self.judge.empty_clause
+                self.tried[step] = self.checker.submit(self.judge.follows, *words)
+        if not self.tried.pop(k).result():
+            for further in self.tried.values():
+                further.cancel()
+            self.tried.clear()
+            return False
+        self.finish()
+        self.race.step(Question("query", k), self.judge.empty_clause)
+        return True
+
+    def reaches(self, question):
+        """Whether a bad state is reached at a step, which is handed in then; else the check of the solver's proof begins."""
+        has_solution, given = self.solver.ask(question, self.file)
+        if not has_solution:
+            self.finish(CHECKS - 1)
+            self.checking.append((question, self.checker.submit(self.judge.check, question, self.file, given), given))
+            return False
+        self.finish()
+        self.race.hand_in_run(self.judge.witness(self.file, question.k, given).encode())
+        return True
+
+    def finish(self, left=0):
+        """Waits for all checks of proofs but so many, and hands in what they show."""
+        while len(self.checking) > left:
+            question, check, proof = self.checking.popleft()
+            check.result()
+            self.race.step(question, proof)
+
+
+class Windows:
+    """Asks about windows of K + 2 steps, where K is 0 or a power of two: all, and then those on which no state comes twice."""
+
+    def __init__(self, race):
+        self.race, self.solver = race, race.needs_solver()
+
+    def run(self):
+        """Asks about longer and longer windows."""
+        for k in powers(self.race.bound):
+            for form in self.forms(k):
+                self.race.progress("window", k)
+                question = Question("window", k, form)
+                has_solution, given = self.solver.ask(question, self.race.file)
+                if not has_solution:
+                    self.race.judge.check(question, self.race.file, given)
+                    self.race.window(question, given)
+                    return
+
+    def forms(self, k):
+        """The forms of windows that are asked about."""
+        latches = self.race.circuit.header.latches
+        return [(), ("distinct",)] if latches and latches * (k + 2) * (k + 2) <= PAIRS else [()]
+
+
+class Abc:
+    """A command of ABC on the plain machine of the file."""
+
+    def __init__(self, race):
+        self.race = race
+        self.program = race.words.abc or next(filter(None, map(shutil.which, ABCS)), None)
+        if self.program is None:
+            raise Missing(f"none of {', '.join(ABCS)} is installed")
+
+    def run(self):
+        """Runs it, and hands in what it found."""
+        self.race.progress(self.name)
+        self.plain = self.race.plain
+        with Folder(self.race.above) as folder:
+            with folder.make("machine.aig") as out:
+                out.write(self.plain.binary())
+            status = folder.run(self.race.programs, [self.program, "-q", f"read_aiger machine.aig; {self.command()}; write_cex -n run"])
+            found, invariant = (self.read(folder, name) for name in ["run", "inv.pla"])
+        if status != 0:
+            raise Fault(f"ABC {ending(status)}")
+        if found:
+            self.hand_in_run(found)
+        elif invariant:
+            self.hand_in_invariant(invariant)
+
+    def read(self, folder, name):
+        """The text of a file that ABC left, if it did."""
+        try:
+            return folder.text(name, name)
+        except Fault:
+            return None
+
+    def hand_in_run(self, found):
+        """Hands in the run that a counterexample tells."""
+        reached = witness.reached(self.race.circuit, *self.plain.run(found))
+        if reached is None:
+            raise Fault("its counterexample reaches no bad state")
+        self.race.hand_in_run(reached.text().encode())
+
+    def hand_in_invariant(self, invariant):
+        """Hands in the certificate of an invariant."""
+        cubes = plain.cubes_of(invariant)
+        excluded = None if cubes is None else self.plain.excluded(cubes)
+        if excluded is None:
+            raise Fault("its invariant isn't one of the machine")
+        Certificate(self.race, joint.certificate_of(self.race.circuit, excluded)).run()
+
+
+class Bmc3(Abc):
+    """Bounded model checking, up to the bound."""
+
+    name = "bmc3"
+
+    def command(self):
+        """The command, which takes the number of steps, or 0 for no bound."""
+        return f"bmc3 -F {0 if self.race.bound is None else self.race.bound + 1}"
+
+
+class Pdr(Abc):
+    """Property directed reachability, whose invariant becomes a certificate."""
+
+    name = "pdr"
+
+    def command(self):
+        """The command, which writes its invariant to a file."""
+        return "pdr -d -I inv.pla"
+
+
+class Certificate:
+    """A certificate that somebody else made, as bytes."""
+
+    def __init__(self, race, data):
+        self.race, self.solver, self.data = race, race.needs_solver(), data
+
+    def run(self):
+        """Has the certificate checked, and hands it in."""
+        made = joint.Joint(self.race.circuit, aiger.Circuit(aiger.Lines(self.data, "CERT")))
+        file = Sealed(made.text())
+        questions = [Question("query", 0), Question("window", 0)]
+        self.race.certificate(self.data, made, file, [(question, self.solver.refute(question, file)) for question in questions])
+
+
+class Run:
+    """A run to a bad state that somebody else found, as bytes: a witness, or a counterexample of ABC's."""
+
+    def __init__(self, race, data):
+        self.race, self.data = race, data
+
+    def run(self):
+        """Has the run checked, and hands it in."""
+        if self.data.startswith((b"1\nb", b"c")):
+            self.race.hand_in_run(self.data)
+            return
+        told = witness.of_abc(self.data.decode("utf-8", "replace"), self.race.circuit)
+        if told is None:
+            raise Fault("WITNESS is neither a witness nor a counterexample of ABC that reaches a bad state")
+        self.race.hand_in_run(told.text().encode())

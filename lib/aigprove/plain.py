@@ -1,0 +1,150 @@
+"""The machine of a file as every model checker reads it: all latches 0 at first, one output that is 1 in a bad state, no
+constraints.
+
+A latch that is 1 at first is inverted; one that is open at first takes an input's value at step 0, while the latch `began` is 0;
+and the latch `broken` is 1 once a constraint didn't hold. A machine without latches gets one that is spare. Inputs and latches
+are named by their places in the file (i0, l0), and the value of an open latch l0 is the input r0, so that what an engine says is
+told by names."""
+from aigprove.witness import Named
+
+BEGAN, BROKEN, SPARE = "began", "broken", "spare"
+# The values of these latches from step 1 on, in a run that meets the constraints.
+FIXED = {BEGAN: "1", BROKEN: "0", SPARE: "0"}
+
+
+class Gates:
+    """Gates over literals, in the order in which they were made, each once."""
+
+    def __init__(self, first):
+        self.next, self.rows, self.made = first, [], {}
+
+    def both(self, left, right):
+        """The literal of an and."""
+        left, right = max(left, right), min(left, right)
+        if right == 0 or left == right ^ 1:
+            return 0
+        if right == 1 or left == right:
+            return left
+        if (left, right) not in self.made:
+            self.made[left, right] = self.next
+            self.rows.append((self.next, left, right))
+            self.next += 2
+        return self.made[left, right]
+
+    def any(self, literals):
+        """The literal of an or, as a tree."""
+        return self.all([literal ^ 1 for literal in literals]) ^ 1
+
+    def all(self, literals):
+        """The literal of an and of many, as a tree."""
+        literals = list(literals) or [1]
+        while len(literals) > 1:
+            pairs = [self.both(left, right) for left, right in zip(literals[::2], literals[1::2])]
+            literals = pairs + literals[2 * len(pairs):]
+        return literals[0]
+
+    def choice(self, condition, left, right):
+        """The literal of an if-then-else."""
+        return self.both(self.both(condition, left) ^ 1, self.both(condition ^ 1, right) ^ 1) ^ 1
+
+
+def literals_of(circuit, gates, leaves):
+    """The literals that stand for those of a circuit, whose leaves stand for these: a function."""
+    known = {0: 0, **leaves}
+
+    def literal(of):
+        return known[of & ~1] ^ (of & 1)
+
+    for gate, left, right in circuit.gates:
+        known[gate] = gates.both(literal(left), literal(right))
+    return literal
+
+
+class Plain:
+    """The plain machine of a circuit, and what is told of it told of the circuit."""
+
+    def __init__(self, circuit):
+        self.circuit = circuit
+        self.opened = [i for i, reset in enumerate(circuit.resets) if reset > 1]
+        count = len(circuit.inputs)
+        self.inputs = [f"i{i}" for i in range(count)] + [f"r{i}" for i in self.opened]
+        self.latches = [f"l{i}" for i in range(len(circuit.latches))]
+        self.latches += [BEGAN] * bool(self.opened) + [BROKEN] * bool(circuit.constraints)
+        self.latches = self.latches or [SPARE]
+        first = 2 * (len(self.inputs) + 1)
+        self.places = {name: first + 2 * i for i, name in enumerate(self.latches)}
+        self.gates = Gates(first + 2 * len(self.latches))
+        literal = literals_of(circuit, self.gates, self.leaves())
+        allowed = self.gates.all(map(literal, circuit.constraints))
+        broken = self.places.get(BROKEN, 0)
+        bad = self.gates.any(map(literal, circuit.bads))
+        self.bad = self.gates.all([bad, allowed, broken ^ 1])
+        self.nexts = [literal(next) ^ (reset == 1) for next, reset in zip(circuit.nexts, circuit.resets)]
+        self.nexts += [1] * bool(self.opened) + [self.gates.both(broken ^ 1, allowed) ^ 1] * bool(circuit.constraints)
+        self.nexts = self.nexts or [0]
+
+    def leaves(self):
+        """The literals that stand for the circuit's inputs and latches."""
+        leaves = {literal: 2 * (i + 1) for i, literal in enumerate(self.circuit.inputs)}
+        free = {i: 2 * (len(self.circuit.inputs) + 1 + n) for n, i in enumerate(self.opened)}
+        for i, (literal, reset) in enumerate(zip(self.circuit.latches, self.circuit.resets)):
+            place = self.places[f"l{i}"]
+            leaves[literal] = self.gates.choice(self.places[BEGAN], place, free[i]) if i in free else place ^ (reset == 1)
+        return leaves
+
+    def binary(self):
+        """Its binary form."""
+        inputs, latches, gates = len(self.inputs), len(self.latches), self.gates.rows
+        lines = [f"aig {inputs + latches + len(gates)} {inputs} {latches} 1 {len(gates)}", *self.nexts, self.bad]
+        names = [f"{letter}{i} {name}" for letter, own in [("i", self.inputs), ("l", self.latches)] for i, name in enumerate(own)]
+        names = "".join(f"{name}\n" for name in names).encode()
+        differences = bytearray()
+        for gate, left, right in gates:
+            put_difference(differences, gate - left)
+            put_difference(differences, left - right)
+        return b"".join(b"%s\n" % str(line).encode() for line in lines) + differences + names
+
+    def run(self, text):
+        """The first state and the inputs of each step in a counterexample of the plain machine, as `write_cex -n` of ABC writes
+        it."""
+        named = Named(text)
+        resets = enumerate(self.circuit.resets)
+        start = "".join(str(reset) if reset < 2 else named.values.get((0, f"r{i}"), "0") for i, reset in resets)
+        return start, named.rows(self.inputs[: len(self.circuit.inputs)])
+
+    def excluded(self, cubes):
+        """The states that an invariant of the plain machine excludes, as literals of the circuit's latches in each cube, where
+        the further latches have their fixed values. None where a cube has a name that is none of its latches."""
+        latches = self.circuit.latches
+        places = {f"l{i}": latch ^ (reset != 1) for i, (latch, reset) in enumerate(zip(latches, self.circuit.resets))}
+        kept = []
+        for cube in cubes:
+            rest = [(name, bit) for name, bit in cube if name not in FIXED]
+            if any(FIXED.get(name, bit) != bit for name, bit in cube):
+                continue
+            if any(name not in places for name, _ in rest):
+                return None
+            kept.append([places[name] ^ (bit == "1") for name, bit in rest])
+        return kept
+
+
+def put_difference(out, number):
+    """Writes a number in groups of seven bits, the lowest first."""
+    while number >= 128:
+        out.append(number & 127 | 128)
+        number >>= 7
+    out.append(number)
+
+
+def cubes_of(pla):
+    """The cubes of a file in PLA form, each a list of names and bits; None where it has none of that form."""
+    names, cubes = None, []
+    for line in pla.splitlines():
+        words = line.split()
+        if words[:1] == [".ilb"]:
+            names = words[1:]
+        elif words and words[0][0] in "01-":
+            if names is None or len(words[0]) != len(names):
+                return None
+            cubes.append([(name, bit) for name, bit in zip(names, words[0]) if bit != "-"])
+    return None if names is None else cubes

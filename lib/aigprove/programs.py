@@ -1,0 +1,343 @@
+"""Programs that are run: each in a group of its own that is ended whole, by turns, and with limits on what it writes."""
+import ctypes
+import fcntl
+import os
+import resource
+import shutil
+import signal
+import stat
+import subprocess
+import sys
+import tempfile
+import threading
+import time
+
+# No write, no other length, and no seal less.
+SEALS = fcntl.F_SEAL_WRITE | fcntl.F_SEAL_GROW | fcntl.F_SEAL_SHRINK | fcntl.F_SEAL_SEAL
+SUBREAPER = 36
+# Seconds of a turn.
+TURN = 0.5
+# What part of the free bytes of the temporary folder, and of all memory, an engine may write.
+PART = 4
+# How many files an engine may write.
+FILES = 1000
+
+
+class Fault(Exception):
+    """Why there is no answer."""
+
+
+class Stopped(Exception):
+    """The answer is there, or the time is over."""
+
+
+def ending(status):
+    """How a program ended, in words."""
+    if status >= 0:
+        return f"ended with status {status}"
+    try:
+        return f"was ended by {signal.Signals(-status).name}"
+    except ValueError:
+        return f"was ended by signal {-status}"
+
+
+def plain(said):
+    """Bytes as a text that can't drive a terminal."""
+    return "".join(chr(byte) if 32 <= byte < 127 or byte == 10 else f"\\x{byte:02x}" for byte in said)
+
+
+def say(what):
+    """Says a line on standard error, so that it can't drive a terminal."""
+    text = "".join(sign if sign.isprintable() else ascii(sign)[1:-1] for sign in str(what))
+    print(f"aigprove: {text}", file=sys.stderr)
+
+
+class Sealed:
+    """Bytes in memory, which nobody can write from now on, and the path that a program of ours reads them by."""
+
+    def __init__(self, data):
+        self.descriptor = os.memfd_create("sealed", os.MFD_ALLOW_SEALING)
+        with open(self.descriptor, "wb", closefd=False) as out:
+            if isinstance(data, bytes):
+                out.write(data)
+            else:
+                shutil.copyfileobj(data, out, 1 << 20)
+        fcntl.fcntl(self.descriptor, fcntl.F_ADD_SEALS, SEALS)
+        self.path = f"/dev/fd/{self.descriptor}"
+
+    def __del__(self):
+        os.close(self.descriptor)
+
+    def bytes(self):
+        """The bytes."""
+        with open(self.path, "rb") as file:
+            return file.read()
+
+
+def signal_group(group, number):
+    """Sends a signal to a group of processes, if there is one."""
+    try:
+        os.killpg(group, number)
+    except ProcessLookupError:
+        pass
+
+
+class Group:
+    """A program that was started in a session of its own, so that all that it starts is stopped, continued and ended with it."""
+
+    def __init__(self, words, folder=None, **streams):
+        environment = {**os.environ, **({"TMPDIR": folder} if folder else {})}
+        streams = {"stdin": subprocess.DEVNULL, **streams}
+        # The folder whose limit it keeps.
+        self.folder = None
+        self.process = subprocess.Popen(words, cwd=folder, env=environment, start_new_session=True, **streams)
+
+    def signal(self, number):
+        """Sends a signal to all of it."""
+        signal_group(self.process.pid, number)
+
+
+class Keeper:
+    """A process that ends the groups that run where this process is killed, so that it can't do that itself."""
+
+    def __init__(self):
+        told, self.telling = os.pipe()
+        if os.fork() == 0:
+            os.close(self.telling)
+            os.setsid()
+            for stream in range(3):
+                os.dup2(os.open(os.devnull, os.O_RDWR), stream)
+            end_left(told)
+            os._exit(0)
+        os.close(told)
+
+    def tell(self, number):
+        """Tells that a group began, by its number, or that it ended, by its negative."""
+        try:
+            os.write(self.telling, b"%d\n" % number)
+        except BrokenPipeError:
+            pass
+
+
+def end_left(told):
+    """Ends the groups that began and didn't end, once nobody tells any more."""
+    groups = set()
+    with open(told, "rb") as lines:
+        for number in map(int, lines):
+            groups = groups | {number} if number > 0 else groups - {-number}
+    for group in groups:
+        signal_group(group, signal.SIGKILL)
+
+
+class Programs:
+    """All programs that run now. As many as there are jobs run at once, and the others wait for their turn."""
+
+    def __init__(self, jobs):
+        self.jobs, self.lock, self.is_stopped = jobs, threading.Lock(), False
+        self.keeper = Keeper()
+        # Groups that run and groups that wait, the longest first.
+        self.running, self.waiting = [], []
+        self.turned = self.looked = time.monotonic()
+
+    def start(self, words, **options):
+        """Starts a program, which waits for its turn where there is none free."""
+        with self.lock:
+            if self.is_stopped:
+                raise Stopped
+            group = Group(words, **options)
+            self.keeper.tell(group.process.pid)
+            (self.running if len(self.running) < self.jobs else self.waiting).append(group)
+            if group in self.waiting:
+                group.signal(signal.SIGSTOP)
+        return group
+
+    def finish(self, group):
+        """Waits for the end of a program, ends what it left running, and gives its status."""
+        # What it left running is ended while its number can't be another's.
+        os.waitid(os.P_PID, group.process.pid, os.WEXITED | os.WNOWAIT)
+        group.signal(signal.SIGKILL)
+        self.keeper.tell(-group.process.pid)
+        status = group.process.wait()
+        with self.lock:
+            for groups in self.running, self.waiting:
+                if group in groups:
+                    groups.remove(group)
+            self.fill()
+            if self.is_stopped:
+                raise Stopped
+        return status
+
+    def fill(self):
+        """Continues programs that wait, while there is a turn free."""
+        while self.waiting and len(self.running) < self.jobs:
+            self.running.append(self.waiting.pop(0))
+            self.running[-1].signal(signal.SIGCONT)
+
+    def look(self, tick):
+        """Sees to turns and limits, where that was so many seconds ago."""
+        if time.monotonic() - self.looked > tick:
+            self.looked = time.monotonic()
+            self.turn()
+            self.check_limits()
+
+    def turn(self):
+        """Gives the turn of the program that had it longest to the one that waited longest, where it is time for that."""
+        with self.lock:
+            if self.waiting and self.running and time.monotonic() - self.turned > TURN:
+                self.turned = time.monotonic()
+                self.waiting.append(self.running.pop(0))
+                self.waiting[-1].signal(signal.SIGSTOP)
+                self.fill()
+
+    def check_limits(self):
+        """Ends programs that wrote more than they may."""
+        with self.lock:
+            groups = [group for group in self.running if group.folder]
+        for group in groups:
+            if group.folder.is_full():
+                group.signal(signal.SIGKILL)
+
+    def stop(self):
+        """Ends all programs; none is started from now on."""
+        with self.lock:
+            self.is_stopped = True
+            for group in self.running + self.waiting:
+                group.signal(signal.SIGKILL)
+
+    def output(self, words, given=(), **streams):
+        """The status of one of our own programs, what it prints, and what it says on standard error."""
+        with tempfile.TemporaryFile() as out, tempfile.TemporaryFile() as said:
+            descriptors = [file.descriptor for file in given]
+            group = self.start(words, **{"stdout": out, "stderr": said, "pass_fds": descriptors, **streams})
+            status = self.finish(group)
+            out.seek(0), said.seek(0)
+            return status, out.read().decode("ascii", "surrogateescape"), plain(said.read()).strip()
+
+
+def adopt():
+    """Makes this process the parent of all that its programs leave behind, so that `bury` finds it."""
+    ctypes.CDLL(None).prctl(SUBREAPER, 1, 0, 0, 0)
+
+
+def children():
+    """The processes whose parent is this one."""
+    for name in os.listdir("/proc"):
+        try:
+            with open(f"/proc/{name}/stat", "rb") as file:
+                if name.isdecimal() and int(file.read().rpartition(b")")[2].split()[1]) == os.getpid():
+                    yield int(name)
+        except OSError:
+            pass
+
+
+def bury():
+    """Ends all processes that this one is the parent of, until there are none."""
+    while found := list(children()):
+        for process in found:
+            try:
+                os.kill(process, signal.SIGKILL)
+                os.waitpid(process, 0)
+            except (ProcessLookupError, ChildProcessError):
+                pass
+
+
+def entries_of(path):
+    """The path and the status of each entry of a folder, as far as they can be seen."""
+    try:
+        with os.scandir(path) as entries:
+            for entry in entries:
+                yield entry.path, entry.stat(follow_symlinks=False)
+    except OSError:
+        pass
+
+
+def drop(remove, path):
+    """Removes an entry, if that can be done."""
+    try:
+        remove(path)
+    except OSError:
+        pass
+
+
+def remove(path):
+    """Removes a folder, however deep it is and whatever its rights."""
+    drop(os.rmdir, path)
+    for words in [["rm", "-rf"], ["chmod", "-R", "u+rwx"], ["rm", "-rf"]]:
+        if os.path.lexists(path):
+            subprocess.run([*words, "--", path], stdin=subprocess.DEVNULL, stdout=subprocess.DEVNULL, stderr=subprocess.DEVNULL)
+
+
+class Folder:
+    """A new folder for one run of an engine, which is all that it is told of, and the limits on what it writes there."""
+
+    def __init__(self, above):
+        self.path = tempfile.mkdtemp(prefix="engine-", dir=above)
+        memory = os.sysconf("SC_PHYS_PAGES") * os.sysconf("SC_PAGE_SIZE")
+        self.limit = max(min(shutil.disk_usage(self.path).free, memory) // PART, 1 << 20)
+
+    def __enter__(self):
+        return self
+
+    def __exit__(self, *_):
+        """Removes it, but for folders that are in it, which are removed at the end."""
+        for path, _ in entries_of(self.path):
+            drop(os.unlink, path)
+        drop(os.rmdir, self.path)
+
+    def place(self, name):
+        """The path of a file in it."""
+        return os.path.join(self.path, name)
+
+    def make(self, name):
+        """A new file in it, to be written."""
+        return open(self.place(name), "xb")
+
+    def run(self, programs, words):
+        """Runs a program of the engine to its end, and gives its status. What it prints goes into files of the folder."""
+        with self.make("out") as out, self.make("err") as error:
+            group = programs.start(words, folder=self.path, stdout=out, stderr=error)
+        self.hold(group)
+        return programs.finish(group)
+
+    def hold(self, group):
+        """Sets limits: no file of a program's grows past the folder's, and it is the first to go where memory runs out."""
+        process = group.process.pid
+        group.folder = self
+        try:
+            resource.prlimit(process, resource.RLIMIT_FSIZE, (self.limit, self.limit))
+            resource.prlimit(process, resource.RLIMIT_CORE, (0, 0))
+            with open(f"/proc/{process}/oom_score_adj", "w", encoding="ascii") as out:
+                out.write("1000")
+        except OSError:
+            pass
+
+    def is_full(self):
+        """Whether its files are more than they may be, or have more bytes."""
+        total, count, folders = 0, 0, [self.path]
+        while folders and total <= self.limit and count <= FILES:
+            for path, status in entries_of(folders.pop()):
+                total, count = total + status.st_blocks * 512, count + 1
+                if stat.S_ISDIR(status.st_mode):
+                    folders.append(path)
+        return total > self.limit or count > FILES
+
+    def taken(self, name, what):
+        """A sealed copy of a regular file that a program left in it."""
+        try:
+            descriptor = os.open(self.place(name), os.O_RDONLY | os.O_NOFOLLOW | os.O_NONBLOCK)
+        except OSError:
+            raise Fault(f"left no file as its {what}") from None
+        try:
+            status = os.fstat(descriptor)
+            if not stat.S_ISREG(status.st_mode):
+                raise Fault(f"left no file as its {what}")
+            if status.st_size > self.limit:
+                raise Fault(f"left too long a file as its {what}")
+            with open(descriptor, "rb", closefd=False) as file:
+                return Sealed(file)
+        finally:
+            os.close(descriptor)
+
+    def text(self, name, what):
+        """The text of a file that a program left in it."""
+        return self.taken(name, what).bytes().decode("utf-8", "replace")

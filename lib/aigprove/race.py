@@ -1,0 +1,242 @@
+"""Engines side by side: the first checked answer wins."""
+import functools
+import math
+import queue
+import sys
+import threading
+import time
+
+from aigprove import aiger, plain, shown, waves, witness
+from aigprove.engines import Bmc3, Certificate, Missing, Pdr, Run, Steps, Windows
+from aigprove.evidence import Evidence
+from aigprove.programs import Fault, Sealed, Stopped, say
+from aigprove.questions import Question, Solver
+
+SAFE, UNSAFE, OPEN, FAILED = 20, 10, 0, 1
+# Seconds between two looks at turns, limits and the clock.
+TICK = 0.1
+
+
+class Race:
+    """What all engines are given, and what they hand in; what is printed, and kept."""
+
+    def __init__(self, words, programs, judge, above, source):
+        self.words, self.programs, self.judge, self.above, self.source = words, programs, judge, above, source
+        self.bound, self.file = words.bound, source.asked
+        self.text = self.read_text()
+        self.events, self.begun = queue.Queue(), time.monotonic()
+        # Steps that were shown, from 0 on, a window that was, and engines that failed.
+        self.steps, self.shown_window, self.faults = 0, None, []
+        self.deadline = math.inf if words.timeout is None else self.begun + words.timeout
+        # What the progress line says.
+        self.doing = {}
+        self.evidence = words.keep and Evidence(words.keep, judge)
+
+    def read_text(self):
+        """The text form of the file, which has to have a bad state property."""
+        try:
+            text = self.judge.text(self.file)
+        except Fault as why:
+            raise Fault(f"{self.source.path}: {str(why).removeprefix('aigtool: ')}") from None
+        if aiger.Header(aiger.Lines(text, "FILE")).bads == 0:
+            raise Fault(f"{self.source.path}: no bad state property")
+        return text
+
+    @functools.cached_property
+    def circuit(self):
+        """The circuit of the file, as aigtool prints it."""
+        return aiger.Circuit(aiger.Lines(self.text, "FILE"))
+
+    @functools.cached_property
+    def plain(self):
+        """The machine as every model checker reads it."""
+        return plain.Plain(self.circuit)
+
+    def needs_solver(self):
+        """The solver."""
+        if not self.words.solver:
+            raise Missing("cadical is not installed")
+        return Solver(self.words.solver, self.programs, self.judge, self.above)
+
+    # What engines hand in, from their threads.
+
+    def progress(self, what, count=None):
+        """Takes down what an engine does."""
+        self.doing[what] = what if count is None else f"{what} {count}"
+
+    def step(self, question, proof):
+        """Takes a step whose proof aigcheck took."""
+        self.events.put(lambda: self.print_step(question, proof))
+
+    def window(self, question, proof):
+        """Takes a window whose proof aigcheck took."""
+        self.shown_window = question, proof
+        self.events.put(self.print_induction)
+
+    def certificate(self, data, made, file, proofs):
+        """Takes a certificate, with questions about its joint machine and proofs that aigcheck took."""
+        self.events.put(lambda: self.print_certificate(data, made, file, proofs))
+
+    def hand_in_run(self, data):
+        """Has aigcheck check a run to a bad state, and takes it."""
+        sealed = Sealed(data)
+        bad, step = self.judge.run(self.file, sealed)
+        header = self.circuit.header
+        told = witness.read(aiger.Lines(sealed.bytes(), "WITNESS"), header.latches, header.inputs)
+        if (told.bad, len(told.steps) - 1) != (bad, step):
+            raise Fault(f"aigcheck printed b{bad} at step {step}")
+        self.events.put(lambda: self.print_run(told, sealed))
+
+    def bound_reached(self):
+        """Takes that all steps up to the bound were shown: the other engines may take as long again, and a second."""
+        now = time.monotonic()
+        self.deadline = min(self.deadline, now + (now - self.begun) + 1)
+
+    # What is printed. Each of these gives the exit status once there is an answer, and else None.
+
+    def print_line(self, line):
+        """Prints a line, in the place of the progress line."""
+        self.show_progress("")
+        print(line, flush=True)
+
+    def print_step(self, question, proof):
+        """Prints that a step was shown."""
+        self.print_line(question.line)
+        self.keep(question, self.file, proof, "", self.source.name)
+        self.steps += 1
+        return self.print_induction()
+
+    def print_induction(self):
+        """Prints a window that was shown, and what follows, once the steps before it were shown."""
+        if self.shown_window is None or self.steps <= self.shown_window[0].k:
+            return None
+        question, proof = self.shown_window
+        self.print_line(question.line)
+        self.keep(question, self.file, proof, "", self.source.name)
+        return self.print_safe()
+
+    def print_safe(self):
+        """Prints that the machine is safe."""
+        self.print_line("no bad state at any step")
+        if self.evidence:
+            self.evidence.says("no bad state at any step")
+        return SAFE
+
+    def print_certificate(self, data, made, file, proofs):
+        """Prints that a certificate was shown."""
+        if self.evidence:
+            self.evidence.put("certificate.aag", data)
+            self.evidence.put("joint.aag", file)
+            self.source.keep_joint(self.evidence, made)
+        for question, proof in proofs:
+            self.print_line(f"certificate: {question.line}")
+            self.keep(question, file, proof, "certificate-", "joint.aag")
+        return self.print_safe()
+
+    def keep(self, question, file, proof, prefix, name):
+        """Keeps what shows a line."""
+        if self.evidence:
+            self.evidence.put_question(prefix + question.name, question, file, proof)
+            words = [question.check, name, str(question.k), f"{prefix}{question.name}.proof", *question.form]
+            self.evidence.shows(question.line, *words)
+
+    def print_run(self, told, sealed):
+        """Prints a run to a bad state, and writes it where it is wanted."""
+        circuit = self.source.circuit()
+        for line in [*shown.Shown(circuit).lines(told), *self.source.failing(sealed.bytes(), told.bad)]:
+            self.print_line(line)
+        if self.evidence:
+            self.evidence.put("witness", sealed)
+            self.evidence.shows(f"b{told.bad} at step {len(told.steps) - 1}", "run", self.source.name, "witness")
+        if self.words.witness:
+            with open(self.words.witness, "wb") as out:
+                out.write(sealed.bytes())
+        if self.words.vcd:
+            with open(self.words.vcd, "w", encoding="ascii") as out:
+                out.writelines(line + "\n" for line in waves.dump(circuit, told.start, told.steps))
+        return UNSAFE
+
+    def print_open(self):
+        """Prints up to which step there is no bad state."""
+        self.print_line(f"no bad state up to step {self.steps - 1}" if self.steps else "nothing was shown")
+        return OPEN
+
+    # The race.
+
+    def engines(self):
+        """The engines that are asked for, by their names."""
+        words, given = self.words, {}
+        if words.certificate:
+            given["certificate"] = lambda: Certificate(self, words.certificate)
+        if words.run:
+            given["run"] = lambda: Run(self, words.run)
+        own = {"steps": Steps, "windows": Windows, "bmc3": Bmc3, "pdr": Pdr}
+        return given | {name: functools.partial(own[name], self) for name in words.engines}
+
+    def start(self, name, make):
+        """Starts an engine; whether it was."""
+        try:
+            engine = make()
+        except Missing as why:
+            self.fail(name, f"passed over: {why}")
+            return False
+        threading.Thread(target=self.work, args=[name, engine], daemon=True).start()
+        return True
+
+    def work(self, name, engine):
+        """Runs an engine in its thread."""
+        try:
+            engine.run()
+            self.events.put(lambda: self.end(name))
+        except Stopped:
+            pass
+        # Whatever an engine's program leaves, the other engines go on.
+        except Exception as why:
+            self.events.put(functools.partial(self.end, name, str(why) or type(why).__name__))
+
+    def end(self, name, why=None):
+        """Takes that an engine ended without an answer."""
+        self.left -= 1
+        self.doing.pop({"steps": "step", "windows": "window"}.get(name, name), None)
+        if why:
+            self.fail(name, why)
+
+    def fail(self, name, why):
+        """Says why an engine gives no answer."""
+        self.show_progress("")
+        self.faults.append(name)
+        say(f"{name}: {why}")
+
+    def take(self, seconds):
+        """Takes the next of what was handed in, if it comes within so many seconds, and gives the exit status if that is an answer."""
+        try:
+            return self.events.get(timeout=seconds)()
+        except queue.Empty:
+            return None
+
+    def run(self):
+        """Runs the engines until there is an answer, or none can come any more, and gives the exit status."""
+        for line in self.source.about():
+            self.print_line(line)
+        engines = self.engines()
+        self.left = sum([self.start(name, make) for name, make in engines.items()])
+        status = None
+        while status is None and time.monotonic() < self.deadline and (self.left or not self.events.empty()):
+            status = self.take(TICK)
+            self.programs.look(TICK)
+            self.show_progress()
+        # What was handed in by then counts.
+        for _ in range(self.events.qsize()):
+            status = self.take(0) if status is None else status
+        self.show_progress("")
+        if status is None:
+            status = FAILED if len(self.faults) == len(engines) else self.print_open()
+        if self.evidence:
+            self.source.keep(self.evidence)
+        return status
+
+    def show_progress(self, text=None):
+        """Shows what is being done, on a terminal."""
+        if sys.stderr.isatty():
+            doing = ", ".join(list(self.doing.values())) + f": {time.monotonic() - self.begun:.0f} s"
+            print("\r\x1b[K" + (doing if text is None else text), end="", file=sys.stderr, flush=True)
