@@ -1,13 +1,13 @@
 #!/usr/bin/env python3
-"""Runs aigtool and aigcheck on small files, proofs, solutions and witnesses, and compares what they print, byte for byte.
+"""Runs aigtool, aigedit and aigcheck on small files, proofs, solutions and witnesses, and compares what they print, byte for byte.
 
 Rows stand in the tables below, and were worked by hand. A row is the words of a command, which is run in the table's folder, with the
 bytes of the second cell as its file GIVEN; what is printed; and what the row is about, where that has to be said. `usage` ends with
 status 2, a line that begins with the program's name with status 1, both to standard error, and all else goes to standard output with
 status 0. In these cells `\\n` is a line feed, `\\x` a byte in hexadecimal, and `{PIECE}*N` the piece N times.
 
-What aigtool prints is cut at each length, too, by a limit on the size of files: then a beginning of it is there, and the last write
-is told to have failed. And rows that are made here, of aigcheck, have long clauses, limits on time and memory, and full devices.
+What aigtool and aigedit print is cut at each length, too, by a limit on the size of files: then a beginning of it is there, and the
+last write is told to have failed. And rows that are made here have long clauses, limits on time and memory, and full devices.
 """
 import pathlib
 import resource
@@ -21,6 +21,7 @@ from harness import TESTS, limit, limit_files, repeated, spelled
 # How the words of each table are given to which program.
 TABLES = {
     "answers/aigtool.tsv": "aigtool {}",
+    "answers/edits.tsv": "aigedit {}",
     "answers/clauses.tsv": "aigcheck {}",
     "answers/proofs.tsv": "aigcheck {}",
     "answers/solutions.tsv": "aigcheck {}",
@@ -28,6 +29,8 @@ TABLES = {
     "witnesses/rows.tsv": "aigcheck run {} GIVEN",
 }
 FILES = TESTS / "answers"
+# The programs whose printed texts are cut.
+CUT = ["aigtool", "aigedit"]
 
 # opposed.aag, which has two inputs, with 1,100 further ones, whose variables are 4 to 1103, and proofs with a clause of these. As in
 # proofs.tsv SPLIT and OPPOSED are proofs about opposed.aag without hints and with them.
@@ -66,8 +69,11 @@ TIMED = [
 ]
 LARGE = [("inductive stateless.aag 100000 {conflict} distinct", "no bad state at any step, if none up to step 100000\n")]
 # Commands that print to a device that takes no byte.
-UNWRITTEN = ["clauses stuck.aag 0", "window stuck.aag 0", "refuted stuck.aag 0 stuck.lrat", "inductive stuck.aag 0 stuck.lrat"]
-UNWRITTEN += ["witness delayed.aag 1 {solved}", "run ../witnesses/counter.aag {shown}"]
+UNWRITTEN = {
+    "aigcheck": ["clauses stuck.aag 0", "window stuck.aag 0", "refuted stuck.aag 0 stuck.lrat", "inductive stuck.aag 0 stuck.lrat"],
+    "aigedit": ["miter toggle.aag stuck.aag", "join toggle.aag stuck.aag"],
+}
+UNWRITTEN["aigcheck"] += ["witness delayed.aag 1 {solved}", "run ../witnesses/counter.aag {shown}"]
 # The comments of the query of credits.aag for step 0: each leaf and gate is the variable of its number in the file, and one more.
 CREDITS = "../../examples/credits.aag"
 COMMENTS = b"c i0 at step 0 is 2\nc i1 at step 0 is 3\nc l0 at step 0 is 4\nc l1 at step 0 is 5\nc b0 at step 0 is 20\n"
@@ -94,9 +100,10 @@ class Answers:
 
     def check_cut(self, line, printed, place):
         """Checks what is there of a printed text where there is room for less."""
+        unwritten = f"{line.split()[0]}: write failed\n".encode()
         for room in range(len(printed)):
             with open(self.folder / "printed", "wb") as out:
-                self.check(line, (1, b"", b"aigtool: write failed\n"), place, stdout=out, preexec_fn=limit_files(room))
+                self.check(line, (1, b"", unwritten), place, stdout=out, preexec_fn=limit_files(room))
             held = (self.folder / "printed").read_bytes()
             if held != printed[:room]:
                 self.tally.wants(f"{line}, room for {room}", printed[:room], held)
@@ -111,7 +118,7 @@ class Answers:
                 program = line.split()[0]
                 wanted = wanted_of(program, spelled(printed))
                 self.check(line, wanted, path.parent, given[:500])
-                if program == "aigtool":
+                if program in CUT:
                     self.check_cut(line, wanted[1], path.parent)
 
     def check_made(self):
@@ -123,15 +130,17 @@ class Answers:
             for words, printed in rows:
                 self.check("aigcheck " + words.format(**files), wanted_of("aigcheck", printed.encode()), FILES, preexec_fn=before)
         with open("/dev/full", "wb") as full:
-            for words in UNWRITTEN:
-                self.check("aigcheck " + words.format(**files), (1, b"", b"aigcheck: write failed\n"), FILES, stdout=full)
+            for program, rows in UNWRITTEN.items():
+                for words in rows:
+                    wanted = (1, b"", f"{program}: write failed\n".encode())
+                    self.check(f"{program} {words.format(**files)}", wanted, FILES, stdout=full)
         for form in ["", " raw"]:
             query = harness.run([self.programs["aigtool"], "query", CREDITS, "0", *form.split()], cwd=FILES)[1]
             self.check(f"aigcheck clauses {CREDITS} 0{form}", (0, COMMENTS + query, b""), FILES)
 
 
 def main():
-    programs, tally = vars(harness.parser(__doc__, "aigtool", "aigcheck").parse_args()), harness.Tally()
+    programs, tally = vars(harness.parser(__doc__, "aigtool", "aigedit", "aigcheck").parse_args()), harness.Tally()
     with tempfile.TemporaryDirectory() as folder:
         answers = Answers(programs, pathlib.Path(folder), tally)
         for table, form in TABLES.items():

@@ -23,7 +23,7 @@ from harness import TOP, spelled
 
 PAGES = ["COMMANDS.md"]
 ROWS = "FORMAT.md"
-PROGRAMS = ["aigtool", "aigcheck"]
+PROGRAMS = ["aigtool", "aigedit", "aigcheck"]
 BLOCK = re.compile(r"^```console(?: needs ([^\n]*))?\n(.*?)^```$", re.DOTALL | re.MULTILINE)
 ROW = re.compile(r"^\| `(a[ai]g [^`]*)` \| ([^|]*) \|", re.MULTILINE)
 KINDS = ("aag ", "aig ")

@@ -13,6 +13,7 @@ TOP = TESTS.parent
 # What each program says of wrong words.
 USAGE = {
     "aigtool": b"usage: aigtool text FILE, binary FILE OUT, strash FILE, cnf FILE K [raw], query FILE K [raw]\n",
+    "aigedit": b"usage: aigedit miter FILE OTHER, join FILE CERT\n",
     "aigcheck": b"usage: aigcheck clauses FILE K [raw], window FILE K [distinct] [raw], refuted FILE K PROOF [raw], "
     b"inductive FILE K PROOF [distinct] [raw], witness FILE K SOLUTION [raw], run FILE WITNESS\n",
 }

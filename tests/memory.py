@@ -3,8 +3,9 @@
 
 Every call that takes memory is made by a step of aig_script, once for each of its own requests for memory, with that request refused,
 upwards until a run ends without a refusal. A refused call answers that memory ran out and nothing else, and leaves its receiver as
-it was; the last run answers what ample memory answers. The same of each command of aigtool and aigcheck, which says `out of memory`
-after its program's name, ends with status 1, prints at most a beginning, and leaves an old OUT as it was.
+it was; the last run answers what ample memory answers. The same of each command of aigtool, aigedit and aigcheck, which says `out of
+memory` after its program's name (and of the second of two files that it is that one), ends with status 1, prints at most a beginning,
+and leaves an old OUT as it was.
 
 Requests are counted as well: long lines and comments make none, ands that fold and changes of entries make none, and no number of a
 file makes a large one, but for the room for nodes, which is reserved within the limit.
@@ -52,6 +53,8 @@ CHECKS = [
     ["witness", "delayed.aag", "1", "solution", "raw"],
     ["run", "counter.aag", "witness"],
 ]
+# The commands of aigedit on that file and itself: its miter, and it as its own certificate.
+EDITS = [[command, form, other] for command in ("miter", "join") for form, other in (("whole.aag", "whole.aig"), ("whole.aig", "whole.aag"))]
 
 # Where a file has a few nodes all requests together stay below this, and room for nodes within the limit is reserved.
 ASKED_FOR_LITTLE = 20_000
@@ -269,8 +272,8 @@ class Program:
             ended = self.shim.run([self.path, *words], room, refused)
             if ended.requests < refused:
                 break
-            told = f"{self.name}: out of memory\n".encode()
-            if (ended.status, ended.err) != (1, told) or not out.startswith(ended.out):
+            told = [f"{self.name}: {file}out of memory\n".encode() for file in ("", "other file: ")]
+            if ended.status != 1 or ended.err not in told or not out.startswith(ended.out):
                 wrong.append(f"{name}, request {refused}: status {ended.status}, {ended.err}")
             if self.contents(room) != files:
                 wrong.append(f"{name}, request {refused}: files {self.contents(room)}")
@@ -334,19 +337,20 @@ def sizes(shim, tool, folder, tally):
 
 
 def main():
-    parser = harness.parser(__doc__, "aig_script", "aigtool", "aigcheck")
+    parser = harness.parser(__doc__, "aig_script", "aigtool", "aigedit", "aigcheck")
     parser.add_argument("names", nargs="*", help="the steps to take (all, and the commands)")
     given, tally = parser.parse_args(), harness.Tally()
     with tempfile.TemporaryDirectory() as name:
         folder = pathlib.Path(name)
         shim = Shim(folder)
         steps = Steps(shim, given.aig_script, folder)
-        tool, checker = (Program(shim, name, getattr(given, name), folder) for name in ("aigtool", "aigcheck"))
+        tool, editor, checker = (Program(shim, name, getattr(given, name), folder) for name in ("aigtool", "aigedit", "aigcheck"))
         with concurrent.futures.ThreadPoolExecutor(os.cpu_count()) as pool:
             running = [pool.submit(steps.check, case) for case in cases() if not given.names or case.step.split()[0] in given.names]
             if not given.names:
                 files = both_forms(tool.path, folder)
                 running += [pool.submit(tool.check, i, *case) for i, case in enumerate(tool_cases(files))]
+                running += [pool.submit(editor.check, i, words, files) for i, words in enumerate(EDITS)]
                 running += [pool.submit(checker.check, i, words, files | CHECKED) for i, words in enumerate(CHECKS)]
                 sizes(shim, tool.path, folder, tally)
         for count, wrong in (run.result() for run in running):

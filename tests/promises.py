@@ -23,7 +23,7 @@ ROOT = os.path.normpath(os.path.join(os.path.dirname(os.path.abspath(__file__)),
 # The crates whose exported calls are promised, in the order in which they are told.
 CALLS = [
     ("aig and aig_encode", ["aig", "aig_encode"]),
-    ("with the programs", ["aigtool", "aigcheck"]),
+    ("with the programs", ["aigtool", "aig_commands", "aigcheck"]),
     ("with checked answers, witnesses and DIMACS", [
         "aig_answers", "aig_edits", "aig_certificates", "aig_reduction", "aig_refutation", "aig_witness", "aig_witness_check", "aig_solutions", "aig_dimacs"]),
 ]

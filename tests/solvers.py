@@ -307,7 +307,7 @@ def installed():
     with tempfile.TemporaryDirectory() as folder:
         run = Run(folder, TOGGLE, abc=RUN)
         status = subprocess.run([os.path.join(HERE, "..", "install"), "prefix"], cwd=folder).returncode
-        names = ["aigcheck", "aigprove", "aigtool", "aigwaves"]
+        names = ["aigcheck", "aigedit", "aigprove", "aigtool", "aigwaves"]
         yield "install", (0, names), (status, sorted(os.listdir(os.path.join(folder, "prefix", "bin"))))
         prove = os.path.join("prefix", "bin", "aigprove")
         process = run.start([prove, "--abc", "./abc", "--engine", "bmc3", "--witness", "w", "t.aag"], stdout=subprocess.PIPE, stderr=subprocess.PIPE)

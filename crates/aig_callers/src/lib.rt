@@ -16,10 +16,13 @@ ghost use Rattle.aig.specs.Ternary.{simulation_of, stepped, value_in};
 ghost use Rattle.aig.specs.Unroll.{UnrollsTo};
 ghost use Rattle.aig_callers.specs.Leaves.{LeavesFixValues};
 
+mod printing;
+
 use aig::{Aig, AigEdge, TernarySimulate};
 use aig_base::{DagCnf, Lbool, Lit, MemoryError, VarVMap};
 use aig_circuit::{further_gates_are_gates, inverses_have_other_values, leaves_fix_values};
 use aig_cnf::literals_have_edge_values;
+pub use printing::printed;
 pub use shown::is_shown_safe;
 
 /// Adds gates for: one of both edges is true, and the other isn't.

@@ -1,8 +1,14 @@
 -- Commands that are told apart by their names.
 use Rattle.std.proofs.Common.{◌≡◌, ◌≢◌, ℕ, zero, suc, ◌+◌, ◌<◌, Bool, true, false, cond, List, [], ◌∷◌, length, get_or, refl, sym, ap, subst, ◌∙◌, arith, below_more}
-use Rattle.std.specs.Prelude.{Contains, IsTrue, nat_eq}
+use Rattle.std.specs.Prelude.{All, Contains, IsTrue, nat_eq}
 use Rattle.std.specs.Cmp.Lexicographic.{other_text, pointwise}
 use Rattle.std.proofs.lemmas.List.{get_or_read}
+use Rattle.aig_command_line.specs.declared.arguments.Form.{Form}
+use Rattle.aig_command_line.specs.Arguments.{Arguments, Gives}
+use Rattle.aig_command_line.proofs.Giving.{one_given}
+
+same_first : (a b : List ℕ) (l m : List (List ℕ)) → a ∷ l ≡ b ∷ m → a ≡ b
+same_first a b l m is = cc
 
 -- what holds of the elements before one and of that holds of those up to it
 pub holds_more : {A : Type 0} (P : A → Type 0) (all : List A) (i : ℕ) (x : A) → i < length all → x ≡ get_or all i x
@@ -28,7 +34,8 @@ module _ {A : Type 0} (name : A → List ℕ) where
   neither true b h = cc
   neither false b h = (refl, h)
 
-  other : (x : List ℕ) (all : List A) → IsTrue (differ name x all) → (a : A) → Contains all a → x ≢ name a
+  -- a name that is none of them is that of none
+  pub other : (x : List ℕ) (all : List A) → IsTrue (differ name x all) → (a : A) → Contains all a → x ≢ name a
   other x [] apart a at = absurd (omega (arith, at.1))
   other x (y ∷ ys) apart a (zero, low, is) =
       let told = neither (pointwise nat_eq x (name y)) (differ name x ys) apart in
@@ -51,3 +58,23 @@ module _ {A : Type 0} (name : A → List ℕ) where
   one_of (x ∷ xs) apart a b (suc k, low, is) (suc j, down, was) same =
       let told = both (differ name (name x) xs) (are_apart name xs) apart in
       one_of xs told.1 a b (k, omega (arith, low), is) (j, omega (arith, down), was) same
+
+-- ---- the commands of a program
+
+module _ {A : Type 0} (name : A → List ℕ) (form : A → Form) (all : List A) (apart : IsTrue (are_apart name all)) (among : (a : A) → Contains all a) where
+  -- what holds of each in the list holds of each
+  pub each : (P : A → Type 0) → All P all → (a : A) → P a
+  each P holds a = let at = among a in subst P at.2 (holds at.0 a at.1)
+
+  -- words give one command alone, and one list of arguments
+  pub one_fits : (words : List (List ℕ)) (a b : A) (x y : Arguments) → Gives (name a) (form a) words x → Gives (name b) (form b) words y
+      → (a ≡ b) × (x ≡ y)
+  one_fits words a b x y g h =
+      let names = same_first (name a) (name b) _ _ (sym g.spelled ∙ h.spelled) in
+      let same = one_of name all apart a b (among a) (among b) names in
+      (same, one_given (name b) (form b) words y x h (subst (λ c. Gives (name c) (form c) words x) same g))
+
+  -- a word that is no name gives no command
+  pub no_name : (first : List ℕ) (rest : List (List ℕ)) → IsTrue (differ name first all) → (a : A) (x : Arguments)
+      → ¬ Gives (name a) (form a) (first ∷ rest) x
+  no_name first rest none a x g = other name first all none a (among a) (same_first first (name a) rest _ g.spelled)

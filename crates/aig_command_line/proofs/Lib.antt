@@ -1,3 +1,4 @@
 mod Parsing
 pub mod Giving
 pub mod Apart
+pub mod Kept

@@ -1,3 +1,4 @@
 pub mod Arguments
 pub mod Settings
 pub mod Ending
+pub mod About

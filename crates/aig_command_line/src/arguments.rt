@@ -51,11 +51,18 @@ pub struct Given<'a> {
     pub optimize: bool,
 }
 
+/// Whether a word is this one.
+pub fn is_word(word: &String, text: &str) -> bool
+    ensures { (result ≡ true) ↔ (string_bytes word.now ≡ text.now) }
+{
+    word.as_str() == text
+}
+
 /// Whether a word is a setting that is allowed.
 fn is_setting(allowed: bool, word: &String, setting: &str) -> bool
     ensures { (result ≡ true) ↔ (IsTrue allowed × (string_bytes word.now ≡ setting.now)) }
 {
-    allowed && word.as_str() == setting
+    allowed && is_word(word, setting)
 }
 
 /// Whether to optimise clauses, as the last words say: `raw`, where it is allowed, or nothing.

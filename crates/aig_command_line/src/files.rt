@@ -1,6 +1,7 @@
 //! Files that a program reads.
 
-ghost use Rattle.std.specs.Prelude.{◌≡◌, ℕ, Bool, false, IfOk, IfSome, List, None, Option, Some};
+ghost use Rattle.std.specs.Prelude.{⊤, ℕ, List, Result};
+ghost use Rattle.aig_command_line.specs.declared.files.OpenError.{OpenError};
 
 use aig_base::{FromRead, Source};
 use std::fs::File;
@@ -24,14 +25,12 @@ pub trait Opens {
     /// A file that was opened.
     type File: Source + Drop;
 
-    /// The bytes of the file at a path, where they are known.
-    ghost bytes: { Self → List ℕ → Option (List ℕ) };
+    /// What opening the file at a path may give: a source, whose bytes may be known, or why there is none.
+    ghost opens: { Self → List ℕ → Result Self.File OpenError → Type 0 };
 
     /// Opens the file at a path.
     fn open(&self, path: &str) -> Result<Self::File, OpenError>
-        ensures left { IfOk result (λ file. IfSome (bytes self.now path.now)
-            (λ xs. Self.File.left file ≡ Some xs)) }
-        ensures sound { IfOk result (λ file. Self.File.failed file ≡ false) };
+        ensures { opens self.now path.now result };
 }
 
 /// The files of the system. Nothing is known of their bytes before they are read.
@@ -50,7 +49,7 @@ impl<'a, R> SystemFiles<'a, R> {
 impl<'a, R: Files + AllocGlobal> Opens for SystemFiles<'a, R> {
     type File = FromRead<BufReader<R::File>>;
 
-    ghost bytes = { λ _ _. None };
+    ghost opens = { λ _ _ _. ⊤ };
 
     fn open(&self, path: &str) -> Result<FromRead<BufReader<R::File>>, OpenError> {
         let Ok(file) = File::open(self.rt, path) else {

@@ -1,6 +1,7 @@
 //! What the programs share: the words of a command line, the files that they open, and how they end.
 #![tactic(auto)]
 
+mod about;
 mod arguments;
 mod command;
 mod environment;
@@ -9,7 +10,8 @@ mod number;
 mod output;
 mod status;
 
-pub use arguments::{Form, Given, arguments_of};
+pub use about::{Question, asked};
+pub use arguments::{Form, Given};
 pub use command::{HasForm, find};
 pub use environment::words;
 pub use files::{OpenError, Opens, SystemFiles};

@@ -1,6 +1,6 @@
 //! Standard output.
 
-ghost use Rattle.std.specs.Prelude.{◌≡◌, Bool, IsTrue, OnOk, is_err};
+ghost use Rattle.std.specs.Prelude.{◌≡◌, Bool, IsTrue, OnOk, false, is_err};
 ghost use Rattle.std.specs.Io.KnownBytes.{Keeps};
 
 use aig_base::{Sink, StreamFault};
@@ -27,13 +27,28 @@ pub struct FlushedWriter<W> {
 }
 
 impl<W: Write> FlushedWriter<W> {
-    /// A writer that nothing was written to.
-    pub fn new(inner: W) -> Self {
+    /// The sink over a writer.
+    pub fn new(inner: W) -> Self
+        ensures held { ⟦<FlushedWriter<W> as Sink>⟧.held result ≡ W.contents inner }
+        ensures sound { ⟦<FlushedWriter<W> as Sink>⟧.failed result ≡ false }
+    {
         FlushedWriter {
             inner,
             failed: false,
             flushed: false,
         }
+    }
+
+    /// The writer under it.
+    pub fn into_inner(self) -> W
+        ensures { W.contents result ≡ ⟦<FlushedWriter<W> as Sink>⟧.held self }
+    {
+        let FlushedWriter {
+            inner,
+            failed: _,
+            flushed: _,
+        } = self;
+        inner
     }
 }
 

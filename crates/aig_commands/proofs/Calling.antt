@@ -3,10 +3,9 @@ use Rattle.std.proofs.Common.{◌≡◌, ◌↔◌, ℕ, List, ◌∷◌, Some, 
 use Rattle.std.specs.Prelude.{All, Contains, Err, Ok, Result}
 use Rattle.std.proofs.lemmas.Option.{same_Some}
 use Rattle.aig_command_line.specs.declared.status.Ending.TheVariants as endings
-use Rattle.aig_command_line.specs.Arguments.{Arguments, Gives}
+use Rattle.aig_command_line.specs.Arguments.{Arguments}
 use Rattle.aig_command_line.specs.Ending.{ended}
-use Rattle.aig_command_line.proofs.Apart.{one_of}
-use Rattle.aig_command_line.proofs.Giving.{one_given}
+use Rattle.aig_command_line.proofs.Apart as apart
 use Rattle.aig_commands.specs.declared.command.Action.{Action}
 use Rattle.aig_commands.specs.declared.command.Action.TheVariants as actions
 use Rattle.aig_commands.specs.declared.command.Command.{Command}
@@ -21,28 +20,18 @@ among actions.Strash = (2, omega arith, refl)
 among actions.Cnf = (3, omega arith, refl)
 among actions.Query = (4, omega arith, refl)
 
--- and has a name of its own
-one_named : (a b : Action) → name_of a ≡ name_of b → a ≡ b
-one_named a b = one_of name_of ALL refl a b (among a) (among b)
-
 -- what holds of each in the list holds of each
 pub each : (P : Action → Type 0) → All P ALL → (a : Action) → P a
-each P all a = let at = among a in subst P at.2 (all at.0 a at.1)
-
-same_first : (a b : List ℕ) (l m : List (List ℕ)) → a ∷ l ≡ b ∷ m → a ≡ b
-same_first a b l m is = cc
+each = apart.each name_of form_of ALL refl among
 
 -- words give one command, with one list of paths
-pub one_call : (words : List (List ℕ)) (c d : Command) (p q : List (List ℕ)) → IsCall words c p → IsCall words d q
-    → (c ≡ d) × (p ≡ q)
+pub one_call : (words : List (List ℕ)) (c d : Command) (p q : List (List ℕ)) → IsCall words c p
+    → IsCall words d q → (c ≡ d) × (p ≡ q)
 one_call words c d p q g h =
-    let names = same_first (name_of g.action) (name_of h.action) _ _ (sym g.gives.spelled ∙ h.gives.spelled) in
-    let action = one_named g.action h.action names in
-    let gives = subst (λ a. Gives (name_of a) (form_of a) words g.arguments) action g.gives in
-    let arguments = one_given (name_of h.action) (form_of h.action) words h.arguments g.arguments h.gives gives in (
-      g.command ∙ ap (λ a. command_of a g.arguments.step g.arguments.optimize) action
-          ∙ ap (λ (x : Arguments). command_of h.action x.step x.optimize) arguments ∙ sym h.command,
-      g.on ∙ ap (λ (x : Arguments). x.paths) arguments ∙ sym h.on,
+    let same = apart.one_fits name_of form_of ALL refl among words g.action h.action g.arguments h.arguments g.gives h.gives in (
+      g.command ∙ ap (λ a. command_of a g.arguments.step g.arguments.optimize) same.0
+          ∙ ap (λ (x : Arguments). command_of h.action x.step x.optimize) same.1 ∙ sym h.command,
+      g.on ∙ ap (λ (x : Arguments). x.paths) same.1 ∙ sym h.on,
     )
 
 -- so what they give is told exactly

@@ -23,11 +23,8 @@ use Rattle.aig_commands.specs.Words.{Give, command_of, form_of, name_of}
 -- ---- words
 
 two_paths : (a : Action) (k : ℕ) (o : Bool) → commands.Binary ≡ command_of a k o → (form_of a).paths ≡ 2
-two_paths actions.Text k o is = cc
 two_paths actions.Binary k o is = refl
-two_paths actions.Strash k o is = cc
-two_paths actions.Cnf k o is = cc
-two_paths actions.Query k o is = cc
+two_paths a k o is = cc
 
 -- no OUT
 no_binary_without_out : (file : List ℕ) → ¬ Give (codes "binary" ∷ file ∷ []) commands.Binary
@@ -41,11 +38,8 @@ no_binary_without_out file give =
     omega (arith, two, count, parts, paths)
 
 is_cnf : (a : Action) (k m : ℕ) (o : Bool) → commands.Cnf m true ≡ command_of a k o → (a ≡ actions.Cnf) × (o ≡ true)
-is_cnf actions.Text k m o is = cc
-is_cnf actions.Binary k m o is = cc
-is_cnf actions.Strash k m o is = cc
 is_cnf actions.Cnf k m o is = let same : true ≡ o = cc in (refl, sym same)
-is_cnf actions.Query k m o is = cc
+is_cnf a k m o is = cc
 
 no_settings : (d o : Bool) → (IsTrue d → IsTrue false) → o ≡ true → length (setting_words d o) ≡ 0
 no_settings false true distinct is = refl

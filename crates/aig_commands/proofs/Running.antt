@@ -58,8 +58,6 @@ only_stopped c write.Open w tells (inl own) = absurd own
 
 -- neither the binary form nor that of the hashed circuit
 pub plain_bytes : (c : Command) (circuit : Circuit) → c ≢ commands.Binary → c ≢ commands.Strash → bytes_of c circuit ≡ text_of circuit
-plain_bytes commands.Text circuit no_binary no_strash = refl
 plain_bytes commands.Binary circuit no_binary no_strash = absurd (no_binary refl)
 plain_bytes commands.Strash circuit no_binary no_strash = absurd (no_strash refl)
-plain_bytes (commands.Cnf k optimize) circuit no_binary no_strash = refl
-plain_bytes (commands.Query k optimize) circuit no_binary no_strash = refl
+plain_bytes c circuit no_binary no_strash = refl

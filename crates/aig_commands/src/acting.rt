@@ -2,7 +2,7 @@
 
 ghost use Rattle.std.specs.Prelude.{◌≡◌, ◌≤◌, Bool, IfOk, IfSome, IsErr, IsNone, IsTrue, List, OnOk, Option, Result, ℕ, length, map, string_bytes};
 ghost use Rattle.aig_command_line.specs.declared.status.Ending.TheVariants as endings;
-ghost use Rattle.aig_commands.specs.Acting.{Acts, Converts, Obeys, PrintsOn, RunsOn, WritesTo, unopened_by};
+ghost use Rattle.aig_commands.specs.Acting.{Acts, Converts, Obeys, PrintsOn, RunsOn, WritesTo, unopened};
 ghost use Rattle.aig_commands.specs.declared.command.Command.{Command};
 ghost use Rattle.aig_commands.specs.declared.tool.ToolError.{ToolError};
 
@@ -18,12 +18,16 @@ pub trait Commit: Sink {
     /// Whether they are in their place.
     ghost committed: { Self → Bool };
 
+    /// Whether there was nothing to write to.
+    ghost refused: { Self → Bool };
+
     /// Lets what was written whole take its place.
     fn commit(self) -> Result<(), WriteError>
         ensures { OnOk result (IsTrue (committed self)) };
 
     /// Takes away what was written, and says whether there was nothing to write to.
-    fn discard(self) -> bool;
+    fn discard(self) -> bool
+        ensures { result ≡ refused self };
 }
 
 /// Where OUT leads.
@@ -41,7 +45,7 @@ pub trait Outs<'a> {
 
 /// What a file that isn't opened is refused for.
 impl From<OpenError> for ToolError {
-    ghost from_gives = { unopened_by };
+    ghost from_gives = { λ error e. e ≡ unopened error };
 
     fn from(error: OpenError) -> ToolError {
         match error {
@@ -59,7 +63,7 @@ fn run_on<F: Opens, W: Sink>(
     path: &str,
     w: &mut W,
 ) -> Result<(), ToolError>
-    ensures { RunsOn (F.bytes files.now) F.File.left F.File.failed W.held W.failed command path.now
+    ensures { RunsOn (F.opens files.now) F.File.left F.File.failed W.held W.failed command path.now
         w.old result w.new }
 {
     let mut file = files.open(path)?;
@@ -74,7 +78,7 @@ fn print<F: Opens, W: Flush>(
     path: &str,
     w: &mut W,
 ) -> Result<(), ToolError>
-    ensures { PrintsOn (F.bytes files.now) F.File.left F.File.failed W.held W.failed W.flushed
+    ensures { PrintsOn (F.opens files.now) F.File.left F.File.failed W.held W.failed W.flushed
         command path.now w.old result w.new }
 {
     run_on(alloc, files, command, path, w)?;
@@ -88,8 +92,8 @@ fn write_to<F: Opens, O: Commit>(
     path: &str,
     mut out: O,
 ) -> Result<(), ToolError>
-    ensures { WritesTo (F.bytes files.now) F.File.left F.File.failed O.held O.failed O.committed
-        path.now out result }
+    ensures { WritesTo (F.opens files.now) F.File.left F.File.failed O.held O.failed O.committed
+        O.refused path.now out result }
 {
     match run_on(alloc, files, Command::Binary, path, &mut out) {
         Ok(()) => Ok(out.commit()?),
@@ -109,8 +113,8 @@ fn convert<'a, F: Opens, O: Outs<'a>, W: Flush>(
     out: &'a str,
     w: &mut W,
 ) -> Result<(), ToolError>
-    ensures { Converts (F.bytes files.now) F.File.left F.File.failed W.held W.failed W.flushed
-        O.Out.held O.Out.failed O.Out.committed (O.leads outs.now) path.now out.now
+    ensures { Converts (F.opens files.now) F.File.left F.File.failed W.held W.failed W.flushed
+        O.Out.held O.Out.failed O.Out.committed O.Out.refused (O.leads outs.now) path.now out.now
         w.old result w.new }
 {
     match outs.find(out)? {
@@ -130,8 +134,8 @@ fn perform<'a, F: Opens, O: Outs<'a>, W: Flush>(
 ) -> Result<(), ToolError>
     requires file { 1 ≤ length paths.now }
     requires out { command ≡ Command.Binary → 2 ≤ length paths.now }
-    ensures { Acts (F.bytes files.now) F.File.left F.File.failed W.held W.failed W.flushed
-        O.Out.held O.Out.failed O.Out.committed (O.leads outs.now)
+    ensures { Acts (F.opens files.now) F.File.left F.File.failed W.held W.failed W.flushed
+        O.Out.held O.Out.failed O.Out.committed O.Out.refused (O.leads outs.now)
         command (map string_bytes paths.now) w.old result w.new }
 {
     let file = paths[0].as_str();
@@ -149,8 +153,8 @@ fn obey<'a, F: Opens, O: Outs<'a>, W: Flush>(
     outs: &O,
     w: &mut W,
 ) -> Ending<ToolError>
-    ensures { Obeys (F.bytes files.now) F.File.left F.File.failed W.held W.failed W.flushed
-        O.Out.held O.Out.failed O.Out.committed (O.leads outs.now)
+    ensures { Obeys (F.opens files.now) F.File.left F.File.failed W.held W.failed W.flushed
+        O.Out.held O.Out.failed O.Out.committed O.Out.refused (O.leads outs.now)
         (map string_bytes words.now) w.old result w.new }
 {
     match call(words) {
@@ -169,8 +173,8 @@ pub fn act<'a, F: Opens, O: Outs<'a>, W: Flush>(
     w: &mut W,
 ) -> Ending<ToolError>
     ensures words { IfOk words.now (λ read. IfSome read (λ given.
-        Obeys (F.bytes files.now) F.File.left F.File.failed W.held W.failed W.flushed
-        O.Out.held O.Out.failed O.Out.committed (O.leads outs.now)
+        Obeys (F.opens files.now) F.File.left F.File.failed W.held W.failed W.flushed
+        O.Out.held O.Out.failed O.Out.committed O.Out.refused (O.leads outs.now)
         (map string_bytes given.items) w.old result w.new)) }
     // Words that aren't UTF-8 give no command.
     ensures other { IfOk words.now (λ read. IsNone read

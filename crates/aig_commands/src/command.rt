@@ -120,7 +120,7 @@ pub fn call(words: &[String]) -> Option<(Command, &[String])>
 ///
 /// The word after the command's name is FILE, and of `binary` the word after that is OUT. It takes no memory.
 pub fn parse(words: &[String]) -> Option<Command>
-    ensures { (c : Command) → (result ≡ Some c) ↔ Give (map string_bytes words.now) c }
+    ensures exact { (c : Command) → (result ≡ Some c) ↔ Give (map string_bytes words.now) c }
 {
     let (command, _) = call(words)?;
     Some(command)

@@ -6,5 +6,5 @@ mod command;
 mod tool;
 
 pub use acting::{Commit, Outs, act};
-pub use command::{Action, Command, call, parse};
+pub use command::{Command, parse};
 pub use tool::{LIMIT, ToolError, run};

@@ -13,3 +13,4 @@ mod AnswerLines
 mod Solved
 mod Saying
 mod Examples
+mod SolutionExamples

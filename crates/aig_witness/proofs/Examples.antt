@@ -1,10 +1,13 @@
 -- Texts of small witnesses, and what is read from them and from others.
-use Rattle.std.proofs.Common.{◌≡◌, [], ◌∷◌, None, Some, refl}
+use Rattle.std.proofs.Common.{◌≡◌, [], ◌∷◌, None, Some, refl, sym, subst}
 use Rattle.std.specs.Prelude.{codes}
 use Rattle.std.specs.Fmt.{digits}
 use Rattle.aig_base.specs.declared.logic.three.Lbool.TheVariants.{FALSE, TRUE, NONE}
 use Rattle.aig_parsing.specs.Parse.{parse_digits, parse_ended, parse_number}
-use Rattle.aig_witness.specs.Reading.{parse_next, parse_row_after, parse_steps_after}
+use Rattle.std.proofs.lemmas.Option.{same_Some}
+use Rattle.aig_witness.specs.declared.error.WitnessError.TheVariants as errors
+use Rattle.aig_witness.specs.Faults.{IsFault}
+use Rattle.aig_witness.specs.Reading.{parse_next, parse_property, parse_row_after, parse_steps_after}
 use Rattle.aig_witness.specs.Witness.{Witness, witness_text}
 
 -- bad 10, two latches, one input, two steps
@@ -47,3 +50,24 @@ cut = (refl, refl, refl, refl)
 others : (parse_next (codes "0\nb0\n.\n") ≡ None) × (parse_next (codes "2\nb0\n.\n") ≡ None) × (parse_next (codes "1\nj0\n0\n.\n") ≡ None) × (parse_next (codes "1\nb0b1\n0\n.\n") ≡ None) × (parse_next (codes "1\nb0\n02\n.\n") ≡ None)
 unfolding parse_next parse_row_after parse_steps_after parse_ended parse_number parse_digits
 others = (refl, refl, refl, refl, refl)
+
+-- which line is the first that is malformed
+status : IsFault errors.Status (codes "0\nb0\n.\n")
+status = ((λ is. cc), refl)
+
+property : IsFault errors.Property (codes "1\nj0\n0\n.\n")
+unfolding parse_ended parse_number parse_digits
+property = (codes "j0\n0\n.\n", refl, refl)
+
+values : IsFault errors.Values (codes "1\nb0\n02\n.\n")
+unfolding parse_row_after parse_steps_after parse_ended parse_number parse_digits
+values = (codes "b0\n02\n.\n", refl, (0, codes "02\n.\n", refl, refl))
+
+-- a bad line of values is told as a bad property line
+no_property : ¬ IsFault errors.Property (codes "1\nb0\n02\n.\n")
+unfolding parse_ended parse_number parse_digits
+no_property fault =
+    let lines : codes "b0\n02\n.\n" ≡ fault.0 = same_Some _ _ fault.1 in
+    let none : parse_property (codes "b0\n02\n.\n") ≡ None =
+    subst (λ bytes. parse_property bytes ≡ None) (sym lines) fault.2 in
+    absurd cc

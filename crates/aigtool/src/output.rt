@@ -145,6 +145,8 @@ impl<'a, R: Files + RandomSource + AllocGlobal> Sink for Output<'a, R> {
 impl<'a, R: Files + RandomSource + AllocGlobal> Commit for Output<'a, R> {
     ghost committed = { λ _. true };
 
+    ghost refused = { λ o. o.refused };
+
     fn commit(self) -> Result<(), WriteError> {
         let Output {
             target,

@@ -1,6 +1,5 @@
 use Rattle.std.proofs.Common.{map, ◌∙◌, refl, sym}
 use Rattle.std.specs.Prelude.{string_bytes}
-use Rattle.aig_command_line.specs.Ending.{ended}
 use Rattle.aig_commands.proofs.Calling.{never_none, one_call}
 use Rattle.aig_commands.proofs.acting.obey.Goals as goal
 

@@ -1,0 +1,81 @@
+-- The lines of comments, as a text for each place in a list, and behind them the clauses.
+use Rattle.std.proofs.Common.{◌≡◌, ℕ, ◌+◌, ◌-◌, ◌<◌, ◌==◌, true, false, Some, List, [], ◌∷◌, ◌++◌, length, get_or, take, drop, refl, ap, ◌∙◌, zero-add, arith}
+use Rattle.std.specs.Prelude.{codes, decimal}
+use Rattle.std.specs.List.{enumerate_from, flat_map, range_with_len}
+use Rattle.std.proofs.lemmas.List.{length-drop, take_all}
+use Rattle.std.proofs.lemmas.List.FromFn.{get_or-enumerate_from}
+use Rattle.aig_base.specs.declared.logic.literal.Lit.{Lit}
+use Rattle.aig_base.specs.Clauses.{lit_to, variable_of}
+use Rattle.aig_base.specs.Formula.{clauses_in}
+use Rattle.aig_circuit.specs.Circuit.{Circuit, latch_leaves}
+use Rattle.aig_circuit.specs.Edge.{lit_of}
+use Rattle.aig_unroll.specs.Places.{place_at}
+use Rattle.aig_runs.specs.Queries.{last_bads}
+use Rattle.aig_dimacs.specs.Reading.{after_comments, parse_formula}
+use Rattle.aig_dimacs.specs.Text.{IsFormula, dimacs_of, sign_of}
+use Rattle.aig_dimacs.proofs.Comments.{ArePassed, StaysInside, decimal_inside, ends-append, ends-line_feed, inside-append, inside-cons, line_passed, parse_formula-passed, passed-append, passed-flat_map, sign_inside}
+use Rattle.aig_dimacs.proofs.Reading.{parse_formula-dimacs_of}
+use Rattle.aig_encode.specs.declared.query_clauses.Query.{Query}
+use Rattle.aig_checks.specs.Comments.{bad_line, comments_of, input_line, input_lines, latch_comment, literal_line}
+use Rattle.aig_checks.specs.Printing.{query_text}
+
+pub line_at : {X : Type 0} (line : ℕ × X → List ℕ) (xs : List X) (i : ℕ) (d : X) → i < length xs → line (get_or (enumerate_from 0 xs) i (0, d)) ≡ line (i, get_or xs i d)
+line_at {X} line xs i d h = ap line (get_or-enumerate_from 0 xs i (0, d) h) ∙ ap (λ j. line (j, get_or xs i d)) (zero-add i)
+
+-- what follows the first m
+pub tail_is : {X : Type 0} (xs : List X) (m : ℕ) → take (length xs - m) (drop m xs) ≡ drop m xs
+tail_is xs m = take_all (length xs - m) (drop m xs) (omega (arith, length-drop m xs))
+
+-- ---- comments are passed over
+
+-- the words between two numbers
+words_inside : StaysInside (codes "at step ")
+unfolding after_comments
+words_inside rest = refl
+
+is_inside : StaysInside (codes "is ")
+unfolding after_comments
+is_inside rest = refl
+
+space_inside : StaysInside (32 ∷ [])
+unfolding after_comments
+space_inside rest = refl
+
+-- the line of a literal, whose letter is no line feed
+literal_passed : (letter number step : ℕ) (lit : Lit) → (letter == 10) ≡ false
+    → ArePassed (literal_line (99 ∷ 32 ∷ letter ∷ []) number step lit)
+unfolding literal_line
+literal_passed letter number step lit other =
+    let tail = 32 ∷ letter ∷ [] in
+    let first = decimal number ++ 32 ∷ [] in
+    let second = decimal step ++ 32 ∷ [] in
+    let last = decimal (variable_of lit + 1) ++ 10 ∷ [] in
+    let numbered = inside-append tail first (inside-cons 32 (letter ∷ []) refl (inside-cons letter [] other (λ rest. refl))) (inside-append (decimal number) (32 ∷ []) (decimal_inside number) space_inside) in
+    let placed = inside-append (tail ++ first) (codes "at step ") numbered words_inside in
+    let stepped = inside-append (tail ++ first ++ codes "at step ") second placed (inside-append (decimal step) (32 ∷ []) (decimal_inside step) space_inside) in
+    let named = inside-append (tail ++ first ++ codes "at step " ++ second) (codes "is ") stepped is_inside in
+    let signed = inside-append (tail ++ first ++ codes "at step " ++ second ++ codes "is ") (sign_of lit) named (sign_inside lit) in
+    let ends = ends-append (decimal (variable_of lit + 1)) (10 ∷ []) (decimal_inside (variable_of lit + 1)) ends-line_feed in
+    line_passed (tail ++ first ++ codes "at step " ++ second ++ codes "is " ++ sign_of lit ++ last) (ends-append (tail ++ first ++ codes "at step " ++ second ++ codes "is " ++ sign_of lit) last signed ends)
+
+inputs_passed : (c u : Circuit) (t : ℕ) → ArePassed (input_lines c u t)
+unfolding input_lines
+inputs_passed c u t = passed-flat_map (input_line c u t) (λ x. literal_passed 105 x.0 t (lit_to (place_at c u t x.1) true) refl) (enumerate_from 0 c.inputs)
+
+comments_passed : (c u : Circuit) (k : ℕ) → ArePassed (comments_of c u k)
+unfolding comments_of
+comments_passed c u k =
+    let inputs = flat_map (input_lines c u) (range_with_len 0 (k + 1)) in
+    let latches = flat_map latch_comment (enumerate_from 0 (latch_leaves c.latchs)) in
+    let bads = flat_map (bad_line k) (enumerate_from 0 (last_bads c k u)) in
+    passed-append (inputs ++ latches) bads
+    (passed-append inputs latches (passed-flat_map (input_lines c u) (inputs_passed c u) (range_with_len 0 (k + 1))) (passed-flat_map latch_comment (λ x. literal_passed 108 x.0 0 (lit_to x.1 true) refl) (enumerate_from 0 (latch_leaves c.latchs))))
+    (passed-flat_map (bad_line k) (λ x. literal_passed 98 x.0 k (lit_of x.1) refl) (enumerate_from 0 (last_bads c k u)))
+
+-- the clauses behind them are read again
+pub query_text-again : (q : Query) (k : ℕ) (text : List ℕ) → text ≡ query_text q k
+    → IsFormula (length q.encoded.clauses) (clauses_in q.encoded.clauses ++ q.extra)
+    → parse_formula text ≡ Some (length q.encoded.clauses, clauses_in q.encoded.clauses ++ q.extra)
+query_text-again q k text is formula =
+    let all = clauses_in q.encoded.clauses ++ q.extra in
+    ap parse_formula is ∙ parse_formula-passed (comments_of q.encoded.circuit q.encoded.unrolled k) (dimacs_of (length q.encoded.clauses) all) (comments_passed q.encoded.circuit q.encoded.unrolled k) ∙ parse_formula-dimacs_of (length q.encoded.clauses) all formula

@@ -1,0 +1,134 @@
+-- The comments of a small query, computed; and wrong words and lines, of which the definitions are
+-- false.
+use Rattle.std.proofs.Common.{◌≡◌, ◌≢◌, ℕ, Bool, true, false, None, Option, List, [], ◌∷◌, ◌++◌, length, refl, ap, subst, arith, length-append}
+use Rattle.std.specs.Prelude.{IsTrue, codes, not, slice_get, slice_index, slice_index_or}
+use Rattle.std.specs.Fmt.{digits}
+use Rattle.aig_base.specs.Clauses.{lit_to}
+use Rattle.aig_circuit.specs.declared.node.AigNodeType.TheVariants.{False, Leaf}
+use Rattle.aig_circuit.specs.Circuit.{Circuit, only_false}
+use Rattle.aig_circuit.specs.Edge.{edge_to}
+use Rattle.aig_circuit.specs.Properties.{no_properties}
+use Rattle.aig_format.specs.File.{File}
+use Rattle.aig_reader.specs.Verdicts.{Accepted, Judges}
+use Rattle.aig_refutation.specs.declared.error.RefutationError.{RefutationError}
+use Rattle.aig_answers.specs.declared.error.AnswerError.TheVariants as answers
+use Rattle.aig_witness.specs.declared.error.WitnessError.TheVariants as witness
+use Rattle.aig_witness_check.specs.declared.file.ShowError.TheVariants as shows
+use Rattle.aig_checks.specs.declared.command.Command.{Command}
+use Rattle.aig_checks.specs.declared.tool.CheckError.TheVariants as errors
+use Rattle.aig_checks.specs.Running.{Answers, IsErrorOf, TellsOfGiven, file_verdict, shown_line, window_line}
+use Rattle.aig_command_line.specs.Arguments.{Gives, setting_words}
+use Rattle.aig_checks.specs.declared.command.Action.{Action}
+use Rattle.aig_checks.specs.declared.command.Action.TheVariants as actions
+use Rattle.aig_checks.specs.declared.command.Command.TheVariants as commands
+use Rattle.aig_checks.specs.Comments.{comments_of, input_lines, literal_line}
+use Rattle.aig_checks.specs.Words.{Give, command_of, form_of, name_of}
+
+-- ---- words
+
+is_run : (a : Action) (k : ℕ) (d o : Bool) → commands.Run ≡ command_of a k d o → a ≡ actions.Run
+is_run actions.Run k d o is = refl
+is_run a k d o is = cc
+
+is_witness : (a : Action) (k m : ℕ) (d o p : Bool) → commands.Witness m p ≡ command_of a k d o → a ≡ actions.Witness
+is_witness actions.Witness k m d o p is = refl
+is_witness a k m d o p is = cc
+
+-- a witness, and a word more
+no_more_words : (file witness more : List ℕ)
+    → ¬ Give (codes "run" ∷ file ∷ witness ∷ more ∷ []) commands.Run
+no_more_words file witness more give =
+    let call = give.2 in
+    let x = call.arguments in
+    let run = is_run call.action x.step x.distinct x.optimize call.command in
+    let gives = subst (λ a. Gives (name_of a) (form_of a) (codes "run" ∷ file ∷ witness ∷ more ∷ []) x) run call.gives in
+    let settings = setting_words x.distinct x.optimize in
+    let count = ap length gives.spelled in
+    let parts = length-append x.paths (gives.steps ++ (x.further ++ settings)) in
+    let others = length-append gives.steps (x.further ++ settings) in
+    let last = length-append x.further settings in
+    let none = ap length gives.step.1 in
+    let plain = no_settings x.distinct x.optimize gives.distinct gives.raw in
+    omega (arith, count, parts, others, last, none, plain, gives.paths, gives.further)
+  where
+    no_settings : (d o : Bool) → (IsTrue d → IsTrue false) → (IsTrue (not o) → IsTrue false) → length (setting_words d o) ≡ 0
+    no_settings false true distinct raw = refl
+    no_settings true o distinct raw = let no = distinct refl in cc
+    no_settings d false distinct raw = let no = raw refl in cc
+
+-- a proof for a witness
+no_other_name : (file steps proof : List ℕ) (k : ℕ) (optimize : Bool)
+    → ¬ Give (codes "refuted" ∷ file ∷ steps ∷ proof ∷ []) (commands.Witness k optimize)
+no_other_name file steps proof k optimize give =
+    let call = give.2 in
+    let x = call.arguments in
+    let is = is_witness call.action x.step k x.distinct x.optimize optimize call.command in
+    let letter = ap (λ (words : List (List ℕ)). slice_index (slice_index_or words 0 []) 0) call.gives.spelled in
+    let first = ap (λ a. slice_index (name_of a) 0) is in
+    omega (arith, letter, first)
+
+-- ---- comments
+
+-- Latch 1 keeps what it has, and is bad where it is false. With one step more input 2 is node 3.
+abbrev held : Circuit
+held = record only_false {
+  nodes =
+      record { node_id = 0; typ = False } ∷ record { node_id = 1; typ = Leaf }
+      ∷ record { node_id = 2; typ = Leaf } ∷ [];
+  inputs = 2 ∷ [];
+  latchs = record { input = 1; next = edge_to 1 false; init = None } ∷ [];
+  properties = record no_properties { bads = edge_to 1 true ∷ [] };
+}
+
+abbrev held_once : Circuit
+held_once = record held {
+  nodes =
+      record { node_id = 0; typ = False } ∷ record { node_id = 1; typ = Leaf }
+      ∷ record { node_id = 2; typ = Leaf } ∷ record { node_id = 3; typ = Leaf } ∷ [];
+  inputs = 2 ∷ 3 ∷ [];
+  properties = record no_properties { bads = edge_to 1 true ∷ edge_to 1 true ∷ [] };
+}
+
+held-comments : comments_of held held_once 1
+    ≡ codes "c i0 at step 0 is 3\nc i0 at step 1 is 4\n"
+    ++ codes "c l0 at step 0 is 2\nc b0 at step 1 is -2\n"
+unfolding comments_of input_lines literal_line digits
+held-comments = refl
+
+-- an input is named inverted
+no_inverted_input : literal_line (codes "c i") 0 1 (lit_to 3 true) ≢ codes "c i0 at step 1 is -4\n"
+unfolding literal_line digits
+no_inverted_input same = let sign = ap (λ text. slice_get text 18) same in cc
+
+-- ---- lines
+
+-- the step as the bad state's number
+no_step_as_number : shown_line 3 5 ≢ codes "b5 at step 5\n"
+unfolding digits
+no_step_as_number same =
+    let number : 51 ≡ 53 = ap (λ text. slice_index text 1) same in omega (arith, number)
+
+-- a proof for one step is told as one for each
+no_window_told : (optimize : Bool) (given : Option (List ℕ)) (f : File)
+    → ¬ Answers (commands.Refuted 1 optimize) given f (window_line 1)
+unfolding digits
+no_window_told optimize given f answers =
+    let word : 97 ≡ 115 = ap (λ text. slice_index text 16) answers.0 in omega (arith, word)
+
+-- ---- errors
+
+-- clauses are refused as a proof would be
+no_proof_of_clauses : (k : ℕ) (optimize : Bool) (e : RefutationError)
+    → ¬ IsErrorOf (commands.Clauses k optimize) (errors.Answer (answers.Refutation e))
+no_proof_of_clauses k optimize e is = is
+
+-- a witness that is refused is told as a read that failed, where none did
+no_failed_read : (limit : ℕ) (old new given : Option (List ℕ))
+    → ¬ TellsOfGiven commands.Run limit old new given false (errors.Show (shows.Witness witness.Stream))
+no_failed_read limit old new given tells = let failed : false ≡ true = tells in cc
+
+-- a file is answered, a read of which failed
+no_answer_after_a_failure : (c : Command) (limit : ℕ) (old new : Option (List ℕ))
+    → ¬ Judges (file_verdict c limit) limit old new true Accepted
+no_answer_after_a_failure c limit old new said =
+    let failed : true ≡ false = (said.whole tt).0 in cc

@@ -1,0 +1,7 @@
+mod Commenting
+mod Calling
+mod Flushing
+mod Outcomes
+mod Placing
+mod Shown
+mod Examples

@@ -1,0 +1,12 @@
+use Rattle.std.proofs.Common.{map}
+use Rattle.std.specs.Prelude.{string_bytes}
+use Rattle.aig_checks.proofs.Calling.{gives_exactly}
+use Rattle.aig_checks.proofs.command.parse.Goals as goal
+
+pub returns-in_err-call_of-clause-exact : goal.returns-in_err-call_of-clause-exact
+returns-in_err-call_of-clause-exact c =
+    rw c.from_residual.ensures (λ d. (λ is. cc, λ h. absurd (c.in_err-call_of.ensures.none d h.0 h.1 h.2)))
+
+pub returns-clause-exact : goal.returns-clause-exact
+returns-clause-exact c =
+    gives_exactly (map string_bytes c.args.words.now) _ _ _ c.in_ok-call_of.ensures.some

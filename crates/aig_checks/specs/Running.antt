@@ -1,0 +1,223 @@
+-- Part of what is promised.
+-- What a command does with the bytes of a file and of a proof or a witness: what it puts into its
+-- writer, and why it refuses them.
+use Rattle.std.specs.Prelude.{◌≡◌, ◌≢◌, ℕ, ◌+◌, Bool, false, IsTrue, List, [], ◌∷◌, ◌++◌, length, Option, Some, None, Result, IfErr, IsErrOf, OnOk, codes, decimal}
+use Rattle.std.specs.Io.KnownBytes.{Appends}
+use Rattle.aig_base.specs.declared.logic.literal.Lit.{Lit}
+use Rattle.aig_base.specs.Formula.{clauses_in}
+use Rattle.aig_dimacs.specs.Reading.{parse_formula}
+use Rattle.aig_dimacs.specs.Text.{dimacs_of}
+use Rattle.aig_format.specs.Circuit.{circuit_of}
+use Rattle.aig_format.specs.File.{File}
+use Rattle.aig_reader.specs.declared.error.ReadError.TheVariants as read
+use Rattle.aig_reader.specs.Reading.{IsReadAs}
+use Rattle.aig_reader.specs.Verdicts.{Accepted, Judges, Refused, Short, Verdict, verdict_by}
+use Rattle.aig_runs.specs.Queries.{IsSafeTo}
+use Rattle.aig_output.specs.Sinks.{Stops}
+use Rattle.aig_certify.specs.declared.window.Window.{Window}
+use Rattle.aig_certify.specs.Induction.{IsKInductive}
+use Rattle.aig_certify.specs.Safety.{IsSafeAt}
+use Rattle.aig_certify.specs.WindowClauses.{AsksWindow}
+use Rattle.aig_refutation.specs.declared.error.RefutationError.TheVariants as refutation
+use Rattle.aig_encode.specs.declared.query_clauses.Query.{Query}
+use Rattle.aig_encode.specs.Encoding.{IsQuery}
+use Rattle.aig_answers.specs.declared.error.AnswerError.TheVariants as answers
+use Rattle.aig_answers.specs.Answers as asking
+use Rattle.aig_answers.specs.Answers.{IsAsked, IsOfInduction, IsOfQuery, IsOfStep, IsOfWindow, asked_verdict, window_verdict}
+use Rattle.aig_witness.specs.Witness.{Witness, witness_text}
+use Rattle.aig_witness_check.specs.declared.file.ShowError.TheVariants as shows
+use Rattle.aig_witness_check.specs.declared.file.Shown.{Shown}
+use Rattle.aig_witness_check.specs.Files as showing
+use Rattle.aig_witness_check.specs.Files.{ShowsNext}
+use Rattle.aig_witness_check.specs.Machine.{ShowsBad}
+use Rattle.aig_solutions.specs.declared.error.SolutionError.{SolutionError}
+use Rattle.aig_solutions.specs.Checked.{RefusesSolution, SaysWitness}
+use Rattle.aig_checks.specs.Comments.{comments_of, named_text}
+use Rattle.aig_checks.specs.declared.command.Command.{Command}
+use Rattle.aig_checks.specs.declared.command.Command.TheVariants as commands
+use Rattle.aig_checks.specs.declared.tool.CheckError.{CheckError}
+use Rattle.aig_checks.specs.declared.tool.CheckError.TheVariants as errors
+
+-- ---- answers
+
+-- the line of a step at which no bad state is reached
+abbrev pub step_line : ℕ → List ℕ
+step_line k = codes "no bad state at step " ++ (decimal k ++ 10 ∷ [])
+
+-- the line of a window that keeps a machine safe
+abbrev pub window_line : ℕ → List ℕ
+window_line k = codes "no bad state at any step, if none up to step " ++ (decimal k ++ 10 ∷ [])
+
+-- the line of a bad state property, and of a step at which it is shown
+abbrev pub shown_line : ℕ → ℕ → List ℕ
+shown_line bad step = named_text (codes "b") bad step 10
+
+-- the line of the bad state of the file's machine that the next of the witnesses that are given
+-- shows
+abbrev pub IsShownLine : Option (List ℕ) → File → List ℕ → Type 0
+IsShownLine given f text =
+    (shown : Shown) × ShowsNext given f shown × (text ≡ shown_line shown.bad shown.step)
+
+-- the text of the file's query: comments that say where inputs, latches and bad literals stand, and
+-- then the clauses; from it a plain reader reads just these again
+pub record IsClausesText (f : File) (k : ℕ) (optimize : Bool) (text : List ℕ) : Type 0 where
+  pub query : Query
+  pub asks : IsQuery k optimize f query
+  pub exact : text
+      ≡ comments_of query.encoded.circuit query.encoded.unrolled k
+      ++ dimacs_of (length query.encoded.clauses)
+      (clauses_in query.encoded.clauses ++ query.extra)
+  pub again : parse_formula text
+      ≡ Some (length query.encoded.clauses, clauses_in query.encoded.clauses ++ query.extra)
+
+-- the text of clauses that ask for a window, from which a plain reader reads just these again
+pub record IsWindowText (form : Window) (f : File) (k : ℕ) (optimize : Bool) (text : List ℕ)
+    : Type 0 where
+  pub lists : List (List (List Lit))
+  pub further : List (List Lit)
+  pub asks : AsksWindow form (circuit_of f) k optimize lists further
+  pub exact : text ≡ dimacs_of (length lists) (clauses_in lists ++ further)
+  pub again : parse_formula text ≡ Some (length lists, clauses_in lists ++ further)
+
+-- the text of a witness of k + 1 steps that shows a bad state of the file's machine; it is the one
+-- that the solver's answer to the file's query says
+pub record IsWitnessText (given : Option (List ℕ)) (f : File) (k : ℕ) (optimize : Bool)
+    (text : List ℕ) : Type 0 where
+  pub witness : Witness
+  pub steps : length witness.steps ≡ k + 1
+  pub shows : ShowsBad f witness
+  pub exact : text ≡ witness_text witness
+  pub query : Query
+  pub asks : IsQuery k optimize f query
+  pub said : SaysWitness given query.encoded k witness
+
+-- what the command puts into its writer for the file and what is given beside it, and what is then
+-- so of the file's machine
+abbrev pub Answers : Command → Option (List ℕ) → File → List ℕ → Type 0
+Answers (commands.Clauses k optimize) given f text = IsClausesText f k optimize text
+Answers (commands.Window k form optimize) given f text = IsWindowText form f k optimize text
+Answers (commands.Refuted k optimize) given f text = (text ≡ step_line k) × IsSafeAt f k
+Answers (commands.Inductive k form optimize) given f text =
+    (text ≡ window_line k) × IsKInductive form f k × (IsSafeTo f k → (n : ℕ) → IsSafeTo f n)
+Answers (commands.Witness k optimize) given f text = IsWitnessText given f k optimize text
+Answers commands.Run given f text = IsShownLine given f text
+
+-- ---- files
+
+-- how many further steps the command makes
+abbrev pub steps_of : Command → ℕ
+steps_of (commands.Clauses k optimize) = k
+steps_of (commands.Window k form optimize) = k + 1
+steps_of (commands.Refuted k optimize) = k
+steps_of (commands.Inductive k form optimize) = k + 1
+steps_of (commands.Witness k optimize) = k
+steps_of commands.Run = 0
+
+-- the verdict on a file that fits
+abbrev pub file_verdict : Command → ℕ → File → Verdict
+file_verdict (commands.Clauses k optimize) limit f = asked_verdict limit k f
+file_verdict (commands.Window k form optimize) limit f = window_verdict form limit k f
+file_verdict (commands.Refuted k optimize) limit f = asked_verdict limit k f
+file_verdict (commands.Inductive k form optimize) limit f = window_verdict form limit k f
+file_verdict (commands.Witness k optimize) limit f = asked_verdict limit k f
+file_verdict commands.Run limit f = Accepted
+
+-- the bytes that were taken are a file of which something is asked, and this holds of what the
+-- command puts into its writer for that file
+abbrev pub AnswersFile : Command → ℕ → Option (List ℕ) → Option (List ℕ) → Option (List ℕ)
+    → (List ℕ → Type 0) → Type 0
+AnswersFile c limit given old new Holds =
+    (text : List ℕ) × IsReadAs (IsAsked limit (steps_of c)) (Answers c given) old new text
+    × Holds text
+
+-- ---- errors
+
+-- what an error says of the bytes of the file: one of the writer, or of what is given beside the
+-- file, that they are a file that is taken
+abbrev pub verdict_of : CheckError → Verdict
+verdict_of (errors.Answer e) = asking.verdict_of e
+verdict_of (errors.Show e) = showing.verdict_of e
+verdict_of (errors.Solution e) = Accepted
+verdict_of errors.Write = Accepted
+verdict_of errors.Memory = Short
+verdict_of errors.Open = Refused
+
+-- the command has this error
+abbrev pub IsErrorOf : Command → CheckError → Type 0
+IsErrorOf c errors.Write = Unit {0}
+IsErrorOf (commands.Clauses k optimize) errors.Memory = Unit {0}
+IsErrorOf (commands.Clauses k optimize) (errors.Answer e) = IsOfQuery e
+IsErrorOf (commands.Window k form optimize) (errors.Answer e) = IsOfWindow e
+IsErrorOf (commands.Refuted k optimize) (errors.Answer e) = IsOfStep e
+IsErrorOf (commands.Inductive k form optimize) (errors.Answer e) = IsOfInduction e
+IsErrorOf (commands.Witness k optimize) (errors.Answer e) = IsOfQuery e
+IsErrorOf (commands.Witness k optimize) (errors.Solution e) = Unit {0}
+IsErrorOf commands.Run (errors.Show e) = e ≢ shows.File read.Open
+IsErrorOf c e = ⊥
+
+-- it is of the file alone: what is given beside it wasn't read
+abbrev pub IsOfFileAlone : CheckError → Type 0
+IsOfFileAlone (errors.Answer (answers.Refutation e)) = ⊥
+IsOfFileAlone (errors.Answer e) = Unit {0}
+IsOfFileAlone (errors.Show (shows.File e)) = Unit {0}
+IsOfFileAlone e = ⊥
+
+-- the solver's answer to the query of the file is refused so
+pub record RefusesAnswer (given : Option (List ℕ)) (failed : Bool) (k : ℕ) (optimize : Bool)
+    (f : File) (e : SolutionError) : Type 0 where
+  pub query : Query
+  pub asks : IsQuery k optimize f query
+  pub refusal : RefusesSolution given query.encoded k failed e
+
+abbrev pub TellsOfSolution : Command → ℕ → Option (List ℕ) → Option (List ℕ) → Option (List ℕ)
+    → Bool → SolutionError → Type 0
+TellsOfSolution (commands.Witness k optimize) limit old new given failed e =
+    IsReadAs (IsAsked limit k) (RefusesAnswer given failed k optimize) old new e
+TellsOfSolution c limit old new given failed e = ⊥
+
+-- what a refusal of what is given beside the file tells of it: a read of it is said to have failed
+-- only where one did, and a solver's answer or a witness is refused as is promised of these
+abbrev pub TellsOfGiven : Command → ℕ → Option (List ℕ) → Option (List ℕ) → Option (List ℕ) → Bool
+    → CheckError → Type 0
+TellsOfGiven c limit old new given failed (errors.Answer (answers.Refutation refutation.Stream)) =
+    IsTrue failed
+TellsOfGiven c limit old new given failed (errors.Solution e) =
+    TellsOfSolution c limit old new given failed e
+TellsOfGiven c limit old new given failed (errors.Show e) =
+    showing.Refuses limit old new given failed e
+TellsOfGiven c limit old new given failed e = Unit {0}
+
+-- ---- runs
+
+-- nothing is given beside the file
+abbrev pub nothing_given : Unit {0} → Option (List ℕ)
+nothing_given p = None
+
+-- and no read of it fails
+abbrev pub nothing_fails : Unit {0} → Bool
+nothing_fails p = false
+
+-- What a command does: r, p and w are before it the file's reader, that of the proof, the solver's
+-- answer or the witness, and the writer; rest, used and made are these after it.
+pub record Runs {R P W : Type 0} (left : R → Option (List ℕ)) (read_failed : R → Bool)
+    (given : P → Option (List ℕ)) (given_failed : P → Bool) (held : W → Option (List ℕ))
+    (write_failed : W → Bool) (c : Command) (limit : ℕ) (r : R) (p : P) (w : W)
+    (result : Result Unit CheckError) (rest : R) (used : P) (made : W) : Type 0 where
+  -- what is said of the bytes of the file
+  pub verdict : Judges (file_verdict c limit) limit (left r) (left rest) (read_failed rest)
+      (verdict_by verdict_of result)
+  -- which errors it has
+  pub own : IfErr result (IsErrorOf c)
+  -- its answer to the file that was read is written, and the writer has not failed
+  pub ok : OnOk result (AnswersFile c limit (given p) (left r) (left rest)
+      (λ text. Appends (held w) (held made) text × (write_failed made ≡ false)))
+  -- a beginning of it is, and the writer has failed
+  pub stopped : IsErrOf result errors.Write → AnswersFile c limit (given p) (left r) (left rest)
+      (Stops (held w) (held made) (write_failed made))
+  -- every other refusal leaves the writer as it was
+  pub kept : IfErr result (λ e. e ≢ errors.Write → made ≡ w)
+  -- what is given beside the file is read only where the file is taken
+  pub unread : IfErr result (λ e. IsOfFileAlone e → used ≡ p)
+  -- and a refusal of it tells why
+  pub refusal : IfErr result
+      (TellsOfGiven c limit (left r) (left rest) (given p) (given_failed used))

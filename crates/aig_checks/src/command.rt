@@ -1,0 +1,195 @@
+//! The commands, and the words that give them.
+
+ghost use Rattle.std.specs.Prelude.{◌≡◌, ◌↔◌, ◌<◌, ◌^◌, IfNone, IfSome, List, Some, ℕ, length, map, string_bytes};
+ghost use Rattle.aig_checks.specs.Words.{Give, IsCall, beside_of, command_of, form_of, name_of, on_step, step_of, window_of};
+ghost use Rattle.aig_checks.specs.declared.command.Command.{Command};
+
+use aig_answers::Window;
+use aig_command_line::{Form, HasForm, find};
+
+/// What the program is asked to do.
+#[derive(Clone, Copy)]
+pub enum Command {
+    /// Print the clauses that ask for a bad state at step `k`, and which literals stand for what.
+    Clauses {
+        /// The step.
+        k: usize,
+        /// Whether exclusive ors and choices have clauses of their own.
+        optimize: bool,
+    },
+    /// Print the clauses that ask for a window of `k + 2` steps with a bad state first at its end.
+    Window {
+        /// How many steps come before the last two.
+        k: usize,
+        /// Which windows are looked at.
+        form: Window,
+        /// Whether exclusive ors and choices have clauses of their own.
+        optimize: bool,
+    },
+    /// Check a proof that no bad state is reached at step `k`.
+    Refuted {
+        /// The step.
+        k: usize,
+        /// Whether exclusive ors and choices have clauses of their own.
+        optimize: bool,
+    },
+    /// Check a proof that no window of `k + 2` steps has a bad state first at its end.
+    Inductive {
+        /// How many steps come before the last two.
+        k: usize,
+        /// Which windows are looked at.
+        form: Window,
+        /// Whether exclusive ors and choices have clauses of their own.
+        optimize: bool,
+    },
+    /// Print the witness of a bad state at step `k` that a solver's answer says.
+    Witness {
+        /// The step.
+        k: usize,
+        /// Whether exclusive ors and choices have clauses of their own.
+        optimize: bool,
+    },
+    /// Check that a witness shows a bad state.
+    Run,
+}
+
+/// A command without K and its settings.
+#[derive(Clone, Copy)]
+pub enum Action {
+    /// `clauses FILE K [raw]`.
+    Clauses,
+    /// `window FILE K [distinct] [raw]`.
+    Window,
+    /// `refuted FILE K PROOF [raw]`.
+    Refuted,
+    /// `inductive FILE K PROOF [distinct] [raw]`.
+    Inductive,
+    /// `witness FILE K SOLUTION [raw]`.
+    Witness,
+    /// `run FILE WITNESS`.
+    Run,
+}
+
+/// The form of a command on FILE and K.
+fn on_step(further: usize, distinct: bool) -> Form
+    ensures { result ≡ on_step further distinct }
+{
+    Form {
+        paths: 1,
+        step: true,
+        further,
+        distinct,
+        raw: true,
+    }
+}
+
+impl HasForm for Action {
+    ghost name = { name_of };
+
+    ghost form = { form_of };
+
+    fn name(&self) -> &'static str {
+        match self {
+            Action::Clauses => "clauses",
+            Action::Window => "window",
+            Action::Refuted => "refuted",
+            Action::Inductive => "inductive",
+            Action::Witness => "witness",
+            Action::Run => "run",
+        }
+    }
+
+    fn form(&self) -> Form {
+        match self {
+            Action::Clauses => on_step(0, false),
+            Action::Window => on_step(0, true),
+            Action::Refuted | Action::Witness => on_step(1, false),
+            Action::Inductive => on_step(1, true),
+            Action::Run => Form {
+                paths: 1,
+                step: false,
+                further: 1,
+                distinct: false,
+                raw: false,
+            },
+        }
+    }
+}
+
+/// The form of windows.
+fn window_of(distinct: bool) -> Window
+    ensures { result ≡ window_of distinct }
+{
+    if distinct {
+        Window::Distinct
+    } else {
+        Window::Plain
+    }
+}
+
+impl Action {
+    /// Each of them.
+    const ALL: [Action; 6] = [
+        Action::Clauses,
+        Action::Window,
+        Action::Refuted,
+        Action::Inductive,
+        Action::Witness,
+        Action::Run,
+    ];
+
+    /// The command, with K and the settings.
+    fn command(self, k: usize, distinct: bool, optimize: bool) -> Command
+        ensures { result ≡ command_of self k distinct optimize }
+    {
+        let form = window_of(distinct);
+        match self {
+            Action::Clauses => Command::Clauses { k, optimize },
+            Action::Window => Command::Window { k, form, optimize },
+            Action::Refuted => Command::Refuted { k, optimize },
+            Action::Inductive => Command::Inductive { k, form, optimize },
+            Action::Witness => Command::Witness { k, optimize },
+            Action::Run => Command::Run,
+        }
+    }
+}
+
+/// What words give.
+#[derive(Clone, Copy)]
+pub struct Call<'a> {
+    /// The command.
+    pub command: Command,
+    /// FILE alone.
+    pub paths: &'a [String],
+    /// PROOF, SOLUTION or WITNESS, where the command wants one.
+    pub further: &'a [String],
+}
+
+/// What the words after the program's name give, or none where they are wrong. It takes no memory.
+pub fn call_of(words: &[String]) -> Option<Call<'_>>
+    ensures some { IfSome result (λ c. IsCall (map string_bytes words.now) c.command
+        (map string_bytes c.paths.now) (map string_bytes c.further.now)) }
+    ensures none { IfNone result ((c : Command) (paths further : List (List ℕ))
+        → ¬ IsCall (map string_bytes words.now) c paths further) }
+    ensures paths { IfSome result (λ c. length c.paths.now ≡ 1) }
+    ensures further { IfSome result (λ c. length c.further.now ≡ beside_of c.command) }
+    ensures small { IfSome result (λ c. step_of c.command < 2 ^ 32) }
+{
+    let (action, given) = find(&Action::ALL, words)?;
+    Some(Call {
+        command: action.command(given.step, given.distinct, given.optimize),
+        paths: given.paths,
+        further: given.further,
+    })
+}
+
+/// The command that the words after the program's name give, or none where they are wrong.
+///
+/// The word after the command's name is FILE. Of `run` the next is WITNESS; of the others it is K, and the word after that is
+/// PROOF of `refuted` and `inductive`, and SOLUTION of `witness`. It takes no memory.
+pub fn parse(words: &[String]) -> Option<Command>
+    ensures exact { (c : Command) → (result ≡ Some c) ↔ Give (map string_bytes words.now) c }
+    ensures small { IfSome result (λ c. step_of c < 2 ^ 32) }
+{
+    Some(call_of(words)?.command)
+}

@@ -1,0 +1,15 @@
+//! The commands of `aigcheck`: which words give them, and what they do with the bytes of files.
+#![tactic(auto)]
+
+mod acting;
+mod command;
+mod comments;
+mod line;
+mod tool;
+
+pub use acting::{USAGE, act};
+pub use command::{Command, parse};
+pub use tool::{
+    CheckError, print_clauses, print_inductive, print_refuted, print_run, print_window,
+    print_witness,
+};

@@ -1,0 +1,323 @@
+//! What the commands do with the bytes of a file, and of a proof, a solver's answer or a witness.
+
+ghost use Rattle.std.specs.Prelude.{◌≡◌, ◌<◌, ◌≤◌, ◌^◌, ◌++◌, ◌∷◌, [], IfErr, decimal, length};
+ghost use Rattle.aig_base.specs.Clauses.{AreBelow};
+ghost use Rattle.aig_base.specs.Formula.{clauses_in};
+ghost use Rattle.aig_dimacs.specs.Text.{IsFormula};
+ghost use Rattle.aig_output.specs.Sinks.{BuffersOrStops, WritesOrStops};
+ghost use Rattle.aig_unroll.specs.Unroll.{UnrollsTo};
+ghost use Rattle.aig_checks.specs.Printing.{IsKnownText, IsOfSolution, IsOfText, Prints, query_text};
+ghost use Rattle.aig_checks.specs.Running.{Runs, nothing_fails, nothing_given, shown_line};
+ghost use Rattle.aig_checks.specs.declared.tool.CheckError.TheVariants as errors;
+
+use crate::command::Command;
+use crate::comments::write_comments;
+use crate::line::buffer_named;
+use aig_answers::{AnswerError, Window, asked_query, check_step, check_window, window};
+use aig_base::{MemoryError, Sink, Source, StreamFault};
+use aig_certify::inductive_windows_are_safe;
+use aig_dimacs::write_dimacs;
+use aig_encode::Query;
+use aig_output::OutputBuffer;
+use aig_solutions::{Places, SolutionError, checked_witness};
+use aig_witness::write_witness;
+use aig_witness_check::{ShowError, Shown, check_witness, known_witnesses_show};
+use std::alloc::Global;
+use thiserror::Error;
+
+/// The limit on the nodes of a circuit that the program reads, and of one that it unrolls.
+pub const LIMIT: usize = 1 << 24;
+
+/// Law: the limit is 2^24 nodes.
+pub fn limit_is_given()
+    ensures { LIMIT ≡ 2 ^ 24 }
+{}
+
+/// Why the program ends with status 1.
+#[derive(Clone, Copy, Debug, PartialEq, Eq, Error)]
+pub enum CheckError {
+    /// A path couldn't be opened.
+    #[error("cannot open")]
+    Open,
+    /// Memory ran out outside reading and checking.
+    #[error("out of memory")]
+    Memory,
+    /// There is no answer.
+    #[error("{0}")]
+    Answer(AnswerError),
+    /// The solver's answer gives no witness of a bad state.
+    #[error("{0}")]
+    Solution(SolutionError),
+    /// The witness shows no bad state.
+    #[error("{0}")]
+    Show(ShowError),
+    /// The answer wasn't written.
+    #[error("write failed")]
+    Write,
+}
+
+impl From<AnswerError> for CheckError {
+    ghost from_gives = { λ e r. r ≡ errors.Answer e };
+
+    fn from(error: AnswerError) -> CheckError {
+        CheckError::Answer(error)
+    }
+}
+
+impl From<MemoryError> for CheckError {
+    ghost from_gives = { λ _ r. r ≡ errors.Memory };
+
+    fn from(_error: MemoryError) -> CheckError {
+        CheckError::Memory
+    }
+}
+
+impl From<SolutionError> for CheckError {
+    ghost from_gives = { λ e r. r ≡ errors.Solution e };
+
+    fn from(error: SolutionError) -> CheckError {
+        CheckError::Solution(error)
+    }
+}
+
+impl From<ShowError> for CheckError {
+    ghost from_gives = { λ e r. r ≡ errors.Show e };
+
+    fn from(error: ShowError) -> CheckError {
+        CheckError::Show(error)
+    }
+}
+
+impl From<StreamFault> for CheckError {
+    ghost from_gives = { λ _ r. r ≡ errors.Write };
+
+    fn from(_fault: StreamFault) -> CheckError {
+        CheckError::Write
+    }
+}
+
+/// Buffers a text, a number and a line feed.
+fn buffer_line<W: Sink>(
+    buffer: &mut OutputBuffer,
+    w: &mut W,
+    text: &[u8],
+    k: usize,
+) -> Result<(), StreamFault>
+    ensures { let line = text.now ++ (decimal k ++ 10 ∷ []) in
+        BuffersOrStops W.held W.failed buffer.old w.old result line buffer.new w.new }
+{
+    buffer.write_bytes(w, text)?;
+    buffer.write_number(w, k, b'\n')
+}
+
+/// Writes a text, a number and a line feed.
+fn write_line<W: Sink>(w: &mut W, text: &[u8], k: usize) -> Result<(), StreamFault>
+    ensures { let line = text.now ++ (decimal k ++ 10 ∷ []) in
+        WritesOrStops W.held W.failed w.old result line w.new }
+{
+    let mut buffer = OutputBuffer::new();
+    buffer_line(&mut buffer, w, text, k)?;
+    buffer.flush(w)
+}
+
+/// Buffers a text and a line feed.
+fn buffer_text<W: Sink>(
+    buffer: &mut OutputBuffer,
+    w: &mut W,
+    text: &[u8],
+) -> Result<(), StreamFault>
+    ensures { let line = text.now ++ 10 ∷ [] in
+        BuffersOrStops W.held W.failed buffer.old w.old result line buffer.new w.new }
+{
+    buffer.write_bytes(w, text)?;
+    buffer.write_bytes(w, b"\n")
+}
+
+/// Writes a text and a line feed.
+pub fn write_text<W: Sink>(w: &mut W, text: &[u8]) -> Result<(), StreamFault>
+    ensures { let line = text.now ++ 10 ∷ [] in
+        WritesOrStops W.held W.failed w.old result line w.new }
+{
+    let mut buffer = OutputBuffer::new();
+    buffer_text(&mut buffer, w, text)?;
+    buffer.flush(w)
+}
+
+/// Buffers the line of a bad state that is shown.
+fn buffer_shown<W: Sink>(
+    buffer: &mut OutputBuffer,
+    w: &mut W,
+    shown: Shown,
+) -> Result<(), StreamFault>
+    ensures { let line = shown_line shown.bad shown.step in
+        BuffersOrStops W.held W.failed buffer.old w.old result line buffer.new w.new }
+{
+    buffer_named(buffer, w, b"b", shown.bad, shown.step, b'\n')
+}
+
+/// Writes the line of a bad state that is shown.
+fn write_shown<W: Sink>(w: &mut W, shown: Shown) -> Result<(), StreamFault>
+    ensures { let line = shown_line shown.bad shown.step in
+        WritesOrStops W.held W.failed w.old result line w.new }
+{
+    let mut buffer = OutputBuffer::new();
+    buffer_shown(&mut buffer, w, shown)?;
+    buffer.flush(w)
+}
+
+/// Prints the clauses that ask for a window of a file's machine. Requires that `k` is below 2^32.
+pub fn print_window<R: Source, W: Sink>(
+    alloc: Global,
+    k: usize,
+    form: Window,
+    optimize: bool,
+    r: &mut R,
+    w: &mut W,
+) -> Result<(), CheckError>
+    requires { k < 2 ^ 32 }
+    ensures { let command = Command.Window k form optimize in
+        Runs R.left R.failed nothing_given nothing_fails W.held W.failed
+        command LIMIT r.old tt w.old result r.new tt w.new }
+{
+    let asked = window(alloc, r, LIMIT, k, optimize, form)?;
+    Ok(write_dimacs(w, &asked.clauses, &asked.further)?)
+}
+
+/// Checks a proof that no bad state is reached at step `k`, and prints so.
+pub fn print_refuted<R: Source, P: Source, W: Sink>(
+    alloc: Global,
+    k: usize,
+    optimize: bool,
+    r: &mut R,
+    proof: &mut P,
+    w: &mut W,
+) -> Result<(), CheckError>
+    ensures { let command = Command.Refuted k optimize in
+        Runs R.left R.failed P.left P.failed W.held W.failed
+        command LIMIT r.old proof.old w.old result r.new proof.new w.new }
+{
+    check_step(alloc, r, LIMIT, k, optimize, proof)?;
+    Ok(write_line(w, b"no bad state at step ", k)?)
+}
+
+/// Checks a proof that no window of `k + 2` steps has a bad state first at its end, and prints what that means. Requires that
+/// `k` is below 2^32.
+pub fn print_inductive<R: Source, P: Source, W: Sink>(
+    alloc: Global,
+    k: usize,
+    form: Window,
+    optimize: bool,
+    r: &mut R,
+    proof: &mut P,
+    w: &mut W,
+) -> Result<(), CheckError>
+    requires { k < 2 ^ 32 }
+    ensures { let command = Command.Inductive k form optimize in
+        Runs R.left R.failed P.left P.failed W.held W.failed
+        command LIMIT r.old proof.old w.old result r.new proof.new w.new }
+{
+    inductive_windows_are_safe();
+    check_window(alloc, r, LIMIT, k, optimize, form, proof)?;
+    Ok(write_line(w, b"no bad state at any step, if none up to step ", k)?)
+}
+
+/// Tells that a query's clauses are read again from their text, as its counts of variables and of clauses fit.
+fn tell_formula(asked: &Query)
+    requires { AreBelow (length asked.now.encoded.clauses) asked.now.extra }
+    ensures { IsFormula (length asked.now.encoded.clauses)
+        (clauses_in asked.now.encoded.clauses ++ asked.now.extra) }
+{
+    let clauses = &asked.encoded.clauses;
+    let _counts = (clauses.num_vars(), clauses.num_clauses(), asked.extra.len());
+}
+
+/// Prints a query for step `k`: comments that say which literals stand for what, and then its clauses.
+fn print_query<W: Sink>(alloc: Global, asked: &Query, k: usize, w: &mut W) -> Result<(), CheckError>
+    requires small { k < 2 ^ 32 }
+    requires steps { UnrollsTo asked.now.encoded.circuit k asked.now.encoded.unrolled }
+    requires few { length asked.now.encoded.unrolled.nodes ≤ 2 ^ 31 }
+    requires below { AreBelow (length asked.now.encoded.clauses) asked.now.extra }
+    ensures prints { let text = query_text asked.now k in
+        Prints W.held W.failed (λ printed. printed ≡ text) w.old result w.new }
+    ensures own { IfErr result IsOfText }
+{
+    let places = Places::new(alloc, &asked.encoded.circuit)?;
+    write_comments(w, asked, &places, k)?;
+    Ok(write_dimacs(w, &asked.encoded.clauses, &asked.extra)?)
+}
+
+/// Prints the clauses of the query of a file for step `k`, as `write_dimacs` does, and before them comments that say which
+/// literals stand for its inputs at each step, its latches at step 0, and its bad state properties at step `k`. Requires that `k`
+/// is below 2^32.
+pub fn print_clauses<R: Source, W: Sink>(
+    alloc: Global,
+    k: usize,
+    optimize: bool,
+    r: &mut R,
+    w: &mut W,
+) -> Result<(), CheckError>
+    requires { k < 2 ^ 32 }
+    ensures { let command = Command.Clauses k optimize in
+        Runs R.left R.failed nothing_given nothing_fails W.held W.failed
+        command LIMIT r.old tt w.old result r.new tt w.new }
+{
+    let asked = asked_query(alloc, r, LIMIT, k, optimize)?;
+    tell_formula(&asked);
+    print_query(alloc, &asked, k, w)
+}
+
+/// Reads a solver's answer to a query for step `k`, and prints the witness that it says, which was checked.
+fn print_solution<P: Source, W: Sink>(
+    alloc: Global,
+    asked: &Query,
+    k: usize,
+    solution: &mut P,
+    w: &mut W,
+) -> Result<(), CheckError>
+    requires small { k < 2 ^ 32 }
+    requires steps { UnrollsTo asked.now.encoded.circuit k asked.now.encoded.unrolled }
+    ensures prints { let given = P.left solution.old in
+        Prints W.held W.failed (IsKnownText given asked.now.encoded k) w.old result w.new }
+    // The solver's answer is refused as `checked_witness` refuses it.
+    ensures own { IfErr result
+        (IsOfSolution (P.left solution.old) (P.failed solution.new) asked.now.encoded k) }
+{
+    let witness = checked_witness(alloc, asked, k, solution)?;
+    Ok(write_witness(w, &witness)?)
+}
+
+/// Reads a solver's answer to the query of a file for step `k`, and prints the witness that it says, which was checked. Requires
+/// that `k` is below 2^32.
+pub fn print_witness<R: Source, P: Source, W: Sink>(
+    alloc: Global,
+    k: usize,
+    optimize: bool,
+    r: &mut R,
+    solution: &mut P,
+    w: &mut W,
+) -> Result<(), CheckError>
+    requires { k < 2 ^ 32 }
+    ensures { let command = Command.Witness k optimize in
+        Runs R.left R.failed P.left P.failed W.held W.failed
+        command LIMIT r.old solution.old w.old result r.new solution.new w.new }
+{
+    known_witnesses_show();
+    let asked = asked_query(alloc, r, LIMIT, k, optimize)?;
+    print_solution(alloc, &asked, k, solution, w)
+}
+
+/// Checks that a witness shows a bad state of a file's machine, and prints which bad state property that is, and at which
+/// step.
+pub fn print_run<R: Source, P: Source, W: Sink>(
+    alloc: Global,
+    r: &mut R,
+    witness: &mut P,
+    w: &mut W,
+) -> Result<(), CheckError>
+    ensures { let command = Command.Run in
+        Runs R.left R.failed P.left P.failed W.held W.failed
+        command LIMIT r.old witness.old w.old result r.new witness.new w.new }
+{
+    let shown = check_witness(alloc, r, LIMIT, witness)?;
+    Ok(write_shown(w, shown)?)
+}

@@ -1,0 +1,10 @@
+-- Serves private clauses alone.
+-- What a program may be asked of itself.
+use Rattle.std.specs.Prelude.{ℕ, List, codes}
+use Rattle.aig_command_line.specs.declared.about.Question.{Question}
+use Rattle.aig_command_line.specs.declared.about.Question.TheVariants.{Usage, Version}
+
+-- the word that asks it
+abbrev pub word_of : Question → List ℕ
+word_of Usage = codes "--help"
+word_of Version = codes "--version"

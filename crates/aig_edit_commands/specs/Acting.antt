@@ -1,0 +1,98 @@
+-- Serves private clauses alone.
+-- What the program does with its words. Files are read as a trait says: what opening the file at a
+-- path may give, the bytes that are left, and whether a read failed. Of what is written to it says
+-- the bytes held, whether a write failed, and whether all of them are in their place.
+use Rattle.std.specs.Prelude.{◌≡◌, ◌↔◌, ℕ, Bool, IsTrue, List, Option, Result, Ok, Err, OnOk}
+use Rattle.aig_command_line.specs.declared.files.OpenError.{OpenError}
+use Rattle.aig_command_line.specs.declared.files.OpenError.TheVariants as opening
+use Rattle.aig_command_line.specs.declared.status.Ending.{Ending}
+use Rattle.aig_command_line.specs.declared.status.Ending.TheVariants as endings
+use Rattle.aig_command_line.specs.Ending.{ended}
+use Rattle.aig_edits.specs.declared.error.PairError.{PairError}
+use Rattle.aig_edits.specs.declared.error.PairError.TheVariants as errors
+use Rattle.aig_edits.specs.declared.pairing.Pairing.{Pairing}
+use Rattle.aig_edits.specs.Joints.{IsOwn, IsUnwritten, PrintsJoint, first_verdict, second_verdict}
+use Rattle.aig_edits.specs.Pairs.{ReadsPair}
+use Rattle.aig_reader.specs.declared.error.ReadError.{ReadError}
+use Rattle.aig_reader.specs.declared.error.ReadError.TheVariants as read
+use Rattle.aig_edit_commands.specs.declared.acting.TheConstants.{LIMIT}
+use Rattle.aig_edit_commands.specs.declared.command.Command.{Command}
+use Rattle.aig_edit_commands.specs.Words.{IsCall, pairing_of}
+
+-- What is printed of two files that are open: the text of their joint circuit, as `print_joint`
+-- prints it, and after Ok it is flushed.
+pub record PrintsPair {R S W : Type 0} (left : R → Option (List ℕ)) (failed : R → Bool)
+    (left_of : S → Option (List ℕ)) (failed_of : S → Bool) (held : W → Option (List ℕ))
+    (write_failed flushed : W → Bool) (pairing : Pairing) (r : R) (s : S) (w : W)
+    (result : Result Unit PairError) (rest : R) (other : S) (made : W) : Type 0 where
+  pub reads : ReadsPair left failed left_of failed_of LIMIT
+      (PrintsJoint held write_failed pairing w made) first_verdict second_verdict IsOwn r s result
+      rest other
+  pub kept : IsUnwritten result → made ≡ w
+  pub done : OnOk result (IsTrue (flushed made))
+
+-- what a file that is not opened is refused for, as the first or the second
+abbrev pub unopened : (ReadError → PairError) → OpenError → PairError
+unopened refused opening.Refused = refused read.Open
+unopened refused opening.Memory = errors.Memory
+
+-- both files are open and their joint circuit is printed, or the second one is not, and nothing is
+-- written
+abbrev pub PrintsBoth : {R F W : Type 0} → (R → Option (List ℕ)) → (R → Bool)
+    → (F → Option (List ℕ)) → (F → Bool) → (W → Option (List ℕ)) → (W → Bool) → (W → Bool)
+    → Pairing → R → Result F OpenError → W → Result Unit PairError → R → W → Type 0
+PrintsBoth {F = F} left failed left_of failed_of held write_failed flushed pairing r (Ok s) w result
+    rest made =
+    (other : F)
+    × PrintsPair left failed left_of failed_of held write_failed flushed pairing r s w result rest
+    other made
+PrintsBoth left failed left_of failed_of held write_failed flushed pairing r (Err e) w result rest
+    made =
+    (result ≡ Err (unopened errors.Other e)) × (made ≡ w)
+
+-- the file at the path is opened beside the first one
+pub record PrintsBeside {R F W : Type 0} (opens : List ℕ → Result F OpenError → Type 0)
+    (left : R → Option (List ℕ)) (failed : R → Bool) (left_of : F → Option (List ℕ))
+    (failed_of : F → Bool) (held : W → Option (List ℕ)) (write_failed flushed : W → Bool)
+    (pairing : Pairing) (r : R) (other : List ℕ) (w : W) (result : Result Unit PairError) (rest : R)
+    (made : W) : Type 0 where
+  pub second : Result F OpenError
+  pub opened : opens other second
+  pub prints : PrintsBoth left failed left_of failed_of held write_failed flushed pairing r second w
+      result rest made
+
+-- the first file is open, or it is not, and nothing is written
+abbrev pub PrintsFrom : {F W : Type 0} → (List ℕ → Result F OpenError → Type 0)
+    → (F → Option (List ℕ)) → (F → Bool) → (W → Option (List ℕ)) → (W → Bool) → (W → Bool)
+    → Pairing → Result F OpenError → List ℕ → W → Result Unit PairError → W → Type 0
+PrintsFrom {F} opens left failed held write_failed flushed pairing (Ok r) other w result made =
+    (rest : F)
+    × PrintsBeside opens left failed left failed held write_failed flushed pairing r other w result
+    rest made
+PrintsFrom opens left failed held write_failed flushed pairing (Err e) other w result made =
+    (result ≡ Err (unopened errors.Read e)) × (made ≡ w)
+
+-- the files at both paths are opened, the first one first, and their joint circuit printed
+pub record PrintsFiles {F W : Type 0} (opens : List ℕ → Result F OpenError → Type 0)
+    (left : F → Option (List ℕ)) (failed : F → Bool) (held : W → Option (List ℕ))
+    (write_failed flushed : W → Bool) (pairing : Pairing) (file other : List ℕ) (w : W)
+    (result : Result Unit PairError) (made : W) : Type 0 where
+  pub first : Result F OpenError
+  pub opened : opens file first
+  pub prints : PrintsFrom opens left failed held write_failed flushed pairing first other w result
+      made
+
+-- what the words ask for was done, and how the program ends by it
+pub record Obeys {F W : Type 0} (opens : List ℕ → Result F OpenError → Type 0)
+    (left : F → Option (List ℕ)) (failed : F → Bool) (held : W → Option (List ℕ))
+    (write_failed flushed : W → Bool) (words : List (List ℕ)) (w : W) (ending : Ending PairError)
+    (made : W) : Type 0 where
+  -- they give no command exactly where it ends so
+  pub none : (ending ≡ endings.NoCommand)
+      ↔ ((c : Command) (file other : List ℕ) → ¬ IsCall words c file other)
+  pub kept : ending ≡ endings.NoCommand → made ≡ w
+  -- and else the command that they give was run on its files
+  pub acts : (c : Command) (file other : List ℕ) → IsCall words c file other
+      → (done : Result Unit PairError) × (ending ≡ ended done)
+      × PrintsFiles opens left failed held write_failed flushed (pairing_of c) file other w done
+      made

@@ -1,0 +1,8 @@
+//! The commands of `aigedit`: which words give them, and what they do with the bytes of files.
+#![tactic(auto)]
+
+mod acting;
+mod command;
+
+pub use acting::{LIMIT, act};
+pub use command::{Command, call};

@@ -1,6 +1,0 @@
-mod Commenting
-mod Giving
-mod Outcomes
-mod Placing
-mod Shown
-mod Examples

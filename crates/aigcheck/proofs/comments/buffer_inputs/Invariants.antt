@@ -1,8 +1,0 @@
-use Rattle.std.proofs.Common.{take}
-use Rattle.std.specs.List.{enumerate_from, flat_map}
-use Rattle.aig_output.specs.Sinks.{Buffers}
-use Rattle.aigcheck.specs.Comments.{input_line}
-use Rattle.aigcheck.proofs.comments.buffer_inputs.Given as goal
-
-abbrev pub invariant-loop-i : goal.invariant-loop-i
-invariant-loop-i g l = Buffers l.fn.buffer (g.W.Sink.held l.fn.w) l.buffer (g.W.Sink.held l.w) (flat_map (input_line l.asked.encoded.circuit l.asked.encoded.unrolled l.t) (take l.i (enumerate_from 0 l.inputs)))

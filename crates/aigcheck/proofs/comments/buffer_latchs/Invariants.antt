@@ -1,9 +1,0 @@
-use Rattle.std.proofs.Common.{take}
-use Rattle.std.specs.List.{enumerate_from, flat_map}
-use Rattle.aig_output.specs.Sinks.{Buffers}
-use Rattle.aig_circuit.specs.Circuit.{latch_leaves}
-use Rattle.aigcheck.specs.Comments.{latch_comment}
-use Rattle.aigcheck.proofs.comments.buffer_latchs.Given as goal
-
-abbrev pub invariant-loop-i : goal.invariant-loop-i
-invariant-loop-i g l = Buffers l.fn.buffer (g.W.Sink.held l.fn.w) l.buffer (g.W.Sink.held l.w) (flat_map latch_comment (take l.i (enumerate_from 0 (latch_leaves l.latchs))))

@@ -1,8 +1,0 @@
-use Rattle.std.proofs.Common.{◌+◌, take}
-use Rattle.std.specs.List.{flat_map, range_with_len}
-use Rattle.aig_output.specs.Sinks.{Buffers}
-use Rattle.aigcheck.specs.Comments.{input_lines}
-use Rattle.aigcheck.proofs.comments.buffer_steps.Given as goal
-
-abbrev pub invariant-loop-t : goal.invariant-loop-t
-invariant-loop-t g l = Buffers l.fn.buffer (g.W.Sink.held l.fn.w) l.buffer (g.W.Sink.held l.w) (flat_map (input_lines l.asked.encoded.circuit l.asked.encoded.unrolled) (take l.t (range_with_len 0 (l.k + 1))))

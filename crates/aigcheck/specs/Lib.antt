@@ -1,4 +1,0 @@
-pub mod Words
-pub mod Comments
-pub mod Running
-pub mod Printing
