@@ -1,5 +1,5 @@
 -- What is printed of two files that are open, and flushed.
-use Rattle.std.proofs.Common.{◌≡◌, ℕ, Bool, false, List, [], Option, Ok, Err, sym}
+use Rattle.std.proofs.Common.{◌≡◌, ℕ, Bool, false, List, [], Option, Ok, Err, refl, sym}
 use Rattle.std.specs.Prelude.{IsTrue}
 use Rattle.std.specs.Io.KnownBytes.{Keeps}
 use Rattle.std.proofs.lemmas.List.{append-nil}
@@ -9,6 +9,7 @@ use Rattle.aig_edits.specs.declared.error.PairError.TheVariants as errors
 use Rattle.aig_edits.specs.declared.pairing.Pairing.{Pairing}
 use Rattle.aig_edits.specs.Joints.{IsOwn, PrintsJoint, StopsJoint, WritesJoint, first_verdict, second_verdict}
 use Rattle.aig_edits.specs.Pairs.{ReadsPair}
+use Rattle.aig_edits.proofs.Reading.{reads_on}
 use Rattle.aig_edit_commands.specs.declared.acting.TheConstants.{LIMIT}
 use Rattle.aig_edit_commands.specs.Acting.{PrintsPair}
 
@@ -37,28 +38,9 @@ module _ {R S W : Type 0} (left : R → Option (List ℕ)) (failed : R → Bool)
       → write_failed flat ≡ false → IsTrue (flushed flat)
       → PrintsPair left failed left_of failed_of held write_failed flushed pairing r s w (Ok u) rest other flat
   pair_flushed u reads sound done = record {
-    reads = record {
-      verdict = reads.verdict;
-      other_verdict = reads.other_verdict;
-      unread = reads.unread;
-      answer = λ is also.
-          let own = reads.answer is also in
-          let theirs = own.means in
-          record {
-            file = own.file;
-            bytes = own.bytes;
-            holds = own.holds;
-            means = record {
-              file = theirs.file;
-              bytes = theirs.bytes;
-              holds = theirs.holds;
-              means = written own.file theirs.file sound theirs.means;
-              taken = theirs.taken;
-            };
-            taken = own.taken;
-          };
-      own = tt;
-    };
+    reads =
+        reads_on left failed left_of failed_of LIMIT r s rest other (PrintsJoint held write_failed pairing w flat) first_verdict second_verdict IsOwn (Ok u) reads refl refl tt
+        (λ f g bytes others fits also. written f g sound);
     kept = λ not. absurd not;
     done = done;
   }
@@ -68,28 +50,9 @@ module _ {R S W : Type 0} (left : R → Option (List ℕ)) (failed : R → Bool)
       → IsTrue (write_failed flat)
       → PrintsPair left failed left_of failed_of held write_failed flushed pairing r s w (Err errors.Write) rest other flat
   pair_unflushed u reads lost = record {
-    reads = record {
-      verdict = reads.verdict;
-      other_verdict = reads.other_verdict;
-      unread = reads.unread;
-      answer = λ is also.
-          let own = reads.answer is also in
-          let theirs = own.means in
-          record {
-            file = own.file;
-            bytes = own.bytes;
-            holds = own.holds;
-            means = record {
-              file = theirs.file;
-              bytes = theirs.bytes;
-              holds = theirs.holds;
-              means = stopped own.file theirs.file lost theirs.means;
-              taken = theirs.taken;
-            };
-            taken = own.taken;
-          };
-      own = tt;
-    };
+    reads =
+        reads_on left failed left_of failed_of LIMIT r s rest other (PrintsJoint held write_failed pairing w flat) first_verdict second_verdict IsOwn (Err errors.Write) reads refl refl tt
+        (λ f g bytes others fits also. stopped f g lost);
     kept = λ not. absurd not;
     done = tt;
   }
