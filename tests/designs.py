@@ -2,29 +2,24 @@
 """Asks bin/aigprove about the designs of tests/designs, and turns what it keeps: designs.py [SECONDS]
 
 The answer has to come within SECONDS (60) for each design, and to be the one of answers.tsv, which bmc3 and pdr of ABC agree on:
-a bad state at that step or a later one, or none at any step. What is kept is shown again by check.sh; with the first bad literal
-of the file's copy inverted, or with a literal of the certificate, or a value of the witness' last step that matters, it isn't."""
-import os
+a bad state at that step or a later one, or none at any step. What is kept is shown again by check.sh. It isn't with the first bad
+literal of the file's copy or of the certificate inverted, with another bad state or no end in the witness, or with a sign before
+a proof that is no step, where unit propagation alone doesn't show the line."""
+import shlex
 import subprocess
 import sys
 import tempfile
+from pathlib import Path
 
-HERE = os.path.dirname(os.path.abspath(__file__))
-DESIGNS = os.path.join(HERE, "designs")
-PROVE = os.path.join(HERE, "..", "bin", "aigprove")
-TOOL, CHECK = (os.path.join(HERE, "..", "crates", name, "out", name) for name in ["aigtool", "aigcheck"])
-sys.path.insert(0, os.path.join(HERE, "..", "lib"))
+import harness
+from harness import CHECK, PROVE, TESTS, TOP
+
+sys.path.insert(0, str(TOP / "lib"))
 sys.dont_write_bytecode = True
 
-from aigprove.aiger import Circuit, Lines
+from aigprove.aiger import Header, Lines
 
-
-def rows():
-    """Each design and its answer."""
-    with open(os.path.join(DESIGNS, "answers.tsv"), encoding="ascii") as file:
-        for line in file:
-            if not line.startswith("#"):
-                yield line.split()
+DESIGNS = TESTS / "designs"
 
 
 def is_right(answer, status, printed):
@@ -38,73 +33,68 @@ def is_right(answer, status, printed):
     return status == 10 and len(steps) == 1 and steps[0] >= int(answer)
 
 
-def is_shown(folder):
-    """Whether check.sh shows again what is kept in a folder."""
-    environment = {**os.environ, "AIGTOOL": TOOL, "AIGCHECK": CHECK}
-    return subprocess.run([os.path.join(folder, "check.sh")], env=environment, capture_output=True).returncode == 0
+def inverted(data):
+    """A file with its first bad literal inverted, or its first output where it has none."""
+    header, (_, *lines) = Header(Lines(data, "FILE")), data.split(b"\n")
+    place = header.latches + header.inputs * header.is_text + header.outputs * (header.bads > 0)
+    lines[place] = str(int(lines[place]) ^ 1).encode()
+    return b"\n".join([data.split(b"\n")[0], *lines])
 
 
-def read(path):
-    """The bytes of a file."""
-    with open(path, "rb") as file:
-        return file.read()
-
-
-def write(path, data):
-    """Writes a file."""
-    with open(path, "wb") as out:
-        out.write(data)
+def needed(folder):
+    """The names of the proofs that are needed by a line of check.sh, beside unit propagation."""
+    for line in (folder / "check.sh").read_text().splitlines():
+        verb, *words = shlex.split(line) or [""]
+        if verb == "shows" and words[1] != "run":
+            for proof in words[4:6] if words[1] == "certified" else words[5:6] if words[1] == "equal" else words[4:5]:
+                tried = [*words[1:words.index(proof)], "/dev/stdin", *words[words.index(proof) + 1 :]]
+                if harness.run([CHECK, *tried], cwd=folder, input=b"0\n")[0] != 0:
+                    yield proof
 
 
 def turned(folder):
-    """What is kept, with one byte turned that matters: the name of a file and its bytes."""
-    file = read(os.path.join(folder, "file.aig"))
-    circuit = Circuit(Lines(file, "FILE"))
-    header, *lines = file.split(b"\n")
-    place = circuit.header.latches + circuit.header.outputs
-    lines[place] = str(int(lines[place]) ^ 1).encode()
-    yield "file.aig", b"\n".join([header, *lines])
-    if os.path.exists(os.path.join(folder, "joint.aag")):
-        joint = read(os.path.join(folder, "joint.aag")).splitlines()
-        left, *rest = joint[-1].rsplit(b" ", 1)
-        yield "joint.aag", b"\n".join([*joint[:-1], left + b" " + str(int(rest[0]) ^ 1).encode(), b""])
-    if os.path.exists(os.path.join(folder, "witness")):
-        told = read(os.path.join(folder, "witness"))
+    """What is kept, with a byte turned that matters: the name of a file and its bytes."""
+    for name in ["file.aig", "file.aag", "other.aig", "other.aag", "certificate"]:
+        if (folder / name).exists():
+            yield name, inverted((folder / name).read_bytes())
+    if (folder / "witness").exists():
+        told = (folder / "witness").read_bytes()
         yield "witness", told.replace(b"1\nb0\n", b"1\nb1\n", 1)
         yield "witness", told[:-2]
+    for name in list(needed(folder))[-2:]:
+        yield name, b"x" + (folder / name).read_bytes()
+
+
+def kept_faults(folder):
+    """What is wrong of what is kept in a folder."""
+    if harness.shown_again(folder) is None:
+        yield "what is kept isn't shown again"
+    for name, data in turned(folder):
+        before = (folder / name).read_bytes()
+        (folder / name).write_bytes(data)
+        if harness.shown_again(folder) is not None:
+            yield f"what is kept is shown again with {name} turned"
+        (folder / name).write_bytes(before)
 
 
 def faults(design, answer, folder, seconds):
     """What is wrong of an answer and of what is kept."""
-    keep = os.path.join(folder, design)
     # An open one is asked no longer than it has to be.
-    words = ["--bound", "20"] if answer == "open" else ["--timeout", str(seconds)]
-    done = subprocess.run([PROVE, "--keep", keep, *words, os.path.join(DESIGNS, f"{design}.aig")], capture_output=True, encoding="utf-8")
+    words = ["--bound", "20"] if answer == "open" else ["--timeout", seconds]
+    done = subprocess.run([PROVE, "--keep", folder, *words, DESIGNS / f"{design}.aig"], capture_output=True, encoding="utf-8")
     if not is_right(answer, done.returncode, done.stdout) or done.stderr:
         yield f"{answer} is right, and aigprove ends with {done.returncode}: {done.stdout[-200:]}{done.stderr}"
-    if not is_shown(keep):
-        yield "what is kept isn't shown again"
-    for name, data in turned(keep):
-        path = os.path.join(keep, name)
-        before = read(path)
-        write(path, data)
-        if is_shown(keep):
-            yield f"what is kept is shown again with {name} turned"
-        write(path, before)
+    yield from kept_faults(folder)
 
 
 def main():
-    seconds = int(sys.argv[1]) if len(sys.argv) > 1 else 60
-    count = failed = 0
+    tally, seconds = harness.Tally(), (sys.argv[1:] or ["60"])[0]
+    rows = [line.split() for line in (DESIGNS / "answers.tsv").read_text().splitlines() if line[0] != "#"]
     with tempfile.TemporaryDirectory() as folder:
-        for design, answer in rows():
-            found = list(faults(design, answer, folder, seconds))
-            count, failed = count + 1, failed + bool(found)
-            for fault in found:
-                print(f"{design}: {fault}")
-    print(f"{count - failed} passed, {failed} failed")
-    sys.exit(1 if failed else 0)
+        for design, answer in rows:
+            tally.wants(design, [], list(faults(design, answer, Path(folder) / design, seconds)))
+    return tally.end()
 
 
 if __name__ == "__main__":
-    main()
+    sys.exit(main())

@@ -4,9 +4,11 @@ import os
 import pathlib
 import re
 import resource
+import shlex
 import shutil
 import signal
 import subprocess
+import sys
 
 TESTS = pathlib.Path(__file__).resolve().parent
 TOP = TESTS.parent
@@ -17,6 +19,8 @@ USAGE = {
     "aigcheck": b"usage: aigcheck clauses FILE K [raw], window FILE K [distinct] [raw], refuted FILE K PROOF [raw], "
     b"inductive FILE K PROOF [distinct] [raw], witness FILE K SOLUTION [raw], run FILE WITNESS\n",
 }
+TOOL, EDIT, CHECK = (str(TOP / "crates" / name / "out" / name) for name in ["aigtool", "aigedit", "aigcheck"])
+PROVE = str(TOP / "bin" / "aigprove")
 # How many seconds a program has to end.
 SECONDS = 100
 REPEATED = re.compile(r"\{([^{}]*)\}\*(\d+)")
@@ -62,6 +66,21 @@ def run(words, **how):
     except subprocess.TimeoutExpired:
         return None, b"", b"it did not end"
     return done.returncode, done.stdout or b"", done.stderr or b""
+
+
+def output(words, statuses=(0,)):
+    """What a program prints to standard output, as a text; the script ends where it has none of these statuses."""
+    status, printed, said = run(words)
+    if status not in statuses:
+        sys.exit(f"{shlex.join(words)} ended with status {status}: {said.decode('utf-8', 'replace')}")
+    return printed.decode()
+
+
+def shown_again(folder):
+    """What check.sh prints of what aigprove kept in a folder, as a text; None where it fails."""
+    environment = {**os.environ, "AIGCHECK": CHECK, "AIGEDIT": EDIT}
+    status, printed, _ = run([os.path.join(folder, "check.sh")], env=environment)
+    return printed.decode() if status == 0 else None
 
 
 def limit(what, count):

@@ -8,8 +8,8 @@ check.sh. `aigcheck run` takes that witness and ABC's counterexamples, and takes
 where a simulation says that it still shows its bad state. `aigcheck refuted` takes none of TRIES (1000) proofs of other clauses,
 mangled, for steps at which a bad state is reached.
 
-It ends at the first that differs, and else prints one line. The programs are those that were built last, below crates/; the
-solver and ABC are the Debian packages cadical and berkeley-abc. It is run by hand, and is no part of the gate."""
+It ends at the first that differs, and else prints one line. The solver and ABC are the Debian packages cadical and berkeley-abc. It is
+no part of tests/run."""
 import collections
 import concurrent.futures
 import dataclasses
@@ -21,24 +21,15 @@ import subprocess
 import sys
 import tempfile
 
+import harness
 from aiger import Machine, machine_of
+from harness import CHECK, PROVE, TOOL, TOP, output
 
-TOP = os.path.join(os.path.dirname(os.path.abspath(__file__)), "..")
-EXAMPLES = [os.path.join(TOP, "examples", f"{name}.aag") for name in ["credits", "queue", "pipeline", "handshake"]]
-PROVE = os.path.join(TOP, "bin", "aigprove")
-TOOL, CHECK = (os.path.join(TOP, "crates", name, "out", name) for name in ["aigtool", "aigcheck"])
+EXAMPLES = [str(TOP / "examples" / f"{name}.aag") for name in ["credits", "queue", "pipeline", "handshake"]]
 BOUND = 6
 NAMES = ["a", "a", "a b", "a=1", "i0", "l1", "b0", '"a"', "é", "a\\b", "x[0]", "\t", "i0:a", "d[0]", "d[0]", "d[1]", "d[1]", "d[2]", "d"]
 # A signal as it is printed, and its value: its place, a word, or a JSON string that may stand behind the place.
 SIGNAL = re.compile(r'((?:[il]\d+:)?"(?:[^"\\]|\\.)*"|[^\s"=]+)=(?:([01])|(\d+)\'h([0-9a-f]+))(?: |$)')
-
-
-def output(words, statuses=(0,)):
-    """What a program prints to standard output, which has to end with one of these statuses."""
-    done = subprocess.run(words, capture_output=True, encoding="utf-8")
-    if done.returncode not in statuses:
-        sys.exit(f"{' '.join(words)} ended with status {done.returncode}: {done.stderr}")
-    return done.stdout
 
 
 @dataclasses.dataclass
@@ -157,14 +148,14 @@ class Trial:
         keep = f"{file}-{engines}"
         words = [PROVE, "--engine", engines, *options, file, "--witness", self.witness, "--bound", str(BOUND), "--keep", keep]
         printed = output(words, [0, 10, 20])
-        lines = [line for line in printed.split("\n")[:-1] if not line.startswith(("no bad state at step ", "certificate: "))]
+        lines = [line for line in printed.split("\n")[:-1] if not line.startswith("no bad state at step ")]
         if first is not None:
             with open(self.witness, encoding="ascii") as given:
                 witness = witness_of(given.read())
             self.compare_lines(lines, witness, names)
             self.compare_witness(witness, len(witness.steps) - 1 == first or ("pdr" in engines and len(witness.steps) > first))
             self.counts["reached"] += 1
-        elif lines[-1] == "no bad state at any step" and self.first is None:
+        elif lines[-1:] == ["no bad state at any step"] and self.first is None:
             self.counts["proved safe"] += 1
         elif lines == [f"no bad state up to step {BOUND}"] if "steps" in engines else lines == ["nothing was shown"] and engines == "bmc3":
             self.counts["open"] += 1
@@ -174,8 +165,8 @@ class Trial:
 
     def compare_kept(self, folder, printed):
         """Has what was kept shown again, which prints the same lines, but for those of a run and of what is open."""
-        again = output(["sh", "-c", 'AIGTOOL="$1" AIGCHECK="$2" "$0"/check.sh', folder, TOOL, CHECK])
-        shown = [line.removeprefix("certificate: ") for line in printed.splitlines() if line.startswith(("no bad state at", "certificate: "))]
+        again = harness.shown_again(folder) or ""
+        shown = [line for line in printed.splitlines() if line.startswith("no bad state at")]
         if [line for line in again.splitlines() if line[0] != "b"] != shown:
             self.fail(f"check.sh prints {again}, and aigprove {printed}")
 
@@ -335,7 +326,8 @@ def main():
         steps = sum(mangler.attempt() for _ in range(tries))
     counts = sum((trial.counts for trial in trials), collections.Counter())
     said = ", ".join(f"{counts[what]} {what}" for what in sorted(counts))
-    print(f"{len(EXAMPLES)} examples and {files} random files agree ({said}); {tries} mangled proofs of {steps} lines are refused")
+    print(f"seed {seed}: {len(EXAMPLES)} examples and {files} random files agree ({said}); {tries} mangled proofs of {steps} lines are refused")
 
 
-main()
+if __name__ == "__main__":
+    main()

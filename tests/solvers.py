@@ -1,5 +1,5 @@
 #!/usr/bin/env python3
-"""Runs bin/aigprove with engines that lie, meddle or break, and under closed outputs and signals: solvers.py [AIGTOOL AIGCHECK]
+"""Runs bin/aigprove with engines that lie, meddle or break, and under closed outputs and signals.
 
 The engines are shell scripts that were written by hand: a SAT solver, and one in the place of ABC. Each row says what is wanted:
 the exit status, the lines of standard output and standard error (its first line, where more follow). After each nothing is left
@@ -14,9 +14,10 @@ import sys
 import tempfile
 import time
 
-HERE = os.path.dirname(os.path.abspath(__file__))
-CRATES = os.path.join(HERE, "..", "crates")
-PROVE = os.path.join(HERE, "..", "bin", "aigprove")
+import harness
+from harness import TOP
+
+PROVE = TOP / "bin" / "aigprove"
 
 # Bad at step 1, and a latch that keeps 0, which is never bad.
 TOGGLE = "aag 1 0 1 0 0 1\n2 3\n2\n"
@@ -25,6 +26,8 @@ STUCK = "aag 1 0 1 0 0 1\n2 2\n2\n"
 GONE = "aag 1 0 1 0 0 1\n2 0 1\n2\n"
 # Bad where an input is 0 and 1, without latches.
 NEVER = "aag 2 1 0 0 1 1\n2\n4\n4 3 2\n"
+# Bad where its input is 1.
+PASSES = "aag 1 1 0 0 0 1\n2\n2\n"
 # Bad where the input is 1 at the step after one at which it was 1, from a latch that is open at first, and the constraint is the input.
 OPENED = "aag 3 1 1 0 1 1 1\n2\n4 2 4\n6\n2\n6 4 2\n"
 # The same, of the time before bad state properties.
@@ -40,6 +43,9 @@ ANYTHING = "printf '.i 0\\n.o 1\\n.p 0\\n.ilb \\n.ob inv\\n.e\\n' > inv.pla"
 RUN = "printf '# COUNTEREXAMPLE LENGTH: 2\\nl0@0=0\\n# DONE\\n' > run"
 WITNESS = "1\nb0\n0\n\n\n.\n"
 FOLLOWS = "aigcheck: proof step does not follow"
+KEPT = "aigcheck: window: proof step does not follow"
+SAFE_LINE = "no bad state at any step\n"
+EQUAL = "equal at step 0\n"
 INDUCTION = "no bad state at any step, if none up to step 0\nno bad state at any step\n"
 REACHED = "a bad state at step 1: b0\nstart: l0=0\nstep 0:\nstep 1:\n"
 
@@ -75,8 +81,8 @@ def solver_rows():
 
 def abc_rows():
     """File, what the script in the place of ABC does, options, and the status, standard output and first line of standard error."""
-    yield TOGGLE, ANYTHING, ["pdr"], (1, "", "aigprove: pdr: " + FOLLOWS)
-    yield TOGGLE, FILES + MEMORY + ANYTHING, ["pdr"], (1, "", "aigprove: pdr: " + FOLLOWS)
+    yield TOGGLE, ANYTHING, ["pdr"], (1, "", "aigprove: pdr: " + KEPT)
+    yield TOGGLE, FILES + MEMORY + ANYTHING, ["pdr"], (1, "", "aigprove: pdr: " + KEPT)
     yield TOGGLE, "printf '.ilb l1\\n1 1\\n.e\\n' > inv.pla", ["pdr"], (1, "", "aigprove: pdr: its invariant isn't one of the machine")
     yield TOGGLE, "printf '.ilb l0\\n111 1\\n.e\\n' > inv.pla", ["pdr"], (1, "", "aigprove: pdr: its invariant isn't one of the machine")
     yield TOGGLE, "printf 'l0@0=0\\n' > run", ["bmc3"], (1, "", "aigprove: bmc3: its counterexample reaches no bad state")
@@ -87,7 +93,7 @@ def abc_rows():
     yield TOGGLE, "ln -s /dev/zero run; mkfifo inv.pla", ["bmc3"], (0, "nothing was shown\n", "")
     yield TOGGLE, "echo proved; yes | head -c 1000000", ["pdr"], (0, "nothing was shown\n", "")
     yield TOGGLE, RUN, ["bmc3"], (10, REACHED, "")
-    yield STUCK, ANYTHING, ["pdr"], (20, "certificate: no bad state at step 0\ncertificate: " + INDUCTION, "")
+    yield STUCK, ANYTHING, ["pdr"], (20, SAFE_LINE, "")
     # An open latch that is 1 at first, by the name that the machine for ABC has for its input.
     yield OPENED, "printf '# COUNTEREXAMPLE LENGTH: 1\\ni0@0=1\\nl0@0=0\\nr0@0=1\\n' > run", ["bmc3"], (10, "a bad state at step 0: b0\nstart: l0=1\nstep 0: i0=1\n", "")
 
@@ -100,20 +106,38 @@ def given_rows():
     yield OPENED, "00\n11\n00# DONE\n", "--run", (10, "a bad state at step 0: b0\nstart: l0=1\nstep 0: i0=1\n", "")
     yield OPENED, "# COUNTEREXAMPLE LENGTH: 1\nlo0@0=0\nlo1@0=0\npi0@0=1\npi1@0=1\n# DONE\n", "--run", (10, "a bad state at step 0: b0\nstart: l0=1\nstep 0: i0=1\n", "")
     yield STUCK, WITNESS, "--run", (1, "", "aigprove: run: aigcheck: the bad literal is not known to hold")
-    yield STUCK, "1\nb0\n\x1b]0;t\x07\n\n.\n", "--run", (1, "", "aigprove: run: aigcheck: ")
-    yield STUCK, STUCK, "--certificate", (20, "certificate: no bad state at step 0\ncertificate: " + INDUCTION, "")
+    yield STUCK, "1\nb0\n\x1b]0;t\x07\n\n.\n", "--run", (1, "", "aigprove: run: the state is no value for each of 1")
+    yield STUCK, STUCK, "--certificate", (20, SAFE_LINE, "")
     # Certificates of another machine, of too few latches, and of a machine that reaches a bad state.
-    yield TOGGLE, STUCK, "--certificate", (1, "", "aigprove: certificate: " + FOLLOWS)
+    yield TOGGLE, STUCK, "--certificate", (1, "", "aigprove: certificate: " + KEPT)
     # Inductive, and bad at step 0.
-    yield GONE, GONE, "--certificate", (1, "", "aigprove: certificate: " + FOLLOWS)
+    yield GONE, GONE, "--certificate", (1, "", "aigprove: certificate: aigcheck: query: proof step does not follow")
     # With a bad state property that is never true, and with a constraint that makes it so.
-    yield TOGGLE, "aag 1 0 1 0 0 1\n2 3\n0\n", "--certificate", (1, "", "aigprove: certificate: " + FOLLOWS)
-    yield TOGGLE, "aag 1 0 1 0 0 1 1\n2 3\n0\n3\n", "--certificate", (1, "", "aigprove: certificate: " + FOLLOWS)
+    yield TOGGLE, "aag 1 0 1 0 0 1\n2 3\n0\n", "--certificate", (1, "", "aigprove: certificate: " + KEPT)
+    yield TOGGLE, "aag 1 0 1 0 0 1 1\n2 3\n0\n3\n", "--certificate", (1, "", "aigprove: certificate: " + KEPT)
     # With a further latch and input, in a text that begins with other variables; and of the time before bad state properties.
-    yield STUCK, "aag 4 1 2 0 0 1\n8\n6 6\n2 8 1\n6\n", "--certificate", (20, "certificate: no bad state at step 0\ncertificate: " + INDUCTION, "")
-    yield STUCK, "aag 1 0 1 1 0\n2 3\n2\n", "--certificate", (20, "certificate: no bad state at step 0\ncertificate: " + INDUCTION, "")
-    yield TOGGLE, NEVER, "--certificate", (1, "", "aigprove: certificate: CERT has fewer inputs or latches than FILE")
-    yield TOGGLE, "aag 1 0 1\n", "--certificate", (1, "", "aigprove: certificate: bad header line in CERT")
+    yield STUCK, "aag 4 1 2 0 0 1\n8\n6 6\n2 8 1\n6\n", "--certificate", (20, SAFE_LINE, "")
+    yield STUCK, "aag 1 0 1 1 0\n2 3\n2\n", "--certificate", (20, SAFE_LINE, "")
+    yield TOGGLE, NEVER, "--certificate", (1, "", "aigprove: certificate: aigedit: files do not fit")
+    yield TOGGLE, "aag 1 0 1\n", "--certificate", (1, "", "aigprove: certificate: aigedit: other file: bad header line")
+
+
+def equal_rows():
+    """File, the file that it is compared with, what the solver's script does, options, and the status, standard output and first
+    line of standard error. In a miter the second one's latches follow on those of the first."""
+    yield PASSES, PASSES, REFUTES, ["steps,windows", "--bound", "0"], (20, EQUAL + "miter: " + INDUCTION.replace("no bad state at any step\n", "equal at every step\n"), "")
+    yield PASSES, PASSES, "exit 3", ["pdr"], (1, "", "aigprove: pdr: solver ended with status 3")
+    yield PASSES, PASSES, REFUTES, ["pdr"], (20, "miter: no bad state at any step\nequal at every step\n", "")
+    yield TOGGLE, STUCK, REFUTES, ["steps"], (1, EQUAL, "aigprove: steps: aigcheck: query: proof step does not follow")
+    yield TOGGLE, STUCK, REFUTES, ["steps", "--bound", "0"], (0, EQUAL + "equal up to step 0\n", "")
+    yield TOGGLE, STUCK, "", ["--run", "1\nb0\n00\n\n\n.\n"], (10, "a difference at step 1: b0\nstart: l0=0 l1=0\nstep 0:\nstep 1:\n", "")
+    yield TOGGLE, STUCK, "", ["--run", "1\nb0\n00\n\n.\n"], (1, "", "aigprove: run: aigcheck: the bad literal is not known to hold")
+    # Two of three outputs differ, and a bad state property.
+    outputs = "aag 1 1 0 3 0 1\n2\n2\n0\n3\n2\ni0 in\no2 out\nb0 bad\n"
+    yield outputs, "aag 1 1 0 3 0 1\n2\n3\n0\n2\n3\ni0 on\n", "", ["--run", "1\nb2\n\n1\n.\n"], (10, "inputs are matched by position: i0 is in and on\na difference at step 0: o0, o2 out, b0 bad\nstart:\nstep 0: in=1\n", "")
+    yield TOGGLE, NEVER, "", ["steps"], (1, "", "aigprove: aigedit: files do not fit")
+    yield TOGGLE, "aag 1\n", "", ["steps"], (1, "", "aigprove: aigedit: other file: bad header line")
+    yield "aag 0 0 0 0 0\n", "aag 0 0 0 0 0\n", "", ["steps"], (1, "", "aigprove: t.aag and other.aag: no output and no bad state property")
 
 
 def file_rows():
@@ -143,7 +167,7 @@ class Run:
         write(folder, "t.aag", file)
         write(folder, "solver", f"#!/bin/sh\n{solver}\n")
         write(folder, "abc", f"#!/bin/sh\n{abc}\n")
-        self.words = [PROVE, "--aigtool", TOOLS[0], "--aigcheck", TOOLS[1], "--solver", "./solver", "--abc", "./abc", "t.aag"]
+        self.words = [str(PROVE), *TOOLS, "--solver", "./solver", "--abc", "./abc", "t.aag"]
         self.environment = {**os.environ, "TMPDIR": self.temporary, "FOLDER": folder}
 
     def start(self, words, **streams):
@@ -204,6 +228,13 @@ def answers():
             run = Run(folder, file, solver=REFUTES)
             write(folder, "given", text)
             yield (option, text), (status, out, True, []), compared(run.result([option, "given"]), error)
+    for file, other, script, options, (status, out, error) in equal_rows():
+        with tempfile.TemporaryDirectory() as folder:
+            run = Run(folder, file, solver=script, abc=ANYTHING)
+            write(folder, "other.aag", other)
+            write(folder, "given", options[-1])
+            options = ["--run", "given"] if options[0] == "--run" else ["--engine", *options]
+            yield (file, other, options), (status, out, True, []), compared(run.result(["--equal", "other.aag", *options]), error)
 
 
 def files():
@@ -295,7 +326,7 @@ def missing():
     with tempfile.TemporaryDirectory() as folder:
         run = Run(folder, TOGGLE)
         run.environment["PATH"] = run.temporary
-        words = [sys.executable, *run.words[:5], "t.aag"]
+        words = [sys.executable, *run.words[:7], "t.aag"]
         process = run.start(words, stdout=subprocess.PIPE, stderr=subprocess.PIPE)
         solver, abc = "passed over: cadical is not installed", "passed over: none of berkeley-abc, yosys-abc, abc is installed"
         wanted = "".join(f"aigprove: {name}: {why}\n" for name, why in [("steps", solver), ("windows", solver), ("bmc3", abc), ("pdr", abc)])
@@ -306,7 +337,7 @@ def installed():
     """Programs that are installed, and run with nothing but their folder in PATH."""
     with tempfile.TemporaryDirectory() as folder:
         run = Run(folder, TOGGLE, abc=RUN)
-        status = subprocess.run([os.path.join(HERE, "..", "install"), "prefix"], cwd=folder).returncode
+        status = subprocess.run([TOP / "install", "prefix"], cwd=folder).returncode
         names = ["aigcheck", "aigedit", "aigprove", "aigtool", "aigwaves"]
         yield "install", (0, names), (status, sorted(os.listdir(os.path.join(folder, "prefix", "bin"))))
         prove = os.path.join("prefix", "bin", "aigprove")
@@ -320,17 +351,14 @@ def installed():
 def main():
     # Where this is run in the background, what it starts has to end by SIGINT still.
     signal.signal(signal.SIGINT, signal.default_int_handler)
-    failed = count = 0
+    tally = harness.Tally()
     for what, wanted, given in [*answers(), *files(), *hung(), *together(), *closed(), *ended(), *killed(), *missing(), *installed()]:
-        count += 1
-        if given != wanted:
-            failed += 1
-            print(f"{what}\n  wanted {wanted}\n  given  {given}")
-    print(f"{count - failed} passed, {failed} failed")
-    sys.exit(1 if failed else 0)
+        tally.wants(what, wanted, given)
+    return tally.end()
 
 
-TOOLS = [os.path.abspath(path) for path in sys.argv[1:]] or [os.path.abspath(os.path.join(CRATES, name, "out", name)) for name in ["aigtool", "aigcheck"]]
+GIVEN = vars(harness.parser(__doc__, "aigtool", "aigedit", "aigcheck").parse_args())
+TOOLS = [word for name, path in GIVEN.items() for word in (f"--{name}", str(path))]
 
 if __name__ == "__main__":
-    main()
+    sys.exit(main())

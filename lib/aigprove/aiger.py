@@ -91,8 +91,7 @@ class Circuit:
         counts = [header.outputs, header.bads, header.constraints]
         self.outputs, self.bads, self.constraints = ([lines.number() for _ in range(count)] for count in counts)
         sizes = [lines.number() for _ in range(header.justice)]
-        # How many lines of justice and fairness there are, of which nothing is kept.
-        self.further = header.justice + sum(sizes) + header.fairness
+        # Of justice and fairness nothing is kept.
         for _ in range(sum(sizes) + header.fairness):
             lines.number()
         if header.is_text:
@@ -185,11 +184,3 @@ def value(values, literal):
 def both(left, right):
     """The value of an and."""
     return "0" if "0" in (left, right) else "x" if "x" in (left, right) else "1"
-
-
-def text(inputs, latches, bads, constraints, gates):
-    """The text form of a circuit, of lists of lines that are lists of numbers."""
-    variables = len(inputs) + len(latches) + len(gates)
-    header = ["aag", variables, len(inputs), len(latches), 0, len(gates), len(bads), len(constraints)]
-    lines = [header, *([literal] for literal in inputs), *latches, *([literal] for literal in [*bads, *constraints]), *gates]
-    return "".join(" ".join(map(str, line)) + "\n" for line in lines).encode()

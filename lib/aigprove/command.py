@@ -12,10 +12,11 @@ from aigprove import VERSION, aiger, programs
 from aigprove.judge import Judge
 from aigprove.questions import cadical
 from aigprove.race import FAILED, Race
-from aigprove.source import Source, read
+from aigprove.source import Pair, Source, read
 
 TOP = os.path.dirname(os.path.dirname(os.path.dirname(os.path.realpath(__file__))))
 ENGINES = ["steps", "windows", "bmc3", "pdr"]
+BELIEVED = ["aigtool", "aigedit", "aigcheck"]
 ABOUT = """\
 Asks whether the machine of an AIGER file can reach a bad state, and believes no engine: what is printed was checked by aigcheck.
 
@@ -25,12 +26,14 @@ Engines look for an answer side by side, and the first that is checked is printe
   bmc3, pdr commands of ABC, whose counterexamples become witnesses and whose invariant becomes a certificate
 An engine that isn't installed, lies or breaks is told of on standard error, and changes nothing else.
 
-Two files are written by this script, and not by a proved program: the machine of FILE with what a certificate adds, about which aigcheck
-is asked where a certificate is the answer, and FILE with its outputs as bad state properties, where it is older than these. Both have
-FILE's lines, and check.sh compares them.
+With --equal outputs and bad states of FILE and OTHER are compared, on all runs of both that have the same inputs: each step by aigcheck
+equal, and all at once by an answer about their miter, which aigedit makes.
+
+One file is written by this script, and not by a proved program: FILE with its outputs as bad state properties, where it is older than
+these. It has FILE's lines, and check.sh compares them.
 """
 ENDS = """\
-Exit status 20: no bad state at any step. 10: a bad state is reached. 0: neither was shown. 1: something went wrong.
+Exit status 20: no bad state at any step, or no difference. 10: a bad state is reached, or a difference. 0: neither was shown. 1: something went wrong.
 2: wrong words.
 """
 
@@ -74,6 +77,7 @@ def parser():
     it.add_argument("file", metavar="FILE", help=file)
     it.add_argument("top", metavar="TOP", nargs="?", help="the top module of a design (the one that no other has)")
     it.add_argument("--version", action="version", version=f"aigprove {VERSION}")
+    it.add_argument("--equal", metavar="OTHER", help="compare FILE with this file")
     it.add_argument("--bound", metavar="N", type=number, help=bound)
     it.add_argument("--timeout", metavar="S", type=seconds, help="end after so many seconds (never)")
     it.add_argument("--jobs", metavar="N", type=jobs, default=processors, help=running)
@@ -84,7 +88,7 @@ def parser():
     it.add_argument("--witness", metavar="OUT", help="write the witness of a bad state to OUT, in the form of the AIGER report")
     it.add_argument("--vcd", metavar="OUT", help="write the run to a bad state to OUT, as a value change dump for wave viewers")
     it.add_argument("--solver", metavar="WORDS", type=shlex.split, help=solver)
-    for name in ["abc", "aigtool", "aigcheck"]:
+    for name in ["abc", *BELIEVED]:
         it.add_argument(f"--{name}", metavar="PROGRAM", help=f"another program {name} than the one that is found")
     return it
 
@@ -112,7 +116,7 @@ def parse(line):
     given = words.certificate or words.run
     words.engines = words.engine or ([] if given else ENGINES)
     words.certificate, words.run = (path and read(path) for path in [words.certificate, words.run])
-    words.aigtool, words.aigcheck = found("aigtool", words.aigtool), found("aigcheck", words.aigcheck)
+    words.believed = [found(name, vars(words)[name]) for name in BELIEVED]
     words.solver = words.solver or cadical()
     words.solver[:1] = map(engine, words.solver[:1])
     words.abc = words.abc and engine(words.abc)
@@ -143,11 +147,13 @@ def answer(line):
     """Answers what a command line asks, and gives the exit status."""
     words = parse(line)
     running = programs.Programs(words.jobs)
+    judge = Judge(running, *words.believed)
     programs.adopt()
     above = tempfile.mkdtemp(prefix="aigprove-")
     try:
-        source = Source(words.file, words.top, above)
-        return Race(words, running, Judge(running, words.aigtool, words.aigcheck), above, source).run()
+        given = words.file, words.top
+        source = Pair(*given, words.equal, above, judge) if words.equal else Source(*given, above)
+        return Race(words, running, judge, above, source).run()
     finally:
         running.stop()
         programs.bury()

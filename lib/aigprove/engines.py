@@ -7,7 +7,7 @@ import concurrent.futures
 import itertools
 import shutil
 
-from aigprove import aiger, joint, plain, witness
+from aigprove import plain, witness
 from aigprove.programs import Fault, Folder, Sealed, ending
 from aigprove.questions import Question
 
@@ -31,8 +31,8 @@ class Steps:
     """Asks about step 0, 1 and so on, up to the bound; while proofs are checked the next question is asked."""
 
     def __init__(self, race):
-        self.race, self.solver, self.judge, self.file = race, race.needs_solver(), race.judge, race.file
-        # Steps that unit propagation is tried on, and proofs that are being checked.
+        self.race, self.solver, self.judge, self.source = race, race.needs_solver(), race.judge, race.source
+        # Steps that unit propagation is tried on, and claims that are being checked.
         self.tried, self.checking = {}, collections.deque()
 
     def run(self):
@@ -48,38 +48,42 @@ class Steps:
             self.finish()
             self.race.bound_reached()
 
+    def propagation(self, k):
+        """That unit propagation finds that no bad state is reached at step k."""
+        return self.source.step(Question("query", k), self.judge.empty_clause)
+
     def propagates(self, k, ahead):
         """Whether unit propagation finds that no bad state is reached at step k, while so many steps further on are tried."""
         for step in range(k, k + ahead + 1):
             if step not in self.tried:
-                words = Question("query", step), self.file, self.judge.empty_clause
-                self.tried[step] = self.checker.submit(self.judge.follows, *words)
+                self.tried[step] = self.checker.submit(self.judge.shows, self.propagation(step))
         if not self.tried.pop(k).result():
             for further in self.tried.values():
                 further.cancel()
             self.tried.clear()
             return False
         self.finish()
-        self.race.step(Question("query", k), self.judge.empty_clause)
+        self.race.step(self.propagation(k))
         return True
 
     def reaches(self, question):
         """Whether a bad state is reached at a step, which is handed in then; else the check of the solver's proof begins."""
-        has_solution, given = self.solver.ask(question, self.file)
+        has_solution, given = self.solver.ask(question, self.source.asked)
         if not has_solution:
             self.finish(CHECKS - 1)
-            self.checking.append((question, self.checker.submit(self.judge.check, question, self.file, given), given))
+            claim = self.source.step(question, given)
+            self.checking.append((claim, self.checker.submit(self.judge.check, claim)))
             return False
         self.finish()
-        self.race.hand_in_run(self.judge.witness(self.file, question.k, given).encode())
+        self.race.hand_in_run(self.judge.witness(self.source.asked, question.k, given))
         return True
 
     def finish(self, left=0):
-        """Waits for all checks of proofs but so many, and hands in what they show."""
+        """Waits for all checks but so many, and hands in what they show."""
         while len(self.checking) > left:
-            question, check, proof = self.checking.popleft()
+            claim, check = self.checking.popleft()
             check.result()
-            self.race.step(question, proof)
+            self.race.step(claim)
 
 
 class Windows:
@@ -94,10 +98,11 @@ class Windows:
             for form in self.forms(k):
                 self.race.progress("window", k)
                 question = Question("window", k, form)
-                has_solution, given = self.solver.ask(question, self.race.file)
+                has_solution, given = self.solver.ask(question, self.race.source.asked)
                 if not has_solution:
-                    self.race.judge.check(question, self.race.file, given)
-                    self.race.window(question, given)
+                    claim = self.race.source.window(question, given)
+                    self.race.judge.check(claim)
+                    self.race.window(k, claim)
                     return
 
     def forms(self, k):
@@ -147,11 +152,10 @@ class Abc:
 
     def hand_in_invariant(self, invariant):
         """Hands in the certificate of an invariant."""
-        cubes = plain.cubes_of(invariant)
-        excluded = None if cubes is None else self.plain.excluded(cubes)
-        if excluded is None:
+        made = self.plain.certificate(invariant)
+        if made is None:
             raise Fault("its invariant isn't one of the machine")
-        Certificate(self.race, joint.certificate_of(self.race.circuit, excluded)).run()
+        Certificate(self.race, made).run()
 
 
 class Bmc3(Abc):
@@ -175,17 +179,19 @@ class Pdr(Abc):
 
 
 class Certificate:
-    """A certificate that somebody else made, as bytes."""
+    """A certificate, as bytes."""
 
     def __init__(self, race, data):
-        self.race, self.solver, self.data = race, race.needs_solver(), data
+        self.race, self.solver, self.certificate = race, race.needs_solver(), Sealed(data)
 
     def run(self):
-        """Has the certificate checked, and hands it in."""
-        made = joint.Joint(self.race.circuit, aiger.Circuit(aiger.Lines(self.data, "CERT")))
-        file = Sealed(made.text())
-        questions = [Question("query", 0), Question("window", 0)]
-        self.race.certificate(self.data, made, file, [(question, self.solver.refute(question, file)) for question in questions])
+        """Has the certificate checked, by proofs about the file beside it, and hands it in."""
+        judge, source = self.race.judge, self.race.source
+        joint = judge.joint("join", source.asked, self.certificate)
+        proofs = [self.solver.refute(Question(command, 0), joint) for command in ["query", "window"]]
+        claim = source.certified(self.certificate, *proofs)
+        judge.check(claim)
+        self.race.certificate(claim)
 
 
 class Run:

@@ -1,25 +1,37 @@
-"""What is kept of an answer: the file, what shows the answer, and a script that shows it again."""
+"""What is kept of an answer: files, and a script that shows it again."""
 import os
 import shlex
 
 HEAD = """#!/bin/sh
-# Shows again what aigprove printed of {file}: by aigcheck, the one that AIGCHECK names, or that is found.
+# Shows again what aigprove printed, by the aigcheck and aigedit that AIGCHECK and AIGEDIT name, or that are found.
 cd "$(dirname "$0")" || exit 1
-check=${{AIGCHECK:-aigcheck}}
-tool=${{AIGTOOL:-aigtool}}
+check=${AIGCHECK:-aigcheck}
+edit=${AIGEDIT:-aigedit}
+
+fail() {
+  echo "not shown: $1" >&2
+  exit 1
+}
 
 # A line, and the words with which aigcheck prints it.
-shows() {{
+shows() {
   line=$1
   shift
-  [ "$("$check" "$@")" = "$line" ] || {{ echo "not shown: $line" >&2; exit 1; }}
+  [ "$("$check" "$@")" = "$line" ] || fail "$line"
   echo "$line"
-}}
+}
+
+# A file, and the words with which aigedit prints it.
+makes() {
+  file=$1
+  shift
+  "$edit" "$@" | cmp -s - "$file" || fail "$file"
+}
 
 # What two commands print, which has to be the same.
-same() {{
-  [ "$(sh -c "$2" "$tool" | sha256sum)" = "$(sh -c "$3" "$tool" | sha256sum)" ] || {{ echo "not the same: $1" >&2; exit 1; }}
-}}
+same() {
+  [ "$(sh -c "$2" | sha256sum)" = "$(sh -c "$3" | sha256sum)" ] || fail "$1"
+}
 
 """
 
@@ -27,36 +39,42 @@ same() {{
 class Evidence:
     """A folder that is filled, and the lines of its script."""
 
-    def __init__(self, folder, judge):
-        self.folder, self.judge, self.lines = folder, judge, []
+    def __init__(self, folder):
+        self.folder, self.lines, self.names = folder, [HEAD], set()
         os.mkdir(folder)
 
-    def put(self, name, data):
-        """Puts a file into the folder."""
-        with open(os.path.join(self.folder, name), "xb") as out:
-            out.write(data if isinstance(data, bytes) else data.bytes())
+    def put(self, name, file):
+        """Puts a sealed file into the folder, once."""
+        if name not in self.names:
+            self.names.add(name)
+            with open(os.path.join(self.folder, name), "xb") as out:
+                out.write(file.bytes())
 
-    def put_question(self, name, question, file, proof):
-        """Puts the clauses of a question and a proof into the folder."""
-        with open(os.path.join(self.folder, f"{name}.cnf"), "xb") as out:
-            self.judge.print_question(question, file, out)
-        self.put(f"{name}.proof", proof)
+    def add(self, *words):
+        """Adds a line to the script."""
+        self.lines.append(shlex.join(words) + "\n")
 
-    def shows(self, line, *words):
-        """Adds a line that aigcheck prints."""
-        self.lines.append(shlex.join(["shows", line, *words]))
+    def shows(self, claim):
+        """Keeps a claim's files, and adds its line."""
+        for name, file in claim.files.items():
+            self.put(name, file)
+        self.add("shows", claim.line, *claim.words)
+
+    def makes(self, name, *words):
+        """Adds a file that aigedit prints."""
+        self.add("makes", name, *words)
 
     def same(self, what, *commands):
-        """Adds two commands of the shell that print the same; `$0` is aigtool."""
-        self.lines.append(shlex.join(["same", what, *commands]))
+        """Adds two commands of the shell that print the same."""
+        self.add("same", what, *commands)
 
     def says(self, line):
         """Adds a line that follows from those before."""
-        self.lines.append(shlex.join(["echo", line]))
+        self.add("echo", line)
 
-    def end(self, file):
+    def end(self):
         """Writes the script."""
         path = os.path.join(self.folder, "check.sh")
         with open(path, "x", encoding="utf-8") as out:
-            out.write(HEAD.format(file=file) + "".join(line + "\n" for line in self.lines))
+            out.writelines(self.lines)
         os.chmod(path, 0o755)

@@ -112,20 +112,24 @@ class Plain:
         start = "".join(str(reset) if reset < 2 else named.values.get((0, f"r{i}"), "0") for i, reset in resets)
         return start, named.rows(self.inputs[: len(self.circuit.inputs)])
 
-    def excluded(self, cubes):
-        """The states that an invariant of the plain machine excludes, as literals of the circuit's latches in each cube, where
-        the further latches have their fixed values. None where a cube has a name that is none of its latches."""
-        latches = self.circuit.latches
-        places = {f"l{i}": latch ^ (reset != 1) for i, (latch, reset) in enumerate(zip(latches, self.circuit.resets))}
-        kept = []
-        for cube in cubes:
-            rest = [(name, bit) for name, bit in cube if name not in FIXED]
-            if any(FIXED.get(name, bit) != bit for name, bit in cube):
-                continue
-            if any(name not in places for name, _ in rest):
-                return None
-            kept.append([places[name] ^ (bit == "1") for name, bit in rest])
-        return kept
+    def certificate(self, pla):
+        """The text of a certificate: inputs and latches as the circuit has them, and one bad state property, the states that an
+        invariant of the plain machine excludes. None where that isn't one of the machine.
+
+        Where a latch is open at first, the first states aren't among them."""
+        inputs, resets = len(self.circuit.inputs), self.circuit.resets
+        latches = range(2 * (inputs + 1), 2 * (inputs + len(resets) + 1), 2)
+        gates = Gates(latches.stop)
+        excluded = excluded_by(pla, {f"l{i}": latch ^ (reset != 1) for i, (latch, reset) in enumerate(zip(latches, resets))})
+        if excluded is None:
+            return None
+        bad = gates.any(map(gates.all, excluded))
+        if self.opened:
+            bad = gates.both(bad, gates.all(latch ^ (reset == 0) for latch, reset in zip(latches, resets) if reset < 2) ^ 1)
+        header = f"aag {inputs + len(latches) + len(gates.rows)} {inputs} {len(latches)} 0 {len(gates.rows)} 1"
+        states = [f"{latch} {latch} {reset if reset < 2 else latch}" for latch, reset in zip(latches, resets)]
+        lines = [header, *range(2, latches.start, 2), *states, bad, *(" ".join(map(str, row)) for row in gates.rows)]
+        return "".join(f"{line}\n" for line in lines).encode()
 
 
 def put_difference(out, number):
@@ -136,15 +140,19 @@ def put_difference(out, number):
     out.append(number)
 
 
-def cubes_of(pla):
-    """The cubes of a file in PLA form, each a list of names and bits; None where it has none of that form."""
-    names, cubes = None, []
-    for line in pla.splitlines():
-        words = line.split()
-        if words[:1] == [".ilb"]:
+def excluded_by(pla, places):
+    """The cubes of an invariant in PLA form, as literals, by those of the latches, where the further latches have their fixed
+    values. None where it has no such form, or a name that is none of these."""
+    names, excluded = None, []
+    for words in filter(None, map(str.split, pla.splitlines())):
+        if words[0] == ".ilb":
             names = words[1:]
-        elif words and words[0][0] in "01-":
+        elif words[0][0] in "01-":
             if names is None or len(words[0]) != len(names):
                 return None
-            cubes.append([(name, bit) for name, bit in zip(names, words[0]) if bit != "-"])
-    return None if names is None else cubes
+            cube = [(name, bit) for name, bit in zip(names, words[0]) if bit != "-"]
+            if all(FIXED.get(name, bit) == bit for name, bit in cube):
+                excluded.append([(name, bit) for name, bit in cube if name not in FIXED])
+    if names is None or any(name not in places for cube in excluded for name, _ in cube):
+        return None
+    return [[places[name] ^ (bit == "1") for name, bit in cube] for cube in excluded]

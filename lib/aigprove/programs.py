@@ -73,6 +73,9 @@ class Sealed:
         with open(self.path, "rb") as file:
             return file.read()
 
+    def __str__(self):
+        return self.path
+
 
 def signal_group(group, number):
     """Sends a signal to a group of processes, if there is one."""
@@ -204,11 +207,12 @@ class Programs:
             for group in self.running + self.waiting:
                 group.signal(signal.SIGKILL)
 
-    def output(self, words, given=(), **streams):
-        """The status of one of our own programs, what it prints, and what it says on standard error."""
+    def output(self, words, **streams):
+        """The status of one of our own programs, what it prints, and what it says on standard error. Sealed files stand among its
+        words."""
+        descriptors = [word.descriptor for word in words if isinstance(word, Sealed)]
         with tempfile.TemporaryFile() as out, tempfile.TemporaryFile() as said:
-            descriptors = [file.descriptor for file in given]
-            group = self.start(words, **{"stdout": out, "stderr": said, "pass_fds": descriptors, **streams})
+            group = self.start(list(map(str, words)), **{"stdout": out, "stderr": said, "pass_fds": descriptors, **streams})
             status = self.finish(group)
             out.seek(0), said.seek(0)
             return status, out.read().decode("ascii", "surrogateescape"), plain(said.read()).strip()

@@ -11,22 +11,11 @@ SAID = 4096
 
 
 class Question(collections.namedtuple("Question", "command k form", defaults=[()])):
-    """Whether a bad state is reached at step k (`query`), or by a window of k + 2 steps from any state (`window`)."""
-
-    @property
-    def check(self):
-        """The command of aigcheck that checks a proof that it has no solution."""
-        return {"query": "refuted", "window": "inductive"}[self.command]
-
-    @property
-    def line(self):
-        """What aigcheck prints then."""
-        lines = {"query": f"no bad state at step {self.k}", "window": f"no bad state at any step, if none up to step {self.k}"}
-        return lines[self.command]
+    """Clauses that ask whether a bad state is reached at step k (`query`), or by a window of k + 2 steps from any state (`window`)."""
 
     @property
     def name(self):
-        """The name of its files."""
+        """The name of its proof."""
         return "-".join([{"query": "step", "window": "window"}[self.command], str(self.k), *self.form])
 
 
@@ -62,11 +51,10 @@ class Solver:
             return status == 10, folder.taken("out", "answer") if status == 10 else folder.taken("proof", "proof")
 
     def refute(self, question, file):
-        """A proof, which aigcheck took, that a question has no solution; a solution is a fault."""
+        """A proof, which nobody has looked at, that a question has no solution; a solution is a fault."""
         has_solution, given = self.ask(question, file)
         if has_solution:
             raise Fault(f"the solver finds a solution of {question.name}")
-        self.judge.check(question, file, given)
         return given
 
 

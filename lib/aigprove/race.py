@@ -6,11 +6,12 @@ import sys
 import threading
 import time
 
-from aigprove import aiger, plain, shown, waves, witness
+from aigprove import aiger, plain, waves, witness
 from aigprove.engines import Bmc3, Certificate, Missing, Pdr, Run, Steps, Windows
 from aigprove.evidence import Evidence
 from aigprove.programs import Fault, Sealed, Stopped, say
-from aigprove.questions import Question, Solver
+from aigprove.questions import Solver
+from aigprove.shown import Shown
 
 SAFE, UNSAFE, OPEN, FAILED = 20, 10, 0, 1
 # Seconds between two looks at turns, limits and the clock.
@@ -22,24 +23,25 @@ class Race:
 
     def __init__(self, words, programs, judge, above, source):
         self.words, self.programs, self.judge, self.above, self.source = words, programs, judge, above, source
-        self.bound, self.file = words.bound, source.asked
-        self.text = self.read_text()
+        self.bound, self.text = words.bound, self.read_text()
         self.events, self.begun = queue.Queue(), time.monotonic()
         # Steps that were shown, from 0 on, a window that was, and engines that failed.
         self.steps, self.shown_window, self.faults = 0, None, []
         self.deadline = math.inf if words.timeout is None else self.begun + words.timeout
         # What the progress line says.
         self.doing = {}
-        self.evidence = words.keep and Evidence(words.keep, judge)
+        self.evidence = words.keep and Evidence(words.keep)
+        if self.evidence:
+            source.keep(self.evidence)
 
     def read_text(self):
         """The text form of the file, which has to have a bad state property."""
         try:
-            text = self.judge.text(self.file)
+            text = self.judge.text(self.source.asked)
         except Fault as why:
             raise Fault(f"{self.source.path}: {str(why).removeprefix('aigtool: ')}") from None
         if aiger.Header(aiger.Lines(text, "FILE")).bads == 0:
-            raise Fault(f"{self.source.path}: no bad state property")
+            raise Fault(f"{self.source.path}: {self.source.empty}")
         return text
 
     @functools.cached_property
@@ -64,28 +66,28 @@ class Race:
         """Takes down what an engine does."""
         self.doing[what] = what if count is None else f"{what} {count}"
 
-    def step(self, question, proof):
-        """Takes a step whose proof aigcheck took."""
-        self.events.put(lambda: self.print_step(question, proof))
+    def step(self, claim):
+        """Takes a step that was checked."""
+        self.events.put(lambda: self.print_step(claim))
 
-    def window(self, question, proof):
-        """Takes a window whose proof aigcheck took."""
-        self.shown_window = question, proof
+    def window(self, k, claim):
+        """Takes a window that was checked."""
+        self.shown_window = k, claim
         self.events.put(self.print_induction)
 
-    def certificate(self, data, made, file, proofs):
-        """Takes a certificate, with questions about its joint machine and proofs that aigcheck took."""
-        self.events.put(lambda: self.print_certificate(data, made, file, proofs))
+    def certificate(self, claim):
+        """Takes a certificate that was checked."""
+        self.events.put(lambda: self.print_safe(claim))
 
     def hand_in_run(self, data):
         """Has aigcheck check a run to a bad state, and takes it."""
-        sealed = Sealed(data)
-        bad, step = self.judge.run(self.file, sealed)
         header = self.circuit.header
-        told = witness.read(aiger.Lines(sealed.bytes(), "WITNESS"), header.latches, header.inputs)
-        if (told.bad, len(told.steps) - 1) != (bad, step):
-            raise Fault(f"aigcheck printed b{bad} at step {step}")
-        self.events.put(lambda: self.print_run(told, sealed))
+        told = witness.read(aiger.Lines(data, "WITNESS"), header.latches, header.inputs)
+        claim = self.source.run(told, Sealed(data))
+        self.judge.check(claim)
+        others = self.source.others(self.circuit, told)
+        shown = [it for it in others if self.judge.shows(self.source.run(it, Sealed(it.text().encode())))]
+        self.events.put(lambda: self.print_run([told, *shown], data, claim))
 
     def bound_reached(self):
         """Takes that all steps up to the bound were shown: the other engines may take as long again, and a second."""
@@ -99,66 +101,53 @@ class Race:
         self.show_progress("")
         print(line, flush=True)
 
-    def print_step(self, question, proof):
+    def print_claim(self, claim, prefix=""):
+        """Prints a line that was checked, and keeps what shows it."""
+        self.print_line(prefix + claim.line)
+        if self.evidence:
+            self.evidence.shows(claim)
+
+    def print_step(self, claim):
         """Prints that a step was shown."""
-        self.print_line(question.line)
-        self.keep(question, self.file, proof, "", self.source.name)
+        self.print_claim(claim)
         self.steps += 1
         return self.print_induction()
 
     def print_induction(self):
         """Prints a window that was shown, and what follows, once the steps before it were shown."""
-        if self.shown_window is None or self.steps <= self.shown_window[0].k:
+        if self.shown_window is None or self.steps <= self.shown_window[0]:
             return None
-        question, proof = self.shown_window
-        self.print_line(question.line)
-        self.keep(question, self.file, proof, "", self.source.name)
-        return self.print_safe()
+        return self.print_safe(self.shown_window[1])
 
-    def print_safe(self):
-        """Prints that the machine is safe."""
-        self.print_line("no bad state at any step")
-        if self.evidence:
-            self.evidence.says("no bad state at any step")
+    def print_safe(self, claim):
+        """Prints a claim from which it follows that no step has what is asked about, and that."""
+        prefix, safe = self.source.prefix, self.source.safe
+        self.print_claim(claim, prefix)
+        if prefix + claim.line != safe:
+            self.print_line(safe)
+            if self.evidence:
+                self.evidence.says(safe)
         return SAFE
 
-    def print_certificate(self, data, made, file, proofs):
-        """Prints that a certificate was shown."""
-        if self.evidence:
-            self.evidence.put("certificate.aag", data)
-            self.evidence.put("joint.aag", file)
-            self.source.keep_joint(self.evidence, made)
-        for question, proof in proofs:
-            self.print_line(f"certificate: {question.line}")
-            self.keep(question, file, proof, "certificate-", "joint.aag")
-        return self.print_safe()
-
-    def keep(self, question, file, proof, prefix, name):
-        """Keeps what shows a line."""
-        if self.evidence:
-            self.evidence.put_question(prefix + question.name, question, file, proof)
-            words = [question.check, name, str(question.k), f"{prefix}{question.name}.proof", *question.form]
-            self.evidence.shows(question.line, *words)
-
-    def print_run(self, told, sealed):
-        """Prints a run to a bad state, and writes it where it is wanted."""
-        circuit = self.source.circuit()
-        for line in [*shown.Shown(circuit).lines(told), *self.source.failing(sealed.bytes(), told.bad)]:
+    def print_run(self, tolds, data, claim):
+        """Prints a run, and writes it where it is wanted."""
+        circuit, told = self.source.circuit(), tolds[0]
+        shown = Shown(circuit)
+        for line in [self.source.found(shown, tolds), *shown.lines(told), *self.source.failing(data, told.bad)]:
             self.print_line(line)
         if self.evidence:
-            self.evidence.put("witness", sealed)
-            self.evidence.shows(f"b{told.bad} at step {len(told.steps) - 1}", "run", self.source.name, "witness")
+            self.evidence.shows(claim)
         if self.words.witness:
             with open(self.words.witness, "wb") as out:
-                out.write(sealed.bytes())
+                out.write(data)
         if self.words.vcd:
             with open(self.words.vcd, "w", encoding="ascii") as out:
                 out.writelines(line + "\n" for line in waves.dump(circuit, told.start, told.steps))
         return UNSAFE
 
     def print_open(self):
-        """Prints up to which step there is no bad state."""
-        self.print_line(f"no bad state up to step {self.steps - 1}" if self.steps else "nothing was shown")
+        """Prints up to which step all were shown."""
+        self.print_line(f"{self.source.so_far} up to step {self.steps - 1}" if self.steps else "nothing was shown")
         return OPEN
 
     # The race.
@@ -232,7 +221,7 @@ class Race:
         if status is None:
             status = FAILED if len(self.faults) == len(engines) else self.print_open()
         if self.evidence:
-            self.source.keep(self.evidence)
+            self.evidence.end()
         return status
 
     def show_progress(self, text=None):

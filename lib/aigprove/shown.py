@@ -51,9 +51,9 @@ class Shown:
             return place
         return word(name) if self.times[name] == 1 else f"{place}:{json.dumps(name)}"
 
-    def bad(self, position):
-        """How a bad state property is printed."""
-        place = f"b{position}"
+    def place(self, letter, position):
+        """How an output or a bad state property is printed."""
+        place = f"{letter}{position}"
         return " ".join([place, *(word(self.names[place]) for _ in range(place in self.names))])
 
     def values(self, label, letter, values):
@@ -70,8 +70,7 @@ class Shown:
         return " ".join([f"{label}:", *shown])
 
     def lines(self, witness):
-        """The lines that show a run."""
-        yield f"a bad state at step {len(witness.steps) - 1}: {self.bad(witness.bad)}"
+        """The lines that show the values of a run."""
         yield self.values("start", "l", witness.start)
         for t, inputs in enumerate(witness.steps):
             yield self.values(f"step {t}", "i", inputs)

@@ -1,82 +1,168 @@
-"""The file that is asked about: the bytes that were named, read once into memory that nobody can write."""
+"""What is asked about: the bytes that were named, read once into memory that nobody can write, and what can be shown of them."""
 import gzip
 import tempfile
 import zlib
 
 from aigprove import aiger
 from aigprove.aiger import Circuit, Lines
+from aigprove.judge import Claim
 from aigprove.programs import Fault, Sealed
+from aigprove.shown import Shown, word
 from aigprove.verilog import Design
 
 VERILOG = (".v", ".sv")
+# How many outputs that differ are named.
+NAMED = 100
 
 
-class Source:
-    """A file in AIGER form, as it was given and as it is asked about; a design in Verilog is made one first."""
+class Given:
+    """A file in AIGER form as it was given, and its name among what is kept; a design in Verilog is made one first."""
 
-    def __init__(self, path, top, above):
+    def __init__(self, path, top, above, name="file"):
         self.path, self.design = path, None
         if path.endswith(VERILOG):
             self.design = Design(path, top, tempfile.mkdtemp(prefix="design-", dir=above))
         elif top:
             raise Fault(f"{path} is no design in Verilog, so it has no module {top}")
-        self.given = Sealed(read(self.design.place("design.aig") if self.design else path))
-        with open(self.given.path, "rb") as file:
-            line = file.readline(200)
-        self.suffix = "aag" if line.startswith(b"aag") else "aig"
-        self.name = f"file.{self.suffix}"
-        self.asked, self.is_old = self.given, is_old(line)
-        if self.design and self.is_old:
-            raise Fault(f"{path}: {self.design.top} has no assertion")
-        if self.is_old:
-            self.asked = Sealed(with_bads(self.bytes()))
-            self.name = f"bads.{self.suffix}"
+        self.file = Sealed(read(self.design.place("design.aig") if self.design else path))
+        with open(self.file.path, "rb") as file:
+            self.line = file.readline(200)
+        self.suffix = "aag" if self.line.startswith(b"aag") else "aig"
+        self.name = f"{name}.{self.suffix}"
 
     def circuit(self):
         """The circuit that was given, with all its names."""
-        return Circuit(Lines(self.bytes(), "FILE"))
+        return Circuit(Lines(self.file.bytes(), "FILE"))
+
+    def keep(self, evidence):
+        """Keeps the file, and its design."""
+        evidence.put(self.name, self.file)
+        if self.design:
+            evidence.put(self.name[:-3] + self.path.rpartition(".")[2], Sealed(read(self.path)))
+
+
+class Asked:
+    """A file that engines are asked about, its name among what is kept, and what aigcheck can show of it."""
+
+    # What stands before lines that aigcheck prints of a file that was made of others, the line of what is shown in the end, and the
+    # beginning of one of what was shown so far; and what is said of a file about which nothing can be asked.
+    prefix, safe, so_far, empty = "", "no bad state at any step", "no bad state", "no bad state property"
+
+    def claim(self, line, command, words, files):
+        """What aigcheck says of the file."""
+        return Claim(line, [command, self.name, *words], {self.name: self.asked, **files})
+
+    def step(self, question, proof):
+        """That no bad state is reached at a step."""
+        return self.claim(f"no bad state at step {question.k}", "refuted", [str(question.k), question.name], {question.name: proof})
+
+    def window(self, question, proof):
+        """That none is reached by windows from states that aren't bad."""
+        line = f"no bad state at any step, if none up to step {question.k}"
+        return self.claim(line, "inductive", [str(question.k), question.name, *question.form], {question.name: proof})
+
+    def certified(self, certificate, base, step):
+        """That none is reached at all, by a certificate and proofs about both."""
+        files = {"certificate": certificate, "base": base, "step": step}
+        return self.claim("no bad state at any step", "certified", files, files)
+
+    def run(self, told, data):
+        """That a run reaches one."""
+        return self.claim(f"b{told.bad} at step {len(told.steps) - 1}", "run", ["witness"], {"witness": data})
+
+
+class Source(Asked):
+    """One file, whose bad states are asked about."""
+
+    def __init__(self, path, top, above):
+        self.given, self.path = Given(path, top, above), path
+        self.name, self.asked, self.is_old = self.given.name, self.given.file, is_old(self.given.line)
+        if self.given.design and self.is_old:
+            raise Fault(f"{path}: {self.given.design.top} has no assertion")
+        if self.is_old:
+            self.name, self.asked = f"bads.{self.given.suffix}", Sealed(with_bads(self.given.file.bytes()))
+        self.circuit = self.given.circuit
 
     def about(self):
         """Lines of what the file is, where that isn't seen."""
         if self.is_old:
             yield "the outputs are taken for bad state properties: the file is of a time before these"
 
+    def others(self, circuit, told):
+        """Further witnesses of what a run shows."""
+        return []
+
+    def found(self, shown, tolds):
+        """The line that says what a run shows."""
+        return f"a bad state at step {len(tolds[0].steps) - 1}: {shown.place('b', tolds[0].bad)}"
+
     def failing(self, data, bad):
         """Lines of which assertions fail in a run, as yosys finds."""
         try:
-            return [f"assertion {it} fails, as yosys runs it" for it in self.design.failing(data, bad)] if self.design else []
+            return [f"assertion {it} fails, as yosys runs it" for it in self.given.design.failing(data, bad)] if self.given.design else []
         except Fault as why:
             return [f"yosys doesn't run it: {why}"]
 
-    def bytes(self):
-        """The bytes that were given."""
-        return self.given.bytes()
-
-    def keep_joint(self, evidence, made):
-        """Has the script compare the lines of a certificate's joint machine with those of the file, without the lines that are
-        added, the headers, and lines of which nothing is asked: outputs, justice, fairness and names."""
-        circuit = made.circuit
-        header, ends = circuit.header, 1 + circuit.header.inputs + circuit.header.latches
-        rest = ends + header.outputs + header.bads + header.constraints
-        last = rest + circuit.further + header.gates
-        without = [(1, 1), (ends + 1, ends + header.outputs), (rest + 1, rest + circuit.further), (last + 1, "$")]
-        own = ";".join(f"{first},{end}d" for first, end in without if end == "$" or first <= end)
-        added = ";".join(f"{first},{end}d" for first, end in [(1, 1), *made.added()])
-        line = made.text().partition(b"\n")[0].decode()
-        evidence.same("the header of joint.aag", "head -n 1 joint.aag", f"echo {line}")
-        evidence.same("the machines", f"sed '{added}' joint.aag", f'"$0" text {self.name} | sed \'{own}\'')
-
     def keep(self, evidence):
-        """Keeps the file, and ends the script."""
-        evidence.put(f"file.{self.suffix}", self.given)
-        if self.design:
-            evidence.put("design" + self.path[self.path.rindex("."):], read(self.path))
+        """Keeps the file."""
+        self.given.keep(evidence)
         if self.is_old:
             evidence.put(self.name, self.asked)
             line, body = self.asked.bytes().split(b"\n", 1)
             evidence.same("the header", f"head -n 1 {self.name}", f"echo {line.decode()}")
-            evidence.same("the lines", f"tail -n +2 file.{self.suffix} | head -c {len(body)}", f"tail -n +2 {self.name}")
-        evidence.end(self.name)
+            evidence.same("the lines", f"tail -n +2 {self.given.name} | head -c {len(body)}", f"tail -n +2 {self.name}")
+
+
+class Pair(Asked):
+    """Two files, whose outputs and bad states are compared: their miter is asked about."""
+
+    name, prefix, safe, so_far, empty = "miter.aag", "miter: ", "equal at every step", "equal", "no output and no bad state property"
+
+    def __init__(self, path, top, other, above, judge):
+        self.path = f"{path} and {other}"
+        self.first, self.other = Given(path, top, above), Given(other, None, above, "other")
+        self.asked = judge.joint("miter", self.first.file, self.other.file)
+
+    def step(self, question, proof):
+        """That both are equal at a step."""
+        files = {self.first.name: self.first.file, self.other.name: self.other.file, question.name: proof}
+        return Claim(f"equal at step {question.k}", ["equal", self.first.name, self.other.name, str(question.k), question.name], files)
+
+    def circuit(self):
+        """The circuit of the miter, with the names that it has."""
+        return Circuit(Lines(self.asked.bytes(), "MITER"))
+
+    def about(self):
+        """Lines of what isn't seen: the names of an input in both files."""
+        first, other = self.first.circuit().names, self.other.circuit().names
+        for place in sorted(first.keys() & other.keys()):
+            if place[0] == "i" and first[place] != other[place]:
+                names = (word(it[place].decode("utf-8", "surrogateescape")) for it in (first, other))
+                yield f"inputs are matched by position: i{place[1]} is {' and '.join(names)}"
+
+    def others(self, circuit, told):
+        """Witnesses of what else differs at the end of a run."""
+        *_, values = circuit.run(told.start, told.steps)
+        differing = [bad for bad, literal in enumerate(circuit.bads) if aiger.value(values, literal) == "1"]
+        return [told._replace(bad=bad) for bad in differing[:NAMED] if bad != told.bad]
+
+    def found(self, shown, tolds):
+        """The line that says what differs in a run: outputs, and then bad state properties."""
+        circuit = self.first.circuit()
+        places = [("o", i) for i in range(circuit.header.outputs)] + [("b", i) for i in range(circuit.header.bads)]
+        names = [Shown(circuit).place(*places[bad]) for bad in sorted(told.bad for told in tolds)]
+        return f"a difference at step {len(tolds[0].steps) - 1}: {', '.join(names)}"
+
+    def failing(self, data, bad):
+        """Lines of which assertions fail in a run."""
+        return []
+
+    def keep(self, evidence):
+        """Keeps both files and their miter."""
+        self.first.keep(evidence)
+        self.other.keep(evidence)
+        evidence.put(self.name, self.asked)
+        evidence.makes(self.name, "miter", self.first.name, self.other.name)
 
 
 def read(path):

@@ -1,0 +1,77 @@
+#!/usr/bin/env python3
+"""Draws the circuit of a small file in AIGER form, text or binary, as a graph for Graphviz: dot.py FILE | dot -Tsvg > circuit.svg
+
+Inputs are triangles, latches boxes apart from the gates, which are circles, and outputs, bad states and constraints stand at the
+ends, by their names in FILE, and else by the letter of their kind and their position. A latch says its first value, which is ? where it
+is open; a bold edge leads to it from its next value. An edge whose value is inverted is dashed. Gates are numbered as in FILE.
+
+Exit status 0: printed. 1: not printed, with one line of why. 2: wrong words."""
+import argparse
+import json
+import os
+import sys
+
+sys.path.insert(0, os.path.join(os.path.dirname(os.path.dirname(os.path.realpath(__file__))), "lib"))
+
+from aigprove.aiger import Circuit, Fault, Lines
+
+# How many gates a picture has at most, where nothing is said.
+MOST = 300
+SHAPES = {"i": "invtriangle", "l": "box", "o": "triangle", "b": "octagon, color=red", "c": "house"}
+
+
+def node(name, label, shape):
+    """A node."""
+    return f"  {name} [label={json.dumps(label)}, shape={shape}];"
+
+
+def edge(literal, to, more=""):
+    """An edge from the node of a literal, whose names are those of even literals."""
+    style = ", ".join(["style=dashed"] * (literal & 1) + [more] * bool(more))
+    return f"  n{literal & ~1} -> {to}{f' [{style}]' * bool(style)};"
+
+
+def graph(circuit):
+    """The lines of the graph: leaves, gates and then what is asked about, and the edges."""
+    labels = [(letter, i, literal, circuit.name(letter, i).decode("utf-8", "replace")) for letter, i, literal in circuit.signals()]
+    firsts = ["01?"[min(reset, 2)] for reset in circuit.resets]
+    nodes, ends, edges = [], [], []
+    for letter, i, literal, label in labels:
+        if letter in "il":
+            (nodes if letter == "i" else ends).append(node(f"n{literal}", label + f" = {firsts[i]}" * (letter == "l"), SHAPES[letter]))
+    latches = ["  subgraph cluster_latches {", *("  " + line for line in ends), "  }"] if ends else []
+    nodes += latches + [node(f"n{gate}", str(gate), "circle") for gate, _, _ in circuit.gates]
+    edges += [edge(operand, f"n{gate}") for gate, *row in circuit.gates for operand in row]
+    edges += [edge(next, f"n{latch}", "penwidth=2") for latch, next in zip(circuit.latches, circuit.nexts)]
+    for letter, i, literal, label in labels:
+        if letter in "obc":
+            nodes.append(node(f"{letter}{i}", label, SHAPES[letter]))
+            edges.append(edge(literal, f"{letter}{i}"))
+    if any(line.startswith("  n0 ") for line in edges):
+        nodes.insert(0, node("n0", "0", "plaintext"))
+    return ["digraph {", "  rankdir=LR;", *nodes, *edges, "}"]
+
+
+def parse():
+    """The words of the command line."""
+    parser = argparse.ArgumentParser(description=__doc__, formatter_class=argparse.RawDescriptionHelpFormatter)
+    parser.add_argument("--gates", metavar="N", type=int, default=MOST, help=f"draw a circuit of up to so many gates ({MOST})")
+    parser.add_argument("file", metavar="FILE", help="a file in AIGER form, text or binary")
+    return parser.parse_args()
+
+
+def main():
+    words = parse()
+    try:
+        with open(words.file, "rb") as file:
+            circuit = Circuit(Lines(file.read(), "FILE"))
+        if len(circuit.gates) > words.gates:
+            raise Fault(f"FILE has {len(circuit.gates)} gates; --gates {len(circuit.gates)} draws them")
+        print("\n".join(graph(circuit)))
+    except (Fault, OSError, ValueError) as fault:
+        print(f"dot: {fault}", file=sys.stderr)
+        sys.exit(1)
+
+
+if __name__ == "__main__":
+    main()
