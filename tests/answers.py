@@ -25,6 +25,7 @@ TABLES = {
     "answers/clauses.tsv": "aigcheck {}",
     "answers/proofs.tsv": "aigcheck {}",
     "answers/solutions.tsv": "aigcheck {}",
+    "answers/certificates.tsv": "aigcheck {}",
     "answers/words.tsv": "aigcheck {}",
     "witnesses/rows.tsv": "aigcheck run {} GIVEN",
 }
@@ -74,6 +75,7 @@ UNWRITTEN = {
     "aigedit": ["miter toggle.aag stuck.aag", "join toggle.aag stuck.aag"],
 }
 UNWRITTEN["aigcheck"] += ["witness delayed.aag 1 {solved}", "run ../witnesses/counter.aag {shown}"]
+UNWRITTEN["aigcheck"] += ["certified stuck.aag stuck.aag {conflict} {conflict}", "equal toggle.aag stuck.aag 0 {conflict}"]
 # The comments of the query of credits.aag for step 0: each leaf and gate is the variable of its number in the file, and one more.
 CREDITS = "../../examples/credits.aag"
 COMMENTS = b"c i0 at step 0 is 2\nc i1 at step 0 is 3\nc l0 at step 0 is 4\nc l1 at step 0 is 5\nc b0 at step 0 is 20\n"

@@ -17,7 +17,8 @@ USAGE = {
     "aigtool": b"usage: aigtool text FILE, binary FILE OUT, strash FILE, cnf FILE K [raw], query FILE K [raw]\n",
     "aigedit": b"usage: aigedit miter FILE OTHER, join FILE CERT\n",
     "aigcheck": b"usage: aigcheck clauses FILE K [raw], window FILE K [distinct] [raw], refuted FILE K PROOF [raw], "
-    b"inductive FILE K PROOF [distinct] [raw], witness FILE K SOLUTION [raw], run FILE WITNESS\n",
+    b"inductive FILE K PROOF [distinct] [raw], witness FILE K SOLUTION [raw], run FILE WITNESS, "
+    b"certified FILE CERT BASE STEP [raw], equal FILE OTHER K PROOF [raw]\n",
 }
 TOOL, EDIT, CHECK = (str(TOP / "crates" / name / "out" / name) for name in ["aigtool", "aigedit", "aigcheck"])
 PROVE = str(TOP / "bin" / "aigprove")

@@ -32,9 +32,10 @@ WHOLE = (
 COMMANDS = [["text"], ["strash"], ["cnf", "2"], ["cnf", "2", "raw"], ["query", "1"], ["query", "1", "raw"]]
 
 # What the commands of aigcheck read beside that file, whose constraint fails in each initial state: a latch that waits for an input,
-# one that takes the input of the step before, and a count of two bits; and a proof, a solver's answer and a witness of each.
+# its certificate, a latch that takes the input of the step before, and a count of two bits; and proofs, a solver's answer and a witness.
 CHECKED = {
     "waiting.aag": b"aag 3 1 1 0 1 1\n2\n4 4\n6\n6 4 2\ni0 go\nl0 waits\nb0 gone\n",
+    "held.aag": b"aag 2 1 1 0 0 0 1\n2\n4 4\n5\nl0 waits\n",
     "delayed.aag": b"aag 2 1 1 0 0 1\n2\n4 2\n4\ni0 in\nl0 before\nb0 bad\n",
     "counter.aag": b"aag 10 1 2 0 7 1\n2\n4 12\n6 18\n20\n8 4 2\n10 5 3\n12 11 9\n14 8 6\n16 9 7\n18 17 15\n20 6 4\ni0 up\nl0 low\nl1 high\n",
     "conflict": b"0\n",
@@ -52,6 +53,9 @@ CHECKS = [
     ["witness", "delayed.aag", "1", "solution"],
     ["witness", "delayed.aag", "1", "solution", "raw"],
     ["run", "counter.aag", "witness"],
+    *(["certified", "waiting.aag", "held.aag", "conflict", "conflict", *raw] for raw in ([], ["raw"])),
+    *(["equal", form, other, "1", "conflict"] for form, other in (("whole.aag", "whole.aig"), ("whole.aig", "whole.aag"))),
+    ["equal", "delayed.aag", "delayed.aag", "1", "conflict", "raw"],
 ]
 # The commands of aigedit on that file and itself: its miter, and it as its own certificate.
 EDITS = [[command, form, other] for command in ("miter", "join") for form, other in (("whole.aag", "whole.aig"), ("whole.aig", "whole.aag"))]
@@ -272,7 +276,7 @@ class Program:
             ended = self.shim.run([self.path, *words], room, refused)
             if ended.requests < refused:
                 break
-            told = [f"{self.name}: {file}out of memory\n".encode() for file in ("", "other file: ")]
+            told = [f"{self.name}: {part}out of memory\n".encode() for part in ("", "other file: ", "query: ", "window: ")]
             if ended.status != 1 or ended.err not in told or not out.startswith(ended.out):
                 wrong.append(f"{name}, request {refused}: status {ended.status}, {ended.err}")
             if self.contents(room) != files:

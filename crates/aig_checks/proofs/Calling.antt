@@ -1,5 +1,5 @@
 -- Words give one command.
-use Rattle.std.proofs.Common.{◌≢◌, Bool, length, map, get_or, Global, ◌≡◌, ◌↔◌, ℕ, ◌<◌, ◌^◌, List, ◌∷◌, [], Some, refl, sym, ap, ◌∙◌, arith}
+use Rattle.std.proofs.Common.{◌≢◌, Bool, length, map, get_or, Global, ◌≡◌, ◌↔◌, ℕ, List, ◌∷◌, [], Some, refl, sym, ap, ◌∙◌, arith}
 use Rattle.std.specs.Prelude.{All, Contains, Err, Ok, Result, String, codes, string_bytes}
 use Rattle.std.proofs.lemmas.Option.{same_Some}
 use Rattle.aig_command_line.specs.declared.about.Question.{Question}
@@ -14,6 +14,8 @@ use Rattle.aig_checks.specs.declared.command.Action.{Action}
 use Rattle.aig_checks.specs.declared.command.Action.TheVariants as actions
 use Rattle.aig_checks.specs.declared.command.Command.{Command}
 use Rattle.aig_checks.specs.declared.command.Command.TheVariants as commands
+use Rattle.aig_checks.specs.declared.command.FileCommand.{FileCommand}
+use Rattle.aig_checks.specs.declared.command.FileCommand.TheVariants as on_file
 use Rattle.aig_checks.specs.declared.command.TheConstants.Action.{ALL}
 use Rattle.aig_checks.specs.Words.{Give, IsCall, beside_of, command_of, form_of, name_of}
 
@@ -25,6 +27,8 @@ among actions.Refuted = (2, omega arith, refl)
 among actions.Inductive = (3, omega arith, refl)
 among actions.Witness = (4, omega arith, refl)
 among actions.Run = (5, omega arith, refl)
+among actions.Certified = (6, omega arith, refl)
+among actions.Equal = (7, omega arith, refl)
 
 -- what holds of each in the list holds of each
 pub each : (P : Action → Type 0) → All P ALL → (a : Action) → P a
@@ -62,22 +66,31 @@ pub never_none : {E : Type 0} (done : Result (Unit {0}) E) → ended done ≡ en
 never_none (Ok u) is = cc
 never_none (Err e) is = cc
 
--- ---- what is given beside FILE
+-- ---- what is given beside the files
 
-pub one_beside : (c : Command) → ((k : ℕ) (o : Bool) → c ≢ commands.Clauses k o) → ((k : ℕ) (form : Window) (o : Bool) → c ≢ commands.Window k form o)
-    → beside_of c ≡ 1
-one_beside (commands.Clauses k o) no_clauses no_window = absurd (no_clauses k o refl)
-one_beside (commands.Window k form o) no_clauses no_window = absurd (no_window k form o refl)
-one_beside (commands.Refuted k o) no_clauses no_window = refl
-one_beside (commands.Inductive k form o) no_clauses no_window = refl
-one_beside (commands.Witness k o) no_clauses no_window = refl
-one_beside commands.Run no_clauses no_window = refl
+pub one_beside : (c : FileCommand) → ((k : ℕ) (o : Bool) → c ≢ on_file.Clauses k o) → ((k : ℕ) (form : Window) (o : Bool) → c ≢ on_file.Window k form o)
+    → beside_of (commands.File c) ≡ 1
+one_beside (on_file.Clauses k o) no_clauses no_window = absurd (no_clauses k o refl)
+one_beside (on_file.Window k form o) no_clauses no_window = absurd (no_window k form o refl)
+one_beside (on_file.Refuted k o) no_clauses no_window = refl
+one_beside (on_file.Inductive k form o) no_clauses no_window = refl
+one_beside (on_file.Witness k o) no_clauses no_window = refl
+one_beside on_file.Run no_clauses no_window = refl
 
-pub some_beside : (further : List (String Global)) → length further ≡ 1 → map string_bytes further ≡ [] → ⊥
-some_beside [] one none = absurd (omega (arith, one))
-some_beside (x ∷ xs) one none = cc
+-- the names in a list of none, of one and of two
+pub no_names : (xs : List (String Global)) → length xs ≡ 0 → map string_bytes xs ≡ []
+no_names [] none = refl
+no_names (x ∷ xs) none = absurd (omega (arith, none))
 
-pub first_beside : (further : List (String Global)) (x : String Global) → length further ≡ 1 → x ≡ get_or further 0 x
-    → (path : List ℕ) (more : List (List ℕ)) → map string_bytes further ≡ path ∷ more → string_bytes x ≡ path
-first_beside [] x one at path more are = absurd (omega (arith, one))
-first_beside (y ∷ ys) x one at path more are = let first : string_bytes y ≡ path = cc in ap string_bytes at ∙ first
+pub one_name : (xs : List (String Global)) (x : String Global) → length xs ≡ 1 → x ≡ get_or xs 0 x
+    → map string_bytes xs ≡ string_bytes x ∷ []
+one_name [] x one at = absurd (omega (arith, one))
+one_name (y ∷ []) x one at = ap (λ z. string_bytes z ∷ []) (sym at)
+one_name (y ∷ z ∷ xs) x one at = absurd (omega (arith, one))
+
+pub two_names : (xs : List (String Global)) (x y : String Global) → length xs ≡ 2 → x ≡ get_or xs 0 x → y ≡ get_or xs 1 y
+    → map string_bytes xs ≡ string_bytes x ∷ string_bytes y ∷ []
+two_names [] x y two at_first at_second = absurd (omega (arith, two))
+two_names (a ∷ []) x y two at_first at_second = absurd (omega (arith, two))
+two_names (a ∷ b ∷ []) x y two at_first at_second = rw (at_first, at_second) refl
+two_names (a ∷ b ∷ z ∷ xs) x y two at_first at_second = absurd (omega (arith, two))

@@ -14,29 +14,30 @@ use Rattle.aig_refutation.specs.declared.error.RefutationError.{RefutationError}
 use Rattle.aig_answers.specs.declared.error.AnswerError.TheVariants as answers
 use Rattle.aig_witness.specs.declared.error.WitnessError.TheVariants as witness
 use Rattle.aig_witness_check.specs.declared.file.ShowError.TheVariants as shows
-use Rattle.aig_checks.specs.declared.command.Command.{Command}
+use Rattle.aig_checks.specs.declared.command.FileCommand.{FileCommand}
 use Rattle.aig_checks.specs.declared.tool.CheckError.TheVariants as errors
 use Rattle.aig_checks.specs.Running.{Answers, IsErrorOf, TellsOfGiven, file_verdict, shown_line, window_line}
 use Rattle.aig_command_line.specs.Arguments.{Gives, setting_words}
 use Rattle.aig_checks.specs.declared.command.Action.{Action}
 use Rattle.aig_checks.specs.declared.command.Action.TheVariants as actions
-use Rattle.aig_checks.specs.declared.command.Command.TheVariants as commands
+use Rattle.aig_checks.specs.declared.command.Command.TheVariants as asked
+use Rattle.aig_checks.specs.declared.command.FileCommand.TheVariants as commands
 use Rattle.aig_checks.specs.Comments.{comments_of, input_lines, literal_line}
 use Rattle.aig_checks.specs.Words.{Give, command_of, form_of, name_of}
 
 -- ---- words
 
-is_run : (a : Action) (k : ℕ) (d o : Bool) → commands.Run ≡ command_of a k d o → a ≡ actions.Run
+is_run : (a : Action) (k : ℕ) (d o : Bool) → asked.File commands.Run ≡ command_of a k d o → a ≡ actions.Run
 is_run actions.Run k d o is = refl
 is_run a k d o is = cc
 
-is_witness : (a : Action) (k m : ℕ) (d o p : Bool) → commands.Witness m p ≡ command_of a k d o → a ≡ actions.Witness
+is_witness : (a : Action) (k m : ℕ) (d o p : Bool) → asked.File (commands.Witness m p) ≡ command_of a k d o → a ≡ actions.Witness
 is_witness actions.Witness k m d o p is = refl
 is_witness a k m d o p is = cc
 
 -- a witness, and a word more
 no_more_words : (file witness more : List ℕ)
-    → ¬ Give (codes "run" ∷ file ∷ witness ∷ more ∷ []) commands.Run
+    → ¬ Give (codes "run" ∷ file ∷ witness ∷ more ∷ []) (asked.File commands.Run)
 no_more_words file witness more give =
     let call = give.2 in
     let x = call.arguments in
@@ -58,7 +59,7 @@ no_more_words file witness more give =
 
 -- a proof for a witness
 no_other_name : (file steps proof : List ℕ) (k : ℕ) (optimize : Bool)
-    → ¬ Give (codes "refuted" ∷ file ∷ steps ∷ proof ∷ []) (commands.Witness k optimize)
+    → ¬ Give (codes "refuted" ∷ file ∷ steps ∷ proof ∷ []) (asked.File (commands.Witness k optimize))
 no_other_name file steps proof k optimize give =
     let call = give.2 in
     let x = call.arguments in
@@ -128,7 +129,7 @@ no_failed_read : (limit : ℕ) (old new given : Option (List ℕ))
 no_failed_read limit old new given tells = let failed : false ≡ true = tells in cc
 
 -- a file is answered, a read of which failed
-no_answer_after_a_failure : (c : Command) (limit : ℕ) (old new : Option (List ℕ))
+no_answer_after_a_failure : (c : FileCommand) (limit : ℕ) (old new : Option (List ℕ))
     → ¬ Judges (file_verdict c limit) limit old new true Accepted
 no_answer_after_a_failure c limit old new said =
     let failed : true ≡ false = (said.whole tt).0 in cc

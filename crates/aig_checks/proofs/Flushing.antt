@@ -1,88 +1,146 @@
--- A command on files that are opened, whose answer is flushed.
-use Rattle.std.proofs.Common.{◌≡◌, Bool, false, List, [], ℕ, Option, Ok, Err, refl, sym}
-use Rattle.std.specs.Prelude.{IsTrue, Result}
+-- What a command printed on files that were opened, and was flushed.
+use Rattle.std.proofs.Common.{◌≡◌, Bool, false, List, [], ◌∷◌, ℕ, Option, Ok, Err, refl, sym}
+use Rattle.std.specs.Prelude.{IfErr, IsTrue, Result}
 use Rattle.std.specs.Io.KnownBytes.{Appends, Keeps}
 use Rattle.std.proofs.lemmas.List.{append-nil}
 use Rattle.aig_command_line.proofs.Kept.{appends_kept}
 use Rattle.aig_command_line.specs.declared.files.OpenError.{OpenError}
+use Rattle.aig_edits.proofs.Reading.{reads_on}
+use Rattle.aig_edits.specs.Pairs.{ReadsPair}
+use Rattle.aig_format.specs.File.{File}
+use Rattle.aig_output.specs.Sinks.{Stops}
+use Rattle.aig_reader.specs.Verdicts.{Accepted, verdict_by}
 use Rattle.aig_checks.specs.declared.command.Command.{Command}
+use Rattle.aig_checks.specs.declared.command.Command.TheVariants as commands
+use Rattle.aig_checks.specs.declared.command.FileCommand.{FileCommand}
+use Rattle.aig_checks.specs.declared.command.PairCommand.{PairCommand}
+use Rattle.aig_checks.specs.declared.tool.CheckError.{CheckError}
 use Rattle.aig_checks.specs.declared.tool.CheckError.TheVariants as errors
 use Rattle.aig_checks.specs.declared.tool.TheConstants.{LIMIT}
-use Rattle.aig_checks.specs.Acting.{RunsFile, RunsGiven, Says}
-use Rattle.aig_checks.specs.Running.{Runs, nothing_fails, nothing_given}
+use Rattle.aig_checks.specs.Acting.{Acts, RunsFile, RunsProofs, Says}
+use Rattle.aig_checks.specs.Opening.{OnOpening, Opening}
+use Rattle.aig_checks.specs.Pairs.{IsErrorOfPair, RunsPair, TellsOfPair, other_verdict_of}
+use Rattle.aig_checks.specs.Running.{Runs, nothing_fails, nothing_given, verdict_of}
 
-module _ {R P W : Type 0} (left : R → Option (List ℕ)) (failed : R → Bool) (given : P → Option (List ℕ)) (given_failed : P → Bool) (held : W → Option (List ℕ)) (write_failed : W → Bool) (c : Command) (u : Unit {0}) (r rest : R) (w made flat : W) (keeps : Keeps (held made) (held flat)) where
-  -- what was printed is flushed
-  runs_flushed : (p used : P) → Runs left failed given given_failed held write_failed c LIMIT r p w (Ok u) rest used made
-      → write_failed flat ≡ false → Runs left failed given given_failed held write_failed c LIMIT r p w (Ok u) rest used flat
-  runs_flushed p used runs sound =
-      let answer = runs.ok in
-      record {
-        verdict = runs.verdict;
-        own = tt;
-        ok = (answer.0, answer.1, (appends_kept (held w) (held made) (held flat) answer.0 answer.2.0 keeps, sound));
-        stopped = λ is. cc;
-        kept = tt;
-        unread = tt;
-        refusal = tt;
-      }
+-- ---- files that are opened
 
-  -- or it could not be
-  runs_unflushed : (p used : P) → Runs left failed given given_failed held write_failed c LIMIT r p w (Ok u) rest used made
-      → IsTrue (write_failed flat) → Runs left failed given given_failed held write_failed c LIMIT r p w (Err errors.Write) rest used flat
-  runs_unflushed p used runs has_failed =
-      let answer = runs.ok in
-      record {
-        verdict = runs.verdict;
-        own = tt;
-        ok = tt;
-        stopped = λ is. (
-          answer.0,
-          answer.1,
-          record {
-            beginning = (answer.0, [], sym (append-nil answer.0), appends_kept (held w) (held made) (held flat) answer.0 answer.2.0 keeps);
-            has_failed = has_failed;
-          },
-        );
-        kept = λ not. absurd (not refl);
-        unread = λ no. absurd no;
-        refusal = tt;
-      }
+module _ {F : Type 0} (Holds Also : F → Type 0) (Fails AlsoFails : CheckError → Type 0) (on : (f : F) → Holds f → Also f) (off : (e : CheckError) → Fails e → AlsoFails e) where
+  leads_on : (file : Result F OpenError) → OnOpening Holds Fails file → OnOpening Also AlsoFails file
+  leads_on (Ok f) leads = on f leads
+  leads_on (Err e) leads = off _ leads
 
-  -- of a file beside the other that was opened
-  given_flushed : (file : Result P OpenError) → RunsGiven left failed given given_failed held write_failed c file r w (Ok u) rest made
-      → write_failed flat ≡ false → RunsGiven left failed given given_failed held write_failed c file r w (Ok u) rest flat
-  given_flushed (Ok p) runs sound = (runs.0, runs_flushed p runs.0 runs.1 sound)
-  given_flushed (Err e) runs sound = let is = runs.0 in cc
+  -- what holds of a file that was opened, or of the error, may be another thing that follows
+  opening_on : (opens : List ℕ → Result F OpenError → Type 0) (path : List ℕ) → Opening opens path Holds Fails → Opening opens path Also AlsoFails
+  opening_on opens path o = record { file = o.file; opened = o.opened; leads = leads_on o.file o.leads }
 
-  given_unflushed : (file : Result P OpenError) → RunsGiven left failed given given_failed held write_failed c file r w (Ok u) rest made
-      → IsTrue (write_failed flat) → RunsGiven left failed given given_failed held write_failed c file r w (Err errors.Write) rest flat
-  given_unflushed (Ok p) runs has_failed = (runs.0, runs_unflushed p runs.0 runs.1 has_failed)
-  given_unflushed (Err e) runs has_failed = let is = runs.0 in cc
+-- ---- the flush after an answer
 
-module _ {F W : Type 0} (opens : List ℕ → Result F OpenError → Type 0) (left : F → Option (List ℕ)) (failed : F → Bool) (held : W → Option (List ℕ)) (write_failed : W → Bool) (c : Command) (further : List (List ℕ)) (u : Unit {0}) (w made flat : W) (keeps : Keeps (held made) (held flat)) where
-  -- of FILE that was opened
-  pub file_flushed : (file rest : F) → RunsFile opens left failed left failed held write_failed c further file w (Ok u) rest made
-      → write_failed flat ≡ false → RunsFile opens left failed left failed held write_failed c further file w (Ok u) rest flat
-  file_flushed file rest runs sound = record {
-    alone = λ none. runs_flushed left failed nothing_given nothing_fails held write_failed c u file rest w made flat keeps tt tt (runs.alone none) sound;
-    beside = λ path more are. let b = runs.beside path more are in record {
-      file = b.file;
-      opened = b.opened;
-      runs = given_flushed left failed left failed held write_failed c u file rest w made flat keeps b.file b.runs sound;
-    };
+-- how it ends the command
+abbrev pub EndsBy : Bool → Result Unit CheckError → Type 0
+EndsBy failed (Ok u) = failed ≡ false
+EndsBy failed (Err errors.Write) = IsTrue failed
+EndsBy failed (Err e) = ⊥
+
+accepted_by : (failed : Bool) (done : Result Unit CheckError) → EndsBy failed done → verdict_by verdict_of done ≡ Accepted
+accepted_by failed (Ok u) ends = refl
+accepted_by failed (Err errors.Write) ends = refl
+accepted_by failed (Err e) ends = absurd ends
+
+other_accepted_by : (failed : Bool) (done : Result Unit CheckError) → EndsBy failed done → verdict_by other_verdict_of done ≡ Accepted
+other_accepted_by failed (Ok u) ends = refl
+other_accepted_by failed (Err errors.Write) ends = refl
+other_accepted_by failed (Err e) ends = absurd ends
+
+own_by : (failed : Bool) (done : Result Unit CheckError) → EndsBy failed done → IfErr done IsErrorOfPair
+own_by failed (Ok u) ends = tt
+own_by failed (Err errors.Write) ends = tt
+own_by failed (Err e) ends = absurd ends
+
+module _ {W : Type 0} (held : W → Option (List ℕ)) (write_failed : W → Bool) (w made flat : W) (keeps : Keeps (held made) (held flat)) where
+  -- a text that could not be flushed
+  stops_unflushed : (text : List ℕ) → Appends (held w) (held made) text → IsTrue (write_failed flat) → Stops (held w) (held flat) (write_failed flat) text
+  stops_unflushed text grows lost = record {
+    beginning = (text, [], sym (append-nil text), appends_kept (held w) (held made) (held flat) text grows keeps);
+    has_failed = lost;
   }
 
-  pub file_unflushed : (file rest : F) → RunsFile opens left failed left failed held write_failed c further file w (Ok u) rest made
-      → IsTrue (write_failed flat) → RunsFile opens left failed left failed held write_failed c further file w (Err errors.Write) rest flat
-  file_unflushed file rest runs has_failed = record {
-    alone = λ none. runs_unflushed left failed nothing_given nothing_fails held write_failed c u file rest w made flat keeps tt tt (runs.alone none) has_failed;
-    beside = λ path more are. let b = runs.beside path more are in record {
-      file = b.file;
-      opened = b.opened;
-      runs = given_unflushed left failed left failed held write_failed c u file rest w made flat keeps b.file b.runs has_failed;
-    };
-  }
+  module _ (u : Unit {0}) where
+    runs_ended : {R P : Type 0} (left : R → Option (List ℕ)) (failed : R → Bool) (given : P → Option (List ℕ)) (given_failed : P → Bool) (c : FileCommand) (r rest : R) (p used : P) (done : Result Unit CheckError)
+        → Runs left failed given given_failed held write_failed c LIMIT r p w (Ok u) rest used made
+        → EndsBy (write_failed flat) done → Runs left failed given given_failed held write_failed c LIMIT r p w done rest used flat
+    runs_ended left failed given given_failed c r rest p used (Ok v) runs sound =
+        let answer = runs.ok in
+        record {
+          verdict = runs.verdict;
+          own = tt;
+          ok = (answer.0, answer.1, (appends_kept (held w) (held made) (held flat) answer.0 answer.2.0 keeps, sound));
+          stopped = λ is. cc;
+          kept = tt;
+          unread = tt;
+          refusal = tt;
+        }
+    runs_ended left failed given given_failed c r rest p used (Err errors.Write) runs lost =
+        let answer = runs.ok in
+        record {
+          verdict = runs.verdict;
+          own = tt;
+          ok = tt;
+          stopped = λ is. (answer.0, answer.1, stops_unflushed answer.0 answer.2.0 lost);
+          kept = λ not. absurd (not refl);
+          unread = λ no. absurd no;
+          refusal = tt;
+        }
+    runs_ended left failed given given_failed c r rest p used (Err e) runs never = absurd never
+
+    told_ended : (c : PairCommand) (f g : File) (done : Result Unit CheckError) → TellsOfPair held write_failed c LIMIT w made f g (Ok u)
+        → EndsBy (write_failed flat) done → TellsOfPair held write_failed c LIMIT w flat f g done
+    told_ended c f g (Ok v) told sound = (told.0, told.1, appends_kept (held w) (held made) (held flat) told.0 told.2 keeps, sound)
+    told_ended c f g (Err errors.Write) told lost = (told.0, told.1, stops_unflushed told.0 told.2 lost)
+    told_ended c f g (Err e) told never = absurd never
+
+    pair_ended : {R S P Q : Type 0} (left : R → Option (List ℕ)) (failed : R → Bool) (left_of : S → Option (List ℕ)) (failed_of : S → Bool) (base_failed : P → Bool) (step_failed : Q → Bool) (c : PairCommand) (r rest : R) (s other : S) (p used : P) (q spent : Q) (done : Result Unit CheckError)
+        → RunsPair left failed left_of failed_of base_failed step_failed held write_failed c LIMIT r s p q w (Ok u) rest other used spent made
+        → EndsBy (write_failed flat) done → RunsPair left failed left_of failed_of base_failed step_failed held write_failed c LIMIT r s p q w done rest other used spent flat
+    pair_ended left failed left_of failed_of base_failed step_failed c r rest s other p used q spent done runs ends =
+        let reads =
+        reads_on left failed left_of failed_of LIMIT r s rest other (TellsOfPair held write_failed c LIMIT w flat) verdict_of other_verdict_of IsErrorOfPair done runs.reads (accepted_by _ done ends) (other_accepted_by _ done ends) (own_by _ done ends)
+        (λ f g bytes others fits also told. told_ended c f g done told ends) in
+        end done ends reads
+      where
+        end : (x : Result Unit CheckError) → EndsBy (write_failed flat) x
+            → ReadsPair left failed left_of failed_of LIMIT (TellsOfPair held write_failed c LIMIT w flat) verdict_of other_verdict_of IsErrorOfPair r s x rest other
+            → RunsPair left failed left_of failed_of base_failed step_failed held write_failed c LIMIT r s p q w x rest other used spent flat
+        end (Ok v) sound reads = record { reads = reads; kept = tt; base_unread = tt; step_unread = tt; base_stream = λ is. cc; step_stream = λ is. cc }
+        end (Err errors.Write) lost reads = record { reads = reads; kept = λ not. absurd (not refl); base_unread = λ no. absurd no; step_unread = λ no. absurd no; base_stream = λ is. cc; step_stream = λ is. cc }
+        end (Err e) never reads = absurd never
+
+module _ {F W : Type 0} (opens : List ℕ → Result F OpenError → Type 0) (left : F → Option (List ℕ)) (failed : F → Bool) (held : W → Option (List ℕ)) (write_failed : W → Bool) (w made flat : W) (keeps : Keeps (held made) (held flat)) (u : Unit {0}) (done : Result Unit CheckError) (ends : EndsBy (write_failed flat) done) where
+  file_ended : (c : FileCommand) (further : List (List ℕ)) (r rest : F) → RunsFile opens left failed left failed held write_failed c further r w (Ok u) rest made
+      → RunsFile opens left failed left failed held write_failed c further r w done rest flat
+  file_ended c [] r rest runs = runs_ended held write_failed w made flat keeps u left failed nothing_given nothing_fails c r rest tt tt done runs ends
+  file_ended c (path ∷ more) r rest runs =
+      opening_on _ _ _ _ (λ p so. (so.0, runs_ended held write_failed w made flat keeps u left failed left failed c r rest p so.0 done so.1 ends)) (λ e no. let is = no.0 in cc) opens path runs
+
+  proofs_ended : (c : PairCommand) (further : List (List ℕ)) (r rest s other : F) → RunsProofs opens left failed left failed failed held write_failed c further r s w (Ok u) rest other made
+      → RunsProofs opens left failed left failed failed held write_failed c further r s w done rest other flat
+  proofs_ended c [] r rest s other runs = pair_ended held write_failed w made flat keeps u left failed left failed nothing_fails nothing_fails c r rest s other tt tt tt tt done runs ends
+  proofs_ended c (proof ∷ []) r rest s other runs =
+      opening_on _ _ _ _ (λ p so. (so.0, pair_ended held write_failed w made flat keeps u left failed left failed failed nothing_fails c r rest s other p so.0 tt tt done so.1 ends)) (λ e no. let is = no.0 in cc) opens proof runs
+  proofs_ended c (base ∷ step ∷ more) r rest s other runs =
+      opening_on _ _ _ _
+      (λ p. opening_on _ _ _ _ (λ q so. (so.0, so.1, pair_ended held write_failed w made flat keeps u left failed left failed failed failed c r rest s other p so.0 q so.1 done so.2 ends)) (λ e no. let is = no.0 in cc) opens step)
+      (λ e no. let is = no.0 in cc) opens base runs
+
+  -- a command that was run, and what it printed flushed
+  pub acts_ended : (c : Command) (paths further : List (List ℕ)) → Acts opens left failed held write_failed c paths further w (Ok u) made
+      → Acts opens left failed held write_failed c paths further w done flat
+  acts_ended (commands.File c) (path ∷ []) further acts =
+      opening_on _ _ _ _ (λ r so. (so.0, file_ended c further r so.0 so.1)) (λ e no. let is = no.0 in cc) opens path acts
+  acts_ended (commands.Pair c) (path ∷ beside ∷ []) further acts =
+      opening_on _ _ _ _
+      (λ r. opening_on _ _ _ _ (λ s so. (so.0, so.1, proofs_ended c further r so.0 s so.1 so.2)) (λ e no. let is = no.0 in cc) opens beside)
+      (λ e no. let is = no.0 in cc) opens path acts
+  acts_ended c paths further acts = absurd acts
 
 -- a text that was written could not be flushed
 pub said_unflushed : {W : Type 0} (held : W → Option (List ℕ)) (write_failed flushed : W → Bool) (text : List ℕ) (w made flat : W) → Appends (held w) (held made) text
@@ -91,11 +149,5 @@ said_unflushed held write_failed flushed text w made flat grows keeps has_failed
   ok = tt;
   sound = tt;
   done = tt;
-  err = (
-    refl,
-    record {
-      beginning = (text, [], sym (append-nil text), appends_kept (held w) (held made) (held flat) text grows keeps);
-      has_failed = has_failed;
-    },
-  );
+  err = (refl, stops_unflushed held write_failed w made flat keeps text grows has_failed);
 }

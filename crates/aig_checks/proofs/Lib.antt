@@ -2,6 +2,7 @@ mod Commenting
 mod Calling
 mod Flushing
 mod Outcomes
+mod Pairing
 mod Placing
 mod Shown
 mod Examples

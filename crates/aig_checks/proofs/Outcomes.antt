@@ -19,23 +19,23 @@ use Rattle.aig_solutions.specs.declared.error.SolutionError.{SolutionError}
 use Rattle.aig_solutions.specs.Checked.{RefusesSolution}
 use Rattle.aig_witness_check.specs.declared.file.ShowError.{ShowError}
 use Rattle.aig_witness_check.specs.declared.file.ShowError.TheVariants as shows
-use Rattle.aig_checks.specs.declared.command.Command.{Command}
+use Rattle.aig_checks.specs.declared.command.FileCommand.{FileCommand}
 use Rattle.aig_checks.specs.declared.tool.CheckError.{CheckError}
 use Rattle.aig_checks.specs.declared.tool.CheckError.TheVariants as errors
 use Rattle.aig_checks.specs.Printing.{IsOfSolution, IsOfText, Prints}
 use Rattle.aig_checks.specs.Running.{Answers, IsErrorOf, IsOfFileAlone, Runs, TellsOfGiven, TellsOfSolution, file_verdict, steps_of, verdict_of}
 
-is_error : (T E : Type 0) (e x : E) → IsErrOf {T = T} (Err e) x → e ≡ x
+pub is_error : (T E : Type 0) (e x : E) → IsErrOf {T = T} (Err e) x → e ≡ x
 is_error T E e x is = cc
 
 -- what an error tells of a proof
-tells_of_proof : (c : Command) (limit : ℕ) (old new given : Option (List ℕ)) (failed : Bool)
+tells_of_proof : (c : FileCommand) (limit : ℕ) (old new given : Option (List ℕ)) (failed : Bool)
     (e : AnswerError) → (e ≡ answers.Refutation refutation.Stream → IsTrue failed)
     → TellsOfGiven c limit old new given failed (errors.Answer e)
 tells_of_proof c limit old new given failed (answers.Refutation refutation.Stream) stream = stream refl
 tells_of_proof c limit old new given failed e stream = tt
 
-module _ {R P W : Type 0} {left : R → Option (List ℕ)} {read_failed : R → Bool} {given : P → Option (List ℕ)} {given_failed : P → Bool} {held : W → Option (List ℕ)} {write_failed : W → Bool} {c : Command} {limit : ℕ} {r rest : R} {p used : P} {w made : W} where
+module _ {R P W : Type 0} {left : R → Option (List ℕ)} {read_failed : R → Bool} {given : P → Option (List ℕ)} {given_failed : P → Bool} {held : W → Option (List ℕ)} {write_failed : W → Bool} {c : FileCommand} {limit : ℕ} {r rest : R} {p used : P} {w made : W} where
   -- the file or what is given beside it is refused, or memory ran out
   pub refused : (e : CheckError) → Judges (file_verdict c limit) limit (left r) (left rest) (read_failed rest) (verdict_of e) → IsErrorOf c e → e ≢ errors.Write → made ≡ w → (IsOfFileAlone e → used ≡ p)
       → TellsOfGiven c limit (left r) (left rest) (given p) (given_failed used) e

@@ -10,7 +10,7 @@ use Rattle.aig_witness_check.specs.declared.file.Shown.{Shown}
 use Rattle.aig_witness_check.specs.Files.{ShowsNext}
 use Rattle.aig_reader.specs.Reading.{IsReadAs}
 use Rattle.aig_answers.specs.Answers.{IsAsked}
-use Rattle.aig_checks.specs.declared.command.Command.TheVariants as commands
+use Rattle.aig_checks.specs.declared.command.FileCommand.TheVariants as commands
 use Rattle.aig_checks.specs.Running.{Answers, shown_line}
 
 -- a list with an entry isn't empty

@@ -1,8 +1,8 @@
--- Part of what is promised.
+-- Serves private clauses alone.
 -- What the program does with its words. Files are opened as a trait says; of a file that is read it
 -- says the bytes that are left and whether a read failed, and of what is written to the bytes held,
 -- whether a write failed, and whether all of them are in their place.
-use Rattle.std.specs.Prelude.{◌≡◌, ◌↔◌, ℕ, Bool, false, IsTrue, List, [], ◌∷◌, ◌++◌, Option, Result, Ok, Err, IfErr, OnOk}
+use Rattle.std.specs.Prelude.{◌≡◌, ◌↔◌, ℕ, Bool, false, IsTrue, List, [], ◌∷◌, ◌++◌, Option, Result, Err, IfErr, OnOk}
 use Rattle.std.specs.Io.KnownBytes.{Appends}
 use Rattle.aig_output.specs.Sinks.{Stops}
 use Rattle.aig_command_line.specs.declared.about.Question.{Question}
@@ -11,71 +11,80 @@ use Rattle.aig_command_line.specs.declared.status.Ending.{Ending}
 use Rattle.aig_command_line.specs.declared.status.Ending.TheVariants as endings
 use Rattle.aig_command_line.specs.Ending.{ended}
 use Rattle.aig_command_line.specs.declared.files.OpenError.{OpenError}
-use Rattle.aig_command_line.specs.declared.files.OpenError.TheVariants as opening
 use Rattle.aig_checks.specs.declared.command.Command.{Command}
+use Rattle.aig_checks.specs.declared.command.Command.TheVariants as commands
+use Rattle.aig_checks.specs.declared.command.FileCommand.{FileCommand}
+use Rattle.aig_checks.specs.declared.command.PairCommand.{PairCommand}
 use Rattle.aig_checks.specs.declared.tool.TheConstants.{LIMIT}
 use Rattle.aig_checks.specs.declared.tool.CheckError.{CheckError}
 use Rattle.aig_checks.specs.declared.tool.CheckError.TheVariants as errors
+use Rattle.aig_checks.specs.Opening.{Opening}
+use Rattle.aig_checks.specs.Pairs.{RunsPair}
 use Rattle.aig_checks.specs.Running.{Runs, nothing_fails, nothing_given}
 use Rattle.aig_checks.specs.Words.{Give, IsCall}
 
--- what a file that is not opened is refused for
-abbrev pub unopened : OpenError → CheckError
-unopened opening.Refused = errors.Open
-unopened opening.Memory = errors.Memory
+-- the command was run on the open file, and on what is at the path beside it
+abbrev pub RunsFile : {R P W : Type 0} → (List ℕ → Result P OpenError → Type 0)
+    → (R → Option (List ℕ)) → (R → Bool) → (P → Option (List ℕ)) → (P → Bool)
+    → (W → Option (List ℕ)) → (W → Bool) → FileCommand → List (List ℕ) → R → W
+    → Result Unit CheckError → R → W → Type 0
+RunsFile opens left failed given given_failed held write_failed c [] r w result rest made =
+    Runs left failed nothing_given nothing_fails held write_failed c LIMIT r tt w result rest tt
+    made
+RunsFile {P = P} opens left failed given given_failed held write_failed c (path ∷ more) r w result
+    rest made =
+    Opening opens path
+    (λ p. (used : P)
+    × Runs left failed given given_failed held write_failed c LIMIT r p w result rest used made)
+    (λ e. (result ≡ Err e) × (rest ≡ r) × (made ≡ w))
 
--- the command was run on what was opened beside the file, or that was not opened, and nothing is
--- read or written
-abbrev pub RunsGiven : {R P W : Type 0} → (R → Option (List ℕ)) → (R → Bool)
-    → (P → Option (List ℕ)) → (P → Bool) → (W → Option (List ℕ)) → (W → Bool) → Command
-    → Result P OpenError → R → W → Result Unit CheckError → R → W → Type 0
-RunsGiven {R} {P} left failed given given_failed held write_failed c (Ok p) r w result rest made =
-    (used : P)
-    × Runs left failed given given_failed held write_failed c LIMIT r p w result rest used made
-RunsGiven left failed given given_failed held write_failed c (Err e) r w result rest made =
-    (result ≡ Err (unopened e)) × (rest ≡ r) × (made ≡ w)
+-- the command was run on the open files, and on the proofs at the paths beside them, which were
+-- opened first, in order
+abbrev pub RunsProofs : {R S P W : Type 0} → (List ℕ → Result P OpenError → Type 0)
+    → (R → Option (List ℕ)) → (R → Bool) → (S → Option (List ℕ)) → (S → Bool) → (P → Bool)
+    → (W → Option (List ℕ)) → (W → Bool) → PairCommand → List (List ℕ) → R → S → W
+    → Result Unit CheckError → R → S → W → Type 0
+RunsProofs opens left failed left_of failed_of proof_failed held write_failed c [] r s w result rest
+    other made =
+    RunsPair left failed left_of failed_of nothing_fails nothing_fails held write_failed c LIMIT r s
+    tt tt w result rest other tt tt made
+RunsProofs {P = P} opens left failed left_of failed_of proof_failed held write_failed c
+    (proof ∷ []) r s w result rest other made =
+    Opening opens proof
+    (λ p. (used : P)
+    × RunsPair left failed left_of failed_of proof_failed nothing_fails held write_failed c LIMIT r
+    s p tt w result rest other used tt made)
+    (λ e. (result ≡ Err e) × (made ≡ w))
+RunsProofs {P = P} opens left failed left_of failed_of proof_failed held write_failed c
+    (base ∷ step ∷ more) r s w result rest other made =
+    Opening opens base
+    (λ p. Opening opens step
+    (λ q. (used : P) × (spent : P)
+    × RunsPair left failed left_of failed_of proof_failed proof_failed held write_failed c LIMIT r s
+    p q w result rest other used spent made)
+    (λ e. (result ≡ Err e) × (made ≡ w)))
+    (λ e. (result ≡ Err e) × (made ≡ w))
 
--- the file at the path beside it was opened, and the command run on it
-pub record RunsBeside {R P W : Type 0} (opens : List ℕ → Result P OpenError → Type 0)
-    (left : R → Option (List ℕ)) (failed : R → Bool) (given : P → Option (List ℕ))
-    (given_failed : P → Bool) (held : W → Option (List ℕ)) (write_failed : W → Bool) (c : Command)
-    (path : List ℕ) (r : R) (w : W) (result : Result Unit CheckError) (rest : R) (made : W)
-    : Type 0 where
-  pub file : Result P OpenError
-  pub opened : opens path file
-  pub runs : RunsGiven left failed given given_failed held write_failed c file r w result rest made
-
--- the command was run on the file, and on what the words name beside it
-pub record RunsFile {R P W : Type 0} (opens : List ℕ → Result P OpenError → Type 0)
-    (left : R → Option (List ℕ)) (failed : R → Bool) (given : P → Option (List ℕ))
-    (given_failed : P → Bool) (held : W → Option (List ℕ)) (write_failed : W → Bool) (c : Command)
-    (further : List (List ℕ)) (r : R) (w : W) (result : Result Unit CheckError) (rest : R)
-    (made : W) : Type 0 where
-  pub alone : further ≡ [] → Runs left failed nothing_given nothing_fails held write_failed c LIMIT
-      r tt w result rest tt made
-  pub beside : (path : List ℕ) (more : List (List ℕ)) → further ≡ path ∷ more
-      → RunsBeside opens left failed given given_failed held write_failed c path r w result rest
-      made
-
--- that, of a file that was opened, or there is none, and nothing is written
-abbrev pub RunsOpened : {F W : Type 0} → (List ℕ → Result F OpenError → Type 0)
+-- What a command does with the files at its paths, which are opened first, in order: FILE, the file
+-- beside it, and what the words name beside these. Where one isn't opened, nothing is written.
+abbrev pub Acts : {F W : Type 0} → (List ℕ → Result F OpenError → Type 0)
     → (F → Option (List ℕ)) → (F → Bool) → (W → Option (List ℕ)) → (W → Bool) → Command
-    → List (List ℕ) → Result F OpenError → W → Result Unit CheckError → W → Type 0
-RunsOpened {F} opens left failed held write_failed c further (Ok file) w result made =
-    (rest : F)
-    × RunsFile opens left failed left failed held write_failed c further file w result rest made
-RunsOpened opens left failed held write_failed c further (Err e) w result made =
-    (result ≡ Err (unopened e)) × (made ≡ w)
-
--- FILE was opened, and the command run on it; after Ok what was printed is flushed
-pub record Acts {F W : Type 0} (opens : List ℕ → Result F OpenError → Type 0)
-    (left : F → Option (List ℕ)) (failed : F → Bool) (held : W → Option (List ℕ))
-    (write_failed flushed : W → Bool) (c : Command) (path : List ℕ) (further : List (List ℕ))
-    (w : W) (result : Result Unit CheckError) (made : W) : Type 0 where
-  pub file : Result F OpenError
-  pub opened : opens path file
-  pub runs : RunsOpened opens left failed held write_failed c further file w result made
-  pub done : OnOk result (IsTrue (flushed made))
+    → List (List ℕ) → List (List ℕ) → W → Result Unit CheckError → W → Type 0
+Acts {F} opens left failed held write_failed (commands.File c) (path ∷ []) further w result made =
+    Opening opens path
+    (λ r. (rest : F)
+    × RunsFile opens left failed left failed held write_failed c further r w result rest made)
+    (λ e. (result ≡ Err e) × (made ≡ w))
+Acts {F} opens left failed held write_failed (commands.Pair c) (path ∷ beside ∷ []) further w result
+    made =
+    Opening opens path
+    (λ r. Opening opens beside
+    (λ s. (rest : F) × (other : F)
+    × RunsProofs opens left failed left failed failed held write_failed c further r s w result rest
+    other made)
+    (λ e. (result ≡ Err e) × (made ≡ w)))
+    (λ e. (result ≡ Err e) × (made ≡ w))
+Acts opens left failed held write_failed c paths further w result made = ⊥
 
 -- a text is written and flushed, or a beginning of it is written, and the writer has failed
 pub record Says {W : Type 0} (held : W → Option (List ℕ)) (write_failed flushed : W → Bool)
@@ -98,8 +107,9 @@ pub record Obeys {F W : Type 0} (opens : List ℕ → Result F OpenError → Typ
   pub none : (ending ≡ endings.NoCommand) ↔ (((c : Command) → ¬ Give words c)
       × ((q : Question) → ¬ (words ≡ word_of q ∷ [])))
   pub kept : ending ≡ endings.NoCommand → made ≡ w
-  -- and else the command that they give was run on FILE and what they name beside it
-  pub acts : (c : Command) (path : List ℕ) (further : List (List ℕ))
-      → IsCall words c (path ∷ []) further → (done : Result Unit CheckError)
-      × (ending ≡ ended done)
-      × Acts opens left failed held write_failed flushed c path further w done made
+  -- and else the command that they give was run on its files, and after Ok what was printed is
+  -- flushed
+  pub acts : (c : Command) (paths further : List (List ℕ)) → IsCall words c paths further
+      → (done : Result Unit CheckError) × (ending ≡ ended done)
+      × Acts opens left failed held write_failed c paths further w done made
+      × OnOk done (IsTrue (flushed made))

@@ -30,11 +30,12 @@ use Rattle.aig_witness_check.specs.declared.file.Shown.{Shown}
 use Rattle.aig_witness_check.specs.Files as showing
 use Rattle.aig_witness_check.specs.Files.{ShowsNext}
 use Rattle.aig_witness_check.specs.Machine.{ShowsBad}
+use Rattle.aig_certificates.specs.Certificates as certificates
 use Rattle.aig_solutions.specs.declared.error.SolutionError.{SolutionError}
 use Rattle.aig_solutions.specs.Checked.{RefusesSolution, SaysWitness}
 use Rattle.aig_checks.specs.Comments.{comments_of, named_text}
-use Rattle.aig_checks.specs.declared.command.Command.{Command}
-use Rattle.aig_checks.specs.declared.command.Command.TheVariants as commands
+use Rattle.aig_checks.specs.declared.command.FileCommand.{FileCommand}
+use Rattle.aig_checks.specs.declared.command.FileCommand.TheVariants as commands
 use Rattle.aig_checks.specs.declared.tool.CheckError.{CheckError}
 use Rattle.aig_checks.specs.declared.tool.CheckError.TheVariants as errors
 
@@ -93,7 +94,7 @@ pub record IsWitnessText (given : Option (List ℕ)) (f : File) (k : ℕ) (optim
 
 -- what the command puts into its writer for the file and what is given beside it, and what is then
 -- so of the file's machine
-abbrev pub Answers : Command → Option (List ℕ) → File → List ℕ → Type 0
+abbrev pub Answers : FileCommand → Option (List ℕ) → File → List ℕ → Type 0
 Answers (commands.Clauses k optimize) given f text = IsClausesText f k optimize text
 Answers (commands.Window k form optimize) given f text = IsWindowText form f k optimize text
 Answers (commands.Refuted k optimize) given f text = (text ≡ step_line k) × IsSafeAt f k
@@ -105,7 +106,7 @@ Answers commands.Run given f text = IsShownLine given f text
 -- ---- files
 
 -- how many further steps the command makes
-abbrev pub steps_of : Command → ℕ
+abbrev pub steps_of : FileCommand → ℕ
 steps_of (commands.Clauses k optimize) = k
 steps_of (commands.Window k form optimize) = k + 1
 steps_of (commands.Refuted k optimize) = k
@@ -114,7 +115,7 @@ steps_of (commands.Witness k optimize) = k
 steps_of commands.Run = 0
 
 -- the verdict on a file that fits
-abbrev pub file_verdict : Command → ℕ → File → Verdict
+abbrev pub file_verdict : FileCommand → ℕ → File → Verdict
 file_verdict (commands.Clauses k optimize) limit f = asked_verdict limit k f
 file_verdict (commands.Window k form optimize) limit f = window_verdict form limit k f
 file_verdict (commands.Refuted k optimize) limit f = asked_verdict limit k f
@@ -124,7 +125,7 @@ file_verdict commands.Run limit f = Accepted
 
 -- the bytes that were taken are a file of which something is asked, and this holds of what the
 -- command puts into its writer for that file
-abbrev pub AnswersFile : Command → ℕ → Option (List ℕ) → Option (List ℕ) → Option (List ℕ)
+abbrev pub AnswersFile : FileCommand → ℕ → Option (List ℕ) → Option (List ℕ) → Option (List ℕ)
     → (List ℕ → Type 0) → Type 0
 AnswersFile c limit given old new Holds =
     (text : List ℕ) × IsReadAs (IsAsked limit (steps_of c)) (Answers c given) old new text
@@ -138,12 +139,13 @@ abbrev pub verdict_of : CheckError → Verdict
 verdict_of (errors.Answer e) = asking.verdict_of e
 verdict_of (errors.Show e) = showing.verdict_of e
 verdict_of (errors.Solution e) = Accepted
+verdict_of (errors.Certificate e) = certificates.first_verdict e
 verdict_of errors.Write = Accepted
 verdict_of errors.Memory = Short
 verdict_of errors.Open = Refused
 
 -- the command has this error
-abbrev pub IsErrorOf : Command → CheckError → Type 0
+abbrev pub IsErrorOf : FileCommand → CheckError → Type 0
 IsErrorOf c errors.Write = Unit {0}
 IsErrorOf (commands.Clauses k optimize) errors.Memory = Unit {0}
 IsErrorOf (commands.Clauses k optimize) (errors.Answer e) = IsOfQuery e
@@ -169,7 +171,7 @@ pub record RefusesAnswer (given : Option (List ℕ)) (failed : Bool) (k : ℕ) (
   pub asks : IsQuery k optimize f query
   pub refusal : RefusesSolution given query.encoded k failed e
 
-abbrev pub TellsOfSolution : Command → ℕ → Option (List ℕ) → Option (List ℕ) → Option (List ℕ)
+abbrev pub TellsOfSolution : FileCommand → ℕ → Option (List ℕ) → Option (List ℕ) → Option (List ℕ)
     → Bool → SolutionError → Type 0
 TellsOfSolution (commands.Witness k optimize) limit old new given failed e =
     IsReadAs (IsAsked limit k) (RefusesAnswer given failed k optimize) old new e
@@ -177,8 +179,8 @@ TellsOfSolution c limit old new given failed e = ⊥
 
 -- what a refusal of what is given beside the file tells of it: a read of it is said to have failed
 -- only where one did, and a solver's answer or a witness is refused as is promised of these
-abbrev pub TellsOfGiven : Command → ℕ → Option (List ℕ) → Option (List ℕ) → Option (List ℕ) → Bool
-    → CheckError → Type 0
+abbrev pub TellsOfGiven : FileCommand → ℕ → Option (List ℕ) → Option (List ℕ) → Option (List ℕ)
+    → Bool → CheckError → Type 0
 TellsOfGiven c limit old new given failed (errors.Answer (answers.Refutation refutation.Stream)) =
     IsTrue failed
 TellsOfGiven c limit old new given failed (errors.Solution e) =
@@ -201,7 +203,7 @@ nothing_fails p = false
 -- answer or the witness, and the writer; rest, used and made are these after it.
 pub record Runs {R P W : Type 0} (left : R → Option (List ℕ)) (read_failed : R → Bool)
     (given : P → Option (List ℕ)) (given_failed : P → Bool) (held : W → Option (List ℕ))
-    (write_failed : W → Bool) (c : Command) (limit : ℕ) (r : R) (p : P) (w : W)
+    (write_failed : W → Bool) (c : FileCommand) (limit : ℕ) (r : R) (p : P) (w : W)
     (result : Result Unit CheckError) (rest : R) (used : P) (made : W) : Type 0 where
   -- what is said of the bytes of the file
   pub verdict : Judges (file_verdict c limit) limit (left r) (left rest) (read_failed rest)

@@ -9,6 +9,8 @@ use Rattle.aig_checks.specs.declared.command.Action.{Action}
 use Rattle.aig_checks.specs.declared.command.Action.TheVariants as actions
 use Rattle.aig_checks.specs.declared.command.Command.{Command}
 use Rattle.aig_checks.specs.declared.command.Command.TheVariants as commands
+use Rattle.aig_checks.specs.declared.command.FileCommand.TheVariants as on_file
+use Rattle.aig_checks.specs.declared.command.PairCommand.TheVariants as on_pair
 
 -- the word that names a command
 abbrev pub name_of : Action → List ℕ
@@ -18,22 +20,28 @@ name_of actions.Refuted = codes "refuted"
 name_of actions.Inductive = codes "inductive"
 name_of actions.Witness = codes "witness"
 name_of actions.Run = codes "run"
+name_of actions.Certified = codes "certified"
+name_of actions.Equal = codes "equal"
 
--- FILE and K, so many further paths, `distinct` or nothing where it may be there, and `raw` or
--- nothing
-abbrev pub on_step : ℕ → Bool → Form
-on_step further distinct =
-    record { paths = 1; step = true; further = further; distinct = distinct; raw = true }
+-- so many paths and K, so many further paths, `distinct` or nothing where it may be there, and
+-- `raw` or nothing
+abbrev pub on_step : ℕ → ℕ → Bool → Form
+on_step paths further distinct =
+    record { paths = paths; step = true; further = further; distinct = distinct; raw = true }
 
--- what comes after it: the further path is PROOF, SOLUTION or WITNESS
+-- What comes after it: the paths are FILE, and CERT or OTHER; the further ones are PROOF, SOLUTION
+-- or WITNESS, or BASE and STEP.
 abbrev pub form_of : Action → Form
-form_of actions.Clauses = on_step 0 false
-form_of actions.Window = on_step 0 true
-form_of actions.Refuted = on_step 1 false
-form_of actions.Inductive = on_step 1 true
-form_of actions.Witness = on_step 1 false
+form_of actions.Clauses = on_step 1 0 false
+form_of actions.Window = on_step 1 0 true
+form_of actions.Refuted = on_step 1 1 false
+form_of actions.Inductive = on_step 1 1 true
+form_of actions.Witness = on_step 1 1 false
 form_of actions.Run =
     record { paths = 1; step = false; further = 1; distinct = false; raw = false }
+form_of actions.Certified =
+    record { paths = 2; step = false; further = 2; distinct = false; raw = true }
+form_of actions.Equal = on_step 2 1 false
 
 -- the form of windows
 abbrev pub window_of : Bool → Window
@@ -42,15 +50,18 @@ window_of false = Plain
 
 -- the command, with K and the settings
 abbrev pub command_of : Action → ℕ → Bool → Bool → Command
-command_of actions.Clauses k distinct optimize = commands.Clauses k optimize
-command_of actions.Window k distinct optimize = commands.Window k (window_of distinct) optimize
-command_of actions.Refuted k distinct optimize = commands.Refuted k optimize
+command_of actions.Clauses k distinct optimize = commands.File (on_file.Clauses k optimize)
+command_of actions.Window k distinct optimize =
+    commands.File (on_file.Window k (window_of distinct) optimize)
+command_of actions.Refuted k distinct optimize = commands.File (on_file.Refuted k optimize)
 command_of actions.Inductive k distinct optimize =
-    commands.Inductive k (window_of distinct) optimize
-command_of actions.Witness k distinct optimize = commands.Witness k optimize
-command_of actions.Run k distinct optimize = commands.Run
+    commands.File (on_file.Inductive k (window_of distinct) optimize)
+command_of actions.Witness k distinct optimize = commands.File (on_file.Witness k optimize)
+command_of actions.Run k distinct optimize = commands.File on_file.Run
+command_of actions.Certified k distinct optimize = commands.Pair (on_pair.Certified optimize)
+command_of actions.Equal k distinct optimize = commands.Pair (on_pair.Equal k optimize)
 
--- the words give the command, with FILE and what is given beside it
+-- the words give the command, with its files and what is given beside them
 pub record IsCall (words : List (List ℕ)) (c : Command) (paths further : List (List ℕ)) : Type 0
   where
     pub action : Action
@@ -69,15 +80,22 @@ Give words c = (paths further : List (List ℕ)) × IsCall words c paths further
 
 -- the step that it names, and 0 where it names none
 abbrev pub step_of : Command → ℕ
-step_of (commands.Clauses k optimize) = k
-step_of (commands.Window k form optimize) = k
-step_of (commands.Refuted k optimize) = k
-step_of (commands.Inductive k form optimize) = k
-step_of (commands.Witness k optimize) = k
-step_of commands.Run = 0
+step_of (commands.File (on_file.Clauses k optimize)) = k
+step_of (commands.File (on_file.Window k form optimize)) = k
+step_of (commands.File (on_file.Refuted k optimize)) = k
+step_of (commands.File (on_file.Inductive k form optimize)) = k
+step_of (commands.File (on_file.Witness k optimize)) = k
+step_of (commands.Pair (on_pair.Equal k optimize)) = k
+step_of c = 0
 
--- how many files are given beside FILE
+-- on how many files it is
+abbrev pub paths_of : Command → ℕ
+paths_of (commands.File c) = 1
+paths_of (commands.Pair c) = 2
+
+-- how many are given beside these
 abbrev pub beside_of : Command → ℕ
-beside_of (commands.Clauses k optimize) = 0
-beside_of (commands.Window k form optimize) = 0
+beside_of (commands.File (on_file.Clauses k optimize)) = 0
+beside_of (commands.File (on_file.Window k form optimize)) = 0
+beside_of (commands.Pair (on_pair.Certified optimize)) = 2
 beside_of c = 1

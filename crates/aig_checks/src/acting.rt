@@ -1,12 +1,14 @@
 //! What the program does with its words.
 
-ghost use Rattle.std.specs.Prelude.{◌≡◌, ◌<◌, ◌^◌, ◌++◌, ◌∷◌, [], IfOk, IfSome, IsErr, IsNone, length, map, string_bytes};
+ghost use Rattle.std.specs.Prelude.{◌≡◌, ◌<◌, ◌^◌, ◌++◌, ◌∷◌, [], IfOk, IfSome, IsErr, IsNone, IsTrue, OnOk, length, map, string_bytes};
 ghost use Rattle.aig_command_line.specs.declared.status.Ending.TheVariants as endings;
-ghost use Rattle.aig_checks.specs.Acting.{Acts, Obeys, RunsBeside, RunsFile, Says, unopened};
+ghost use Rattle.aig_checks.specs.Acting.{Acts, Obeys, RunsFile, RunsProofs, Says};
 ghost use Rattle.aig_checks.specs.Asked.{answer_of};
-ghost use Rattle.aig_checks.specs.Words.{beside_of, step_of};
+ghost use Rattle.aig_checks.specs.Opening.{unopened};
+ghost use Rattle.aig_checks.specs.Words.{beside_of, paths_of, step_of};
 
-use crate::command::{Call, Command, call_of};
+use crate::command::{Call, Command, FileCommand, PairCommand, call_of};
+use crate::pairs::{print_certified, print_equal};
 use crate::tool::{
     CheckError, print_clauses, print_inductive, print_refuted, print_run, print_window,
     print_witness, write_text,
@@ -18,7 +20,8 @@ use std::alloc::Global;
 /// How the program is used.
 pub const USAGE: &str =
     "usage: aigcheck clauses FILE K [raw], window FILE K [distinct] [raw], refuted FILE K PROOF [raw], \
-    inductive FILE K PROOF [distinct] [raw], witness FILE K SOLUTION [raw], run FILE WITNESS";
+    inductive FILE K PROOF [distinct] [raw], witness FILE K SOLUTION [raw], run FILE WITNESS, \
+    certified FILE CERT BASE STEP [raw], equal FILE OTHER K PROOF [raw]";
 
 /// Its version.
 pub const VERSION: &str = "aigcheck 0.1.0";
@@ -39,25 +42,29 @@ impl From<OpenError> for CheckError {
 fn run_beside<F: Opens, R: Source, W: Sink>(
     alloc: Global,
     files: &F,
-    command: Command,
+    command: FileCommand,
     path: &str,
     r: &mut R,
     w: &mut W,
 ) -> Result<(), CheckError>
-    requires beside { beside_of command ≡ 1 }
-    requires small { step_of command < 2 ^ 32 }
-    ensures { RunsBeside (F.opens files.now) R.left R.failed F.File.left F.File.failed W.held
-        W.failed command path.now r.old w.old result r.new w.new }
+    requires beside { beside_of (Command.File command) ≡ 1 }
+    requires small { step_of (Command.File command) < 2 ^ 32 }
+    ensures { RunsFile (F.opens files.now) R.left R.failed F.File.left F.File.failed W.held
+        W.failed command (path.now ∷ []) r.old w.old result r.new w.new }
 {
     let mut given = files.open(path)?;
     match command {
-        Command::Refuted { k, optimize } => print_refuted(alloc, k, optimize, r, &mut given, w),
-        Command::Inductive { k, form, optimize } => {
+        FileCommand::Refuted { k, optimize } => {
+            print_refuted(alloc, k, optimize, r, &mut given, w)
+        }
+        FileCommand::Inductive { k, form, optimize } => {
             print_inductive(alloc, k, form, optimize, r, &mut given, w)
         }
-        Command::Witness { k, optimize } => print_witness(alloc, k, optimize, r, &mut given, w),
-        Command::Run => print_run(alloc, r, &mut given, w),
-        Command::Clauses { .. } | Command::Window { .. } => unreachable!(),
+        FileCommand::Witness { k, optimize } => {
+            print_witness(alloc, k, optimize, r, &mut given, w)
+        }
+        FileCommand::Run => print_run(alloc, r, &mut given, w),
+        FileCommand::Clauses { .. } | FileCommand::Window { .. } => unreachable!(),
     }
 }
 
@@ -65,39 +72,166 @@ fn run_beside<F: Opens, R: Source, W: Sink>(
 fn run_on<F: Opens, R: Source, W: Sink>(
     alloc: Global,
     files: &F,
-    command: Command,
+    command: FileCommand,
     further: &[String],
     r: &mut R,
     w: &mut W,
 ) -> Result<(), CheckError>
-    requires further { length further.now ≡ beside_of command }
-    requires small { step_of command < 2 ^ 32 }
+    requires further { length further.now ≡ beside_of (Command.File command) }
+    requires small { step_of (Command.File command) < 2 ^ 32 }
     ensures { RunsFile (F.opens files.now) R.left R.failed F.File.left F.File.failed W.held
         W.failed command (map string_bytes further.now) r.old w.old result r.new w.new }
 {
     match command {
-        Command::Clauses { k, optimize } => print_clauses(alloc, k, optimize, r, w),
-        Command::Window { k, form, optimize } => print_window(alloc, k, form, optimize, r, w),
+        FileCommand::Clauses { k, optimize } => print_clauses(alloc, k, optimize, r, w),
+        FileCommand::Window { k, form, optimize } => print_window(alloc, k, form, optimize, r, w),
         _ => run_beside(alloc, files, command, further[0].as_str(), r, w),
     }
 }
 
-/// Runs a command on the files at its paths, and flushes what it prints.
-fn print<F: Opens, W: Flush>(
+/// Checks the proofs at two paths that a certificate shows that a file's machine is safe.
+fn run_certified<F: Opens, R: Source, S: Source, W: Sink>(
     alloc: Global,
     files: &F,
-    command: Command,
+    optimize: bool,
+    base: &str,
+    step: &str,
+    r: &mut R,
+    s: &mut S,
+    w: &mut W,
+) -> Result<(), CheckError>
+    ensures { RunsProofs (F.opens files.now) R.left R.failed S.left S.failed F.File.failed W.held
+        W.failed (PairCommand.Certified optimize) (base.now ∷ step.now ∷ []) r.old s.old w.old
+        result r.new s.new w.new }
+{
+    let mut base = files.open(base)?;
+    let mut step = files.open(step)?;
+    print_certified(alloc, optimize, r, s, &mut base, &mut step, w)
+}
+
+/// Checks the proof at a path that two files' machines are equal at step `k`.
+fn run_equal<F: Opens, R: Source, S: Source, W: Sink>(
+    alloc: Global,
+    files: &F,
+    k: usize,
+    optimize: bool,
+    proof: &str,
+    r: &mut R,
+    s: &mut S,
+    w: &mut W,
+) -> Result<(), CheckError>
+    ensures { RunsProofs (F.opens files.now) R.left R.failed S.left S.failed F.File.failed W.held
+        W.failed (PairCommand.Equal k optimize) (proof.now ∷ []) r.old s.old w.old
+        result r.new s.new w.new }
+{
+    let mut proof = files.open(proof)?;
+    print_equal(alloc, k, optimize, r, s, &mut proof, w)
+}
+
+/// Runs a command on two files, and on the proofs that the words name beside them.
+fn run_on_pair<F: Opens, R: Source, S: Source, W: Sink>(
+    alloc: Global,
+    files: &F,
+    command: PairCommand,
+    further: &[String],
+    r: &mut R,
+    s: &mut S,
+    w: &mut W,
+) -> Result<(), CheckError>
+    requires { length further.now ≡ beside_of (Command.Pair command) }
+    ensures { RunsProofs (F.opens files.now) R.left R.failed S.left S.failed F.File.failed W.held
+        W.failed command (map string_bytes further.now) r.old s.old w.old
+        result r.new s.new w.new }
+{
+    match command {
+        PairCommand::Certified { optimize } => {
+            let (base, step) = (further[0].as_str(), further[1].as_str());
+            run_certified(alloc, files, optimize, base, step, r, s, w)
+        }
+        PairCommand::Equal { k, optimize } => {
+            run_equal(alloc, files, k, optimize, further[0].as_str(), r, s, w)
+        }
+    }
+}
+
+/// Runs a command on the file at a path.
+fn run_file<F: Opens, W: Sink>(
+    alloc: Global,
+    files: &F,
+    command: FileCommand,
     path: &str,
     further: &[String],
     w: &mut W,
 ) -> Result<(), CheckError>
-    requires further { length further.now ≡ beside_of command }
-    requires small { step_of command < 2 ^ 32 }
-    ensures { Acts (F.opens files.now) F.File.left F.File.failed W.held W.failed W.flushed
-        command path.now (map string_bytes further.now) w.old result w.new }
+    requires further { length further.now ≡ beside_of (Command.File command) }
+    requires small { step_of (Command.File command) < 2 ^ 32 }
+    ensures { Acts (F.opens files.now) F.File.left F.File.failed W.held W.failed
+        (Command.File command) (path.now ∷ []) (map string_bytes further.now) w.old result w.new }
 {
     let mut file = files.open(path)?;
-    run_on(alloc, files, command, further, &mut file, w)?;
+    run_on(alloc, files, command, further, &mut file, w)
+}
+
+/// Runs a command on the files at two paths.
+fn run_pair<F: Opens, W: Sink>(
+    alloc: Global,
+    files: &F,
+    command: PairCommand,
+    path: &str,
+    beside: &str,
+    further: &[String],
+    w: &mut W,
+) -> Result<(), CheckError>
+    requires { length further.now ≡ beside_of (Command.Pair command) }
+    ensures { Acts (F.opens files.now) F.File.left F.File.failed W.held W.failed
+        (Command.Pair command) (path.now ∷ beside.now ∷ []) (map string_bytes further.now) w.old
+        result w.new }
+{
+    let mut file = files.open(path)?;
+    let mut other = files.open(beside)?;
+    run_on_pair(alloc, files, command, further, &mut file, &mut other, w)
+}
+
+/// Runs the command that words give on the files at its paths.
+fn run<F: Opens, W: Sink>(
+    alloc: Global,
+    files: &F,
+    call: &Call<'_>,
+    w: &mut W,
+) -> Result<(), CheckError>
+    requires paths { length call.now.paths.now ≡ paths_of call.now.command }
+    requires further { length call.now.further.now ≡ beside_of call.now.command }
+    requires small { step_of call.now.command < 2 ^ 32 }
+    ensures { Acts (F.opens files.now) F.File.left F.File.failed W.held W.failed
+        call.now.command (map string_bytes call.now.paths.now)
+        (map string_bytes call.now.further.now) w.old result w.new }
+{
+    let path = call.paths[0].as_str();
+    match call.command {
+        Command::File(command) => run_file(alloc, files, command, path, call.further, w),
+        Command::Pair(command) => {
+            let beside = call.paths[1].as_str();
+            run_pair(alloc, files, command, path, beside, call.further, w)
+        }
+    }
+}
+
+/// Runs the command that words give, and flushes what it prints.
+fn print<F: Opens, W: Flush>(
+    alloc: Global,
+    files: &F,
+    call: &Call<'_>,
+    w: &mut W,
+) -> Result<(), CheckError>
+    requires paths { length call.now.paths.now ≡ paths_of call.now.command }
+    requires further { length call.now.further.now ≡ beside_of call.now.command }
+    requires small { step_of call.now.command < 2 ^ 32 }
+    ensures acts { Acts (F.opens files.now) F.File.left F.File.failed W.held W.failed
+        call.now.command (map string_bytes call.now.paths.now)
+        (map string_bytes call.now.further.now) w.old result w.new }
+    ensures done { OnOk result (IsTrue (W.flushed w.new)) }
+{
+    run(alloc, files, call, w)?;
     Ok(w.flush()?)
 }
 
@@ -136,12 +270,7 @@ fn obey<F: Opens, W: Flush>(
     let Some(call) = call_of(words) else {
         return Ending::NoCommand;
     };
-    let Call {
-        command,
-        paths,
-        further,
-    } = call;
-    Ending::of(print(alloc, files, command, paths[0].as_str(), further, w))
+    Ending::of(print(alloc, files, &call, w))
 }
 
 /// Does what the words after the program's name ask for, as they were read: opens FILE and what is given beside it, runs the

@@ -1,15 +1,15 @@
 //! The commands, and the words that give them.
 
 ghost use Rattle.std.specs.Prelude.{◌≡◌, ◌↔◌, ◌<◌, ◌^◌, IfNone, IfSome, List, Some, ℕ, length, map, string_bytes};
-ghost use Rattle.aig_checks.specs.Words.{Give, IsCall, beside_of, command_of, form_of, name_of, on_step, step_of, window_of};
+ghost use Rattle.aig_checks.specs.Words.{Give, IsCall, beside_of, command_of, form_of, name_of, on_step, paths_of, step_of, window_of};
 ghost use Rattle.aig_checks.specs.declared.command.Command.{Command};
 
 use aig_answers::Window;
 use aig_command_line::{Form, HasForm, find};
 
-/// What the program is asked to do.
+/// What the program is asked to do with a file.
 #[derive(Clone, Copy)]
-pub enum Command {
+pub enum FileCommand {
     /// Print the clauses that ask for a bad state at step `k`, and which literals stand for what.
     Clauses {
         /// The step.
@@ -53,6 +53,32 @@ pub enum Command {
     Run,
 }
 
+/// What the program is asked to do with two files.
+#[derive(Clone, Copy)]
+pub enum PairCommand {
+    /// Check proofs that a certificate shows that no bad state is reached at any step.
+    Certified {
+        /// Whether exclusive ors and choices have clauses of their own.
+        optimize: bool,
+    },
+    /// Check a proof that the files' machines are equal at step `k`.
+    Equal {
+        /// The step.
+        k: usize,
+        /// Whether exclusive ors and choices have clauses of their own.
+        optimize: bool,
+    },
+}
+
+/// What the program is asked to do.
+#[derive(Clone, Copy)]
+pub enum Command {
+    /// A command on FILE.
+    File(FileCommand),
+    /// A command on FILE and on CERT or OTHER.
+    Pair(PairCommand),
+}
+
 /// A command without K and its settings.
 #[derive(Clone, Copy)]
 pub enum Action {
@@ -68,14 +94,18 @@ pub enum Action {
     Witness,
     /// `run FILE WITNESS`.
     Run,
+    /// `certified FILE CERT BASE STEP [raw]`.
+    Certified,
+    /// `equal FILE OTHER K PROOF [raw]`.
+    Equal,
 }
 
-/// The form of a command on FILE and K.
-fn on_step(further: usize, distinct: bool) -> Form
-    ensures { result ≡ on_step further distinct }
+/// The form of a command on so many files and K.
+fn on_step(paths: usize, further: usize, distinct: bool) -> Form
+    ensures { result ≡ on_step paths further distinct }
 {
     Form {
-        paths: 1,
+        paths,
         step: true,
         further,
         distinct,
@@ -96,21 +126,31 @@ impl HasForm for Action {
             Action::Inductive => "inductive",
             Action::Witness => "witness",
             Action::Run => "run",
+            Action::Certified => "certified",
+            Action::Equal => "equal",
         }
     }
 
     fn form(&self) -> Form {
         match self {
-            Action::Clauses => on_step(0, false),
-            Action::Window => on_step(0, true),
-            Action::Refuted | Action::Witness => on_step(1, false),
-            Action::Inductive => on_step(1, true),
+            Action::Clauses => on_step(1, 0, false),
+            Action::Window => on_step(1, 0, true),
+            Action::Refuted | Action::Witness => on_step(1, 1, false),
+            Action::Inductive => on_step(1, 1, true),
+            Action::Equal => on_step(2, 1, false),
             Action::Run => Form {
                 paths: 1,
                 step: false,
                 further: 1,
                 distinct: false,
                 raw: false,
+            },
+            Action::Certified => Form {
+                paths: 2,
+                step: false,
+                further: 2,
+                distinct: false,
+                raw: true,
             },
         }
     }
@@ -129,13 +169,15 @@ fn window_of(distinct: bool) -> Window
 
 impl Action {
     /// Each of them.
-    const ALL: [Action; 6] = [
+    const ALL: [Action; 8] = [
         Action::Clauses,
         Action::Window,
         Action::Refuted,
         Action::Inductive,
         Action::Witness,
         Action::Run,
+        Action::Certified,
+        Action::Equal,
     ];
 
     /// The command, with K and the settings.
@@ -144,12 +186,14 @@ impl Action {
     {
         let form = window_of(distinct);
         match self {
-            Action::Clauses => Command::Clauses { k, optimize },
-            Action::Window => Command::Window { k, form, optimize },
-            Action::Refuted => Command::Refuted { k, optimize },
-            Action::Inductive => Command::Inductive { k, form, optimize },
-            Action::Witness => Command::Witness { k, optimize },
-            Action::Run => Command::Run,
+            Action::Clauses => Command::File(FileCommand::Clauses { k, optimize }),
+            Action::Window => Command::File(FileCommand::Window { k, form, optimize }),
+            Action::Refuted => Command::File(FileCommand::Refuted { k, optimize }),
+            Action::Inductive => Command::File(FileCommand::Inductive { k, form, optimize }),
+            Action::Witness => Command::File(FileCommand::Witness { k, optimize }),
+            Action::Run => Command::File(FileCommand::Run),
+            Action::Certified => Command::Pair(PairCommand::Certified { optimize }),
+            Action::Equal => Command::Pair(PairCommand::Equal { k, optimize }),
         }
     }
 }
@@ -159,9 +203,9 @@ impl Action {
 pub struct Call<'a> {
     /// The command.
     pub command: Command,
-    /// FILE alone.
+    /// FILE, and CERT or OTHER, where the command wants one.
     pub paths: &'a [String],
-    /// PROOF, SOLUTION or WITNESS, where the command wants one.
+    /// PROOF, SOLUTION or WITNESS, or BASE and STEP, where the command wants them.
     pub further: &'a [String],
 }
 
@@ -171,7 +215,7 @@ pub fn call_of(words: &[String]) -> Option<Call<'_>>
         (map string_bytes c.paths.now) (map string_bytes c.further.now)) }
     ensures none { IfNone result ((c : Command) (paths further : List (List ℕ))
         → ¬ IsCall (map string_bytes words.now) c paths further) }
-    ensures paths { IfSome result (λ c. length c.paths.now ≡ 1) }
+    ensures paths { IfSome result (λ c. length c.paths.now ≡ paths_of c.command) }
     ensures further { IfSome result (λ c. length c.further.now ≡ beside_of c.command) }
     ensures small { IfSome result (λ c. step_of c.command < 2 ^ 32) }
 {
@@ -185,8 +229,9 @@ pub fn call_of(words: &[String]) -> Option<Call<'_>>
 
 /// The command that the words after the program's name give, or none where they are wrong.
 ///
-/// The word after the command's name is FILE. Of `run` the next is WITNESS; of the others it is K, and the word after that is
-/// PROOF of `refuted` and `inductive`, and SOLUTION of `witness`. It takes no memory.
+/// The word after the command's name is FILE. The next is WITNESS of `run`, CERT of `certified` and OTHER of `equal`. Then comes
+/// K, where the command has one, and the words after that are PROOF of `refuted`, `inductive` and `equal`, SOLUTION of `witness`,
+/// and BASE and STEP of `certified`. It takes no memory.
 pub fn parse(words: &[String]) -> Option<Command>
     ensures exact { (c : Command) → (result ≡ Some c) ↔ Give (map string_bytes words.now) c }
     ensures small { IfSome result (λ c. step_of c < 2 ^ 32) }

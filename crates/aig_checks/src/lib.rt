@@ -5,10 +5,12 @@ mod acting;
 mod command;
 mod comments;
 mod line;
+mod pairs;
 mod tool;
 
 pub use acting::{USAGE, act};
-pub use command::{Command, parse};
+pub use command::{Command, FileCommand, PairCommand, parse};
+pub use pairs::{print_certified, print_equal};
 pub use tool::{
     CheckError, print_clauses, print_inductive, print_refuted, print_run, print_window,
     print_witness,

@@ -10,11 +10,12 @@ ghost use Rattle.aig_checks.specs.Printing.{IsKnownText, IsOfSolution, IsOfText,
 ghost use Rattle.aig_checks.specs.Running.{Runs, nothing_fails, nothing_given, shown_line};
 ghost use Rattle.aig_checks.specs.declared.tool.CheckError.TheVariants as errors;
 
-use crate::command::Command;
+use crate::command::FileCommand;
 use crate::comments::write_comments;
 use crate::line::buffer_named;
 use aig_answers::{AnswerError, Window, asked_query, check_step, check_window, window};
 use aig_base::{MemoryError, Sink, Source, StreamFault};
+use aig_certificates::CertificateError;
 use aig_certify::inductive_windows_are_safe;
 use aig_dimacs::write_dimacs;
 use aig_encode::Query;
@@ -51,6 +52,9 @@ pub enum CheckError {
     /// The witness shows no bad state.
     #[error("{0}")]
     Show(ShowError),
+    /// Two files aren't certified or equal, or there is no proof of it.
+    #[error("{0}")]
+    Certificate(CertificateError),
     /// The answer wasn't written.
     #[error("write failed")]
     Write,
@@ -88,6 +92,14 @@ impl From<ShowError> for CheckError {
     }
 }
 
+impl From<CertificateError> for CheckError {
+    ghost from_gives = { λ e r. r ≡ errors.Certificate e };
+
+    fn from(error: CertificateError) -> CheckError {
+        CheckError::Certificate(error)
+    }
+}
+
 impl From<StreamFault> for CheckError {
     ghost from_gives = { λ _ r. r ≡ errors.Write };
 
@@ -111,7 +123,7 @@ fn buffer_line<W: Sink>(
 }
 
 /// Writes a text, a number and a line feed.
-fn write_line<W: Sink>(w: &mut W, text: &[u8], k: usize) -> Result<(), StreamFault>
+pub(crate) fn write_line<W: Sink>(w: &mut W, text: &[u8], k: usize) -> Result<(), StreamFault>
     ensures { let line = text.now ++ (decimal k ++ 10 ∷ []) in
         WritesOrStops W.held W.failed w.old result line w.new }
 {
@@ -134,7 +146,7 @@ fn buffer_text<W: Sink>(
 }
 
 /// Writes a text and a line feed.
-pub fn write_text<W: Sink>(w: &mut W, text: &[u8]) -> Result<(), StreamFault>
+pub(crate) fn write_text<W: Sink>(w: &mut W, text: &[u8]) -> Result<(), StreamFault>
     ensures { let line = text.now ++ 10 ∷ [] in
         WritesOrStops W.held W.failed w.old result line w.new }
 {
@@ -175,7 +187,7 @@ pub fn print_window<R: Source, W: Sink>(
     w: &mut W,
 ) -> Result<(), CheckError>
     requires { k < 2 ^ 32 }
-    ensures { let command = Command.Window k form optimize in
+    ensures { let command = FileCommand.Window k form optimize in
         Runs R.left R.failed nothing_given nothing_fails W.held W.failed
         command LIMIT r.old tt w.old result r.new tt w.new }
 {
@@ -192,7 +204,7 @@ pub fn print_refuted<R: Source, P: Source, W: Sink>(
     proof: &mut P,
     w: &mut W,
 ) -> Result<(), CheckError>
-    ensures { let command = Command.Refuted k optimize in
+    ensures { let command = FileCommand.Refuted k optimize in
         Runs R.left R.failed P.left P.failed W.held W.failed
         command LIMIT r.old proof.old w.old result r.new proof.new w.new }
 {
@@ -212,7 +224,7 @@ pub fn print_inductive<R: Source, P: Source, W: Sink>(
     w: &mut W,
 ) -> Result<(), CheckError>
     requires { k < 2 ^ 32 }
-    ensures { let command = Command.Inductive k form optimize in
+    ensures { let command = FileCommand.Inductive k form optimize in
         Runs R.left R.failed P.left P.failed W.held W.failed
         command LIMIT r.old proof.old w.old result r.new proof.new w.new }
 {
@@ -257,7 +269,7 @@ pub fn print_clauses<R: Source, W: Sink>(
     w: &mut W,
 ) -> Result<(), CheckError>
     requires { k < 2 ^ 32 }
-    ensures { let command = Command.Clauses k optimize in
+    ensures { let command = FileCommand.Clauses k optimize in
         Runs R.left R.failed nothing_given nothing_fails W.held W.failed
         command LIMIT r.old tt w.old result r.new tt w.new }
 {
@@ -297,7 +309,7 @@ pub fn print_witness<R: Source, P: Source, W: Sink>(
     w: &mut W,
 ) -> Result<(), CheckError>
     requires { k < 2 ^ 32 }
-    ensures { let command = Command.Witness k optimize in
+    ensures { let command = FileCommand.Witness k optimize in
         Runs R.left R.failed P.left P.failed W.held W.failed
         command LIMIT r.old solution.old w.old result r.new solution.new w.new }
 {
@@ -314,7 +326,7 @@ pub fn print_run<R: Source, P: Source, W: Sink>(
     witness: &mut P,
     w: &mut W,
 ) -> Result<(), CheckError>
-    ensures { let command = Command.Run in
+    ensures { let command = FileCommand.Run in
         Runs R.left R.failed P.left P.failed W.held W.failed
         command LIMIT r.old witness.old w.old result r.new witness.new w.new }
 {

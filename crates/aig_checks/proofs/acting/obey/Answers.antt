@@ -1,12 +1,11 @@
 use Rattle.std.proofs.Common.{◌≡◌, [], ◌∷◌, ◌++◌, map, refl, subst, sym, ◌∙◌}
 use Rattle.std.specs.Prelude.{Result, string_bytes}
 use Rattle.std.proofs.lemmas.Option.{same_Some}
-use Rattle.aig_command_line.specs.About.{word_of}
 use Rattle.aig_command_line.specs.Ending.{ended}
 use Rattle.aig_checks.specs.declared.tool.CheckError.{CheckError}
-use Rattle.aig_checks.specs.Acting.{Acts, Says}
+use Rattle.aig_checks.specs.Acting.{Says}
 use Rattle.aig_checks.specs.Asked.{answer_of}
-use Rattle.aig_checks.proofs.Calling.{first_beside, never_none, no_command, one_call}
+use Rattle.aig_checks.proofs.Calling.{never_none, no_command, one_call}
 use Rattle.aig_checks.proofs.acting.obey.Goals as goal
 
 pub returns-in-Some : goal.returns-in-Some
@@ -19,7 +18,7 @@ returns-in-Some g c =
           (same_Some _ _ (sym c.in-Some.is ∙ (c.asked.ensures q).1 are)) (c.say.result, c.of.ensures, rw c.answer.ensures at c.say.ensures);
       none = (λ e. absurd (never_none c.say.result (sym c.of.ensures ∙ e)), λ no. absurd (no.1 c.in-Some.question is));
       kept = λ e. absurd (never_none c.say.result (sym c.of.ensures ∙ e));
-      acts = λ d path further h. elim (no_command words c.in-Some.question d (path ∷ []) further is h) [ ];
+      acts = λ d paths further h. elim (no_command words c.in-Some.question d paths further is h) [ ];
     }
 
 pub returns-in_default-call_of : goal.returns-in_default-call_of
@@ -29,7 +28,7 @@ returns-in_default-call_of g c =
       tells = λ q are. elim (c.in_default.not-Some q ((c.asked.ensures q).1 are)) [ ];
       none = (λ e. (λ d h. none d h.0 h.1 h.2, λ q are. c.in_default.not-Some q ((c.asked.ensures q).1 are)), λ no. refl);
       kept = λ e. refl;
-      acts = λ d path further h. elim (none d (path ∷ []) further h) [ ];
+      acts = λ d paths further h. elim (none d paths further h) [ ];
     }
 
 pub returns : goal.returns
@@ -43,12 +42,7 @@ returns g c =
       tells = λ q are. elim (c.in_default.not-Some q ((c.asked.ensures q).1 are)) [ ];
       none = (λ e. absurd (never_none c.print.result (sym c.of-2.ensures ∙ e)), λ no. absurd (no.0 call.command (paths, beside, some)));
       kept = λ e. absurd (never_none c.print.result (sym c.of-2.ensures ∙ e));
-      acts = λ d path further h.
-          let same = one_call words d call.command (path ∷ []) paths further beside h some in
-          let file = c.as_str.ensures.value ∙ first_beside call.paths.now c.index-paths-0.result c.in-Some-call_of.ensures.paths c.index-paths-0.is path [] (sym same.1) in
-          rw (same.0, same.2) (
-            c.print.result,
-            c.of-2.ensures,
-            subst (λ p. Acts (g.F.Opens.opens c.args.files.now) g.F.File.Source.left g.F.File.Source.failed g.W.Sink.held g.W.Sink.failed g.W.Flush.flushed call.command p beside c.args.w.now c.print.result c.print.new.w) file c.print.ensures,
-          );
+      acts = λ d names further h.
+          let same = one_call words d call.command names paths further beside h some in
+          rw (same.0, same.1, same.2) (c.print.result, c.of-2.ensures, c.print.ensures.acts, c.print.ensures.done);
     }

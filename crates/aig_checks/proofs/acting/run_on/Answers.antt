@@ -1,15 +1,18 @@
-use Rattle.std.proofs.Common.{subst, ◌∙◌, map}
-use Rattle.std.specs.Prelude.{string_bytes}
-use Rattle.aig_checks.specs.Acting.{RunsBeside}
-use Rattle.aig_checks.proofs.Calling.{first_beside, one_beside, some_beside}
+use Rattle.std.proofs.Common.{sym, ◌∙◌}
+use Rattle.aig_checks.proofs.Calling.{no_names, one_beside, one_name}
 use Rattle.aig_checks.proofs.acting.run_on.Goals as goal
+
+pub returns-in-Clauses : goal.returns-in-Clauses
+returns-in-Clauses g c =
+    let none = no_names c.args.further.now (rw c.in-Clauses.is at c.requires.further) in
+    rw (none, c.in-Clauses.is) c.print_clauses.ensures
+
+pub returns-in-Window : goal.returns-in-Window
+returns-in-Window g c =
+    let none = no_names c.args.further.now (rw c.in-Window.is at c.requires.further) in
+    rw (none, c.in-Window.is) c.print_window.ensures
 
 pub returns-in_default : goal.returns-in_default
 returns-in_default g c =
     let one = c.requires.further ∙ one_beside c.args.command c.in_default.not-Clauses c.in_default.not-Window in
-    record {
-      alone = λ none. absurd (some_beside c.args.further.now one none);
-      beside = λ path more are.
-          subst (λ p. RunsBeside (g.F.Opens.opens c.args.files.now) g.R.Source.left g.R.Source.failed g.F.File.Source.left g.F.File.Source.failed g.W.Sink.held g.W.Sink.failed c.args.command p c.args.r.now c.args.w.now c.run_beside.result c.run_beside.new.r c.run_beside.new.w)
-          (c.as_str.ensures.value ∙ first_beside c.args.further.now c.index-further-0.result one c.index-further-0.is path more are) c.run_beside.ensures;
-    }
+    rw (one_name c.args.further.now c.index-further-0.result one c.index-further-0.is, sym c.as_str.ensures.value) c.run_beside.ensures

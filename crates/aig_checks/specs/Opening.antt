@@ -1,0 +1,25 @@
+-- Part of what is promised.
+-- Files that a program opens at paths.
+use Rattle.std.specs.Prelude.{ℕ, List, Result, Ok, Err}
+use Rattle.aig_command_line.specs.declared.files.OpenError.{OpenError}
+use Rattle.aig_command_line.specs.declared.files.OpenError.TheVariants as opening
+use Rattle.aig_checks.specs.declared.tool.CheckError.{CheckError}
+use Rattle.aig_checks.specs.declared.tool.CheckError.TheVariants as errors
+
+-- what a file that is not opened is refused for
+abbrev pub unopened : OpenError → CheckError
+unopened opening.Refused = errors.Open
+unopened opening.Memory = errors.Memory
+
+-- what holds of a file that was opened, or of the error where it was not
+abbrev pub OnOpening : {F : Type 0} → (F → Type 0) → (CheckError → Type 0) → Result F OpenError
+    → Type 0
+OnOpening Holds Fails (Ok file) = Holds file
+OnOpening Holds Fails (Err e) = Fails (unopened e)
+
+-- the file at the path was opened, and this holds of it, or it was not, and that of the error
+pub record Opening {F : Type 0} (opens : List ℕ → Result F OpenError → Type 0) (path : List ℕ)
+    (Holds : F → Type 0) (Fails : CheckError → Type 0) : Type 0 where
+  pub file : Result F OpenError
+  pub opened : opens path file
+  pub leads : OnOpening Holds Fails file

@@ -1,0 +1,109 @@
+-- Part of what is promised.
+-- What a command does with the bytes of two files and of proofs about them: what it puts into its
+-- writer, and why it refuses them.
+use Rattle.std.specs.Prelude.{◌≡◌, ◌≢◌, ℕ, Bool, false, IsTrue, List, [], ◌∷◌, ◌++◌, Option, Result, Ok, Err, IfErr, IsErrOf, codes, decimal}
+use Rattle.std.specs.Io.KnownBytes.{Appends}
+use Rattle.aig_answers.specs.declared.error.AnswerError.TheVariants as answers
+use Rattle.aig_certificates.specs.Certificates as certificates
+use Rattle.aig_certificates.specs.Certificates.{Certifies, Equals}
+use Rattle.aig_certificates.specs.declared.error.CertificateError.{CertificateError}
+use Rattle.aig_certificates.specs.declared.error.CertificateError.TheVariants as certificate
+use Rattle.aig_edits.specs.Pairs.{ReadsPair}
+use Rattle.aig_format.specs.File.{File}
+use Rattle.aig_join.specs.Files.{AreEqualMachinesAt, HasLinesOf, HaveSameFileCounts}
+use Rattle.aig_output.specs.Sinks.{Stops}
+use Rattle.aig_reader.specs.Verdicts.{Accepted, Refused, Verdict}
+use Rattle.aig_refutation.specs.declared.error.RefutationError.TheVariants as refutation
+use Rattle.aig_runs.specs.Queries.{IsSafeTo}
+use Rattle.aig_checks.specs.declared.command.PairCommand.{PairCommand}
+use Rattle.aig_checks.specs.declared.command.PairCommand.TheVariants as commands
+use Rattle.aig_checks.specs.declared.tool.CheckError.{CheckError}
+use Rattle.aig_checks.specs.declared.tool.CheckError.TheVariants as errors
+use Rattle.aig_checks.specs.Running.{verdict_of}
+
+-- ---- answers
+
+-- the line of a machine that is safe
+abbrev pub safe_line : List ℕ
+safe_line = codes "no bad state at any step" ++ 10 ∷ []
+
+-- the line of machines that are equal at a step
+abbrev pub equal_line : ℕ → List ℕ
+equal_line k = codes "equal at step " ++ (decimal k ++ 10 ∷ [])
+
+-- what the command puts into its writer for FILE and the file beside it, whose counts fit, and what
+-- is then so of their machines
+abbrev pub PairAnswers : PairCommand → File → File → List ℕ → Type 0
+PairAnswers (commands.Certified optimize) f g text =
+    (text ≡ safe_line) × HasLinesOf g f × ((n : ℕ) → IsSafeTo f n)
+PairAnswers (commands.Equal k optimize) f g text =
+    (text ≡ equal_line k) × HaveSameFileCounts f g × AreEqualMachinesAt f g k
+
+-- ---- errors
+
+-- what an error says of the bytes of the file beside FILE
+abbrev pub other_verdict_of : CheckError → Verdict
+other_verdict_of (errors.Certificate e) = certificates.second_verdict e
+other_verdict_of errors.Write = Accepted
+other_verdict_of e = Refused
+
+-- the commands have this error
+abbrev pub IsErrorOfPair : CheckError → Type 0
+IsErrorOfPair errors.Write = Unit {0}
+IsErrorOfPair (errors.Certificate e) = certificates.IsOwn e
+IsErrorOfPair e = ⊥
+
+-- why the command shows nothing of two files
+abbrev pub RefusesPair : PairCommand → ℕ → File → File → CertificateError → Type 0
+RefusesPair (commands.Certified optimize) limit f g e = Certifies limit f g (Err e)
+RefusesPair (commands.Equal k optimize) limit f g e = Equals limit k f g (Err e)
+
+-- BASE, or the proof of `equal`, isn't read
+abbrev pub LeavesBase : CheckError → Type 0
+LeavesBase (errors.Certificate e) = certificates.LeavesQuery (Err e)
+LeavesBase e = ⊥
+
+-- STEP isn't read
+abbrev pub LeavesStep : CheckError → Type 0
+LeavesStep (errors.Certificate e) = certificates.LeavesWindow (Err e)
+LeavesStep e = ⊥
+
+-- ---- runs
+
+-- what a result tells of two files that were taken: the answer to them was written, and the writer
+-- has not failed; or a beginning of it was, and the writer has; or it is said why there is none
+abbrev pub TellsOfPair : {W : Type 0} → (W → Option (List ℕ)) → (W → Bool) → PairCommand → ℕ → W
+    → W → File → File → Result Unit CheckError → Type 0
+TellsOfPair held write_failed c limit w made f g (Ok done) =
+    (text : List ℕ) × PairAnswers c f g text × Appends (held w) (held made) text
+    × (write_failed made ≡ false)
+TellsOfPair held write_failed c limit w made f g (Err errors.Write) =
+    (text : List ℕ) × PairAnswers c f g text × Stops (held w) (held made) (write_failed made) text
+TellsOfPair held write_failed c limit w made f g (Err (errors.Certificate e)) =
+    RefusesPair c limit f g e
+TellsOfPair held write_failed c limit w made f g (Err e) = ⊥
+
+-- What a command does: r, s, p, q and w are before it the readers of FILE, of the file beside it,
+-- and of two proofs, and the writer; rest, other, used, spent and made are these after it.
+pub record RunsPair {R S P Q W : Type 0} (left : R → Option (List ℕ)) (failed : R → Bool)
+    (left_of : S → Option (List ℕ)) (failed_of : S → Bool) (base_failed : P → Bool)
+    (step_failed : Q → Bool) (held : W → Option (List ℕ)) (write_failed : W → Bool)
+    (c : PairCommand) (limit : ℕ) (r : R) (s : S) (p : P) (q : Q) (w : W)
+    (result : Result Unit CheckError) (rest : R) (other : S) (used : P) (spent : Q) (made : W)
+    : Type 0 where
+  -- what is said of the bytes of both files, and where they are taken, of their machines
+  pub reads : ReadsPair left failed left_of failed_of limit
+      (TellsOfPair held write_failed c limit w made) verdict_of other_verdict_of IsErrorOfPair r s
+      result rest other
+  -- every refusal but that of the writer leaves the writer as it was
+  pub kept : IfErr result (λ e. e ≢ errors.Write → made ≡ w)
+  -- a proof is read only where what comes before it is taken
+  pub base_unread : IfErr result (λ e. LeavesBase e → used ≡ p)
+  pub step_unread : IfErr result (λ e. LeavesStep e → spent ≡ q)
+  -- a read of it is said to have failed only where one did
+  pub base_stream : IsErrOf result
+      (errors.Certificate (certificate.Query (answers.Refutation refutation.Stream)))
+      → IsTrue (base_failed used)
+  pub step_stream : IsErrOf result
+      (errors.Certificate (certificate.Window (answers.Refutation refutation.Stream)))
+      → IsTrue (step_failed spent)
