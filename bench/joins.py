@@ -2,8 +2,8 @@
 """Measures `aigedit miter` beside reading both files and writing what it writes: joins.py [GATES [RUNS]]
 
 Two files have the same GATES (1000000) random gates, 1000 inputs and 1000 latches, in any order and in order. `aigtool text` of each
-reads both, and writes as many gates as their miter has but for those that compare. Processor seconds, the least of RUNS (3), and peaks of
-memory; 1.3 times the sum of both is wanted at most."""
+reads both, and writes as many gates as their miter has but for those that compare; and it reads and writes the miter. Processor
+seconds, the least of RUNS (3), and peaks of memory."""
 import os
 import sys
 import tempfile
@@ -27,11 +27,15 @@ def main():
         files = [os.path.join(folder, f"{kind}.aag") for kind in ["shuffled", "random"]]
         for file in files:
             make(os.path.basename(file)[:-4], gates, file)
-        texts = [least([PROGRAMS["aigtool"], "text", file], runs) for file in files]
-        miter = least([PROGRAMS["aigedit"], "miter", *files], runs)
-    for name, (seconds, peak) in zip(["text of the first", "text of the second", "miter"], [*texts, miter]):
+        miter = [PROGRAMS["aigedit"], "miter", *files]
+        files.append(os.path.join(folder, "miter.aag"))
+        with open(files[-1], "wb") as out:
+            run(miter, out)
+        costs = [least(words, runs) for words in [miter, *([PROGRAMS["aigtool"], "text", file] for file in files)]]
+    for name, (seconds, peak) in zip(["miter", "text of the first", "text of the second", "text of the miter"], costs):
         row([name, f"{seconds:.2f} s", f"{peak / 1024:.0f} MiB"])
-    print(f"miter / both texts: {miter[0] / sum(seconds for seconds, _ in texts):.2f}")
+    mine, first, second, third = (seconds for seconds, _ in costs)
+    print(f"miter / both texts: {mine / (first + second):.2f}, / all three: {mine / (first + second + third):.2f}")
 
 
 if __name__ == "__main__":

@@ -20,36 +20,31 @@ MOST = 300
 SHAPES = {"i": "invtriangle", "l": "box", "o": "triangle", "b": "octagon, color=red", "c": "house"}
 
 
-def node(name, label, shape):
-    """A node."""
-    return f"  {name} [label={json.dumps(label)}, shape={shape}];"
-
-
-def edge(literal, to, more=""):
-    """An edge from the node of a literal, whose names are those of even literals."""
-    style = ", ".join(["style=dashed"] * (literal & 1) + [more] * bool(more))
-    return f"  n{literal & ~1} -> {to}{f' [{style}]' * bool(style)};"
+def edge(literal, to, style=""):
+    """An edge from the node of a literal; nodes are named by even literals."""
+    words = ", ".join(["style=dashed"] * (literal & 1) + [style] * bool(style))
+    return f"  n{literal & ~1} -> {to}{f' [{words}]' * bool(words)};"
 
 
 def graph(circuit):
-    """The lines of the graph: leaves, gates and then what is asked about, and the edges."""
-    labels = [(letter, i, literal, circuit.name(letter, i).decode("utf-8", "replace")) for letter, i, literal in circuit.signals()]
-    firsts = ["01?"[min(reset, 2)] for reset in circuit.resets]
-    nodes, ends, edges = [], [], []
-    for letter, i, literal, label in labels:
-        if letter in "il":
-            (nodes if letter == "i" else ends).append(node(f"n{literal}", label + f" = {firsts[i]}" * (letter == "l"), SHAPES[letter]))
-    latches = ["  subgraph cluster_latches {", *("  " + line for line in ends), "  }"] if ends else []
-    nodes += latches + [node(f"n{gate}", str(gate), "circle") for gate, _, _ in circuit.gates]
-    edges += [edge(operand, f"n{gate}") for gate, *row in circuit.gates for operand in row]
-    edges += [edge(next, f"n{latch}", "penwidth=2") for latch, next in zip(circuit.latches, circuit.nexts)]
-    for letter, i, literal, label in labels:
-        if letter in "obc":
-            nodes.append(node(f"{letter}{i}", label, SHAPES[letter]))
-            edges.append(edge(literal, f"{letter}{i}"))
-    if any(line.startswith("  n0 ") for line in edges):
-        nodes.insert(0, node("n0", "0", "plaintext"))
-    return ["digraph {", "  rankdir=LR;", *nodes, *edges, "}"]
+    """The lines of the graph: leaves, gates, what is asked about, and edges."""
+    kinds, edges = {letter: [] for letter in SHAPES}, []
+    for letter, i, literal in circuit.signals():
+        name, label = f"n{literal}", circuit.name(letter, i).decode("utf-8", "replace")
+        if letter == "l":
+            label += " = " + "01?"[min(circuit.resets[i], 2)]
+        elif letter != "i":
+            name = f"{letter}{i}"
+            edges.append(edge(literal, name))
+        kinds[letter].append(f"  {name} [label={json.dumps(label)}, shape={SHAPES[letter]}];")
+    if kinds["l"]:
+        kinds["l"] = ["  subgraph cluster_latches {", *("  " + line for line in kinds["l"]), "  }"]
+    edges[:0] = [edge(next, f"n{latch}", "penwidth=2") for latch, next in zip(circuit.latches, circuit.nexts)]
+    edges[:0] = [edge(operand, f"n{gate}") for gate, *operands in circuit.gates for operand in operands]
+    zero = ['  n0 [label="0", shape=plaintext];'] * any(line.startswith("  n0 ") for line in edges)
+    gates = [f'  n{gate} [label="{gate}", shape=circle];' for gate, _, _ in circuit.gates]
+    leaves, ends = kinds["i"] + kinds["l"], kinds["o"] + kinds["b"] + kinds["c"]
+    return ["digraph {", "  rankdir=LR;", *zero, *leaves, *gates, *ends, *edges, "}"]
 
 
 def parse():

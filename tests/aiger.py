@@ -79,22 +79,28 @@ class Machine:
         resets = [latch[2] if len(latch) > 2 else 0 for latch in self.latches]
         return set(itertools.product(*([bool(reset)] if reset < 2 else [False, True] for reset in resets)))
 
+    def is_bad(self, values):
+        """Whether a step is bad."""
+        return any(values[literal] for literal in self.bads)
+
+    def steps(self, state):
+        """The inputs and the values of each step from a state that meets the constraints."""
+        for inputs in itertools.product([False, True], repeat=len(self.inputs)):
+            values = self.values(state, inputs)
+            if self.is_allowed(values):
+                yield inputs, values
+
     def first_bad(self):
         """The first step at which a bad state is reached, if ever."""
         states, seen = self.starts(), set()
         for k in itertools.count():
+            steps = [values for state in states for _, values in self.steps(state)]
+            if any(map(self.is_bad, steps)):
+                return k
+            seen |= states
+            states = set(map(self.following, steps)) - seen
             if not states:
                 return None
-            after = set()
-            for state in states:
-                for inputs in itertools.product([False, True], repeat=len(self.inputs)):
-                    values = self.values(state, inputs)
-                    if self.is_allowed(values):
-                        if any(values[literal] for literal in self.bads):
-                            return k
-                        after.add(self.following(values))
-            seen |= states
-            states = after - seen
 
     def is_shown(self, witness):
         """Whether a witness shows its bad state, by simulation."""

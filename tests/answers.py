@@ -72,10 +72,10 @@ LARGE = [("inductive stateless.aag 100000 {conflict} distinct", "no bad state at
 # Commands that print to a device that takes no byte.
 UNWRITTEN = {
     "aigcheck": ["clauses stuck.aag 0", "window stuck.aag 0", "refuted stuck.aag 0 stuck.lrat", "inductive stuck.aag 0 stuck.lrat"],
-    "aigedit": ["miter toggle.aag stuck.aag", "join toggle.aag stuck.aag"],
+    "aigedit": ["refine toggle.aag", "unroll toggle.aag 1", "miter toggle.aag stuck.aag", "join toggle.aag stuck.aag", "merge toggle.aag stuck.aag"],
 }
 UNWRITTEN["aigcheck"] += ["witness delayed.aag 1 {solved}", "run ../witnesses/counter.aag {shown}"]
-UNWRITTEN["aigcheck"] += ["certified stuck.aag stuck.aag {conflict} {conflict}", "equal toggle.aag stuck.aag 0 {conflict}"]
+UNWRITTEN["aigcheck"] += ["certified stuck.aag stuck.aag {conflict} {conflict}", "equal toggle.aag stuck.aag 0 {conflict}", "obligations stuck.aag stuck.aag"]
 # The comments of the query of credits.aag for step 0: each leaf and gate is the variable of its number in the file, and one more.
 CREDITS = "../../examples/credits.aag"
 COMMENTS = b"c i0 at step 0 is 2\nc i1 at step 0 is 3\nc l0 at step 0 is 4\nc l1 at step 0 is 5\nc b0 at step 0 is 20\n"
@@ -139,6 +139,15 @@ class Answers:
         for form in ["", " raw"]:
             query = harness.run([self.programs["aigtool"], "query", CREDITS, "0", *form.split()], cwd=FILES)[1]
             self.check(f"aigcheck clauses {CREDITS} 0{form}", (0, COMMENTS + query, b""), FILES)
+            self.check_obligations("differing.aag held.aag", form)
+
+    def check_obligations(self, pair, form):
+        """Checks that the clauses of a certificate's proofs are those of the joint file."""
+        joined = self.folder / "joined"
+        joined.write_bytes(harness.run([self.programs["aigedit"], "join", *pair.split()], cwd=FILES)[1])
+        base = harness.run([self.programs["aigtool"], "query", joined, "0", *form.split()])[1]
+        step = harness.run([self.programs["aigcheck"], "window", joined, "0", *form.split()])[1]
+        self.check(f"aigcheck obligations {pair}{form}", (0, b"c base\n" + base + b"c step\n" + step, b""), FILES)
 
 
 def main():

@@ -12,13 +12,17 @@ import sys
 
 TESTS = pathlib.Path(__file__).resolve().parent
 TOP = TESTS.parent
+# So that scripts find the package of aigprove, and leave nothing there.
+sys.path.append(str(TOP / "lib"))
+sys.dont_write_bytecode = True
 # What each program says of wrong words.
 USAGE = {
     "aigtool": b"usage: aigtool text FILE, binary FILE OUT, strash FILE, cnf FILE K [raw], query FILE K [raw]\n",
-    "aigedit": b"usage: aigedit miter FILE OTHER, join FILE CERT\n",
+    "aigedit": b"usage: aigedit refine FILE, reencode FILE, unroll FILE K, move FILE, compress FILE, bads FILE, "
+    b"miter FILE OTHER, join FILE CERT, merge FILE OTHER\n",
     "aigcheck": b"usage: aigcheck clauses FILE K [raw], window FILE K [distinct] [raw], refuted FILE K PROOF [raw], "
     b"inductive FILE K PROOF [distinct] [raw], witness FILE K SOLUTION [raw], run FILE WITNESS, "
-    b"certified FILE CERT BASE STEP [raw], equal FILE OTHER K PROOF [raw]\n",
+    b"certified FILE CERT BASE STEP [raw], equal FILE OTHER K PROOF [raw], obligations FILE CERT [raw]\n",
 }
 TOOL, EDIT, CHECK = (str(TOP / "crates" / name / "out" / name) for name in ["aigtool", "aigedit", "aigcheck"])
 PROVE = str(TOP / "bin" / "aigprove")

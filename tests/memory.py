@@ -56,9 +56,12 @@ CHECKS = [
     *(["certified", "waiting.aag", "held.aag", "conflict", "conflict", *raw] for raw in ([], ["raw"])),
     *(["equal", form, other, "1", "conflict"] for form, other in (("whole.aag", "whole.aig"), ("whole.aig", "whole.aag"))),
     ["equal", "delayed.aag", "delayed.aag", "1", "conflict", "raw"],
+    ["obligations", "waiting.aag", "held.aag"],
+    ["obligations", "whole.aag", "whole.aig", "raw"],
 ]
-# The commands of aigedit on that file and itself: its miter, and it as its own certificate.
-EDITS = [[command, form, other] for command in ("miter", "join") for form, other in (("whole.aag", "whole.aig"), ("whole.aig", "whole.aag"))]
+# The commands of aigedit on that file, and on it and itself: its miter, it as its own certificate, and it twice.
+EDITS = [[command, form, *k] for command, *k in (["refine"], ["reencode"], ["unroll", "2"], ["move"], ["compress"]) for form in ("whole.aag", "whole.aig")]
+EDITS += [[command, form, other] for command in ("miter", "join", "merge") for form, other in (("whole.aag", "whole.aig"), ("whole.aig", "whole.aag"))]
 
 # Where a file has a few nodes all requests together stay below this, and room for nodes within the limit is reserved.
 ASKED_FOR_LITTLE = 20_000

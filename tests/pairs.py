@@ -1,7 +1,7 @@
 #!/usr/bin/env python3
 """Compares answers about two files with a search over all states, and with ABC: pairs.py [PAIRS [SEED]]
 
-PAIRS (300) random files, each beside one that ABC made of it (by turns balance, rewrite, refactor, dc2, fraig and scorr) or that has a
+PAIRS (300) random files, each beside one that ABC made of it (by two of balance, rewrite, refactor, dc2, fraig and scorr) or that has a
 gate more in the place of an edge. The first step at which outputs or bad literals differ is that of a search over the states of both,
 and that at which the machine of `aigedit miter` is bad, by a search over its states. For each step before it `aigcheck equal` takes
 cadical's proof, and at that step it takes neither that proof nor the empty clause. ABC's `dsec`, and `cec` without latches, say the same
@@ -17,7 +17,6 @@ import concurrent.futures
 import itertools
 import random
 import re
-import subprocess
 import sys
 import tempfile
 from pathlib import Path
@@ -26,7 +25,7 @@ import harness
 from aiger import Machine, machine_of
 from designs import inverted
 from harness import CHECK, EDIT, PROVE, TOOL, output
-from random_machines import random_machine
+from random_machines import Files, random_machine
 
 from aigprove.aiger import Circuit, Lines
 from aigprove.plain import Plain
@@ -35,80 +34,30 @@ REWRITES = ["balance", "rewrite", "refactor", "dc2", "fraig", "scorr"]
 BOUND = 4
 
 
-def states(machine):
-    """All states of a machine."""
-    return itertools.product([False, True], repeat=len(machine.latches))
-
-
-def steps(machine, state):
-    """The values of each step from a state that meets the constraints."""
-    for inputs in itertools.product([False, True], repeat=len(machine.inputs)):
-        values = machine.values(state, inputs)
-        if machine.is_allowed(values):
-            yield inputs, values
-
-
 def first_difference(first, other):
-    """The first step at which two machines differ, if ever, by a search over their states."""
+    """The first step at which outputs or bad literals of two machines differ, if ever."""
+    compared = list(zip([*first.outputs, *first.bads], [*other.outputs, *other.bads], strict=True))
     pairs, seen = set(itertools.product(first.starts(), other.starts())), set()
     for k in itertools.count():
-        after = set()
+        steps = []
         for state, beside in pairs:
-            theirs = dict(steps(other, beside))
-            for inputs, values in steps(first, state):
-                if inputs in theirs:
-                    compared = zip([*first.outputs, *first.bads], [*other.outputs, *other.bads])
-                    if any(values[one] != theirs[inputs][two] for one, two in compared):
-                        return k
-                    after.add((first.following(values), other.following(theirs[inputs])))
+            theirs = dict(other.steps(beside))
+            steps += [(values, theirs[inputs]) for inputs, values in first.steps(state) if inputs in theirs]
+        if any(ours[one] != theirs[two] for ours, theirs in steps for one, two in compared):
+            return k
         seen |= pairs
-        pairs = after - seen
+        pairs = {(first.following(ours), other.following(theirs)) for ours, theirs in steps} - seen
         if not pairs:
             return None
 
 
-def is_bad(machine, values):
-    """Whether a step is bad."""
-    return any(values[literal] for literal in machine.bads)
-
-
 def is_inductive(machine):
     """Whether no first state of a machine is bad, and no step leads from one that isn't bad to one that is."""
-    bad = {state for state in states(machine) if any(is_bad(machine, values) for _, values in steps(machine, state))}
-    good = (values for state in states(machine) for _, values in steps(machine, state) if not is_bad(machine, values))
+    states = itertools.product([False, True], repeat=len(machine.latches))
+    steps = {state: [values for _, values in machine.steps(state)] for state in states}
+    bad = {state for state, each in steps.items() if any(map(machine.is_bad, each))}
+    good = (values for each in steps.values() for values in each if not machine.is_bad(values))
     return not bad & machine.starts() and all(machine.following(values) not in bad for values in good)
-
-
-class Files:
-    """A folder of its own for files, and what programs say of them."""
-
-    def __init__(self, folder):
-        self.folder, self.counts = Path(folder), collections.Counter()
-
-    def put(self, name, data):
-        """Writes a file, and gives its path."""
-        (self.folder / name).write_bytes(data if isinstance(data, bytes) else data.encode())
-        return str(self.folder / name)
-
-    def fail(self, why):
-        """Ends with the files that show a fault."""
-        sys.exit(f"{why}\n" + "\n".join(f"{path.name}:\n{path.read_text()}" for path in self.folder.glob("*.aag")))
-
-    def proof(self, words, name):
-        """The path of cadical's proof that clauses have no solution; None where they have one."""
-        clauses, proof = self.put("clauses.cnf", output(words)), str(self.folder / name)
-        return proof if harness.run(["cadical", "-q", "--no-binary", clauses, proof])[0] == 20 else None
-
-    def takes(self, line, *words):
-        """Whether aigcheck prints a line."""
-        printed = output([CHECK, *words], [0, 1])
-        if printed not in ["", line + "\n"]:
-            self.fail(f"aigcheck {words[0]} prints {printed}")
-        return printed != ""
-
-    def abc(self, commands):
-        """What ABC prints."""
-        return output(["berkeley-abc", "-q", commands])
 
 
 def with_outputs(rng):
@@ -120,18 +69,12 @@ def with_outputs(rng):
 
 
 def changed(machine, rng):
-    """The machine with an output, a bad literal, or the next value of a latch changed: to an and with another, or the inverse."""
+    """The machine with an output, a bad literal or a latch's next value made an and of two others, or its inverse."""
     made = machine_of(machine.text())
-    literals = [2 * v + bit for v in range(1, len(made.inputs) + len(made.latches) + len(made.gates) + 1) for bit in (0, 1)]
-    old, new = rng.choice(literals), 2 * (len(literals) // 2 + 1)
-    made.gates.append([new, *sorted([old, rng.choice(literals)], reverse=True)])
-    lists = [it for it in [made.outputs, made.bads, made.latches] if it]
-    chosen = rng.choice(lists)
-    i = rng.randrange(len(chosen))
-    if chosen is made.latches:
-        chosen[i][1] = new ^ (rng.random() < 0.5)
-    else:
-        chosen[i] = new ^ (rng.random() < 0.5)
+    new = 2 * (len(made.inputs) + len(made.latches) + len(made.gates) + 1)
+    made.gates.append([new, *sorted(rng.sample(range(2, new), 2), reverse=True)])
+    row, i = rng.choice([*((list, i) for list in (made.outputs, made.bads) for i in range(len(list))), *((row, 1) for row in made.latches)])
+    row[i] = new + rng.randrange(2)
     return made
 
 
@@ -140,15 +83,14 @@ class Pair(Files):
 
     def __init__(self, rng, folder):
         super().__init__(folder)
-        self.machine, self.is_plain = with_outputs(rng), rng.random() < 0.6
-        if self.is_plain:
-            # As ABC reads it: outputs alone, latches that are 0 at first, no names.
-            self.machine = Machine(
-                self.machine.inputs, [[*row[:2], 0] for row in self.machine.latches], self.machine.outputs + self.machine.bads,
-                [], [], [], [], self.machine.gates, {},
-            )
+        self.machine, self.abc_command = with_outputs(rng), rng.choice(["dsec", "dsec", "cec", None])
+        if self.abc_command:
+            # As ABC reads it: outputs alone, no latches or such that are 0 at first, no names.
+            made, latches = self.machine, [[*row[:2], 0] for row in self.machine.latches]
+            inputs, latches = (made.inputs + [row[0] for row in latches], []) if self.abc_command == "cec" else (made.inputs, latches)
+            self.machine = Machine(inputs, latches, made.outputs + made.bads, [], [], [], [], made.gates, {})
         self.file = self.put("file.aag", self.machine.text())
-        self.other_machine = self.rewritten(rng) if self.is_plain and rng.random() < 0.7 else changed(self.machine, rng)
+        self.other_machine = self.rewritten(rng) if self.abc_command and rng.random() < 0.7 else changed(self.machine, rng)
         self.other = self.put("other.aag", self.other_machine.text())
 
     def rewritten(self, rng):
@@ -167,7 +109,7 @@ class Pair(Files):
             self.fail(f"a search finds a difference at step {first}, and the miter is bad at step {made.first_bad()}")
         empty, last = self.put("empty", "0\n"), None
         for k in range(BOUND + 1 if first is None else min(first, BOUND) + 1):
-            proof = self.proof([TOOL, "query", miter, str(k)], f"proof-{k}")
+            proof = self.proof(output([TOOL, "query", miter, str(k)]), f"proof-{k}")
             if (proof is None) != (k == first):
                 self.fail(f"a search finds a difference at step {first}, and cadical {'one' if proof is None else 'none'} at step {k}")
             for given in [proof] if proof else [empty, last or empty]:
@@ -175,7 +117,7 @@ class Pair(Files):
                     self.fail(f"aigcheck equal {'refuses' if proof else 'takes'} {given} for step {k}, and a search finds {first}")
                 self.counts["proofs taken" if proof else "proofs refused"] += 1
             last = proof
-        if self.is_plain:
+        if self.abc_command:
             self.compare_abc(first)
         self.compare_proved(first)
         self.counts["equal" if first is None else "different"] += 1
@@ -185,21 +127,17 @@ class Pair(Files):
         """Compares what ABC says."""
         for name in ["file", "other"]:
             output([TOOL, "binary", str(self.folder / f"{name}.aag"), str(self.folder / f"{name}.aig")])
-        command = "dsec" if self.machine.latches and self.other_machine.latches else "cec" if self.machine.latches == self.other_machine.latches else None
-        printed = command and self.abc(f"{command} -n {self.folder}/file.aig {self.folder}/other.aig")
-        told = printed and re.search(r"Networks are (NOT |not )?[Ee]quivalent|Networks are (UNDECIDED)", printed, re.IGNORECASE)
-        if not told:
-            self.counts["not told by ABC"] += 1
-        elif (told[1] is None) != (first is None):
-            self.fail(f"a search finds a difference at step {first}, and {command}: {printed}")
-        else:
-            self.counts[f"by {command}"] += 1
+        printed = self.abc(f"{self.abc_command} -n {self.folder}/file.aig {self.folder}/other.aig")
+        told = re.search("Networks are (NOT )?equivalent", printed, re.IGNORECASE)
+        if told and (told[1] is None) != (first is None):
+            self.fail(f"a search finds a difference at step {first}, and ABC: {printed}")
+        self.counts[f"by {self.abc_command}" if told else "not told by ABC"] += 1
 
     def compare_proved(self, first):
         """Compares what aigprove says, and what it keeps."""
         keep = self.folder / "kept"
-        printed = output([PROVE, "--equal", self.other, self.file, "--keep", str(keep)], [10, 20]).splitlines()
-        if (printed[-1] == "equal at every step") != (first is None) or not any(line.startswith("a difference") for line in printed) != (first is None):
+        printed = output([PROVE, "--equal", self.other, self.file, "--keep", str(keep)], [10, 20])
+        if printed.endswith("\nequal at every step\n") != (first is None) or ("\na difference" in f"\n{printed}") == (first is None):
             self.fail(f"a search finds a difference at step {first}, and aigprove: {printed}")
         again = harness.shown_again(keep)
         (keep / "other.aag").write_bytes(inverted((keep / "other.aag").read_bytes()))
@@ -229,21 +167,25 @@ class Invariant(Files):
         """The certificate of an invariant, the machine beside it, and cadical's proofs."""
         certificate = self.put(f"{name}.aag", self.plain.certificate("".join(lines)))
         joint = self.put(f"{name}-joint.aag", output([EDIT, "join", self.file, certificate]))
-        proofs = [self.proof([TOOL, "query", joint, "0"], f"{name}-base"), self.proof([CHECK, "window", joint, "0"], f"{name}-step")]
+        commands = [(TOOL, "query"), (CHECK, "window")]
+        proofs = [self.proof(output([program, command, joint, "0"]), f"{name}-{command}") for program, command in commands]
         return certificate, machine_of(Path(joint).read_text()), proofs
+
+    def is_certified(self, certificate, proofs):
+        """Whether aigcheck takes a certificate."""
+        return self.takes("no bad state at any step", "certified", self.file, certificate, *proofs)
 
     def compare(self):
         """Compares the whole invariant, and it with a cube less."""
         certificate, joint, whole = self.certify(self.lines, "whole")
-        if not is_inductive(joint) or None in whole or not self.takes("no bad state at any step", "certified", self.file, certificate, *whole):
+        if not is_inductive(joint) or None in whole or not self.is_certified(certificate, whole):
             self.fail("an invariant of pdr isn't taken")
-        cubes = [i for i, line in enumerate(self.lines) if line[0] in "01-"]
-        for i in cubes:
+        for i in [i for i, line in enumerate(self.lines) if line[0] in "01-"]:
             certificate, joint, proofs = self.certify(self.lines[:i] + self.lines[i + 1 :], f"without-{i}")
             inductive = is_inductive(joint)
             if (None in proofs) == inductive:
                 self.fail(f"a search says {inductive}, and cadical has proofs {proofs}")
-            if self.takes("no bad state at any step", "certified", self.file, certificate, *(proofs if inductive else whole)) != inductive:
+            if self.is_certified(certificate, proofs if inductive else whole) != inductive:
                 self.fail(f"a search says {inductive} of an invariant without line {i}, and aigcheck says other")
             self.counts["with a cube less, taken" if inductive else "with a cube less, refused"] += 1
         self.counts["invariants"] += 1
@@ -254,13 +196,10 @@ def main():
     pairs, seed = [int(word) for word in sys.argv[1:]] + [300, 1][len(sys.argv) - 1 :]
     tried = [Pair] * pairs + [Invariant] * (pairs // 3)
     with tempfile.TemporaryDirectory() as folder, concurrent.futures.ThreadPoolExecutor(2) as pool:
-
-        def compare(i):
-            (Path(folder) / str(i)).mkdir()
-            return tried[i](random.Random(f"{seed}-{i}"), Path(folder) / str(i)).compare()
-
+        compare = lambda i: tried[i](random.Random(f"{seed}-{i}"), f"{folder}/{i}").compare()
         counts = sum(pool.map(compare, range(len(tried))), collections.Counter())
-    print(f"seed {seed}: {pairs} pairs and {pairs // 3} invariants agree ({', '.join(f'{counts[what]} {what}' for what in sorted(counts))})")
+    said = ", ".join(f"{counts[what]} {what}" for what in sorted(counts))
+    print(f"seed {seed}: {pairs} pairs and {pairs // 3} invariants agree ({said})")
 
 
 if __name__ == "__main__":

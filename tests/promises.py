@@ -26,6 +26,7 @@ CALLS = [
     ("with the programs", ["aigtool", "aig_commands", "aigcheck"]),
     ("with checked answers, witnesses and DIMACS", [
         "aig_answers", "aig_edits", "aig_certificates", "aig_reduction", "aig_refutation", "aig_witness", "aig_witness_check", "aig_solutions", "aig_dimacs"]),
+    ("from C", ["aig_c"]),
 ]
 LAWS = "with the laws"
 # The crates that pass on what their promises rest on, each but for what those before it do.
@@ -193,7 +194,7 @@ class Code:
             first = path.split("::")[0]
             owner = first if first in self.crates else crate
             found += [(owner, name) for name in re.findall(r"\w+", listed or one)]
-        for name in re.findall(r"^pub fn (\w+)", text, re.M):
+        for name in re.findall(r"^pub (?:extern\s+)?fn (\w+)", text, re.M):
             found.append((crate, name))
         return found
 
@@ -204,7 +205,7 @@ class Code:
             for name in re.findall(r"\w+", listed or one):
                 if owner in self.crates:
                     self.imports[crate, name].add(owner)
-        for found in re.finditer(r"^pub fn (\w+)", text, re.M):
+        for found in re.finditer(r"^pub (?:extern\s+)?fn (\w+)", text, re.M):
             self.functions[crate, found.group(1)].append(function_part(crate, found.group(1), text, found.end(), uses))
         self.constants |= {(crate, name) for name in re.findall(r"^pub const (\w+)", text, re.M)}
         for found in re.finditer(r"^pub (?:struct|enum|trait) (\w+)", text, re.M):

@@ -14,16 +14,19 @@ import collections
 import concurrent.futures
 import dataclasses
 import json
-import os
 import random
 import re
-import subprocess
+import signal
 import sys
 import tempfile
+from pathlib import Path
 
 import harness
 from aiger import Machine, machine_of
 from harness import CHECK, PROVE, TOOL, TOP, output
+
+from aigprove.aiger import Lines
+from aigprove.witness import Witness, read
 
 EXAMPLES = [str(TOP / "examples" / f"{name}.aag") for name in ["credits", "queue", "pipeline", "handshake"]]
 BOUND = 6
@@ -32,31 +35,13 @@ NAMES = ["a", "a", "a b", "a=1", "i0", "l1", "b0", '"a"', "é", "a\\b", "x[0]", 
 SIGNAL = re.compile(r'((?:[il]\d+:)?"(?:[^"\\]|\\.)*"|[^\s"=]+)=(?:([01])|(\d+)\'h([0-9a-f]+))(?: |$)')
 
 
-@dataclasses.dataclass
-class Witness:
-    """Which bad state is reached, the first state, and the inputs of each step."""
-
-    bad: int
-    start: str
-    steps: list
-
-    def text(self):
-        """Its text."""
-        return "".join(line + "\n" for line in ["1", f"b{self.bad}", self.start, *self.steps, "."])
-
-    def turned(self):
-        """All that differ from it in one value."""
-        for i, bits in enumerate([self.start, *self.steps]):
-            for j, bit in enumerate(bits):
-                lines = [self.start, *self.steps]
-                lines[i] = bits[:j] + "10"[int(bit)] + bits[j + 1 :]
-                yield Witness(self.bad, lines[0], lines[1:])
-
-
-def witness_of(text):
-    """The witness of a text."""
-    _, bad, start, *steps, _ = text.splitlines()
-    return Witness(int(bad[1:]), start, steps)
+def turned(witness):
+    """All witnesses that differ from one in one value."""
+    for i, bits in enumerate([witness.start, *witness.steps]):
+        for j, bit in enumerate(bits):
+            lines = [witness.start, *witness.steps]
+            lines[i] = bits[:j] + "10"[int(bit)] + bits[j + 1 :]
+            yield Witness(witness.bad, lines[0], lines[1:])
 
 
 def random_machine(rng):
@@ -100,31 +85,54 @@ def deep_machine(rng):
             return machine
 
 
-class Trial:
+class Files:
+    """A folder of its own for files, what programs say of them, and what is counted."""
+
+    def __init__(self, folder):
+        self.folder, self.counts = Path(folder), collections.Counter()
+        self.folder.mkdir()
+
+    def put(self, name, data):
+        """Writes a file, and gives its path."""
+        (self.folder / name).write_bytes(data if isinstance(data, bytes) else data.encode())
+        return str(self.folder / name)
+
+    def fail(self, why):
+        """Ends with the files that show a fault."""
+        sys.exit(f"{why}\n" + "\n".join(f"{path.name}:\n{path.read_text()}" for path in self.folder.glob("*.aag")))
+
+    def proof(self, text, name):
+        """The path of cadical's proof that clauses have no solution; None where they have one."""
+        clauses, proof = self.put("clauses.cnf", text), str(self.folder / name)
+        return proof if harness.run(["cadical", "-q", "--no-binary", clauses, proof])[0] == 20 else None
+
+    def takes(self, line, *words):
+        """Whether aigcheck prints a line."""
+        printed = output([CHECK, *words], [0, 1])
+        if printed not in ["", line + "\n"]:
+            self.fail(f"aigcheck {words[0]} prints {printed}")
+        return printed != ""
+
+    def abc(self, commands):
+        """What ABC prints, which ends by a failed assertion of its own now and then."""
+        return output(["berkeley-abc", "-q", commands], [0, -signal.SIGABRT])
+
+
+class Trial(Files):
     """A machine in files of its own, and what all agree on."""
 
     def __init__(self, machine, folder):
-        self.machine = machine
-        self.text, self.binary, self.nameless, self.witness, self.given = (
-            os.path.join(folder, name) for name in ["made.aag", "made.aig", "nameless.aig", "witness", "given"]
-        )
-        os.mkdir(folder)
-        self.write(self.text, machine.text())
+        super().__init__(folder)
+        self.machine, self.first = machine, machine.first_bad()
+        self.text, self.binary = self.put("made.aag", machine.text()), str(self.folder / "made.aig")
         output([TOOL, "binary", self.text, self.binary])
         # ABC takes no two signals of one name.
-        self.write(self.given, dataclasses.replace(machine, names={}).text())
-        output([TOOL, "binary", self.given, self.nameless])
-        self.first = machine.first_bad()
-        self.counts = collections.Counter()
-
-    def write(self, path, text):
-        """Writes a text to a file."""
-        with open(path, "w", encoding="utf-8") as out:
-            out.write(text)
+        self.nameless = self.put("nameless.aig", b"")
+        output([TOOL, "binary", self.put("nameless.aag", dataclasses.replace(machine, names={}).text()), self.nameless])
 
     def fail(self, why):
         """Ends with the machine that shows a fault."""
-        sys.exit(f"{why}; a search finds a bad state at step {self.first}:\n{self.machine.text()}")
+        super().fail(f"{why}; a search finds a bad state at step {self.first}")
 
     def compare(self):
         """Compares all answers."""
@@ -133,6 +141,8 @@ class Trial:
         self.compare_proved(self.binary, binary_names, "steps,windows", self.first_to(BOUND), "--jobs", "1")
         self.compare_proved(self.text, self.machine.names, "bmc3", self.first_to(BOUND))
         self.compare_proved(self.binary, binary_names, "pdr", self.first)
+        # What windows show needs the steps before them.
+        self.compare_proved(self.text, self.machine.names, "windows", None)
         self.compare_proved(self.text, self.machine.names, "steps,windows,bmc3,pdr", self.first)
         self.compare_abc("bmc3", f"bmc3 -F {BOUND + 1}", BOUND)
         self.compare_abc("pdr", "pdr", None)
@@ -145,19 +155,18 @@ class Trial:
     def compare_proved(self, file, names, engines, first, *options):
         """Compares an answer, which is a run to a bad state, none at all, or nothing up to the bound. A run has to come where
         there is a first step, and be no longer by engines that look for the shortest."""
-        keep = f"{file}-{engines}"
-        words = [PROVE, "--engine", engines, *options, file, "--witness", self.witness, "--bound", str(BOUND), "--keep", keep]
+        keep, written = f"{file}-{engines}", self.folder / "witness"
+        words = [PROVE, "--engine", engines, *options, file, "--witness", str(written), "--bound", str(BOUND), "--keep", keep]
         printed = output(words, [0, 10, 20])
         lines = [line for line in printed.split("\n")[:-1] if not line.startswith("no bad state at step ")]
         if first is not None:
-            with open(self.witness, encoding="ascii") as given:
-                witness = witness_of(given.read())
+            witness = read(Lines(written.read_bytes(), "WITNESS"), len(self.machine.latches), len(self.machine.inputs))
             self.compare_lines(lines, witness, names)
             self.compare_witness(witness, len(witness.steps) - 1 == first or ("pdr" in engines and len(witness.steps) > first))
             self.counts["reached"] += 1
         elif lines[-1:] == ["no bad state at any step"] and self.first is None:
             self.counts["proved safe"] += 1
-        elif lines == [f"no bad state up to step {BOUND}"] if "steps" in engines else lines == ["nothing was shown"] and engines == "bmc3":
+        elif lines == [f"no bad state up to step {BOUND}" if "steps" in engines else "nothing was shown"] and engines != "pdr":
             self.counts["open"] += 1
         else:
             self.fail(f"aigprove: {printed}")
@@ -208,26 +217,22 @@ class Trial:
 
     def is_taken(self, witness):
         """Whether `aigcheck run` takes a witness."""
-        self.write(self.given, witness.text())
-        printed = output([CHECK, "run", self.text, self.given], [0, 1])
-        if printed not in ["", f"b{witness.bad} at step {len(witness.steps) - 1}\n"]:
-            self.fail(f"aigcheck: {printed}")
-        return printed != ""
+        return self.takes(f"b{witness.bad} at step {len(witness.steps) - 1}", "run", self.text, self.put("given", witness.text()))
 
     def compare_witness(self, witness, fits):
         """Compares a witness, and those that are turned at one place, with a simulation."""
         if not (fits and self.machine.is_shown(witness) and self.is_taken(witness)):
             self.fail(f"a witness isn't one: {witness}")
-        for turned in witness.turned():
-            shown = self.machine.is_shown(turned)
-            if self.is_taken(turned) != shown:
-                self.fail(f"a turned witness is {'refused' if shown else 'taken'}: {turned}")
+        for other in turned(witness):
+            shown = self.machine.is_shown(other)
+            if self.is_taken(other) != shown:
+                self.fail(f"a turned witness is {'refused' if shown else 'taken'}: {other}")
             self.counts["turned, shown" if shown else "turned, refused"] += 1
 
     def compare_abc(self, engine, command, bound):
         """Compares an answer of ABC, with open resets made inputs, all latches made zero at first, and constraints folded in."""
-        commands = f"read_aiger {self.nameless}; logic; undc; strash; zero; fold; {command}; write_cex -a {self.given}"
-        printed = output(["berkeley-abc", "-q", commands])
+        told = self.folder / "told"
+        printed = self.abc(f"read_aiger {self.nameless}; logic; undc; strash; zero; fold; {command}; write_cex -a {told}")
         if "Does not work for combinational networks" in printed:
             self.counts[f"without {engine}"] += 1
             return
@@ -237,8 +242,7 @@ class Trial:
             if wanted or not re.search("No output asserted|Explored all reachable states|Property proved", printed):
                 self.fail(f"{engine} finds none: {printed}")
             return
-        with open(self.given, encoding="ascii") as given:
-            lines = given.read().removesuffix("# DONE").split("\n")[1:]
+        lines = told.read_text().removesuffix("# DONE").split("\n")[1:]
         # Where there are no inputs, ABC writes no lines of them.
         lines = lines if any(lines) else [""] * (int(found[2]) + 1)
         self.compare_witness(self.witness_of_abc(int(found[1]), lines[: int(found[2]) + 1]), wanted)
@@ -257,25 +261,21 @@ class Trial:
 class Mangler:
     """Proofs of clauses, mangled, for steps at which a bad state is reached."""
 
-    def __init__(self, rng, trials, folder):
+    def __init__(self, rng, trials):
         self.rng = rng
         self.trials = [trial for trial in trials if trial.first is not None]
-        self.clauses, self.proof = (os.path.join(folder, name) for name in ["clauses.cnf", "proof"])
         self.proofs = [proof for trial in self.trials for proof in self.proofs_near(trial)]
 
     def proofs_near(self, trial):
         """Proofs of the steps before a bad state is reached, and of that step with some literals fixed."""
         for k in range(trial.first + 1):
-            query = output([TOOL, "query", trial.text, str(k)])
-            _, _, variables, clauses = query.split("\n", 1)[0].split()
+            header, clauses = output([TOOL, "query", trial.text, str(k)]).split("\n", 1)
+            _, _, variables, count = header.split()
             fixed = [self.rng.randint(1, int(variables)) * self.rng.choice([1, -1]) for _ in range(8 if k == trial.first else 0)]
-            header = f"p cnf {variables} {int(clauses) + len(fixed)}\n"
-            with open(self.clauses, "w", encoding="ascii") as out:
-                out.write(header + query.split("\n", 1)[1] + "".join(f"{literal} 0\n" for literal in fixed))
-            done = subprocess.run(["cadical", "-q", "--no-binary", self.clauses, self.proof], stdout=subprocess.DEVNULL)
-            if done.returncode == 20:
-                with open(self.proof, encoding="ascii") as proof:
-                    yield proof.read().split("\n")[:-1]
+            lines = "".join(f"{literal} 0\n" for literal in fixed)
+            proof = trial.proof(f"p cnf {variables} {int(count) + len(fixed)}\n{clauses}{lines}", "proof")
+            if proof:
+                yield Path(proof).read_text().splitlines()
 
     def mangled(self):
         """A proof with some lines dropped, turned, swapped, cut, or put in from another, and then perhaps the empty clause."""
@@ -307,11 +307,9 @@ class Mangler:
     def attempt(self):
         """Tries a proof, and gives its length."""
         trial, lines = self.rng.choice(self.trials), self.mangled()
-        with open(self.proof, "w", encoding="ascii") as out:
-            out.write("".join(line + "\n" for line in lines))
-        printed = output([CHECK, "refuted", trial.text, str(trial.first), self.proof], [0, 1])
-        if printed:
-            trial.fail(f"a proof is taken, and aigcheck prints {printed}:\n" + "\n".join(lines))
+        proof = trial.put("mangled", "".join(line + "\n" for line in lines))
+        if trial.takes(f"no bad state at step {trial.first}", "refuted", trial.text, str(trial.first), proof):
+            trial.fail("a proof is taken:\n" + "\n".join(lines))
         return len(lines)
 
 
@@ -320,9 +318,9 @@ def main():
     rng = random.Random(seed)
     machines = [machine_of(output([TOOL, "text", file])) for file in EXAMPLES] + [deep_machine(rng) for _ in range(files)]
     with tempfile.TemporaryDirectory() as folder, concurrent.futures.ThreadPoolExecutor() as pool:
-        trial = lambda i: Trial(machines[i], os.path.join(folder, str(i))).compare()
+        trial = lambda i: Trial(machines[i], f"{folder}/{i}").compare()
         trials = list(pool.map(trial, range(len(machines))))
-        mangler = Mangler(rng, trials, folder)
+        mangler = Mangler(rng, trials)
         steps = sum(mangler.attempt() for _ in range(tries))
     counts = sum((trial.counts for trial in trials), collections.Counter())
     said = ", ".join(f"{counts[what]} {what}" for what in sorted(counts))

@@ -98,8 +98,6 @@ class Circuit:
             self.gates = [lines.numbers(3, 3) for _ in range(header.gates)]
         else:
             self.gates = [binary_gate(lines, first_gate + 2 * i) for i in range(header.gates)]
-        # Where the names begin.
-        self.end = lines.place
         self.names = names(lines)
         self.check()
         self.put_in_order()

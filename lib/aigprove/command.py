@@ -28,13 +28,10 @@ An engine that isn't installed, lies or breaks is told of on standard error, and
 
 With --equal outputs and bad states of FILE and OTHER are compared, on all runs of both that have the same inputs: each step by aigcheck
 equal, and all at once by an answer about their miter, which aigedit makes.
-
-One file is written by this script, and not by a proved program: FILE with its outputs as bad state properties, where it is older than
-these. It has FILE's lines, and check.sh compares them.
 """
 ENDS = """\
-Exit status 20: no bad state at any step, or no difference. 10: a bad state is reached, or a difference. 0: neither was shown. 1: something went wrong.
-2: wrong words.
+Exit status 20: no bad state at any step, or no difference. 10: a bad state is reached, or a difference. 0: neither was shown.
+1: something went wrong. 2: wrong words.
 """
 
 
@@ -151,8 +148,8 @@ def answer(line):
     programs.adopt()
     above = tempfile.mkdtemp(prefix="aigprove-")
     try:
-        given = words.file, words.top
-        source = Pair(*given, words.equal, above, judge) if words.equal else Source(*given, above)
+        given = words.file, words.top, above, judge
+        source = Pair(*given, words.equal) if words.equal else Source(*given)
         return Race(words, running, judge, above, source).run()
     finally:
         running.stop()

@@ -187,7 +187,7 @@ class Certificate:
     def run(self):
         """Has the certificate checked, by proofs about the file beside it, and hands it in."""
         judge, source = self.race.judge, self.race.source
-        joint = judge.joint("join", source.asked, self.certificate)
+        joint = judge.made("join", source.asked, self.certificate)
         proofs = [self.solver.refute(Question(command, 0), joint) for command in ["query", "window"]]
         claim = source.certified(self.certificate, *proofs)
         judge.check(claim)

@@ -28,11 +28,6 @@ makes() {
   "$edit" "$@" | cmp -s - "$file" || fail "$file"
 }
 
-# What two commands print, which has to be the same.
-same() {
-  [ "$(sh -c "$2" | sha256sum)" = "$(sh -c "$3" | sha256sum)" ] || fail "$1"
-}
-
 """
 
 
@@ -60,17 +55,10 @@ class Evidence:
             self.put(name, file)
         self.add("shows", claim.line, *claim.words)
 
-    def makes(self, name, *words):
-        """Adds a file that aigedit prints."""
+    def makes(self, name, file, *words):
+        """Puts a file into the folder, and adds the words with which aigedit prints it."""
+        self.put(name, file)
         self.add("makes", name, *words)
-
-    def same(self, what, *commands):
-        """Adds two commands of the shell that print the same."""
-        self.add("same", what, *commands)
-
-    def says(self, line):
-        """Adds a line that follows from those before."""
-        self.add("echo", line)
 
     def end(self):
         """Writes the script."""

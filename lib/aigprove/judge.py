@@ -30,9 +30,9 @@ class Judge:
         """The text form of a file, as bytes."""
         return self.output(self.aigtool, "text", file).encode("ascii", "surrogateescape")
 
-    def joint(self, command, file, other):
-        """The file that aigedit makes of two: their miter, or the first one beside a certificate."""
-        return Sealed(self.output(self.aigedit, command, file, other).encode("ascii", "surrogateescape"))
+    def made(self, command, *files):
+        """The file that aigedit makes of others."""
+        return Sealed(self.output(self.aigedit, command, *files).encode("ascii", "surrogateescape"))
 
     def print_question(self, question, file, out):
         """Prints the clauses of a question."""

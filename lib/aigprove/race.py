@@ -126,7 +126,7 @@ class Race:
         if prefix + claim.line != safe:
             self.print_line(safe)
             if self.evidence:
-                self.evidence.says(safe)
+                self.evidence.add("echo", safe)
         return SAFE
 
     def print_run(self, tolds, data, claim):

@@ -70,27 +70,31 @@ class Asked:
         """That a run reaches one."""
         return self.claim(f"b{told.bad} at step {len(told.steps) - 1}", "run", ["witness"], {"witness": data})
 
+    def others(self, circuit, told):
+        """Further witnesses of what a run shows."""
+        return []
+
+    def failing(self, data, bad):
+        """Lines of which assertions fail in a run."""
+        return []
+
 
 class Source(Asked):
     """One file, whose bad states are asked about."""
 
-    def __init__(self, path, top, above):
+    def __init__(self, path, top, above, judge):
         self.given, self.path = Given(path, top, above), path
         self.name, self.asked, self.is_old = self.given.name, self.given.file, is_old(self.given.line)
         if self.given.design and self.is_old:
             raise Fault(f"{path}: {self.given.design.top} has no assertion")
         if self.is_old:
-            self.name, self.asked = f"bads.{self.given.suffix}", Sealed(with_bads(self.given.file.bytes()))
+            self.name, self.asked = "bads.aag", judge.made("bads", self.asked)
         self.circuit = self.given.circuit
 
     def about(self):
         """Lines of what the file is, where that isn't seen."""
         if self.is_old:
             yield "the outputs are taken for bad state properties: the file is of a time before these"
-
-    def others(self, circuit, told):
-        """Further witnesses of what a run shows."""
-        return []
 
     def found(self, shown, tolds):
         """The line that says what a run shows."""
@@ -107,10 +111,7 @@ class Source(Asked):
         """Keeps the file."""
         self.given.keep(evidence)
         if self.is_old:
-            evidence.put(self.name, self.asked)
-            line, body = self.asked.bytes().split(b"\n", 1)
-            evidence.same("the header", f"head -n 1 {self.name}", f"echo {line.decode()}")
-            evidence.same("the lines", f"tail -n +2 {self.given.name} | head -c {len(body)}", f"tail -n +2 {self.name}")
+            evidence.makes(self.name, self.asked, "bads", self.given.name)
 
 
 class Pair(Asked):
@@ -118,19 +119,26 @@ class Pair(Asked):
 
     name, prefix, safe, so_far, empty = "miter.aag", "miter: ", "equal at every step", "equal", "no output and no bad state property"
 
-    def __init__(self, path, top, other, above, judge):
+    def __init__(self, path, top, above, judge, other):
         self.path = f"{path} and {other}"
         self.first, self.other = Given(path, top, above), Given(other, None, above, "other")
-        self.asked = judge.joint("miter", self.first.file, self.other.file)
+        self.asked = judge.made("miter", self.first.file, self.other.file)
 
     def step(self, question, proof):
         """That both are equal at a step."""
         files = {self.first.name: self.first.file, self.other.name: self.other.file, question.name: proof}
         return Claim(f"equal at step {question.k}", ["equal", self.first.name, self.other.name, str(question.k), question.name], files)
 
+    def compared(self):
+        """The letter and the position of what each bad state property of the miter compares: outputs, and then bad state properties."""
+        header = self.first.circuit().header
+        return [("o", i) for i in range(header.outputs)] + [("b", i) for i in range(header.bads)]
+
     def circuit(self):
-        """The circuit of the miter, with the names that it has."""
-        return Circuit(Lines(self.asked.bytes(), "MITER"))
+        """The circuit of the miter, whose bad state properties have the names of what they compare."""
+        circuit, first = Circuit(Lines(self.asked.bytes(), "MITER")), self.first.circuit()
+        circuit.names.update((("b", i), first.name(*place)) for i, place in enumerate(self.compared()))
+        return circuit
 
     def about(self):
         """Lines of what isn't seen: the names of an input in both files."""
@@ -147,22 +155,16 @@ class Pair(Asked):
         return [told._replace(bad=bad) for bad in differing[:NAMED] if bad != told.bad]
 
     def found(self, shown, tolds):
-        """The line that says what differs in a run: outputs, and then bad state properties."""
-        circuit = self.first.circuit()
-        places = [("o", i) for i in range(circuit.header.outputs)] + [("b", i) for i in range(circuit.header.bads)]
-        names = [Shown(circuit).place(*places[bad]) for bad in sorted(told.bad for told in tolds)]
+        """The line that says what differs in a run."""
+        shown, compared = Shown(self.first.circuit()), self.compared()
+        names = [shown.place(*compared[bad]) for bad in sorted(told.bad for told in tolds)]
         return f"a difference at step {len(tolds[0].steps) - 1}: {', '.join(names)}"
-
-    def failing(self, data, bad):
-        """Lines of which assertions fail in a run."""
-        return []
 
     def keep(self, evidence):
         """Keeps both files and their miter."""
         self.first.keep(evidence)
         self.other.keep(evidence)
-        evidence.put(self.name, self.asked)
-        evidence.makes(self.name, "miter", self.first.name, self.other.name)
+        evidence.makes(self.name, self.asked, "miter", self.first.name, self.other.name)
 
 
 def read(path):
@@ -184,11 +186,3 @@ def is_old(line):
     except aiger.Fault:
         return False
     return header.is_old and header.outputs > 0
-
-
-def with_bads(data):
-    """The file with its outputs as bad state properties, and without names."""
-    circuit = Circuit(Lines(data, "FILE"))
-    line, body = data[: circuit.end].split(b"\n", 1)
-    form, variables, inputs, latches, outputs, gates = line.split(b" ")
-    return b" ".join([form, variables, inputs, latches, b"0", gates, outputs]) + b"\n" + body

@@ -1,22 +1,26 @@
 -- Part of what is promised.
 -- What an answer about two files says of them, and what its errors say.
-use Rattle.std.specs.Prelude.{◌≢◌, ℕ, List, Result, Ok, Err}
+use Rattle.std.specs.Prelude.{◌≢◌, ℕ, Bool, List, Result, Ok, Err}
 use Rattle.aig_answers.specs.Answers as answering
-use Rattle.aig_answers.specs.Answers.{IsOfInduction, IsOfStep, asked_verdict, window_verdict}
+use Rattle.aig_answers.specs.Answers.{IsOfInduction, IsOfQuery, IsOfStep, IsOfWindow, asked_verdict, window_verdict}
 use Rattle.aig_answers.specs.declared.error.AnswerError.{AnswerError}
 use Rattle.aig_certify.specs.declared.window.Window.TheVariants.{Plain}
+use Rattle.aig_certify.specs.WindowClauses.{AsksWindow}
 use Rattle.aig_circuit.specs.Circuit.{Circuit}
 use Rattle.aig_edits.specs.Joints as joints
 use Rattle.aig_edits.specs.Joints.{IsJointOf, IsRefusalOf}
 use Rattle.aig_edits.specs.declared.pairing.Pairing.{Pairing}
 use Rattle.aig_edits.specs.declared.pairing.Pairing.TheVariants.{Certificate, Miter}
-use Rattle.aig_format.specs.Circuit.{text_of}
+use Rattle.aig_encode.specs.Encoding.{IsQuery}
+use Rattle.aig_format.specs.Circuit.{circuit_of, file_of, text_of}
+use Rattle.aig_format.specs.declared.FileKind.TheVariants.{Text}
 use Rattle.aig_format.specs.File.{File}
 use Rattle.aig_join.specs.Files.{AreEqualMachinesAt, HasLinesOf, HaveSameFileCounts}
 use Rattle.aig_reader.specs.Verdicts.{Accepted, IsSettled, IsVerdictOn, Verdict}
 use Rattle.aig_runs.specs.Queries.{IsSafeTo}
 use Rattle.aig_certificates.specs.declared.error.CertificateError.{CertificateError}
 use Rattle.aig_certificates.specs.declared.error.CertificateError.TheVariants as errors
+use Rattle.aig_certificates.specs.declared.asking.Obligations.{Obligations}
 
 -- ---- errors
 
@@ -37,6 +41,12 @@ abbrev pub IsOwn : CertificateError → Type 0
 IsOwn (errors.Pair e) = joints.IsOwn e
 IsOwn (errors.Query e) = IsOfStep e
 IsOwn (errors.Window e) = IsOfInduction e
+
+-- no path is opened, and no proof is read
+abbrev pub IsOfClauses : CertificateError → Type 0
+IsOfClauses (errors.Pair e) = joints.IsOwn e
+IsOfClauses (errors.Query e) = IsOfQuery e
+IsOfClauses (errors.Window e) = IsOfWindow e
 
 -- memory and the stream aside, the error of a proof is the verdict on the text
 abbrev pub IsExactOn : (File → Verdict) → ℕ → List ℕ → AnswerError → Type 0
@@ -79,3 +89,23 @@ Equals limit k f g (Ok done) = HaveSameFileCounts f g × AreEqualMachinesAt f g 
 Equals limit k f g (Err (errors.Pair e)) = IsRefusalOf Miter f g e
 Equals limit k f g (Err (errors.Query e)) = IsTold Miter (asked_verdict limit k) limit f g e
 Equals limit k f g (Err (errors.Window e)) = ⊥
+
+-- ---- clauses
+
+-- the clauses of which the proofs of a certificate are: the query for step 0 and the window of two
+-- steps of the file that the joint circuit's text is
+pub record AreObligations (optimize : Bool) (f g : File) (o : Obligations) : Type 0 where
+  pub whole : Circuit
+  pub joint : IsJointOf Certificate f g whole
+  pub base : IsQuery 0 optimize (file_of Text whole) o.base
+  pub step : AsksWindow Plain (circuit_of (file_of Text whole)) 0 optimize o.step.clauses
+      o.step.further
+
+-- the clauses are these, or it is said why there are none
+abbrev pub Obliges : ℕ → Bool → File → File → Result Obligations CertificateError → Type 0
+Obliges limit optimize f g (Ok o) = AreObligations optimize f g o
+Obliges limit optimize f g (Err (errors.Pair e)) = IsRefusalOf Certificate f g e
+Obliges limit optimize f g (Err (errors.Query e)) =
+    IsTold Certificate (asked_verdict limit 0) limit f g e
+Obliges limit optimize f g (Err (errors.Window e)) =
+    IsTold Certificate (window_verdict Plain limit 0) limit f g e

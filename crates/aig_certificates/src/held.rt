@@ -2,7 +2,7 @@
 
 ghost use Rattle.std.specs.Prelude.{◌≡◌, ◌≢◌, ◌^◌, ◌≤◌, IfErr, IsErrOf, IsTrue};
 ghost use Rattle.aig_answers.specs.Answers.{IsOfInduction, IsOfStep, asked_verdict, verdict_of, window_verdict};
-ghost use Rattle.aig_certificates.specs.Parts.{ChecksText};
+ghost use Rattle.aig_certificates.specs.Parts.{TellsOfText};
 ghost use Rattle.aig_certify.specs.Induction.{IsKInductive};
 ghost use Rattle.aig_certify.specs.Safety.{IsSafeAt};
 ghost use Rattle.aig_certify.specs.declared.window.Window.TheVariants.{Plain};
@@ -24,7 +24,8 @@ pub(crate) fn check_text_step<P: Source>(
 ) -> Result<(), AnswerError>
     requires some { 1 ≤ limit }
     requires few { limit ≤ 2 ^ 31 }
-    ensures checks { ChecksText (asked_verdict limit k) limit (λ h. IsSafeAt h k) text.now result }
+    ensures checks { TellsOfText (asked_verdict limit k) limit (λ h _. IsSafeAt h k) text.now
+        result }
     ensures own { IfErr result IsOfStep }
     ensures unread { verdict_by verdict_of result ≢ Accepted → proof.new ≡ proof.old }
     ensures stream { IsErrOf result (AnswerError.Refutation RefutationError.Stream)
@@ -44,8 +45,8 @@ pub(crate) fn check_text_window<P: Source>(
 ) -> Result<(), AnswerError>
     requires some { 1 ≤ limit }
     requires few { limit ≤ 2 ^ 31 }
-    ensures checks { ChecksText (window_verdict Plain limit 0) limit (λ h. IsKInductive Plain h 0)
-        text.now result }
+    ensures checks { TellsOfText (window_verdict Plain limit 0) limit
+        (λ h _. IsKInductive Plain h 0) text.now result }
     ensures own { IfErr result IsOfInduction }
     ensures unread { verdict_by verdict_of result ≢ Accepted → proof.new ≡ proof.old }
     ensures stream { IsErrOf result (AnswerError.Refutation RefutationError.Stream)

@@ -29,6 +29,7 @@ among actions.Witness = (4, omega arith, refl)
 among actions.Run = (5, omega arith, refl)
 among actions.Certified = (6, omega arith, refl)
 among actions.Equal = (7, omega arith, refl)
+among actions.Obligations = (8, omega arith, refl)
 
 -- what holds of each in the list holds of each
 pub each : (P : Action → Type 0) → All P ALL → (a : Action) → P a
@@ -72,10 +73,7 @@ pub one_beside : (c : FileCommand) → ((k : ℕ) (o : Bool) → c ≢ on_file.C
     → beside_of (commands.File c) ≡ 1
 one_beside (on_file.Clauses k o) no_clauses no_window = absurd (no_clauses k o refl)
 one_beside (on_file.Window k form o) no_clauses no_window = absurd (no_window k form o refl)
-one_beside (on_file.Refuted k o) no_clauses no_window = refl
-one_beside (on_file.Inductive k form o) no_clauses no_window = refl
-one_beside (on_file.Witness k o) no_clauses no_window = refl
-one_beside on_file.Run no_clauses no_window = refl
+one_beside c no_clauses no_window = refl
 
 -- the names in a list of none, of one and of two
 pub no_names : (xs : List (String Global)) → length xs ≡ 0 → map string_bytes xs ≡ []

@@ -1,6 +1,6 @@
 -- The comments of a small query, computed; and wrong words and lines, of which the definitions are
 -- false.
-use Rattle.std.proofs.Common.{◌≡◌, ◌≢◌, ℕ, Bool, true, false, None, Option, List, [], ◌∷◌, ◌++◌, length, refl, ap, subst, arith, length-append}
+use Rattle.std.proofs.Common.{◌≡◌, ◌≢◌, ℕ, Bool, true, false, None, Option, List, [], ◌∷◌, ◌++◌, length, refl, ap, subst, arith, length-append, ◌∙◌}
 use Rattle.std.specs.Prelude.{IsTrue, codes, not, slice_get, slice_index, slice_index_or}
 use Rattle.std.specs.Fmt.{digits}
 use Rattle.aig_base.specs.Clauses.{lit_to}
@@ -11,6 +11,7 @@ use Rattle.aig_circuit.specs.Properties.{no_properties}
 use Rattle.aig_format.specs.File.{File}
 use Rattle.aig_reader.specs.Verdicts.{Accepted, Judges}
 use Rattle.aig_refutation.specs.declared.error.RefutationError.{RefutationError}
+use Rattle.aig_answers.specs.declared.error.AnswerError.{AnswerError}
 use Rattle.aig_answers.specs.declared.error.AnswerError.TheVariants as answers
 use Rattle.aig_witness.specs.declared.error.WitnessError.TheVariants as witness
 use Rattle.aig_witness_check.specs.declared.file.ShowError.TheVariants as shows
@@ -21,6 +22,9 @@ use Rattle.aig_command_line.specs.Arguments.{Gives, setting_words}
 use Rattle.aig_checks.specs.declared.command.Action.{Action}
 use Rattle.aig_checks.specs.declared.command.Action.TheVariants as actions
 use Rattle.aig_checks.specs.declared.command.Command.TheVariants as asked
+use Rattle.aig_checks.specs.declared.command.PairCommand.TheVariants as on_pair
+use Rattle.aig_checks.specs.Pairs.{IsObligationsText, PairAnswers, RefusesPair, safe_line}
+use Rattle.aig_certificates.specs.declared.error.CertificateError.TheVariants as certificate
 use Rattle.aig_checks.specs.declared.command.FileCommand.TheVariants as commands
 use Rattle.aig_checks.specs.Comments.{comments_of, input_lines, literal_line}
 use Rattle.aig_checks.specs.Words.{Give, command_of, form_of, name_of}
@@ -116,7 +120,25 @@ unfolding digits
 no_window_told optimize given f answers =
     let word : 97 ≡ 115 = ap (λ text. slice_index text 16) answers.0 in omega (arith, word)
 
+-- equal machines are told as a safe one
+no_safety_told : (k : ℕ) (optimize : Bool) (f g : File)
+    → ¬ PairAnswers (on_pair.Equal k optimize) f g safe_line
+no_safety_told k optimize f g answers =
+    let letter : 110 ≡ 101 = ap (λ text. slice_index text 0) answers.0 in omega (arith, letter)
+
+-- the clauses of BASE under the name of those of STEP
+no_step_first : (optimize : Bool) (f g : File) (rest : List ℕ)
+    → ¬ IsObligationsText optimize f g (codes "c step" ++ rest)
+no_step_first optimize f g rest is =
+    let same = is.exact ∙ ap (λ base. base ++ is.step) is.base_exact in
+    let letter : 115 ≡ 98 = ap (λ text. slice_index text 2) same in omega (arith, letter)
+
 -- ---- errors
+
+-- one proof is refused as the second of two
+no_second_proof : (k limit : ℕ) (optimize : Bool) (f g : File) (e : AnswerError)
+    → ¬ RefusesPair (on_pair.Equal k optimize) limit f g (certificate.Window e)
+no_second_proof k limit optimize f g e refuses = refuses
 
 -- clauses are refused as a proof would be
 no_proof_of_clauses : (k : ℕ) (optimize : Bool) (e : RefutationError)

@@ -51,10 +51,10 @@ other_accepted_by failed (Ok u) ends = refl
 other_accepted_by failed (Err errors.Write) ends = refl
 other_accepted_by failed (Err e) ends = absurd ends
 
-own_by : (failed : Bool) (done : Result Unit CheckError) → EndsBy failed done → IfErr done IsErrorOfPair
-own_by failed (Ok u) ends = tt
-own_by failed (Err errors.Write) ends = tt
-own_by failed (Err e) ends = absurd ends
+own_by : (c : PairCommand) (failed : Bool) (done : Result Unit CheckError) → EndsBy failed done → IfErr done (IsErrorOfPair c)
+own_by c failed (Ok u) ends = tt
+own_by c failed (Err errors.Write) ends = tt
+own_by c failed (Err e) ends = absurd ends
 
 module _ {W : Type 0} (held : W → Option (List ℕ)) (write_failed : W → Bool) (w made flat : W) (keeps : Keeps (held made) (held flat)) where
   -- a text that could not be flushed
@@ -103,12 +103,12 @@ module _ {W : Type 0} (held : W → Option (List ℕ)) (write_failed : W → Boo
         → EndsBy (write_failed flat) done → RunsPair left failed left_of failed_of base_failed step_failed held write_failed c LIMIT r s p q w done rest other used spent flat
     pair_ended left failed left_of failed_of base_failed step_failed c r rest s other p used q spent done runs ends =
         let reads =
-        reads_on left failed left_of failed_of LIMIT r s rest other (TellsOfPair held write_failed c LIMIT w flat) verdict_of other_verdict_of IsErrorOfPair done runs.reads (accepted_by _ done ends) (other_accepted_by _ done ends) (own_by _ done ends)
+        reads_on left failed left_of failed_of LIMIT r s rest other (TellsOfPair held write_failed c LIMIT w flat) verdict_of other_verdict_of (IsErrorOfPair c) done runs.reads (accepted_by _ done ends) (other_accepted_by _ done ends) (own_by c _ done ends)
         (λ f g bytes others fits also told. told_ended c f g done told ends) in
         end done ends reads
       where
         end : (x : Result Unit CheckError) → EndsBy (write_failed flat) x
-            → ReadsPair left failed left_of failed_of LIMIT (TellsOfPair held write_failed c LIMIT w flat) verdict_of other_verdict_of IsErrorOfPair r s x rest other
+            → ReadsPair left failed left_of failed_of LIMIT (TellsOfPair held write_failed c LIMIT w flat) verdict_of other_verdict_of (IsErrorOfPair c) r s x rest other
             → RunsPair left failed left_of failed_of base_failed step_failed held write_failed c LIMIT r s p q w x rest other used spent flat
         end (Ok v) sound reads = record { reads = reads; kept = tt; base_unread = tt; step_unread = tt; base_stream = λ is. cc; step_stream = λ is. cc }
         end (Err errors.Write) lost reads = record { reads = reads; kept = λ not. absurd (not refl); base_unread = λ no. absurd no; step_unread = λ no. absurd no; base_stream = λ is. cc; step_stream = λ is. cc }

@@ -1,35 +1,46 @@
 -- What a command on two files does, at each way out of it.
-use Rattle.std.proofs.Common.{◌≡◌, ◌≢◌, ℕ, Bool, false, Option, Ok, Err, List, refl}
-use Rattle.std.specs.Prelude.{IsTrue, Result}
+use Rattle.std.proofs.Common.{◌≡◌, ◌≢◌, ℕ, Bool, false, Option, Some, Ok, Err, List, [], ◌∷◌, ◌++◌, length, refl, subst, ◌∙◌}
+use Rattle.std.specs.Prelude.{IsTrue, Result, codes}
 use Rattle.std.specs.Io.KnownBytes.{Appends}
+use Rattle.std.proofs.KnownBytes.{Appends-trans}
+use Rattle.std.proofs.lemmas.Result.{on_err_weaker, on_ok_weaker}
+use Rattle.aig_base.specs.declared.logic.literal.Lit.{Lit}
+use Rattle.aig_base.specs.Formula.{clauses_in}
 use Rattle.aig_answers.specs.declared.error.AnswerError.{AnswerError}
 use Rattle.aig_answers.specs.declared.error.AnswerError.TheVariants as answers
 use Rattle.aig_certificates.specs.Certificates as certificates
-use Rattle.aig_certificates.specs.Certificates.{Equals}
+use Rattle.aig_certificates.specs.Certificates.{AreObligations, Equals}
+use Rattle.aig_certificates.specs.declared.asking.Obligations.{Obligations}
 use Rattle.aig_certificates.specs.declared.error.CertificateError.{CertificateError}
 use Rattle.aig_certificates.specs.declared.error.CertificateError.TheVariants as certificate
+use Rattle.aig_dimacs.proofs.Comments.{ArePassed, parse_formula-passed}
+use Rattle.aig_dimacs.proofs.Reading.{parse_formula-dimacs_of}
+use Rattle.aig_dimacs.specs.Reading.{after_comments, parse_formula}
+use Rattle.aig_dimacs.specs.Text.{IsFormula, dimacs_of}
 use Rattle.aig_edits.proofs.Reading.{reads_on}
 use Rattle.aig_edits.specs.Pairs.{ReadsPair}
 use Rattle.aig_format.specs.File.{File}
-use Rattle.aig_output.specs.Sinks.{Stops}
+use Rattle.aig_output.proofs.Putting.{Stops-put}
+use Rattle.aig_output.specs.Sinks.{Stops, WritesOrStops}
+use Rattle.aig_refutation.specs.declared.error.RefutationError.{RefutationError}
 use Rattle.aig_refutation.specs.declared.error.RefutationError.TheVariants as refutation
 use Rattle.aig_checks.specs.declared.command.PairCommand.{PairCommand}
 use Rattle.aig_checks.specs.declared.tool.CheckError.{CheckError}
 use Rattle.aig_checks.specs.declared.tool.CheckError.TheVariants as errors
-use Rattle.aig_checks.specs.Pairs.{IsErrorOfPair, PairAnswers, RefusesPair, RunsPair, TellsOfPair, other_verdict_of}
+use Rattle.aig_checks.specs.Pairs.{IsErrorOfPair, IsObligationsText, PairAnswers, RefusesPair, RunsPair, TellsOfPair, other_verdict_of, part_text}
 use Rattle.aig_checks.specs.Running.{verdict_of}
 use Rattle.aig_checks.proofs.Outcomes.{is_error}
 
-module _ {R S P Q W : Type 0} {left : R → Option (List ℕ)} {failed : R → Bool} {left_of : S → Option (List ℕ)} {failed_of : S → Bool} {base_failed : P → Bool} {step_failed : Q → Bool} {held : W → Option (List ℕ)} {write_failed : W → Bool} {c : PairCommand} {limit : ℕ} {r rest : R} {s other : S} {p used : P} {q spent : Q} {w made : W} (Means : File → File → Result Unit CertificateError → Type 0) where
+module _ {R S P Q W : Type 0} {left : R → Option (List ℕ)} {failed : R → Bool} {left_of : S → Option (List ℕ)} {failed_of : S → Bool} {base_failed : P → Bool} {step_failed : Q → Bool} {held : W → Option (List ℕ)} {write_failed : W → Bool} {c : PairCommand} {limit : ℕ} {r rest : R} {s other : S} {p used : P} {q spent : Q} {w made : W} {T : Type 0} (Means : File → File → Result T CertificateError → Type 0) {Own : CertificateError → Type 0} where
   -- a file is refused, or a proof
-  pub pair_refused : (e : CertificateError) → ReadsPair left failed left_of failed_of limit Means certificates.first_verdict certificates.second_verdict certificates.IsOwn r s (Err e) rest other
-      → ((f g : File) → Means f g (Err e) → RefusesPair c limit f g e) → made ≡ w
+  pub pair_refused : (e : CertificateError) → ReadsPair left failed left_of failed_of limit Means certificates.first_verdict certificates.second_verdict Own r s (Err e) rest other
+      → (Own e → IsErrorOfPair c (errors.Certificate e)) → ((f g : File) → Means f g (Err e) → RefusesPair c limit f g e) → made ≡ w
       → (certificates.LeavesQuery (Err e) → used ≡ p) → (certificates.LeavesWindow (Err e) → spent ≡ q)
       → (e ≡ certificate.Query (answers.Refutation refutation.Stream) → IsTrue (base_failed used))
       → (e ≡ certificate.Window (answers.Refutation refutation.Stream) → IsTrue (step_failed spent))
       → RunsPair left failed left_of failed_of base_failed step_failed held write_failed c limit r s p q w (Err (errors.Certificate e)) rest other used spent made
-  pair_refused e reads means same base step base_stream step_stream = record {
-    reads = reads_on left failed left_of failed_of limit r s rest other (TellsOfPair held write_failed c limit w made) verdict_of other_verdict_of IsErrorOfPair (Err (errors.Certificate e)) reads refl refl reads.own (λ f g bytes others fits also told. means f g told);
+  pair_refused e reads own means same base step base_stream step_stream = record {
+    reads = reads_on left failed left_of failed_of limit r s rest other (TellsOfPair held write_failed c limit w made) verdict_of other_verdict_of (IsErrorOfPair c) (Err (errors.Certificate e)) reads refl refl (own reads.own) (λ f g bytes others fits also told. means f g told);
     kept = λ not. same;
     base_unread = base;
     step_unread = step;
@@ -41,11 +52,11 @@ module _ {R S P Q W : Type 0} {left : R → Option (List ℕ)} {failed : R → B
       inner_error x y is = cc
 
   -- the answer was written
-  pub pair_answered : (u v : Unit {0}) (text : List ℕ) → ReadsPair left failed left_of failed_of limit Means certificates.first_verdict certificates.second_verdict certificates.IsOwn r s (Ok u) rest other
+  pub pair_answered : (u : T) (v : Unit {0}) (text : List ℕ) → ReadsPair left failed left_of failed_of limit Means certificates.first_verdict certificates.second_verdict Own r s (Ok u) rest other
       → ((f g : File) → Means f g (Ok u) → PairAnswers c f g text) → Appends (held w) (held made) text → write_failed made ≡ false
       → RunsPair left failed left_of failed_of base_failed step_failed held write_failed c limit r s p q w (Ok v) rest other used spent made
   pair_answered u v text reads means written sound = record {
-    reads = reads_on left failed left_of failed_of limit r s rest other (TellsOfPair held write_failed c limit w made) verdict_of other_verdict_of IsErrorOfPair (Ok v) reads refl refl tt (λ f g bytes others fits also told. (text, means f g told, written, sound));
+    reads = reads_on left failed left_of failed_of limit r s rest other (TellsOfPair held write_failed c limit w made) verdict_of other_verdict_of (IsErrorOfPair c) (Ok v) reads refl refl tt (λ f g bytes others fits also told. (text, means f g told, written, sound));
     kept = tt;
     base_unread = tt;
     step_unread = tt;
@@ -54,11 +65,11 @@ module _ {R S P Q W : Type 0} {left : R → Option (List ℕ)} {failed : R → B
   }
 
   -- the writer failed after a beginning of it
-  pub pair_stopped : (u : Unit {0}) (text : List ℕ) → ReadsPair left failed left_of failed_of limit Means certificates.first_verdict certificates.second_verdict certificates.IsOwn r s (Ok u) rest other
+  pub pair_stopped : (u : T) (text : List ℕ) → ReadsPair left failed left_of failed_of limit Means certificates.first_verdict certificates.second_verdict Own r s (Ok u) rest other
       → ((f g : File) → Means f g (Ok u) → PairAnswers c f g text) → Stops (held w) (held made) (write_failed made) text
       → RunsPair left failed left_of failed_of base_failed step_failed held write_failed c limit r s p q w (Err errors.Write) rest other used spent made
   pair_stopped u text reads means stops = record {
-    reads = reads_on left failed left_of failed_of limit r s rest other (TellsOfPair held write_failed c limit w made) verdict_of other_verdict_of IsErrorOfPair (Err errors.Write) reads refl refl tt (λ f g bytes others fits also told. (text, means f g told, stops));
+    reads = reads_on left failed left_of failed_of limit r s rest other (TellsOfPair held write_failed c limit w made) verdict_of other_verdict_of (IsErrorOfPair c) (Err errors.Write) reads refl refl tt (λ f g bytes others fits also told. (text, means f g told, stops));
     kept = λ not. absurd (not refl);
     base_unread = λ no. absurd no;
     step_unread = λ no. absurd no;
@@ -73,3 +84,50 @@ pub no_window : {R S : Type 0} {left : R → Option (List ℕ)} {failed : R → 
 no_window (certificate.Pair y) x reads is = cc
 no_window (certificate.Query y) x reads is = cc
 no_window (certificate.Window y) x reads is = (reads.answer refl refl).means.means
+
+-- the clauses of a certificate are of no proof
+pub no_proof_of_clauses : (e : CertificateError) (x : RefutationError) → certificates.IsOfClauses e
+    → (e ≢ certificate.Query (answers.Refutation x)) × (e ≢ certificate.Window (answers.Refutation x))
+no_proof_of_clauses e x own = (λ is. subst certificates.IsOfClauses is own, λ is. subst certificates.IsOfClauses is own)
+
+-- ---- texts of clauses
+
+-- one text was written, and then another
+pub then_written : {W T E : Type 0} {held : W → Option (List ℕ)} {failed : W → Bool} {a b c : W} {t : List ℕ} {result : Result T E} (s : List ℕ) → Appends (held a) (held b) s
+    → WritesOrStops held failed b result t c → WritesOrStops held failed a result (s ++ t) c
+then_written {held = held} {a = a} {b = b} {c = c} {t = t} {result = result} s first second = record {
+  ok = on_ok_weaker result (λ (more : Appends (held b) (held c) t). Appends-trans (held a) (held b) (held c) s t first more) second.ok;
+  sound = second.sound;
+  err = on_err_weaker result (Stops-put (held a) (held b) (held c) _ s t first) second.err;
+}
+
+-- behind a line that names them, clauses are read again
+part_again : (name : List ℕ) (lists : List (List (List Lit))) (further : List (List Lit)) → ArePassed (name ++ 10 ∷ [])
+    → IsFormula (length lists) (clauses_in lists ++ further) → parse_formula (part_text name lists further) ≡ Some (length lists, clauses_in lists ++ further)
+part_again name lists further passed formula =
+    parse_formula-passed (name ++ 10 ∷ []) (dimacs_of (length lists) (clauses_in lists ++ further)) passed
+    ∙ parse_formula-dimacs_of (length lists) (clauses_in lists ++ further) formula
+
+base_named : ArePassed (codes "c base" ++ 10 ∷ [])
+unfolding after_comments
+base_named rest = refl
+
+step_named : ArePassed (codes "c step" ++ 10 ∷ [])
+unfolding after_comments
+step_named rest = refl
+
+pub obligations_text : (optimize : Bool) (f g : File) (o : Obligations) → AreObligations optimize f g o
+    → IsFormula (length o.base.encoded.clauses) (clauses_in o.base.encoded.clauses ++ o.base.extra)
+    → IsFormula (length o.step.clauses) (clauses_in o.step.clauses ++ o.step.further)
+    → IsObligationsText optimize f g (part_text (codes "c base") o.base.encoded.clauses o.base.extra ++ part_text (codes "c step") o.step.clauses o.step.further)
+obligations_text optimize f g o asked base step = record {
+  clauses = o;
+  asked = asked;
+  base = part_text (codes "c base") o.base.encoded.clauses o.base.extra;
+  base_exact = refl;
+  step = part_text (codes "c step") o.step.clauses o.step.further;
+  step_exact = refl;
+  exact = refl;
+  base_again = part_again (codes "c base") o.base.encoded.clauses o.base.extra base_named base;
+  step_again = part_again (codes "c step") o.step.clauses o.step.further step_named step;
+}

@@ -1,13 +1,18 @@
 -- Part of what is promised.
 -- What a command does with the bytes of two files and of proofs about them: what it puts into its
 -- writer, and why it refuses them.
-use Rattle.std.specs.Prelude.{◌≡◌, ◌≢◌, ℕ, Bool, false, IsTrue, List, [], ◌∷◌, ◌++◌, Option, Result, Ok, Err, IfErr, IsErrOf, codes, decimal}
+use Rattle.std.specs.Prelude.{◌≡◌, ◌≢◌, ℕ, Bool, false, IsTrue, List, [], ◌∷◌, ◌++◌, length, Option, Some, Result, Ok, Err, IfErr, IsErrOf, codes, decimal}
 use Rattle.std.specs.Io.KnownBytes.{Appends}
+use Rattle.aig_base.specs.declared.logic.literal.Lit.{Lit}
+use Rattle.aig_base.specs.Formula.{clauses_in}
 use Rattle.aig_answers.specs.declared.error.AnswerError.TheVariants as answers
 use Rattle.aig_certificates.specs.Certificates as certificates
-use Rattle.aig_certificates.specs.Certificates.{Certifies, Equals}
+use Rattle.aig_certificates.specs.Certificates.{AreObligations, Certifies, Equals, Obliges}
 use Rattle.aig_certificates.specs.declared.error.CertificateError.{CertificateError}
 use Rattle.aig_certificates.specs.declared.error.CertificateError.TheVariants as certificate
+use Rattle.aig_certificates.specs.declared.asking.Obligations.{Obligations}
+use Rattle.aig_dimacs.specs.Reading.{parse_formula}
+use Rattle.aig_dimacs.specs.Text.{dimacs_of}
 use Rattle.aig_edits.specs.Pairs.{ReadsPair}
 use Rattle.aig_format.specs.File.{File}
 use Rattle.aig_join.specs.Files.{AreEqualMachinesAt, HasLinesOf, HaveSameFileCounts}
@@ -31,6 +36,30 @@ safe_line = codes "no bad state at any step" ++ 10 ∷ []
 abbrev pub equal_line : ℕ → List ℕ
 equal_line k = codes "equal at step " ++ (decimal k ++ 10 ∷ [])
 
+-- the text of clauses, after a line that names them
+abbrev pub part_text : List ℕ → List (List (List Lit)) → List (List Lit) → List ℕ
+part_text name lists further =
+    (name ++ 10 ∷ []) ++ dimacs_of (length lists) (clauses_in lists ++ further)
+
+-- the text of the clauses of which the proofs of a certificate are, in two parts; from each a plain
+-- reader reads just these again
+pub record IsObligationsText (optimize : Bool) (f g : File) (text : List ℕ) : Type 0 where
+  pub clauses : Obligations
+  pub asked : AreObligations optimize f g clauses
+  pub base : List ℕ
+  pub base_exact : base
+      ≡ part_text (codes "c base") clauses.base.encoded.clauses clauses.base.extra
+  pub step : List ℕ
+  pub step_exact : step ≡ part_text (codes "c step") clauses.step.clauses clauses.step.further
+  pub exact : text ≡ base ++ step
+  pub base_again : parse_formula base
+      ≡ Some (
+        length clauses.base.encoded.clauses,
+        clauses_in clauses.base.encoded.clauses ++ clauses.base.extra,
+      )
+  pub step_again : parse_formula step
+      ≡ Some (length clauses.step.clauses, clauses_in clauses.step.clauses ++ clauses.step.further)
+
 -- what the command puts into its writer for FILE and the file beside it, whose counts fit, and what
 -- is then so of their machines
 abbrev pub PairAnswers : PairCommand → File → File → List ℕ → Type 0
@@ -38,6 +67,7 @@ PairAnswers (commands.Certified optimize) f g text =
     (text ≡ safe_line) × HasLinesOf g f × ((n : ℕ) → IsSafeTo f n)
 PairAnswers (commands.Equal k optimize) f g text =
     (text ≡ equal_line k) × HaveSameFileCounts f g × AreEqualMachinesAt f g k
+PairAnswers (commands.Obligations optimize) f g text = IsObligationsText optimize f g text
 
 -- ---- errors
 
@@ -47,16 +77,18 @@ other_verdict_of (errors.Certificate e) = certificates.second_verdict e
 other_verdict_of errors.Write = Accepted
 other_verdict_of e = Refused
 
--- the commands have this error
-abbrev pub IsErrorOfPair : CheckError → Type 0
-IsErrorOfPair errors.Write = Unit {0}
-IsErrorOfPair (errors.Certificate e) = certificates.IsOwn e
-IsErrorOfPair e = ⊥
+-- the command has this error
+abbrev pub IsErrorOfPair : PairCommand → CheckError → Type 0
+IsErrorOfPair c errors.Write = Unit {0}
+IsErrorOfPair (commands.Obligations optimize) (errors.Certificate e) = certificates.IsOfClauses e
+IsErrorOfPair c (errors.Certificate e) = certificates.IsOwn e
+IsErrorOfPair c e = ⊥
 
 -- why the command shows nothing of two files
 abbrev pub RefusesPair : PairCommand → ℕ → File → File → CertificateError → Type 0
 RefusesPair (commands.Certified optimize) limit f g e = Certifies limit f g (Err e)
 RefusesPair (commands.Equal k optimize) limit f g e = Equals limit k f g (Err e)
+RefusesPair (commands.Obligations optimize) limit f g e = Obliges limit optimize f g (Err e)
 
 -- BASE, or the proof of `equal`, isn't read
 abbrev pub LeavesBase : CheckError → Type 0
@@ -93,8 +125,8 @@ pub record RunsPair {R S P Q W : Type 0} (left : R → Option (List ℕ)) (faile
     : Type 0 where
   -- what is said of the bytes of both files, and where they are taken, of their machines
   pub reads : ReadsPair left failed left_of failed_of limit
-      (TellsOfPair held write_failed c limit w made) verdict_of other_verdict_of IsErrorOfPair r s
-      result rest other
+      (TellsOfPair held write_failed c limit w made) verdict_of other_verdict_of (IsErrorOfPair c) r
+      s result rest other
   -- every refusal but that of the writer leaves the writer as it was
   pub kept : IfErr result (λ e. e ≢ errors.Write → made ≡ w)
   -- a proof is read only where what comes before it is taken

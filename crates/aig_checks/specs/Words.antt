@@ -22,12 +22,18 @@ name_of actions.Witness = codes "witness"
 name_of actions.Run = codes "run"
 name_of actions.Certified = codes "certified"
 name_of actions.Equal = codes "equal"
+name_of actions.Obligations = codes "obligations"
 
 -- so many paths and K, so many further paths, `distinct` or nothing where it may be there, and
 -- `raw` or nothing
 abbrev pub on_step : ℕ → ℕ → Bool → Form
 on_step paths further distinct =
     record { paths = paths; step = true; further = further; distinct = distinct; raw = true }
+
+-- FILE, CERT and so many proofs, and `raw` or nothing
+abbrev pub on_certificate : ℕ → Form
+on_certificate further =
+    record { paths = 2; step = false; further = further; distinct = false; raw = true }
 
 -- What comes after it: the paths are FILE, and CERT or OTHER; the further ones are PROOF, SOLUTION
 -- or WITNESS, or BASE and STEP.
@@ -39,9 +45,9 @@ form_of actions.Inductive = on_step 1 1 true
 form_of actions.Witness = on_step 1 1 false
 form_of actions.Run =
     record { paths = 1; step = false; further = 1; distinct = false; raw = false }
-form_of actions.Certified =
-    record { paths = 2; step = false; further = 2; distinct = false; raw = true }
+form_of actions.Certified = on_certificate 2
 form_of actions.Equal = on_step 2 1 false
+form_of actions.Obligations = on_certificate 0
 
 -- the form of windows
 abbrev pub window_of : Bool → Window
@@ -60,6 +66,7 @@ command_of actions.Witness k distinct optimize = commands.File (on_file.Witness 
 command_of actions.Run k distinct optimize = commands.File on_file.Run
 command_of actions.Certified k distinct optimize = commands.Pair (on_pair.Certified optimize)
 command_of actions.Equal k distinct optimize = commands.Pair (on_pair.Equal k optimize)
+command_of actions.Obligations k distinct optimize = commands.Pair (on_pair.Obligations optimize)
 
 -- the words give the command, with its files and what is given beside them
 pub record IsCall (words : List (List ℕ)) (c : Command) (paths further : List (List ℕ)) : Type 0
@@ -98,4 +105,5 @@ abbrev pub beside_of : Command → ℕ
 beside_of (commands.File (on_file.Clauses k optimize)) = 0
 beside_of (commands.File (on_file.Window k form optimize)) = 0
 beside_of (commands.Pair (on_pair.Certified optimize)) = 2
+beside_of (commands.Pair (on_pair.Obligations optimize)) = 0
 beside_of c = 1

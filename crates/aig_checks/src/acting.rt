@@ -8,7 +8,7 @@ ghost use Rattle.aig_checks.specs.Opening.{unopened};
 ghost use Rattle.aig_checks.specs.Words.{beside_of, paths_of, step_of};
 
 use crate::command::{Call, Command, FileCommand, PairCommand, call_of};
-use crate::pairs::{print_certified, print_equal};
+use crate::pairs::{print_certified, print_equal, print_obligations};
 use crate::tool::{
     CheckError, print_clauses, print_inductive, print_refuted, print_run, print_window,
     print_witness, write_text,
@@ -21,7 +21,7 @@ use std::alloc::Global;
 pub const USAGE: &str =
     "usage: aigcheck clauses FILE K [raw], window FILE K [distinct] [raw], refuted FILE K PROOF [raw], \
     inductive FILE K PROOF [distinct] [raw], witness FILE K SOLUTION [raw], run FILE WITNESS, \
-    certified FILE CERT BASE STEP [raw], equal FILE OTHER K PROOF [raw]";
+    certified FILE CERT BASE STEP [raw], equal FILE OTHER K PROOF [raw], obligations FILE CERT [raw]";
 
 /// Its version.
 pub const VERSION: &str = "aigcheck 0.1.0";
@@ -151,6 +151,7 @@ fn run_on_pair<F: Opens, R: Source, S: Source, W: Sink>(
         PairCommand::Equal { k, optimize } => {
             run_equal(alloc, files, k, optimize, further[0].as_str(), r, s, w)
         }
+        PairCommand::Obligations { optimize } => print_obligations(alloc, optimize, r, s, w),
     }
 }
 

@@ -1,7 +1,7 @@
 //! The commands, and the words that give them.
 
 ghost use Rattle.std.specs.Prelude.{◌≡◌, ◌↔◌, ◌<◌, ◌^◌, IfNone, IfSome, List, Some, ℕ, length, map, string_bytes};
-ghost use Rattle.aig_checks.specs.Words.{Give, IsCall, beside_of, command_of, form_of, name_of, on_step, paths_of, step_of, window_of};
+ghost use Rattle.aig_checks.specs.Words.{Give, IsCall, beside_of, command_of, form_of, name_of, on_certificate, on_step, paths_of, step_of, window_of};
 ghost use Rattle.aig_checks.specs.declared.command.Command.{Command};
 
 use aig_answers::Window;
@@ -61,6 +61,11 @@ pub enum PairCommand {
         /// Whether exclusive ors and choices have clauses of their own.
         optimize: bool,
     },
+    /// Print the clauses that the proofs of `certified` are of.
+    Obligations {
+        /// Whether exclusive ors and choices have clauses of their own.
+        optimize: bool,
+    },
     /// Check a proof that the files' machines are equal at step `k`.
     Equal {
         /// The step.
@@ -98,6 +103,8 @@ pub enum Action {
     Certified,
     /// `equal FILE OTHER K PROOF [raw]`.
     Equal,
+    /// `obligations FILE CERT [raw]`.
+    Obligations,
 }
 
 /// The form of a command on so many files and K.
@@ -109,6 +116,19 @@ fn on_step(paths: usize, further: usize, distinct: bool) -> Form
         step: true,
         further,
         distinct,
+        raw: true,
+    }
+}
+
+/// The form of a command on FILE, CERT and so many proofs.
+fn on_certificate(further: usize) -> Form
+    ensures { result ≡ on_certificate further }
+{
+    Form {
+        paths: 2,
+        step: false,
+        further,
+        distinct: false,
         raw: true,
     }
 }
@@ -128,6 +148,7 @@ impl HasForm for Action {
             Action::Run => "run",
             Action::Certified => "certified",
             Action::Equal => "equal",
+            Action::Obligations => "obligations",
         }
     }
 
@@ -145,13 +166,8 @@ impl HasForm for Action {
                 distinct: false,
                 raw: false,
             },
-            Action::Certified => Form {
-                paths: 2,
-                step: false,
-                further: 2,
-                distinct: false,
-                raw: true,
-            },
+            Action::Certified => on_certificate(2),
+            Action::Obligations => on_certificate(0),
         }
     }
 }
@@ -169,7 +185,7 @@ fn window_of(distinct: bool) -> Window
 
 impl Action {
     /// Each of them.
-    const ALL: [Action; 8] = [
+    const ALL: [Action; 9] = [
         Action::Clauses,
         Action::Window,
         Action::Refuted,
@@ -178,6 +194,7 @@ impl Action {
         Action::Run,
         Action::Certified,
         Action::Equal,
+        Action::Obligations,
     ];
 
     /// The command, with K and the settings.
@@ -194,6 +211,7 @@ impl Action {
             Action::Run => Command::File(FileCommand::Run),
             Action::Certified => Command::Pair(PairCommand::Certified { optimize }),
             Action::Equal => Command::Pair(PairCommand::Equal { k, optimize }),
+            Action::Obligations => Command::Pair(PairCommand::Obligations { optimize }),
         }
     }
 }
@@ -229,7 +247,7 @@ pub fn call_of(words: &[String]) -> Option<Call<'_>>
 
 /// The command that the words after the program's name give, or none where they are wrong.
 ///
-/// The word after the command's name is FILE. The next is WITNESS of `run`, CERT of `certified` and OTHER of `equal`. Then comes
+/// The word after the command's name is FILE. The next is WITNESS of `run`, CERT of `certified` and `obligations`, and OTHER of `equal`. Then comes
 /// K, where the command has one, and the words after that are PROOF of `refuted`, `inductive` and `equal`, SOLUTION of `witness`,
 /// and BASE and STEP of `certified`. It takes no memory.
 pub fn parse(words: &[String]) -> Option<Command>

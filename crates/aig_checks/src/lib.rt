@@ -10,7 +10,7 @@ mod tool;
 
 pub use acting::{USAGE, act};
 pub use command::{Command, FileCommand, PairCommand, parse};
-pub use pairs::{print_certified, print_equal};
+pub use pairs::{print_certified, print_equal, print_obligations};
 pub use tool::{
     CheckError, print_clauses, print_inductive, print_refuted, print_run, print_window,
     print_witness,

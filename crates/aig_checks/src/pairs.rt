@@ -1,13 +1,16 @@
 //! What the commands do with the bytes of two files, and of proofs about them.
 
-ghost use Rattle.std.specs.Prelude.{◌≡◌};
-ghost use Rattle.aig_checks.specs.Pairs.{RunsPair};
+ghost use Rattle.std.specs.Prelude.{◌++◌, codes, length};
+ghost use Rattle.aig_base.specs.Clauses.{AreBelow};
+ghost use Rattle.aig_output.specs.Sinks.{WritesOrStops};
+ghost use Rattle.aig_checks.specs.Pairs.{RunsPair, part_text};
 ghost use Rattle.aig_checks.specs.Running.{nothing_fails};
 
 use crate::command::PairCommand;
-use crate::tool::{CheckError, LIMIT, write_line, write_text};
-use aig_base::{Sink, Source};
-use aig_certificates::{check_certified, check_equal};
+use crate::tool::{CheckError, LIMIT, tell_formula, write_line, write_text};
+use aig_base::{DagCnf, LitVvec, Sink, Source, StreamFault};
+use aig_certificates::{Obligations, check_certified, check_equal, obligations_of};
+use aig_dimacs::write_dimacs;
 use std::alloc::Global;
 
 /// Checks proofs that a certificate shows that a file's machine reaches no bad state at any step, and prints so.
@@ -46,4 +49,51 @@ pub fn print_equal<R: Source, S: Source, P: Source, W: Sink>(
 {
     check_equal(alloc, file, other, LIMIT, k, optimize, proof)?;
     Ok(write_line(w, b"equal at step ", k)?)
+}
+
+/// Writes the text of clauses, after a line that names them.
+fn write_part<W: Sink>(
+    w: &mut W,
+    name: &[u8],
+    clauses: &DagCnf,
+    further: &LitVvec,
+) -> Result<(), StreamFault>
+    requires { AreBelow (length clauses.now) further.now }
+    ensures { let text = part_text name.now clauses.now further.now in
+        WritesOrStops W.held W.failed w.old result text w.new }
+{
+    write_text(w, name)?;
+    write_dimacs(w, clauses, further)
+}
+
+/// Writes the text of the clauses that the proofs of a certificate are of.
+fn write_obligations<W: Sink>(w: &mut W, asked: &Obligations) -> Result<(), StreamFault>
+    requires base { AreBelow (length asked.now.base.encoded.clauses) asked.now.base.extra }
+    requires step { AreBelow (length asked.now.step.clauses) asked.now.step.further }
+    ensures { let base = part_text (codes "c base") asked.now.base.encoded.clauses asked.now.base.extra in
+        let step = part_text (codes "c step") asked.now.step.clauses asked.now.step.further in
+        WritesOrStops W.held W.failed w.old result (base ++ step) w.new }
+{
+    write_part(w, b"c base", &asked.base.encoded.clauses, &asked.base.extra)?;
+    write_part(w, b"c step", &asked.step.clauses, &asked.step.further)
+}
+
+/// Prints the clauses that the proofs of `print_certified` are of: after the line `c base` those of which BASE is a proof, and after
+/// the line `c step` those of which STEP is one.
+pub fn print_obligations<R: Source, S: Source, W: Sink>(
+    alloc: Global,
+    optimize: bool,
+    file: &mut R,
+    certificate: &mut S,
+    w: &mut W,
+) -> Result<(), CheckError>
+    ensures { let command = PairCommand.Obligations optimize in
+        RunsPair R.left R.failed S.left S.failed nothing_fails nothing_fails W.held W.failed
+        command LIMIT file.old certificate.old tt tt w.old result
+        file.new certificate.new tt tt w.new }
+{
+    let asked = obligations_of(alloc, file, certificate, LIMIT, optimize)?;
+    tell_formula(&asked.base.encoded.clauses, &asked.base.extra);
+    tell_formula(&asked.step.clauses, &asked.step.further);
+    Ok(write_obligations(w, &asked)?)
 }

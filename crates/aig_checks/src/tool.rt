@@ -14,7 +14,7 @@ use crate::command::FileCommand;
 use crate::comments::write_comments;
 use crate::line::buffer_named;
 use aig_answers::{AnswerError, Window, asked_query, check_step, check_window, window};
-use aig_base::{MemoryError, Sink, Source, StreamFault};
+use aig_base::{DagCnf, LitVvec, MemoryError, Sink, Source, StreamFault};
 use aig_certificates::CertificateError;
 use aig_certify::inductive_windows_are_safe;
 use aig_dimacs::write_dimacs;
@@ -52,7 +52,7 @@ pub enum CheckError {
     /// The witness shows no bad state.
     #[error("{0}")]
     Show(ShowError),
-    /// Two files aren't certified or equal, or there is no proof of it.
+    /// There is no answer about two files.
     #[error("{0}")]
     Certificate(CertificateError),
     /// The answer wasn't written.
@@ -233,14 +233,12 @@ pub fn print_inductive<R: Source, P: Source, W: Sink>(
     Ok(write_line(w, b"no bad state at any step, if none up to step ", k)?)
 }
 
-/// Tells that a query's clauses are read again from their text, as its counts of variables and of clauses fit.
-fn tell_formula(asked: &Query)
-    requires { AreBelow (length asked.now.encoded.clauses) asked.now.extra }
-    ensures { IsFormula (length asked.now.encoded.clauses)
-        (clauses_in asked.now.encoded.clauses ++ asked.now.extra) }
+/// Tells that clauses are read again from their text, as the counts of variables and of clauses fit.
+pub(crate) fn tell_formula(clauses: &DagCnf, further: &LitVvec)
+    requires { AreBelow (length clauses.now) further.now }
+    ensures { IsFormula (length clauses.now) (clauses_in clauses.now ++ further.now) }
 {
-    let clauses = &asked.encoded.clauses;
-    let _counts = (clauses.num_vars(), clauses.num_clauses(), asked.extra.len());
+    let _counts = (clauses.num_vars(), clauses.num_clauses(), further.len());
 }
 
 /// Prints a query for step `k`: comments that say which literals stand for what, and then its clauses.
@@ -274,7 +272,7 @@ pub fn print_clauses<R: Source, W: Sink>(
         command LIMIT r.old tt w.old result r.new tt w.new }
 {
     let asked = asked_query(alloc, r, LIMIT, k, optimize)?;
-    tell_formula(&asked);
+    tell_formula(&asked.encoded.clauses, &asked.extra);
     print_query(alloc, &asked, k, w)
 }
 

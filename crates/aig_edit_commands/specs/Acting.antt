@@ -2,22 +2,31 @@
 -- What the program does with its words. Files are read as a trait says: what opening the file at a
 -- path may give, the bytes that are left, and whether a read failed. Of what is written to it says
 -- the bytes held, whether a write failed, and whether all of them are in their place.
-use Rattle.std.specs.Prelude.{◌≡◌, ◌↔◌, ℕ, Bool, IsTrue, List, Option, Result, Ok, Err, OnOk}
+use Rattle.std.specs.Prelude.{◌≡◌, ◌↔◌, ℕ, Bool, IsTrue, List, [], ◌∷◌, Option, Result, Ok, Err, OnOk}
 use Rattle.aig_command_line.specs.declared.files.OpenError.{OpenError}
 use Rattle.aig_command_line.specs.declared.files.OpenError.TheVariants as opening
 use Rattle.aig_command_line.specs.declared.status.Ending.{Ending}
 use Rattle.aig_command_line.specs.declared.status.Ending.TheVariants as endings
 use Rattle.aig_command_line.specs.Ending.{ended}
+use Rattle.aig_edits.specs.declared.edit.Edit.{Edit}
+use Rattle.aig_edits.specs.declared.edit_error.EditError.{EditError}
+use Rattle.aig_edits.specs.declared.edit_error.EditError.TheVariants as edit
 use Rattle.aig_edits.specs.declared.error.PairError.{PairError}
 use Rattle.aig_edits.specs.declared.error.PairError.TheVariants as errors
 use Rattle.aig_edits.specs.declared.pairing.Pairing.{Pairing}
+use Rattle.aig_edits.specs.Edits.{IsEditOwn, IsEditUnwritten, PrintsEdit, ReadsFile, edit_verdict}
 use Rattle.aig_edits.specs.Joints.{IsOwn, IsUnwritten, PrintsJoint, first_verdict, second_verdict}
 use Rattle.aig_edits.specs.Pairs.{ReadsPair}
 use Rattle.aig_reader.specs.declared.error.ReadError.{ReadError}
 use Rattle.aig_reader.specs.declared.error.ReadError.TheVariants as read
 use Rattle.aig_edit_commands.specs.declared.acting.TheConstants.{LIMIT}
+use Rattle.aig_edit_commands.specs.declared.acting.CommandError.{CommandError}
+use Rattle.aig_edit_commands.specs.declared.acting.CommandError.TheVariants as refusals
 use Rattle.aig_edit_commands.specs.declared.command.Command.{Command}
-use Rattle.aig_edit_commands.specs.Words.{IsCall, pairing_of}
+use Rattle.aig_edit_commands.specs.declared.command.Command.TheVariants as commands
+use Rattle.aig_edit_commands.specs.Words.{IsCall}
+
+-- ---- two files
 
 -- What is printed of two files that are open: the text of their joint circuit, as `print_joint`
 -- prints it, and after Ok it is flushed.
@@ -82,17 +91,71 @@ pub record PrintsFiles {F W : Type 0} (opens : List ℕ → Result F OpenError �
   pub prints : PrintsFrom opens left failed held write_failed flushed pairing first other w result
       made
 
+-- ---- one file
+
+-- What is printed of a file that is open: the text of the edited circuit, as `print_edit` prints
+-- it, and after Ok it is flushed.
+pub record PrintsEdited {R W : Type 0} (left : R → Option (List ℕ)) (failed : R → Bool)
+    (held : W → Option (List ℕ)) (write_failed flushed : W → Bool) (edit : Edit) (r : R) (w : W)
+    (result : Result Unit EditError) (rest : R) (made : W) : Type 0 where
+  pub reads : ReadsFile left failed LIMIT (PrintsEdit held write_failed edit LIMIT w made)
+      edit_verdict IsEditOwn r result rest
+  pub kept : IsEditUnwritten result → made ≡ w
+  pub done : OnOk result (IsTrue (flushed made))
+
+-- what a file that is not opened is refused for
+abbrev pub edit_unopened : OpenError → EditError
+edit_unopened opening.Refused = edit.Read read.Open
+edit_unopened opening.Memory = edit.Memory
+
+-- the file is open, or it is not, and nothing is written
+abbrev pub PrintsOpened : {F W : Type 0} → (F → Option (List ℕ)) → (F → Bool)
+    → (W → Option (List ℕ)) → (W → Bool) → (W → Bool) → Edit → Result F OpenError → W
+    → Result Unit EditError → W → Type 0
+PrintsOpened {F} left failed held write_failed flushed edit (Ok r) w result made =
+    (rest : F) × PrintsEdited left failed held write_failed flushed edit r w result rest made
+PrintsOpened left failed held write_failed flushed edit (Err e) w result made =
+    (result ≡ Err (edit_unopened e)) × (made ≡ w)
+
+-- the file at the path is opened, and the edited circuit printed
+pub record PrintsFile {F W : Type 0} (opens : List ℕ → Result F OpenError → Type 0)
+    (left : F → Option (List ℕ)) (failed : F → Bool) (held : W → Option (List ℕ))
+    (write_failed flushed : W → Bool) (edit : Edit) (file : List ℕ) (w : W)
+    (result : Result Unit EditError) (made : W) : Type 0 where
+  pub opened : Result F OpenError
+  pub opens_so : opens file opened
+  pub prints : PrintsOpened left failed held write_failed flushed edit opened w result made
+
+-- ---- commands
+
+-- the result, with its error among those of the program
+abbrev pub told : {E : Type 0} → (E → CommandError) → Result Unit E → Result Unit CommandError
+told among (Ok done) = Ok done
+told among (Err e) = Err (among e)
+
+-- the command was run on its files
+abbrev pub Acts : {F W : Type 0} → (List ℕ → Result F OpenError → Type 0)
+    → (F → Option (List ℕ)) → (F → Bool) → (W → Option (List ℕ)) → (W → Bool) → (W → Bool)
+    → Command → List (List ℕ) → W → Result Unit CommandError → W → Type 0
+Acts opens left failed held write_failed flushed (commands.Edit edit) paths w result made =
+    (file : List ℕ) → paths ≡ file ∷ []
+    → (done : Result Unit EditError) × (result ≡ told refusals.One done)
+    × PrintsFile opens left failed held write_failed flushed edit file w done made
+Acts opens left failed held write_failed flushed (commands.Pair pairing) paths w result made =
+    (file other : List ℕ) → paths ≡ file ∷ other ∷ []
+    → (done : Result Unit PairError) × (result ≡ told refusals.Two done)
+    × PrintsFiles opens left failed held write_failed flushed pairing file other w done made
+
 -- what the words ask for was done, and how the program ends by it
 pub record Obeys {F W : Type 0} (opens : List ℕ → Result F OpenError → Type 0)
     (left : F → Option (List ℕ)) (failed : F → Bool) (held : W → Option (List ℕ))
-    (write_failed flushed : W → Bool) (words : List (List ℕ)) (w : W) (ending : Ending PairError)
-    (made : W) : Type 0 where
+    (write_failed flushed : W → Bool) (words : List (List ℕ)) (w : W)
+    (ending : Ending CommandError) (made : W) : Type 0 where
   -- they give no command exactly where it ends so
   pub none : (ending ≡ endings.NoCommand)
-      ↔ ((c : Command) (file other : List ℕ) → ¬ IsCall words c file other)
+      ↔ ((c : Command) (paths : List (List ℕ)) → ¬ IsCall words c paths)
   pub kept : ending ≡ endings.NoCommand → made ≡ w
   -- and else the command that they give was run on its files
-  pub acts : (c : Command) (file other : List ℕ) → IsCall words c file other
-      → (done : Result Unit PairError) × (ending ≡ ended done)
-      × PrintsFiles opens left failed held write_failed flushed (pairing_of c) file other w done
-      made
+  pub acts : (c : Command) (paths : List (List ℕ)) → IsCall words c paths
+      → (done : Result Unit CommandError) × (ending ≡ ended done)
+      × Acts opens left failed held write_failed flushed c paths w done made

@@ -1,29 +1,56 @@
 -- Serves private clauses alone.
 -- Which words give which command.
-use Rattle.std.specs.Prelude.{◌≡◌, ℕ, List, [], ◌∷◌, codes}
+use Rattle.std.specs.Prelude.{◌≡◌, ℕ, true, List, codes}
 use Rattle.aig_command_line.specs.declared.arguments.Form.{Form}
 use Rattle.aig_command_line.specs.Arguments.{Arguments, Gives, of_paths}
-use Rattle.aig_edits.specs.declared.pairing.Pairing.{Pairing}
+use Rattle.aig_edits.specs.declared.edit.Edit.TheVariants as edits
 use Rattle.aig_edits.specs.declared.pairing.Pairing.TheVariants as pairings
+use Rattle.aig_edit_commands.specs.declared.command.Action.{Action}
+use Rattle.aig_edit_commands.specs.declared.command.Action.TheVariants as actions
 use Rattle.aig_edit_commands.specs.declared.command.Command.{Command}
 use Rattle.aig_edit_commands.specs.declared.command.Command.TheVariants as commands
 
 -- the word that names a command
-abbrev pub name_of : Command → List ℕ
-name_of commands.Miter = codes "miter"
-name_of commands.Join = codes "join"
+abbrev pub name_of : Action → List ℕ
+name_of actions.Refine = codes "refine"
+name_of actions.Reencode = codes "reencode"
+name_of actions.Unroll = codes "unroll"
+name_of actions.Move = codes "move"
+name_of actions.Compress = codes "compress"
+name_of actions.Bads = codes "bads"
+name_of actions.Miter = codes "miter"
+name_of actions.Join = codes "join"
+name_of actions.Merge = codes "merge"
 
--- two paths come after it
-abbrev pub form_of : Command → Form
-form_of c = of_paths 2
+-- what comes after it: FILE; FILE and K; two paths
+abbrev pub form_of : Action → Form
+form_of actions.Unroll = record (of_paths 1) { step = true }
+form_of actions.Miter = of_paths 2
+form_of actions.Join = of_paths 2
+form_of actions.Merge = of_paths 2
+form_of a = of_paths 1
 
--- how the circuits of its files become one
-abbrev pub pairing_of : Command → Pairing
-pairing_of commands.Miter = pairings.Miter
-pairing_of commands.Join = pairings.Certificate
+-- the command, with K
+abbrev pub command_of : Action → ℕ → Command
+command_of actions.Refine k = commands.Edit edits.Refine
+command_of actions.Reencode k = commands.Edit edits.Reencode
+command_of actions.Unroll k = commands.Edit (edits.Unroll k)
+command_of actions.Move k = commands.Edit edits.Move
+command_of actions.Compress k = commands.Edit edits.Compress
+command_of actions.Bads k = commands.Edit edits.Bads
+command_of actions.Miter k = commands.Pair pairings.Miter
+command_of actions.Join k = commands.Pair pairings.Certificate
+command_of actions.Merge k = commands.Pair pairings.Merge
+
+-- how many files it is run on
+abbrev pub paths_of : Command → ℕ
+paths_of (commands.Edit edit) = 1
+paths_of (commands.Pair pairing) = 2
 
 -- the words give the command, with these paths
-pub record IsCall (words : List (List ℕ)) (c : Command) (file other : List ℕ) : Type 0 where
+pub record IsCall (words : List (List ℕ)) (c : Command) (paths : List (List ℕ)) : Type 0 where
+  pub action : Action
   pub arguments : Arguments
-  pub gives : Gives (name_of c) (form_of c) words arguments
-  pub on : arguments.paths ≡ file ∷ other ∷ []
+  pub gives : Gives (name_of action) (form_of action) words arguments
+  pub command : c ≡ command_of action arguments.step
+  pub on : paths ≡ arguments.paths

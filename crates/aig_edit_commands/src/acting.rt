@@ -1,21 +1,80 @@
 //! What the program does with its words.
 
-ghost use Rattle.std.specs.Prelude.{◌≡◌, IfOk, IfSome, IsErr, IsNone, map, string_bytes};
+ghost use Rattle.std.specs.Prelude.{◌≡◌, IfOk, IfSome, IsErr, IsNone, length, map, string_bytes};
 ghost use Rattle.aig_command_line.specs.declared.status.Ending.TheVariants as endings;
 ghost use Rattle.aig_edits.specs.declared.error.PairError.TheVariants as errors;
-ghost use Rattle.aig_edit_commands.specs.Acting.{Obeys, PrintsBeside, PrintsFiles, PrintsPair, unopened};
+ghost use Rattle.aig_edits.specs.declared.edit_error.EditError.TheVariants as edit_errors;
+ghost use Rattle.aig_edit_commands.specs.declared.acting.CommandError.TheVariants as refusals;
+ghost use Rattle.aig_edit_commands.specs.Acting.{Acts, Obeys, PrintsBeside, PrintsEdited, PrintsFile, PrintsFiles, PrintsPair, edit_unopened, told, unopened};
+ghost use Rattle.aig_edit_commands.specs.Words.{paths_of};
 
-use crate::command::call;
+use crate::command::{Command, call};
 use aig_base::{MemoryError, Source};
 use aig_command_line::{Ending, Flush, OpenError, Opens};
-use aig_edits::{PairError, Pairing, print_joint};
+use aig_edits::{Edit, EditError, PairError, Pairing, print_edit, print_joint};
 use aig_reader::ReadError;
 use std::alloc::Global;
+use thiserror::Error;
 
 /// The limit on the nodes of a circuit that the program reads.
 pub const LIMIT: usize = 1 << 24;
 
 const _: () = prove!(LIMIT == 16_777_216);
+
+/// Why the program ends with status 1.
+#[derive(Clone, Copy, Debug, PartialEq, Eq, Error)]
+pub enum CommandError {
+    /// Nothing is made of one file.
+    #[error("{0}")]
+    One(EditError),
+    /// Nothing is made of two files.
+    #[error("{0}")]
+    Two(PairError),
+    /// Memory was refused before a file was opened.
+    #[error("out of memory")]
+    Memory,
+}
+
+/// What the file is refused for where it isn't opened.
+fn edit_unopened(error: OpenError) -> EditError
+    ensures { result ≡ edit_unopened error }
+{
+    match error {
+        OpenError::Refused => EditError::Read(ReadError::Open),
+        OpenError::Memory => EditError::Memory,
+    }
+}
+
+/// Prints what is made of a file that is opened, and flushes that.
+fn print_edited<R: Source, W: Flush>(
+    alloc: Global,
+    edit: &Edit,
+    r: &mut R,
+    w: &mut W,
+) -> Result<(), EditError>
+    ensures { PrintsEdited R.left R.failed W.held W.failed W.flushed edit.now r.old w.old result
+        r.new w.new }
+{
+    print_edit(alloc, edit, r, LIMIT, w)?;
+    Ok(w.flush()?)
+}
+
+/// Prints what is made of the file at a path, and flushes that.
+fn print_file<F: Opens, W: Flush>(
+    alloc: Global,
+    files: &F,
+    edit: &Edit,
+    path: &str,
+    w: &mut W,
+) -> Result<(), EditError>
+    ensures { PrintsFile (F.opens files.now) F.File.left F.File.failed W.held W.failed W.flushed
+        edit.now path.now w.old result w.new }
+{
+    match files.open(path) {
+        Ok(mut file) => print_edited(alloc, edit, &mut file, w),
+        Err(error) => Err(edit_unopened(error)),
+    }
+}
 
 /// What the first file is refused for where it isn't opened.
 fn unopened(error: OpenError) -> PairError
@@ -89,32 +148,91 @@ fn print<F: Opens, W: Flush>(
     }
 }
 
+/// Runs a command on one file.
+fn edit_file<F: Opens, W: Flush>(
+    alloc: Global,
+    files: &F,
+    edit: &Edit,
+    paths: &[String],
+    w: &mut W,
+) -> Result<(), CommandError>
+    requires { length paths.now ≡ 1 }
+    ensures { Acts (F.opens files.now) F.File.left F.File.failed W.held W.failed W.flushed
+        (Command.Edit edit.now) (map string_bytes paths.now) w.old result w.new }
+{
+    match print_file(alloc, files, edit, paths[0].as_str(), w) {
+        Ok(()) => Ok(()),
+        Err(error) => Err(CommandError::One(error)),
+    }
+}
+
+/// Runs a command on two files.
+fn pair_files<F: Opens, W: Flush>(
+    alloc: Global,
+    files: &F,
+    pairing: Pairing,
+    paths: &[String],
+    w: &mut W,
+) -> Result<(), CommandError>
+    requires { length paths.now ≡ 2 }
+    ensures { Acts (F.opens files.now) F.File.left F.File.failed W.held W.failed W.flushed
+        (Command.Pair pairing) (map string_bytes paths.now) w.old result w.new }
+{
+    match print(
+        alloc,
+        files,
+        pairing,
+        paths[0].as_str(),
+        paths[1].as_str(),
+        w,
+    ) {
+        Ok(()) => Ok(()),
+        Err(error) => Err(CommandError::Two(error)),
+    }
+}
+
+/// Runs a command on its files.
+fn perform<F: Opens, W: Flush>(
+    alloc: Global,
+    files: &F,
+    command: &Command,
+    paths: &[String],
+    w: &mut W,
+) -> Result<(), CommandError>
+    requires { length paths.now ≡ paths_of command.now }
+    ensures { Acts (F.opens files.now) F.File.left F.File.failed W.held W.failed W.flushed
+        command.now (map string_bytes paths.now) w.old result w.new }
+{
+    match command {
+        Command::Edit(edit) => edit_file(alloc, files, edit, paths, w),
+        Command::Pair(pairing) => pair_files(alloc, files, *pairing, paths, w),
+    }
+}
+
 /// Does what the words after the program's name ask for.
 fn obey<F: Opens, W: Flush>(
     alloc: Global,
     words: &[String],
     files: &F,
     w: &mut W,
-) -> Ending<PairError>
+) -> Ending<CommandError>
     ensures { Obeys (F.opens files.now) F.File.left F.File.failed W.held
         W.failed W.flushed (map string_bytes words.now) w.old result w.new }
 {
     match call(words) {
-        Some((command, file, other)) => {
-            Ending::of(print(alloc, files, command.pairing(), file, other, w))
-        }
+        Some((command, paths)) => Ending::of(perform(alloc, files, &command, paths, w)),
         None => Ending::NoCommand,
     }
 }
 
-/// Does what the words after the program's name ask for, as they were read: opens FILE and OTHER, prints
-/// their joint circuit to `w`, and flushes it.
+/// Does what the words after the program's name ask for, as they were read: opens the files, prints
+/// what is made of them to `w`, and flushes it.
 pub fn act<F: Opens, W: Flush>(
     alloc: Global,
     words: &Result<Option<Vec<String>>, MemoryError>,
     files: &F,
     w: &mut W,
-) -> Ending<PairError>
+) -> Ending<CommandError>
     ensures words { IfOk words.now (λ read. IfSome read (λ given.
         Obeys (F.opens files.now) F.File.left F.File.failed W.held
         W.failed W.flushed (map string_bytes given.items) w.old result w.new)) }
@@ -122,11 +240,11 @@ pub fn act<F: Opens, W: Flush>(
     ensures other { IfOk words.now (λ read. IsNone read
         → (result ≡ endings.NoCommand) × (w.new ≡ w.old)) }
     ensures memory { IsErr words.now
-        → (result ≡ endings.Refused errors.Memory) × (w.new ≡ w.old) }
+        → (result ≡ endings.Refused refusals.Memory) × (w.new ≡ w.old) }
 {
     match words {
         Ok(Some(words)) => obey(alloc, words.as_slice(), files, w),
         Ok(None) => Ending::NoCommand,
-        Err(_) => Ending::Refused(PairError::Memory),
+        Err(_) => Ending::Refused(CommandError::Memory),
     }
 }

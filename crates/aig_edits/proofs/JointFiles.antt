@@ -18,8 +18,9 @@ use Rattle.aig_reader.specs.Verdicts.{Accepted, verdict_by}
 use Rattle.aig_edits.specs.declared.error.PairError.{PairError}
 use Rattle.aig_edits.specs.declared.error.PairError.TheVariants as errors
 use Rattle.aig_edits.specs.declared.pairing.Pairing.{Pairing}
-use Rattle.aig_edits.specs.declared.pairing.Pairing.TheVariants.{Certificate, Miter}
+use Rattle.aig_edits.specs.declared.pairing.Pairing.TheVariants.{Certificate, Merge, Miter}
 use Rattle.aig_edits.specs.Joints.{DoFit, IsJoint, IsJointOf, IsOwn, Joins, ShowsOf, first_verdict, second_verdict}
+use Rattle.aig_edits.proofs.MergedFiles.{written-merged}
 use Rattle.aig_edits.specs.Parts.{AreListsOfBoth, CanPair, IsJoinOf}
 
 -- ---- counts
@@ -45,6 +46,7 @@ fits_back Certificate f g can =
     let few = can.inputs in
     let also_few = can.latches in
     record { inputs = omega arith; latches = omega arith }
+fits_back Merge f g can = tt
 
 module _ (limit : ℕ) (low : limit ≤ 2 ^ 31) (f g : File) (bytes others : List ℕ)
     (is : Accepts bytes limit f) (also : Accepts others limit g) where
@@ -52,6 +54,7 @@ module _ (limit : ℕ) (low : limit ≤ 2 ^ 31) (f g : File) (bytes others : Lis
       → CanPair pairing (circuit_of f) (circuit_of g)
   fits_forth Miter fit = HaveSameCounts-files f g fit
   fits_forth Certificate fit = HasLeavesOf-files f g limit limit 0 is.1 also.1 fit
+  fits_forth Merge fit = tt
 
   -- ---- the circuit
 
@@ -66,6 +69,11 @@ module _ (limit : ℕ) (low : limit ≤ 2 ^ 31) (f g : File) (bytes others : Lis
       λ c. IsReadAgain c (file_of Text c) × ShowsOf Certificate f g (file_of Text c) in
       subst Goal (sym joint) (written-certified f g limit limit bytes others low low is also fit
       (subst FitsFormat joint small))
+  written Merge m fit joint small =
+      let Goal : Circuit → Type 0 =
+      λ c. IsReadAgain c (file_of Text c) × ShowsOf Merge f g (file_of Text c) in
+      subst Goal (sym joint.0) (written-merged f g limit limit bytes others low low is also
+      (subst FitsFormat joint.0 small))
 
   joint_of : (pairing : Pairing) (m : Circuit) → CanPair pairing (circuit_of f) (circuit_of g)
       → IsJoint pairing (circuit_of f) (circuit_of g) m → FitsFormat m → IsJointOf pairing f g m

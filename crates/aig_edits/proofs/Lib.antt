@@ -1,3 +1,6 @@
 pub mod Reading
+pub mod MergedFiles
 pub mod JointFiles
 pub mod Printed
+pub mod Edited
+pub mod EditedFiles

@@ -1,11 +1,13 @@
 -- Part of what is promised.
 -- What is made of two files: the joint circuit of theirs, and its text.
-use Rattle.std.specs.Prelude.{◌≡◌, ◌≢◌, ℕ, ◌↔◌, Bool, false, List, Option, Result, Ok, Err}
+use Rattle.std.specs.Prelude.{◌≡◌, ◌≢◌, ℕ, ◌↔◌, ◌⊎◌, length, Bool, false, List, Option, Result, Ok, Err}
 use Rattle.std.specs.Io.KnownBytes.{Appends}
 use Rattle.aig_circuit.specs.Circuit.{Circuit}
 use Rattle.aig_circuit.specs.View.{lists_circuit}
 use Rattle.aig_circuit.specs.declared.view.CircuitLists.{CircuitLists}
 use Rattle.aig_certify.specs.Safety.{IsSafeAt}
+use Rattle.aig_change.specs.Merge.{PairsRuns, merged, shifted}
+use Rattle.aig_edit_laws.specs.Shown.{HasRun, HasWitness}
 use Rattle.aig_format.specs.Circuit.{IsReadAgain, circuit_of, file_of, text_of}
 use Rattle.aig_format.specs.declared.FileKind.TheVariants.{Text}
 use Rattle.aig_format.specs.File.{File}
@@ -20,7 +22,7 @@ use Rattle.aig_runs.specs.Queries.{IsSafeTo}
 use Rattle.aig_edits.specs.declared.error.PairError.{PairError}
 use Rattle.aig_edits.specs.declared.error.PairError.TheVariants as errors
 use Rattle.aig_edits.specs.declared.pairing.Pairing.{Pairing}
-use Rattle.aig_edits.specs.declared.pairing.Pairing.TheVariants.{Certificate, Miter}
+use Rattle.aig_edits.specs.declared.pairing.Pairing.TheVariants.{Certificate, Merge, Miter}
 
 -- ---- the joint circuit
 
@@ -28,18 +30,24 @@ use Rattle.aig_edits.specs.declared.pairing.Pairing.TheVariants.{Certificate, Mi
 abbrev pub DoFit : Pairing → File → File → Type 0
 DoFit Miter f g = HaveSameFileCounts f g
 DoFit Certificate f g = HasLinesOf g f
+DoFit Merge f g = Unit {0}
 
 -- the circuit is the joint one of these two
 abbrev pub IsJoint : Pairing → Circuit → Circuit → Circuit → Type 0
 IsJoint Miter a b m = IsMiter a b m
 IsJoint Certificate a b m = m ≡ certified a b
+IsJoint Merge a b m = (m ≡ merged a b) × PairsRuns a b m (shifted (length a.nodes))
 
 -- What the safety of the file h shows of the machines of f and g: that of a miter at a step that
 -- their outputs and bad literals are equal there, and that of a file beside its certificate up to a
--- step that the file is safe up to there.
+-- step that the file is safe up to there. Two files merged have a witness where one of them has one
+-- and the other an allowed run from an initial state.
 abbrev pub ShowsOf : Pairing → File → File → File → Type 0
 ShowsOf Miter f g h = (k : ℕ) → IsSafeAt h k ↔ AreEqualMachinesAt f g k
 ShowsOf Certificate f g h = (n : ℕ) → IsSafeTo h n → IsSafeTo f n
+ShowsOf Merge f g h =
+    (k : ℕ)
+    → HasWitness h k ↔ ((HasWitness f k × HasRun g k) ⊎ (HasRun f k × HasWitness g k))
 
 -- the circuit is the joint one of the files', and its text is a file
 pub record IsJointOf (pairing : Pairing) (f g : File) (m : Circuit) : Type 0 where

@@ -12,7 +12,7 @@ use Rattle.aig_reader.specs.Reading.{AreListsOf}
 use Rattle.aig_edits.specs.declared.error.PairError.{PairError}
 use Rattle.aig_edits.specs.declared.error.PairError.TheVariants as errors
 use Rattle.aig_edits.specs.declared.pairing.Pairing.{Pairing}
-use Rattle.aig_edits.specs.declared.pairing.Pairing.TheVariants.{Certificate, Miter}
+use Rattle.aig_edits.specs.declared.pairing.Pairing.TheVariants.{Certificate, Merge, Miter}
 use Rattle.aig_edits.specs.Joints.{IsJoint}
 
 -- the lists of both were read, and there is no other error
@@ -24,6 +24,7 @@ AreListsOfBoth f g (Err e) = ⊥
 abbrev pub CanPair : Pairing → Circuit → Circuit → Type 0
 CanPair Miter a b = HaveSameCounts a b
 CanPair Certificate a b = HasLeavesOf b a
+CanPair Merge a b = Unit {0}
 
 -- the lists are those of the joint circuit, if the counts fit
 abbrev pub IsPaired : Pairing → Circuit → Circuit → Result CircuitLists PairError → Type 0

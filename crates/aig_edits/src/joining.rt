@@ -6,13 +6,14 @@ ghost use Rattle.aig_circuit.specs.View.{lists_circuit};
 ghost use Rattle.aig_edits.specs.Pairs.{ReadsPair};
 ghost use Rattle.aig_edits.specs.Joints.{IsOwn, Joins, first_verdict, second_verdict};
 ghost use Rattle.aig_edits.specs.Parts.{IsJoinOf, IsPaired};
-ghost use Rattle.aig_edits.specs.declared.pairing.Pairing.TheVariants.{Certificate, Miter};
+ghost use Rattle.aig_edits.specs.declared.pairing.Pairing.TheVariants.{Certificate, Merge, Miter};
 
 use crate::error::PairError;
 use crate::format::fits_format;
 use crate::pairing::Pairing;
 use crate::pairs::read_pair;
 use aig_base::Source;
+use aig_change::{merge, merging_is_circuit, merging_pairs_runs};
 use aig_circuit::{CircuitLists, CircuitView};
 use aig_join::{certified_by, has_leaves_of, have_same_counts, miter};
 use std::alloc::Global;
@@ -40,17 +41,33 @@ fn certificate_of(
     Ok(certified_by(first, second)?)
 }
 
+/// Both circuits side by side.
+fn merged_of(first: &CircuitView<'_>, second: &CircuitView<'_>) -> Result<CircuitLists, PairError>
+    requires first { IsCircuit first.now }
+    requires second { IsCircuit second.now }
+    ensures { IsPaired Merge first.now second.now result }
+{
+    merging_is_circuit();
+    merging_pairs_runs();
+    let mut lists = first.to_lists()?;
+    merge(&mut lists, second)?;
+    Ok(lists)
+}
+
 /// The joint circuit of two, if they fit.
 fn pair_of(
     pairing: Pairing,
     first: &CircuitView<'_>,
     second: &CircuitView<'_>,
 ) -> Result<CircuitLists, PairError>
+    requires first { IsCircuit first.now }
+    requires second { IsCircuit second.now }
     ensures { IsPaired pairing first.now second.now result }
 {
     match pairing {
         Pairing::Miter => miter_of(first, second),
         Pairing::Certificate => certificate_of(first, second),
+        Pairing::Merge => merged_of(first, second),
     }
 }
 
@@ -76,7 +93,7 @@ fn join_of(
 /// Requires `1 <= limit <= 2^31`.
 ///
 /// Inputs and latches are matched by position. A miter is made of files with as many inputs, as many outputs and as many bad
-/// literals. A certificate has as many inputs and latches as the file that it stands beside, or more.
+/// literals. A certificate has as many inputs and latches as the file that it stands beside, or more. Any two files are merged.
 ///
 /// # Errors
 ///

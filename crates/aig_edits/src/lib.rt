@@ -1,6 +1,10 @@
 //! What is made of AIGER files and printed as AIGER text again: from the bytes of the files to those of the text.
 #![tactic(auto)]
 
+mod edit;
+mod edit_error;
+mod edit_printing;
+mod editing;
 mod error;
 mod format;
 mod joining;
@@ -8,6 +12,9 @@ mod pairing;
 mod pairs;
 mod printing;
 
+pub use edit::Edit;
+pub use edit_error::EditError;
+pub use edit_printing::print_edit;
 pub use error::PairError;
 pub use joining::read_joint;
 pub use pairing::Pairing;

@@ -8,4 +8,6 @@ pub enum Pairing {
     /// The first beside the second, its witness circuit: bad where the first one is, where the second one is, and where a
     /// constraint of the second one doesn't hold.
     Certificate,
+    /// Both side by side, with no node shared but false: each list of the first, and then that of the second.
+    Merge,
 }

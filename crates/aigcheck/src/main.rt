@@ -4,7 +4,8 @@
 use aig_checks::{USAGE, act};
 pub use aig_checks::{
     CheckError, Command, FileCommand, PairCommand, parse, print_certified, print_clauses,
-    print_equal, print_inductive, print_refuted, print_run, print_window, print_witness,
+    print_equal, print_inductive, print_obligations, print_refuted, print_run, print_window,
+    print_witness,
 };
 use aig_command_line::{FlushedWriter, StandardError, SystemFiles, end, words};
 use std::io;

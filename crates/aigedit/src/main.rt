@@ -1,4 +1,4 @@
-//! `aigedit` prints what it makes of AIGER files: miters, and files beside their certificates.
+//! `aigedit` prints what it makes of AIGER files: of one file a changed circuit, of two their joint circuit.
 #![tactic(auto)]
 
 use aig_command_line::{FlushedWriter, StandardError, SystemFiles, end, words};
@@ -6,7 +6,9 @@ use aig_edit_commands::act;
 use std::io;
 use std::process::ExitCode;
 
-const USAGE: &str = "usage: aigedit miter FILE OTHER, join FILE CERT";
+const USAGE: &str =
+    "usage: aigedit refine FILE, reencode FILE, unroll FILE K, move FILE, compress FILE, bads FILE, \
+    miter FILE OTHER, join FILE CERT, merge FILE OTHER";
 
 fn main(rt: HostRuntime) -> ExitCode {
     let ending = act(

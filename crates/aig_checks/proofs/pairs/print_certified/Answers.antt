@@ -15,7 +15,7 @@ returns-in_err-check_certified g c =
     let p = err_from_is_err_and c.from_residual.result c.from_residual.ensures.1 in
     let told = c.in_err-check_certified.ensures in
     let e = c.in_err-check_certified.field-0.0 in
-    rw (p.1, p.2) (pair_refused (Certifies LIMIT) e told.reads (λ f h refuses. refuses) refl told.base_unread told.step_unread (λ is. told.base_stream (err_of e (certificate.Query (answers.Refutation refutation.Stream)) is)) (λ is. told.step_stream (err_of e (certificate.Window (answers.Refutation refutation.Stream)) is)))
+    rw (p.1, p.2) (pair_refused (Certifies LIMIT) e told.reads (λ own. own) (λ f h refuses. refuses) refl told.base_unread told.step_unread (λ is. told.base_stream (err_of e (certificate.Query (answers.Refutation refutation.Stream)) is)) (λ is. told.step_stream (err_of e (certificate.Window (answers.Refutation refutation.Stream)) is)))
 
 pub returns-in_err-write_text : goal.returns-in_err-write_text
 returns-in_err-write_text g c =

@@ -15,7 +15,7 @@ returns-in_err-check_equal g c =
     let p = err_from_is_err_and c.from_residual.result c.from_residual.ensures.1 in
     let told = c.in_err-check_equal.ensures in
     let e = c.in_err-check_equal.field-0.0 in
-    rw (p.1, p.2) (pair_refused (Equals LIMIT c.args.k) e told.reads (λ f h refuses. refuses) refl told.unread (λ leaves. refl) (λ is. told.stream (err_of e (certificate.Query (answers.Refutation refutation.Stream)) is)) (λ is. absurd (no_window e (answers.Refutation refutation.Stream) told.reads is)))
+    rw (p.1, p.2) (pair_refused (Equals LIMIT c.args.k) e told.reads (λ own. own) (λ f h refuses. refuses) refl told.unread (λ leaves. refl) (λ is. told.stream (err_of e (certificate.Query (answers.Refutation refutation.Stream)) is)) (λ is. absurd (no_window e (answers.Refutation refutation.Stream) told.reads is)))
 
 pub returns-in_err-write_line : goal.returns-in_err-write_line
 returns-in_err-write_line g c =

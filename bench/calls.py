@@ -1,0 +1,103 @@
+#!/usr/bin/env python3
+"""Measures calls in process beside the programs: calls.py FILE ..
+
+For each file it takes the queries for the steps 0 to a bound, as far as they have no solution, and prints how long checking their proofs
+takes: by `check_refuted` of lib/python/aig.py, and by a process of aigcheck for each. And for a large circuit, which it makes, each call
+that prints beside its program. In processor seconds, the least of some runs. It needs cadical, and the libraries that tests/archive.py
+builds.
+"""
+import argparse
+import os
+import pathlib
+import subprocess
+import sys
+import tempfile
+import time
+
+from measuring import HERE, make, row, run
+
+TOP = pathlib.Path(HERE).parent
+RUNS = 5
+
+
+def least(work):
+    """The least processor time of some runs of something, in this process."""
+    times = []
+    for _ in range(RUNS):
+        start = time.process_time()
+        work()
+        times.append(time.process_time() - start)
+    return min(times)
+
+
+def least_of_programs(runs):
+    """The least processor time of some rounds of runs of programs, by their words."""
+    return min(sum(run(list(map(str, words)))[1] for words in runs) for _ in range(RUNS))
+
+
+def proofs(aig, file, bound, folder):
+    """The proofs of the steps up to a bound that have no solution."""
+    for k in range(bound + 1):
+        query, proof = folder / "query", folder / "proof"
+        query.write_bytes(aig.query(file, k))
+        ended = subprocess.run(["cadical", "-q", "--no-binary", query, proof], stdout=subprocess.DEVNULL)
+        if ended.returncode != 20:
+            return
+        yield k, proof.read_bytes()
+
+
+def measure_checks(aig, given, path, folder):
+    """A row of a file's checks."""
+    file = path.read_bytes()
+    found = list(proofs(aig, file, given.bound, folder))
+    for k, proof in found:
+        (folder / f"proof{k}").write_bytes(proof)
+
+    def in_process():
+        for k, proof in found:
+            aig.check_refuted(file, k, proof)
+
+    if found:
+        runs = [[given.aigcheck, "refuted", path, k, folder / f"proof{k}"] for k, _ in found]
+        here, there = least(in_process), least_of_programs(runs)
+        row([path.name, str(len(found)), f"{1000 * here / len(found):.2f}", f"{1000 * there / len(found):.2f}"])
+
+
+def measure_prints(aig, given, folder):
+    """Rows of the calls that print, on a circuit of so many gates."""
+    path = folder / "large.aag"
+    make(given.kind, given.gates, str(path))
+    file = path.read_bytes()
+    for name, call, words in (
+        ("text", lambda: aig.text(file), ["text", path]),
+        ("binary", lambda: aig.binary(file), ["binary", path, folder / "large.aig"]),
+        ("strash", lambda: aig.strash(file), ["strash", path]),
+        ("cnf 0", lambda: aig.cnf(file, 0), ["cnf", path, "0"]),
+    ):
+        row([name, f"{least(call):.3f}", f"{least_of_programs([[given.aigtool, *words]]):.3f}"])
+
+
+def main():
+    parser = argparse.ArgumentParser(description=__doc__, formatter_class=argparse.RawDescriptionHelpFormatter)
+    for name in ("aigtool", "aigcheck"):
+        parser.add_argument(f"--{name}", metavar="PATH", default=TOP / "crates" / name / "out" / name)
+    parser.add_argument("--bound", type=int, default=10, metavar="K")
+    parser.add_argument("--gates", type=int, default=1_000_000)
+    parser.add_argument("--kind", default="random")
+    parser.add_argument("files", type=pathlib.Path, nargs="*")
+    given = parser.parse_args()
+    os.environ.setdefault("LIBAIG", str(TOP / "crates" / "aig_c" / "out" / "libaig.so"))
+    sys.path.insert(0, str(TOP / "lib" / "python"))
+    import aig
+
+    with tempfile.TemporaryDirectory() as place:
+        folder = pathlib.Path(place)
+        row(["Call", "in process, s", "program, s"])
+        measure_prints(aig, given, folder)
+        row(["File", "proofs", "in process, ms each", "aigcheck, ms each"])
+        for path in given.files:
+            measure_checks(aig, given, path, folder)
+
+
+if __name__ == "__main__":
+    main()

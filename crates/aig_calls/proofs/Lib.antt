@@ -1,0 +1,5 @@
+mod Making
+mod Giving
+mod Saying
+mod Pairing
+mod Listing

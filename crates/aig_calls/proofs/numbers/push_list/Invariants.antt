@@ -1,0 +1,8 @@
+use Rattle.std.proofs.Common.{◌≡◌, ◌++◌, take}
+use Rattle.std.specs.List.{flat_map}
+use Rattle.aig_calls.specs.Numbers.{clause_numbers}
+use Rattle.aig_calls.proofs.numbers.push_list.Given as goal
+
+abbrev pub invariant-loop-i : goal.invariant-loop-i
+invariant-loop-i l =
+    l.numbers.items ≡ l.fn.numbers.items ++ flat_map clause_numbers (take l.i l.clauses)

@@ -1,0 +1,8 @@
+use Rattle.std.proofs.Common.{◌≡◌, ◌++◌, take}
+use Rattle.std.specs.List.{flat_map}
+use Rattle.aig_calls.specs.Numbers.{clause_numbers}
+use Rattle.aig_calls.proofs.numbers.push_lists.Given as goal
+
+abbrev pub invariant-loop-v : goal.invariant-loop-v
+invariant-loop-v l =
+    l.numbers.items ≡ l.fn.numbers.items ++ flat_map (flat_map clause_numbers) (take l.v l.clauses)

@@ -1,0 +1,18 @@
+use Rattle.aig_answers.specs.Answers.{asked_verdict}
+use Rattle.aig_commands.specs.declared.tool.TheConstants.{LIMIT}
+use Rattle.aig_calls.specs.Numbers.{IsListed}
+use Rattle.aig_calls.specs.Statuses.{IsOfText}
+use Rattle.aig_calls.proofs.Giving.{gives_at, lists}
+use Rattle.aig_calls.proofs.numbers.query_numbers.Goals as goal
+
+pub returns-in-Ok-clause-gives : goal.returns-in-Ok-clause-gives
+returns-in-Ok-clause-gives c =
+    let k = c.args.k in
+    let step = c.in-Ok.ensures.ok in
+    let bytes = c.args.file.now in
+    let optimize = c.args.optimize in
+    let variables = c.give_list.new.variables in
+    let made = rw step.0 at c.ask.ensures in
+    gives_at (asked_verdict LIMIT k) LIMIT bytes (IsListed k optimize variables) k IsOfText _ _ _ _ _ step.1
+    (lists (asked_verdict LIMIT k) LIMIT bytes IsOfText k optimize _ _ _ _ c.args.variables.now variables c.ask.result _ made
+    c.give_list.ensures)

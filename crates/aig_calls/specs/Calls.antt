@@ -1,0 +1,106 @@
+-- Part of what is promised.
+-- What a call does, by the bytes that it is given: what it leaves in its caller's memory, and what
+-- its status says.
+use Rattle.std.specs.Prelude.{◌≡◌, ℕ, ◌<◌, ◌≤◌, ◌++◌, if◌then◌else◌, Bool, List, length, drop, Some}
+use Rattle.aig_certify.specs.declared.window.Window.{Window}
+use Rattle.aig_certify.specs.declared.window.Window.TheVariants.{Distinct, Plain}
+use Rattle.aig_circuit.specs.Circuit.{Circuit}
+use Rattle.aig_edits.specs.Joints.{DoFit, IsJointOf, IsRefusalOf}
+use Rattle.aig_edits.specs.declared.error.PairError.TheVariants.{TooLarge}
+use Rattle.aig_edits.specs.declared.pairing.Pairing.{Pairing}
+use Rattle.aig_format.specs.Circuit.{text_of}
+use Rattle.aig_format.specs.File.{File}
+use Rattle.aig_format.specs.Fits.{Accepts}
+use Rattle.aig_reader.specs.Verdicts.{Accepted, Verdict}
+use Rattle.aig_witness_check.specs.declared.file.Shown.{Shown}
+use Rattle.aig_calls.specs.Statuses.{IsOfPair, Tells, done, misfit, said_by, said_of_other, small, unwritable}
+
+-- ---- words
+
+-- the form of a window, by whether its states are told apart
+abbrev pub form_of : Bool → Window
+form_of distinct = if distinct then Distinct else Plain
+
+-- this bad state property is shown at this step
+abbrev pub shown_at : ℕ → ℕ → Shown
+shown_at bad step = record { bad = bad; step = step }
+
+-- ---- files
+
+-- the bytes are a file of which this holds
+abbrev pub IsFileWith : ℕ → List ℕ → (File → Type 0) → Type 0
+IsFileWith limit bytes Holds = (f : File) × Accepts bytes limit f × Holds f
+
+-- these and those bytes are two files of which this holds
+abbrev pub AreFilesWith : ℕ → List ℕ → List ℕ → (File → File → Type 0) → Type 0
+AreFilesWith limit bytes others Holds =
+    IsFileWith limit bytes (λ f. IsFileWith limit others (Holds f))
+
+-- ---- memory
+
+-- What an answer of these items leaves in its caller's memory: they are put at its front, and else,
+-- where they don't fit, it stays as it was. `needed` says in both cases how many there are.
+pub record IsGiven {X : Type 0} (status : ℕ) (items old new : List X) (needed : ℕ) : Type 0 where
+  pub count : needed ≡ length items
+  pub whole : status ≡ done → new ≡ items ++ drop (length items) old
+  pub short : status ≡ small → (length old < length items) × (new ≡ old)
+  pub only : status < 2
+
+-- ---- one file
+
+-- What a call that gives an answer about a file does: without one its caller's memory stays as it
+-- was.
+pub record Gives {X : Type 0} (of : File → Verdict) (limit : ℕ) (Means : File → List X → Type 0)
+    (IsOwn : ℕ → Type 0) (bytes : List ℕ) (status : ℕ) (old new : List X) (before needed : ℕ)
+    : Type 0 where
+  pub said : Tells of limit bytes (said_by status)
+  pub own : IsOwn status
+  pub answer : status < 2 → (items : List X) × IsFileWith limit bytes (λ f. Means f items)
+      × IsGiven status items old new needed
+  pub kept : 2 ≤ status → (new ≡ old) × (needed ≡ before)
+
+-- what a call that checks something of a file says: status 0 only where this holds of the file
+pub record Checks (of : File → Verdict) (limit : ℕ) (Holds : File → Type 0) (IsOwn : ℕ → Type 0)
+    (bytes : List ℕ) (status : ℕ) : Type 0 where
+  pub said : Tells of limit bytes (said_by status)
+  pub own : IsOwn status
+  pub answer : status ≡ done → IsFileWith limit bytes Holds
+
+-- ---- two files
+
+-- what a status says of the bytes of two files: of the second one's, where the first one is taken
+pub record TellsOfPair (limit : ℕ) (bytes others : List ℕ) (status : ℕ) : Type 0 where
+  pub first : Tells (λ _. Accepted) limit bytes (said_by status)
+  pub second : said_by status ≡ Some Accepted
+      → Tells (λ _. Accepted) limit others (said_of_other status)
+
+-- why there is no circuit of two files
+pub record TellsMisfit (pairing : Pairing) (limit : ℕ) (bytes others : List ℕ) (status : ℕ) : Type 0
+  where
+    pub counts : status ≡ misfit
+        → AreFilesWith limit bytes others (λ f g. ¬ DoFit pairing f g)
+    pub format : status ≡ unwritable
+        → AreFilesWith limit bytes others (λ f g. IsRefusalOf pairing f g TooLarge)
+
+-- the text is that of the circuit of the two files
+abbrev pub IsJointText : Pairing → File → File → List ℕ → Type 0
+IsJointText pairing f g text = (m : Circuit) × IsJointOf pairing f g m × (text ≡ text_of m)
+
+-- what a call that gives the text of the circuit of two files does
+pub record Joins (pairing : Pairing) (limit : ℕ) (bytes others : List ℕ) (status : ℕ)
+    (old new : List ℕ) (before needed : ℕ) : Type 0 where
+  pub said : TellsOfPair limit bytes others status
+  pub own : IsOfPair status
+  pub misfit : TellsMisfit pairing limit bytes others status
+  pub answer : status < 2
+      → (text : List ℕ) × AreFilesWith limit bytes others (λ f g. IsJointText pairing f g text)
+      × IsGiven status text old new needed
+  pub kept : 2 ≤ status → (new ≡ old) × (needed ≡ before)
+
+-- what a call that checks something of two files says: status 0 only where this holds of them
+pub record ChecksPair (pairing : Pairing) (limit : ℕ) (Holds : File → File → Type 0)
+    (IsOwn : ℕ → Type 0) (bytes others : List ℕ) (status : ℕ) : Type 0 where
+  pub said : TellsOfPair limit bytes others status
+  pub own : IsOwn status
+  pub misfit : TellsMisfit pairing limit bytes others status
+  pub answer : status ≡ done → AreFilesWith limit bytes others Holds

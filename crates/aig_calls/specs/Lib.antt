@@ -1,0 +1,4 @@
+pub mod Statuses
+pub mod Calls
+pub mod Parts
+pub mod Numbers

@@ -1,0 +1,89 @@
+-- Serves private clauses alone.
+-- What the parts of a call do.
+use Rattle.std.specs.Prelude.{◌≡◌, ℕ, ◌+◌, ◌≤◌, nat_lt, if◌then◌else◌, List, Option, Some, Result, Ok, Err, IfErr, IfOk, IfSome, Vec, ℤ}
+use Rattle.std.specs.declared.alloc.Global.{Global}
+use Rattle.aig_checks.specs.Running.{Answers, file_verdict}
+use Rattle.aig_checks.specs.declared.command.FileCommand.{FileCommand}
+use Rattle.aig_checks.specs.declared.command.FileCommand.TheVariants as commands
+use Rattle.aig_edits.specs.declared.pairing.Pairing.{Pairing}
+use Rattle.aig_format.specs.File.{File}
+use Rattle.aig_reader.specs.Verdicts.{Accepted, IsSettled, Verdict}
+use Rattle.aig_calls.specs.Statuses.{IsOfPair, IsOfSolution, IsOfText, Tells, done, misfit, said_by, said_of_other, small, unwritable}
+use Rattle.aig_calls.specs.declared.numbers.Listed.{Listed}
+use Rattle.aig_calls.specs.Calls.{AreFilesWith, IsFileWith, IsGiven, IsJointText, TellsMisfit, TellsOfPair}
+
+-- what a status says is this verdict, and nothing where memory or the stream hides it
+abbrev pub SaysOnly : Option Verdict → Verdict → Type 0
+SaysOnly said v = IfSome said (λ x. (x ≡ v) × IsSettled v)
+
+-- the statuses of a call that gives what a command prints
+abbrev pub IsOwnOf : FileCommand → ℕ → Type 0
+IsOwnOf (commands.Clauses k optimize) status = IsOfText status
+IsOwnOf (commands.Window k form optimize) status = IsOfText status
+IsOwnOf (commands.Witness k optimize) status = IsOfSolution status
+IsOwnOf c status = Unit {0}
+
+-- What the status of a call on two files says that has this error: of the first file's bytes, of
+-- the second one's where the first one is taken, and why no circuit is made of them.
+pub record IsPairStatus {E : Type 0} (first second : E → Verdict) (counts format e : E) (status : ℕ)
+    : Type 0 where
+  pub first_said : SaysOnly (said_by status) (first e)
+  pub second_said : said_by status ≡ Some Accepted → SaysOnly (said_of_other status) (second e)
+  pub misfit : status ≡ misfit → e ≡ counts
+  pub large : status ≡ unwritable → e ≡ format
+  pub least : 2 ≤ status
+
+-- the status with a flag, which one that says nothing hasn't
+abbrev pub flagged : ℕ → ℕ → ℕ
+flagged flag status = if nat_lt status 4 then status else flag + status
+
+-- what a result whose error is a status says
+abbrev pub said_in : {T : Type 0} → Result T ℕ → Option Verdict
+said_in (Ok made) = Some Accepted
+said_in (Err status) = said_by status
+
+-- each status of a result: it is the error, or that of an answer
+abbrev pub HasOwn : {T : Type 0} → (ℕ → Type 0) → Result T ℕ → Type 0
+HasOwn IsOwn (Ok made) = IsOwn done × IsOwn small
+HasOwn IsOwn (Err status) = (2 ≤ status) × IsOwn status
+
+-- what is made of a file, or a status that says why nothing is
+pub record Makes {T : Type 0} (of : File → Verdict) (limit : ℕ) (Means : File → T → Type 0)
+    (IsOwn : ℕ → Type 0) (bytes : List ℕ) (result : Result T ℕ) : Type 0 where
+  pub said : Tells of limit bytes (said_in result)
+  pub own : HasOwn IsOwn result
+  pub answer : IfOk result (λ made. IsFileWith limit bytes (λ f. Means f made))
+
+-- what a command of `aigcheck` prints of a file and what is given beside it is made
+abbrev pub MakesChecked : ℕ → FileCommand → Option (List ℕ) → List ℕ → Result (Vec ℕ Global) ℕ
+    → Type 0
+MakesChecked limit c given bytes result =
+    Makes (file_verdict c limit) limit (λ f made. Answers c given f made.items) (IsOwnOf c) bytes
+    result
+
+-- what was made is given, or there is a status
+abbrev pub Puts : {X : Type 0} → Result (Vec X Global) ℕ → ℕ → List X → List X → ℕ → ℕ → Type 0
+Puts (Ok made) status old new before needed = IsGiven status made.items old new needed
+Puts (Err error) status old new before needed =
+    (status ≡ error) × (new ≡ old) × (needed ≡ before)
+
+-- the numbers that were listed are given, with the count of variables, or there is a status
+abbrev pub PutsList : Result Listed ℕ → ℕ → List ℤ → List ℤ → ℕ → ℕ → ℕ → ℕ → Type 0
+PutsList (Ok listed) status old new before needed had variables =
+    IsGiven status listed.numbers.items old new needed × (variables ≡ listed.variables)
+PutsList (Err error) status old new before needed had variables =
+    (status ≡ error) × (new ≡ old) × (needed ≡ before) × (variables ≡ had)
+
+-- the status of a text, whose error is one
+abbrev pub status_of : {T : Type 0} → Result T ℕ → ℕ
+status_of (Ok made) = done
+status_of (Err status) = status
+
+-- the text of the circuit of two files, or a status that says why there is none
+pub record JoinsText (pairing : Pairing) (limit : ℕ) (bytes others : List ℕ)
+    (result : Result (Vec ℕ Global) ℕ) : Type 0 where
+  pub said : TellsOfPair limit bytes others (status_of result)
+  pub answer : IfOk result
+      (λ text. AreFilesWith limit bytes others (λ f g. IsJointText pairing f g text.items))
+  pub misfit : IfErr result
+      (λ status. TellsMisfit pairing limit bytes others status × (2 ≤ status) × IsOfPair status)

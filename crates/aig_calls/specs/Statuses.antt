@@ -1,0 +1,103 @@
+-- Part of what is promised.
+-- What a status says: the number by which a call says how it ended.
+use Rattle.std.specs.Prelude.{◌≡◌, ◌≢◌, ◌⊎◌, ℕ, ◌<◌, ◌≤◌, ◌^◌, ◌-◌, ◌==◌, ◌&&◌, ◌||◌, nat_le, nat_lt, if◌then◌else◌, Bool, IsTrue, List, Option, None, Some, IfSome}
+use Rattle.aig_format.specs.File.{File}
+use Rattle.aig_reader.specs.Verdicts.{Accepted, Crowded, IsVerdictOn, NoBads, Refused, TooLarge, TooMany, Verdict}
+
+-- ---- names
+
+-- done
+abbrev pub done : ℕ
+done = 0
+
+-- the answer doesn't fit the caller's memory
+abbrev pub small : ℕ
+small = 1
+
+-- K is 2^32 or more
+abbrev pub many_steps : ℕ
+many_steps = 4
+
+-- the counts of two files don't fit
+abbrev pub misfit : ℕ
+misfit = 8
+
+-- the circuit that is made of two files is too large for the format
+abbrev pub unwritable : ℕ
+unwritable = 9
+
+-- ---- what is said of a file's bytes
+
+-- what a status says of the bytes of the file, of two files the first one, if anything
+abbrev pub said_by : ℕ → Option Verdict
+said_by status =
+    if nat_lt status 2 then Some Accepted
+    else if nat_lt status 5 then None
+    else if status == 5 then Some TooLarge
+    else if status == 6 then Some NoBads
+    else if status == 7 then Some Crowded
+    else if status == 11 then Some TooMany
+    else if nat_le 10 status && nat_lt status 32 then Some Refused
+    else Some Accepted
+
+-- one of a call on two files of the second one's, where the first one is taken
+abbrev pub said_of_other : ℕ → Option Verdict
+said_of_other status =
+    if nat_le 256 status && nat_lt status 512 then said_by (status - 256)
+    else if nat_lt status 5 then said_by status
+    else Some Accepted
+
+-- where something is said, it is the verdict on these bytes
+abbrev pub Tells : (File → Verdict) → ℕ → List ℕ → Option Verdict → Type 0
+Tells of limit bytes said = IfSome said (IsVerdictOn of limit bytes)
+
+-- ---- which statuses a call has
+
+-- the file is refused, or memory was
+abbrev pub is_refusal : ℕ → Bool
+is_refusal status =
+    nat_le 2 status && nat_lt status 4 || nat_le 5 status && nat_lt status 8
+    || nat_le 10 status && nat_lt status 32
+
+-- a proof is refused
+abbrev pub is_proof_fault : ℕ → Bool
+is_proof_fault status = nat_le 40 status && nat_lt status 60
+
+-- a witness is, or it shows no bad state
+abbrev pub is_witness_fault : ℕ → Bool
+is_witness_fault status = nat_le 60 status && nat_lt status 80
+
+-- a solver's answer is, or its witness shows no bad state
+abbrev pub is_solution_fault : ℕ → Bool
+is_solution_fault status = nat_le 70 status && nat_lt status 100
+
+-- the statuses of a call that gives an answer about a file
+abbrev pub IsOfText : ℕ → Type 0
+IsOfText status = IsTrue (nat_lt status 2 || is_refusal status)
+
+-- or about a file and a solver's answer
+abbrev pub IsOfSolution : ℕ → Type 0
+IsOfSolution status = IsTrue (nat_lt status 2 || (is_refusal status || is_solution_fault status))
+
+-- and of one that checks a proof
+abbrev pub IsOfProof : ℕ → Type 0
+IsOfProof status = IsTrue (status == 0 || (is_refusal status || is_proof_fault status))
+
+-- or a witness
+abbrev pub IsOfWitness : ℕ → Type 0
+IsOfWitness status = IsTrue (status == 0 || (is_refusal status || is_witness_fault status))
+
+-- of one that gives the text of two files' circuit: one of the files is refused, or they are
+abbrev pub IsOfPair : ℕ → Type 0
+IsOfPair status =
+    (status < 4) ⊎ ((8 ≤ status) × (status < 32)) ⊎ ((264 ≤ status) × (status < 288))
+
+-- and of one that checks proofs about them: or the circuit's query, its window, or a proof is
+abbrev pub IsOfPairProof : ℕ → Type 0
+IsOfPairProof status =
+    (status ≢ small)
+    × (IsOfPair status ⊎ ((516 ≤ status) × (status < 572)) ⊎ ((1028 ≤ status) × (status < 1084)))
+
+-- a call for step K refuses a K of 2^32 or more, and has else one of these statuses
+abbrev pub AtStep : ℕ → (ℕ → Type 0) → ℕ → Type 0
+AtStep k IsOwn status = (2 ^ 32 ≤ k → status ≡ many_steps) × (k < 2 ^ 32 → IsOwn status)

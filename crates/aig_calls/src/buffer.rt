@@ -1,0 +1,30 @@
+//! Memory of the caller.
+
+ghost use Rattle.std.specs.Prelude.{◌≡◌};
+ghost use Rattle.aig_calls.specs.Calls.{IsGiven};
+ghost use Rattle.aig_calls.specs.Parts.{Puts};
+
+use crate::status::{DONE, SMALL};
+
+/// Copies items to the front of the caller's memory, where they fit, and says how many there are.
+pub(crate) fn give<T: Copy>(items: &[T], out: &mut [T], needed: &mut usize) -> u32
+    ensures { IsGiven result items.now out.old out.new needed.new }
+{
+    let count = items.len();
+    *needed = count;
+    if out.len() < count {
+        return SMALL;
+    }
+    out[..count].copy_from_slice(items);
+    DONE
+}
+
+/// Gives what was made, if anything.
+pub(crate) fn put<T: Copy>(made: Result<Vec<T>, u32>, out: &mut [T], needed: &mut usize) -> u32
+    ensures { Puts made result out.old out.new needed.old needed.new }
+{
+    match made {
+        Ok(items) => give(items.as_slice(), out, needed),
+        Err(status) => status,
+    }
+}

@@ -1,0 +1,79 @@
+//! Calls that check proofs about two files.
+
+ghost use Rattle.std.specs.Prelude.{ℕ};
+ghost use Rattle.aig_edits.specs.declared.pairing.Pairing.TheVariants.{Certificate, Miter};
+ghost use Rattle.aig_join.specs.Files.{AreEqualMachinesAt, HasLinesOf, HaveSameFileCounts};
+ghost use Rattle.aig_runs.specs.Queries.{IsSafeTo};
+ghost use Rattle.aig_calls.specs.Calls.{ChecksPair};
+ghost use Rattle.aig_calls.specs.Statuses.{AtStep, IsOfPairProof};
+
+use crate::status::{DONE, of_certificate};
+use crate::steps::step_of;
+use aig_base::FromRead;
+use aig_commands::LIMIT;
+use std::alloc::Global;
+
+/// Checks that a certificate, a witness circuit, shows that no bad state of a file's machine is ever reached: by proofs, in LRAT or
+/// DRAT, of the joint circuit's query for step 0 and of its plain window of two steps.
+pub fn check_certified(
+    alloc: Global,
+    file: &[u8],
+    certificate: &[u8],
+    optimize: bool,
+    base: &[u8],
+    step: &[u8],
+) -> u32
+    ensures { ChecksPair Certificate LIMIT (λ f g. HasLinesOf g f × ((n : ℕ) → IsSafeTo f n))
+        IsOfPairProof file.now certificate.now result }
+{
+    let mut first = FromRead::new(file);
+    let mut second = FromRead::new(certificate);
+    let mut base = FromRead::new(base);
+    let mut step = FromRead::new(step);
+    let (r, s) = (&mut first, &mut second);
+    match aig_certificates::check_certified(alloc, r, s, LIMIT, optimize, &mut base, &mut step) {
+        Ok(()) => DONE,
+        Err(error) => of_certificate(error),
+    }
+}
+
+/// Checks a proof for the query of two files' miter for step `k`.
+fn refute_miter(
+    alloc: Global,
+    file: &[u8],
+    other: &[u8],
+    k: usize,
+    optimize: bool,
+    proof: &[u8],
+) -> u32
+    ensures { ChecksPair Miter LIMIT (λ f g. HaveSameFileCounts f g × AreEqualMachinesAt f g k)
+        IsOfPairProof file.now other.now result }
+{
+    let mut first = FromRead::new(file);
+    let mut second = FromRead::new(other);
+    let mut lines = FromRead::new(proof);
+    let (r, s) = (&mut first, &mut second);
+    match aig_certificates::check_equal(alloc, r, s, LIMIT, k, optimize, &mut lines) {
+        Ok(()) => DONE,
+        Err(error) => of_certificate(error),
+    }
+}
+
+/// Checks a proof, in LRAT or DRAT, that the query of two files' miter for step `k` can't be satisfied: then their machines are
+/// equal at that step.
+pub fn check_equal(
+    alloc: Global,
+    file: &[u8],
+    other: &[u8],
+    k: u64,
+    optimize: bool,
+    proof: &[u8],
+) -> u32
+    ensures { ChecksPair Miter LIMIT (λ f g. HaveSameFileCounts f g × AreEqualMachinesAt f g k)
+        (AtStep k IsOfPairProof) file.now other.now result }
+{
+    match step_of(k) {
+        Ok(k) => refute_miter(alloc, file, other, k, optimize, proof),
+        Err(status) => status,
+    }
+}

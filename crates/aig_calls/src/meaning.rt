@@ -1,0 +1,130 @@
+//! What a status says, in words.
+
+ghost use Rattle.std.specs.Prelude.{◌≡◌, ◌<◌, ◌≤◌, IfErr, List, ℕ};
+ghost use Rattle.aig_calls.specs.Calls.{IsGiven};
+
+use crate::buffer::put;
+use crate::status::{MEMORY, OTHER, QUERY, WINDOW};
+use std::alloc::Global;
+
+/// What is said before the words of a status with a flag.
+fn prefix_of(status: u32) -> &'static [u8] {
+    if status >= WINDOW {
+        b"window: "
+    } else if status >= QUERY {
+        b"query: "
+    } else if status >= OTHER {
+        b"other file: "
+    } else {
+        b""
+    }
+}
+
+/// The words of a status up to 31.
+fn words_of_file(status: u32) -> &'static [u8] {
+    match status {
+        0 => b"done",
+        1 => b"too little room",
+        2 => b"out of memory",
+        3 => b"read failed",
+        4 => b"step past 2^32 - 1",
+        5 => b"unrolled circuit may pass the limit",
+        6 => b"no bad state property",
+        7 => b"window may pass the limit",
+        8 => b"files do not fit",
+        9 => b"too large for the format",
+        10 => b"bad header line",
+        11 => b"too many variables",
+        12 => b"bad difference",
+        13 => b"bad name line",
+        16 => b"bad line in inputs",
+        17 => b"bad line in latches",
+        18 => b"bad line in outputs",
+        19 => b"bad line in bads",
+        20 => b"bad line in constraints",
+        21 => b"bad line in justice",
+        22 => b"bad line in fairness",
+        23 => b"bad line in gates",
+        24 => b"bad literal in inputs",
+        25 => b"bad literal in latches",
+        26 => b"bad literal in outputs",
+        27 => b"bad literal in bads",
+        28 => b"bad literal in constraints",
+        29 => b"bad literal in justice",
+        30 => b"bad literal in fairness",
+        31 => b"bad literal in gates",
+        _ => b"no status",
+    }
+}
+
+/// The words of a status from 32 on, without its flag: of what is given beside a file.
+fn words_of_given(status: u32) -> &'static [u8] {
+    match status {
+        40 => b"literal of no variable in clauses",
+        41 => b"bad proof line",
+        42 => b"literal of no variable in proof",
+        43 => b"number of no clause in proof",
+        44 => b"number used twice in proof",
+        45 => b"number too large in proof",
+        46 => b"proof step does not follow",
+        47 => b"proof step by resolution asymmetry",
+        48 => b"binary proof; text is taken (cadical --no-binary)",
+        49 => b"proof ends before the empty clause",
+        60 => b"no status line 1",
+        61 => b"bad property line",
+        62 => b"bad line of values",
+        63 => b"no witness",
+        70 => b"the state has not a value for each latch",
+        71 => b"a step has not a value for each input",
+        72 => b"no step",
+        73 => b"no such bad state property",
+        74 => b"the state is no start",
+        75 => b"a constraint is not known to hold at a step",
+        76 => b"the bad literal is not known to hold",
+        80 => b"the solver answered UNSATISFIABLE",
+        81 => b"the solver answered UNKNOWN",
+        82 => b"no answer of a solver: lines `s SATISFIABLE` and `v ..` are wanted",
+        83 => b"bad line of a solution",
+        84 => b"bad literal in a solution",
+        85 => b"literal of no variable in a solution",
+        86 => b"literal and its inverse in a solution",
+        87 => b"solution ends before its 0",
+        88 => b"no bad state property is true in the solution",
+        _ => b"no status",
+    }
+}
+
+/// The words of a status.
+fn words_of(status: u32) -> &'static [u8] {
+    let plain = status % OTHER;
+    if plain < 32 {
+        words_of_file(plain)
+    } else {
+        words_of_given(plain)
+    }
+}
+
+/// What a status says, in words. The one error is refused memory.
+fn text_of(alloc: Global, status: u32) -> Result<Vec<u8>, u32>
+    ensures { IfErr result (λ error. error ≡ 2) }
+{
+    let mut text = Vec::new(alloc);
+    match text.extend_from_slice(prefix_of(status)) {
+        Ok(()) => {}
+        Err(_) => return Err(MEMORY),
+    }
+    match text.extend_from_slice(words_of(status)) {
+        Ok(()) => Ok(text),
+        Err(_) => Err(MEMORY),
+    }
+}
+
+/// Gives what a status says, in words: those of the programs.
+pub fn message(alloc: Global, status: u32, out: &mut [u8], needed: &mut usize) -> u32
+    ensures answer { result < 2
+        → (text : List ℕ) × IsGiven result text out.old out.new needed.new }
+    ensures kept { 2 ≤ result
+        → (result ≡ 2) × (out.new ≡ out.old) × (needed.new ≡ needed.old) }
+{
+    put(text_of(alloc, status), out, needed)
+}

@@ -1,0 +1,96 @@
+//! Calls that give what a command of `aigtool` prints of a file.
+
+ghost use Rattle.std.specs.Prelude.{None, Some};
+ghost use Rattle.aig_commands.specs.Running.{Answers, file_verdict, steps_of};
+ghost use Rattle.aig_commands.specs.declared.command.Command.TheVariants as commands;
+ghost use Rattle.aig_calls.specs.Calls.{Gives};
+ghost use Rattle.aig_calls.specs.Parts.{Makes};
+ghost use Rattle.aig_calls.specs.Statuses.{AtStep, IsOfText};
+
+use crate::buffer::put;
+use crate::status::of_tool;
+use crate::steps::step_of;
+use aig_base::{FromRead, ToWrite};
+use aig_commands::{Command, LIMIT, run};
+use std::alloc::Global;
+
+/// The text that a command of `aigtool` puts into its writer.
+fn text(alloc: Global, c: Command, file: &[u8]) -> Result<Vec<u8>, u32>
+    ensures { Makes (file_verdict (steps_of c) LIMIT) LIMIT (λ f made. Answers c f made.items)
+        IsOfText file.now result }
+{
+    let mut source = FromRead::new(file);
+    let mut sink = ToWrite::new(Vec::new(alloc));
+    match run(alloc, c, &mut source, &mut sink) {
+        Ok(()) => Ok(sink.into_inner()),
+        Err(error) => Err(of_tool(error)),
+    }
+}
+
+/// Gives what a command of `aigtool` puts into its writer.
+fn print(alloc: Global, c: Command, file: &[u8], out: &mut [u8], needed: &mut usize) -> u32
+    ensures { Gives (file_verdict (steps_of c) LIMIT) LIMIT (Answers c) IsOfText file.now
+        result out.old out.new needed.old needed.new }
+{
+    put(text(alloc, c, file), out, needed)
+}
+
+/// Gives the text form of a file's circuit.
+pub fn print_text(alloc: Global, file: &[u8], out: &mut [u8], needed: &mut usize) -> u32
+    ensures { Gives (file_verdict None LIMIT) LIMIT (Answers commands.Text) IsOfText file.now
+        result out.old out.new needed.old needed.new }
+{
+    print(alloc, Command::Text, file, out, needed)
+}
+
+/// Gives the binary form of a file's circuit.
+pub fn print_binary(alloc: Global, file: &[u8], out: &mut [u8], needed: &mut usize) -> u32
+    ensures { Gives (file_verdict None LIMIT) LIMIT (Answers commands.Binary) IsOfText file.now
+        result out.old out.new needed.old needed.new }
+{
+    print(alloc, Command::Binary, file, out, needed)
+}
+
+/// Gives the text form of a file's circuit after structural hashing.
+pub fn print_strash(alloc: Global, file: &[u8], out: &mut [u8], needed: &mut usize) -> u32
+    ensures { Gives (file_verdict None LIMIT) LIMIT (Answers commands.Strash) IsOfText file.now
+        result out.old out.new needed.old needed.new }
+{
+    print(alloc, Command::Strash, file, out, needed)
+}
+
+/// Gives the clauses, in DIMACS form, of a file's circuit that is unrolled by `k` steps.
+pub fn print_cnf(
+    alloc: Global,
+    file: &[u8],
+    k: u64,
+    optimize: bool,
+    out: &mut [u8],
+    needed: &mut usize,
+) -> u32
+    ensures { Gives (file_verdict (Some k) LIMIT) LIMIT (Answers (commands.Cnf k optimize))
+        (AtStep k IsOfText) file.now result out.old out.new needed.old needed.new }
+{
+    match step_of(k) {
+        Ok(k) => print(alloc, Command::Cnf { k, optimize }, file, out, needed),
+        Err(status) => status,
+    }
+}
+
+/// Gives the clauses, in DIMACS form, that ask for a run of a file's machine to a bad state at step `k`.
+pub fn print_query(
+    alloc: Global,
+    file: &[u8],
+    k: u64,
+    optimize: bool,
+    out: &mut [u8],
+    needed: &mut usize,
+) -> u32
+    ensures { Gives (file_verdict (Some k) LIMIT) LIMIT (Answers (commands.Query k optimize))
+        (AtStep k IsOfText) file.now result out.old out.new needed.old needed.new }
+{
+    match step_of(k) {
+        Ok(k) => print(alloc, Command::Query { k, optimize }, file, out, needed),
+        Err(status) => status,
+    }
+}

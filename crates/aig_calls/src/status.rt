@@ -1,0 +1,318 @@
+//! The numbers by which calls say how they ended.
+
+ghost use Rattle.std.specs.Prelude.{◌≡◌, ◌⊎◌, ◌<◌, ◌≤◌, ◌||◌, IsTrue, Some};
+ghost use Rattle.aig_answers.specs.Answers as answering;
+ghost use Rattle.aig_answers.specs.Answers.{IsOfWindow};
+ghost use Rattle.aig_checks.specs.Running as checking;
+ghost use Rattle.aig_checks.specs.Running.{IsErrorOf};
+ghost use Rattle.aig_checks.specs.declared.command.FileCommand.{FileCommand};
+ghost use Rattle.aig_certificates.specs.Certificates.{first_verdict, second_verdict};
+ghost use Rattle.aig_certificates.specs.declared.error.CertificateError.TheVariants as certificate;
+ghost use Rattle.aig_commands.specs.Running as running;
+ghost use Rattle.aig_edits.specs.Joints as pairs;
+ghost use Rattle.aig_edits.specs.declared.error.PairError.TheVariants as pair;
+ghost use Rattle.aig_encode.specs.Encoding as encoding;
+ghost use Rattle.aig_reader.specs.Verdicts as reading;
+ghost use Rattle.aig_reader.specs.Verdicts.{Refused};
+ghost use Rattle.aig_witness_check.specs.Files as showing;
+ghost use Rattle.aig_calls.specs.Parts.{IsOwnOf, IsPairStatus, SaysOnly, flagged};
+ghost use Rattle.aig_calls.specs.Statuses.{IsOfPair, IsOfPairProof, is_proof_fault, is_refusal, is_solution_fault, is_witness_fault, said_by};
+
+use aig::ReadError;
+use aig_answers::AnswerError;
+use aig_certificates::CertificateError;
+use aig_checks::CheckError;
+use aig_commands::ToolError;
+use aig_edits::PairError;
+use aig_encode::EncodeError;
+use aig_reader::Section;
+use aig_refutation::RefutationError;
+use aig_solutions::SolutionError;
+use aig_witness::WitnessError;
+use aig_witness_check::{ShowError, WitnessFault};
+
+/// The call has done what it is for.
+pub(crate) const DONE: u32 = 0;
+/// The answer doesn't fit the caller's memory.
+pub(crate) const SMALL: u32 = 1;
+/// Memory was refused.
+pub(crate) const MEMORY: u32 = 2;
+/// A read failed: never of bytes in memory.
+const STREAM: u32 = 3;
+/// The number of a step is 2^32 or more.
+pub(crate) const MANY_STEPS: u32 = 4;
+/// The circuit with its further steps may pass the limit.
+const TOO_LARGE: u32 = 5;
+/// There is no bad state property, so that nothing is asked.
+const NO_BADS: u32 = 6;
+/// The window may have more variables than the limit.
+const CROWDED: u32 = 7;
+/// The counts of two files don't fit.
+const MISFIT: u32 = 8;
+/// The circuit of two files is too large for the format.
+const UNWRITABLE: u32 = 9;
+/// The first line isn't a good header line.
+const HEADER: u32 = 10;
+/// The file has more variables than the limit allows.
+const TOO_MANY: u32 = 11;
+/// A gate of a binary file is cut, or its differences aren't allowed.
+const DELTA: u32 = 12;
+/// A name line is wrong.
+const NAME: u32 = 13;
+/// A line of a section is wrong. The section's number is added.
+const SYNTAX: u32 = 16;
+/// A number of a section is no literal that may stand there. The section's number is added.
+const LITERAL: u32 = 24;
+/// A proof is refused. The fault's number is added.
+const PROOF: u32 = 40;
+/// A witness is refused. The fault's number is added.
+const WITNESS: u32 = 60;
+/// A witness shows no bad state. The fault's number is added.
+const SHOW: u32 = 70;
+/// A solver's answer is refused. The fault's number is added.
+const SOLUTION: u32 = 80;
+
+/// It is the second of two files that is refused so.
+pub(crate) const OTHER: u32 = 256;
+/// It is the query of the circuit of two files, or its proof, that is refused so.
+pub(crate) const QUERY: u32 = 512;
+/// It is the window of the circuit of two files, or its proof, that is refused so.
+pub(crate) const WINDOW: u32 = 1024;
+
+/// The number of a section, in the order of the header's counts from 1.9 on, and of the gates at last.
+fn section_number(section: Section) -> u32
+    ensures { result < 8 }
+{
+    match section {
+        Section::Inputs => 0,
+        Section::Latches => 1,
+        Section::Outputs => 2,
+        Section::Bads => 3,
+        Section::Constraints => 4,
+        Section::Justice => 5,
+        Section::Fairness => 6,
+        Section::Gates => 7,
+    }
+}
+
+/// The status of a file that is refused. `Open` is never asked for.
+fn of_read(error: ReadError) -> u32
+    ensures said { SaysOnly (said_by result) (reading.verdict_of error) }
+    ensures own { IsTrue (is_refusal result) }
+    ensures few { result < 60 }
+    ensures least { 2 ≤ result }
+    ensures pair { (result < 4) ⊎ ((8 ≤ result) × (result < 32)) }
+{
+    match error {
+        ReadError::Memory => MEMORY,
+        ReadError::Stream => STREAM,
+        ReadError::Header | ReadError::Open => HEADER,
+        ReadError::TooMany => TOO_MANY,
+        ReadError::Syntax(section) => SYNTAX + section_number(section),
+        ReadError::Literal(section) => LITERAL + section_number(section),
+        ReadError::Delta => DELTA,
+        ReadError::Name => NAME,
+    }
+}
+
+/// The status of a file without clauses.
+fn of_encode(error: EncodeError) -> u32
+    ensures said { SaysOnly (said_by result) (encoding.verdict_of error) }
+    ensures own { IsTrue (is_refusal result) }
+    ensures few { result < 60 }
+    ensures least { 2 ≤ result }
+{
+    match error {
+        EncodeError::Read(error) => of_read(error),
+        EncodeError::Memory => MEMORY,
+        EncodeError::TooLarge => TOO_LARGE,
+    }
+}
+
+/// The status of a command of `aigtool` that has no answer. What is written to memory stops only where memory is refused.
+pub(crate) fn of_tool(error: ToolError) -> u32
+    ensures said { SaysOnly (said_by result) (running.verdict_of error) }
+    ensures own { IsTrue (is_refusal result) }
+    ensures least { 2 ≤ result }
+{
+    match error {
+        ToolError::Read(error) => of_read(error),
+        ToolError::Encode(error) => of_encode(error),
+        ToolError::Memory | ToolError::Write(_) => MEMORY,
+    }
+}
+
+/// The status of a proof that is refused.
+fn of_refutation(error: RefutationError) -> u32
+    ensures said { SaysOnly (said_by result) (answering.verdict_of (AnswerError.Refutation error)) }
+    ensures own { IsTrue (is_refusal result || is_proof_fault result) }
+    ensures few { result < 60 }
+    ensures least { 2 ≤ result }
+{
+    match error {
+        RefutationError::Memory => MEMORY,
+        RefutationError::Stream => STREAM,
+        RefutationError::Variable => PROOF,
+        RefutationError::Line => PROOF + 1,
+        RefutationError::Literal => PROOF + 2,
+        RefutationError::Unnamed => PROOF + 3,
+        RefutationError::Twice => PROOF + 4,
+        RefutationError::Large => PROOF + 5,
+        RefutationError::Step => PROOF + 6,
+        RefutationError::Asymmetry => PROOF + 7,
+        RefutationError::Binary => PROOF + 8,
+        RefutationError::Unfinished => PROOF + 9,
+    }
+}
+
+/// The status of a question that has no answer.
+pub(crate) fn of_answer(error: AnswerError) -> u32
+    ensures said { SaysOnly (said_by result) (answering.verdict_of error) }
+    ensures own { IsTrue (is_refusal result || is_proof_fault result) }
+    ensures file { IsOfWindow error → IsTrue (is_refusal result) }
+    ensures few { result < 60 }
+    ensures least { 2 ≤ result }
+{
+    match error {
+        AnswerError::Encode(error) => of_encode(error),
+        AnswerError::NoBads => NO_BADS,
+        AnswerError::TooLarge => CROWDED,
+        AnswerError::Refutation(error) => of_refutation(error),
+    }
+}
+
+/// The status of a witness that shows no bad state. Which step it is isn't told.
+fn of_fault(fault: WitnessFault) -> u32
+    ensures said { SaysOnly (said_by result) (showing.verdict_of (ShowError.Check fault)) }
+    ensures own { IsTrue (is_refusal result || is_witness_fault result) }
+    ensures solution { IsTrue (is_refusal result || is_solution_fault result) }
+    ensures least { 2 ≤ result }
+{
+    match fault {
+        WitnessFault::Memory => MEMORY,
+        WitnessFault::Latches => SHOW,
+        WitnessFault::Inputs(_) => SHOW + 1,
+        WitnessFault::NoStep => SHOW + 2,
+        WitnessFault::NoBad => SHOW + 3,
+        WitnessFault::Start => SHOW + 4,
+        WitnessFault::Constraint(_) => SHOW + 5,
+        WitnessFault::Bad => SHOW + 6,
+    }
+}
+
+/// The status of a witness that is refused.
+fn of_witness(error: WitnessError) -> u32
+    ensures said { SaysOnly (said_by result) (showing.verdict_of (ShowError.Witness error)) }
+    ensures own { IsTrue (is_refusal result || is_witness_fault result) }
+    ensures least { 2 ≤ result }
+{
+    match error {
+        WitnessError::Memory => MEMORY,
+        WitnessError::Stream => STREAM,
+        WitnessError::Status => WITNESS,
+        WitnessError::Property => WITNESS + 1,
+        WitnessError::Values => WITNESS + 2,
+    }
+}
+
+/// The status of a file and a witness that show no bad state.
+pub(crate) fn of_show(error: ShowError) -> u32
+    ensures said { SaysOnly (said_by result) (showing.verdict_of error) }
+    ensures own { IsTrue (is_refusal result || is_witness_fault result) }
+    ensures least { 2 ≤ result }
+{
+    match error {
+        ShowError::File(error) => of_read(error),
+        ShowError::Witness(error) => of_witness(error),
+        ShowError::NoWitness => WITNESS + 3,
+        ShowError::Check(fault) => of_fault(fault),
+    }
+}
+
+/// The status of a solver's answer that is refused.
+fn of_solution(error: SolutionError) -> u32
+    ensures said { SaysOnly (said_by result) (checking.verdict_of (CheckError.Solution error)) }
+    ensures own { IsTrue (is_refusal result || is_solution_fault result) }
+    ensures least { 2 ≤ result }
+{
+    match error {
+        SolutionError::Memory => MEMORY,
+        SolutionError::Stream => STREAM,
+        SolutionError::Unsatisfiable => SOLUTION,
+        SolutionError::Unknown => SOLUTION + 1,
+        SolutionError::Answer => SOLUTION + 2,
+        SolutionError::Line => SOLUTION + 3,
+        SolutionError::Literal => SOLUTION + 4,
+        SolutionError::Variable => SOLUTION + 5,
+        SolutionError::Clash => SOLUTION + 6,
+        SolutionError::Unfinished => SOLUTION + 7,
+        SolutionError::NoBad => SOLUTION + 8,
+        SolutionError::Check(fault) => of_fault(fault),
+    }
+}
+
+/// The status of a command of `aigcheck` that has no answer. What is written to memory stops only where memory is refused.
+pub(crate) fn of_check(error: CheckError) -> u32
+    ensures said { SaysOnly (said_by result) (checking.verdict_of error) }
+    ensures own { (c : FileCommand) → IsErrorOf c error → IsOwnOf c result }
+    ensures least { 2 ≤ result }
+{
+    match error {
+        CheckError::Open => HEADER,
+        CheckError::Memory | CheckError::Write => MEMORY,
+        CheckError::Answer(error) => of_answer(error),
+        CheckError::Solution(error) => of_solution(error),
+        CheckError::Show(error) => of_show(error),
+        CheckError::Certificate(error) => of_certificate(error),
+    }
+}
+
+/// The status with a flag, which one that says nothing hasn't.
+fn flagged(flag: u32, status: u32) -> u32
+    requires flag { flag ≤ 1024 }
+    requires few { status < 256 }
+    ensures { result ≡ flagged flag status }
+{
+    if status < MANY_STEPS {
+        status
+    } else {
+        flag + status
+    }
+}
+
+/// The status of the second of two files that is refused.
+fn of_other(error: ReadError) -> u32
+    ensures said { IsPairStatus pairs.first_verdict pairs.second_verdict pair.Misfit pair.TooLarge
+        (pair.Other error) result }
+    ensures own { IsOfPair result }
+{
+    flagged(OTHER, of_read(error))
+}
+
+/// The status of two files that no circuit is made of. What is written to memory stops only where memory is refused.
+pub(crate) fn of_pair(error: PairError) -> u32
+    ensures said { IsPairStatus pairs.first_verdict pairs.second_verdict pair.Misfit pair.TooLarge
+        error result }
+    ensures own { IsOfPair result }
+{
+    match error {
+        PairError::Read(error) => of_read(error),
+        PairError::Other(error) => of_other(error),
+        PairError::Misfit => MISFIT,
+        PairError::TooLarge => UNWRITABLE,
+        PairError::Memory | PairError::Write => MEMORY,
+    }
+}
+
+/// The status of two files of which something isn't shown.
+pub(crate) fn of_certificate(error: CertificateError) -> u32
+    ensures said { IsPairStatus first_verdict second_verdict (certificate.Pair pair.Misfit)
+        (certificate.Pair pair.TooLarge) error result }
+    ensures own { IsOfPairProof result }
+{
+    match error {
+        CertificateError::Pair(error) => of_pair(error),
+        CertificateError::Query(error) => flagged(QUERY, of_answer(error)),
+        CertificateError::Window(error) => flagged(WINDOW, of_answer(error)),
+    }
+}

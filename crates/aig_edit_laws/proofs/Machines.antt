@@ -1,0 +1,123 @@
+-- A file's machine shows what the file's circuit shows.
+use Rattle.std.proofs.Common.{◌≡◌, ◌↔◌, ℕ, ◌≤◌, Bool, List, map, IsTrue, refl, sym, ◌∙◌, arith}
+use Rattle.std.specs.Prelude.{All}
+use Rattle.std.specs.List.{AllByRecursion, list_any}
+use Rattle.std.proofs.lemmas.List.Elements.{All-from_recursion, All-map, recursion_from_All}
+use Rattle.aig_circuit.specs.declared.edge.AigEdge.{AigEdge}
+use Rattle.aig_circuit.specs.Circuit.{Circuit}
+use Rattle.aig_circuit.specs.Properties.{AllProperties}
+use Rattle.aig_circuit.specs.Runs.{IsInitial, IsRun}
+use Rattle.aig_circuit.specs.Tree.{edge_value}
+use Rattle.aig_circuit.proofs.Listed.{AllProperties-weaker}
+use Rattle.aig_circuit.proofs.Lists.{All-from_map, AllZip-map}
+use Rattle.aig_change.specs.Runs.{IsAllowedRun}
+use Rattle.aig_format.specs.Circuit.{circuit_of, edge_of}
+use Rattle.aig_format.specs.File.{File, used}
+use Rattle.aig_format.specs.Fits.{Fits}
+use Rattle.aig_format.specs.Machine.{value_of_literal, IsMachineInitial, IsMachineRun}
+use Rattle.aig_format.specs.Variables.{IsKnown}
+use Rattle.aig_format.proofs.Circuits.{used_by_section}
+use Rattle.aig_format_laws.specs.Nodes.{HasNodeValues, values_over}
+use Rattle.aig_runs.proofs.Rows.{any_zip}
+use Rattle.aig_edit_laws.specs.Shown.{HasBadBy, HasCircuitBadBy, HasCircuitOutput, HasCircuitRun, HasOutput, HasRun, IsAllowedMachineRun}
+
+-- what joins the runs of a file's machine and of its circuit, and what a file uses
+pub record Joined : Type 0 where
+  pub forth : (f : File) (limit last : ℕ) (run : ℕ → ℕ → Bool) → Fits f limit → IsMachineRun f last run
+      → (x : ℕ → ℕ → Bool) × IsRun (circuit_of f) last x × HasNodeValues f last x run
+  pub back : (f : File) (limit last : ℕ) (x : ℕ → ℕ → Bool) → Fits f limit → IsRun (circuit_of f) last x
+      → IsMachineRun f last (values_over f x)
+  pub starts : (f : File) (limit last : ℕ) (x run : ℕ → ℕ → Bool) → Fits f limit → HasNodeValues f last x run
+      → IsMachineInitial f run ↔ IsInitial (circuit_of f) (x 0)
+  pub literals : (f : File) (last : ℕ) (x run : ℕ → ℕ → Bool) → HasNodeValues f last x run → (t e : ℕ) → t ≤ last
+      → IsKnown f e → edge_value (circuit_of f).nodes (x t) (edge_of f e) ≡ value_of_literal (run t) e
+  pub known : (f : File) (limit : ℕ) → Fits f limit → AllByRecursion (IsKnown f) (used f)
+
+module _ (joined : Joined) (f : File) (limit k : ℕ) (fits : Fits f limit) where
+  abbrev c : Circuit
+  c = circuit_of f
+
+  module _ (x run : ℕ → ℕ → Bool) (values : HasNodeValues f k x run) where
+    -- the literal has at the step the value of its edge
+    abbrev Keeps : ℕ → ℕ → Type 0
+    Keeps t e = edge_value c.nodes (x t) (edge_of f e) ≡ value_of_literal (run t) e
+
+    keeps : (t : ℕ) → t ≤ k → AllProperties (Keeps t) f.properties
+    keeps t h = AllProperties-weaker (IsKnown f) (Keeps t) (λ e is. joined.literals f k x run values t e h is) f.properties (used_by_section (IsKnown f) f (joined.known f limit fits)).properties
+
+    -- some edge of a list is true where some literal is
+    any_same : (t : ℕ) (es : List ℕ) → All (Keeps t) es → list_any (edge_value c.nodes (x t)) (map (edge_of f) es) ≡ list_any (value_of_literal (run t)) es
+    any_same t es all =
+        let value = edge_value c.nodes (x t) in
+        any_zip (value_of_literal (run t)) value es (map (edge_of f) es)
+        (AllZip-map (edge_of f) (λ e edge. value edge ≡ value_of_literal (run t) e) es all)
+
+    abbrev IsTrueEdge : ℕ → AigEdge → Type 0
+    IsTrueEdge t e = IsTrue (edge_value c.nodes (x t) e)
+
+    abbrev IsTrueLiteral : ℕ → ℕ → Type 0
+    IsTrueLiteral t e = IsTrue (value_of_literal (run t) e)
+
+    to_circuit : IsRun c k x → IsAllowedMachineRun f k run → IsAllowedRun c k x
+    to_circuit is w = record {
+      from_start = record { run = is; start = (joined.starts f limit k x run fits values).0 w.start };
+      allowed = λ t h.
+          let holds = All-from_recursion (IsTrueLiteral t) f.properties.constraints (w.allowed t h) in
+          All-map (IsTrueEdge t) (edge_of f) f.properties.constraints (λ j d l. (keeps t h).constraints j d l ∙ holds j d l);
+    }
+
+    to_machine : IsMachineRun f k run → IsAllowedRun c k x → IsAllowedMachineRun f k run
+    to_machine is w = record {
+      is_run = is;
+      start = (joined.starts f limit k x run fits values).1 w.from_start.start;
+      allowed = λ t h.
+          let holds = All-from_map (edge_of f) (IsTrueEdge t) f.properties.constraints (w.allowed t h) in
+          recursion_from_All (IsTrueLiteral t) f.properties.constraints (λ j d l. sym ((keeps t h).constraints j d l) ∙ holds j d l);
+    }
+
+    outputs_same : list_any (edge_value c.nodes (x k)) c.properties.outputs ≡ list_any (value_of_literal (run k)) f.properties.outputs
+    outputs_same = any_same k f.properties.outputs (keeps k (omega arith)).outputs
+
+    bads_same : (t : ℕ) → t ≤ k → list_any (edge_value c.nodes (x t)) c.properties.bads ≡ list_any (value_of_literal (run t)) f.properties.bads
+    bads_same t h = any_same t f.properties.bads (keeps t h).bads
+
+  -- ---- from one to the other
+
+  over : (x : ℕ → ℕ → Bool) → HasNodeValues f k x (values_over f x)
+  over x t v h known = refl
+
+  pub outputs_shown : HasCircuitOutput c k ↔ HasOutput f k
+  outputs_shown = (
+    λ s.
+        let x = s.0 in
+        let run = values_over f x in
+        let is = joined.back f limit k x fits s.1.from_start.run in
+        (run, to_machine x run (over x) is s.1, sym (outputs_same x run (over x)) ∙ s.2),
+    λ s.
+        let found = joined.forth f limit k s.0 fits s.1.is_run in
+        (found.0, to_circuit found.0 s.0 found.2 found.1 s.1, outputs_same found.0 s.0 found.2 ∙ s.2),
+  )
+
+  pub bads_shown : HasCircuitBadBy c k ↔ HasBadBy f k
+  bads_shown = (
+    λ s.
+        let x = s.0 in
+        let run = values_over f x in
+        let is = joined.back f limit k x fits s.1.from_start.run in
+        let at = s.2 in
+        (run, to_machine x run (over x) is s.1, (at.0, at.1, sym (bads_same x run (over x) at.0 at.1) ∙ at.2)),
+    λ s.
+        let found = joined.forth f limit k s.0 fits s.1.is_run in
+        let at = s.2 in
+        (found.0, to_circuit found.0 s.0 found.2 found.1 s.1, (at.0, at.1, bads_same found.0 s.0 found.2 at.0 at.1 ∙ at.2)),
+  )
+
+  pub runs_shown : HasCircuitRun c k ↔ HasRun f k
+  runs_shown = (
+    λ s.
+        let run = values_over f s.0 in
+        (run, to_machine s.0 run (over s.0) (joined.back f limit k s.0 fits s.1.from_start.run) s.1),
+    λ s.
+        let found = joined.forth f limit k s.0 fits s.1.is_run in
+        (found.0, to_circuit found.0 s.0 found.2 found.1 s.1),
+  )

@@ -1,0 +1,65 @@
+-- Part of what is promised.
+-- What runs of a file's machine, and of a circuit, show. (AIGER 1.9, "Properties"; bounded model
+-- checking.)
+use Rattle.std.specs.Prelude.{ℕ, ◌≤◌, Bool, IsTrue, []}
+use Rattle.std.specs.List.{list_any}
+use Rattle.aig_circuit.specs.Circuit.{Circuit}
+use Rattle.aig_circuit.specs.Tree.{edge_value}
+use Rattle.aig_change.specs.Runs.{IsAllowedRun}
+use Rattle.aig_certify.specs.Safety.{IsConstrained}
+use Rattle.aig_format.specs.File.{File}
+use Rattle.aig_format.specs.Machine.{value_of_literal, IsMachineInitial, IsMachineRun}
+use Rattle.aig_runs.specs.Queries.{IsWitness}
+
+-- ---- of a machine
+
+-- a run of k + 1 steps from an initial state, with every constraint at each of them
+pub record IsAllowedMachineRun (f : File) (k : ℕ) (run : ℕ → ℕ → Bool) : Type 0 where
+  pub is_run : IsMachineRun f k run
+  pub start : IsMachineInitial f run
+  pub allowed : (t : ℕ) → t ≤ k → IsConstrained f (run t)
+
+-- there is such a run
+abbrev pub HasRun : File → ℕ → Type 0
+HasRun f k = (run : ℕ → ℕ → Bool) × IsAllowedMachineRun f k run
+
+-- such a run has some output at step k
+abbrev pub HasOutput : File → ℕ → Type 0
+HasOutput f k =
+    (run : ℕ → ℕ → Bool) × IsAllowedMachineRun f k run
+    × IsTrue (list_any (value_of_literal (run k)) f.properties.outputs)
+
+-- such a run has some bad literal at one of its steps
+abbrev pub HasBadBy : File → ℕ → Type 0
+HasBadBy f k =
+    (run : ℕ → ℕ → Bool) × IsAllowedMachineRun f k run
+    × ((t : ℕ) × (t ≤ k) × IsTrue (list_any (value_of_literal (run t)) f.properties.bads))
+
+-- such a run has some bad literal at step k
+abbrev pub HasWitness : File → ℕ → Type 0
+HasWitness f k = (run : ℕ → ℕ → Bool) × IsWitness f k run
+
+-- ---- of a circuit
+
+-- there is such a run of a circuit
+abbrev pub HasCircuitRun : Circuit → ℕ → Type 0
+HasCircuitRun c k = (x : ℕ → ℕ → Bool) × IsAllowedRun c k x
+
+-- the same of an output of a circuit
+abbrev pub HasCircuitOutput : Circuit → ℕ → Type 0
+HasCircuitOutput c k =
+    (x : ℕ → ℕ → Bool) × IsAllowedRun c k x
+    × IsTrue (list_any (edge_value c.nodes (x k)) c.properties.outputs)
+
+-- and of a bad edge at one of the steps
+abbrev pub HasCircuitBadBy : Circuit → ℕ → Type 0
+HasCircuitBadBy c k =
+    (x : ℕ → ℕ → Bool) × IsAllowedRun c k x
+    × ((t : ℕ) × (t ≤ k) × IsTrue (list_any (edge_value c.nodes (x t)) c.properties.bads))
+
+-- the circuit with its outputs as its bad edges, and no outputs
+abbrev pub outputs_as_bads : Circuit → Circuit
+outputs_as_bads c =
+    record c {
+      properties = record c.properties { outputs = []; bads = c.properties.outputs };
+    }

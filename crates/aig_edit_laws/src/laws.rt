@@ -1,0 +1,79 @@
+//! Laws of what an edited circuit's runs show.
+
+ghost use Rattle.std.specs.Prelude.{ℕ, ◌≤◌, ◌↔◌, ◌⊎◌, length};
+ghost use Rattle.aig_circuit.specs.Circuit.{Circuit, IsCircuit};
+ghost use Rattle.aig_change.specs.Changes.{CompressesBads, FoldsConstraints};
+ghost use Rattle.aig_change.specs.Merge.{merged};
+ghost use Rattle.aig_format.specs.Circuit.{IsReadAgain, circuit_of};
+ghost use Rattle.aig_format.specs.File.{File};
+ghost use Rattle.aig_format.specs.Fits.{Fits};
+ghost use Rattle.aig_reduction.specs.Reduction.{HaveSameWitnesses};
+ghost use Rattle.aig_runs.specs.CircuitQueries.{HasCircuitWitness};
+ghost use Rattle.aig_unroll.specs.Unroll.{UnrollsTo};
+ghost use Rattle.aig_edit_laws.specs.Shown.{HasBadBy, HasCircuitBadBy, HasCircuitOutput, HasCircuitRun, HasOutput, HasRun, HasWitness, outputs_as_bads};
+
+use aig_change::merging_pairs_runs;
+use aig_circuit::leaves_fix_values;
+use aig_format_laws::{files_are_circuits, joins_runs};
+use aig_runs::circuit_witnesses_are_file_witnesses;
+
+/// Law: a circuit whose bad edges became one has a witness at each step exactly where it had one before; and so has a circuit
+/// with at most one bad edge whose constraints were joined to that.
+pub fn changed_circuits_keep_witnesses()
+    ensures compressed { (old new : Circuit) → IsCircuit old → CompressesBads old new
+        → HaveSameWitnesses old new }
+    ensures folded { (old new : Circuit) → IsCircuit old → FoldsConstraints old new
+        → length old.properties.bads ≤ 1 → HaveSameWitnesses old new }
+{
+    leaves_fix_values();
+}
+
+/// Law: a circuit with k further steps has a witness of one step exactly where the circuit has a run of k + 1 steps from an initial
+/// state with every constraint at each step and some bad edge at one of them.
+pub fn unrolled_witnesses_are_runs()
+    ensures { (c unrolled : Circuit) (k : ℕ) → UnrollsTo c k unrolled
+        → HasCircuitWitness unrolled 0 ↔ HasCircuitBadBy c k }
+{}
+
+/// Law: a circuit with its outputs as its bad edges has a witness exactly where the circuit has such a run with some output at
+/// its last step.
+pub fn outputs_become_bads()
+    ensures { (c : Circuit) (k : ℕ)
+        → HasCircuitWitness (outputs_as_bads c) k ↔ HasCircuitOutput c k }
+{}
+
+/// Law: two circuits merged have a witness exactly where one of them has one, and the other a run as long from an initial
+/// state with every constraint at each step.
+pub fn merged_witnesses_are_pairs()
+    ensures { (first second : Circuit) (k : ℕ) → IsCircuit first → IsCircuit second
+        → HasCircuitWitness (merged first second) k
+        ↔ ((HasCircuitWitness first k × HasCircuitRun second k)
+        ⊎ (HasCircuitRun first k × HasCircuitWitness second k)) }
+{
+    merging_pairs_runs();
+    leaves_fix_values();
+}
+
+/// Law: a file's machine shows what the file's circuit shows.
+pub fn shown_runs_are_machine_runs()
+    ensures runs { (f : File) (limit k : ℕ) → Fits f limit
+        → HasCircuitRun (circuit_of f) k ↔ HasRun f k }
+    ensures witnesses { (f : File) (limit k : ℕ) → Fits f limit
+        → HasCircuitWitness (circuit_of f) k ↔ HasWitness f k }
+    ensures outputs { (f : File) (limit k : ℕ) → Fits f limit
+        → HasCircuitOutput (circuit_of f) k ↔ HasOutput f k }
+    ensures bads { (f : File) (limit k : ℕ) → Fits f limit
+        → HasCircuitBadBy (circuit_of f) k ↔ HasBadBy f k }
+{
+    joins_runs();
+    files_are_circuits();
+    circuit_witnesses_are_file_witnesses();
+}
+
+/// Law: a file that is read again as a circuit has the circuit's witnesses.
+pub fn written_circuits_have_witnesses()
+    ensures { (c : Circuit) (f : File) (k : ℕ) → IsReadAgain c f
+        → HasCircuitWitness c k ↔ HasWitness f k }
+{
+    circuit_witnesses_are_file_witnesses();
+}

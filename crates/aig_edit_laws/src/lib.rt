@@ -1,0 +1,11 @@
+//! Laws of what edits make of a circuit: what the machine of a written file shows of the machine of the file that was read.
+#![tactic(auto)]
+
+mod laws;
+mod plain;
+
+pub use laws::{
+    changed_circuits_keep_witnesses, merged_witnesses_are_pairs, outputs_become_bads,
+    shown_runs_are_machine_runs, unrolled_witnesses_are_runs, written_circuits_have_witnesses,
+};
+pub use plain::changed_circuits_are_plain;

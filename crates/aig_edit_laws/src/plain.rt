@@ -1,0 +1,25 @@
+//! Laws of circuits whose size alone can keep them from a written form.
+
+ghost use Rattle.std.specs.Prelude.{ℕ, List};
+ghost use Rattle.aig_circuit.specs.Circuit.{Circuit, IsCircuit};
+ghost use Rattle.aig_change.specs.Changes.{CompressesBads, FoldsConstraints};
+ghost use Rattle.aig_change.specs.Merge.{merged};
+ghost use Rattle.aig_cone.specs.Refine.{AreKept, refined};
+ghost use Rattle.aig_unroll.specs.Unroll.{UnrollsTo};
+ghost use Rattle.aig_edit_laws.specs.Plain.{IsPlain};
+ghost use Rattle.aig_edit_laws.specs.Shown.{outputs_as_bads};
+
+/// Law: where only its size can keep a circuit from a written form, this is so of what is made of it.
+pub fn changed_circuits_are_plain()
+    ensures compressed { (old new : Circuit) → IsPlain old → CompressesBads old new
+        → IsPlain new }
+    ensures folded { (old new : Circuit) → IsCircuit old → IsPlain old
+        → FoldsConstraints old new → IsPlain new }
+    ensures unrolled { (c unrolled : Circuit) (k : ℕ) → IsCircuit c → IsPlain c
+        → UnrollsTo c k unrolled → IsPlain unrolled }
+    ensures refined { (c : Circuit) (kept : List ℕ) → IsCircuit c → AreKept c kept → IsPlain c
+        → IsPlain (refined kept c) }
+    ensures merged { (first second : Circuit) → IsCircuit first → IsCircuit second
+        → IsPlain first → IsPlain second → IsPlain (merged first second) }
+    ensures bads { (c : Circuit) → IsPlain c → IsPlain (outputs_as_bads c) }
+{}

@@ -1,0 +1,18 @@
+//! What is made of one file.
+
+/// What is made of a file's circuit.
+#[derive(Debug, PartialEq, Eq, Drop)]
+pub enum Edit {
+    /// The circuit cut to its cone of influence (`Aig::coi_refine`).
+    Refine,
+    /// The circuit in the numbering of the binary form (`Aig::reencode`).
+    Reencode,
+    /// The circuit with so many further steps (`Aig::unroll_to`).
+    Unroll(usize),
+    /// The circuit with its constraints joined to the first bad edge and the first output (`Aig::aig_move`).
+    Move,
+    /// The circuit with its bad edges as one (`Aig::compress_property`).
+    Compress,
+    /// The circuit with its outputs as its bad edges, and no outputs: files from before AIGER 1.9 have no others.
+    Bads,
+}

@@ -1,0 +1,68 @@
+//! Why nothing is made of a file.
+
+ghost use Rattle.std.specs.Prelude.{◌≡◌};
+ghost use Rattle.aig_edits.specs.declared.edit_error.EditError.TheVariants as errors;
+ghost use Rattle.aig_edits.specs.Edits.{edit_fault};
+
+use aig::WriteError;
+use aig_base::{MemoryError, StreamFault};
+use aig_reader::ReadError;
+use thiserror::Error;
+
+/// Why nothing is made of a file.
+#[derive(Clone, Copy, Debug, PartialEq, Eq, Error)]
+pub enum EditError {
+    /// The file is refused.
+    #[error("{0}")]
+    Read(ReadError),
+    /// The file has bad literals, where its outputs would become them.
+    #[error("has bad states already")]
+    HasBads,
+    /// The circuit with its further steps may have more nodes than the limit.
+    #[error("unrolled circuit may pass the limit")]
+    PassesLimit,
+    /// The circuit that was made is too large for the format.
+    #[error("too large for the format")]
+    TooLarge,
+    /// Memory was refused after the reading.
+    #[error("out of memory")]
+    Memory,
+    /// The writer failed in this call.
+    #[error("write failed")]
+    Write,
+}
+
+impl From<ReadError> for EditError {
+    ghost from_gives = { λ e r. r ≡ errors.Read e };
+
+    fn from(error: ReadError) -> EditError {
+        EditError::Read(error)
+    }
+}
+
+impl From<MemoryError> for EditError {
+    ghost from_gives = { λ _ r. r ≡ errors.Memory };
+
+    fn from(_error: MemoryError) -> EditError {
+        EditError::Memory
+    }
+}
+
+impl From<WriteError> for EditError {
+    ghost from_gives = { λ e r. r ≡ edit_fault e };
+
+    fn from(error: WriteError) -> EditError {
+        match error {
+            WriteError::TooLarge => EditError::TooLarge,
+            _ => EditError::Write,
+        }
+    }
+}
+
+impl From<StreamFault> for EditError {
+    ghost from_gives = { λ _ r. r ≡ errors.Write };
+
+    fn from(_fault: StreamFault) -> EditError {
+        EditError::Write
+    }
+}

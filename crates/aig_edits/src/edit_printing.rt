@@ -1,0 +1,107 @@
+//! Printing what is made of one file.
+
+ghost use Rattle.std.specs.Prelude.{◌≡◌, ◌≤◌, ◌^◌, ℕ};
+ghost use Rattle.aig_circuit.specs.Circuit.{Circuit};
+ghost use Rattle.aig_edit_laws.specs.Plain.{IsPlain};
+ghost use Rattle.aig_format.specs.Circuit.{IsReadAgain, circuit_of, file_of};
+ghost use Rattle.aig_format.specs.declared.FileKind.TheVariants.{Text};
+ghost use Rattle.aig_format.specs.File.{File};
+ghost use Rattle.aig_format.specs.Fits.{Fits};
+ghost use Rattle.aig_format.specs.Writable.{IsWritable};
+ghost use Rattle.aig_edits.specs.declared.edit.Edit.{Edit};
+ghost use Rattle.aig_edits.specs.Edits.{EditShows, IsEditOwn, IsEditUnwritten, IsEdited, PrintsEdit, ReadsFile, edit_verdict};
+ghost use Rattle.aig_edits.specs.EditParts.{PrintsCircuit, WritesText};
+
+use crate::edit::Edit;
+use crate::edit_error::EditError;
+use crate::editing::edited;
+use aig::Aig;
+use aig_base::{Sink, Source};
+use aig_certify::safe_circuits_are_safe_machines;
+use aig_cone::{refining_is_circuit, refining_keeps_runs};
+use aig_edit_laws::{
+    changed_circuits_keep_witnesses, outputs_become_bads, shown_runs_are_machine_runs,
+    unrolled_witnesses_are_runs, written_circuits_have_witnesses,
+};
+use aig_format_laws::files_are_circuits;
+use aig_reduction::runs_keep_witnesses;
+use aig_renumber::reencoding_keeps_runs;
+use std::alloc::Global;
+
+/// Law: the machine of a file that is read again as an edited circuit shows what the edit says.
+fn edited_files_show()
+    ensures { (edit : Edit) (f : File) (limit : ℕ) (m : Circuit) → Fits f limit
+        → IsEdited edit (circuit_of f) m → IsReadAgain m (file_of Text m)
+        → EditShows edit f (file_of Text m) }
+{
+    files_are_circuits();
+    safe_circuits_are_safe_machines();
+    refining_is_circuit();
+    refining_keeps_runs();
+    reencoding_keeps_runs();
+    runs_keep_witnesses();
+    changed_circuits_keep_witnesses();
+    unrolled_witnesses_are_runs();
+    outputs_become_bads();
+    shown_runs_are_machine_runs();
+    written_circuits_have_witnesses();
+}
+
+/// Writes the text form of a circuit, if it fits the format.
+fn write<W: Sink>(circuit: &Aig, w: &mut W) -> Result<(), EditError>
+    requires { IsPlain circuit.now }
+    ensures { WritesText W.held W.failed circuit.now w.old result w.new }
+{
+    Ok(circuit.write_text(w)?)
+}
+
+/// Writes the text form of what an edit makes of a circuit.
+fn print_edited<W: Sink>(
+    edit: &Edit,
+    circuit: Aig,
+    limit: usize,
+    w: &mut W,
+) -> Result<(), EditError>
+    requires { IsWritable circuit }
+    ensures { PrintsCircuit W.held W.failed edit.now limit circuit w.old result w.new }
+{
+    let made = edited(edit, circuit, limit)?;
+    write(&made, w)
+}
+
+/// Reads a file in the AIGER format, and writes the text form of the circuit that an edit makes of its circuit to `w`. It doesn't
+/// flush `w`.
+///
+/// # Requirements
+///
+/// - `1 <= limit <= 2^31`.
+///
+/// # Errors
+///
+/// After `Write` a beginning of the text was written. Every other refusal leaves the writer as it was.
+///
+/// - `Read`: the file is refused.
+/// - `HasBads`: outputs would become bad literals, and the file has some.
+/// - `PassesLimit`: `n + k * (n - 1 - l)` passes `limit`, for `k` further steps of the `n` nodes and `l` latches of the circuit.
+/// - `TooLarge`: the circuit that was made has more than 2^31 nodes, or more than 2^32 - 1 entries in a list or a justice set.
+/// - `Memory`: memory was refused after the reading.
+/// - `Write`: the writer failed in this call.
+pub fn print_edit<R: Source, W: Sink>(
+    alloc: Global,
+    edit: &Edit,
+    r: &mut R,
+    limit: usize,
+    w: &mut W,
+) -> Result<(), EditError>
+    requires some { 1 ≤ limit }
+    requires few { limit ≤ 2 ^ 31 }
+    // The bytes that were read are a file, and what is written is the text form of the edited circuit.
+    ensures reads { ReadsFile R.left R.failed limit
+        (PrintsEdit W.held W.failed edit.now limit w.old w.new) edit_verdict IsEditOwn r.old result
+        r.new }
+    ensures kept { IsEditUnwritten result → w.new ≡ w.old }
+{
+    edited_files_show();
+    let circuit = Aig::from_aiger(alloc, r, limit)?;
+    print_edited(edit, circuit, limit, w)
+}

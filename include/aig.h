@@ -1,0 +1,197 @@
+/* The proved circuit library, for C.
+ *
+ * A call takes the bytes of files and gives bytes or numbers, and a status. Files are in the AIGER format, text or binary, of up to
+ * 2^24 variables; circuits with their further steps have up to 2^24 nodes. What each call promises is proved; the callers' part
+ * isn't checked.
+ *
+ * The caller owns all memory. A call reads what its `const` pointers point to, writes `out` and what the last pointers point to,
+ * and keeps nothing: what it needs it takes by malloc, and frees before it returns.
+ *
+ * Required of the caller:
+ * - A pointer that comes with a length points to so many items. It isn't null, not even where the length is 0.
+ * - What is written doesn't overlap what is read, nor any other thing that is written.
+ * - malloc, realloc and free are of one allocator.
+ * - No call is made from a signal handler, nor in a child that a process of several threads forked.
+ *
+ * Calls can be made from several threads at once.
+ *
+ * An answer is put at the front of `out`, which has room for `out_len` items, and `*needed` is how many it has. Where it doesn't
+ * fit, the status is AIG_SMALL, `out` is as it was, and `*needed` is exact. After every other status but AIG_DONE all that is
+ * pointed to is as it was. To ask for the size first costs a whole call: keep a buffer, and let it grow where it is too small.
+ *
+ * `k` is the number of a step, from 0 on. `optimize` says whether exclusive ors and choices have clauses of their own; a proof and a
+ * solver's answer are of the clauses of the same `k` and `optimize`. A proof is text, in the LRAT or the DRAT format (cadical
+ * --lrat --no-binary, or --no-binary). A solver's answer is its lines `s SATISFIABLE` and `v ..`.
+ */
+#ifndef AIG_H
+#define AIG_H
+
+#include <stdbool.h>
+#include <stddef.h>
+#include <stdint.h>
+
+#ifdef __cplusplus
+extern "C" {
+#endif
+
+/* How a call ended. */
+enum aig_status {
+  AIG_DONE = 0,       /* The answer is given, or what is checked holds. */
+  AIG_SMALL = 1,      /* The answer doesn't fit `out`; `*needed` says how much it takes. */
+  AIG_MEMORY = 2,     /* malloc or realloc gave null. Nothing is said of the files. */
+  AIG_STREAM = 3,     /* Never: a read failed. */
+  AIG_MANY_STEPS = 4, /* `k` is 2^32 or more. */
+  AIG_TOO_LARGE = 5,  /* The circuit with its further steps may pass the limit. */
+  AIG_NO_BADS = 6,    /* There is no bad state property, so that nothing is asked. */
+  AIG_CROWDED = 7,    /* The clauses of a window may have more variables than the limit. */
+  AIG_MISFIT = 8,     /* The counts of two files don't fit. */
+  AIG_UNWRITABLE = 9, /* The circuit of two files is too large for the format. */
+
+  /* The file is refused. */
+  AIG_HEADER = 10,   /* The first line isn't a good header line. */
+  AIG_TOO_MANY = 11, /* The header line is good, and the file has more variables than the limit. */
+  AIG_DELTA = 12,    /* A gate of a binary file is cut, or its differences aren't allowed. */
+  AIG_NAME = 13,     /* A name line is malformed, or is for no entry or for one that has a name. */
+
+  /* A line of a section is malformed or cut. */
+  AIG_SYNTAX_INPUTS = 16,
+  AIG_SYNTAX_LATCHES = 17,
+  AIG_SYNTAX_OUTPUTS = 18,
+  AIG_SYNTAX_BADS = 19,
+  AIG_SYNTAX_CONSTRAINTS = 20,
+  AIG_SYNTAX_JUSTICE = 21,
+  AIG_SYNTAX_FAIRNESS = 22,
+  AIG_SYNTAX_GATES = 23,
+
+  /* A number of a section is no literal that may stand there. */
+  AIG_LITERAL_INPUTS = 24,
+  AIG_LITERAL_LATCHES = 25,
+  AIG_LITERAL_OUTPUTS = 26,
+  AIG_LITERAL_BADS = 27,
+  AIG_LITERAL_CONSTRAINTS = 28,
+  AIG_LITERAL_JUSTICE = 29,
+  AIG_LITERAL_FAIRNESS = 30,
+  AIG_LITERAL_GATES = 31,
+
+  /* A proof is refused. */
+  AIG_PROOF_CLAUSES = 40,    /* Never: a literal of the clauses has no variable. */
+  AIG_PROOF_LINE = 41,       /* A line is no step, or is one of the other form than the first line. */
+  AIG_PROOF_LITERAL = 42,    /* A literal has no variable. */
+  AIG_PROOF_UNNAMED = 43,    /* A number names no clause. */
+  AIG_PROOF_TWICE = 44,      /* A number was used before. */
+  AIG_PROOF_LARGE = 45,      /* A number is far above how many clauses there are. */
+  AIG_PROOF_STEP = 46,       /* A clause doesn't follow. */
+  AIG_PROOF_ASYMMETRY = 47,  /* A step is one by resolution asymmetry (RAT). */
+  AIG_PROOF_BINARY = 48,     /* The proof is no text. */
+  AIG_PROOF_UNFINISHED = 49, /* The proof ends before the empty clause. */
+
+  /* A witness is refused. */
+  AIG_WITNESS_STATUS = 60,   /* The first line isn't 1. */
+  AIG_WITNESS_PROPERTY = 61, /* The second line isn't b and the number of a property. */
+  AIG_WITNESS_VALUES = 62,   /* A line of values is malformed, or the last point is missing. */
+  AIG_WITNESS_NONE = 63,     /* There are comments alone. */
+
+  /* A witness shows no bad state. */
+  AIG_SHOW_LATCHES = 70,    /* The state has not a value for each latch. */
+  AIG_SHOW_INPUTS = 71,     /* A step has not a value for each input. */
+  AIG_SHOW_NO_STEP = 72,    /* There is no step. */
+  AIG_SHOW_NO_BAD = 73,     /* There is no bad state property of this number. */
+  AIG_SHOW_START = 74,      /* The state is not known to be a start. */
+  AIG_SHOW_CONSTRAINT = 75, /* A constraint is not known to hold at a step. */
+  AIG_SHOW_BAD = 76,        /* The bad state property is not known to hold at the last step. */
+
+  /* A solver's answer is refused. */
+  AIG_SOLUTION_UNSATISFIABLE = 80, /* It is that there is no solution. */
+  AIG_SOLUTION_UNKNOWN = 81,       /* It is that the solver doesn't know. */
+  AIG_SOLUTION_ANSWER = 82,        /* There is none. */
+  AIG_SOLUTION_LINE = 83,          /* A line after it is malformed. */
+  AIG_SOLUTION_LITERAL = 84,       /* A word isn't a literal or 0. */
+  AIG_SOLUTION_VARIABLE = 85,      /* A literal is of no variable of the clauses. */
+  AIG_SOLUTION_CLASH = 86,         /* A literal stands there, and its inverse too. */
+  AIG_SOLUTION_UNFINISHED = 87,    /* It ends before its 0. */
+  AIG_SOLUTION_NO_BAD = 88,        /* No bad state property is true at the last step. */
+
+  /* Added to a status of a call on two files: what is refused so. Without any it is the first file, or memory. */
+  AIG_OTHER = 256,  /* The second file. */
+  AIG_QUERY = 512,  /* The query of the circuit of the two, or its proof. */
+  AIG_WINDOW = 1024 /* The window of the circuit of the two, or its proof. */
+};
+
+/* What a status says, in the words of the programs. It fits 128 bytes. There is no 0 at its end. */
+uint32_t aig_message(uint32_t status, uint8_t *out, size_t out_len, size_t *needed);
+
+/* The text form of a file's circuit. */
+uint32_t aig_text(const uint8_t *file, size_t file_len, uint8_t *out, size_t out_len, size_t *needed);
+
+/* The binary form of a file's circuit. */
+uint32_t aig_binary(const uint8_t *file, size_t file_len, uint8_t *out, size_t out_len, size_t *needed);
+
+/* The text form of a file's circuit after structural hashing. */
+uint32_t aig_strash(const uint8_t *file, size_t file_len, uint8_t *out, size_t out_len, size_t *needed);
+
+/* The clauses, in DIMACS form, of a file's circuit that is unrolled by `k` steps. */
+uint32_t aig_cnf(const uint8_t *file, size_t file_len, uint64_t k, bool optimize, uint8_t *out, size_t out_len, size_t *needed);
+
+/* The clauses, in DIMACS form, that ask for a run of a file's machine from an initial state to a bad state at step `k`: its query.
+ * A file without bad state properties has one that can't be satisfied. */
+uint32_t aig_query(const uint8_t *file, size_t file_len, uint64_t k, bool optimize, uint8_t *out, size_t out_len, size_t *needed);
+
+/* The clauses of the query as DIMACS numbers, with a 0 after each clause. `*variables` is how many variables they have. A file
+ * without bad state properties is refused. */
+uint32_t aig_query_numbers(const uint8_t *file, size_t file_len, uint64_t k, bool optimize, int32_t *out, size_t out_len,
+                           size_t *needed, size_t *variables);
+
+/* The clauses of the query, in DIMACS form, and before them comments that say which literals stand for the inputs at each step, the
+ * latches at step 0 and the bad state properties at step `k`. A file without bad state properties is refused. */
+uint32_t aig_clauses(const uint8_t *file, size_t file_len, uint64_t k, bool optimize, uint8_t *out, size_t out_len,
+                     size_t *needed);
+
+/* The clauses, in DIMACS form, that ask for a window of a file's machine: `k` + 2 steps from any state with a bad state first at
+ * their end; where `distinct`, on which no state comes twice. */
+uint32_t aig_window(const uint8_t *file, size_t file_len, uint64_t k, bool distinct, bool optimize, uint8_t *out,
+                    size_t out_len, size_t *needed);
+
+/* AIG_DONE only where no run of a file's machine, from an initial state and under the constraints at each step, reaches a bad state
+ * at step `k`. `proof` is of the clauses of `aig_query`. */
+uint32_t aig_check_refuted(const uint8_t *file, size_t file_len, uint64_t k, bool optimize, const uint8_t *proof,
+                           size_t proof_len);
+
+/* AIG_DONE only where no such run ever reaches a bad state, if none does at the steps 0 to `k`. `proof` is of the clauses of
+ * `aig_window`. */
+uint32_t aig_check_inductive(const uint8_t *file, size_t file_len, uint64_t k, bool distinct, bool optimize,
+                             const uint8_t *proof, size_t proof_len);
+
+/* AIG_DONE only where no such run ever reaches a bad state, as `certificate` shows: a witness circuit of the hardware model checking
+ * competition, with resets that are constants or open. `base` is a proof of the clauses of `aig_query` for step 0, and `step` of
+ * those of `aig_window` for k = 0 without `distinct`, both of the text that `aig_join` gives. */
+uint32_t aig_check_certified(const uint8_t *file, size_t file_len, const uint8_t *certificate, size_t certificate_len,
+                             bool optimize, const uint8_t *base, size_t base_len, const uint8_t *step, size_t step_len);
+
+/* AIG_DONE only where the machines of two files have the same outputs and bad state properties at step `k`, on all runs of both with
+ * the same inputs. `proof` is of the clauses of `aig_query` of the text that `aig_miter` gives. */
+uint32_t aig_check_equal(const uint8_t *file, size_t file_len, const uint8_t *other, size_t other_len, uint64_t k,
+                         bool optimize, const uint8_t *proof, size_t proof_len);
+
+/* The witness, in the format of AIGER 1.9, that a solver's answer to the query says. It was checked: nothing of the answer is
+ * trusted. */
+uint32_t aig_witness(const uint8_t *file, size_t file_len, uint64_t k, bool optimize, const uint8_t *solution,
+                     size_t solution_len, uint8_t *out, size_t out_len, size_t *needed);
+
+/* AIG_DONE only where the witness shows that a file's machine reaches a bad state. `*bad` is which bad state property that is, and
+ * `*step` the step at which it is reached, both from 0 on. What follows the first witness isn't read. */
+uint32_t aig_check_run(const uint8_t *file, size_t file_len, const uint8_t *witness, size_t witness_len, size_t *bad,
+                       size_t *step);
+
+/* The text form of the miter of two files with as many inputs, outputs and bad state properties: a circuit over the inputs of both,
+ * which is bad where their outputs or bad state properties differ. */
+uint32_t aig_miter(const uint8_t *file, size_t file_len, const uint8_t *other, size_t other_len, uint8_t *out, size_t out_len,
+                   size_t *needed);
+
+/* The text form of a file's circuit beside its certificate, of which both proofs of `aig_check_certified` are. */
+uint32_t aig_join(const uint8_t *file, size_t file_len, const uint8_t *certificate, size_t certificate_len, uint8_t *out,
+                  size_t out_len, size_t *needed);
+
+#ifdef __cplusplus
+}
+#endif
+#endif

@@ -1,0 +1,232 @@
+"""The proved circuit library: AIGER files as bytes in, answers as bytes out.
+
+What each call promises is proved, of the calls of `aig.h` that stand under it; this module is not. It loads `libaig.so`, which lies in
+the folder above it or where the environment's LIBAIG says. Calls can be made from several threads: other threads run meanwhile.
+
+    >>> import aig
+    >>> aig.text(b"aag 1 1 0 1 0\\n2\\n3\\n")
+    b'aag 1 1 0 1 0\\n2\\n3\\n'
+    >>> aig.text(b"aag 1 1 0 1 0\\n2\\n4\\n")
+    Traceback (most recent call last):
+    aig.Refused: bad literal in outputs
+"""
+from __future__ import annotations
+
+import ctypes
+import os
+import pathlib
+from typing import NamedTuple
+
+__all__ = [
+    "Clauses",
+    "Refused",
+    "Shown",
+    "binary",
+    "check_certified",
+    "check_equal",
+    "check_inductive",
+    "check_refuted",
+    "check_run",
+    "clauses",
+    "cnf",
+    "join",
+    "miter",
+    "query",
+    "query_numbers",
+    "strash",
+    "text",
+    "window",
+    "witness",
+]
+
+DONE, SMALL, MEMORY = 0, 1, 2
+
+_here = pathlib.Path(__file__).resolve().parent
+_library = ctypes.CDLL(os.environ.get("LIBAIG", str(_here.parent / "libaig.so")))
+_size, _bool, _step = ctypes.c_size_t, ctypes.c_bool, ctypes.c_uint64
+_BYTES = [ctypes.c_char_p, _size]
+_STEP = [_step, _bool]
+_OUT = [ctypes.POINTER(ctypes.c_uint8), _size, ctypes.POINTER(_size)]
+_NUMBERS_OUT = [ctypes.POINTER(ctypes.c_int32), _size, ctypes.POINTER(_size), ctypes.POINTER(_size)]
+
+# What each call of `aig.h` takes.
+_TAKES = {
+    "aig_text": [*_BYTES, *_OUT],
+    "aig_binary": [*_BYTES, *_OUT],
+    "aig_strash": [*_BYTES, *_OUT],
+    "aig_cnf": [*_BYTES, *_STEP, *_OUT],
+    "aig_query": [*_BYTES, *_STEP, *_OUT],
+    "aig_query_numbers": [*_BYTES, *_STEP, *_NUMBERS_OUT],
+    "aig_clauses": [*_BYTES, *_STEP, *_OUT],
+    "aig_window": [*_BYTES, _step, _bool, _bool, *_OUT],
+    "aig_check_refuted": [*_BYTES, *_STEP, *_BYTES],
+    "aig_check_inductive": [*_BYTES, _step, _bool, _bool, *_BYTES],
+    "aig_check_certified": [*_BYTES, *_BYTES, _bool, *_BYTES, *_BYTES],
+    "aig_check_equal": [*_BYTES, *_BYTES, *_STEP, *_BYTES],
+    "aig_witness": [*_BYTES, *_STEP, *_BYTES, *_OUT],
+    "aig_check_run": [*_BYTES, *_BYTES, ctypes.POINTER(_size), ctypes.POINTER(_size)],
+    "aig_miter": [*_BYTES, *_BYTES, *_OUT],
+    "aig_join": [*_BYTES, *_BYTES, *_OUT],
+    "aig_message": [ctypes.c_uint32, *_OUT],
+}
+for _name, _takes in _TAKES.items():
+    _call = getattr(_library, _name)
+    _call.argtypes, _call.restype = _takes, ctypes.c_uint32
+
+# How much room an answer is given at least.
+_ROOM = 1 << 16
+
+
+class Refused(Exception):
+    """A call has no answer. `status` is its status, as `aig.h` has it, and the text says why in the words of the programs."""
+
+    def __init__(self, status: int):
+        super().__init__(_message(status))
+        self.status = status
+
+
+class Clauses(NamedTuple):
+    """Clauses as DIMACS numbers, with a 0 after each, over the variables from 1 up to this one."""
+
+    variables: int
+    numbers: list[int]
+
+
+class Shown(NamedTuple):
+    """A bad state that a witness shows: the number of the bad state property, and the step, both from 0 on."""
+
+    bad: int
+    step: int
+
+
+def _given(data: bytes) -> tuple[bytes, int]:
+    """The words of a call for bytes, which it only reads."""
+    whole = bytes(data)
+    return whole, len(whole)
+
+
+def _steps(k: int) -> int:
+    """The number of a step: one that a call can't be given is refused as one that it refuses."""
+    if k < 0:
+        raise ValueError("a step has a number from 0 on")
+    return min(k, 1 << 32)
+
+
+def _answer(name: str, *words, kind=ctypes.c_uint8, more: int = 0) -> tuple:
+    """The items of an answer, and the further numbers. It is asked for at most twice: at first with room for twice what is given."""
+    call = getattr(_library, name)
+    room = max(_ROOM, 2 * sum(len(word) for word in words if isinstance(word, bytes)))
+    while True:
+        out, counts = (kind * room)(), [_size() for _ in range(1 + more)]
+        status = call(*words, out, room, *map(ctypes.byref, counts))
+        if status == DONE:
+            return (out, *(count.value for count in counts))
+        if status != SMALL:
+            raise Refused(status) if status != MEMORY else MemoryError(_message(status))
+        room = counts[0].value
+
+
+def _bytes(name: str, *words) -> bytes:
+    """The bytes of an answer."""
+    out, count = _answer(name, *words)
+    return ctypes.string_at(out, count)
+
+
+def _message(status: int) -> str:
+    """What a status says."""
+    out, needed = (ctypes.c_uint8 * 128)(), _size()
+    _library.aig_message(status, out, len(out), ctypes.byref(needed))
+    return ctypes.string_at(out, needed.value).decode()
+
+
+def _hold(name: str, *words) -> None:
+    """Makes a call that checks something, and raises where that isn't done."""
+    status = getattr(_library, name)(*words)
+    if status == MEMORY:
+        raise MemoryError(_message(status))
+    if status != DONE:
+        raise Refused(status)
+
+
+def text(file: bytes) -> bytes:
+    """The text form of a file's circuit."""
+    return _bytes("aig_text", *_given(file))
+
+
+def binary(file: bytes) -> bytes:
+    """The binary form of a file's circuit."""
+    return _bytes("aig_binary", *_given(file))
+
+
+def strash(file: bytes) -> bytes:
+    """The text form of a file's circuit after structural hashing."""
+    return _bytes("aig_strash", *_given(file))
+
+
+def cnf(file: bytes, k: int, *, optimize: bool = True) -> bytes:
+    """The clauses, in DIMACS form, of a file's circuit that is unrolled by `k` steps."""
+    return _bytes("aig_cnf", *_given(file), _steps(k), optimize)
+
+
+def query(file: bytes, k: int, *, optimize: bool = True) -> bytes:
+    """The clauses, in DIMACS form, that ask for a run of a file's machine to a bad state at step `k`."""
+    return _bytes("aig_query", *_given(file), _steps(k), optimize)
+
+
+def query_numbers(file: bytes, k: int, *, optimize: bool = True) -> Clauses:
+    """The clauses of a file's query for step `k` as numbers. A file without bad state properties is refused."""
+    words = [*_given(file), _steps(k), optimize]
+    out, count, variables = _answer("aig_query_numbers", *words, kind=ctypes.c_int32, more=1)
+    return Clauses(variables, out[:count])
+
+
+def clauses(file: bytes, k: int, *, optimize: bool = True) -> bytes:
+    """The clauses of a file's query for step `k`, in DIMACS form, after comments that say which literals stand for what."""
+    return _bytes("aig_clauses", *_given(file), _steps(k), optimize)
+
+
+def window(file: bytes, k: int, *, distinct: bool = False, optimize: bool = True) -> bytes:
+    """The clauses, in DIMACS form, that ask for `k` + 2 steps with a bad state first at their end; if distinct, with no state twice."""
+    return _bytes("aig_window", *_given(file), _steps(k), distinct, optimize)
+
+
+def witness(file: bytes, k: int, solution: bytes, *, optimize: bool = True) -> bytes:
+    """The witness, checked, that a solver's answer to a file's query for step `k` says."""
+    return _bytes("aig_witness", *_given(file), _steps(k), optimize, *_given(solution))
+
+
+def miter(file: bytes, other: bytes) -> bytes:
+    """The text form of two files' miter, which is bad where their outputs or bad state properties differ."""
+    return _bytes("aig_miter", *_given(file), *_given(other))
+
+
+def join(file: bytes, certificate: bytes) -> bytes:
+    """The text form of a file's circuit beside its certificate."""
+    return _bytes("aig_join", *_given(file), *_given(certificate))
+
+
+def check_refuted(file: bytes, k: int, proof: bytes, *, optimize: bool = True) -> None:
+    """Returns only where no run of a file's machine reaches a bad state at step `k`, by a proof for `query`."""
+    _hold("aig_check_refuted", *_given(file), _steps(k), optimize, *_given(proof))
+
+
+def check_inductive(file: bytes, k: int, proof: bytes, *, distinct: bool = False, optimize: bool = True) -> None:
+    """Returns only where no bad state is ever reached, if none is at the steps 0 to `k`, by a proof for `window`."""
+    _hold("aig_check_inductive", *_given(file), _steps(k), distinct, optimize, *_given(proof))
+
+
+def check_certified(file: bytes, certificate: bytes, base: bytes, step: bytes, *, optimize: bool = True) -> None:
+    """Returns only where no bad state is ever reached, as the certificate shows, by proofs for `query` and `window` of `join`'s text."""
+    _hold("aig_check_certified", *_given(file), *_given(certificate), optimize, *_given(base), *_given(step))
+
+
+def check_equal(file: bytes, other: bytes, k: int, proof: bytes, *, optimize: bool = True) -> None:
+    """Returns only where two files' machines are equal at step `k`, by a proof for `query` of `miter`'s text."""
+    _hold("aig_check_equal", *_given(file), *_given(other), _steps(k), optimize, *_given(proof))
+
+
+def check_run(file: bytes, witness: bytes) -> Shown:
+    """Which bad state a witness shows, and at which step."""
+    bad, step = _size(), _size()
+    _hold("aig_check_run", *_given(file), *_given(witness), ctypes.byref(bad), ctypes.byref(step))
+    return Shown(bad.value, step.value)

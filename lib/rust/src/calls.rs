@@ -1,0 +1,123 @@
+//! The calls as `aig.h` declares them.
+
+unsafe extern "C" {
+    pub fn aig_text(file: *const u8, file_len: usize, out: *mut u8, out_len: usize, needed: *mut usize) -> u32;
+    pub fn aig_binary(file: *const u8, file_len: usize, out: *mut u8, out_len: usize, needed: *mut usize) -> u32;
+    pub fn aig_strash(file: *const u8, file_len: usize, out: *mut u8, out_len: usize, needed: *mut usize) -> u32;
+    pub fn aig_cnf(
+        file: *const u8,
+        file_len: usize,
+        k: u64,
+        optimize: bool,
+        out: *mut u8,
+        out_len: usize,
+        needed: *mut usize,
+    ) -> u32;
+    pub fn aig_query(
+        file: *const u8,
+        file_len: usize,
+        k: u64,
+        optimize: bool,
+        out: *mut u8,
+        out_len: usize,
+        needed: *mut usize,
+    ) -> u32;
+    pub fn aig_query_numbers(
+        file: *const u8,
+        file_len: usize,
+        k: u64,
+        optimize: bool,
+        out: *mut i32,
+        out_len: usize,
+        needed: *mut usize,
+        variables: *mut usize,
+    ) -> u32;
+    pub fn aig_clauses(
+        file: *const u8,
+        file_len: usize,
+        k: u64,
+        optimize: bool,
+        out: *mut u8,
+        out_len: usize,
+        needed: *mut usize,
+    ) -> u32;
+    pub fn aig_window(
+        file: *const u8,
+        file_len: usize,
+        k: u64,
+        distinct: bool,
+        optimize: bool,
+        out: *mut u8,
+        out_len: usize,
+        needed: *mut usize,
+    ) -> u32;
+    pub fn aig_check_refuted(file: *const u8, file_len: usize, k: u64, optimize: bool, proof: *const u8, proof_len: usize) -> u32;
+    pub fn aig_check_inductive(
+        file: *const u8,
+        file_len: usize,
+        k: u64,
+        distinct: bool,
+        optimize: bool,
+        proof: *const u8,
+        proof_len: usize,
+    ) -> u32;
+    pub fn aig_check_certified(
+        file: *const u8,
+        file_len: usize,
+        certificate: *const u8,
+        certificate_len: usize,
+        optimize: bool,
+        base: *const u8,
+        base_len: usize,
+        step: *const u8,
+        step_len: usize,
+    ) -> u32;
+    pub fn aig_check_equal(
+        file: *const u8,
+        file_len: usize,
+        other: *const u8,
+        other_len: usize,
+        k: u64,
+        optimize: bool,
+        proof: *const u8,
+        proof_len: usize,
+    ) -> u32;
+    pub fn aig_witness(
+        file: *const u8,
+        file_len: usize,
+        k: u64,
+        optimize: bool,
+        solution: *const u8,
+        solution_len: usize,
+        out: *mut u8,
+        out_len: usize,
+        needed: *mut usize,
+    ) -> u32;
+    pub fn aig_check_run(
+        file: *const u8,
+        file_len: usize,
+        witness: *const u8,
+        witness_len: usize,
+        bad: *mut usize,
+        step: *mut usize,
+    ) -> u32;
+    pub fn aig_miter(
+        file: *const u8,
+        file_len: usize,
+        other: *const u8,
+        other_len: usize,
+        out: *mut u8,
+        out_len: usize,
+        needed: *mut usize,
+    ) -> u32;
+    pub fn aig_join(
+        file: *const u8,
+        file_len: usize,
+        certificate: *const u8,
+        certificate_len: usize,
+        out: *mut u8,
+        out_len: usize,
+        needed: *mut usize,
+    ) -> u32;
+    pub fn aig_message(status: u32, out: *mut u8, out_len: usize, needed: *mut usize) -> u32;
+}

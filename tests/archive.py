@@ -1,0 +1,104 @@
+#!/usr/bin/env python3
+"""Builds the library for C from what a run of the gate proved: archive.py [FOLDER]
+
+Puts libaig.a and libaig.so into crates/aig_c/out, if they aren't there of this text, and into the folder. `aig_c` is proved and compiled over the libraries that `rt`
+built of the crates below it, as they are: so a run of `rt ci` has to come before, or `rt lib` in crates/aig_c. Nothing below is proved
+again. What C's heap takes is linked in, and both files have the names of include/aig.h alone.
+
+Needs a C compiler ($CC, cc) and binutils.
+"""
+import hashlib
+import os
+import pathlib
+import re
+import shlex
+import shutil
+import subprocess
+import sys
+import tempfile
+
+TOP = pathlib.Path(__file__).resolve().parent.parent
+CRATE = TOP / "crates" / "aig_c"
+HEADER = TOP / "include" / "aig.h"
+BUILT = ["libaig.a", "libaig.so"]
+
+
+def kit():
+    """The folder of the kit whose `rt` is run."""
+    found = shutil.which("rt")
+    return pathlib.Path(found).resolve().parent.parent if found else sys.exit("archive: there is no rt")
+
+
+def names():
+    """The names of the calls, as the header declares them."""
+    return re.findall(r"^uint32_t (\w+)\(", HEADER.read_text(encoding="utf-8"), re.M)
+
+
+def run(*words, **how):
+    """Runs a command, which is to end well."""
+    if subprocess.run(list(map(str, words)), **how).returncode:
+        sys.exit(f"archive: {words[0]} failed")
+
+
+def crate_of(tools):
+    """The crate, as `rt` knows it."""
+    sys.path.insert(0, str(tools / "bin"))
+    import rtlib
+
+    os.chdir(CRATE)
+    crate = rtlib.Crate(str(CRATE), str(TOP), {})
+    crate.out = sys.stderr
+    return crate
+
+
+def sum_of(crate, tools):
+    """A sum of all that the library is made from."""
+    total = hashlib.sha256((tools / "WHAT").read_bytes() + HEADER.read_bytes() + (TOP / "crates.txt").read_bytes())
+    folders = sorted(it.folder for it in [crate, *crate.below()])
+    for path in (path for folder in folders for part in ("src", "specs", "proofs") for path in sorted(pathlib.Path(folder, part).rglob("*.*t"))):
+        total.update(str(path.relative_to(TOP)).encode() + path.read_bytes())
+    return total.hexdigest()
+
+
+def compile_crate(crate, to):
+    """Proves and compiles the crate over the libraries below it as they lie there."""
+    missing = [dep.name for dep in crate.below() if not os.path.isdir(dep.rlib)]
+    if missing:
+        sys.exit(f"archive: run rt ci first: {missing[0]} isn't built, of {len(missing)}")
+    if crate.compile(["--jobs", "1"], str(to)):
+        sys.exit("archive: aig_c didn't build")
+
+
+def build(crate, tools, folder):
+    """Puts both libraries into the folder."""
+    compiler = shlex.split(os.environ.get("CC") or "cc")
+    with tempfile.TemporaryDirectory() as place:
+        made = pathlib.Path(place)
+        compile_crate(crate, made / "libaig_c.a")
+        (made / "names").write_text("\n".join(names()) + "\n", encoding="utf-8")
+        whole = ["--whole-archive", made / "libaig_c.a", "--no-whole-archive", tools / "c" / "liblibc_c.a"]
+        run("ld", "-r", "-o", made / "all.o", *whole)
+        run("objcopy", f"--keep-global-symbols={made / 'names'}", made / "all.o", made / "aig.o")
+        run("ar", "rcsD", made / "libaig.a", made / "aig.o")
+        run(*compiler, "-shared", "-Wl,-soname,libaig.so.1,-z,defs,-z,noexecstack", "-o", made / "libaig.so", made / "aig.o")
+        for name in BUILT:
+            shutil.copy(made / name, folder / name)
+
+
+def main():
+    tools = kit()
+    folder = pathlib.Path(sys.argv[1]).resolve() if len(sys.argv) > 1 else None
+    crate, out = crate_of(tools), CRATE / "out"
+    out.mkdir(exist_ok=True)
+    told, stamp = out / "libaig.stamp", sum_of(crate, tools)
+    if not (told.is_file() and told.read_text() == stamp and all((out / name).is_file() for name in BUILT)):
+        told.unlink(missing_ok=True)
+        build(crate, tools, out)
+        told.write_text(stamp)
+    if folder:
+        for name in BUILT:
+            shutil.copy(out / name, folder / name)
+
+
+if __name__ == "__main__":
+    main()

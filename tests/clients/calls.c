@@ -1,0 +1,226 @@
+/* The programs aigtool, aigedit and aigcheck again, over the calls of aig.h: calls PROGRAM WORD ..
+ *
+ * Prints what the program prints of the same words, says the same on standard error, and ends with the same status. Each call is made
+ * three times: with no room, with as much room as it then says it takes, and with one item less.
+ */
+#include "aig.h"
+#include <stdio.h>
+#include <stdlib.h>
+#include <string.h>
+
+struct bytes {
+  uint8_t *at;
+  size_t len;
+};
+
+/* What a command is run on. */
+struct words {
+  struct bytes file, given, further;
+  uint64_t k;
+  bool optimize, distinct;
+};
+
+/* A call that gives an answer, with its words. */
+typedef uint32_t call(const struct words *, uint8_t *out, size_t out_len, size_t *needed);
+
+static const char *program;
+
+static _Noreturn void stop(const char *why) {
+  fprintf(stderr, "%s: %s\n", program, why);
+  exit(1);
+}
+
+static _Noreturn void wrong(const char *what) {
+  fprintf(stderr, "calls: %s\n", what);
+  exit(3);
+}
+
+static void *room_for(size_t size) {
+  void *at = malloc(size ? size : 1);
+  if (!at) stop("out of memory");
+  return at;
+}
+
+static struct bytes read_file(const char *path) {
+  FILE *file = fopen(path, "rb");
+  if (!file) stop("cannot open");
+  struct bytes all = {room_for(1 << 16), 0};
+  size_t room = 1 << 16, count;
+  while ((count = fread(all.at + all.len, 1, room - all.len, file)) > 0) {
+    all.len += count;
+    if (all.len == room && !(all.at = realloc(all.at, room *= 2))) stop("out of memory");
+  }
+  if (ferror(file)) stop("read failed");
+  fclose(file);
+  return all;
+}
+
+/* Says on standard error what the status means, and ends. */
+static _Noreturn void refuse(uint32_t status) {
+  char text[100];
+  size_t needed = 0;
+  if (aig_message(status, (uint8_t *)text, sizeof text - 1, &needed) != AIG_DONE) wrong("a text doesn't fit");
+  text[needed] = 0;
+  stop(text);
+}
+
+/* The calls that give an answer. */
+static uint32_t text(const struct words *w, uint8_t *out, size_t len, size_t *needed) {
+  return aig_text(w->file.at, w->file.len, out, len, needed);
+}
+static uint32_t binary(const struct words *w, uint8_t *out, size_t len, size_t *needed) {
+  return aig_binary(w->file.at, w->file.len, out, len, needed);
+}
+static uint32_t strash(const struct words *w, uint8_t *out, size_t len, size_t *needed) {
+  return aig_strash(w->file.at, w->file.len, out, len, needed);
+}
+static uint32_t cnf(const struct words *w, uint8_t *out, size_t len, size_t *needed) {
+  return aig_cnf(w->file.at, w->file.len, w->k, w->optimize, out, len, needed);
+}
+static uint32_t query(const struct words *w, uint8_t *out, size_t len, size_t *needed) {
+  return aig_query(w->file.at, w->file.len, w->k, w->optimize, out, len, needed);
+}
+static uint32_t clauses(const struct words *w, uint8_t *out, size_t len, size_t *needed) {
+  return aig_clauses(w->file.at, w->file.len, w->k, w->optimize, out, len, needed);
+}
+static uint32_t window(const struct words *w, uint8_t *out, size_t len, size_t *needed) {
+  return aig_window(w->file.at, w->file.len, w->k, w->distinct, w->optimize, out, len, needed);
+}
+static uint32_t witness(const struct words *w, uint8_t *out, size_t len, size_t *needed) {
+  return aig_witness(w->file.at, w->file.len, w->k, w->optimize, w->given.at, w->given.len, out, len, needed);
+}
+static uint32_t miter(const struct words *w, uint8_t *out, size_t len, size_t *needed) {
+  return aig_miter(w->file.at, w->file.len, w->given.at, w->given.len, out, len, needed);
+}
+static uint32_t join(const struct words *w, uint8_t *out, size_t len, size_t *needed) {
+  return aig_join(w->file.at, w->file.len, w->given.at, w->given.len, out, len, needed);
+}
+
+/* Whether each byte is the one that was put there. */
+static bool is_kept(const uint8_t *out, size_t len) {
+  for (size_t i = 0; i < len; i++)
+    if (out[i] != 0xa5) return false;
+  return true;
+}
+
+/* Makes the call with this much room, and checks what it leaves. */
+static uint32_t try(call *makes, const struct words *w, size_t room, size_t *needed, uint8_t **answer) {
+  const size_t more = 8;
+  uint8_t *out = room_for(room + more);
+  memset(out, 0xa5, room + more);
+  size_t count = 0xa5a5;
+  uint32_t status = makes(w, out, room, &count);
+  size_t filled = status == AIG_DONE ? count : 0;
+  if (filled > room || !is_kept(out + filled, room + more - filled)) wrong("memory was written that isn't the answer's");
+  if (status > AIG_SMALL && count != 0xa5a5) wrong("needed was written with no answer");
+  if (status == AIG_SMALL && count <= room) wrong("an answer that fits was not given");
+  *needed = count;
+  *answer = out;
+  return status;
+}
+
+/* Prints an answer, or ends. */
+static void print(call *makes, const struct words *w) {
+  size_t needed = 0, again = 0;
+  uint8_t *none, *answer, *less;
+  uint32_t status = try(makes, w, 0, &needed, &none);
+  if (status > AIG_SMALL) refuse(status);
+  if (status == AIG_DONE && needed) wrong("an answer was given where there is no room");
+  status = try(makes, w, needed, &again, &answer);
+  if (status != AIG_DONE || again != needed) wrong("an answer doesn't fit that was to fit");
+  if (needed && (try(makes, w, needed - 1, &again, &less) != AIG_SMALL || again != needed)) wrong("an answer fits too little room");
+  fwrite(answer, 1, needed, stdout);
+}
+
+/* Ends where a check isn't done. */
+static void hold(uint32_t status) {
+  if (status != AIG_DONE) refuse(status);
+}
+
+/* Prints the numbers of a query as DIMACS text. */
+static void print_numbers(const struct words *w) {
+  size_t needed = 0, variables = 0, count = 0;
+  int32_t none[1] = {7}, *out;
+  uint32_t status = aig_query_numbers(w->file.at, w->file.len, w->k, w->optimize, none, 0, &needed, &variables);
+  if (status > AIG_SMALL) {
+    if (needed || variables || none[0] != 7) wrong("memory was written with no answer");
+    refuse(status);
+  }
+  out = room_for(needed * sizeof *out);
+  hold(aig_query_numbers(w->file.at, w->file.len, w->k, w->optimize, out, needed, &needed, &variables));
+  for (size_t i = 0; i < needed; i++) count += out[i] == 0;
+  printf("p cnf %zu %zu\n", variables, count);
+  for (size_t i = 0; i < needed; i++) printf(out[i] ? "%d " : "%d\n", out[i]);
+}
+
+/* Prints which bad state a witness shows. */
+static void print_run(const struct words *w) {
+  size_t bad = 0xa5a5, step = 0xa5a5;
+  uint32_t status = aig_check_run(w->file.at, w->file.len, w->given.at, w->given.len, &bad, &step);
+  if (status != AIG_DONE && (bad != 0xa5a5 || step != 0xa5a5)) wrong("numbers were written with no answer");
+  hold(status);
+  printf("b%zu at step %zu\n", bad, step);
+}
+
+/* Checks a proof, and prints what holds. */
+static void print_refuted(const struct words *w) {
+  hold(aig_check_refuted(w->file.at, w->file.len, w->k, w->optimize, w->given.at, w->given.len));
+  printf("no bad state at step %llu\n", (unsigned long long)w->k);
+}
+static void print_inductive(const struct words *w) {
+  hold(aig_check_inductive(w->file.at, w->file.len, w->k, w->distinct, w->optimize, w->given.at, w->given.len));
+  printf("no bad state at any step, if none up to step %llu\n", (unsigned long long)w->k);
+}
+
+/* Checks what no program does. */
+static void print_equal(const struct words *w) {
+  hold(aig_check_equal(w->file.at, w->file.len, w->given.at, w->given.len, w->k, w->optimize, w->further.at, w->further.len));
+  printf("equal at step %llu\n", (unsigned long long)w->k);
+}
+static void print_certified(const struct words *w, struct bytes step) {
+  hold(aig_check_certified(w->file.at, w->file.len, w->given.at, w->given.len, w->optimize, w->further.at, w->further.len, step.at,
+                           step.len));
+  printf("no bad state at any step\n");
+}
+
+static const struct {
+  const char *name;
+  call *makes;
+  int paths;
+} ANSWERS[] = {
+  {"text", text, 1}, {"binary", binary, 1}, {"strash", strash, 1}, {"cnf", cnf, 1}, {"query", query, 1},
+  {"clauses", clauses, 1}, {"window", window, 1}, {"witness", witness, 2}, {"miter", miter, 2}, {"join", join, 2},
+};
+
+int main(int argc, char **argv) {
+  if (argc < 4) return 2;
+  program = argv[1];
+  const char *command = argv[2];
+  struct words w = {.optimize = true};
+  const char *paths[4];
+  int count = 0;
+  for (int i = 3; i < argc; i++) {
+    char *end;
+    uint64_t k = strtoull(argv[i], &end, 10);
+    if (!strcmp(argv[i], "raw"))
+      w.optimize = false;
+    else if (!strcmp(argv[i], "distinct"))
+      w.distinct = true;
+    else if (!*end && i > 3)
+      w.k = k;
+    else if (count < 4)
+      paths[count++] = argv[i];
+  }
+  struct bytes step = {NULL, 0};
+  struct bytes *read[] = {&w.file, &w.given, &w.further, &step};
+  for (int i = 0; i < count; i++) *read[i] = read_file(paths[i]);
+  for (size_t i = 0; i < sizeof ANSWERS / sizeof *ANSWERS; i++)
+    if (!strcmp(command, ANSWERS[i].name) && count >= ANSWERS[i].paths) return print(ANSWERS[i].makes, &w), 0;
+  if (!strcmp(command, "numbers")) return print_numbers(&w), 0;
+  if (!strcmp(command, "run") && count == 2) return print_run(&w), 0;
+  if (!strcmp(command, "refuted") && count == 2) return print_refuted(&w), 0;
+  if (!strcmp(command, "inductive") && count == 2) return print_inductive(&w), 0;
+  if (!strcmp(command, "equal") && count == 3) return print_equal(&w), 0;
+  if (!strcmp(command, "certified") && count == 4) return print_certified(&w, step), 0;
+  return 2;
+}

@@ -1,0 +1,43 @@
+//! Rows of the tables through the Rust crate: rows COMMAND WORD .., with the words of the programs.
+
+use std::io::Write;
+use std::process::ExitCode;
+
+fn main() -> ExitCode {
+    let words: Vec<String> = std::env::args().skip(1).collect();
+    let has = |name: &str| words.iter().any(|word| word == name);
+    let (optimize, distinct) = (!has("raw"), has("distinct"));
+    let step = words.iter().skip(2).find_map(|word| word.parse().ok()).unwrap_or(0);
+    let is_path = |word: &&String| word.parse::<u64>().is_err() && !["raw", "distinct"].contains(&word.as_str());
+    let files: Vec<Vec<u8>> = words.iter().skip(1).filter(is_path).map(|path| std::fs::read(path).expect("a file")).collect();
+    let file = files[0].as_slice();
+    let given = files.get(1).map_or(&[][..], Vec::as_slice);
+    let line = |text: String| text.into_bytes();
+    let answer = match words[0].as_str() {
+        "text" => aig::text(file),
+        "strash" => aig::strash(file),
+        "binary" => aig::binary(file).and_then(|binary| aig::text(&binary)),
+        "cnf" => aig::cnf(file, step, optimize),
+        "query" => aig::query(file, step, optimize),
+        "clauses" => aig::clauses(file, step, optimize),
+        "window" => aig::window(file, step, distinct, optimize),
+        "witness" => aig::witness(file, step, optimize, given),
+        "miter" => aig::miter(file, given),
+        "join" => aig::join(file, given),
+        "run" => aig::check_run(file, given).map(|shown| line(format!("b{} at step {}\n", shown.bad, shown.step))),
+        "refuted" => aig::check_refuted(file, step, optimize, given).map(|()| line(format!("no bad state at step {step}\n"))),
+        "inductive" => aig::check_inductive(file, step, distinct, optimize, given)
+            .map(|()| line(format!("no bad state at any step, if none up to step {step}\n"))),
+        _ => return ExitCode::from(2),
+    };
+    match answer {
+        Ok(bytes) => {
+            std::io::stdout().write_all(&bytes).expect("room");
+            ExitCode::SUCCESS
+        }
+        Err(status) => {
+            eprintln!("rows: {status}");
+            ExitCode::FAILURE
+        }
+    }
+}

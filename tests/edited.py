@@ -1,0 +1,126 @@
+#!/usr/bin/env python3
+"""Compares the machines of files that aigedit prints with those of the files that it reads: edited.py [--aigedit PATH] [FILES [SEED]]
+
+For the examples and for FILES (200) random files a search over all states says at which of the first steps a bad state or a true
+output is reached by a run that meets the constraints. What is printed is read by tests/aiger.py, and has to reach bad states at the
+steps that the command says. The files are small, so that the search is over all runs.
+"""
+import itertools
+import pathlib
+import random
+import sys
+import tempfile
+
+import harness
+from aiger import Machine, machine_of
+
+EXAMPLES = sorted((harness.TOP / "examples").glob("*.aag"))
+LAST = 4
+
+
+def literals(rng, most, count):
+    """Literals up to a greatest one."""
+    return [rng.randint(0, most) for _ in range(count)]
+
+
+def random_machine(rng):
+    """A machine of a few leaves and gates, with all lists but justice."""
+    inputs, latches, gates = rng.randint(0, 2), rng.randint(0, 3), rng.randint(0, 6)
+    leaves = [2 * v for v in range(1, inputs + latches + 1)]
+    made = []
+    for place in range(gates):
+        below = 2 * (len(leaves) + place) + 1
+        made.append([2 * (len(leaves) + place + 1), *sorted(literals(rng, below, 2), reverse=True)])
+    most = 2 * (len(leaves) + gates) + 1
+    states = [[leaf, rng.randint(0, most), rng.choice([0, 1, leaf])] for leaf in leaves[inputs:]]
+    lists = (literals(rng, most, rng.randint(0, count)) for count in (3, 2, 2))
+    return Machine(leaves[:inputs], states, *lists, [], literals(rng, most, rng.randint(0, 1)), made, {})
+
+
+def steps(machine, state):
+    """The values of all literals in each step from a state that meets the constraints."""
+    for inputs in itertools.product([False, True], repeat=len(machine.inputs)):
+        values = machine.values(state, inputs)
+        if machine.is_allowed(values):
+            yield values
+
+
+def reached(machine, asked):
+    """The steps up to LAST at which a run from a start that meets the constraints has one of these literals."""
+    states, found = machine.starts(), set()
+    for k in range(LAST + 1):
+        values = [values for state in states for values in steps(machine, state)]
+        if any(value[literal] for value in values for literal in asked):
+            found.add(k)
+        states = {machine.following(value) for value in values}
+    return found
+
+
+def reached_by(machine, last):
+    """Whether such a run of last + 1 steps has a bad literal at one of them."""
+    states = {(state, False) for state in machine.starts()}
+    for _ in range(last + 1):
+        states = {
+            (machine.following(values), bad or any(values[literal] for literal in machine.bads))
+            for state, bad in states
+            for values in steps(machine, state)
+        }
+    return any(bad for _, bad in states)
+
+
+class Edits:
+    """A program, a folder of files, and what was seen."""
+
+    def __init__(self, program, folder, tally):
+        self.program, self.folder, self.tally = program, folder, tally
+
+    def edited(self, *words):
+        """The machine of what a command prints."""
+        status, out, said = harness.run([self.program, *words], cwd=self.folder)
+        if status != 0:
+            self.tally.check(False, f"{words}: status {status}, {said}")
+            return None
+        return machine_of(out.decode())
+
+    def compare(self, what, wanted, given):
+        """Checks that a bad state is reached at the same steps."""
+        self.tally.wants(f"{what}\n{(self.folder / 'file').read_text()}", wanted, given)
+
+    def check(self, machine, other):
+        """Checks each command on a file, and the one that merges it with another."""
+        (self.folder / "file").write_text(machine.text())
+        (self.folder / "other").write_text(other.text())
+        bads = reached(machine, machine.bads)
+        for command in ["refine", "reencode", "compress", *(["move"] if len(machine.bads) <= 1 else [])]:
+            made = self.edited(command, "file")
+            self.compare(command, bads, reached(made, made.bads))
+        for k in range(LAST):
+            made = self.edited("unroll", "file", str(k))
+            self.compare(f"unroll {k}", reached_by(machine, k), 0 in reached(made, made.bads))
+        if not machine.bads:
+            made = self.edited("bads", "file")
+            self.compare("bads", reached(machine, machine.outputs), reached(made, made.bads))
+        runs = [reached(one, [1]) for one in (machine, other)]
+        made = self.edited("merge", "file", "other")
+        self.compare("merge", bads & runs[1] | runs[0] & reached(other, other.bads), reached(made, made.bads))
+
+
+def main():
+    parser = harness.parser(__doc__, "aigedit")
+    parser.add_argument("files", nargs="?", type=int, default=200)
+    parser.add_argument("seed", nargs="?", type=int, default=1)
+    given, tally = parser.parse_args(), harness.Tally()
+    rng = random.Random(given.seed)
+    with tempfile.TemporaryDirectory() as name:
+        edits = Edits(given.aigedit, pathlib.Path(name), tally)
+        for path in EXAMPLES:
+            machine = machine_of(path.read_text().split("\nc\n")[0])
+            if len(machine.inputs) + len(machine.latches) <= 6:
+                edits.check(machine, random_machine(rng))
+        for _ in range(given.files):
+            edits.check(random_machine(rng), random_machine(rng))
+    return tally.end()
+
+
+if __name__ == "__main__":
+    sys.exit(main())
