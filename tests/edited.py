@@ -91,7 +91,7 @@ class Edits:
         (self.folder / "file").write_text(machine.text())
         (self.folder / "other").write_text(other.text())
         bads = reached(machine, machine.bads)
-        for command in ["refine", "reencode", "compress", *(["move"] if len(machine.bads) <= 1 else [])]:
+        for command in ["refine", "reencode", "compress", "reduce", *(["move"] if len(machine.bads) <= 1 else [])]:
             made = self.edited(command, "file")
             self.compare(command, bads, reached(made, made.bads))
         for k in range(LAST):

@@ -18,7 +18,7 @@ from harness import TOP
 
 CALLER = TOP / "examples" / "caller"
 # Whose words its contracts cite, and whose items it calls.
-STANDS_ON = ["aig", "aig_base", "aig_circuit", "aig_encode", "aig_reader", "aig_runs"]
+STANDS_ON = ["aig", "aig_base", "aig_circuit", "aig_encode", "aig_format", "aig_reader", "aig_runs", "aig_unroll"]
 
 
 def lines_below(names):

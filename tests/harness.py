@@ -19,7 +19,7 @@ sys.dont_write_bytecode = True
 USAGE = {
     "aigtool": b"usage: aigtool text FILE, binary FILE OUT, strash FILE, cnf FILE K [raw], query FILE K [raw]\n",
     "aigedit": b"usage: aigedit refine FILE, reencode FILE, unroll FILE K, move FILE, compress FILE, bads FILE, "
-    b"miter FILE OTHER, join FILE CERT, merge FILE OTHER\n",
+    b"reduce FILE, miter FILE OTHER, join FILE CERT, merge FILE OTHER\n",
     "aigcheck": b"usage: aigcheck clauses FILE K [raw], window FILE K [distinct] [raw], refuted FILE K PROOF [raw], "
     b"inductive FILE K PROOF [distinct] [raw], witness FILE K SOLUTION [raw], run FILE WITNESS, "
     b"certified FILE CERT BASE STEP [raw], equal FILE OTHER K PROOF [raw], obligations FILE CERT [raw]\n",

@@ -60,7 +60,7 @@ CHECKS = [
     ["obligations", "whole.aag", "whole.aig", "raw"],
 ]
 # The commands of aigedit on that file, and on it and itself: its miter, it as its own certificate, and it twice.
-EDITS = [[command, form, *k] for command, *k in (["refine"], ["reencode"], ["unroll", "2"], ["move"], ["compress"]) for form in ("whole.aag", "whole.aig")]
+EDITS = [[command, form, *k] for command, *k in (["refine"], ["reencode"], ["unroll", "2"], ["move"], ["compress"], ["reduce"]) for form in ("whole.aag", "whole.aig")]
 EDITS += [[command, form, other] for command in ("miter", "join", "merge") for form, other in (("whole.aag", "whole.aig"), ("whole.aig", "whole.aag"))]
 
 # Where a file has a few nodes all requests together stay below this, and room for nodes within the limit is reserved.

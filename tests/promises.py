@@ -25,14 +25,14 @@ CALLS = [
     ("aig and aig_encode", ["aig", "aig_encode"]),
     ("with the programs", ["aigtool", "aig_commands", "aigcheck"]),
     ("with checked answers, witnesses and DIMACS", [
-        "aig_answers", "aig_edits", "aig_certificates", "aig_reduction", "aig_refutation", "aig_witness", "aig_witness_check", "aig_solutions", "aig_dimacs"]),
+        "aig_answers", "aig_bounded", "aig_bounded_answers", "aig_edits", "aig_certificates", "aig_reduction", "aig_refutation", "aig_witness", "aig_witness", "aig_solutions", "aig_dimacs"]),
     ("from C", ["aig_c"]),
 ]
 LAWS = "with the laws"
 # The crates that pass on what their promises rest on, each but for what those before it do.
 PASS_ON = ["aig", "aig_encode"]
 # Its laws join a reader on lists, of which no contract speaks, to the format.
-SERVES_PROOFS = "aig_parsing"
+SERVES_PROOFS = "aig_format"
 
 PROMISED = "-- Part of what is promised."
 CITED = "-- Part of what laws say, and of no promise of a call."

@@ -14,10 +14,10 @@ use Rattle.aig_unroll.specs.Unroll.{UnrollsTo}
 use Rattle.aig_answers.specs.declared.error.AnswerError.{AnswerError}
 use Rattle.aig_answers.specs.declared.windows.WindowClauses.{WindowClauses}
 use Rattle.aig_answers.specs.Answers.{window_size}
-use Rattle.aig_certify.proofs.Below.{window_below}
-use Rattle.aig_certify.specs.declared.window.Window.{Window}
-use Rattle.aig_certify.specs.declared.window.Window.TheVariants.{Plain, Distinct}
-use Rattle.aig_certify.specs.WindowClauses.{AsksWindow, count_free, induction_clauses, pair_clauses, state_at, state_edges, states_clauses, watched}
+use Rattle.aig_runs.proofs.Below.{window_below}
+use Rattle.aig_runs.specs.declared.window.Window.{Window}
+use Rattle.aig_runs.specs.declared.window.Window.TheVariants.{Plain, Distinct}
+use Rattle.aig_runs.specs.WindowClauses.{AsksWindow, count_free, induction_clauses, pair_clauses, state_at, state_edges, states_clauses, watched}
 
 -- the leaf of one latch more is an output
 pub watch_step : (old now made : Circuit) (i : ℕ) (latchs : List AigLatch) (leaf : ℕ) (e : AigEdge) (d : AigLatch) → leaf ≡ (get_or latchs i d).input → latchs ≡ now.latchs → e ≡ edge_to leaf false → i < length old.latchs

@@ -16,8 +16,8 @@ use Rattle.aig_format.specs.Fits.{Accepts}
 use Rattle.aig_format.specs.Circuit.{circuit_of}
 use Rattle.aig_format.specs.Numbering.{node_of_variable, variables_in_order}
 use Rattle.aig_reader.specs.Verdicts.{Accepted, Crowded, IsSaidOf, IsVerdictOn, NoBads, Short}
-use Rattle.aig_certify.specs.Safety.{IsCircuitSafeAt}
-use Rattle.aig_certify.specs.declared.window.Window.TheVariants.{Plain, Distinct}
+use Rattle.aig_runs.specs.Safety.{IsCircuitSafeAt}
+use Rattle.aig_runs.specs.declared.window.Window.TheVariants.{Plain, Distinct}
 use Rattle.aig_answers.specs.Answers.{asked_verdict, window_size, window_verdict}
 
 -- ---- another step

@@ -6,7 +6,7 @@ use Rattle.aig_base.specs.declared.logic.literal.Lit.{Lit}
 use Rattle.aig_base.specs.Clauses.{lit_to}
 use Rattle.aig_circuit.specs.declared.edge.AigEdge.{AigEdge}
 use Rattle.aig_circuit.specs.Edge.{inverse, lit_of}
-use Rattle.aig_certify.specs.WindowClauses.{difference_clauses, pair_clauses, variables_from}
+use Rattle.aig_runs.specs.WindowClauses.{difference_clauses, pair_clauses, variables_from}
 
 -- the two clauses of one pair of edges
 abbrev pub two_clauses : ℕ → AigEdge → AigEdge → List (List Lit)

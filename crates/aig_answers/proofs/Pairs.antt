@@ -6,9 +6,9 @@ use Rattle.aig_circuit.specs.declared.edge.AigEdge.{AigEdge}
 use Rattle.aig_circuit.specs.declared.node.AigLatch.{AigLatch}
 use Rattle.aig_circuit.specs.Circuit.{Circuit}
 use Rattle.aig_unroll.specs.Places.{unrolled_size}
-use Rattle.aig_certify.specs.declared.window.Window.{Window}
-use Rattle.aig_certify.specs.declared.window.Window.TheVariants.{Plain, Distinct}
-use Rattle.aig_certify.specs.WindowClauses.{count_pairs, distinct_clauses, pairwise_clauses}
+use Rattle.aig_runs.specs.declared.window.Window.{Window}
+use Rattle.aig_runs.specs.declared.window.Window.TheVariants.{Plain, Distinct}
+use Rattle.aig_runs.specs.WindowClauses.{count_pairs, distinct_clauses, pairwise_clauses}
 use Rattle.aig_answers.specs.Answers.{window_size}
 
 pairs_twice : (n : ℕ) → 2 * count_pairs n + n ≡ n * n

@@ -15,7 +15,7 @@ use Rattle.aig_reader.specs.Verdicts.{Accepted, Crowded, IsOfFile, IsSaidOf, IsS
 use Rattle.aig_reader.proofs.Verdicts.{of_no_file, refused_again, said_of_read}
 use Rattle.aig.specs.Reading.{IsFileCircuit}
 use Rattle.aig_unroll.specs.Places.{unrolled_size}
-use Rattle.aig_certify.specs.declared.window.Window.{Window}
+use Rattle.aig_runs.specs.declared.window.Window.{Window}
 use Rattle.aig_refutation.specs.declared.error.RefutationError.{RefutationError}
 use Rattle.aig_answers.specs.Answers.{IsOfCircuitQuery, IsOfInduction, IsOfQuery, IsOfStep, IsOfWindow, asked_verdict, verdict_of, window_size, window_verdict}
 use Rattle.aig_answers.specs.Parts.{IsSaidBy, circuit_verdict, circuit_window_verdict}

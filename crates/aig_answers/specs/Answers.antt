@@ -1,22 +1,22 @@
 -- Part of what is promised.
 -- What is asked of a circuit, what an answer says of the bytes of a file, and which errors a call
 -- has.
-use Rattle.std.specs.Prelude.{◌≢◌, ℕ, ◌+◌, ◌==◌, nat_lt, if◌then◌else◌, Bool, List, [], length}
+use Rattle.std.specs.Prelude.{◌≢◌, ℕ, ◌+◌, ◌≤◌, ◌==◌, nat_lt, if◌then◌else◌, Bool, List, [], length}
 use Rattle.aig_base.specs.Clauses.{AreBelow}
 use Rattle.aig_circuit.specs.Circuit.{Circuit}
 use Rattle.aig_cnf.specs.Cnf.{FixesRoots, HasClauses, NodeValuesSatisfy}
 use Rattle.aig_format.specs.Circuit.{circuit_of}
 use Rattle.aig_format.specs.File.{File}
+use Rattle.aig_format.specs.Fits.{Accepts}
 use Rattle.aig_reader.specs.declared.error.ReadError.TheVariants as read
 use Rattle.aig_reader.specs.Verdicts.{Accepted, Crowded, NoBads, TooLarge, Verdict}
 use Rattle.aig_unroll.specs.Places.{unrolled_size}
 use Rattle.aig_unroll.specs.Unroll.{UnrollsTo}
 use Rattle.aig_runs.specs.CircuitQueries.{AsksOfCircuit}
-use Rattle.aig_certify.specs.declared.window.Window.{Window}
-use Rattle.aig_certify.specs.WindowClauses.{count_free}
+use Rattle.aig_runs.specs.declared.window.Window.{Window}
+use Rattle.aig_runs.specs.WindowClauses.{count_free}
 use Rattle.aig_encode.specs.declared.error.EncodeError.TheVariants as encode
 use Rattle.aig_encode.specs.Encoding as encoding
-use Rattle.aig_encode.specs.Encoding.{IsWithin}
 use Rattle.aig_answers.specs.declared.circuits.CircuitQuery.{CircuitQuery}
 use Rattle.aig_answers.specs.declared.error.AnswerError.{AnswerError}
 use Rattle.aig_answers.specs.declared.error.AnswerError.TheVariants as errors
@@ -42,7 +42,8 @@ pub record IsCircuitQuery (c : Circuit) (k : ℕ) (optimize : Bool) (q : Circuit
 
 -- the bytes are this file, it and its further steps are within the limit, and it has a bad literal
 abbrev pub IsAsked : ℕ → ℕ → List ℕ → File → Type 0
-IsAsked limit k bytes f = IsWithin limit k bytes f × (f.properties.bads ≢ [])
+IsAsked limit k bytes f =
+    (Accepts bytes limit f × (unrolled_size (circuit_of f) k ≤ limit)) × (f.properties.bads ≢ [])
 
 -- how many variables the clauses of a window have at most: the bound of the circuit with k + 1
 -- further steps, and the free ones

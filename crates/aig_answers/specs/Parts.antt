@@ -4,7 +4,7 @@ use Rattle.std.specs.Prelude.{◌≡◌, ℕ, ◌+◌, ◌==◌, nat_lt, if◌th
 use Rattle.aig_circuit.specs.Circuit.{Circuit}
 use Rattle.aig_reader.specs.Verdicts.{Accepted, Crowded, NoBads, Short, TooLarge, Verdict}
 use Rattle.aig_unroll.specs.Places.{unrolled_size}
-use Rattle.aig_certify.specs.declared.window.Window.{Window}
+use Rattle.aig_runs.specs.declared.window.Window.{Window}
 use Rattle.aig_answers.specs.Answers.{window_size}
 
 -- it is this verdict, or Short where that is that the circuit is taken

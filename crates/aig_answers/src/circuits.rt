@@ -2,7 +2,7 @@
 
 ghost use Rattle.std.specs.Prelude.{◌≡◌, ◌≢◌, ◌⊎◌, ◌<◌, ◌≤◌, ◌^◌, ◌↔◌, [], IfErr, IfOk, IsErrOf, IsTrue, OnOk};
 ghost use Rattle.aig_answers.specs.Answers.{IsCircuitQuery, IsOfCircuitQuery, verdict_of};
-ghost use Rattle.aig_certify.specs.Safety.{IsCircuitSafeAt};
+ghost use Rattle.aig_runs.specs.Safety.{IsCircuitSafeAt};
 ghost use Rattle.aig_reader.specs.Verdicts.{Accepted, verdict_by};
 ghost use Rattle.aig_unroll.specs.Places.{unrolled_size};
 
@@ -11,11 +11,10 @@ use crate::error::AnswerError;
 use crate::refuting::refute;
 use aig::Aig;
 use aig_base::{DagCnf, LitVvec, MemoryError, Source};
-use aig_certify::refuted_circuit_queries_have_no_witness;
 use aig_encode::EncodeError;
 use aig_query::query_clauses;
 use aig_refutation::RefutationError;
-use aig_runs::circuit_queries_ask;
+use aig_runs::{circuit_queries_ask, refuted_circuit_queries_have_no_witness};
 use std::alloc::Global;
 
 /// The clauses that ask for a bad state of a circuit at a step.

@@ -3,7 +3,7 @@
 ghost use Rattle.std.specs.Prelude.{◌≡◌, ◌+◌, ◌*◌, ◌<◌, ◌≤◌, ◌^◌, ◌++◌, All, IfOk, OnOk, length, map};
 ghost use Rattle.aig_circuit.specs.Circuit.{IsCircuit};
 ghost use Rattle.aig_circuit.specs.Edge.{inverse};
-ghost use Rattle.aig_certify.specs.WindowClauses.{induction_clauses};
+ghost use Rattle.aig_runs.specs.WindowClauses.{induction_clauses};
 ghost use Rattle.aig_runs.specs.Queries.{unit_clauses};
 
 use aig::{Aig, AigEdge};

@@ -3,7 +3,7 @@
 ghost use Rattle.std.specs.Prelude.{◌≡◌, ◌+◌, ◌*◌, ◌<◌, ◌≤◌, ◌^◌, ◌++◌, ◌∷◌, [], All, OnOk, false, length, replicate};
 ghost use Rattle.aig_base.specs.Clauses.{lit_to, var_number};
 ghost use Rattle.aig_circuit.specs.Edge.{inverse, lit_of};
-ghost use Rattle.aig_certify.specs.WindowClauses.{apart_clauses, count_pairs, distinct_clauses, pair_clauses, state_at};
+ghost use Rattle.aig_runs.specs.WindowClauses.{apart_clauses, count_pairs, distinct_clauses, pair_clauses, state_at};
 
 use aig::AigEdge;
 use aig_base::{DagCnf, Lit, LitVvec, MemoryError, Var};

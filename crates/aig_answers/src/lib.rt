@@ -10,7 +10,7 @@ mod refuting;
 mod step;
 mod windows;
 
-pub use aig_certify::Window;
+pub use aig_runs::Window;
 pub use circuits::{CircuitQuery, check_query_of, query_of};
 pub use error::AnswerError;
 pub use step::{asked_query, check_step};

@@ -4,7 +4,7 @@ ghost use Rattle.std.specs.Prelude.{◌≡◌, ◌≢◌, ◌^◌, ◌≤◌, If
 ghost use Rattle.aig_answers.specs.Answers.{IsAsked, IsCircuitQuery, IsOfQuery, IsOfStep, asked_verdict, verdict_of};
 ghost use Rattle.aig_answers.specs.Parts.{IsSaidBy, circuit_verdict};
 ghost use Rattle.aig_base.specs.Clauses.{AreBelow};
-ghost use Rattle.aig_certify.specs.Safety.{IsSafeAt};
+ghost use Rattle.aig_runs.specs.Safety.{IsSafeAt};
 ghost use Rattle.aig_encode.specs.Encoding.{IsQuery};
 ghost use Rattle.aig_reader.specs.Reading.{IsReadAs};
 ghost use Rattle.aig_reader.specs.Verdicts.{Accepted, Judges, verdict_by};
@@ -15,10 +15,11 @@ use crate::error::AnswerError;
 use crate::refuting::refute;
 use aig::Aig;
 use aig_base::Source;
-use aig_certify::refuted_queries_have_no_witness;
 use aig_encode::{Encoded, Query};
 use aig_refutation::RefutationError;
-use aig_runs::{circuit_witnesses_are_file_witnesses, clauses_are_file_runs};
+use aig_runs::{
+    circuit_witnesses_are_file_witnesses, clauses_are_file_runs, refuted_queries_have_no_witness,
+};
 use std::alloc::Global;
 
 /// The query of a circuit for step `k`, unless its further steps may pass the limit or nothing is asked of it.
@@ -110,6 +111,14 @@ pub fn check_step<R: Source, P: Source>(
         → IsTrue (P.failed proof.new) }
 {
     refuted_queries_have_no_witness();
-    let asked = asked_query(alloc, r, limit, k, optimize)?;
-    refute(alloc, &asked.encoded.clauses, &asked.extra, proof)
+    let Query { encoded, extra } = asked_query(alloc, r, limit, k, optimize)?;
+    let Encoded {
+        circuit,
+        unrolled,
+        clauses,
+    } = encoded;
+    // The clauses are all that the proof is held against.
+    drop(circuit);
+    drop(unrolled);
+    refute(alloc, &clauses, &extra, proof)
 }

@@ -4,8 +4,8 @@ ghost use Rattle.std.specs.Prelude.{◌≡◌, ◌≢◌, ◌+◌, ◌*◌, ◌�
 ghost use Rattle.aig_answers.specs.Answers.{IsAsked, IsOfInduction, IsOfWindow, verdict_of, window_size, window_verdict};
 ghost use Rattle.aig_answers.specs.Parts.{IsSaidBy, circuit_window_verdict};
 ghost use Rattle.aig_base.specs.Clauses.{AreBelow};
-ghost use Rattle.aig_certify.specs.Induction.{IsKInductive};
-ghost use Rattle.aig_certify.specs.WindowClauses.{AsksWindow, count_free, states_clauses, watched};
+ghost use Rattle.aig_runs.specs.Induction.{IsKInductive};
+ghost use Rattle.aig_runs.specs.WindowClauses.{AsksWindow, count_free, states_clauses, watched};
 ghost use Rattle.aig_circuit.specs.Circuit.{Circuit};
 ghost use Rattle.aig_reader.specs.Reading.{IsReadAs};
 ghost use Rattle.aig_reader.specs.Verdicts.{Accepted, Judges, verdict_by};
@@ -19,8 +19,8 @@ use crate::error::AnswerError;
 use crate::refuting::refute;
 use aig::{Aig, AigEdge, PropList};
 use aig_base::{DagCnf, LitVvec, MemoryError, Source};
-use aig_certify::{Window, refuted_windows_are_inductive};
 use aig_refutation::RefutationError;
+use aig_runs::{Window, refuted_windows_are_inductive};
 use std::alloc::Global;
 
 /// The clauses that ask for a window of steps with a bad state first at its end.

@@ -6,7 +6,7 @@
 
 ghost use Rattle.std.specs.Prelude.{◌≡◌, ◌≤◌, ◌<◌, List, ℕ, None, Some};
 ghost use Rattle.aig_answers.specs.Answers.{asked_verdict, window_verdict};
-ghost use Rattle.aig_certify.specs.Safety.{IsSafeAt};
+ghost use Rattle.aig_runs.specs.Safety.{IsSafeAt};
 ghost use Rattle.aig_checks.specs.Running.{IsClausesText, IsWindowText, IsWitnessText};
 ghost use Rattle.aig_commands.specs.Running.{Answers, file_verdict};
 ghost use Rattle.aig_commands.specs.declared.command.Command.TheVariants as commands;
@@ -14,7 +14,7 @@ ghost use Rattle.aig_edits.specs.declared.pairing.Pairing.TheVariants.{Certifica
 ghost use Rattle.aig_join.specs.Files.{AreEqualMachinesAt, HasLinesOf, HaveSameFileCounts};
 ghost use Rattle.aig_reader.specs.Verdicts.{Accepted};
 ghost use Rattle.aig_runs.specs.Queries.{IsSafeTo};
-ghost use Rattle.aig_witness_check.specs.Files.{ShowsNext};
+ghost use Rattle.aig_witness.specs.Files.{ShowsNext};
 ghost use Rattle.aig_calls.specs.Calls.{Checks, ChecksPair, Gives, IsGiven, Joins, form_of, shown_at};
 ghost use Rattle.aig_calls.specs.Numbers.{IsListed};
 ghost use Rattle.aig_calls.specs.Statuses.{AtStep, IsOfPairProof, IsOfProof, IsOfSolution, IsOfText, IsOfWitness};

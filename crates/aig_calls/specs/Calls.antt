@@ -2,8 +2,8 @@
 -- What a call does, by the bytes that it is given: what it leaves in its caller's memory, and what
 -- its status says.
 use Rattle.std.specs.Prelude.{◌≡◌, ℕ, ◌<◌, ◌≤◌, ◌++◌, if◌then◌else◌, Bool, List, length, drop, Some}
-use Rattle.aig_certify.specs.declared.window.Window.{Window}
-use Rattle.aig_certify.specs.declared.window.Window.TheVariants.{Distinct, Plain}
+use Rattle.aig_runs.specs.declared.window.Window.{Window}
+use Rattle.aig_runs.specs.declared.window.Window.TheVariants.{Distinct, Plain}
 use Rattle.aig_circuit.specs.Circuit.{Circuit}
 use Rattle.aig_edits.specs.Joints.{DoFit, IsJointOf, IsRefusalOf}
 use Rattle.aig_edits.specs.declared.error.PairError.TheVariants.{TooLarge}
@@ -12,7 +12,7 @@ use Rattle.aig_format.specs.Circuit.{text_of}
 use Rattle.aig_format.specs.File.{File}
 use Rattle.aig_format.specs.Fits.{Accepts}
 use Rattle.aig_reader.specs.Verdicts.{Accepted, Verdict}
-use Rattle.aig_witness_check.specs.declared.file.Shown.{Shown}
+use Rattle.aig_witness.specs.declared.file.Shown.{Shown}
 use Rattle.aig_calls.specs.Statuses.{IsOfPair, Tells, done, misfit, said_by, said_of_other, small, unwritable}
 
 -- ---- words

@@ -2,10 +2,10 @@
 
 ghost use Rattle.std.specs.Prelude.{◌≡◌, ◌≤◌, ◌<◌, ◌^◌, ℕ, Some};
 ghost use Rattle.aig_answers.specs.Answers.{asked_verdict, window_verdict};
-ghost use Rattle.aig_certify.specs.Safety.{IsSafeAt};
+ghost use Rattle.aig_runs.specs.Safety.{IsSafeAt};
 ghost use Rattle.aig_reader.specs.Verdicts.{Accepted};
 ghost use Rattle.aig_runs.specs.Queries.{IsSafeTo};
-ghost use Rattle.aig_witness_check.specs.Files.{ShowsNext};
+ghost use Rattle.aig_witness.specs.Files.{ShowsNext};
 ghost use Rattle.aig_calls.specs.Calls.{Checks, form_of, shown_at};
 ghost use Rattle.aig_calls.specs.Statuses.{AtStep, IsOfProof, IsOfWitness};
 
@@ -13,9 +13,9 @@ use crate::status::{DONE, of_answer, of_show};
 use crate::steps::{step_of, window_form};
 use aig_answers::{Window, check_step, check_window};
 use aig_base::FromRead;
-use aig_certify::inductive_windows_are_safe;
 use aig_commands::LIMIT;
-use aig_witness_check::check_witness;
+use aig_runs::inductive_windows_are_safe;
+use aig_witness::check_witness;
 use std::alloc::Global;
 
 /// Checks a proof that no bad state is reached at step `k`, which is below 2^32.

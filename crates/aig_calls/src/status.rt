@@ -14,7 +14,7 @@ ghost use Rattle.aig_edits.specs.declared.error.PairError.TheVariants as pair;
 ghost use Rattle.aig_encode.specs.Encoding as encoding;
 ghost use Rattle.aig_reader.specs.Verdicts as reading;
 ghost use Rattle.aig_reader.specs.Verdicts.{Refused};
-ghost use Rattle.aig_witness_check.specs.Files as showing;
+ghost use Rattle.aig_witness.specs.Files as showing;
 ghost use Rattle.aig_calls.specs.Parts.{IsOwnOf, IsPairStatus, SaysOnly, flagged};
 ghost use Rattle.aig_calls.specs.Statuses.{IsOfPair, IsOfPairProof, is_proof_fault, is_refusal, is_solution_fault, is_witness_fault, said_by};
 
@@ -28,8 +28,7 @@ use aig_encode::EncodeError;
 use aig_reader::Section;
 use aig_refutation::RefutationError;
 use aig_solutions::SolutionError;
-use aig_witness::WitnessError;
-use aig_witness_check::{ShowError, WitnessFault};
+use aig_witness::{ShowError, WitnessError, WitnessFault};
 
 /// The call has done what it is for.
 pub(crate) const DONE: u32 = 0;

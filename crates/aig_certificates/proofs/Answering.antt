@@ -1,13 +1,13 @@
 -- What proofs of a joint circuit's text show of the two files.
 use Rattle.std.proofs.Common.{◌≡◌, ℕ, Bool, List, Result, Ok, Err, Vec, Global, refl, subst, ◌∙◌, arith}
 use Rattle.std.specs.Prelude.{IfErr, length}
-use Rattle.aig_certify.specs.Safety.{IsSafeAt}
+use Rattle.aig_runs.specs.Safety.{IsSafeAt}
 use Rattle.aig_circuit.specs.Circuit.{Circuit}
 use Rattle.aig_edits.specs.Joints.{IsJointOf}
 use Rattle.aig_edits.specs.declared.pairing.Pairing.{Pairing}
 use Rattle.aig_edits.specs.declared.pairing.Pairing.TheVariants.{Certificate, Miter}
-use Rattle.aig_certify.specs.WindowClauses.{AsksWindow}
-use Rattle.aig_certify.specs.declared.window.Window.TheVariants.{Plain}
+use Rattle.aig_runs.specs.WindowClauses.{AsksWindow}
+use Rattle.aig_runs.specs.declared.window.Window.TheVariants.{Plain}
 use Rattle.aig_encode.specs.Encoding.{IsQuery}
 use Rattle.aig_format.specs.Circuit.{circuit_of, file_of, text_of}
 use Rattle.aig_format.specs.declared.FileKind.TheVariants.{Text}

@@ -5,11 +5,11 @@ use Rattle.std.proofs.KnownBytes.{Consumes-whole}
 use Rattle.std.proofs.lemmas.Option.{same_Some}
 use Rattle.aig_answers.specs.declared.error.AnswerError.{AnswerError}
 use Rattle.aig_answers.specs.Answers.{verdict_of}
-use Rattle.aig_certify.specs.Safety.{IsSafeAt}
+use Rattle.aig_runs.specs.Safety.{IsSafeAt}
 use Rattle.aig_format.specs.File.{File}
 use Rattle.aig_format.specs.Fits.{Accepts}
 use Rattle.aig_format.specs.Spells.{Spells}
-use Rattle.aig_parsing.proofs.AnyFile.{any_complete}
+use Rattle.aig_format.proofs.AnyFile.{any_complete}
 use Rattle.aig_reader.specs.Reading.{IsReadAs}
 use Rattle.aig_reader.specs.Verdicts.{Judges, Verdict, verdict_by}
 use Rattle.aig_certificates.specs.Parts.{IsFileWith, TellsOfText}

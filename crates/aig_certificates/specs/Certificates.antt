@@ -4,8 +4,8 @@ use Rattle.std.specs.Prelude.{◌≢◌, ℕ, Bool, List, Result, Ok, Err}
 use Rattle.aig_answers.specs.Answers as answering
 use Rattle.aig_answers.specs.Answers.{IsOfInduction, IsOfQuery, IsOfStep, IsOfWindow, asked_verdict, window_verdict}
 use Rattle.aig_answers.specs.declared.error.AnswerError.{AnswerError}
-use Rattle.aig_certify.specs.declared.window.Window.TheVariants.{Plain}
-use Rattle.aig_certify.specs.WindowClauses.{AsksWindow}
+use Rattle.aig_runs.specs.declared.window.Window.TheVariants.{Plain}
+use Rattle.aig_runs.specs.WindowClauses.{AsksWindow}
 use Rattle.aig_circuit.specs.Circuit.{Circuit}
 use Rattle.aig_edits.specs.Joints as joints
 use Rattle.aig_edits.specs.Joints.{IsJointOf, IsRefusalOf}

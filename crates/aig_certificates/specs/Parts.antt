@@ -4,9 +4,9 @@ use Rattle.std.specs.Prelude.{◌≡◌, ℕ, Bool, List, Result, Ok, Err, IfOk,
 use Rattle.std.specs.declared.alloc.Global.{Global}
 use Rattle.aig_answers.specs.Answers.{IsOfInduction, IsOfQuery, IsOfStep, IsOfWindow, asked_verdict, verdict_of, window_verdict}
 use Rattle.aig_answers.specs.declared.error.AnswerError.{AnswerError}
-use Rattle.aig_certify.specs.Safety.{IsSafeAt}
-use Rattle.aig_certify.specs.declared.window.Window.TheVariants.{Plain}
-use Rattle.aig_certify.specs.WindowClauses.{AsksWindow}
+use Rattle.aig_runs.specs.Safety.{IsSafeAt}
+use Rattle.aig_runs.specs.declared.window.Window.TheVariants.{Plain}
+use Rattle.aig_runs.specs.WindowClauses.{AsksWindow}
 use Rattle.aig_circuit.specs.Circuit.{Circuit}
 use Rattle.aig_edits.specs.Joints.{IsJointOf, IsRefusalOf}
 use Rattle.aig_edits.specs.declared.error.PairError.{PairError}

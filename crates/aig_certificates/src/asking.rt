@@ -5,8 +5,8 @@ ghost use Rattle.aig_answers.specs.Answers.{IsOfQuery, IsOfWindow, asked_verdict
 ghost use Rattle.aig_base.specs.Clauses.{AreBelow};
 ghost use Rattle.aig_certificates.specs.Certificates.{IsOfClauses, Obliges, first_verdict, second_verdict};
 ghost use Rattle.aig_certificates.specs.Parts.{AsksBoth, TellsOfText};
-ghost use Rattle.aig_certify.specs.WindowClauses.{AsksWindow};
-ghost use Rattle.aig_certify.specs.declared.window.Window.TheVariants.{Plain};
+ghost use Rattle.aig_runs.specs.WindowClauses.{AsksWindow};
+ghost use Rattle.aig_runs.specs.declared.window.Window.TheVariants.{Plain};
 ghost use Rattle.aig_edits.specs.Pairs.{ReadsPair};
 ghost use Rattle.aig_encode.specs.Encoding.{IsQuery};
 ghost use Rattle.aig_format.specs.Circuit.{circuit_of};

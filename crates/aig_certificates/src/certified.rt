@@ -11,9 +11,9 @@ use crate::error::CertificateError;
 use crate::held::{check_text_step, check_text_window};
 use crate::text::joint_text;
 use aig_base::Source;
-use aig_certify::{inductive_windows_are_safe, safe_steps_are_safe};
 use aig_edits::Pairing;
 use aig_refutation::RefutationError;
+use aig_runs::{inductive_windows_are_safe, safe_steps_are_safe};
 use std::alloc::Global;
 
 /// Checks proofs for the query of a text for step 0 and for its window of two steps.

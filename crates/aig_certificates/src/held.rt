@@ -3,9 +3,9 @@
 ghost use Rattle.std.specs.Prelude.{◌≡◌, ◌≢◌, ◌^◌, ◌≤◌, IfErr, IsErrOf, IsTrue};
 ghost use Rattle.aig_answers.specs.Answers.{IsOfInduction, IsOfStep, asked_verdict, verdict_of, window_verdict};
 ghost use Rattle.aig_certificates.specs.Parts.{TellsOfText};
-ghost use Rattle.aig_certify.specs.Induction.{IsKInductive};
-ghost use Rattle.aig_certify.specs.Safety.{IsSafeAt};
-ghost use Rattle.aig_certify.specs.declared.window.Window.TheVariants.{Plain};
+ghost use Rattle.aig_runs.specs.Induction.{IsKInductive};
+ghost use Rattle.aig_runs.specs.Safety.{IsSafeAt};
+ghost use Rattle.aig_runs.specs.declared.window.Window.TheVariants.{Plain};
 ghost use Rattle.aig_reader.specs.Verdicts.{Accepted, verdict_by};
 
 use aig_answers::{AnswerError, Window, check_step, check_window};

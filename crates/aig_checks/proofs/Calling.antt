@@ -7,7 +7,7 @@ use Rattle.aig_command_line.specs.declared.about.Question.TheVariants.{Usage, Ve
 use Rattle.aig_command_line.specs.About.{word_of}
 use Rattle.aig_command_line.specs.declared.status.Ending.TheVariants as endings
 use Rattle.aig_command_line.specs.Ending.{ended}
-use Rattle.aig_certify.specs.declared.window.Window.{Window}
+use Rattle.aig_runs.specs.declared.window.Window.{Window}
 use Rattle.aig_command_line.specs.Arguments.{Arguments}
 use Rattle.aig_command_line.proofs.Apart as apart
 use Rattle.aig_checks.specs.declared.command.Action.{Action}

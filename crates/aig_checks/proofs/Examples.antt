@@ -14,7 +14,7 @@ use Rattle.aig_refutation.specs.declared.error.RefutationError.{RefutationError}
 use Rattle.aig_answers.specs.declared.error.AnswerError.{AnswerError}
 use Rattle.aig_answers.specs.declared.error.AnswerError.TheVariants as answers
 use Rattle.aig_witness.specs.declared.error.WitnessError.TheVariants as witness
-use Rattle.aig_witness_check.specs.declared.file.ShowError.TheVariants as shows
+use Rattle.aig_witness.specs.declared.file.ShowError.TheVariants as shows
 use Rattle.aig_checks.specs.declared.command.FileCommand.{FileCommand}
 use Rattle.aig_checks.specs.declared.tool.CheckError.TheVariants as errors
 use Rattle.aig_checks.specs.Running.{Answers, IsErrorOf, TellsOfGiven, file_verdict, shown_line, window_line}

@@ -17,8 +17,8 @@ use Rattle.aig_answers.specs.Answers as asking
 use Rattle.aig_answers.specs.Answers.{IsAsked, IsOfQuery, IsOfWindow}
 use Rattle.aig_solutions.specs.declared.error.SolutionError.{SolutionError}
 use Rattle.aig_solutions.specs.Checked.{RefusesSolution}
-use Rattle.aig_witness_check.specs.declared.file.ShowError.{ShowError}
-use Rattle.aig_witness_check.specs.declared.file.ShowError.TheVariants as shows
+use Rattle.aig_witness.specs.declared.file.ShowError.{ShowError}
+use Rattle.aig_witness.specs.declared.file.ShowError.TheVariants as shows
 use Rattle.aig_checks.specs.declared.command.FileCommand.{FileCommand}
 use Rattle.aig_checks.specs.declared.tool.CheckError.{CheckError}
 use Rattle.aig_checks.specs.declared.tool.CheckError.TheVariants as errors

@@ -5,9 +5,9 @@ use Rattle.aig_format.specs.File.{File}
 use Rattle.aig_format.specs.Fits.{Accepts}
 use Rattle.aig_format.proofs.Nodes.{few_nodes}
 use Rattle.aig_witness.specs.Witness.{Witness}
-use Rattle.aig_witness_check.specs.Machine.{ShowsBad}
-use Rattle.aig_witness_check.specs.declared.file.Shown.{Shown}
-use Rattle.aig_witness_check.specs.Files.{ShowsNext}
+use Rattle.aig_witness.specs.Machine.{ShowsBad}
+use Rattle.aig_witness.specs.declared.file.Shown.{Shown}
+use Rattle.aig_witness.specs.Files.{ShowsNext}
 use Rattle.aig_reader.specs.Reading.{IsReadAs}
 use Rattle.aig_answers.specs.Answers.{IsAsked}
 use Rattle.aig_checks.specs.declared.command.FileCommand.TheVariants as commands

@@ -9,7 +9,6 @@ use Rattle.aig_checks.specs.declared.tool.CheckError.TheVariants as errors
 -- what a file that is not opened is refused for
 abbrev pub unopened : OpenError → CheckError
 unopened opening.Refused = errors.Open
-unopened opening.Memory = errors.Memory
 
 -- what holds of a file that was opened, or of the error where it was not
 abbrev pub OnOpening : {F : Type 0} → (F → Type 0) → (CheckError → Type 0) → Result F OpenError

@@ -9,7 +9,7 @@ use Rattle.aig_encode.specs.declared.query_clauses.Query.{Query}
 use Rattle.aig_output.specs.Sinks.{Stops}
 use Rattle.aig_solutions.specs.Checked.{RefusesSolution, SaysWitness}
 use Rattle.aig_witness.specs.Witness.{Witness, witness_text}
-use Rattle.aig_witness_check.specs.Shown.{IsKnownWitness}
+use Rattle.aig_witness.specs.Shown.{IsKnownWitness}
 use Rattle.aig_checks.specs.Comments.{comments_of}
 use Rattle.aig_checks.specs.declared.tool.CheckError.{CheckError}
 use Rattle.aig_checks.specs.declared.tool.CheckError.TheVariants as errors

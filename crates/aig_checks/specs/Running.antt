@@ -14,10 +14,10 @@ use Rattle.aig_reader.specs.Reading.{IsReadAs}
 use Rattle.aig_reader.specs.Verdicts.{Accepted, Judges, Refused, Short, Verdict, verdict_by}
 use Rattle.aig_runs.specs.Queries.{IsSafeTo}
 use Rattle.aig_output.specs.Sinks.{Stops}
-use Rattle.aig_certify.specs.declared.window.Window.{Window}
-use Rattle.aig_certify.specs.Induction.{IsKInductive}
-use Rattle.aig_certify.specs.Safety.{IsSafeAt}
-use Rattle.aig_certify.specs.WindowClauses.{AsksWindow}
+use Rattle.aig_runs.specs.declared.window.Window.{Window}
+use Rattle.aig_runs.specs.Induction.{IsKInductive}
+use Rattle.aig_runs.specs.Safety.{IsSafeAt}
+use Rattle.aig_runs.specs.WindowClauses.{AsksWindow}
 use Rattle.aig_refutation.specs.declared.error.RefutationError.TheVariants as refutation
 use Rattle.aig_encode.specs.declared.query_clauses.Query.{Query}
 use Rattle.aig_encode.specs.Encoding.{IsQuery}
@@ -25,11 +25,11 @@ use Rattle.aig_answers.specs.declared.error.AnswerError.TheVariants as answers
 use Rattle.aig_answers.specs.Answers as asking
 use Rattle.aig_answers.specs.Answers.{IsAsked, IsOfInduction, IsOfQuery, IsOfStep, IsOfWindow, asked_verdict, window_verdict}
 use Rattle.aig_witness.specs.Witness.{Witness, witness_text}
-use Rattle.aig_witness_check.specs.declared.file.ShowError.TheVariants as shows
-use Rattle.aig_witness_check.specs.declared.file.Shown.{Shown}
-use Rattle.aig_witness_check.specs.Files as showing
-use Rattle.aig_witness_check.specs.Files.{ShowsNext}
-use Rattle.aig_witness_check.specs.Machine.{ShowsBad}
+use Rattle.aig_witness.specs.declared.file.ShowError.TheVariants as shows
+use Rattle.aig_witness.specs.declared.file.Shown.{Shown}
+use Rattle.aig_witness.specs.Files as showing
+use Rattle.aig_witness.specs.Files.{ShowsNext}
+use Rattle.aig_witness.specs.Machine.{ShowsBad}
 use Rattle.aig_certificates.specs.Certificates as certificates
 use Rattle.aig_solutions.specs.declared.error.SolutionError.{SolutionError}
 use Rattle.aig_solutions.specs.Checked.{RefusesSolution, SaysWitness}

@@ -1,8 +1,8 @@
 -- Part of what is promised.
 -- Which words give which command.
 use Rattle.std.specs.Prelude.{◌≡◌, ℕ, Bool, true, false, List, codes}
-use Rattle.aig_certify.specs.declared.window.Window.{Window}
-use Rattle.aig_certify.specs.declared.window.Window.TheVariants.{Plain, Distinct}
+use Rattle.aig_runs.specs.declared.window.Window.{Window}
+use Rattle.aig_runs.specs.declared.window.Window.TheVariants.{Plain, Distinct}
 use Rattle.aig_command_line.specs.declared.arguments.Form.{Form}
 use Rattle.aig_command_line.specs.Arguments.{Arguments, Gives}
 use Rattle.aig_checks.specs.declared.command.Action.{Action}

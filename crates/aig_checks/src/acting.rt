@@ -33,7 +33,6 @@ impl From<OpenError> for CheckError {
     fn from(error: OpenError) -> CheckError {
         match error {
             OpenError::Refused => CheckError::Open,
-            OpenError::Memory => CheckError::Memory,
         }
     }
 }

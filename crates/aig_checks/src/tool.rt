@@ -16,13 +16,12 @@ use crate::line::buffer_named;
 use aig_answers::{AnswerError, Window, asked_query, check_step, check_window, window};
 use aig_base::{DagCnf, LitVvec, MemoryError, Sink, Source, StreamFault};
 use aig_certificates::CertificateError;
-use aig_certify::inductive_windows_are_safe;
 use aig_dimacs::write_dimacs;
 use aig_encode::Query;
 use aig_output::OutputBuffer;
+use aig_runs::inductive_windows_are_safe;
 use aig_solutions::{Places, SolutionError, checked_witness};
-use aig_witness::write_witness;
-use aig_witness_check::{ShowError, Shown, check_witness, known_witnesses_show};
+use aig_witness::{ShowError, Shown, check_witness, known_witnesses_show, write_witness};
 use std::alloc::Global;
 use thiserror::Error;
 

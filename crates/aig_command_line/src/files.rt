@@ -5,19 +5,13 @@ ghost use Rattle.aig_command_line.specs.declared.files.OpenError.{OpenError};
 
 use aig_base::{FromRead, Source};
 use std::fs::File;
-use std::io::BufReader;
 use std::rt::Files;
-
-/// How many bytes are read from a file at once.
-const PIECE: usize = 1 << 14;
 
 /// Why a file wasn't opened.
 #[derive(Clone, Copy)]
 pub enum OpenError {
     /// The system refused it.
     Refused,
-    /// Memory ran out.
-    Memory,
 }
 
 /// Opens files for reading.
@@ -46,18 +40,15 @@ impl<'a, R> SystemFiles<'a, R> {
     }
 }
 
-impl<'a, R: Files + AllocGlobal> Opens for SystemFiles<'a, R> {
-    type File = FromRead<BufReader<R::File>>;
+impl<'a, R: Files> Opens for SystemFiles<'a, R> {
+    type File = FromRead<R::File>;
 
     ghost opens = { λ _ _ _. ⊤ };
 
-    fn open(&self, path: &str) -> Result<FromRead<BufReader<R::File>>, OpenError> {
-        let Ok(file) = File::open(self.rt, path) else {
-            return Err(OpenError::Refused);
-        };
-        match BufReader::with_capacity(self.rt.alloc(), PIECE, file) {
+    fn open(&self, path: &str) -> Result<FromRead<R::File>, OpenError> {
+        match File::open(self.rt, path) {
             Ok(file) => Ok(FromRead::new(file)),
-            Err(_) => Err(OpenError::Memory),
+            Err(_) => Err(OpenError::Refused),
         }
     }
 }

@@ -1,17 +1,17 @@
 -- What a command puts into its writer answers the file that was read.
-use Rattle.std.proofs.Common.{◌≡◌, ℕ, Option, Some, None, List, ◌++◌, length, refl, ap, ◌∙◌}
+use Rattle.std.proofs.Common.{◌≡◌, ◌≤◌, ℕ, Option, Some, None, List, ◌++◌, length, refl, ap, ◌∙◌}
 use Rattle.aig_base.specs.declared.logic.literal.Lit.{Lit}
 use Rattle.aig_base.specs.Formula.{clauses_in}
 use Rattle.aig_circuit.specs.Circuit.{Circuit}
 use Rattle.aig_dimacs.specs.Text.{IsFormula, dimacs_of}
 use Rattle.aig_dimacs.proofs.Reading.{parse_formula-dimacs_of}
 use Rattle.aig_format.specs.File.{File}
-use Rattle.aig_format.specs.Circuit.{binary_of, text_of}
+use Rattle.aig_format.specs.Circuit.{binary_of, circuit_of, text_of}
 use Rattle.aig_format.specs.Fits.{Accepts}
 use Rattle.aig_reader.specs.Reading.{IsReadAs}
 use Rattle.aig_strash.specs.Strash.{strashed}
 use Rattle.aig.specs.Reading.{IsFileCircuit}
-use Rattle.aig_encode.specs.Encoding.{IsWithin}
+use Rattle.aig_unroll.specs.Places.{unrolled_size}
 use Rattle.aig_encode.proofs.Verdicts.{encoded_verdict-within}
 use Rattle.aig_commands.specs.declared.command.Command.TheVariants as commands
 use Rattle.aig_commands.specs.declared.command.Command.{Command}
@@ -53,7 +53,7 @@ module _ (c : Command) (limit : ℕ) (old new : Option (List ℕ)) (Holds : List
     h,
   )
 
-  pub clauses_answer : {X : Type 0} {Means : File → X → Type 0} {x : X} (k : ℕ) (text : List ℕ) → steps_of c ≡ Some k → IsReadAs (IsWithin limit k) Means old new x
+  pub clauses_answer : {X : Type 0} {Means : File → X → Type 0} {x : X} (k : ℕ) (text : List ℕ) → steps_of c ≡ Some k → IsReadAs (λ bytes f. Accepts bytes limit f × (unrolled_size (circuit_of f) k ≤ limit)) Means old new x
       → ((f : File) → Means f x → Answers c f text) → Holds text → AnswersFile c limit old new Holds
   clauses_answer k text some read means h = (
     text,

@@ -22,7 +22,6 @@ use Rattle.aig_commands.specs.Words.{Give, IsCall}
 -- what a file that is not opened is refused for
 abbrev pub unopened : OpenError → ToolError
 unopened opening.Refused = errors.Read read.Open
-unopened opening.Memory = errors.Memory
 
 -- the command was run on the file that was opened, or there is none, and nothing is written
 abbrev pub RunsOpened : {F W : Type 0} → (F → Option (List ℕ)) → (F → Bool)

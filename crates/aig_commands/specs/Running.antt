@@ -14,6 +14,7 @@ use Rattle.aig_reader.specs.declared.error.ReadError.TheVariants as read
 use Rattle.aig_reader.specs.Reading.{IsReadAs}
 use Rattle.aig_reader.specs.Verdicts as reading
 use Rattle.aig_reader.specs.Verdicts.{Accepted, Judges, Short, Verdict, verdict_by}
+use Rattle.aig_runs.specs.Encodes.{Encodes}
 use Rattle.aig_strash.specs.Strash.{strashed}
 use Rattle.aig_output.specs.Sinks.{Stops}
 use Rattle.aig.specs.declared.aiger.WriteError.TheVariants as write
@@ -21,7 +22,7 @@ use Rattle.aig_encode.specs.declared.encoding.Encoded.{Encoded}
 use Rattle.aig_encode.specs.declared.query_clauses.Query.{Query}
 use Rattle.aig_encode.specs.declared.error.EncodeError.TheVariants as encode
 use Rattle.aig_encode.specs.Encoding as encoding
-use Rattle.aig_encode.specs.Encoding.{IsEncoding, IsQuery, encoded_verdict}
+use Rattle.aig_encode.specs.Encoding.{IsQuery, encoded_verdict}
 use Rattle.aig_commands.specs.declared.command.Command.{Command}
 use Rattle.aig_commands.specs.declared.command.Command.TheVariants as commands
 use Rattle.aig_commands.specs.declared.tool.ToolError.{ToolError}
@@ -42,7 +43,8 @@ Answers commands.Text f text = text ≡ text_of (circuit_of f)
 Answers commands.Binary f text = text ≡ binary_of (circuit_of f)
 Answers commands.Strash f text = text ≡ text_of (strashed (circuit_of f))
 Answers (commands.Cnf k optimize) f text =
-    (e : Encoded) × IsEncoding k optimize f e × IsTextOf e.clauses [] text
+    (e : Encoded) × Encodes f k optimize e.circuit e.unrolled e.clauses
+    × IsTextOf e.clauses [] text
 Answers (commands.Query k optimize) f text =
     (q : Query) × IsQuery k optimize f q × IsTextOf q.encoded.clauses q.extra text
 

@@ -50,7 +50,6 @@ impl From<OpenError> for ToolError {
     fn from(error: OpenError) -> ToolError {
         match error {
             OpenError::Refused => ToolError::Read(ReadError::Open),
-            OpenError::Memory => ToolError::Memory,
         }
     }
 }

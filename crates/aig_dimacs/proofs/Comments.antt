@@ -6,7 +6,7 @@ use Rattle.std.specs.List.{flat_map}
 use Rattle.std.proofs.lemmas.Bool.Decides.{nat_tests}
 use Rattle.aig_base.specs.declared.logic.literal.Lit.{Lit}
 use Rattle.aig_base.specs.Clauses.{is_positive}
-use Rattle.aig_parsing.specs.Parse.{◌>>=◌, strip}
+use Rattle.aig_format.specs.Parse.{◌>>=◌, strip}
 use Rattle.aig_dimacs.specs.Text.{sign_of}
 use Rattle.aig_dimacs.specs.Reading.{after_comments, counted_in, parse_formula, words_from}
 

@@ -7,7 +7,7 @@ use Rattle.std.proofs.lemmas.List.Elements.{All-tail, recursion_from_All}
 use Rattle.std.proofs.lemmas.Option.{same_Some}
 use Rattle.aig_base.specs.declared.logic.literal.Lit.{Lit}
 use Rattle.aig_base.specs.Clauses.{AreBelow, is_positive, lit_to, variable_of}
-use Rattle.aig_parsing.specs.Parse.{◌>>=◌}
+use Rattle.aig_format.specs.Parse.{◌>>=◌}
 use Rattle.aig_dimacs.specs.Text.{IsFormula, clause_line, dimacs_of, literal_text}
 use Rattle.aig_dimacs.specs.Reading.{after_comments, clauses_from, counted_in, parse_formula, signed_in, words_from}
 use Rattle.aig_dimacs.proofs.Words.{decimal_plain, decimal_some, number_in-decimal, signed_in-word_of, word_of, word_plain, word_some, words_from-word}

@@ -6,7 +6,7 @@ use Rattle.std.specs.Str.{all_ascii_digits}
 use Rattle.std.specs.Str.Parse.{digits_value}
 use Rattle.aig_base.specs.declared.logic.literal.Lit.{Lit}
 use Rattle.aig_base.specs.Clauses.{lit_to}
-use Rattle.aig_parsing.specs.Parse.{◌>>=◌, strip}
+use Rattle.aig_format.specs.Parse.{◌>>=◌, strip}
 
 -- a space or a line feed
 abbrev pub is_blank : ℕ → Bool

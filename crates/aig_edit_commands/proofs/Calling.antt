@@ -19,9 +19,10 @@ among actions.Unroll = (2, omega arith, refl)
 among actions.Move = (3, omega arith, refl)
 among actions.Compress = (4, omega arith, refl)
 among actions.Bads = (5, omega arith, refl)
-among actions.Miter = (6, omega arith, refl)
-among actions.Join = (7, omega arith, refl)
-among actions.Merge = (8, omega arith, refl)
+among actions.Reduce = (6, omega arith, refl)
+among actions.Miter = (7, omega arith, refl)
+among actions.Join = (8, omega arith, refl)
+among actions.Merge = (9, omega arith, refl)
 
 -- what holds of each in the list holds of each
 pub each : (P : Action → Type 0) → All P ALL → (a : Action) → P a

@@ -43,7 +43,6 @@ pub record PrintsPair {R S W : Type 0} (left : R → Option (List ℕ)) (failed 
 -- what a file that is not opened is refused for, as the first or the second
 abbrev pub unopened : (ReadError → PairError) → OpenError → PairError
 unopened refused opening.Refused = refused read.Open
-unopened refused opening.Memory = errors.Memory
 
 -- both files are open and their joint circuit is printed, or the second one is not, and nothing is
 -- written
@@ -106,7 +105,6 @@ pub record PrintsEdited {R W : Type 0} (left : R → Option (List ℕ)) (failed 
 -- what a file that is not opened is refused for
 abbrev pub edit_unopened : OpenError → EditError
 edit_unopened opening.Refused = edit.Read read.Open
-edit_unopened opening.Memory = edit.Memory
 
 -- the file is open, or it is not, and nothing is written
 abbrev pub PrintsOpened : {F W : Type 0} → (F → Option (List ℕ)) → (F → Bool)

@@ -41,7 +41,6 @@ fn edit_unopened(error: OpenError) -> EditError
 {
     match error {
         OpenError::Refused => EditError::Read(ReadError::Open),
-        OpenError::Memory => EditError::Memory,
     }
 }
 
@@ -82,7 +81,6 @@ fn unopened(error: OpenError) -> PairError
 {
     match error {
         OpenError::Refused => PairError::Read(ReadError::Open),
-        OpenError::Memory => PairError::Memory,
     }
 }
 
@@ -92,7 +90,6 @@ fn other_unopened(error: OpenError) -> PairError
 {
     match error {
         OpenError::Refused => PairError::Other(ReadError::Open),
-        OpenError::Memory => PairError::Memory,
     }
 }
 

@@ -31,6 +31,8 @@ pub enum Action {
     Compress,
     /// `bads FILE`: print a file with its outputs as its bad literals.
     Bads,
+    /// `reduce FILE`: print what of a file its bad literals, constraints and latches read.
+    Reduce,
     /// `miter FILE OTHER`: print the miter of two files.
     Miter,
     /// `join FILE CERT`: print a file beside its certificate.
@@ -61,6 +63,7 @@ impl HasForm for Action {
             Action::Move => "move",
             Action::Compress => "compress",
             Action::Bads => "bads",
+            Action::Reduce => "reduce",
             Action::Miter => "miter",
             Action::Join => "join",
             Action::Merge => "merge",
@@ -78,13 +81,14 @@ impl HasForm for Action {
 
 impl Action {
     /// Each of them.
-    const ALL: [Action; 9] = [
+    const ALL: [Action; 10] = [
         Action::Refine,
         Action::Reencode,
         Action::Unroll,
         Action::Move,
         Action::Compress,
         Action::Bads,
+        Action::Reduce,
         Action::Miter,
         Action::Join,
         Action::Merge,
@@ -101,6 +105,7 @@ impl Action {
             Action::Move => Command::Edit(Edit::Move),
             Action::Compress => Command::Edit(Edit::Compress),
             Action::Bads => Command::Edit(Edit::Bads),
+            Action::Reduce => Command::Edit(Edit::Reduce),
             Action::Miter => Command::Pair(Pairing::Miter),
             Action::Join => Command::Pair(Pairing::Certificate),
             Action::Merge => Command::Pair(Pairing::Merge),

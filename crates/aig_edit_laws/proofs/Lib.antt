@@ -5,3 +5,4 @@ pub mod Machines
 pub mod Written
 pub mod PlainForms
 pub mod Paired
+pub mod Reduced

@@ -6,7 +6,7 @@ use Rattle.std.specs.List.{list_any}
 use Rattle.aig_circuit.specs.Circuit.{Circuit}
 use Rattle.aig_circuit.specs.Tree.{edge_value}
 use Rattle.aig_change.specs.Runs.{IsAllowedRun}
-use Rattle.aig_certify.specs.Safety.{IsConstrained}
+use Rattle.aig_runs.specs.Safety.{IsConstrained}
 use Rattle.aig_format.specs.File.{File}
 use Rattle.aig_format.specs.Machine.{value_of_literal, IsMachineInitial, IsMachineRun}
 use Rattle.aig_runs.specs.Queries.{IsWitness}

@@ -5,9 +5,13 @@ ghost use Rattle.aig_circuit.specs.Circuit.{Circuit, IsCircuit};
 ghost use Rattle.aig_change.specs.Changes.{CompressesBads, FoldsConstraints};
 ghost use Rattle.aig_change.specs.Merge.{merged};
 ghost use Rattle.aig_cone.specs.Refine.{AreKept, refined};
+ghost use Rattle.aig_format.specs.Writable.{IsWritable};
+ghost use Rattle.aig_reduction.specs.Reduction.{IsReduced};
 ghost use Rattle.aig_unroll.specs.Unroll.{UnrollsTo};
 ghost use Rattle.aig_edit_laws.specs.Plain.{IsPlain};
 ghost use Rattle.aig_edit_laws.specs.Shown.{outputs_as_bads};
+
+use aig_cone::refining_is_circuit;
 
 /// Law: where only its size can keep a circuit from a written form, this is so of what is made of it.
 pub fn changed_circuits_are_plain()
@@ -23,3 +27,11 @@ pub fn changed_circuits_are_plain()
         → IsPlain first → IsPlain second → IsPlain (merged first second) }
     ensures bads { (c : Circuit) → IsPlain c → IsPlain (outputs_as_bads c) }
 {}
+
+/// Law: where a circuit has a written form, only its size can keep its reduction from one.
+pub fn reductions_are_plain()
+    ensures { (old new : Circuit) → IsCircuit old → IsWritable old → IsReduced old new
+        → IsPlain new }
+{
+    refining_is_circuit();
+}

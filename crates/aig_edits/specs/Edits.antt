@@ -4,7 +4,7 @@ use Rattle.std.specs.Prelude.{◌≡◌, ◌≢◌, ℕ, ◌≤◌, ◌↔◌, B
 use Rattle.std.specs.Io.KnownBytes.{Appends}
 use Rattle.aig.specs.declared.aiger.WriteError.{WriteError}
 use Rattle.aig.specs.declared.aiger.WriteError.TheVariants as write
-use Rattle.aig_certify.specs.Safety.{IsSafeAt}
+use Rattle.aig_runs.specs.Safety.{IsSafeAt}
 use Rattle.aig_change.specs.Changes.{CompressesBads, FoldsConstraints}
 use Rattle.aig_circuit.specs.Circuit.{Circuit}
 use Rattle.aig_circuit.specs.Reencode.{reencoded}
@@ -20,6 +20,7 @@ use Rattle.aig_reader.specs.declared.error.ReadError.TheVariants as read
 use Rattle.aig_reader.specs.Reading.{IsReadAs}
 use Rattle.aig_reader.specs.Verdicts as reading
 use Rattle.aig_reader.specs.Verdicts.{Accepted, Judges, Verdict, verdict_by}
+use Rattle.aig_reduction.specs.Reduction.{IsReduced}
 use Rattle.aig_unroll.specs.Places.{unrolled_size}
 use Rattle.aig_unroll.specs.Unroll.{UnrollsBySteps, UnrollsTo}
 use Rattle.aig_edits.specs.declared.edit.Edit.{Edit}
@@ -47,6 +48,7 @@ IsEdited (edits.Unroll k) c m = UnrollsTo c k m × UnrollsBySteps c k m
 IsEdited edits.Move c m = FoldsConstraints c m
 IsEdited edits.Compress c m = CompressesBads c m
 IsEdited edits.Bads c m = m ≡ outputs_as_bads c
+IsEdited edits.Reduce c m = IsReduced c m
 
 -- at each step one machine is safe exactly where the other is
 abbrev pub AreAsSafe : File → File → Type 0
@@ -60,6 +62,7 @@ EditShows edits.Reencode f h = AreAsSafe f h
 EditShows (edits.Unroll k) f h = HasWitness h 0 ↔ HasBadBy f k
 EditShows edits.Move f h = length f.properties.bads ≤ 1 → AreAsSafe f h
 EditShows edits.Compress f h = AreAsSafe f h
+EditShows edits.Reduce f h = AreAsSafe f h
 EditShows edits.Bads f h = (k : ℕ) → HasWitness h k ↔ HasOutput f k
 
 -- the edit makes the circuit of the file's, and it fits the format

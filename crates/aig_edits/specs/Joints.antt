@@ -5,7 +5,7 @@ use Rattle.std.specs.Io.KnownBytes.{Appends}
 use Rattle.aig_circuit.specs.Circuit.{Circuit}
 use Rattle.aig_circuit.specs.View.{lists_circuit}
 use Rattle.aig_circuit.specs.declared.view.CircuitLists.{CircuitLists}
-use Rattle.aig_certify.specs.Safety.{IsSafeAt}
+use Rattle.aig_runs.specs.Safety.{IsSafeAt}
 use Rattle.aig_change.specs.Merge.{PairsRuns, merged, shifted}
 use Rattle.aig_edit_laws.specs.Shown.{HasRun, HasWitness}
 use Rattle.aig_format.specs.Circuit.{IsReadAgain, circuit_of, file_of, text_of}

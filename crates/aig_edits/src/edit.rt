@@ -15,4 +15,7 @@ pub enum Edit {
     Compress,
     /// The circuit with its outputs as its bad edges, and no outputs: files from before AIGER 1.9 have no others.
     Bads,
+    /// The circuit of what bad edges, constraints and latches read, hashed, with no other properties (`reduced` of the crate
+    /// `aig_reduction`). All latches stay.
+    Reduce,
 }

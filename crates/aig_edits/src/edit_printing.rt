@@ -17,7 +17,6 @@ use crate::edit_error::EditError;
 use crate::editing::edited;
 use aig::Aig;
 use aig_base::{Sink, Source};
-use aig_certify::safe_circuits_are_safe_machines;
 use aig_cone::{refining_is_circuit, refining_keeps_runs};
 use aig_edit_laws::{
     changed_circuits_keep_witnesses, outputs_become_bads, shown_runs_are_machine_runs,
@@ -26,6 +25,7 @@ use aig_edit_laws::{
 use aig_format_laws::files_are_circuits;
 use aig_reduction::runs_keep_witnesses;
 use aig_renumber::reencoding_keeps_runs;
+use aig_runs::safe_circuits_are_safe_machines;
 use std::alloc::Global;
 
 /// Law: the machine of a file that is read again as an edited circuit shows what the edit says.

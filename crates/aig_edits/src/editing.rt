@@ -11,7 +11,7 @@ ghost use Rattle.aig_edits.specs.declared.edit.Edit.TheVariants as edits;
 use crate::edit::Edit;
 use crate::edit_error::EditError;
 use aig::{Aig, PropList};
-use aig_edit_laws::changed_circuits_are_plain;
+use aig_edit_laws::{changed_circuits_are_plain, reductions_are_plain};
 use aig_format_laws::binary_is_read;
 
 /// Cuts a circuit to its cone of influence.
@@ -77,6 +77,16 @@ fn with_outputs_as_bads(mut circuit: Aig) -> Result<Aig, EditError>
     Ok(circuit)
 }
 
+/// Keeps what bad edges, constraints and latches read, and hashes it.
+fn reduced(circuit: Aig) -> Result<Aig, EditError>
+    requires { IsWritable circuit }
+    ensures { Yields edits.Reduce circuit result }
+{
+    reductions_are_plain();
+    let _nodes = circuit.nodes();
+    Ok(aig_reduction::reduced(circuit)?)
+}
+
 /// Whether a circuit with so many further steps has at most `limit` nodes, by the bound that `unroll_to` keeps.
 fn is_within(circuit: &Aig, k: usize, limit: usize) -> bool
     ensures { IsTrue result ↔ (unrolled_size circuit.now k ≤ limit) }
@@ -98,5 +108,6 @@ pub(crate) fn edited(edit: &Edit, circuit: Aig, limit: usize) -> Result<Aig, Edi
         Edit::Compress => compressed(circuit),
         Edit::Bads if !circuit.bads().is_empty() => Err(EditError::HasBads),
         Edit::Bads => with_outputs_as_bads(circuit),
+        Edit::Reduce => reduced(circuit),
     }
 }

@@ -15,13 +15,13 @@ use Rattle.aig.specs.Reading.{IsFileCircuit}
 use Rattle.aig_encode.specs.declared.encoding.Encoded.{Encoded}
 use Rattle.aig_encode.specs.declared.error.EncodeError.{EncodeError}
 use Rattle.aig_encode.specs.declared.error.EncodeError.TheVariants as errors
-use Rattle.aig_encode.specs.Encoding.{IsEncoding, IsWithin, encoded_verdict, verdict_of}
+use Rattle.aig_encode.specs.Encoding.{encoded_verdict, verdict_of}
 use Rattle.aig_encode.specs.Parts.{EncodesCircuit, EncodesOrRefuses, Parts}
 use Rattle.aig_encode.proofs.Verdicts.{encoded_verdict-beyond, encoded_verdict-within}
 
 module _ (of : Circuit) (limit k : ℕ) (optimize : Bool) where
   -- what encodes a file's own circuit encodes the file
-  encodes : (f : File) (made : Parts) → Fits f limit → IsFileCircuit f of → EncodesCircuit of k optimize made → IsEncoding k optimize f (record { circuit = of; unrolled = made.0; clauses = made.1 })
+  encodes : (f : File) (made : Parts) → Fits f limit → IsFileCircuit f of → EncodesCircuit of k optimize made → Encodes f k optimize of made.0 made.1
   encodes f made fits same h =
       let steps = subst (λ circuit. UnrollsTo circuit k made.0) same h.steps in
       subst (λ circuit. Encodes f k optimize circuit made.0 made.1) (sym same) (files_are_encoded f limit k optimize made.0 made.1 fits steps h.clauses h.fixes h.satisfied)
@@ -56,7 +56,7 @@ module _ (of : Circuit) (limit k : ℕ) (optimize : Bool) where
     judged failed r told p = said_of_read (λ f. Accepted) (encoded_verdict limit k) limit old new failed (verdict_by verdict_of r) (of_file r p) told read (said r p)
 
     -- the file that was read is encoded
-    pub answers : (made : Parts) → EncodesOrRefuses of limit k optimize (Ok made) → IsReadAs {T = Encoded} (IsWithin limit k) (IsEncoding k optimize) old new (record { circuit = of; unrolled = made.0; clauses = made.1 })
+    pub answers : (made : Parts) → EncodesOrRefuses of limit k optimize (Ok made) → IsReadAs {T = Encoded} (λ bytes f. Accepts bytes limit f × (unrolled_size (circuit_of f) k ≤ limit)) (λ f e. Encodes f k optimize e.circuit e.unrolled e.clauses) old new (record { circuit = of; unrolled = made.0; clauses = made.1 })
     answers made p = record {
       file = read.file;
       bytes = read.bytes;

@@ -1,38 +1,27 @@
 -- Part of what is promised.
 -- What the answer of an encoding call is, and what such a call says of the bytes.
-use Rattle.std.specs.Prelude.{ℕ, ◌≤◌, Bool, List, if◌then◌else◌, nat_le}
+use Rattle.std.specs.Prelude.{ℕ, Bool, if◌then◌else◌, nat_le}
 use Rattle.aig_format.specs.File.{File}
-use Rattle.aig_format.specs.Fits.{Accepts}
 use Rattle.aig_format.specs.Circuit.{circuit_of}
 use Rattle.aig_reader.specs.Verdicts as reading
 use Rattle.aig_reader.specs.Verdicts.{Accepted, Short, TooLarge, Verdict}
 use Rattle.aig_unroll.specs.Places.{unrolled_size}
 use Rattle.aig_runs.specs.Encodes.{Encodes}
 use Rattle.aig_runs.specs.Queries.{IsQueryOf}
-use Rattle.aig_encode.specs.declared.encoding.Encoded.{Encoded}
 use Rattle.aig_encode.specs.declared.error.EncodeError.{EncodeError}
 use Rattle.aig_encode.specs.declared.error.EncodeError.TheVariants as errors
 use Rattle.aig_encode.specs.declared.query_clauses.Query.{Query}
 
 -- ---- answers
 
--- the file is encoded: its circuit, that circuit with k further steps, and the clauses of this
-abbrev pub IsEncoding : ℕ → Bool → File → Encoded → Type 0
-IsEncoding k optimize f e = Encodes f k optimize e.circuit e.unrolled e.clauses
-
 -- the file is encoded, and the query clauses ask for a run from an initial state to a bad literal
 -- at step k
 abbrev pub IsQuery : ℕ → Bool → File → Query → Type 0
 IsQuery k optimize f q =
-    IsEncoding k optimize f q.encoded
+    Encodes f k optimize q.encoded.circuit q.encoded.unrolled q.encoded.clauses
     × IsQueryOf f k q.encoded.circuit q.encoded.unrolled q.encoded.clauses q.extra
 
 -- ---- bytes
-
--- the bytes are this file, it fits, and the bound of its circuit with k further steps is within the
--- limit
-abbrev pub IsWithin : ℕ → ℕ → List ℕ → File → Type 0
-IsWithin limit k bytes f = Accepts bytes limit f × (unrolled_size (circuit_of f) k ≤ limit)
 
 -- the verdict on a file that fits: whether the bound of its circuit with k further steps is within
 -- the limit

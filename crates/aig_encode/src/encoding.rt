@@ -1,10 +1,13 @@
 //! From bytes to clauses.
 
 ghost use Rattle.std.specs.Prelude.{◌^◌, ◌≤◌, ◌↔◌, IfOk, IsErrOf, IsTrue};
+ghost use Rattle.aig_format.specs.Circuit.{circuit_of};
+ghost use Rattle.aig_format.specs.Fits.{Accepts};
 ghost use Rattle.aig_reader.specs.Reading.{IsReadAs};
 ghost use Rattle.aig_reader.specs.Verdicts.{Judges, verdict_by};
+ghost use Rattle.aig_runs.specs.Encodes.{Encodes};
 ghost use Rattle.aig_unroll.specs.Places.{unrolled_size};
-ghost use Rattle.aig_encode.specs.Encoding.{IsEncoding, IsWithin, encoded_verdict, verdict_of};
+ghost use Rattle.aig_encode.specs.Encoding.{encoded_verdict, verdict_of};
 ghost use Rattle.aig_encode.specs.Parts.{EncodesOrRefuses};
 
 use crate::error::EncodeError;
@@ -67,8 +70,10 @@ pub fn encode<R: Source>(
     requires some { 1 ≤ limit }
     requires few { limit ≤ 2 ^ 31 }
     // The bytes that were read are a file within the limit, and that file is encoded.
-    ensures answer { IfOk result
-        (IsReadAs (IsWithin limit k) (IsEncoding k optimize) (R.left r.old) (R.left r.new)) }
+    ensures answer { IfOk result (IsReadAs
+        (λ bytes f. Accepts bytes limit f × (unrolled_size (circuit_of f) k ≤ limit))
+        (λ f e. Encodes f k optimize e.circuit e.unrolled e.clauses)
+        (R.left r.old) (R.left r.new)) }
     // Each file within the limit is answered, one whose further steps may pass it is TooLarge, and a refusal says why.
     ensures verdict { Judges (encoded_verdict limit k) limit (R.left r.old) (R.left r.new)
         (R.failed r.new) (verdict_by verdict_of result) }

@@ -2,9 +2,12 @@
 
 ghost use Rattle.std.specs.Prelude.{◌^◌, ◌≤◌, IfOk, IsErrOf, length};
 ghost use Rattle.aig_base.specs.Clauses.{AreBelow};
+ghost use Rattle.aig_format.specs.Circuit.{circuit_of};
+ghost use Rattle.aig_format.specs.Fits.{Accepts};
 ghost use Rattle.aig_reader.specs.Reading.{IsReadAs};
 ghost use Rattle.aig_reader.specs.Verdicts.{Judges, verdict_by};
-ghost use Rattle.aig_encode.specs.Encoding.{IsQuery, IsWithin, encoded_verdict, verdict_of};
+ghost use Rattle.aig_unroll.specs.Places.{unrolled_size};
+ghost use Rattle.aig_encode.specs.Encoding.{IsQuery, encoded_verdict, verdict_of};
 
 use crate::encoding::encode;
 use crate::error::EncodeError;
@@ -59,8 +62,9 @@ pub fn query<R: Source>(
     requires some { 1 ≤ limit }
     requires few { limit ≤ 2 ^ 31 }
     // The bytes that were read are a file within the limit, and that file is encoded and asked for.
-    ensures answer { IfOk result
-        (IsReadAs (IsWithin limit k) (IsQuery k optimize) (R.left r.old) (R.left r.new)) }
+    ensures answer { IfOk result (IsReadAs
+        (λ bytes f. Accepts bytes limit f × (unrolled_size (circuit_of f) k ≤ limit))
+        (IsQuery k optimize) (R.left r.old) (R.left r.new)) }
     // The query clauses are of variables that are there.
     ensures below { IfOk result (λ q. AreBelow (length q.encoded.clauses) q.extra) }
     // Each file within the limit is answered, one whose further steps may pass it is TooLarge, and a refusal says why.

@@ -60,7 +60,7 @@ abbrev pub same_place : NameLine → NameLine → Bool
 same_place a b = (a.letter == b.letter) && (a.position == b.position)
 
 -- ---- the order of variables and gates (AIGER format 20071012: "Input/Latch/Output/And section",
--- "Binary encoding"; that a text file may have gaps: docs/DIFFERENCES.md)
+-- "Binary encoding"; that a text file may have gaps: docs/FORMAT.md)
 
 -- what is used is 0 or defined
 abbrev pub uses_known : File → Bool

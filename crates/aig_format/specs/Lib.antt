@@ -10,3 +10,6 @@ pub mod Machine
 pub mod Written
 pub mod Circuit
 pub mod Writable
+pub mod Parse
+pub mod ParseTested
+pub mod WritableFile

@@ -37,8 +37,8 @@ use Rattle.aig_format.proofs.Numbers.{node_of_variable-compact}
 use Rattle.aig_format.proofs.Members.{distinct_append}
 use Rattle.aig_format.proofs.Rules.{above_from, compact_from, definable_from, name_from, rising_distinct}
 use Rattle.aig_format.proofs.Entries.{rec_append, rec_map, rec_weaker, OnUsed, length-defined, on_used}
-use Rattle.aig_parsing.specs.Writable.{CanWrite, GateSmall, IsFileNumber, LatchSmall, NameSmall}
-use Rattle.aig_parsing.proofs.Law.{spelling_spells}
+use Rattle.aig_format.specs.WritableFile.{CanWrite, GateSmall, IsFileNumber, LatchSmall, NameSmall}
+use Rattle.aig_format.proofs.Law.{spelling_spells}
 use Rattle.aig_format_laws.proofs.Edges.{IsOfFile, inputs_again, latches_again, literal_below, literal_half, properties_again}
 use Rattle.aig_format_laws.proofs.Gates.{AreNumbered, lefts, lefts_rise, lines_all, lines_count, lines_for, line_for}
 use Rattle.aig_format_laws.proofs.Names.{names_again, names_all, names_distinct, names_kept, with_names, line_named}

@@ -26,10 +26,10 @@ use Rattle.aig_format_laws.specs.Nodes.{HasNodeValues, values_over}
 use Rattle.aig_format_laws.proofs.Joining.{back_run, forth_run, forth_values, inputs_known, leaves_of, literal_is}
 use Rattle.aig_format_laws.proofs.Starts.{starts_agree}
 use Rattle.aig_format_laws.proofs.Writable.{plain_starts}
-use Rattle.aig_runs.proofs.Safety.{safe_is}
+use Rattle.aig_runs.proofs.SafeSteps.{safe_is}
 use Rattle.aig_runs.proofs.Witnesses.{witness_forth}
 use Rattle.aig_runs.specs.Queries.{IsSafeTo}
-use Rattle.aig_certify.specs.Safety.{IsCircuitSafeAt, IsSafeAt}
+use Rattle.aig_runs.specs.Safety.{IsCircuitSafeAt, IsSafeAt}
 use Rattle.aig_join.specs.Certificate.{HasConstantFurtherInits, HasLeavesOf, certified}
 use Rattle.aig_join.specs.Files.{AreEqualMachinesAt, HasLinesOf, HaveSameFileCounts, IsAllowedMachineRun}
 use Rattle.aig_join.specs.Miter.{AreEqualAt, HaveSameCounts, IsMiter, compared}

@@ -17,7 +17,7 @@ use Rattle.aig_circuit.specs.Tree.{edge_value}
 use Rattle.aig_circuit.proofs.Lists.{All-first, All-from_map, All-second}
 use Rattle.aig_change.specs.Runs.{IsAllowedRun}
 use Rattle.aig_runs.specs.CircuitQueries.{IsCircuitWitness}
-use Rattle.aig_certify.specs.Safety.{IsCircuitSafeAt}
+use Rattle.aig_runs.specs.Safety.{IsCircuitSafeAt}
 use Rattle.aig_join.specs.Joined.{CanShare, joined, number_in_joint, shared_of_first, shared_of_second}
 use Rattle.aig_join.specs.Pairs.{AgreeOnShared, JoinsRuns, MeetsConstraints}
 use Rattle.aig_join.specs.Miter.{AreEqualAt, ComparesRuns, HaveSameCounts, HaveSameInputs, IsMiter, compared, moved_compared}

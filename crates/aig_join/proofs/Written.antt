@@ -10,11 +10,11 @@ use Rattle.aig_format.proofs.Circuits.{IsCircuit-of_file}
 use Rattle.aig_format_laws.specs.Nodes.{values_over}
 use Rattle.aig_format_laws.proofs.Writable.{IsWritable-of_file, names_are_texts}
 use Rattle.aig_format_laws.proofs.Written.{is_read_again}
-use Rattle.aig_runs.proofs.Safety.{safe_is}
+use Rattle.aig_runs.proofs.SafeSteps.{safe_is}
 use Rattle.aig_runs.proofs.Witnesses.{witness_back, witness_forth}
 use Rattle.aig_runs.specs.CircuitQueries.{IsCircuitWitness}
 use Rattle.aig_runs.specs.Queries.{IsSafeTo}
-use Rattle.aig_certify.specs.Safety.{IsCircuitSafeAt, IsSafeAt}
+use Rattle.aig_runs.specs.Safety.{IsCircuitSafeAt, IsSafeAt}
 use Rattle.aig_join.specs.Certificate.{certified}
 use Rattle.aig_join.specs.Files.{AreEqualMachinesAt, HasLinesOf, HaveSameFileCounts}
 use Rattle.aig_join.specs.Miter.{IsMiter}

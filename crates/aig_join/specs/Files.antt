@@ -4,7 +4,7 @@ use Rattle.std.specs.Prelude.{◌≡◌, ℕ, ◌/◌, ◌≤◌, Bool, ◌++◌
 use Rattle.std.specs.List.{AllZip}
 use Rattle.aig_format.specs.File.{File}
 use Rattle.aig_format.specs.Machine.{IsMachineInitial, IsMachineRun, value_of_literal}
-use Rattle.aig_certify.specs.Safety.{IsConstrained}
+use Rattle.aig_runs.specs.Safety.{IsConstrained}
 
 -- the files have as many inputs, as many outputs and as many bad literals
 pub record HaveSameFileCounts (f g : File) : Type 0 where

@@ -3,7 +3,7 @@
 ghost use Rattle.std.specs.Prelude.{◌≡◌, ◌↔◌, ◌<◌, ◌≤◌, ◌^◌, ℕ, All, List, length};
 ghost use Rattle.std.specs.FinMap.{get};
 ghost use Rattle.aig_circuit.specs.Circuit.{Circuit, IsCircuit};
-ghost use Rattle.aig_certify.specs.Safety.{IsCircuitSafeAt, IsSafeAt};
+ghost use Rattle.aig_runs.specs.Safety.{IsCircuitSafeAt, IsSafeAt};
 ghost use Rattle.aig_format.specs.Circuit.{IsReadAgain, circuit_of, file_of};
 ghost use Rattle.aig_format.specs.declared.FileKind.TheVariants.{Text};
 ghost use Rattle.aig_format.specs.File.{File};

@@ -2,7 +2,7 @@
 use Rattle.std.proofs.Common.{◌≡◌, ℕ, suc, ◌+◌, ◌-◌, ◌*◌, ◌^◌, ◌<◌, ◌≤◌, ◌%◌, cond, ltb, List, [], ◌∷◌, Option, Some, None, refl, ap, ◌∙◌, arith}
 use Rattle.std.proofs.lemmas.Bool.{lt-ltb, le-ltb}
 use Rattle.std.proofs.Math.Nat.{mul-le-mul_left, pow-le-pow_right}
-use Rattle.aig_parsing.specs.Parse.{◌>>=◌, parse_groups, parse_delta, parse_map, parse_if}
+use Rattle.aig_format.specs.Parse.{◌>>=◌, parse_groups, parse_delta, parse_map, parse_if}
 
 -- a value, and the bytes after it
 abbrev read : ℕ → List ℕ → Option (ℕ × List ℕ)

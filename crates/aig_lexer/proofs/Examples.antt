@@ -2,10 +2,10 @@
 use Rattle.std.proofs.Common.{◌≡◌, ℕ, false, List, [], ◌∷◌, Option, None, Some, Ok, Err, ap, ◌∙◌, arith}
 use Rattle.std.specs.Prelude.{codes, length, option_map}
 use Rattle.aig_format.specs.declared.FileKind.TheVariants.{Binary, Text}
-use Rattle.aig_parsing.specs.Parse.{parse_delta, parse_digits, parse_groups, parse_kind, parse_number}
+use Rattle.aig_format.specs.Parse.{parse_delta, parse_digits, parse_groups, parse_kind, parse_number}
 use Rattle.aig_lexer.specs.Bytes.{Fills}
 use Rattle.aig_lexer.specs.declared.error.LexError.TheVariants as lex
-use Rattle.aig_lexer.specs.Faults.{LexTells}
+use Rattle.aig_lexer.specs.Faults.{word_cause}
 use Rattle.aig_lexer.specs.Takes.{Feed, Gives, Steps}
 
 -- these bytes are to come
@@ -14,12 +14,12 @@ known bytes = record { coming = Some bytes; failed = false; most = length bytes 
 
 -- known bytes, of which these are left, are answered so
 abbrev IsRead : {Y : Type 0} → (List ℕ → Option (Y × List ℕ)) → List ℕ → List ℕ → Y → Type 0
-IsRead read bytes rest y = Gives LexTells (λ y. y) (known bytes) (known rest) (Ok y) read
+IsRead read bytes rest y = Gives word_cause (λ y. y) (known bytes) (known rest) (Ok y) read
 
 -- and are refused as malformed
 abbrev IsMalformed : {Y : Type 0} → (List ℕ → Option (Y × List ℕ)) → List ℕ → List ℕ → Type 0
 IsMalformed {Y = Y} read bytes rest =
-    Gives {X = Y} LexTells (λ y. y) (known bytes) (known rest) (Err lex.Shape) read
+    Gives {X = Y} word_cause (λ y. y) (known bytes) (known rest) (Err lex.Shape) read
 
 -- how many bytes a reader leaves
 abbrev count_left : {Y : Type 0} → Option (Y × List ℕ) → ℕ
@@ -74,7 +74,7 @@ no_other_kind is =
 
 -- a read that failed is told where none failed
 no_failed_read : (bytes rest : List ℕ)
-    → ¬ Gives {X = ℕ × ℕ} LexTells (λ y. y) (known bytes) (known rest) (Err lex.Stream) parse_number
+    → ¬ Gives {X = ℕ × ℕ} word_cause (λ y. y) (known bytes) (known rest) (Err lex.Stream) parse_number
 no_failed_read bytes rest is = cc
 
 -- a byte comes, and no fewer are to come

@@ -2,6 +2,7 @@
 use Rattle.std.proofs.Common.{◌≡◌, ℕ, ◌≤◌, ◌<◌, Bool, false, List, [], ◌∷◌, ◌++◌, length, take, drop, Option, Some, None, refl, ap, subst, ◌∙◌, append_assoc, length-append, take-append-drop, arith}
 use Rattle.std.specs.Io.KnownBytes.{Consumes, IsAtEnd, prepend_known}
 use Rattle.std.proofs.KnownBytes.{Consumes-nil, Consumes-trans, prepend_known-nil}
+use Rattle.aig_lexer.specs.declared.buffer.TheConstants.{SIZE}
 use Rattle.aig_lexer.specs.Bytes.{Pops, Filled}
 use Rattle.aig_lexer.specs.Takes.{Feed, feed, Advances, Ends, Steps}
 
@@ -61,7 +62,7 @@ module _ {S : Type 0} (left : S → Option (List ℕ)) (failed : S → Bool) (pu
       (advances_held (take count held) rest s)
 
   -- a pull into an empty buffer
-  pub filled : (held bytes : List ℕ) (s t : S) → held ≡ [] → length bytes ≤ 4096 → Consumes (left s) (left t) bytes
+  pub filled : (held bytes : List ℕ) (s t : S) → held ≡ [] → length bytes ≤ SIZE → Consumes (left s) (left t) bytes
       → (length bytes ≡ 0 → IsAtEnd (left t)) → (0 < length bytes → pulls t < pulls s) → failed t ≡ false
       → Filled (feed left failed pulls held s) (feed left failed pulls bytes t) bytes
   filled held [] s t is most c end fewer sound = rw is record {

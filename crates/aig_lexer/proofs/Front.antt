@@ -2,7 +2,7 @@
 use Rattle.std.proofs.Common.{◌≡◌, ℕ, ◌+◌, ◌<◌, List, [], ◌∷◌, ◌++◌, Option, length, take, slice_index_or, ap, ◌∙◌, append_assoc, arith}
 use Rattle.std.specs.Char.{IsNotAsciiDigit}
 use Rattle.std.proofs.lemmas.List.{take_more}
-use Rattle.aig_parsing.proofs.Numbers.{OtherThanDigit}
+use Rattle.aig_format.proofs.NumberReaders.{OtherThanDigit}
 
 -- one byte more is read, after those before it
 pub reads_more : {Y : Type 0} (p q r : List ℕ → Option (Y × List ℕ)) (bytes : List ℕ) (i : ℕ)

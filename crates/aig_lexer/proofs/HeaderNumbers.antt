@@ -2,9 +2,9 @@
 use Rattle.std.proofs.Common.{◌≡◌, ℕ, suc, ◌+◌, ◌-◌, ◌≤◌, ◌<◌, Bool, true, false, cond, eqb, leb, List, [], ◌∷◌, ◌++◌, length, set, replicate, Option, Some, None, refl, sym, ap, ◌∙◌, append_assoc, arith}
 use Rattle.std.proofs.lemmas.Bool.{ne_eqb, eqb-true, le-leb, lt-leb}
 use Rattle.std.proofs.Math.Seq.{set-append_seam}
-use Rattle.aig_parsing.specs.Parse.{◌>>=◌, parse_number, parse_line, parse_map, header_from, parse_header_numbers, parse_if}
+use Rattle.aig_format.specs.Parse.{◌>>=◌, parse_number, parse_line, parse_map, header_from, parse_header_numbers, parse_if}
 use Rattle.aig_format.specs.File.{HeaderNumbers}
-use Rattle.aig_parsing.proofs.Sections.{header_from-zeros}
+use Rattle.aig_format.proofs.Sections.{header_from-zeros}
 
 -- at most k numbers after these, in a line
 abbrev pub numbers_following : List ℕ → ℕ → List ℕ → Option (HeaderNumbers × List ℕ)

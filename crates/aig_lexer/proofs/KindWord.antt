@@ -4,8 +4,8 @@ use Rattle.std.proofs.Math.Seq.{take-append_seam}
 use Rattle.aig_format.specs.declared.FileKind.{FileKind}
 use Rattle.aig_format.specs.declared.FileKind.TheVariants.{Text, Binary}
 use Rattle.aig_format.specs.Spells.{magic}
-use Rattle.aig_parsing.specs.Parse.{parse_byte, parse_kind}
-use Rattle.aig_parsing.proofs.Sections.{Reads-kind}
+use Rattle.aig_format.specs.Parse.{parse_byte, parse_kind}
+use Rattle.aig_format.proofs.Sections.{Reads-kind}
 use Rattle.aig_lexer.specs.Takes.{Feed, Advances, Takes, Misses}
 use Rattle.aig_lexer.proofs.Going.{known_after, known_rest}
 

@@ -1,3 +1,4 @@
+pub mod Faults
 pub mod Feeds
 pub mod Front
 pub mod Going

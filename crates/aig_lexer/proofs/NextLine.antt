@@ -1,7 +1,7 @@
 -- A latch's next literal, and its reset if one is written.
 use Rattle.std.proofs.Common.{◌≡◌, ℕ, cond, eqb, List, Option, Some, None, refl}
 use Rattle.std.proofs.lemmas.Bool.{ne_eqb}
-use Rattle.aig_parsing.specs.Parse.{◌>>=◌, parse_number, parse_ended, parse_next_and_reset}
+use Rattle.aig_format.specs.Parse.{◌>>=◌, parse_number, parse_ended, parse_next_and_reset}
 use Rattle.aig_lexer.specs.Takes.{Feed, Takes, Misses}
 use Rattle.aig_lexer.proofs.Going.{misses_all}
 use Rattle.aig_lexer.proofs.Taking.{takes_bind, misses_first, misses_next, takes_nothing, takes_mapped, misses_mapped}

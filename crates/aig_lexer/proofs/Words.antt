@@ -1,37 +1,33 @@
 -- The words of the format: numbers that a byte ends, and lines of two of them.
-use Rattle.std.proofs.Common.{◌≡◌, ℕ, cond, eqb, List, [], ◌∷◌, Option, Some, None, Result, Ok, Err, Bool, refl}
+use Rattle.std.proofs.Common.{◌≡◌, ℕ, cond, eqb, List, [], ◌∷◌, Option, Some, None, Result, Ok, Err, refl}
 use Rattle.std.proofs.lemmas.Bool.{eq-eqb, ne_eqb}
-use Rattle.aig_parsing.specs.Parse.{◌>>=◌, parse_byte, parse_number, parse_ended, parse_pair}
+use Rattle.aig_format.specs.Parse.{◌>>=◌, parse_byte, parse_number, parse_ended, parse_pair}
 use Rattle.aig_lexer.specs.declared.error.LexError.{LexError}
-use Rattle.aig_lexer.specs.declared.error.LexError.TheVariants.{Stream, Shape}
-use Rattle.aig_lexer.specs.Faults.{LexTells}
+use Rattle.aig_lexer.specs.Faults.{word_cause}
 use Rattle.aig_lexer.specs.Takes.{Feed, Gives, Takes, Misses}
+use Rattle.aig_lexer.proofs.Faults.{tells-weaker}
 use Rattle.aig_lexer.proofs.Going.{GoesOn, misses_all, goes_start, goes_taken, goes_call, goes_done, goes_wrong}
 use Rattle.aig_lexer.proofs.Taking.{byte_came, takes_same, misses_same, takes_bind, misses_first, misses_next, takes_nothing, takes_both}
 
-pub on_shape-weaker : (e : LexError) (P Q : Type 0) (failed : Bool) → (P → Q) → LexTells e P failed → LexTells e Q failed
-on_shape-weaker Stream P Q failed f h = h
-on_shape-weaker Shape P Q failed f h = f h
-
 -- readers that agree give the same
 pub gives_same : {X Y : Type 0} (view : X → Y) (p q : List ℕ → Option (Y × List ℕ)) (before after : Feed) (r : Result X LexError)
-    → Gives LexTells view before after r p → ((bs : List ℕ) → p bs ≡ q bs) → Gives LexTells view before after r q
+    → Gives word_cause view before after r p → ((bs : List ℕ) → p bs ≡ q bs) → Gives word_cause view before after r q
 gives_same view p q before after (Ok x) h e = takes_same p q before after (view x) h e
-gives_same view p q before after (Err f) h e = on_shape-weaker f _ _ after.failed (λ m. misses_same p q before m e) h
+gives_same view p q before after (Err f) h e = tells-weaker (word_cause f) _ _ after.failed (λ m. misses_same p q before m e) h
 
 -- a call after a byte that came
 pub gives_following : {X Y : Type 0} (view : X → Y) (p : List ℕ → Option (Y × List ℕ))
     (before mid after : Feed) (b : ℕ) (r : Result X LexError) → Takes parse_byte before mid b
-    → Gives LexTells view mid after r (λ bs. p (b ∷ bs))
-    → Gives LexTells view before after r p
+    → Gives word_cause view mid after r (λ bs. p (b ∷ bs))
+    → Gives word_cause view before after r p
 gives_following {X} view p before mid after b r c h = go r h
   where
     following : GoesOn p before (λ bs. p (b ∷ bs)) mid
     following = goes_taken p p (λ bs. p (b ∷ bs)) before before mid (b ∷ []) (goes_start p before) (byte_came before mid b c) (λ bs. refl)
 
-    go : (r : Result X LexError) → Gives LexTells view mid after r (λ bs. p (b ∷ bs)) → Gives LexTells view before after r p
+    go : (r : Result X LexError) → Gives word_cause view mid after r (λ bs. p (b ∷ bs)) → Gives word_cause view before after r p
     go (Ok x) h = goes_done p (view x) before after (goes_call p (λ bs. p (b ∷ bs)) (λ bs. p (b ∷ bs)) (λ bs. Some (view x, bs)) before mid after (view x) following h (λ bs rest e. e))
-    go (Err e) h = on_shape-weaker e _ _ after.failed (goes_wrong p (λ bs. p (b ∷ bs)) before mid following) h
+    go (Err e) h = tells-weaker (word_cause e) _ _ after.failed (goes_wrong p (λ bs. p (b ∷ bs)) before mid following) h
 
 abbrev pub with_end : ℕ → (ℕ × ℕ) × List ℕ → Option (ℕ × List ℕ)
 with_end end n = cond (eqb n.0.1 end) (Some (n.0.0, n.1)) None

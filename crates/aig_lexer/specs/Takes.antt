@@ -2,6 +2,8 @@
 -- What a call takes from a source with a buffer before it, beside a reader on lists.
 use Rattle.std.specs.Prelude.{◌≡◌, ℕ, ◌+◌, ◌*◌, ◌≤◌, List, [], ◌∷◌, ◌++◌, length, Bool, true, false, Option, Some, None, IfSome, Result, Ok, Err}
 use Rattle.std.specs.Io.KnownBytes.{Consumes, IsAtEnd, prepend_known}
+use Rattle.aig_lexer.specs.declared.buffer.TheConstants.{SIZE}
+use Rattle.aig_lexer.specs.Faults.{Cause, Tells}
 
 -- what is to come: the bytes where they are known, whether a read has failed, and how many bytes
 -- there are at most
@@ -15,7 +17,7 @@ abbrev pub feed : {S : Type 0} → (S → Option (List ℕ)) → (S → Bool) �
 feed left failed pulls held r = record {
   coming = prepend_known held (left r);
   failed = failed r;
-  most = 4096 * pulls r + length held;
+  most = SIZE * pulls r + length held;
 }
 
 -- these bytes came
@@ -50,20 +52,19 @@ pub record Takes {Y : Type 0} (read : List ℕ → Option (Y × List ℕ)) (befo
 abbrev pub Misses : {Y : Type 0} → (List ℕ → Option (Y × List ℕ)) → Feed → Type 0
 Misses read before = IfSome before.coming (λ bytes. read bytes ≡ None)
 
--- a value that is seen as what was read, or a fault that tells that nothing is read, or that a read
--- failed
-abbrev pub Gives : {X Y E : Type 0} → (E → Type 0 → Bool → Type 0) → (X → Y) → Feed → Feed
-    → Result X E → (List ℕ → Option (Y × List ℕ)) → Type 0
-Gives tells view before after (Ok x) read = Takes read before after (view x)
-Gives tells view before after (Err e) read = tells e (Misses read before) after.failed
+-- a value that is seen as what was read, or an error that tells that nothing is read
+abbrev pub Gives : {X Y E : Type 0} → (E → Cause) → (X → Y) → Feed → Feed → Result X E
+    → (List ℕ → Option (Y × List ℕ)) → Type 0
+Gives cause view before after (Ok x) read = Takes read before after (view x)
+Gives cause view before after (Err e) read = Tells (cause e) (Misses read before) after.failed
 
 -- a value that was made of what was read
 abbrev pub Made : {X Y : Type 0} → (X → Y → Type 0) → Feed → Feed → X
     → (List ℕ → Option (Y × List ℕ)) → Type 0
 Made {Y = Y} IsOf before after x read = (y : Y) × IsOf x y × Takes read before after y
 
--- such a value, or a fault that tells so
-abbrev pub Makes : {X Y E : Type 0} → (E → Type 0 → Bool → Type 0) → (X → Y → Type 0) → Feed → Feed
-    → Result X E → (List ℕ → Option (Y × List ℕ)) → Type 0
-Makes tells IsOf before after (Ok x) read = Made IsOf before after x read
-Makes tells IsOf before after (Err e) read = tells e (Misses read before) after.failed
+-- such a value, or an error that tells that nothing is read
+abbrev pub Makes : {X Y E : Type 0} → (E → Cause) → (X → Y → Type 0) → Feed → Feed → Result X E
+    → (List ℕ → Option (Y × List ℕ)) → Type 0
+Makes cause IsOf before after (Ok x) read = Made IsOf before after x read
+Makes cause IsOf before after (Err e) read = Tells (cause e) (Misses read before) after.failed

@@ -1,7 +1,7 @@
 -- Serves private clauses alone.
 -- Readers on lists for the words of the format.
 use Rattle.std.specs.Prelude.{ℕ, ◌==◌, List, ◌∷◌, Option}
-use Rattle.aig_parsing.specs.Parse.{parse_byte, parse_number, parse_if}
+use Rattle.aig_format.specs.Parse.{parse_byte, parse_number, parse_if}
 
 -- this byte
 abbrev pub parse_expected : ℕ → List ℕ → Option (ℕ × List ℕ)

@@ -3,12 +3,13 @@
 ghost use Rattle.std.specs.Prelude.{◌≡◌, ◌≤◌, [], List, ℕ, drop, length, slice_range, OnErr};
 ghost use Rattle.aig_lexer.specs.Bytes.{Fills, Pops};
 ghost use Rattle.aig_lexer.specs.Takes.{StepsOrFails, feed};
+ghost use Rattle.aig_lexer.specs.declared.buffer.TheConstants.{SIZE};
 
 use aig_base::{Source, StreamFault};
 use std::marker::Model;
 
 /// How many bytes a buffer has room for.
-const SIZE: usize = 4096;
+const SIZE: usize = 1 << 14;
 
 /// Bytes of a source, in order, that were pulled and not yet taken.
 #[derive(Drop)]
@@ -23,7 +24,7 @@ impl Model for InputBuffer {
 
     ghost view = { λ b. slice_range b.bytes b.at b.end };
 
-    ghost invariant = { λ b. (b.at ≤ b.end) × (b.end ≤ 4096) };
+    ghost invariant = { λ b. (b.at ≤ b.end) × (b.end ≤ SIZE) };
 }
 
 impl InputBuffer {

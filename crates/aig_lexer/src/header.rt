@@ -1,7 +1,7 @@
 //! The header line.
 
-ghost use Rattle.aig_parsing.specs.Parse.{parse_header, header_from, parse_header_numbers, parse_kind};
-ghost use Rattle.aig_lexer.specs.Faults.{LexTells};
+ghost use Rattle.aig_format.specs.Parse.{parse_header, header_from, parse_header_numbers, parse_kind};
+ghost use Rattle.aig_lexer.specs.Faults.{word_cause};
 ghost use Rattle.aig_lexer.specs.Header.{numbers_of};
 ghost use Rattle.aig_lexer.specs.Takes.{Gives, feed};
 
@@ -42,7 +42,7 @@ pub struct Header {
 ///
 /// Returns `Shape` where the bytes are no such line, or end in it, and `Stream` where a read failed.
 pub fn header_line<R: Source>(buffer: &mut InputBuffer, r: &mut R) -> Result<Header, LexError>
-    ensures { Gives LexTells (λ h. (h.kind, numbers_of h))
+    ensures { Gives word_cause (λ h. (h.kind, numbers_of h))
         (feed R.left R.failed R.pulls buffer.old r.old)
         (feed R.left R.failed R.pulls buffer.new r.new) result parse_header }
 {
@@ -74,7 +74,7 @@ pub fn header_line<R: Source>(buffer: &mut InputBuffer, r: &mut R) -> Result<Hea
 
 /// Reads `aag` or `aig`, and the space after it.
 fn kind_word<R: Source>(buffer: &mut InputBuffer, r: &mut R) -> Result<FileKind, LexError>
-    ensures { Gives LexTells (λ kind. kind) (feed R.left R.failed R.pulls buffer.old r.old)
+    ensures { Gives word_cause (λ kind. kind) (feed R.left R.failed R.pulls buffer.old r.old)
         (feed R.left R.failed R.pulls buffer.new r.new) result parse_kind }
 {
     let mut word = [0; 4];
@@ -98,7 +98,7 @@ const MOST: usize = 9;
 
 /// Reads a line of five to nine numbers; those that are not written are 0.
 fn header_numbers<R: Source>(buffer: &mut InputBuffer, r: &mut R) -> Result<[u32; MOST], LexError>
-    ensures { Gives LexTells header_from (feed R.left R.failed R.pulls buffer.old r.old)
+    ensures { Gives word_cause header_from (feed R.left R.failed R.pulls buffer.old r.old)
         (feed R.left R.failed R.pulls buffer.new r.new) result parse_header_numbers }
 {
     let mut numbers = [0; MOST];

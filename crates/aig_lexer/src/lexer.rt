@@ -1,7 +1,7 @@
 //! Words of the format: bytes, numbers, lines of numbers, and differences.
 
 ghost use Rattle.std.specs.Prelude.{◌≡◌, ◌^◌, ◌+◌, ◌++◌, ◌<◌, ◌≤◌, ℕ, List, Some, length, take, IfSome};
-ghost use Rattle.aig_parsing.specs.Parse.{
+ghost use Rattle.aig_format.specs.Parse.{
   parse_byte,
   parse_delta,
   parse_digits,
@@ -10,7 +10,7 @@ ghost use Rattle.aig_parsing.specs.Parse.{
   parse_number,
   parse_pair,
 };
-ghost use Rattle.aig_lexer.specs.Faults.{LexTells};
+ghost use Rattle.aig_lexer.specs.Faults.{word_cause};
 ghost use Rattle.aig_lexer.specs.Takes.{Gives, feed};
 ghost use Rattle.aig_lexer.specs.Words.{parse_number_from};
 
@@ -20,7 +20,7 @@ use aig_base::Source;
 
 /// Takes the next byte. Returns `Shape` at the end of the stream, and `Stream` where a read failed.
 pub(crate) fn next_byte<R: Source>(buffer: &mut InputBuffer, r: &mut R) -> Result<u8, LexError>
-    ensures { Gives LexTells (λ byte. byte) (feed R.left R.failed R.pulls buffer.old r.old)
+    ensures { Gives word_cause (λ byte. byte) (feed R.left R.failed R.pulls buffer.old r.old)
         (feed R.left R.failed R.pulls buffer.new r.new) result parse_byte }
 {
     buffer.next(r)?.ok_or(LexError::Shape)
@@ -75,7 +75,7 @@ fn number_by_bytes<R: Source>(
     first: u64,
 ) -> Result<(u32, u8), LexError>
     requires { first < 2 ^ 32 }
-    ensures { Gives LexTells (λ x. (x.0, x.1)) (feed R.left R.failed R.pulls buffer.old r.old)
+    ensures { Gives word_cause (λ x. (x.0, x.1)) (feed R.left R.failed R.pulls buffer.old r.old)
         (feed R.left R.failed R.pulls buffer.new r.new) result (parse_digits first) }
 {
     let mut value = first;
@@ -100,7 +100,7 @@ pub fn number_from<R: Source>(
     r: &mut R,
     first: u8,
 ) -> Result<(u32, u8), LexError>
-    ensures { Gives LexTells (λ x. (x.0, x.1)) (feed R.left R.failed R.pulls buffer.old r.old)
+    ensures { Gives word_cause (λ x. (x.0, x.1)) (feed R.left R.failed R.pulls buffer.old r.old)
         (feed R.left R.failed R.pulls buffer.new r.new) result (parse_number_from first) }
 {
     if !first.is_ascii_digit() {
@@ -119,7 +119,7 @@ pub fn number_from<R: Source>(
 /// Reads a number as `number_from` does, its first byte by itself.
 #[cold]
 fn number_after_first<R: Source>(buffer: &mut InputBuffer, r: &mut R) -> Result<(u32, u8), LexError>
-    ensures { Gives LexTells (λ x. (x.0, x.1)) (feed R.left R.failed R.pulls buffer.old r.old)
+    ensures { Gives word_cause (λ x. (x.0, x.1)) (feed R.left R.failed R.pulls buffer.old r.old)
         (feed R.left R.failed R.pulls buffer.new r.new) result parse_number }
 {
     let first = next_byte(buffer, r)?;
@@ -129,7 +129,7 @@ fn number_after_first<R: Source>(buffer: &mut InputBuffer, r: &mut R) -> Result<
 /// Reads a number as `number_from` does, its first byte included: its value, and the byte that ends it.
 #[inline(always)]
 pub(crate) fn number<R: Source>(buffer: &mut InputBuffer, r: &mut R) -> Result<(u32, u8), LexError>
-    ensures { Gives LexTells (λ x. (x.0, x.1)) (feed R.left R.failed R.pulls buffer.old r.old)
+    ensures { Gives word_cause (λ x. (x.0, x.1)) (feed R.left R.failed R.pulls buffer.old r.old)
         (feed R.left R.failed R.pulls buffer.new r.new) result parse_number }
 {
     match number_in(buffer.window()) {
@@ -148,7 +148,7 @@ fn ended_after_first<R: Source>(
     r: &mut R,
     end: u8,
 ) -> Result<u32, LexError>
-    ensures { Gives LexTells (λ x. x) (feed R.left R.failed R.pulls buffer.old r.old)
+    ensures { Gives word_cause (λ x. x) (feed R.left R.failed R.pulls buffer.old r.old)
         (feed R.left R.failed R.pulls buffer.new r.new) result (parse_ended end) }
 {
     let (value, found) = number_after_first(buffer, r)?;
@@ -165,7 +165,7 @@ fn ended_after_first<R: Source>(
 // read as one, and that read waits for them.
 #[inline(always)]
 pub fn ended<R: Source>(buffer: &mut InputBuffer, r: &mut R, end: u8) -> Result<u32, LexError>
-    ensures { Gives LexTells (λ x. x) (feed R.left R.failed R.pulls buffer.old r.old)
+    ensures { Gives word_cause (λ x. x) (feed R.left R.failed R.pulls buffer.old r.old)
         (feed R.left R.failed R.pulls buffer.new r.new) result (parse_ended end) }
 {
     let Some((value, found, count)) = number_in(buffer.window()) else {
@@ -183,7 +183,7 @@ pub fn ended<R: Source>(buffer: &mut InputBuffer, r: &mut R, end: u8) -> Result<
 ///
 /// Returns `Shape` where there is no such line, and `Stream` where a read failed.
 pub fn pair<R: Source>(buffer: &mut InputBuffer, r: &mut R) -> Result<(u32, u32), LexError>
-    ensures { Gives LexTells (λ x. (x.0, x.1)) (feed R.left R.failed R.pulls buffer.old r.old)
+    ensures { Gives word_cause (λ x. (x.0, x.1)) (feed R.left R.failed R.pulls buffer.old r.old)
         (feed R.left R.failed R.pulls buffer.new r.new) result parse_pair }
 {
     let first = ended(buffer, r, b' ')?;
@@ -200,7 +200,7 @@ pub fn next_line<R: Source>(
     buffer: &mut InputBuffer,
     r: &mut R,
 ) -> Result<(u32, Option<u32>), LexError>
-    ensures { Gives LexTells (λ x. (x.0, x.1)) (feed R.left R.failed R.pulls buffer.old r.old)
+    ensures { Gives word_cause (λ x. (x.0, x.1)) (feed R.left R.failed R.pulls buffer.old r.old)
         (feed R.left R.failed R.pulls buffer.new r.new) result parse_next_and_reset }
 {
     let (next, end) = number(buffer, r)?;
@@ -244,7 +244,7 @@ fn delta_in(bytes: &[u8]) -> Option<(u32, usize)>
 /// Reads a difference byte by byte.
 #[cold]
 fn delta_by_bytes<R: Source>(buffer: &mut InputBuffer, r: &mut R) -> Result<u32, LexError>
-    ensures { Gives LexTells (λ d. d) (feed R.left R.failed R.pulls buffer.old r.old)
+    ensures { Gives word_cause (λ d. d) (feed R.left R.failed R.pulls buffer.old r.old)
         (feed R.left R.failed R.pulls buffer.new r.new) result parse_delta }
 {
     let mut difference = 0u64;
@@ -270,7 +270,7 @@ fn delta_by_bytes<R: Source>(buffer: &mut InputBuffer, r: &mut R) -> Result<u32,
 /// or the bytes end in it, and `Stream` where a read failed.
 #[inline(always)]
 pub fn delta<R: Source>(buffer: &mut InputBuffer, r: &mut R) -> Result<u32, LexError>
-    ensures { Gives LexTells (λ d. d) (feed R.left R.failed R.pulls buffer.old r.old)
+    ensures { Gives word_cause (λ d. d) (feed R.left R.failed R.pulls buffer.old r.old)
         (feed R.left R.failed R.pulls buffer.new r.new) result parse_delta }
 {
     match delta_in(buffer.window()) {

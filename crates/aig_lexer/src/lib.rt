@@ -5,9 +5,11 @@ mod buffer;
 mod error;
 mod header;
 mod lexer;
+mod list;
 
 pub use aig_format::FileKind;
 pub use buffer::InputBuffer;
-pub use error::LexError;
+pub use error::{LexError, LineError};
 pub use header::{Header, header_line};
 pub use lexer::{delta, ended, next_line, number_from, pair};
+pub use list::append;

@@ -6,7 +6,8 @@ use Rattle.aig_circuit.specs.Properties.{no_properties}
 use Rattle.aig_format.specs.declared.FileKind.TheVariants.{Text}
 use Rattle.aig_format.specs.File.{GateLine, File}
 use Rattle.aig_format.specs.Levels.{level_of}
-use Rattle.aig_ordering.specs.Tables.{AreLevelsOf, JudgedOrder, all_have_levels}
+use Rattle.aig_lexer.specs.Faults.{Tested}
+use Rattle.aig_ordering.specs.Tables.{AreLevelsOf, all_have_levels, order_cause}
 
 -- inputs 1 and 2, and these gates
 abbrev file_of : List GateLine → File
@@ -36,7 +37,7 @@ no_level : level_of cycle 3 ≡ None
 no_level = refl
 
 -- a cycle is not taken
-no_cycle : {X : Type 0} (P : X → Type 0) (x : X) → ¬ JudgedOrder (all_have_levels cycle) P (Ok x)
+no_cycle : {X : Type 0} (P : X → Type 0) (x : X) → ¬ Tested order_cause (all_have_levels cycle) P (Ok x)
 no_cycle P x taken = false≢true taken.0
 
 -- gates of two levels don't have one

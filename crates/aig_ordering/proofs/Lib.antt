@@ -1,5 +1,7 @@
+pub mod MarkedBits
 pub mod Tables
 pub mod NodesIn
+pub mod InOrder
 pub mod Searching
 pub mod Leveling
 pub mod Written

@@ -1,10 +1,9 @@
 -- The nodes that a table of gates records.
 use Rattle.std.proofs.Common.{◌≡◌, ℕ, zero, suc, ◌+◌, ◌<◌, List, [], ◌∷◌, length, get_or, Option, refl, sym, ap, ◌∙◌, arith}
 use Rattle.aig_circuit.specs.declared.node.AigNode.{AigNode}
-use Rattle.aig_circuit.specs.declared.node.AigNodeType.{AigNodeType}
 use Rattle.aig_format.specs.File.{File}
 use Rattle.aig_ordering.specs.declared.gates.Operands.{Operands}
-use Rattle.aig_ordering.specs.Gates.{node_in, nodes_in, nodes_in_from}
+use Rattle.aig_ordering.specs.Gates.{kind_of_operands, node_in, nodes_in, nodes_in_from}
 use Rattle.aig_ordering.specs.Lists.{kind_among}
 use Rattle.aig_ordering.specs.Tables.{AreNodesOf}
 use Rattle.aig_ordering.proofs.Tables.{count-nodes, node_at}
@@ -39,9 +38,9 @@ module _ (f : File) (gates : List (Option Operands)) (are : AreNodesOf f (nodes_
   count-gates = sym (length-nodes_in gates) ∙ count-nodes f (nodes_in gates) are
 
   -- and tells its kind
-  pub kind_told : (v : ℕ) (e : Option Operands) (node : AigNode) (kind : AigNodeType)
-      → v < length gates → node ≡ node_in v (get_or gates v e) → kind ≡ node.typ
-      → kind_among f.gates v ≡ kind
-  kind_told v e node kind h is has =
+  pub kind_told : (v : ℕ) (e : Option Operands) → v < length gates
+      → kind_among f.gates v ≡ kind_of_operands v (get_or gates v e)
+  kind_told v e h =
       let typ = λ (n : AigNode). n.typ in
-      sym (ap typ (node_at f (nodes_in gates) are v node (omega (arith, length-nodes_in gates)))) ∙ ap typ (nodes_in-at gates v node e h) ∙ sym (has ∙ ap typ is)
+      let node = node_in v (get_or gates v e) in
+      sym (ap typ (node_at f (nodes_in gates) are v node (omega (arith, length-nodes_in gates)))) ∙ ap typ (nodes_in-at gates v node e h)

@@ -14,9 +14,7 @@ use Rattle.aig_format.specs.Levels.{level_of}
 use Rattle.aig_format.proofs.Levels.{level_of-le}
 use Rattle.aig_ordering.specs.declared.levels.Search.{Search}
 use Rattle.aig_ordering.specs.Lists.{kind_among}
-use Rattle.aig_ordering.specs.declared.error.OrderError.{OrderError}
-use Rattle.aig_ordering.specs.declared.error.OrderError.TheVariants.{Memory, Variable}
-use Rattle.aig_ordering.specs.Tables.{AreNodesOf, OrderUnlessTransient, all_have_levels, level_at, entry_value}
+use Rattle.aig_ordering.specs.Tables.{AreNodesOf, all_have_levels, level_at, entry_value}
 use Rattle.aig_ordering.specs.Search.{Descends, IsAt, IsAtRest, IsAtSome, IsFound, IsLevelBy, IsOperandOf, IsPath, IsSearch, Opens, work_of}
 use Rattle.aig_ordering.proofs.Tables.{gate_at, gate_level, leaf_level, operands_below, operands_within, some_level_missing, entry_value-more}
 
@@ -77,10 +75,6 @@ opening_is_work s t v u h o =
     omega (arith, fewer, marks, path)
 
 -- ---- steps
-
-pub on_order : (e : OrderError) (P Q : Type 0) → (P → Q) → OrderUnlessTransient e P → OrderUnlessTransient e Q
-on_order Memory P Q h p = tt
-on_order Variable P Q h p = h p
 
 -- the search is at a variable of the file
 pub at_within : (f : File) (s : Search) (v : ℕ) → IsAt f s v → v < f.greatest + 1

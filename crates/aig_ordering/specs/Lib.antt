@@ -1,3 +1,4 @@
+pub mod Bits
 pub mod Lists
 pub mod Gates
 pub mod Tables

@@ -1,7 +1,9 @@
 -- Serves private clauses alone.
 -- Numbers of variables by their places in an order, and nodes under these numbers.
-use Rattle.std.specs.Prelude.{ℕ, ◌&&◌, if◌then◌else◌, ◌==◌, Bool, true, List, slice_index_or, Option, Some, None, is_some, unwrap_or}
+use Rattle.std.specs.Prelude.{ℕ, ◌/◌, ◌%◌, ◌&&◌, if◌then◌else◌, ◌==◌, Bool, true, List, slice_index_or, Option, Some, None, is_some, option_map, unwrap_or}
 use Rattle.std.specs.List.{list_any}
+use Rattle.aig_circuit.specs.declared.edge.AigEdge.{AigEdge}
+use Rattle.aig_circuit.specs.Edge.{edge_to}
 use Rattle.aig_circuit.specs.declared.node.AigNodeType.{AigNodeType}
 use Rattle.aig_circuit.specs.declared.node.AigNodeType.TheVariants.{False, Leaf, And}
 use Rattle.aig_circuit.specs.declared.node.AigNode.{AigNode}
@@ -23,6 +25,11 @@ has_number numbers v = is_some (number_at numbers v)
 -- the number that it records
 abbrev pub number_in : List ℕ → ℕ → ℕ
 number_in numbers v = unwrap_or (number_at numbers v) 0
+
+-- the edge of a literal under the number of its variable, if it has one
+abbrev pub numbered_edge : List ℕ → ℕ → Option AigEdge
+numbered_edge numbers e =
+    option_map (λ n. edge_to n (e % 2 == 1)) (number_at numbers (e / 2))
 
 -- whether the variables of a gate's operands have numbers
 abbrev pub has_operands : List ℕ → AigNodeType → Bool

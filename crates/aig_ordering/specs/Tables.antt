@@ -1,15 +1,17 @@
 -- Serves private clauses alone.
 -- The tables of a file's variables, and the order that they give. (AIGER format 20071012:
 -- "Input/Latch/Output/And section".)
-use Rattle.std.specs.Prelude.{◌≡◌, ℕ, ◌+◌, ◌*◌, ◌≤◌, zero, suc, Bool, true, false, List, length, slice_index_or, Option, Some, None, Result, Ok, Err}
+use Rattle.std.specs.Prelude.{◌≡◌, ℕ, ◌+◌, ◌*◌, ◌≤◌, zero, suc, Bool, List, length, slice_index_or, Option, Some, None}
 use Rattle.std.specs.List.{AllByRecursion, list_all}
 use Rattle.aig_circuit.specs.declared.node.AigNode.{AigNode}
 use Rattle.aig_format.specs.File.{GateLine, File, defined}
-use Rattle.aig_format.specs.Variables.{is_known}
+use Rattle.aig_format.specs.Variables.{is_defined}
 use Rattle.aig_format.specs.Levels.{has_level, level_of}
 use Rattle.aig_format.specs.Fits.{IsDefinable}
-use Rattle.aig_ordering.specs.declared.error.OrderError.{OrderError}
-use Rattle.aig_ordering.specs.declared.error.OrderError.TheVariants.{Memory, Variable}
+use Rattle.aig_lexer.specs.declared.error.LineError.{LineError}
+use Rattle.aig_lexer.specs.declared.error.LineError.TheVariants as line
+use Rattle.aig_lexer.specs.Faults.{Cause, Memory, Never, Other}
+use Rattle.aig_ordering.specs.Bits.{bit_is_set}
 use Rattle.aig_ordering.specs.Lists.{nodes_of_variables}
 
 -- both operands are literals of variables up to the greatest
@@ -24,24 +26,19 @@ pub record AreNodesOf (f : File) (nodes : List AigNode) : Type 0 where
   pub operands : AllByRecursion (HasOperands f.greatest) f.gates
   pub few : length f.gates ≤ f.greatest
 
--- for each variable of the file, whether it is 0 or defined
-pub record AreKnownOf (f : File) (known : List Bool) : Type 0 where
-  pub count : length known ≡ f.greatest + 1
-  pub each : (v : ℕ) → v ≤ f.greatest → slice_index_or known v false ≡ is_known f v
+-- the bits tell which variables of the file are defined
+abbrev pub AreMarksOf : File → List ℕ → Type 0
+AreMarksOf f marked = (v : ℕ) → v ≤ f.greatest → bit_is_set marked v ≡ is_defined f v
 
--- the fact, unless memory failed
-abbrev pub OrderUnlessTransient : OrderError → Type 0 → Type 0
-OrderUnlessTransient Memory P = Unit {0}
-OrderUnlessTransient Variable P = P
+-- why there is no order
+abbrev pub order_cause : LineError → Cause
+order_cause line.Memory = Memory
+order_cause line.Literal = Other
+order_cause e = Never
 
 -- no gate of the file depends on itself
 abbrev pub all_have_levels : File → Bool
 all_have_levels f = list_all (has_level f) f.gates
-
--- a value where the test is passed, and else a fault, unless memory failed
-abbrev pub JudgedOrder : {X : Type 0} → Bool → (X → Type 0) → Result X OrderError → Type 0
-JudgedOrder test P (Ok x) = (test ≡ true) × P x
-JudgedOrder test P (Err e) = OrderUnlessTransient e (test ≡ false)
 
 -- what an entry of a table records: n + 1 records n, and 0 nothing
 abbrev pub entry_value : ℕ → Option ℕ

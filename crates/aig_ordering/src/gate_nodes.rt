@@ -1,17 +1,33 @@
 //! The nodes of gates in the order of their variables.
 
-ghost use Rattle.std.specs.Prelude.{◌≡◌, map};
+ghost use Rattle.std.specs.Prelude.{◌≡◌, false, map, true, MatchOption};
 ghost use Rattle.std.specs.List.{list_all};
-ghost use Rattle.aig_ordering.specs.Gates.{nodes_in};
+ghost use Rattle.aig_lexer.specs.Faults.{Tested};
+ghost use Rattle.aig_ordering.specs.Gates.{node_in, nodes_in};
 ghost use Rattle.aig_ordering.specs.Numbers.{has_operands, with_numbers};
-ghost use Rattle.aig_ordering.specs.Tables.{JudgedOrder};
+ghost use Rattle.aig_ordering.specs.Tables.{order_cause};
 
-use crate::error::OrderError;
 use crate::gates::{Operands, variable_node};
 use crate::numbers::Recorded;
-use aig_circuit::AigNode;
-use aig_renumber::renumbered_node;
+use aig_circuit::{AigNode, gate_node};
+use aig_lexer::LineError;
 use std::alloc::Global;
+
+/// The node at a place of what has this gate, or none, with operands under their numbers, or nothing where the variable of an
+/// operand has no number.
+fn numbered_node(numbers: &Recorded<'_>, place: usize, gate: Option<Operands>) -> Option<AigNode>
+    ensures { let old = node_in place gate in
+        let have = has_operands numbers.now.table.now old.typ in
+        MatchOption result (have ≡ false)
+        (λ new. (have ≡ true) × (new ≡ with_numbers numbers.now.table.now old)) }
+{
+    let Some(Operands { rhs0, rhs1 }) = gate else {
+        return Some(variable_node(place, None));
+    };
+    let first = numbers.edge(rhs0)?;
+    let second = numbers.edge(rhs1)?;
+    Some(gate_node(place, first, second))
+}
 
 /// The nodes of gates in their order, with operands under their numbers. What has no gate is a leaf, but at place 0 false.
 /// An operand whose variable has no number is refused.
@@ -19,18 +35,17 @@ pub fn nodes(
     alloc: Global,
     numbers: &Recorded<'_>,
     gates: &[Option<Operands>],
-) -> Result<Vec<AigNode>, OrderError>
+) -> Result<Vec<AigNode>, LineError>
     ensures { let old = nodes_in gates.now in
-        JudgedOrder (list_all (λ node. has_operands numbers.now.table.now node.typ) old)
+        Tested order_cause (list_all (λ node. has_operands numbers.now.table.now node.typ) old)
         (λ new. new.items ≡ map (with_numbers numbers.now.table.now) old) result }
 {
     let mut new = Vec::with_capacity(alloc, gates.len())?;
     for (i, gate) in gates.iter().enumerate() {
-        let node = variable_node(i, *gate);
-        if !numbers.has_operands(*node.typ()) {
-            return Err(OrderError::Variable);
-        }
-        new.push(renumbered_node(numbers, i, &node))?;
+        let Some(node) = numbered_node(numbers, i, *gate) else {
+            return Err(LineError::Literal);
+        };
+        new.push_reserved(node);
     }
     Ok(new)
 }

@@ -2,14 +2,14 @@
 //! numbers that its variables get as nodes.
 #![tactic(auto)]
 
-mod error;
+mod bits;
 mod gate_nodes;
 mod gates;
 mod levels;
 mod numbers;
 mod order;
 
-pub use error::OrderError;
+pub use bits::{has_bit, set_bit};
 pub use gate_nodes::nodes;
 pub use gates::{Operands, edge_of, variable_node};
 pub use numbers::Recorded;

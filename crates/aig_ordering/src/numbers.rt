@@ -2,9 +2,10 @@
 
 ghost use Rattle.std.specs.Prelude.{◌≡◌, IsTrue};
 ghost use Rattle.std.specs.List.{list_all};
-ghost use Rattle.aig_ordering.specs.Numbers.{has_number, has_operands, number_in};
+ghost use Rattle.aig_ordering.specs.Numbers.{has_number, number_in, numbered_edge};
 
-use aig_circuit::{AigEdge, AigLatch, AigNodeType};
+use crate::order::entry_value;
+use aig_circuit::{AigEdge, AigLatch};
 use aig_renumber::Numbering;
 
 /// The numbers that a table records: at the place of a variable stands n + 1 for number n, and 0 where it has none.
@@ -55,13 +56,12 @@ impl Recorded<'_> {
         latchs.iter().all(|l| self.has(l.next().node_id()))
     }
 
-    /// Whether the variables of the operands have numbers, if this is a gate.
-    pub(crate) fn has_operands(&self, kind: AigNodeType) -> bool
-        ensures { result ≡ has_operands self.now.table.now kind }
+    /// The edge of a literal under the number of its variable, if it has one.
+    pub(crate) fn edge(&self, literal: u32) -> Option<AigEdge>
+        ensures { result ≡ numbered_edge self.now.table.now literal }
     {
-        match kind {
-            AigNodeType::And(a, b) => self.has(a.node_id()) && self.has(b.node_id()),
-            _ => true,
-        }
+        let entry = *self.table.get(literal as usize / 2)?;
+        let number = entry_value(entry)?;
+        Some(AigEdge::new(number as usize, literal % 2 == 1))
     }
 }

@@ -7,14 +7,16 @@ use Rattle.std.proofs.KnownBytes.{Consumes-whole}
 use Rattle.aig_format.specs.declared.FileKind.{FileKind}
 use Rattle.aig_format.specs.File.{NameLine, File, HeaderNumbers}
 use Rattle.aig_format.specs.Fits.{Accepts}
-use Rattle.aig_parsing.proofs.FittingFiles.{fitting_sound, fitting_complete}
-use Rattle.aig_parsing.proofs.TooManyAt.{too_many_exact}
-use Rattle.aig_parsing.specs.Parse.{◌>>=◌, Parts, file_from, too_many_at, parse_file}
-use Rattle.aig_parsing.specs.ParseTested.{parse_fitting, parse_fitting_body, parse_fitting_header, parse_fitting_sections}
+use Rattle.aig_format.proofs.FittingFiles.{fitting_sound, fitting_complete}
+use Rattle.aig_format.proofs.TooManyAt.{too_many_exact}
+use Rattle.aig_format.specs.Parse.{◌>>=◌, Parts, file_from, too_many_at, parse_file}
+use Rattle.aig_format.specs.ParseTested.{parse_fitting, parse_fitting_body, parse_fitting_header, parse_fitting_sections}
 use Rattle.aig_symbols.specs.Names.{tail_of}
 use Rattle.aig_reader.specs.declared.error.ReadError.{ReadError}
 use Rattle.aig_reader.specs.declared.error.ReadError.TheVariants as errors
-use Rattle.aig_reader.specs.Faults.{ReadTells, SectionTells}
+use Rattle.aig_lexer.specs.Faults.{Tells}
+use Rattle.aig_lexer.proofs.Faults.{tells-weaker}
+use Rattle.aig_reader.specs.Faults.{read_cause, section_cause}
 use Rattle.aig_reader.specs.Headers.{HasNoHeader, ReadsHeader}
 use Rattle.aig_reader.specs.Reading.{IsReadAs}
 use Rattle.aig_reader.specs.Verdicts.{Accepted, IsOfFile, IsVerdictOn, Judges, Memory, Refused, Stream, TooMany, Verdict, verdict_of}
@@ -111,7 +113,7 @@ refused_header limit before after e h = absurd h
 
 -- where a header was taken, no file is read, by a fault that isn't TooMany
 refused_following : (limit : ℕ) (old new : Option (List ℕ)) (failed : Bool) (e : ReadError)
-    → ReadTells e (IfSome old (λ bytes. parse_fitting limit bytes ≡ None)) failed
+    → Tells (read_cause e) (IfSome old (λ bytes. parse_fitting limit bytes ≡ None)) failed
     → e ≢ errors.TooMany → IfSome old (IsSmall limit)
     → Judges each_taken limit old new failed (verdict_of e)
 refused_following limit old new failed errors.Memory h other small = no_memory limit old new failed
@@ -124,15 +126,9 @@ no_files : (limit : ℕ) (before : Feed) → Misses (parse_fitting_body limit) b
     → IfSome before.coming (λ bytes. parse_fitting limit bytes ≡ None)
 no_files limit before h = IfSome_then before.coming h (no_file limit)
 
-on_refusal-weaker : (e : ReadError) (P Q : Type 0) (failed : Bool) → (P → Q) → ReadTells e P failed
-    → ReadTells e Q failed
-on_refusal-weaker errors.Memory P Q failed f h = tt
-on_refusal-weaker errors.Stream P Q failed f h = h
-on_refusal-weaker e P Q failed f h = f h
-
 -- what a fault of a section tells of the file, and which it is not
-in_file : (e : ReadError) (P Q : Type 0) (failed : Bool) → (P → Q) → SectionTells e P failed
-    → ReadTells e Q failed
+in_file : (e : ReadError) (P Q : Type 0) (failed : Bool) → (P → Q) → Tells (section_cause e) P failed
+    → Tells (read_cause e) Q failed
 in_file errors.Memory P Q failed f h = tt
 in_file errors.Stream P Q failed f h = h
 in_file (errors.Syntax s) P Q failed f h = f h
@@ -140,23 +136,23 @@ in_file (errors.Literal s) P Q failed f h = f h
 in_file errors.Delta P Q failed f h = f h
 in_file e P Q failed f h = absurd h
 
-section_fault : (e : ReadError) (P : Type 0) (failed : Bool) → SectionTells e P failed
-    → e ≢ errors.TooMany
-section_fault e P failed h is = subst (λ (d : ReadError). SectionTells d P failed) is h
+section_fault : (e : ReadError) (P : Type 0) (failed : Bool)
+    → Tells (section_cause e) P failed → e ≢ errors.TooMany
+section_fault e P failed h is = subst (λ (d : ReadError). Tells (section_cause d) P failed) is h
 
 -- a section is refused
-pub refused_section : (limit : ℕ) (before m : Feed) (new : Option (List ℕ)) (failed : Bool) (h : FileKind × HeaderNumbers) (e : ReadError) → Takes (parse_fitting_header limit) before m h → SectionTells e (Misses (sections_of h) m) failed
+pub refused_section : (limit : ℕ) (before m : Feed) (new : Option (List ℕ)) (failed : Bool) (h : FileKind × HeaderNumbers) (e : ReadError) → Takes (parse_fitting_header limit) before m h → Tells (section_cause e) (Misses (sections_of h) m) failed
     → IfSome before.coming (IsSmall limit) → Judges each_taken limit before.coming new failed (verdict_of e)
 refused_section limit before m new failed h e taken missed small =
     refused_following limit before.coming new failed e
     (in_file e _ _ failed (λ (none : Misses (sections_of h) m). no_files limit before (misses_both (parse_fitting_header limit) sections_of before m h taken none)) missed) (section_fault e _ failed missed) small
 
 -- the names are refused
-pub refused_names : (limit : ℕ) (before m : Feed) (new : Option (List ℕ)) (failed : Bool) (body : Body) (e : ReadError) → Takes (parse_fitting_body limit) before m body → ReadTells e (IfSome m.coming (λ bytes. tail_of body.0.1 bytes ≡ None)) failed → e ≢ errors.TooMany
+pub refused_names : (limit : ℕ) (before m : Feed) (new : Option (List ℕ)) (failed : Bool) (body : Body) (e : ReadError) → Takes (parse_fitting_body limit) before m body → Tells (read_cause e) (IfSome m.coming (λ bytes. tail_of body.0.1 bytes ≡ None)) failed → e ≢ errors.TooMany
     → IfSome before.coming (IsSmall limit) → Judges each_taken limit before.coming new failed (verdict_of e)
 refused_names limit before m new failed body e taken missed other small =
     refused_following limit before.coming new failed e
-    (on_refusal-weaker e _ _ failed
+    (tells-weaker (read_cause e) _ _ failed
     (λ (none : IfSome m.coming (λ bytes. tail_of body.0.1 bytes ≡ None)).
     known_rest before.coming m.coming taken.taken (λ bytes. parse_fitting limit bytes ≡ None) (λ bytes. tail_of body.0.1 bytes ≡ None) taken.advances.consumed none
     (λ rest no. file_is limit (taken.taken ++ rest) ∙ ap (λ (o : Option (Body × List ℕ)). o >>= with_names) (taken.reads rest) ∙ ap (λ (o : Option (List NameLine)). o >>= λ names. Some (file_from body names)) no)) missed) other small

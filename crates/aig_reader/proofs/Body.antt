@@ -4,14 +4,15 @@ use Rattle.aig_circuit.specs.Properties.{Properties}
 use Rattle.aig_format.specs.declared.FileKind.{FileKind}
 use Rattle.aig_format.specs.declared.FileKind.TheVariants.{Text, Binary}
 use Rattle.aig_format.specs.File.{LatchLine, GateLine, HeaderNumbers}
-use Rattle.aig_parsing.specs.Parse.{◌>>=◌, Parts, parse_map}
-use Rattle.aig_parsing.specs.ParseTested.{parse_fitting_gates, parse_fitting_inputs, parse_fitting_latches, parse_fitting_properties, parse_section_lines, parse_literal_justice, parse_literals}
+use Rattle.aig_format.specs.Parse.{◌>>=◌, Parts, parse_map}
+use Rattle.aig_format.specs.ParseTested.{parse_fitting_gates, parse_fitting_inputs, parse_fitting_latches, parse_fitting_properties, parse_section_lines, parse_literal_justice, parse_literals}
 use Rattle.aig_reader.specs.declared.error.Section.{Section}
-use Rattle.aig_reader.specs.declared.error.LineError.{LineError}
-use Rattle.aig_reader.specs.declared.error.LineError.TheVariants.{Memory, Stream, Syntax, Literal}
+use Rattle.aig_lexer.specs.declared.error.LineError.{LineError}
+use Rattle.aig_lexer.specs.declared.error.LineError.TheVariants.{Memory, Stream, Syntax, Literal}
 use Rattle.aig_reader.specs.declared.error.ReadError.{ReadError}
-use Rattle.aig_reader.specs.declared.error.ReadError.TheVariants as errors
-use Rattle.aig_reader.specs.Faults.{LineTells, SectionTells, error_in, gate_error_in, result_by}
+use Rattle.aig_lexer.specs.Faults.{Tells, line_cause}
+use Rattle.aig_lexer.proofs.Faults.{tells-weaker}
+use Rattle.aig_reader.specs.Faults.{error_in, gate_error_in, result_by, section_cause}
 use Rattle.aig_lexer.specs.Takes.{Feed, Takes, Misses, Made, Makes}
 use Rattle.aig_lexer.proofs.Taking.{misses_first, misses_mapped, misses_next, takes_bind, takes_mapped}
 
@@ -19,7 +20,7 @@ use Rattle.aig_lexer.proofs.Taking.{misses_first, misses_mapped, misses_next, ta
 
 -- a fault of a line that refuses is one of the file that refuses
 abbrev Refuses : (LineError → ReadError) → Type 1
-Refuses fault = (e : LineError) (P : Type 0) (failed : Bool) → LineTells e P failed → SectionTells (fault e) P failed
+Refuses fault = (e : LineError) (P : Type 0) (failed : Bool) → Tells (line_cause e) P failed → Tells (section_cause (fault e)) P failed
 
 pub in_section : (s : Section) → Refuses (error_in s)
 in_section s Memory P failed h = tt
@@ -28,22 +29,10 @@ in_section s Syntax P failed h = h
 in_section s Literal P failed h = h
 
 pub in_gates : (kind : FileKind) → Refuses (gate_error_in kind)
-in_gates Text e P failed h = elim e as (λ d. LineTells d P failed → SectionTells (gate_error_in Text d) P failed) [ Memory ↦ λ k. tt | Stream ↦ λ k. k | Syntax ↦ λ k. k | Literal ↦ λ k. k ] h
-in_gates Binary e P failed h = elim e as (λ d. LineTells d P failed → SectionTells (gate_error_in Binary d) P failed) [ Memory ↦ λ k. tt | Stream ↦ λ k. k | Syntax ↦ λ k. k | Literal ↦ λ k. k ] h
+in_gates Text e P failed h = elim e as (λ d. Tells (line_cause d) P failed → Tells (section_cause (gate_error_in Text d)) P failed) [ Memory ↦ λ k. tt | Stream ↦ λ k. k | Syntax ↦ λ k. k | Literal ↦ λ k. k ] h
+in_gates Binary e P failed h = elim e as (λ d. Tells (line_cause d) P failed → Tells (section_cause (gate_error_in Binary d)) P failed) [ Memory ↦ λ k. tt | Stream ↦ λ k. k | Syntax ↦ λ k. k | Literal ↦ λ k. k ] h
 
 -- ---- answers
-
-pub on_section-weaker : (e : ReadError) (P Q : Type 0) (failed : Bool) → (P → Q)
-    → SectionTells e P failed → SectionTells e Q failed
-on_section-weaker errors.Memory P Q failed f h = tt
-on_section-weaker errors.Stream P Q failed f h = h
-on_section-weaker errors.Header P Q failed f h = h
-on_section-weaker errors.TooMany P Q failed f h = h
-on_section-weaker (errors.Syntax s) P Q failed f h = f h
-on_section-weaker (errors.Literal s) P Q failed f h = f h
-on_section-weaker errors.Delta P Q failed f h = f h
-on_section-weaker errors.Name P Q failed f h = h
-on_section-weaker errors.Open P Q failed f h = h
 
 -- what a result is, by what it is seen as
 pub ok_in : {X E : Type 0} (fault : E → ReadError) (lines : Result X E)
@@ -60,25 +49,25 @@ err_in {X} {E} fault (Err k) result e is was = let same : ◌≡◌ {A = Result 
 
 module _ {X Y : Type 0} (fault : LineError → ReadError) (refuses : Refuses fault) (IsOf : X → Y → Type 0) (b a : Feed) (read : List ℕ → Option (Y × List ℕ)) where
   pub made_in : (lines : Result X LineError) (result : Result X ReadError) (x : X)
-      → result ≡ result_by fault lines → result ≡ Ok x → Makes LineTells IsOf b a lines read
+      → result ≡ result_by fault lines → result ≡ Ok x → Makes line_cause IsOf b a lines read
       → Made IsOf b a x read
-  made_in lines result x is was h = subst (λ (r : Result X LineError). Makes LineTells IsOf b a r read) (ok_in fault lines result x is was) h
+  made_in lines result x is was h = subst (λ (r : Result X LineError). Makes line_cause IsOf b a r read) (ok_in fault lines result x is was) h
 
   pub missed_in : (lines : Result X LineError) (result : Result X ReadError) (e : ReadError)
-      → result ≡ result_by fault lines → result ≡ Err e → Makes LineTells IsOf b a lines read
-      → SectionTells e (Misses read b) a.failed
+      → result ≡ result_by fault lines → result ≡ Err e → Makes line_cause IsOf b a lines read
+      → Tells (section_cause e) (Misses read b) a.failed
   missed_in lines result e is was h =
       let k = err_in fault lines result e is was in
-      subst (λ (d : ReadError). SectionTells d (Misses read b) a.failed) k.2 (refuses k.0 (Misses read b) a.failed (subst (λ (r : Result X LineError). Makes LineTells IsOf b a r read) k.1 h))
+      subst (λ (d : ReadError). Tells (section_cause d) (Misses read b) a.failed) k.2 (refuses k.0 (Misses read b) a.failed (subst (λ (r : Result X LineError). Makes line_cause IsOf b a r read) k.1 h))
 
   -- an answer whose fault is seen otherwise
   pub makes_in : (lines : Result X LineError) (result : Result X ReadError)
-      → result ≡ result_by fault lines → Makes LineTells IsOf b a lines read
-      → Makes SectionTells IsOf b a result read
-  makes_in lines result is h = subst (λ (r : Result X ReadError). Makes SectionTells IsOf b a r read) (sym is) (go lines h)
+      → result ≡ result_by fault lines → Makes line_cause IsOf b a lines read
+      → Makes section_cause IsOf b a result read
+  makes_in lines result is h = subst (λ (r : Result X ReadError). Makes section_cause IsOf b a r read) (sym is) (go lines h)
     where
-      go : (lines : Result X LineError) → Makes LineTells IsOf b a lines read
-          → Makes SectionTells IsOf b a (result_by fault lines) read
+      go : (lines : Result X LineError) → Makes line_cause IsOf b a lines read
+          → Makes section_cause IsOf b a (result_by fault lines) read
       go (Ok x) h = h
       go (Err e) h = refuses e (Misses read b) a.failed h
 
@@ -148,9 +137,9 @@ module _ (ns : HeaderNumbers) where
           -- the last of them is read
           pub makes_properties : {X : Type 0} (IsOf : X → Properties ℕ → Type 0) (Are : X → List ℕ → Type 0)
               → ((x : X) (fairness : List ℕ) → Are x fairness → IsOf x (record { outputs = outputs; bads = bads; constraints = constraints; justice = sets; fairness = fairness })) → (a : Feed) (result : Result X ReadError)
-              → Makes SectionTells Are j a result (literals ns.fairness) → Makes SectionTells IsOf b a result (parse_fitting_properties ns)
+              → Makes section_cause Are j a result (literals ns.fairness) → Makes section_cause IsOf b a result (parse_fitting_properties ns)
           makes_properties IsOf Are made a (Ok x) h = (record { outputs = outputs; bads = bads; constraints = constraints; justice = sets; fairness = h.0 }, made x h.0 h.1, takes_properties a h.0 h.2)
-          makes_properties IsOf Are made a (Err e) h = on_section-weaker e _ _ a.failed misses_fairness h
+          makes_properties IsOf Are made a (Err e) h = tells-weaker (section_cause e) _ _ a.failed misses_fairness h
 
 -- ---- all sections
 
@@ -204,6 +193,6 @@ module _ (kind : FileKind) (ns : HeaderNumbers) where
         -- the last of them is read
         pub makes_sections : {X : Type 0} (IsOf : X → Parts → Type 0) (Are : X → List GateLine → Type 0) (a : Feed)
             → ((y : X) (gs : List GateLine) → Are y gs → Takes (parse_section_lines kind ns) b a (record { inputs = inputs; latches = latches; properties = x; gates = gs }) → IsOf y (record { inputs = inputs; latches = latches; properties = x; gates = gs }))
-            → (result : Result X ReadError) → Makes SectionTells Are p a result (gates inputs latches) → Makes SectionTells IsOf b a result (parse_section_lines kind ns)
+            → (result : Result X ReadError) → Makes section_cause Are p a result (gates inputs latches) → Makes section_cause IsOf b a result (parse_section_lines kind ns)
         makes_sections IsOf Are a made (Ok y) h = let taken = takes_sections a h.0 h.2 in (record { inputs = inputs; latches = latches; properties = x; gates = h.0 }, made y h.0 h.1 taken, taken)
-        makes_sections IsOf Are a made (Err e) h = on_section-weaker e _ _ a.failed misses_gates h
+        makes_sections IsOf Are a made (Err e) h = tells-weaker (section_cause e) _ _ a.failed misses_gates h

@@ -8,18 +8,19 @@ use Rattle.std.proofs.lemmas.Bool.Decides.{nat_tests}
 use Rattle.std.proofs.lemmas.List.Folds.{list_any-append}
 use Rattle.aig_format.specs.File.{File, defined}
 use Rattle.aig_format.specs.Fits.{IsDefinable, is_definable}
-use Rattle.aig_format.specs.Variables.{is_known}
 use Rattle.aig_format.proofs.Entries.{rec_append, rec_both, rec_parts, rec_weaker}
 use Rattle.aig_format.proofs.Numbers.{half_differs}
 use Rattle.aig_format.specs.declared.FileKind.{FileKind}
 use Rattle.aig_format.specs.declared.FileKind.TheVariants.{Text}
-use Rattle.aig_parsing.specs.ParseTested.{defines, may_define}
-use Rattle.aig_parsing.proofs.Entries.{Decides-new}
+use Rattle.aig_format.specs.ParseTested.{defines, may_define}
+use Rattle.aig_format.proofs.EntryFacts.{Decides-new}
 use Rattle.aig_format.proofs.Rules.{definable_from, definable_told, even_literal}
-use Rattle.aig_reader.specs.Bits.{bit_is_set}
-use Rattle.aig_reader.specs.declared.error.LineError.{LineError}
+use Rattle.aig_lexer.specs.Faults.{Tested, line_cause}
+use Rattle.aig_ordering.specs.Bits.{bit_is_set}
+use Rattle.aig_ordering.specs.Tables.{AreMarksOf}
+use Rattle.aig_lexer.specs.declared.error.LineError.{LineError}
 use Rattle.aig_reader.specs.declared.variables.Marks.{Marks}
-use Rattle.aig_reader.specs.Variables.{AreCounted, AreDefined, AreMarks, HasNext, IsNewAmong, IsNext, Tested, is_marked}
+use Rattle.aig_reader.specs.Variables.{AreCounted, AreDefined, AreMarks, HasNext, IsNewAmong, IsNext, is_marked}
 use Rattle.aig_reader.specs.declared.variables.DefinedVariables.{DefinedVariables}
 use Rattle.aig_reader.specs.declared.variables.DefinedVariables.TheVariants as kinds
 use Rattle.aig_reader.proofs.Entries.{length_push}
@@ -74,15 +75,15 @@ module _ (greatest : ℕ) (before : List ℕ) (e : ℕ) (marks : Marks) (h : Are
 
 -- what marking a literal tells, of all that is defined
 pub defines_marked : (marks new : Marks) (e : ℕ) (result : Result ℕ LineError)
-    → ((greatest : ℕ) (before : List ℕ) → AreMarks greatest marks before → Tested (defines greatest before e) (λ id. (id ≡ e / 2) × AreMarks greatest new (before ++ e ∷ [])) result)
+    → ((greatest : ℕ) (before : List ℕ) → AreMarks greatest marks before → Tested line_cause (defines greatest before e) (λ id. (id ≡ e / 2) × AreMarks greatest new (before ++ e ∷ [])) result)
     → (kind : FileKind) (greatest : ℕ) (before : List ℕ)
     → AreDefined kind greatest (kinds.Text marks) before
-    → Tested (may_define kind greatest before e) (λ id. (id ≡ e / 2) × AreDefined kind greatest (kinds.Text new) (before ++ e ∷ [])) result
+    → Tested line_cause (may_define kind greatest before e) (λ id. (id ≡ e / 2) × AreDefined kind greatest (kinds.Text new) (before ++ e ∷ [])) result
 defines_marked marks new e result exact kind greatest before h = rw h.0 (go result (exact greatest before h.1))
   where
     go : (result : Result ℕ LineError)
-        → Tested (defines greatest before e) (λ id. (id ≡ e / 2) × AreMarks greatest new (before ++ e ∷ [])) result
-        → Tested (may_define Text greatest before e) (λ id. (id ≡ e / 2) × AreDefined Text greatest (kinds.Text new) (before ++ e ∷ [])) result
+        → Tested line_cause (defines greatest before e) (λ id. (id ≡ e / 2) × AreMarks greatest new (before ++ e ∷ [])) result
+        → Tested line_cause (may_define Text greatest before e) (λ id. (id ≡ e / 2) × AreDefined Text greatest (kinds.Text new) (before ++ e ∷ [])) result
     go (Ok id) t = (t.0, (t.1.0, (refl, t.1.1)))
     go (Err fault) t = t
 
@@ -142,10 +143,10 @@ marked_is greatest v (e ∷ es) all =
     let same : (e == 2 * v) ≡ (e / 2 == v) = grind (arith, nat_tests, even) in
     ap (λ b. b || list_any (λ e. e == 2 * v) es) same ∙ ap (λ b. (e / 2 == v) || b) (marked_is greatest v es all.1)
 
--- whether a variable is 0 or marked tells whether it is known
-pub known_at : (f : File) (marks : Marks) (v : ℕ) → AreMarks f.greatest marks (defined f)
-    → v ≤ f.greatest → (v == 0 || bit_is_set marks.marked.items v) ≡ is_known f v
-known_at f marks v h low = ap (λ b. v == 0 || b) (h.marked v low ∙ marked_is f.greatest v (defined f) h.definable)
+-- the marks tell which variables are defined
+pub marks_of : (f : File) (marks : Marks) → AreMarks f.greatest marks (defined f)
+    → AreMarksOf f marks.marked.items
+marks_of f marks h = λ v low. h.marked v low ∙ marked_is f.greatest v (defined f) h.definable
 
 -- a variable without a mark, below that of the last literal, is that of none of them
 pub unmarked_none : (kind : FileKind) (greatest : ℕ) (variables : DefinedVariables) (v : ℕ)

@@ -3,9 +3,9 @@ use Rattle.std.proofs.Common.{◌≡◌, ℕ, zero, suc, ◌+◌, ◌<◌, List,
 use Rattle.std.proofs.lemmas.Option.{same_Some}
 use Rattle.std.proofs.lemmas.List.{map_push}
 use Rattle.std.proofs.Math.Seq.{get_or-append_seam}
-use Rattle.aig_parsing.specs.Parse.{◌>>=◌, parse_entries, parse_sets}
-use Rattle.aig_parsing.specs.ParseTested.{parse_literals, parse_literal_sets}
-use Rattle.aig_parsing.proofs.Numbers.{bind_some}
+use Rattle.aig_format.specs.Parse.{◌>>=◌, parse_entries, parse_sets}
+use Rattle.aig_format.specs.ParseTested.{parse_literals, parse_literal_sets}
+use Rattle.aig_format.proofs.NumberReaders.{bind_some}
 use Rattle.aig_lexer.specs.Takes.{Feed, Takes, Misses}
 use Rattle.aig_lexer.proofs.Feeds.{advances_on}
 use Rattle.aig_lexer.proofs.Going.{known_rest}

@@ -13,7 +13,7 @@ use Rattle.aig_circuit.specs.declared.node.AigLatch.{AigLatch}
 use Rattle.aig_circuit.specs.Edge.{edge_to}
 use Rattle.aig_circuit.specs.Node.{and_of}
 use Rattle.aig_circuit.proofs.Listed.{AllProperties-weaker, map_properties-agree}
-use Rattle.aig_parsing.specs.Parse.{Parts, file_from}
+use Rattle.aig_format.specs.Parse.{Parts, file_from}
 use Rattle.aig_format.specs.Circuit as of_file
 use Rattle.aig_format.specs.Circuit.{circuit_of, edge_of, initial_of, kind_of, latch_of, named_node, nodes_from}
 use Rattle.aig_format.specs.declared.FileKind.{FileKind}

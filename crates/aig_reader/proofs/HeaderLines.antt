@@ -6,15 +6,15 @@ use Rattle.std.proofs.lemmas.Option.{IfSome_then, same_Some}
 use Rattle.aig_format.specs.declared.FileKind.{FileKind}
 use Rattle.aig_format.specs.File.{HeaderNumbers}
 use Rattle.aig_format.specs.Fits.{has_enough}
-use Rattle.aig_parsing.specs.Parse.{◌>>=◌, parse_header, too_many_at, too_many_of}
-use Rattle.aig_parsing.specs.ParseTested.{fits_header, parse_fitting_header}
-use Rattle.aig_parsing.proofs.Numbers.{bind_some}
+use Rattle.aig_format.specs.Parse.{◌>>=◌, parse_header, too_many_at, too_many_of}
+use Rattle.aig_format.specs.ParseTested.{fits_header, parse_fitting_header}
+use Rattle.aig_format.proofs.NumberReaders.{bind_some}
 use Rattle.aig_lexer.specs.declared.error.LexError.{LexError}
 use Rattle.aig_lexer.specs.declared.error.LexError.TheVariants.{Stream, Shape}
-use Rattle.aig_lexer.specs.Faults.{LexTells}
+use Rattle.aig_lexer.specs.Faults.{Tells, word_cause}
 use Rattle.aig_lexer.specs.Takes.{Feed, Misses, Takes}
 use Rattle.aig_lexer.proofs.Going.{known_after}
-use Rattle.aig_reader.specs.Faults.{header_error_of}
+use Rattle.aig_reader.specs.Errors.{header_error_of}
 use Rattle.aig_reader.specs.Headers.{HasNoHeader, ReadsHeader}
 
 -- a header, and what stands after it
@@ -26,7 +26,7 @@ passes limit x = cond (fits_header limit x.0) (Some x) None
 
 -- a header line that isn't read
 pub unread_header : (limit : ℕ) (before after : Feed) (fault : LexError)
-    → LexTells fault (Misses parse_header before) after.failed
+    → Tells (word_cause fault) (Misses parse_header before) after.failed
     → ReadsHeader limit before after (Err (header_error_of fault))
 unread_header limit before after Stream h = h
 unread_header limit before after Shape h = IfSome_then before.coming h (λ bytes none. (ap (λ (o : Option Read). o >>= passes limit) none, ap (too_many_of limit) none))

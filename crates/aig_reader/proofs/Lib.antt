@@ -4,7 +4,6 @@ pub mod Waiting
 pub mod TestedLines
 pub mod Entries
 pub mod OwnLines
-pub mod MarkedBits
 pub mod Defined
 pub mod GateLines
 pub mod TableGates

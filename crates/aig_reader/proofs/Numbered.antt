@@ -1,34 +1,44 @@
 -- What the numbering of variables answers, and the tests of sections, joined.
-use Rattle.std.proofs.Common.{◌≡◌, ℕ, ◌/◌, Bool, true, false, ◌&&◌, List, [], ◌∷◌, ◌++◌, map, Result, Ok, Err, refl, sym, ap, ◌∙◌}
+use Rattle.std.proofs.Common.{◌≡◌, ℕ, ◌/◌, Bool, true, false, ◌&&◌, List, [], ◌∷◌, ◌++◌, map, Result, Ok, Err, refl, sym, ap, subst, ◌∙◌}
 use Rattle.std.specs.List.{flat_map}
 use Rattle.std.proofs.lemmas.Bool.{and_right}
 use Rattle.std.proofs.lemmas.List.Folds.{list_all-append}
 use Rattle.aig_circuit.specs.Properties.{Properties, entries_of}
 use Rattle.aig_format.specs.File.{LatchLine, GateLine, File}
 use Rattle.aig_format.specs.Variables.{is_known}
-use Rattle.aig_ordering.specs.declared.error.OrderError.{OrderError}
-use Rattle.aig_ordering.specs.declared.error.OrderError.TheVariants.{Memory, Variable}
-use Rattle.aig_ordering.specs.Tables.{JudgedOrder, OrderUnlessTransient}
+use Rattle.aig_lexer.specs.declared.error.LineError.{LineError}
+use Rattle.aig_lexer.specs.declared.error.LineError.TheVariants as line
+use Rattle.aig_lexer.specs.Faults.{Tested}
+use Rattle.aig_lexer.proofs.Faults.{tells-weaker}
+use Rattle.aig_ordering.specs.Tables.{order_cause}
+use Rattle.aig_reader.specs.declared.error.ReadError.{ReadError}
 use Rattle.aig_reader.specs.declared.error.Section.TheVariants.{Gates}
-use Rattle.aig_reader.specs.Faults.{SectionTells, order_error_in}
+use Rattle.aig_reader.specs.Faults.{error_in, result_by, section_cause}
 use Rattle.aig_format.specs.Fits.{uses_known}
 use Rattle.aig_reader.specs.Numbered.{have_operands, knows, knows_lists, knows_properties}
 
 -- ---- answers
 
--- a fault of the gates' order, as one of the file
-pub in_order : (e : OrderError) (P Q : Type 0) → (P → Q) → OrderUnlessTransient e P
-    → SectionTells (order_error_in Gates e) Q false
-in_order Memory P Q f h = tt
-in_order Variable P Q f h = f h
+-- what the gates' order answers, as an answer of the file
+pub in_gates : {X : Type 0} (test : Bool) (P : X → Type 0) (lines : Result X LineError)
+    (result : Result X ReadError) → result ≡ result_by (error_in Gates) lines
+    → Tested order_cause test P lines → Tested section_cause test P result
+in_gates {X} test P lines result is h = subst (Tested section_cause test P) (sym is) (go lines h)
+  where
+    go : (lines : Result X LineError) → Tested order_cause test P lines
+        → Tested section_cause test P (result_by (error_in Gates) lines)
+    go (Ok x) h = h
+    go (Err line.Memory) h = tt
+    go (Err line.Stream) h = absurd h
+    go (Err line.Syntax) h = absurd h
+    go (Err line.Literal) h = h
 
 -- an answer judged by the same test, and by what it then says
 pub rejudged : {X : Type 0} (s t : Bool) (P Q : X → Type 0) → s ≡ t
-    → ((x : X) → t ≡ true → P x → Q x) → (result : Result X OrderError) → JudgedOrder s P result
-    → JudgedOrder t Q result
+    → ((x : X) → t ≡ true → P x → Q x) → (result : Result X LineError)
+    → Tested order_cause s P result → Tested order_cause t Q result
 rejudged s t P Q same says (Ok x) h = let passed : t ≡ true = sym same ∙ h.0 in (passed, says x passed h.1)
-rejudged s t P Q same says (Err Memory) h = tt
-rejudged s t P Q same says (Err Variable) h = sym same ∙ h
+rejudged s t P Q same says (Err e) h = tells-weaker (order_cause e) _ _ false (λ (no : s ≡ false). sym same ∙ no) h
 
 -- ---- tests of sections
 

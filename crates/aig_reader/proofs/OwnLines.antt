@@ -1,7 +1,7 @@
 -- An entry: its own literal, what stands after it, and a test.
 use Rattle.std.proofs.Common.{◌≡◌, ℕ, Bool, true, false, List, Option}
 use Rattle.aig_format.specs.declared.FileKind.{FileKind}
-use Rattle.aig_parsing.specs.Parse.{parse_both, parse_map, parse_if, parse_own}
+use Rattle.aig_format.specs.Parse.{parse_both, parse_map, parse_if, parse_own}
 use Rattle.aig_lexer.specs.Takes.{Feed, Takes, Misses}
 use Rattle.aig_lexer.proofs.Taking.{misses_both, misses_either, misses_mapped, misses_test, misses_tested, takes_both, takes_mapped, takes_tested}
 

@@ -2,16 +2,17 @@
 use Rattle.std.proofs.Common.{◌≡◌, ◌++◌, ◌+◌, [], ℕ, List, Result, Ok, length, map, ap, length-append, ◌∙◌}
 use Rattle.std.proofs.lemmas.List.{length-map}
 use Rattle.aig_circuit.specs.declared.node.AigLatch.{AigLatch}
-use Rattle.aig_parsing.specs.Parse.{parse_entries}
-use Rattle.aig_parsing.specs.ParseTested.{parse_input_entry, parse_latch_entry}
+use Rattle.aig_format.specs.Parse.{parse_entries}
+use Rattle.aig_format.specs.ParseTested.{parse_input_entry, parse_latch_entry}
 use Rattle.aig_format.specs.File.{LatchLine}
 use Rattle.aig_lexer.specs.declared.header.Header.{Header}
+use Rattle.aig_lexer.specs.Faults.{line_cause}
 use Rattle.aig_lexer.specs.Takes.{Feed, Makes, Takes}
-use Rattle.aig_reader.specs.declared.error.LineError.{LineError}
+use Rattle.aig_lexer.specs.declared.error.LineError.{LineError}
 use Rattle.aig_reader.specs.declared.error.ReadError.{ReadError}
 use Rattle.aig_reader.specs.declared.error.Section.TheVariants.{Inputs, Latches}
 use Rattle.aig_reader.specs.declared.variables.DefinedVariables.{DefinedVariables}
-use Rattle.aig_reader.specs.Faults.{LineTells, error_in, result_by}
+use Rattle.aig_reader.specs.Faults.{error_in, result_by}
 use Rattle.aig_ordering.specs.Lists.{variable_of_literal, latch_of_line}
 use Rattle.aig_reader.specs.Variables.{AreDefined}
 use Rattle.aig_reader.proofs.Body.{in_section, made_in}
@@ -42,14 +43,14 @@ pub record LatchesRead (header : Header) (inputs : List ℕ) (before after : Fee
 
 module _ (header : Header) (b a : Feed) (v : DefinedVariables) where
   pub inputs_read : {X : Type 0} (lines : Result X LineError) (result : Result X ReadError) (x : X) (old new : List ℕ) → result ≡ result_by (error_in Inputs) lines → result ≡ Ok x → old ≡ []
-      → Makes LineTells (λ (_ : X) literals. (new ≡ old ++ map variable_of_literal literals) × AreDefined header.kind header.greatest v literals) b a lines (parse_entries (parse_input_entry header.kind header.greatest) [] header.inputs)
+      → Makes line_cause (λ (_ : X) literals. (new ≡ old ++ map variable_of_literal literals) × AreDefined header.kind header.greatest v literals) b a lines (parse_entries (parse_input_entry header.kind header.greatest) [] header.inputs)
       → InputsRead header b a v new
   inputs_read lines result x old new is was none made =
       let h = made_in (error_in Inputs) (in_section Inputs) _ _ _ _ lines result x is was made in
       record { literals = h.0; are = h.1.0 ∙ ap (λ (front : List ℕ). front ++ map variable_of_literal h.0) none; defined = h.1.1; takes = h.2; count = takes_count (parse_input_entry header.kind header.greatest) header.inputs b a h.0 h.2 }
 
   pub latches_read : {X : Type 0} (inputs : List ℕ) (lines : Result X LineError) (result : Result X ReadError) (x : X) (old new : List AigLatch) → result ≡ result_by (error_in Latches) lines → result ≡ Ok x → old ≡ []
-      → Makes LineTells (λ (_ : X) ls. (new ≡ old ++ map latch_of_line ls) × AreDefined header.kind header.greatest v (literals_with inputs ls)) b a lines (parse_entries (parse_latch_entry header.kind header.greatest inputs) [] header.latches)
+      → Makes line_cause (λ (_ : X) ls. (new ≡ old ++ map latch_of_line ls) × AreDefined header.kind header.greatest v (literals_with inputs ls)) b a lines (parse_entries (parse_latch_entry header.kind header.greatest inputs) [] header.latches)
       → LatchesRead header inputs b a v new
   latches_read inputs lines result x old new is was none made =
       let h = made_in (error_in Latches) (in_section Latches) _ _ _ _ lines result x is was made in

@@ -2,9 +2,9 @@
 use Rattle.std.proofs.Common.{◌≡◌, ℕ, true, false, List, [], ◌∷◌, ◌++◌, Option, None, refl, sym, subst}
 use Rattle.std.specs.Prelude.{codes}
 use Rattle.std.proofs.lemmas.Bool.{false≢true}
-use Rattle.aig_parsing.specs.ParseTested.{parse_fitting}
-use Rattle.aig_parsing.proofs.Examples.{and_file-accepted, binary-read, no_differences, no_gates, no_inputs, no_names}
-use Rattle.aig_parsing.proofs.FittingFiles.{fitting_complete, fitting_sound}
+use Rattle.aig_format.specs.ParseTested.{parse_fitting}
+use Rattle.aig_format.proofs.ReadingExamples.{and_file-accepted, binary-read, no_differences, no_gates, no_inputs, no_names}
+use Rattle.aig_format.proofs.FittingFiles.{fitting_complete, fitting_sound}
 use Rattle.aig_format.proofs.Examples.{and_text}
 use Rattle.aig_reader.specs.Verdicts.{Accepted, IsOfFile, IsVerdictOn, Judges, Stream, Verdict, verdict_of}
 use Rattle.aig_reader.specs.declared.error.ReadError.{ReadError}

@@ -1,7 +1,6 @@
 -- The sections that were read, as those of the file's circuit.
 use Rattle.std.proofs.Common.{◌≡◌, ◌+◌, ◌*◌, ◌/◌, ◌≤◌, Bool, true, false, ◌||◌, ◌&&◌, List, [], ◌++◌, length, Result, Ok, Err, vec_len, ap, sym, subst, ◌∙◌, arith, leb-true}
 use Rattle.std.specs.List.{list_all}
-use Rattle.std.proofs.lemmas.Bool.{false≢true}
 use Rattle.std.proofs.lemmas.List.{length-map}
 use Rattle.aig_format.specs.declared.FileKind.{FileKind}
 use Rattle.aig_format.specs.declared.FileKind.TheVariants.{Text, Binary}
@@ -9,20 +8,21 @@ use Rattle.aig_format.specs.Circuit.{circuit_of, latch_of}
 use Rattle.aig_format.specs.File.{File}
 use Rattle.aig_format.specs.Levels.{has_level}
 use Rattle.aig_format.specs.Numbering.{is_compact, node_of_variable}
-use Rattle.aig_parsing.specs.Parse.{Parts}
-use Rattle.aig_parsing.specs.ParseTested.{parse_fitting_sections, parse_section_lines}
-use Rattle.aig_parsing.proofs.FittingFiles.{HasOperands}
-use Rattle.aig_parsing.proofs.SectionFacts.{lines_tell}
+use Rattle.aig_format.specs.Parse.{Parts}
+use Rattle.aig_format.specs.ParseTested.{parse_fitting_sections, parse_section_lines}
+use Rattle.aig_format.proofs.FittingFiles.{HasOperands}
+use Rattle.aig_format.proofs.SectionFacts.{lines_tell}
 use Rattle.aig_ordering.specs.Tables.{AreNodesOf}
 use Rattle.aig_lexer.specs.declared.header.Header.{Header}
 use Rattle.aig_lexer.specs.Header.{numbers_of}
 use Rattle.aig_lexer.specs.Takes.{Feed, Makes, Takes}
+use Rattle.aig_lexer.specs.Faults.{Tested}
+use Rattle.aig_lexer.proofs.Faults.{tells-sound}
 use Rattle.aig_lexer.proofs.Taking.{misses_test, takes_tested}
 use Rattle.aig_reader.specs.declared.error.ReadError.{ReadError}
-use Rattle.aig_reader.specs.declared.error.ReadError.TheVariants as errors
 use Rattle.aig_reader.specs.declared.sections.Sections.{Sections}
-use Rattle.aig_reader.specs.Faults.{SectionTells}
-use Rattle.aig_reader.specs.Numbered.{AreListsByNumber, AreSectionsOf, IsCircuitOf, Judged}
+use Rattle.aig_reader.specs.Faults.{section_cause}
+use Rattle.aig_reader.specs.Numbered.{AreListsByNumber, AreSectionsOf, IsCircuitOf}
 use Rattle.aig_circuit.specs.declared.node.AigNode.{AigNode}
 use Rattle.aig_reader.specs.Gates.{AreFirstNodes}
 use Rattle.aig_reader.specs.Sections.{AreListsByVariable, HasGoodLines, file_by}
@@ -30,19 +30,6 @@ use Rattle.aig_reader.proofs.FileCircuit.{inputs_is, latchs_is, compact_circuit}
 use Rattle.aig_reader.proofs.PlacedNodes.{first_all}
 use Rattle.aig_format.specs.Fits.{has_enough, is_accepted_order, is_literal, uses_known}
 use Rattle.aig_format.proofs.Entries.{rec_weaker, length-defined, on_used}
-
--- a fault that no failed read made tells the same, whether a read failed or not
-on_section-unfailed : (e : ReadError) (P Q : Type 0) (failed : Bool) → (P → Q)
-    → SectionTells e P false → SectionTells e Q failed
-on_section-unfailed errors.Memory P Q failed f h = tt
-on_section-unfailed errors.Stream P Q failed f h = absurd (false≢true h)
-on_section-unfailed errors.Header P Q failed f h = h
-on_section-unfailed errors.TooMany P Q failed f h = h
-on_section-unfailed (errors.Syntax s) P Q failed f h = f h
-on_section-unfailed (errors.Literal s) P Q failed f h = f h
-on_section-unfailed errors.Delta P Q failed f h = f h
-on_section-unfailed errors.Name P Q failed f h = h
-on_section-unfailed errors.Open P Q failed f h = h
 
 module _ (header : Header) (good : has_enough header.kind (numbers_of header) ≡ true) (x : Parts) (b a : Feed) (taken : Takes (parse_section_lines header.kind (numbers_of header)) b a x) where
   abbrev keeps : Parts → Bool
@@ -62,10 +49,10 @@ module _ (header : Header) (good : has_enough header.kind (numbers_of header) �
 
   -- numbered sections, or a refusal, after the last gate
   pub numbered_made : {X : Type 0} (sections : X → Sections) (result : Result X ReadError)
-      → Judged (keeps x) (λ y. IsCircuitOf (file_by header x) (sections y)) result
-      → Makes SectionTells (λ y. AreSectionsOf header (sections y)) b a result (parse_fitting_sections header.kind (numbers_of header))
+      → Tested section_cause (keeps x) (λ y. IsCircuitOf (file_by header x) (sections y)) result
+      → Makes section_cause (λ y. AreSectionsOf header (sections y)) b a result (parse_fitting_sections header.kind (numbers_of header))
   numbered_made sections (Ok y) h = (x, sections_are (sections y) h.1, takes_tested (parse_section_lines header.kind (numbers_of header)) keeps b a x taken h.0)
-  numbered_made sections (Err e) h = on_section-unfailed e _ _ a.failed (λ (no : keeps x ≡ false). misses_test (parse_section_lines header.kind (numbers_of header)) keeps b a x taken no) h
+  numbered_made sections (Err e) h = tells-sound (section_cause e) _ _ a.failed (λ (no : keeps x ≡ false). misses_test (parse_section_lines header.kind (numbers_of header)) keeps b a x taken no) h
 
 -- ---- the two ways to number
 
@@ -94,11 +81,11 @@ module _ (f : File) where
   -- else it is tested whether the file is well-founded
   pub well_founded_judged : {X : Type 0} (P : X → Type 0) (result : Result X ReadError)
       → f.kind ≡ Text → is_compact f ≡ false
-      → Judged (uses_known f && list_all (has_level f) f.gates) P result
-      → Judged (is_accepted_order f.kind f) P result
+      → Tested section_cause (uses_known f && list_all (has_level f) f.gates) P result
+      → Tested section_cause (is_accepted_order f.kind f) P result
   well_founded_judged P result text well_founded h =
       let well_founded_rules = uses_known f && list_all (has_level f) f.gates in
-      subst (λ b. Judged b P result) (sym (ap (λ k. is_accepted_order k f) text ∙ ap (λ b. b || well_founded_rules) well_founded)) h
+      subst (λ b. Tested section_cause b P result) (sym (ap (λ k. is_accepted_order k f) text ∙ ap (λ b. b || well_founded_rules) well_founded)) h
 
   -- nodes and lists under the numbers of variables are the circuit's
   pub numbered_circuit : (sections : Sections) → sections.nodes.items ≡ (circuit_of f).nodes

@@ -5,7 +5,7 @@ use Rattle.std.proofs.lemmas.Option.{IfSome_then, same_Some}
 use Rattle.std.proofs.KnownBytes.{Consumes-whole}
 use Rattle.aig_format.specs.File.{File}
 use Rattle.aig_format.specs.Fits.{Accepts}
-use Rattle.aig_parsing.proofs.FittingFiles.{fitting_complete}
+use Rattle.aig_format.proofs.FittingFiles.{fitting_complete}
 use Rattle.aig_lexer.proofs.Ending.{none_left, took_all}
 use Rattle.aig_reader.specs.Reading.{IsReadAs}
 use Rattle.aig_reader.specs.Verdicts.{Accepted, IsOfFile, IsSaidOf, IsSettled, IsVerdictOn, Judges, Short, Verdict, verdict_by, verdict_of}

@@ -1,8 +1,8 @@
 -- Serves private clauses alone.
 -- What reading the header line within a limit gives.
 use Rattle.std.specs.Prelude.{◌≡◌, ℕ, Bool, true, false, List, None, IfSome, Result, Ok, Err}
-use Rattle.aig_parsing.specs.Parse.{too_many_at}
-use Rattle.aig_parsing.specs.ParseTested.{parse_fitting_header}
+use Rattle.aig_format.specs.Parse.{too_many_at}
+use Rattle.aig_format.specs.ParseTested.{parse_fitting_header}
 use Rattle.aig_lexer.specs.declared.header.Header.{Header}
 use Rattle.aig_lexer.specs.Header.{numbers_of}
 use Rattle.aig_lexer.specs.Takes.{Feed, Takes}

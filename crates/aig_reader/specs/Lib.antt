@@ -1,5 +1,5 @@
-pub mod Bits
 pub mod Faults
+pub mod Errors
 pub mod Headers
 pub mod Reading
 pub mod Verdicts

@@ -1,6 +1,6 @@
 -- Serves private clauses alone.
 -- Lists under the numbers of a file's variables.
-use Rattle.std.specs.Prelude.{◌≡◌, ℕ, ◌/◌, Bool, true, false, if◌then◌else◌, ◌&&◌, List, [], ◌∷◌, All, IsTrue, map, Option, Some, None, Result, Ok, Err, vec_len}
+use Rattle.std.specs.Prelude.{◌≡◌, ℕ, ◌/◌, Bool, true, false, if◌then◌else◌, ◌&&◌, List, [], ◌∷◌, All, IsTrue, map, Option, Some, None, vec_len}
 use Rattle.std.specs.Ordering.{nat_cmp}
 use Rattle.std.specs.FinMap.{FinMap}
 use Rattle.std.specs.List.{list_all, flat_map}
@@ -13,25 +13,18 @@ use Rattle.aig_format.specs.File.{File}
 use Rattle.aig_format.specs.Variables.{is_known}
 use Rattle.aig_format.specs.Numbering.{is_compact, node_of_variable}
 use Rattle.aig_format.specs.Circuit.{circuit_of, edge_of, latch_of}
-use Rattle.aig_parsing.specs.Parse.{Parts}
+use Rattle.aig_format.specs.Parse.{Parts}
 use Rattle.aig_lexer.specs.declared.header.Header.{Header}
 use Rattle.aig_ordering.specs.declared.gates.Operands.{Operands}
 use Rattle.aig_ordering.specs.Gates.{nodes_in}
 use Rattle.aig_ordering.specs.Numbers.{has_number, number_at, number_in}
-use Rattle.aig_ordering.specs.Tables.{AreKnownOf, AreNodesOf}
+use Rattle.aig_ordering.specs.Tables.{AreMarksOf, AreNodesOf}
 use Rattle.aig_renumber.specs.Numbers.{IsEdgeIn, IsLatchIn}
-use Rattle.aig_reader.specs.declared.error.ReadError.{ReadError}
 use Rattle.aig_reader.specs.declared.sections.Lists.{Lists}
 use Rattle.aig_reader.specs.declared.sections.Sections.{Sections}
-use Rattle.aig_reader.specs.Faults.{SectionTells}
 use Rattle.aig_reader.specs.Sections.{AreListsByVariable, HasGoodLines, circuit_with, file_by}
 
--- ---- tests, and what they allow
-
--- a value where the test is passed, and else a fault that tells that it isn't; no read failed
-abbrev pub Judged : {X : Type 0} → Bool → (X → Type 0) → Result X ReadError → Type 0
-Judged test P (Ok x) = (test ≡ true) × P x
-Judged test P (Err e) = SectionTells e (test ≡ false) false
+-- ---- tests
 
 -- whether the variables of these literals are 0 or defined
 abbrev pub knows : File → List ℕ → Bool
@@ -68,12 +61,12 @@ lists_pass test lists =
 
 -- ---- tables and numbers
 
--- the gates of a file that isn't compact, what is known of it, and its lists, by variable
-pub record AreTablesOf (f : File) (gates : List (Option Operands)) (marks : List Bool)
+-- the gates of a file that isn't compact, the marks of what it defines, and its lists, by variable
+pub record AreTablesOf (f : File) (gates : List (Option Operands)) (marked : List ℕ)
     (entries : Lists) : Type 0 where
   pub good : HasGoodLines f
   pub nodes : AreNodesOf f (nodes_in gates)
-  pub known : AreKnownOf f marks
+  pub marks : AreMarksOf f marked
   pub lists : AreListsByVariable entries f
   pub not_compact : is_compact f ≡ false
 

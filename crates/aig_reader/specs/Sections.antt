@@ -11,7 +11,7 @@ use Rattle.aig_format.specs.declared.FileKind.TheVariants.{Binary}
 use Rattle.aig_format.specs.File.{File, defined, used}
 use Rattle.aig_format.specs.Fits.{IsDefinable, AllPass, is_literal}
 use Rattle.aig_format.specs.Numbering.{is_compact}
-use Rattle.aig_parsing.specs.Parse.{Parts, file_from}
+use Rattle.aig_format.specs.Parse.{Parts, file_from}
 use Rattle.aig_lexer.specs.declared.header.Header.{Header}
 use Rattle.aig_lexer.specs.Header.{numbers_of}
 use Rattle.aig_ordering.specs.Lists.{latch_of_line, variable_of_literal}

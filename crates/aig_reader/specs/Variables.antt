@@ -1,16 +1,14 @@
 -- Serves private clauses alone.
 -- The variables that are defined so far, and what a test of a literal returns.
-use Rattle.std.specs.Prelude.{◌≡◌, ◌≢◌, ℕ, ◌+◌, ◌*◌, ◌/◌, ◌^◌, ◌<◌, ◌≤◌, ◌==◌, Bool, true, false, List, length, nat_le, Result, Ok, Err}
+use Rattle.std.specs.Prelude.{◌≡◌, ◌≢◌, ℕ, ◌+◌, ◌*◌, ◌/◌, ◌^◌, ◌<◌, ◌≤◌, ◌==◌, Bool, true, false, List, length, nat_le}
 use Rattle.std.specs.List.{AllByRecursion, list_any}
 use Rattle.aig_format.specs.Fits.{IsDefinable}
 use Rattle.aig_format.specs.declared.FileKind.{FileKind}
 use Rattle.aig_format.specs.declared.FileKind.TheVariants.{Text, Binary}
-use Rattle.aig_reader.specs.Bits.{bit_is_set}
-use Rattle.aig_reader.specs.declared.error.LineError.{LineError}
+use Rattle.aig_ordering.specs.Bits.{bit_is_set}
 use Rattle.aig_reader.specs.declared.variables.Marks.{Marks}
 use Rattle.aig_reader.specs.declared.variables.DefinedVariables.{DefinedVariables}
 use Rattle.aig_reader.specs.declared.variables.DefinedVariables.TheVariants as kinds
-use Rattle.aig_reader.specs.Faults.{LineTells}
 
 -- these literals may be defined, and the marks of the variables up to the greatest tell which of
 -- them they define
@@ -56,8 +54,3 @@ IsNext (kinds.Binary count) e = e ≡ 2 * (count + 1)
 -- the literal's variable is that of none of these literals
 abbrev pub IsNewAmong : List ℕ → ℕ → Type 0
 IsNewAmong before e = AllByRecursion (λ d. d / 2 ≢ e / 2) before
-
--- a value where the test is passed, and else a fault that tells that it isn't; no read failed
-abbrev pub Tested : {X : Type 0} → Bool → (X → Type 0) → Result X LineError → Type 0
-Tested test P (Ok x) = (test ≡ true) × P x
-Tested test P (Err e) = LineTells e (test ≡ false) false

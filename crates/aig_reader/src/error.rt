@@ -1,15 +1,12 @@
 //! Why a file is refused.
 
 ghost use Rattle.std.specs.Prelude.{◌≡◌, Some};
-ghost use Rattle.aig_reader.specs.Faults.{error_in, gate_error_in, header_error_of, line_error_of, name_error_of, order_error_in, result_by, section_name};
-ghost use Rattle.aig_reader.specs.declared.error.LineError.TheVariants as line;
+ghost use Rattle.aig_reader.specs.Errors.{header_error_of, section_name};
+ghost use Rattle.aig_reader.specs.Faults.{error_in, gate_error_in, name_error_of, result_by};
 ghost use Rattle.aig_reader.specs.declared.error.ReadError.TheVariants as errors;
-ghost use Rattle.aig_reader.specs.declared.error.Section.TheVariants as sections;
 
-use aig_lexer::{FileKind, LexError};
-use aig_ordering::OrderError;
-use aig_symbols::NameError;
-use std::alloc::{AllocError, AllocFailed};
+use aig_lexer::{FileKind, LexError, LineError};
+use std::alloc::AllocError;
 use std::fmt;
 use thiserror::Error;
 
@@ -84,46 +81,6 @@ pub enum ReadError {
     Open,
 }
 
-/// Why a line of a section is not read.
-#[derive(Clone, Copy)]
-pub enum LineError {
-    /// Memory ran out.
-    Memory,
-    /// A read failed.
-    Stream,
-    /// The line is malformed, or the stream ended in it.
-    Syntax,
-    /// A number is not a literal that may stand there.
-    Literal,
-}
-
-impl From<LexError> for LineError {
-    ghost from_gives = { λ e r. r ≡ line_error_of e };
-
-    fn from(error: LexError) -> LineError {
-        match error {
-            LexError::Stream => LineError::Stream,
-            LexError::Shape => LineError::Syntax,
-        }
-    }
-}
-
-impl From<AllocError> for LineError {
-    ghost from_gives = { λ _ r. r ≡ line.Memory };
-
-    fn from(_error: AllocError) -> LineError {
-        LineError::Memory
-    }
-}
-
-impl<T: Drop> From<AllocFailed<T>> for LineError {
-    ghost from_gives = { λ _ r. r ≡ line.Memory };
-
-    fn from(_error: AllocFailed<T>) -> LineError {
-        LineError::Memory
-    }
-}
-
 impl From<AllocError> for ReadError {
     ghost from_gives = { λ _ r. r ≡ errors.Memory };
 
@@ -140,18 +97,6 @@ impl From<LexError> for ReadError {
         match error {
             LexError::Stream => ReadError::Stream,
             LexError::Shape => ReadError::Header,
-        }
-    }
-}
-
-impl From<OrderError> for ReadError {
-    ghost from_gives = { λ e r. r ≡ order_error_in sections.Gates e };
-
-    /// A fault of the gates' order: a variable that isn't defined, or no order, as where gates form a cycle.
-    fn from(error: OrderError) -> ReadError {
-        match error {
-            OrderError::Memory => ReadError::Memory,
-            OrderError::Variable => ReadError::Literal(Section::Gates),
         }
     }
 }
@@ -182,13 +127,13 @@ pub fn gates_result<T>(kind: FileKind, gates: Result<T, LineError>) -> Result<T,
 }
 
 /// What reading the names gave.
-pub fn names_result<T>(names: Result<T, NameError>) -> Result<T, ReadError>
+pub fn names_result<T>(names: Result<T, LineError>) -> Result<T, ReadError>
     ensures { result ≡ result_by name_error_of names }
 {
     match names {
         Ok(value) => Ok(value),
-        Err(NameError::Memory) => Err(ReadError::Memory),
-        Err(NameError::Stream) => Err(ReadError::Stream),
-        Err(NameError::Shape) => Err(ReadError::Name),
+        Err(LineError::Memory) => Err(ReadError::Memory),
+        Err(LineError::Stream) => Err(ReadError::Stream),
+        Err(LineError::Syntax | LineError::Literal) => Err(ReadError::Name),
     }
 }

@@ -1,22 +1,20 @@
 //! Gates: in a text file a line each, in a binary file two differences each.
 
 ghost use Rattle.std.specs.Prelude.{◌≡◌, ℕ, ◌+◌, ◌^◌, ◌<◌, ◌≤◌, [], ◌∷◌, ◌++◌, List, length};
-ghost use Rattle.aig_parsing.specs.ParseTested.{may_use, parse_gate_entry};
+ghost use Rattle.aig_format.specs.ParseTested.{may_use, parse_gate_entry};
 ghost use Rattle.aig_format.specs.declared.FileKind.{FileKind};
 ghost use Rattle.aig_format.specs.declared.FileKind.TheVariants.{Binary};
 ghost use Rattle.aig_format.specs.File.{GateLine};
-ghost use Rattle.aig_lexer.specs.Faults.{LexTells};
+ghost use Rattle.aig_lexer.specs.Faults.{line_cause, word_cause};
 ghost use Rattle.aig_lexer.specs.Takes.{Gives, Makes, feed};
-ghost use Rattle.aig_reader.specs.Faults.{LineTells};
 ghost use Rattle.aig_reader.specs.Gates.{AreGates, line_of, literals_of};
 ghost use Rattle.aig_reader.specs.Variables.{AreDefined};
-ghost use Rattle.aig_parsing.specs.Parse.{parse_entries, parse_operands};
+ghost use Rattle.aig_format.specs.Parse.{parse_entries, parse_operands};
 
-use crate::error::LineError;
 use crate::gate_store::GateStore;
 use crate::variables::DefinedVariables;
 use aig_base::Source;
-use aig_lexer::{InputBuffer, LexError, delta, pair};
+use aig_lexer::{InputBuffer, LexError, LineError, delta, pair};
 use aig_ordering::Operands;
 use std::alloc::Global;
 
@@ -26,7 +24,7 @@ fn differences<R: Source>(
     r: &mut R,
     lhs: u32,
 ) -> Result<(u32, u32), LexError>
-    ensures { Gives LexTells (λ x. (x.0, x.1))
+    ensures { Gives word_cause (λ x. (x.0, x.1))
         (feed R.left R.failed R.pulls buffer.old r.old)
         (feed R.left R.failed R.pulls buffer.new r.new) result (parse_operands Binary lhs) }
 {
@@ -47,7 +45,7 @@ fn operands<R: Source>(
 ) -> Result<(u32, u32), LexError>
     ensures { (kind : FileKind) (greatest : ℕ) (before : List ℕ)
         → AreDefined kind greatest variables.now before
-        → Gives LexTells (λ x. (x.0, x.1))
+        → Gives word_cause (λ x. (x.0, x.1))
         (feed R.left R.failed R.pulls buffer.old r.old)
         (feed R.left R.failed R.pulls buffer.new r.new) result (parse_operands kind lhs) }
 {
@@ -86,7 +84,7 @@ fn gate_line<R: Source>(
     ensures { (kind : FileKind) (greatest : ℕ) (leaves : List ℕ) (before : List GateLine)
         → length (leaves ++ literals_of before) < greatest
         → AreGates kind greatest leaves before variables.old gates.old
-        → Makes LineTells
+        → Makes line_cause
         (λ _ gate. AreGates kind greatest leaves (before ++ gate ∷ []) variables.new gates.new)
         (feed R.left R.failed R.pulls buffer.old r.old)
         (feed R.left R.failed R.pulls buffer.new r.new) result
@@ -115,7 +113,7 @@ pub fn read_gates<R: Source>(
         × (length leaves + count ≤ greatest) × AreDefined kind greatest variables.old leaves }
     ensures { (kind : FileKind) (greatest : ℕ) (leaves : List ℕ)
         → length leaves + count ≤ greatest → AreDefined kind greatest variables.old leaves
-        → Makes LineTells
+        → Makes line_cause
         (λ held gates. AreGates kind greatest leaves gates variables.new held)
         (feed R.left R.failed R.pulls buffer.old r.old)
         (feed R.left R.failed R.pulls buffer.new r.new) result

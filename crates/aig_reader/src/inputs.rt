@@ -2,17 +2,16 @@
 
 ghost use Rattle.std.specs.Prelude.{◌≡◌, ℕ, ◌^◌, ◌<◌, ◌≤◌, List, [], ◌∷◌, ◌++◌, map};
 ghost use Rattle.aig_format.specs.declared.FileKind.{FileKind};
-ghost use Rattle.aig_parsing.specs.Parse.{parse_entries};
-ghost use Rattle.aig_parsing.specs.ParseTested.{parse_input_entry};
+ghost use Rattle.aig_format.specs.Parse.{parse_entries};
+ghost use Rattle.aig_format.specs.ParseTested.{parse_input_entry};
+ghost use Rattle.aig_lexer.specs.Faults.{line_cause};
 ghost use Rattle.aig_lexer.specs.Takes.{Makes, feed};
-ghost use Rattle.aig_reader.specs.Faults.{LineTells};
 ghost use Rattle.aig_ordering.specs.Lists.{variable_of_literal};
 ghost use Rattle.aig_reader.specs.Variables.{AreDefined, HasNext};
 
-use crate::error::LineError;
 use crate::variables::DefinedVariables;
 use aig_base::Source;
-use aig_lexer::InputBuffer;
+use aig_lexer::{InputBuffer, LineError, append};
 
 /// Reads an input, and defines its variable.
 fn input_line<R: Source>(
@@ -23,7 +22,7 @@ fn input_line<R: Source>(
     requires { HasNext variables.old }
     ensures { (kind : FileKind) (greatest : ℕ) (before : List ℕ)
         → AreDefined kind greatest variables.old before
-        → Makes LineTells (λ id literal. (id ≡ variable_of_literal literal)
+        → Makes line_cause (λ id literal. (id ≡ variable_of_literal literal)
         × AreDefined kind greatest variables.new (before ++ literal ∷ []))
         (feed R.left R.failed R.pulls buffer.old r.old)
         (feed R.left R.failed R.pulls buffer.new r.new) result
@@ -44,7 +43,7 @@ pub fn read_inputs<R: Source>(
     requires { (kind : FileKind) × (greatest : ℕ) × (greatest < 2 ^ 31) × (count ≤ greatest)
         × AreDefined kind greatest variables.old [] }
     ensures { (kind : FileKind) (greatest : ℕ) → AreDefined kind greatest variables.old []
-        → Makes LineTells
+        → Makes line_cause
         (λ _ literals. (inputs.new.items ≡ inputs.old.items ++ map variable_of_literal literals)
         × AreDefined kind greatest variables.new literals)
         (feed R.left R.failed R.pulls buffer.old r.old)
@@ -58,7 +57,7 @@ pub fn read_inputs<R: Source>(
     inputs.reserve(unread)?;
     for _ in 0..count {
         let input = input_line(buffer, r, variables)?;
-        inputs.push(input)?;
+        append(inputs, input)?;
     }
     Ok(())
 }

@@ -1,17 +1,16 @@
 //! Justice properties: their sizes, and then their sets, one after the other.
 
 ghost use Rattle.std.specs.Prelude.{◌≡◌, ◌++◌, map};
-ghost use Rattle.aig_parsing.specs.ParseTested.{parse_literal_justice, parse_literal_sets};
-ghost use Rattle.aig_parsing.specs.Parse.{parse_numbers};
+ghost use Rattle.aig_format.specs.ParseTested.{parse_literal_justice, parse_literal_sets};
+ghost use Rattle.aig_format.specs.Parse.{parse_numbers};
+ghost use Rattle.aig_lexer.specs.Faults.{line_cause};
 ghost use Rattle.aig_lexer.specs.Takes.{Makes, feed};
-ghost use Rattle.aig_reader.specs.Faults.{LineTells};
 ghost use Rattle.aig_ordering.specs.Lists.{edge_from};
 
 use crate::edges::read_edges;
-use crate::error::LineError;
 use aig_base::Source;
 use aig_circuit::AigEdge;
-use aig_lexer::{InputBuffer, ended};
+use aig_lexer::{InputBuffer, LineError, append, ended};
 use std::alloc::Global;
 
 /// Reads so many lines of one size each, and appends the sizes.
@@ -21,13 +20,13 @@ fn read_sizes<R: Source>(
     count: u32,
     sizes: &mut Vec<u32>,
 ) -> Result<(), LineError>
-    ensures { Makes LineTells (λ _ numbers. sizes.new.items ≡ sizes.old.items ++ numbers)
+    ensures { Makes line_cause (λ _ numbers. sizes.new.items ≡ sizes.old.items ++ numbers)
         (feed R.left R.failed R.pulls buffer.old r.old)
         (feed R.left R.failed R.pulls buffer.new r.new) result (parse_numbers count) }
 {
     for _ in 0..count {
         let size = ended(buffer, r, b'\n')?;
-        sizes.push(size)?;
+        append(sizes, size)?;
     }
     Ok(())
 }
@@ -41,7 +40,7 @@ fn read_sets<R: Source>(
     greatest: u32,
     sets: &mut Vec<Vec<AigEdge>>,
 ) -> Result<(), LineError>
-    ensures { Makes LineTells (λ _ literals. map (λ set. set.items) sets.new.items
+    ensures { Makes line_cause (λ _ literals. map (λ set. set.items) sets.new.items
         ≡ map (λ set. set.items) sets.old.items ++ map (map edge_from) literals)
         (feed R.left R.failed R.pulls buffer.old r.old)
         (feed R.left R.failed R.pulls buffer.new r.new) result
@@ -50,7 +49,7 @@ fn read_sets<R: Source>(
     for size in sizes {
         let mut set = Vec::new(alloc);
         read_edges(buffer, r, *size, greatest, &mut set)?;
-        sets.push(set)?;
+        append(sets, set)?;
     }
     Ok(())
 }
@@ -65,7 +64,7 @@ pub fn read_justice<R: Source>(
     greatest: u32,
     sets: &mut Vec<Vec<AigEdge>>,
 ) -> Result<(), LineError>
-    ensures { Makes LineTells (λ _ literals. map (λ set. set.items) sets.new.items
+    ensures { Makes line_cause (λ _ literals. map (λ set. set.items) sets.new.items
         ≡ map (λ set. set.items) sets.old.items ++ map (map edge_from) literals)
         (feed R.left R.failed R.pulls buffer.old r.old)
         (feed R.left R.failed R.pulls buffer.new r.new) result

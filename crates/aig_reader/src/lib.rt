@@ -1,7 +1,6 @@
 //! Reads AIGER files, text and binary, from a source of bytes.
 #![tactic(auto)]
 
-mod bits;
 mod edges;
 mod error;
 mod gate_store;

@@ -1,11 +1,11 @@
 //! The lines of the sections.
 
 ghost use Rattle.std.specs.Prelude.{◌≡◌, ◌+◌, ◌^◌, ◌<◌, ◌≤◌, ◌==◌, [], true};
-ghost use Rattle.aig_parsing.specs.ParseTested.{parse_fitting_sections};
+ghost use Rattle.aig_format.specs.ParseTested.{parse_fitting_sections};
 ghost use Rattle.aig_format.specs.Fits.{has_enough};
 ghost use Rattle.aig_lexer.specs.Header.{numbers_of};
 ghost use Rattle.aig_lexer.specs.Takes.{Makes, feed};
-ghost use Rattle.aig_reader.specs.Faults.{SectionTells};
+ghost use Rattle.aig_reader.specs.Faults.{section_cause};
 ghost use Rattle.aig_reader.specs.Numbered.{AreSectionsOf};
 ghost use Rattle.aig_reader.specs.Sections.{AreEmpty};
 ghost use Rattle.aig_reader.specs.Variables.{AreDefined};
@@ -37,7 +37,7 @@ pub fn read_lines<R: Source>(
     requires enough { header.inputs + header.latches + header.gates ≤ header.greatest }
     requires defined { AreDefined header.kind header.greatest variables.old [] }
     requires empty { AreEmpty lists.old }
-    ensures { Makes SectionTells
+    ensures { Makes section_cause
         (λ nodes. AreSectionsOf header (record { nodes = nodes; lists = lists.new }))
         (feed R.left R.failed R.pulls buffer.old r.old)
         (feed R.left R.failed R.pulls buffer.new r.new) result

@@ -8,10 +8,12 @@ ghost use Rattle.aig_format.specs.File.{File};
 ghost use Rattle.aig_format.specs.Levels.{has_level};
 ghost use Rattle.aig_format.specs.Numbering.{is_compact};
 ghost use Rattle.aig_format.specs.Fits.{is_accepted_order, uses_known};
+ghost use Rattle.aig_lexer.specs.Faults.{Tested};
 ghost use Rattle.aig_ordering.specs.Gates.{nodes_in};
 ghost use Rattle.aig_ordering.specs.Numbers.{has_number};
-ghost use Rattle.aig_ordering.specs.Tables.{AreKnownOf, AreNodesOf, JudgedOrder};
-ghost use Rattle.aig_reader.specs.Numbered.{AreNumbersOf, AreRenumbered, AreTablesOf, HaveNumbers, IsCircuitOf, Judged, have_operands, lists_pass};
+ghost use Rattle.aig_ordering.specs.Tables.{AreMarksOf, AreNodesOf, order_cause};
+ghost use Rattle.aig_reader.specs.Faults.{section_cause};
+ghost use Rattle.aig_reader.specs.Numbered.{AreNumbersOf, AreRenumbered, AreTablesOf, HaveNumbers, IsCircuitOf, have_operands, lists_pass};
 ghost use Rattle.aig_reader.specs.Sections.{AreLinesOf, HasGoodLines};
 
 use crate::error::{ReadError, Section};
@@ -19,7 +21,8 @@ use crate::gate_store::GateStore;
 use crate::sections::Lists;
 use crate::variables::DefinedVariables;
 use aig_circuit::AigNode;
-use aig_ordering::{Operands, OrderError, Ordered, Recorded, nodes, order_by_level};
+use aig_lexer::LineError;
+use aig_ordering::{Operands, Ordered, Recorded, nodes, order_by_level};
 use aig_renumber::{renumber_latches, renumber_nodes, renumber_properties};
 use std::alloc::Global;
 
@@ -27,19 +30,19 @@ use std::alloc::Global;
 fn number_nodes(
     alloc: Global,
     gates: Vec<Option<Operands>>,
-    known: &[bool],
-) -> Result<(Vec<AigNode>, Vec<u32>), OrderError>
-    requires tables { (f : File) × AreNodesOf f (nodes_in gates.items) × AreKnownOf f known.now }
+    marked: &[u64],
+) -> Result<(Vec<AigNode>, Vec<u32>), LineError>
+    requires tables { (f : File) × AreNodesOf f (nodes_in gates.items) × AreMarksOf f marked.now }
     requires few { vec_len gates ≤ 2 ^ 31 }
     ensures { (f : File) → HasGoodLines f → AreNodesOf f (nodes_in gates.items)
-        → AreKnownOf f known.now → is_compact f ≡ false
-        → JudgedOrder (list_all (has_level f) f.gates && have_operands f)
+        → AreMarksOf f marked.now → is_compact f ≡ false
+        → Tested order_cause (list_all (has_level f) f.gates && have_operands f)
         (λ x. (x.0.items ≡ (circuit_of f).nodes) × AreNumbersOf f x.1.items) result }
 {
     let Ordered {
         numbers,
         gates: sorted,
-    } = order_by_level(alloc, &gates, known)?;
+    } = order_by_level(alloc, &gates, marked)?;
     // The nodes take four times the memory of this table.
     drop(gates);
     let nodes = nodes(alloc, &Recorded { table: &numbers }, &sorted)?;
@@ -84,20 +87,21 @@ impl Lists {
         renumber_properties(numbers, &mut self.properties);
     }
 
-    /// Numbers the defined variables by level, and returns the nodes. `known` tells of each variable whether it is 0 or defined.
+    /// Numbers the defined variables by level, and returns the nodes. `marked` has a bit for each that is defined.
     fn by_level(
         &mut self,
         alloc: Global,
         gates: Vec<Option<Operands>>,
-        known: &[bool],
+        marked: &[u64],
     ) -> Result<Vec<AigNode>, ReadError>
-        requires tables { (f : File) × AreTablesOf f gates.items known.now self.old }
+        requires tables { (f : File) × AreTablesOf f gates.items marked.now self.old }
         requires few { vec_len gates ≤ 2 ^ 31 }
-        ensures { (f : File) → AreTablesOf f gates.items known.now self.old
-            → Judged (uses_known f && list_all (has_level f) f.gates)
+        ensures { (f : File) → AreTablesOf f gates.items marked.now self.old
+            → Tested section_cause (uses_known f && list_all (has_level f) f.gates)
             (λ nodes. IsCircuitOf f (record { nodes = nodes; lists = self.new })) result }
     {
-        let (nodes, table) = number_nodes(alloc, gates, known)?;
+        let numbered = number_nodes(alloc, gates, marked);
+        let (nodes, table) = Section::Gates.result_of(numbered)?;
         let numbers = Recorded { table: &table };
         if let Some(section) = self.unnumbered(&numbers) {
             return Err(ReadError::Literal(section));
@@ -120,7 +124,7 @@ impl Lists {
             × AreLinesOf f is_complete self.old variables.now gates }
         ensures { (f : File) → greatest ≡ f.greatest
             → AreLinesOf f is_complete self.old variables.now gates
-            → Judged (is_accepted_order f.kind f)
+            → Tested section_cause (is_accepted_order f.kind f)
             (λ nodes. IsCircuitOf f (record { nodes = nodes; lists = self.new })) result }
     {
         let len = greatest as usize + 1;
@@ -128,10 +132,10 @@ impl Lists {
             return Ok(gates.into_nodes(len)?);
         }
         let gates = gates.into_table(alloc, len)?;
-        let known = match variables {
-            DefinedVariables::Text(marks) => marks.known(alloc)?,
+        let marked = match variables {
+            DefinedVariables::Text(marks) => &marks.marked,
             DefinedVariables::Binary(_) => unreachable!(),
         };
-        self.by_level(alloc, gates, &known)
+        self.by_level(alloc, gates, marked)
     }
 }

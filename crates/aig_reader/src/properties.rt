@@ -3,11 +3,11 @@
 ghost use Rattle.std.specs.Prelude.{◌≡◌, ◌++◌, map};
 ghost use Rattle.aig_circuit.specs.Properties.{no_properties};
 ghost use Rattle.aig_circuit.specs.View.{properties_of};
-ghost use Rattle.aig_parsing.specs.ParseTested.{parse_fitting_properties, parse_literals};
+ghost use Rattle.aig_format.specs.ParseTested.{parse_fitting_properties, parse_literals};
 ghost use Rattle.aig_lexer.specs.Header.{numbers_of};
 ghost use Rattle.aig_lexer.specs.Takes.{Makes, feed};
 ghost use Rattle.aig_ordering.specs.Lists.{edge_from};
-ghost use Rattle.aig_reader.specs.Faults.{SectionTells};
+ghost use Rattle.aig_reader.specs.Faults.{section_cause};
 ghost use Rattle.aig_reader.specs.Properties.{ArePropertiesOf};
 
 use crate::edges::read_edges;
@@ -27,7 +27,7 @@ fn read_section<R: Source>(
     greatest: u32,
     edges: &mut Vec<AigEdge>,
 ) -> Result<(), ReadError>
-    ensures { Makes SectionTells
+    ensures { Makes section_cause
         (λ _ literals. edges.new.items ≡ edges.old.items ++ map edge_from literals)
         (feed R.left R.failed R.pulls buffer.old r.old)
         (feed R.left R.failed R.pulls buffer.new r.new) result (parse_literals greatest count) }
@@ -45,7 +45,7 @@ pub fn read_properties<R: Source>(
     properties: &mut Properties<AigEdge>,
 ) -> Result<(), ReadError>
     requires { properties_of properties.old ≡ no_properties }
-    ensures { Makes SectionTells (λ _ literals. ArePropertiesOf properties.new literals)
+    ensures { Makes section_cause (λ _ literals. ArePropertiesOf properties.new literals)
         (feed R.left R.failed R.pulls buffer.old r.old)
         (feed R.left R.failed R.pulls buffer.new r.new) result
         (parse_fitting_properties (numbers_of header)) }

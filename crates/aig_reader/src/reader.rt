@@ -1,11 +1,11 @@
 //! Reading a file.
 
 ghost use Rattle.std.specs.Prelude.{◌≡◌, ◌+◌, ◌^◌, ◌<◌, ◌≤◌, true, IfOk, IsErrOf};
-ghost use Rattle.aig_parsing.specs.ParseTested.{parse_fitting_sections};
+ghost use Rattle.aig_format.specs.ParseTested.{parse_fitting_sections};
 ghost use Rattle.aig_format.specs.Fits.{Accepts, has_enough};
 ghost use Rattle.aig_lexer.specs.Header.{numbers_of};
 ghost use Rattle.aig_lexer.specs.Takes.{Makes, feed};
-ghost use Rattle.aig_reader.specs.Faults.{SectionTells};
+ghost use Rattle.aig_reader.specs.Faults.{section_cause};
 ghost use Rattle.aig_reader.specs.Reading.{AreListsOf, IsReadAs};
 ghost use Rattle.aig_reader.specs.Numbered.{AreSectionsOf};
 ghost use Rattle.aig_reader.specs.Verdicts.{Accepted, Judges, verdict_by, verdict_of};
@@ -22,8 +22,10 @@ use aig_symbols::read_names;
 use std::alloc::Global;
 
 /// Reads a file in the AIGER format, text or binary (AIGER format 20071012, with the resets and properties of AIGER 1.9).
-/// `limit` is how many variables there may be, the false one counted. Reads through a buffer of 4,096 bytes, up to the end
+/// `limit` is how many variables there may be, the false one counted. Reads through a buffer of 16,384 bytes, up to the end
 /// of `r`.
+// The frame with the buffer is not its callers'.
+#[inline(never)]
 pub fn read<R: Source>(alloc: Global, r: &mut R, limit: usize) -> Result<CircuitLists, ReadError>
     requires some { 1 ≤ limit }
     requires few { limit ≤ 2 ^ 31 }
@@ -75,7 +77,7 @@ fn read_sections<R: Source>(
     requires few { header.greatest < 2 ^ 31 }
     requires good { has_enough header.kind (numbers_of header) ≡ true }
     requires enough { header.inputs + header.latches + header.gates ≤ header.greatest }
-    ensures { Makes SectionTells (AreSectionsOf header)
+    ensures { Makes section_cause (AreSectionsOf header)
         (feed R.left R.failed R.pulls buffer.old r.old)
         (feed R.left R.failed R.pulls buffer.new r.new) result
         (parse_fitting_sections header.kind (numbers_of header)) }

@@ -1,20 +1,17 @@
 //! The variables of a file.
 
 ghost use Rattle.std.specs.Prelude.{◌≡◌, ℕ, ◌+◌, ◌/◌, ◌^◌, ◌<◌, ◌≤◌, List, [], ◌∷◌, ◌++◌, IfOk, OnOk, true, vec_len};
-ghost use Rattle.aig_parsing.specs.ParseTested.{defines, may_define};
-ghost use Rattle.aig_lexer.specs.Faults.{LexTells};
+ghost use Rattle.aig_format.specs.ParseTested.{defines, may_define};
+ghost use Rattle.aig_lexer.specs.Faults.{Tested, line_cause, word_cause};
 ghost use Rattle.aig_lexer.specs.Takes.{Gives, feed};
 ghost use Rattle.aig_format.specs.declared.FileKind.{FileKind};
-ghost use Rattle.aig_format.specs.File.{File, defined};
-ghost use Rattle.aig_ordering.specs.Tables.{AreKnownOf};
-ghost use Rattle.aig_reader.specs.Bits.{bit_is_set};
-ghost use Rattle.aig_reader.specs.Variables.{AreDefined, AreMarks, HasNext, IsNext, Tested, TellsDefined, is_marked};
-ghost use Rattle.aig_parsing.specs.Parse.{parse_own};
+ghost use Rattle.aig_ordering.specs.Bits.{bit_is_set};
+ghost use Rattle.aig_reader.specs.Variables.{AreDefined, AreMarks, HasNext, IsNext, TellsDefined, is_marked};
+ghost use Rattle.aig_format.specs.Parse.{parse_own};
 
-use crate::bits::{has_bit, set_bit};
-use crate::error::LineError;
 use aig_base::Source;
-use aig_lexer::{FileKind, InputBuffer, LexError, ended};
+use aig_lexer::{FileKind, InputBuffer, LexError, LineError, ended};
+use aig_ordering::{has_bit, set_bit};
 use std::alloc::{AllocError, Global};
 
 /// Which variables of a text file are defined so far. A variable that has no bit is not.
@@ -54,7 +51,7 @@ impl Marks {
     /// Marks the variable of a literal, which is even, is that of a variable from 1 to the greatest, and is not marked yet.
     fn mark(&mut self, literal: u32) -> Result<usize, LineError>
         ensures exact { (greatest : ℕ) (before : List ℕ) → AreMarks greatest self.old before
-            → Tested (defines greatest before literal)
+            → Tested line_cause (defines greatest before literal)
             (λ id. (id ≡ literal / 2) × AreMarks greatest self.new (before ++ literal ∷ []))
             result }
         // A literal of no variable takes no room: there are words up to that of the greatest one.
@@ -71,19 +68,6 @@ impl Marks {
         }
         set_bit(&mut self.marked, variable);
         Ok(variable)
-    }
-
-    /// For each variable up to the greatest, whether it is 0 or defined.
-    pub fn known(&self, alloc: Global) -> Result<Vec<bool>, AllocError>
-        ensures { (f : File) → AreMarks f.greatest self.now (defined f)
-            → IfOk result (λ known. AreKnownOf f known.items) }
-    {
-        let len = self.greatest as usize + 1;
-        let mut known = Vec::with_capacity(alloc, len)?;
-        for variable in 0..len {
-            known.push_reserved(variable == 0 || has_bit(&self.marked, variable));
-        }
-        Ok(known)
     }
 }
 
@@ -112,7 +96,7 @@ impl DefinedVariables {
         requires { HasNext self.now }
         ensures exact { (kind : FileKind) (greatest : ℕ) (before : List ℕ)
             → AreDefined kind greatest self.now before
-            → Gives LexTells (λ e. e)
+            → Gives word_cause (λ e. e)
             (feed R.left R.failed R.pulls buffer.old r.old)
             (feed R.left R.failed R.pulls buffer.new r.new) result (parse_own kind end before) }
         ensures next { IfOk result (λ e. IsNext self.now e) }
@@ -129,7 +113,7 @@ impl DefinedVariables {
         requires { IsNext self.old literal }
         ensures { (kind : FileKind) (greatest : ℕ) (before : List ℕ)
             → AreDefined kind greatest self.old before
-            → Tested (may_define kind greatest before literal)
+            → Tested line_cause (may_define kind greatest before literal)
             (λ id. (id ≡ literal / 2) × AreDefined kind greatest self.new (before ++ literal ∷ []))
             result }
     {

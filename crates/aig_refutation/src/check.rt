@@ -1,8 +1,15 @@
 //! Checking a proof, step by step.
 
-ghost use Rattle.std.specs.Prelude.{◌≡◌, ◌≤◌, ◌^◌, ◌++◌, [], IfOk, IsErrOf, IsTrue, OnOk, true};
+ghost use Rattle.std.specs.Prelude.{◌≡◌, ◌≤◌, ◌^◌, ◌++◌, [], None, Ok, Some, IfOk, IsErrOf, IsTrue, OnOk, false, length, true};
 ghost use Rattle.aig_base.specs.Formula.{clauses_in, IsSatisfiable};
+ghost use Rattle.aig_lexer.specs.Takes.{feed};
+ghost use Rattle.aig_refutation.specs.Checking.{Live, Shows, is_last_step, taken};
+ghost use Rattle.aig_refutation.specs.Concluding.{Concludes, ConcludesConflict, IsFormula, MovesStep, RefusesFormula, ShowsText, TakesStep, left_outcome, text_outcome};
 ghost use Rattle.aig_refutation.specs.Formula.{ImpliesAll};
+ghost use Rattle.aig_refutation.specs.Reading.{said_by};
+ghost use Rattle.aig_refutation.specs.Steps as steps;
+ghost use Rattle.aig_refutation.specs.Tables.{Holds};
+ghost use Rattle.aig_refutation.specs.Words.{place};
 
 use crate::checker::Checker;
 use crate::error::RefutationError;
@@ -15,7 +22,12 @@ use std::alloc::Global;
 
 /// Appends clauses of the formula, under the next numbers.
 fn assume_all(checker: &mut Checker, clauses: &LitVvec) -> Result<(), RefutationError>
-    ensures assumed { OnOk result (checker.new ≡ checker.old ++ clauses.now) }
+    ensures assumed { OnOk result (checker.new.table.clauses
+        ≡ checker.old.table.clauses ++ clauses.now) }
+    ensures variables { checker.new.variables ≡ checker.old.variables }
+    ensures holds { IsFormula checker.old → OnOk result (IsFormula checker.new) }
+    ensures refused { IsFormula checker.old
+        → RefusesFormula checker.old.variables clauses.now result }
     ensures no_stream { IsErrOf result RefutationError.Stream → ⊥ }
 {
     for i in 0..clauses.len() {
@@ -30,8 +42,13 @@ fn number_clauses(
     cnf: &DagCnf,
     further: &LitVvec,
 ) -> Result<(), RefutationError>
-    requires { checker.old ≡ [] }
-    ensures formula { OnOk result (checker.new ≡ clauses_in cnf.now ++ further.now) }
+    requires { checker.old.table.clauses ≡ [] }
+    ensures formula { OnOk result (checker.new.table.clauses
+        ≡ clauses_in cnf.now ++ further.now) }
+    ensures variables { checker.new.variables ≡ checker.old.variables }
+    ensures holds { IsFormula checker.old → OnOk result (IsFormula checker.new) }
+    ensures refused { IsFormula checker.old
+        → RefusesFormula checker.old.variables (clauses_in cnf.now ++ further.now) result }
     ensures no_stream { IsErrOf result RefutationError.Stream → ⊥ }
 {
     for i in 0..cnf.num_vars() {
@@ -44,8 +61,11 @@ fn number_clauses(
 /// Adds the empty clause where the clauses have it, or two clauses of one literal each that are in
 /// conflict, and says whether they do.
 fn refutes_at_once(alloc: Global, checker: &mut Checker) -> Result<bool, RefutationError>
-    ensures implied { OnOk result (ImpliesAll checker.old checker.new) }
-    ensures refuted { IfOk result (λ done. IsTrue done → ¬ IsSatisfiable checker.old) }
+    ensures same { IfOk result (λ done. done ≡ false → checker.new ≡ checker.old) }
+    ensures conflict { ConcludesConflict checker.old.table.clauses result }
+    ensures implied { OnOk result (ImpliesAll checker.old.table.clauses checker.new.table.clauses) }
+    ensures refuted { IfOk result (λ done. IsTrue done
+        → ¬ IsSatisfiable checker.old.table.clauses) }
     ensures no_stream { IsErrOf result RefutationError.Stream → ⊥ }
 {
     let hints = find_conflict(alloc, checker.clauses(), checker.variables())?;
@@ -59,8 +79,13 @@ fn refutes_at_once(alloc: Global, checker: &mut Checker) -> Result<bool, Refutat
 
 /// Takes a step that has numbers, and says whether it adds the empty clause.
 fn take_numbered(checker: &mut Checker, step: &Step) -> Result<bool, RefutationError>
-    ensures implied { OnOk result (ImpliesAll checker.old checker.new) }
-    ensures refuted { IfOk result (λ done. IsTrue done → ¬ IsSatisfiable checker.old) }
+    ensures variables { checker.new.variables ≡ checker.old.variables }
+    ensures moves { (live : Live) (said : steps.Step) → said_by step.now ≡ Some said
+        → Holds checker.old.table live → MovesStep checker.new.table result
+        (taken checker.old.variables live said) (is_last_step said) }
+    ensures implied { OnOk result (ImpliesAll checker.old.table.clauses checker.new.table.clauses) }
+    ensures refuted { IfOk result (λ done. IsTrue done
+        → ¬ IsSatisfiable checker.old.table.clauses) }
     ensures no_stream { IsErrOf result RefutationError.Stream → ⊥ }
 {
     if step.deletes {
@@ -78,7 +103,7 @@ fn add_units(
     search: &mut Search,
     hints: &mut Vec<u32>,
 ) -> Result<(), RefutationError>
-    ensures implied { OnOk result (ImpliesAll checker.old checker.new) }
+    ensures implied { OnOk result (ImpliesAll checker.old.table.clauses checker.new.table.clauses) }
     ensures no_stream { IsErrOf result RefutationError.Stream → ⊥ }
 {
     for _ in 0..checker.variables() {
@@ -99,7 +124,7 @@ fn start_search(
     checker: &mut Checker,
     search: &mut Search,
 ) -> Result<(), RefutationError>
-    ensures implied { OnOk result (ImpliesAll checker.old checker.new) }
+    ensures implied { OnOk result (ImpliesAll checker.old.table.clauses checker.new.table.clauses) }
     ensures no_stream { IsErrOf result RefutationError.Stream → ⊥ }
 {
     let clauses = checker.clauses();
@@ -120,8 +145,9 @@ fn add_empty(
     search: &mut Search,
     hints: &mut Vec<u32>,
 ) -> Result<bool, RefutationError>
-    ensures implied { OnOk result (ImpliesAll checker.old checker.new) }
-    ensures refuted { IfOk result (λ done. IsTrue done → ¬ IsSatisfiable checker.old) }
+    ensures implied { OnOk result (ImpliesAll checker.old.table.clauses checker.new.table.clauses) }
+    ensures refuted { IfOk result (λ done. IsTrue done
+        → ¬ IsSatisfiable checker.old.table.clauses) }
     ensures no_stream { IsErrOf result RefutationError.Stream → ⊥ }
 {
     if !search.is_in_conflict() {
@@ -140,8 +166,9 @@ fn add_searched(
     search: &mut Search,
     step: &mut Step,
 ) -> Result<bool, RefutationError>
-    ensures implied { OnOk result (ImpliesAll checker.old checker.new) }
-    ensures refuted { IfOk result (λ done. IsTrue done → ¬ IsSatisfiable checker.old) }
+    ensures implied { OnOk result (ImpliesAll checker.old.table.clauses checker.new.table.clauses) }
+    ensures refuted { IfOk result (λ done. IsTrue done
+        → ¬ IsSatisfiable checker.old.table.clauses) }
     ensures no_stream { IsErrOf result RefutationError.Stream → ⊥ }
 {
     search.find(&step.clause, &mut step.numbers)?;
@@ -159,8 +186,9 @@ fn take_searched(
     search: &mut Search,
     step: &mut Step,
 ) -> Result<bool, RefutationError>
-    ensures implied { OnOk result (ImpliesAll checker.old checker.new) }
-    ensures refuted { IfOk result (λ done. IsTrue done → ¬ IsSatisfiable checker.old) }
+    ensures implied { OnOk result (ImpliesAll checker.old.table.clauses checker.new.table.clauses) }
+    ensures refuted { IfOk result (λ done. IsTrue done
+        → ¬ IsSatisfiable checker.old.table.clauses) }
     ensures no_stream { IsErrOf result RefutationError.Stream → ⊥ }
 {
     if !step.deletes {
@@ -179,8 +207,13 @@ fn take_step(
     search: &mut Option<Search>,
     step: &mut Step,
 ) -> Result<bool, RefutationError>
-    ensures implied { OnOk result (ImpliesAll checker.old checker.new) }
-    ensures refuted { IfOk result (λ done. IsTrue done → ¬ IsSatisfiable checker.old) }
+    ensures numbered { search.old ≡ None → OnOk result ((search.new ≡ None)
+        × (step.new.is_numbered ≡ true) × (checker.new.variables ≡ checker.old.variables)) }
+    ensures takes { (live : Live) → search.old ≡ None → Holds checker.old.table live
+        → TakesStep checker.old.variables live checker.new.table result (said_by step.old) }
+    ensures implied { OnOk result (ImpliesAll checker.old.table.clauses checker.new.table.clauses) }
+    ensures refuted { IfOk result (λ done. IsTrue done
+        → ¬ IsSatisfiable checker.old.table.clauses) }
     ensures no_stream { IsErrOf result RefutationError.Stream → ⊥ }
 {
     match search {
@@ -197,7 +230,9 @@ fn search_for(
     checker: &mut Checker,
     step: &Step,
 ) -> Result<Option<Search>, RefutationError>
-    ensures implied { OnOk result (ImpliesAll checker.old checker.new) }
+    ensures numbered { step.now.is_numbered ≡ true
+        → (checker.new ≡ checker.old) × (result ≡ Ok None) }
+    ensures implied { OnOk result (ImpliesAll checker.old.table.clauses checker.new.table.clauses) }
     ensures no_stream { IsErrOf result RefutationError.Stream → ⊥ }
 {
     if step.is_numbered {
@@ -215,8 +250,11 @@ fn refutes_at_first(
     search: &mut Option<Search>,
     step: &mut Step,
 ) -> Result<bool, RefutationError>
-    ensures implied { OnOk result (ImpliesAll checker.old checker.new) }
-    ensures refuted { IfOk result (λ done. IsTrue done → ¬ IsSatisfiable checker.old) }
+    ensures numbered { search.old ≡ None → (checker.new ≡ checker.old) × (search.new ≡ None)
+        × (step.new ≡ step.old) × (result ≡ Ok false) }
+    ensures implied { OnOk result (ImpliesAll checker.old.table.clauses checker.new.table.clauses) }
+    ensures refuted { IfOk result (λ done. IsTrue done
+        → ¬ IsSatisfiable checker.old.table.clauses) }
     ensures no_stream { IsErrOf result RefutationError.Stream → ⊥ }
 {
     match search {
@@ -235,8 +273,13 @@ fn take_steps<R: Source>(
     variables: usize,
 ) -> Result<(), RefutationError>
     requires { variables ≤ 2 ^ 31 }
-    ensures refuted { OnOk result (¬ IsSatisfiable checker.old) }
+    ensures refuted { OnOk result (¬ IsSatisfiable checker.old.table.clauses) }
     ensures stream { IsErrOf result RefutationError.Stream → R.failed r.new ≡ true }
+    ensures shown { (live : Live) → search.old ≡ None → Holds checker.old.table live
+        → checker.old.variables ≡ variables
+        → Concludes (feed R.left R.failed R.pulls words.old.held r.old)
+        (left_outcome variables live (said_by step.old)
+        (place R.left R.failed R.pulls words.old r.old)) result }
 {
     'steps: while !take_step(checker, search, step)? {
         if !step.read(words, r, variables)? {
@@ -256,8 +299,11 @@ fn check_steps<R: Source>(
     variables: usize,
 ) -> Result<(), RefutationError>
     requires { variables ≤ 2 ^ 31 }
-    ensures refuted { OnOk result (¬ IsSatisfiable checker.old) }
+    ensures refuted { OnOk result (¬ IsSatisfiable checker.old.table.clauses) }
     ensures stream { IsErrOf result RefutationError.Stream → R.failed r.new ≡ true }
+    ensures shown { (live : Live) → step.old.is_numbered ≡ false
+        → Holds checker.old.table live → checker.old.variables ≡ variables
+        → ShowsText (feed R.left R.failed R.pulls [] r.old) (text_outcome variables live) result }
 {
     let words = &mut Words::new();
     let there = step.read(words, r, variables)?;
@@ -281,9 +327,12 @@ fn check_clauses<R: Source>(
     checker: &mut Checker,
     step: &mut Step,
 ) -> Result<(), RefutationError>
-    requires { checker.old ≡ [] }
+    requires { checker.old.table.clauses ≡ [] }
     ensures refuted { OnOk result (¬ IsSatisfiable (clauses_in cnf.now ++ further.now)) }
     ensures stream { IsErrOf result RefutationError.Stream → R.failed r.new ≡ true }
+    ensures shown { IsFormula checker.old → checker.old.variables ≡ length cnf.now
+        → step.old.is_numbered ≡ false
+        → Shows (length cnf.now) (clauses_in cnf.now ++ further.now) (R.left r.old) result }
 {
     number_clauses(checker, cnf, further)?;
     if refutes_at_once(alloc, checker)? {
@@ -307,7 +356,7 @@ fn check_clauses<R: Source>(
 /// The first line says which form all have. Steps by resolution asymmetry (RAT) are refused: as
 /// `Asymmetry` where a hint is negative, and as `Step` where there are no hints.
 ///
-/// The proof is read through a buffer of 4,096 bytes, up to the empty clause, and nothing is
+/// The proof is read through a buffer of 16,384 bytes, up to the empty clause, and nothing is
 /// trusted of it. The memory is that of the clauses that are not deleted, a few times over, and
 /// four bytes for each number.
 pub fn check_refutation<R: Source>(
@@ -320,6 +369,10 @@ pub fn check_refutation<R: Source>(
     ensures refuted { OnOk result (¬ IsSatisfiable (clauses_in cnf.now ++ further.now)) }
     // Stream only where a read failed in this call.
     ensures stream { IsErrOf result RefutationError.Stream → R.failed r.new ≡ true }
+    // Ok exactly where an LRAT proof shows it, where its bytes are known and the clauses aren't in
+    // conflict at once; otherwise the error that its text has, or one of memory or the stream.
+    ensures shown { Shows (length cnf.now) (clauses_in cnf.now ++ further.now) (R.left r.old)
+        result }
 {
     let mut checker = Checker::new(alloc, cnf.num_vars())?;
     let mut step = Step::new(alloc);

@@ -1,10 +1,13 @@
 //! Clauses that follow from those of a formula.
 
-ghost use Rattle.std.specs.Prelude.{◌≡◌, ◌<◌, ◌≤◌, ◌*◌, ◌^◌, ◌++◌, ◌∷◌, [], All, IfOk, IsErrOf, IsTrue, OnOk, length};
-ghost use Rattle.std.specs.List.{Contains, IsDistinct};
+ghost use Rattle.std.specs.Prelude.{◌≡◌, ◌-◌, ◌<◌, ◌≤◌, ◌*◌, ◌^◌, ◌++◌, ◌∷◌, ◌||◌, [], Bool, List, Some, All, IfOk, IsErrOf, IsTrue, OnOk, length, max, min, slice_get};
+ghost use Rattle.std.specs.List.{Contains, IsDistinct, list_all};
+ghost use Rattle.aig_base.specs.declared.logic.literal.Lit.{Lit};
 ghost use Rattle.aig_base.specs.Clauses.{variable_of};
+ghost use Rattle.aig_refutation.specs.Checking.{Live, added, are_in, deleted};
 ghost use Rattle.aig_refutation.specs.Formula.{Implies, ImpliesAll};
-ghost use Rattle.aig_refutation.specs.Propagation.{FitsMarks, is_lit};
+ghost use Rattle.aig_refutation.specs.Propagation.{FitsMarks, is_lit, is_rup, is_tautology, reading_of};
+ghost use Rattle.aig_refutation.specs.Tables.{FindsHints, Holds, HoldsFormula, Moves, RefusesClause};
 
 use crate::error::RefutationError;
 use crate::marks::Marks;
@@ -28,20 +31,22 @@ pub(crate) struct Checker {
 }
 
 impl Model for Checker {
-    ghost use Rattle.std.specs.Prelude.{◌≡◌, ◌*◌, List, length};
-    ghost use Rattle.aig_base.specs.declared.logic.literal.Lit.{Lit};
+    ghost use Rattle.std.specs.Prelude.{◌≡◌, ◌*◌, length};
     ghost use Rattle.aig_base.specs.Clauses.{AreBelow};
+    ghost use Rattle.aig_refutation.specs.Tables.{Checked};
 
-    ghost Value = { List (List Lit) };
+    ghost Value = { Checked };
 
-    ghost view = { λ c. c.numbered };
+    ghost view = { λ c. record { table = c.numbered; variables = c.variables } };
 
-    ghost invariant = { λ c. (length c.marks ≡ 2 * c.variables) × AreBelow c.variables c.numbered };
+    ghost invariant = { λ c. (length c.marks ≡ 2 * c.variables)
+        × AreBelow c.variables c.numbered.clauses };
 }
 
 /// Whether the variable of each literal is below `variables`.
 fn is_below(clause: &[Lit], variables: usize) -> bool
-    ensures { IsTrue result → All (λ lit. variable_of lit < variables) clause.now }
+    ensures below { IsTrue result → All (λ lit. variable_of lit < variables) clause.now }
+    ensures exact { result ≡ are_in variables clause.now }
 {
     for lit in clause {
         if usize::from(lit.var()) >= variables {
@@ -58,6 +63,8 @@ fn is_implied(clauses: &LitVvec, marks: &mut Marks, clause: &[Lit], hints: &[usi
     requires clause { FitsMarks marks.old clause.now }
     ensures length { length marks.new ≡ length marks.old }
     ensures implied { IsTrue result → Implies clauses.now clause.now }
+    ensures exact { result
+        ≡ (is_rup (slice_get clauses.now) clause.now hints.now || is_tautology clause.now) }
 {
     is_rup(clauses, marks, clause, hints) || is_tautology(marks, clause)
 }
@@ -71,6 +78,8 @@ fn keep_once(marks: &mut Marks, clause: &[Lit], kept: &mut Vec<Lit>) -> Result<(
     ensures from { OnOk result (All (Contains clause.now) kept.new.items) }
     ensures all { OnOk result (All (Contains kept.new.items) clause.now) }
     ensures once { OnOk result (IsDistinct is_lit kept.new.items) }
+    ensures same { OnOk result ((holds : Lit → Bool)
+        → reading_of holds kept.new.items ≡ reading_of holds clause.now) }
 {
     marks.clear();
     for lit in clause {
@@ -88,7 +97,8 @@ fn find_hints(
     hints: &[u32],
     places: &mut Vec<usize>,
 ) -> Result<(), RefutationError>
-    ensures { IsErrOf result RefutationError.Stream → ⊥ }
+    ensures no_stream { IsErrOf result RefutationError.Stream → ⊥ }
+    ensures found { FindsHints numbered.now hints.now places.new.items result }
 {
     places.clear();
     for hint in hints {
@@ -102,8 +112,10 @@ fn find_hints(
 
 /// Lets numbers name no clause.
 fn remove_all(numbered: &mut Numbered, numbers: &[u32]) -> Result<(), RefutationError>
-    ensures same { numbered.new ≡ numbered.old }
+    ensures same { numbered.new.clauses ≡ numbered.old.clauses }
     ensures no_stream { IsErrOf result RefutationError.Stream → ⊥ }
+    ensures moves { (live : Live) → Holds numbered.old live
+        → Moves numbered.new result (deleted live numbers.now) }
 {
     for number in numbers {
         numbered.remove(*number)?;
@@ -115,7 +127,10 @@ impl Checker {
     /// No clauses, of so many variables.
     pub(crate) fn new(alloc: Global, variables: usize) -> Result<Checker, MemoryError>
         requires { variables ≤ 2 ^ 31 }
-        ensures { IfOk result (λ checker. checker ≡ []) }
+        ensures { IfOk result (λ checker. checker ≡ record {
+          table = record { clauses = []; numbers = []; places = []; added = 0 };
+          variables = variables;
+        }) }
     {
         Ok(Checker {
             numbered: Numbered::new(alloc),
@@ -127,25 +142,34 @@ impl Checker {
     }
 
     /// How many variables there are.
-    pub(crate) fn variables(&self) -> usize {
+    pub(crate) fn variables(&self) -> usize
+        ensures { result ≡ self.now.variables }
+    {
         self.variables
     }
 
     /// The clauses.
     pub(crate) fn clauses(&self) -> &LitVvec
-        ensures { result.now ≡ self.now }
+        ensures { result.now ≡ self.now.table.clauses }
     {
         self.numbered.clauses()
     }
 
     /// The number after the greatest that was used, from 1 on.
-    pub(crate) fn next_number(&self) -> u32 {
+    pub(crate) fn next_number(&self) -> u32
+        ensures { result ≡ min (max (length self.now.table.places) 1) (2 ^ 32 - 1) }
+    {
         self.numbered.next_number()
     }
 
     /// Appends a clause of the formula, under the next number.
     pub(crate) fn assume(&mut self, clause: &[Lit]) -> Result<(), RefutationError>
-        ensures assumed { OnOk result (self.new ≡ self.old ++ clause.now ∷ []) }
+        ensures assumed { OnOk result (self.new.table.clauses
+            ≡ self.old.table.clauses ++ clause.now ∷ []) }
+        ensures variables { self.new.variables ≡ self.old.variables }
+        ensures holds { HoldsFormula self.old.table → OnOk result (HoldsFormula self.new.table) }
+        ensures refused { HoldsFormula self.old.table
+            → RefusesClause self.old.variables clause.now result }
         ensures no_stream { IsErrOf result RefutationError.Stream → ⊥ }
     {
         if !is_below(clause, self.variables) {
@@ -163,8 +187,11 @@ impl Checker {
         clause: &[Lit],
         hints: &[u32],
     ) -> Result<(), RefutationError>
-        ensures implied { OnOk result (ImpliesAll self.old self.new) }
-        ensures follows { OnOk result (Implies self.old clause.now) }
+        ensures implied { OnOk result (ImpliesAll self.old.table.clauses self.new.table.clauses) }
+        ensures follows { OnOk result (Implies self.old.table.clauses clause.now) }
+        ensures variables { self.new.variables ≡ self.old.variables }
+        ensures moves { (live : Live) → Holds self.old.table live → Moves self.new.table result
+            (added self.old.variables live number clause.now hints.now) }
         ensures no_stream { IsErrOf result RefutationError.Stream → ⊥ }
     {
         if !is_below(clause, self.variables) {
@@ -186,7 +213,10 @@ impl Checker {
 
     /// Deletes the clauses of these numbers.
     pub(crate) fn delete(&mut self, numbers: &[u32]) -> Result<(), RefutationError>
-        ensures implied { OnOk result (ImpliesAll self.old self.new) }
+        ensures implied { OnOk result (ImpliesAll self.old.table.clauses self.new.table.clauses) }
+        ensures variables { self.new.variables ≡ self.old.variables }
+        ensures moves { (live : Live) → Holds self.old.table live
+            → Moves self.new.table result (deleted live numbers.now) }
         ensures no_stream { IsErrOf result RefutationError.Stream → ⊥ }
     {
         remove_all(&mut self.numbered, numbers)?;

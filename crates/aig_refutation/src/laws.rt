@@ -1,9 +1,10 @@
 //! Laws of refutations.
 
-ghost use Rattle.std.specs.Prelude.{◌≡◌, ℕ, Bool, IsTrue, List, Option, Some};
+ghost use Rattle.std.specs.Prelude.{◌≡◌, ℕ, Bool, IsTrue, List, Ok, Option, Some};
 ghost use Rattle.aig_base.specs.declared.logic.literal.Lit.{Lit};
 ghost use Rattle.aig_base.specs.Clauses.{is_true_clause};
 ghost use Rattle.aig_base.specs.Formula.{IsSatisfiable};
+ghost use Rattle.aig_refutation.specs.Checking.{shown_by};
 ghost use Rattle.aig_refutation.specs.Propagation.{is_rup};
 ghost use Rattle.aig_refutation.specs.Steps.{Step, is_refutation};
 
@@ -22,4 +23,10 @@ pub fn rup_clauses_are_implied()
 pub fn refuted_clauses_are_unsatisfiable()
     ensures { (clauses : List (List Lit)) (steps : List Step)
         → IsTrue (is_refutation clauses steps) → ¬ IsSatisfiable clauses }
+{}
+
+/// Law: clauses that the text of an LRAT file shows to be in conflict can't be satisfied.
+pub fn shown_clauses_are_unsatisfiable()
+    ensures { (variables : ℕ) (clauses : List (List Lit)) (bytes : List ℕ)
+        → shown_by variables clauses bytes ≡ Some (Ok tt) → ¬ IsSatisfiable clauses }
 {}

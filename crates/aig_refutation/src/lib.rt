@@ -14,6 +14,8 @@ mod words;
 
 pub use check::check_refutation;
 pub use error::RefutationError;
-pub use laws::{refuted_clauses_are_unsatisfiable, rup_clauses_are_implied};
+pub use laws::{
+    refuted_clauses_are_unsatisfiable, rup_clauses_are_implied, shown_clauses_are_unsatisfiable,
+};
 pub use marks::Marks;
 pub use propagation::{Reading, is_rup};

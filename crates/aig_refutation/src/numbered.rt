@@ -1,7 +1,10 @@
 //! Clauses and their numbers.
 
-ghost use Rattle.std.specs.Prelude.{◌≡◌, ◌<◌, ◌++◌, ◌∷◌, [], All, IfOk, IfSome, IsErrOf, OnErr, OnOk, length};
+ghost use Rattle.std.specs.Prelude.{◌≡◌, ◌+◌, ◌-◌, ◌*◌, ◌/◌, ◌^◌, ◌<◌, ◌==◌, ◌++◌, ◌∷◌, [], List, ℕ, Some, All, IsErrOf, OnErr, OnOk, if◌then◌else◌, length, max, min, nat_lt, slice_index_or};
 ghost use Rattle.std.specs.List.{Contains};
+ghost use Rattle.aig_base.specs.declared.logic.literal.Lit.{Lit};
+ghost use Rattle.aig_refutation.specs.Checking.{Live, deleted, numbered_clause};
+ghost use Rattle.aig_refutation.specs.Tables.{Holds, IsInRow, IsMoved, IsNumbering, IsTable, Moves, OnlyMemory, SaysSame, entry_at, place_in};
 
 use crate::error::RefutationError;
 use aig_base::{Lit, LitVvec, MemoryError};
@@ -38,16 +41,25 @@ pub(crate) struct Numbered {
 }
 
 impl Model for Numbered {
-    ghost use Rattle.std.specs.Prelude.{List};
-    ghost use Rattle.aig_base.specs.declared.logic.literal.Lit.{Lit};
+    ghost use Rattle.aig_refutation.specs.Tables.{Table};
 
-    ghost Value = { List (List Lit) };
+    ghost Value = { Table };
 
-    ghost view = { λ n. n.clauses };
+    ghost view = { λ n. record {
+      clauses = n.clauses;
+      numbers = n.numbers.items;
+      places = n.places.items;
+      added = n.added;
+    } };
 }
 
 /// Writes the entry of a number. The table grows up to it.
-fn put_entry(places: &mut Vec<u32>, number: u32, entry: u32) -> Result<(), MemoryError> {
+fn put_entry(places: &mut Vec<u32>, number: u32, entry: u32) -> Result<(), MemoryError>
+    ensures entries { OnOk result ((n : ℕ) → entry_at places.new.items n
+        ≡ (if n == number then entry else entry_at places.old.items n)) }
+    ensures count { OnOk result (length places.new.items
+        ≡ max (length places.old.items) (number + 1)) }
+{
     let i = number as usize;
     if i >= places.len() {
         places.resize(i + 1, UNUSED)?;
@@ -57,13 +69,17 @@ fn put_entry(places: &mut Vec<u32>, number: u32, entry: u32) -> Result<(), Memor
 }
 
 /// The entry of a number.
-fn entry(places: &[u32], number: u32) -> u32 {
+fn entry(places: &[u32], number: u32) -> u32
+    ensures { result ≡ entry_at places.now number }
+{
     let i = number as usize;
     if i < places.len() { places[i] } else { UNUSED }
 }
 
 /// The number of the clause at a place.
-fn number_at(numbers: &[u32], place: usize) -> u32 {
+fn number_at(numbers: &[u32], place: usize) -> u32
+    ensures { result ≡ slice_index_or numbers.now place 0 }
+{
     if place < numbers.len() {
         numbers[place]
     } else {
@@ -71,18 +87,8 @@ fn number_at(numbers: &[u32], place: usize) -> u32 {
     }
 }
 
-/// Lets numbers name the clauses from the first place on.
-fn rename(places: &mut Vec<u32>, numbers: &[u32]) -> Result<(), MemoryError> {
-    let mut place = 0u32;
-    for number in numbers {
-        place = place.saturating_add(1);
-        put_entry(places, *number, place)?;
-    }
-    Ok(())
-}
-
-/// Appends the clauses that numbers name, and those numbers, in the order of the clauses, and lets the numbers name them
-/// by their new places. `live` and `live_numbers` are empty before.
+/// Appends the clauses that numbers name, and those numbers, in the order of the clauses, and lets
+/// the numbers name them by their new places. `live` and `live_numbers` are empty before.
 fn take_live(
     clauses: &LitVvec,
     numbers: &[u32],
@@ -91,22 +97,28 @@ fn take_live(
     live_numbers: &mut Vec<u32>,
 ) -> Result<(), MemoryError>
     requires { live.old ≡ [] }
-    ensures { OnOk result (All (Contains clauses.now) live.new) }
+    ensures there { OnOk result (All (Contains clauses.now) live.new) }
+    ensures moved { live_numbers.old.items ≡ []
+        → IsNumbering clauses.now numbers.now places.old.items
+        → OnOk result (IsMoved clauses.now places.old.items live.new live_numbers.new.items
+        places.new.items) }
 {
     for i in 0..clauses.len() {
         let number = number_at(numbers, i);
         if entry(places, number) as usize == i + 1 {
             live.push(clauses.clause(i))?;
             live_numbers.push(number)?;
+            let place = u32::try_from(live.len()).unwrap_or(DELETED);
+            put_entry(places, number, place)?;
         }
     }
-    rename(places, live_numbers)
+    Ok(())
 }
 
 impl Numbered {
     /// No clauses.
     pub(crate) fn new(alloc: Global) -> Numbered
-        ensures { result ≡ [] }
+        ensures { result ≡ record { clauses = []; numbers = []; places = []; added = 0 } }
     {
         Numbered {
             alloc,
@@ -120,22 +132,31 @@ impl Numbered {
     }
 
     /// The number after the greatest that was used, from 1 on.
-    pub(crate) fn next_number(&self) -> u32 {
+    pub(crate) fn next_number(&self) -> u32
+        ensures { result ≡ min (max (length self.now.places) 1) (2 ^ 32 - 1) }
+    {
         u32::try_from(self.places.len().max(1)).unwrap_or(DELETED)
     }
 
     /// Whether a number passes four times the clauses so far by more than `FREE_NUMBERS`. So the
     /// table is no longer than the clauses call for, whatever numbers a proof names.
-    fn is_too_large(&self, number: u32) -> bool {
+    fn is_too_large(&self, number: u32) -> bool
+        ensures { result ≡ nat_lt (min (self.now.added + 16384) (2 ^ 64 - 1)) (number / 4) }
+    {
         (number / 4) as usize > self.added.saturating_add(FREE_NUMBERS / 4)
     }
 
     /// Appends a clause, which this number names from now on. `Twice` is answered where the number
     /// was used before, and `Large` where it skips too many.
     pub(crate) fn add(&mut self, number: u32, clause: &[Lit]) -> Result<(), RefutationError>
-        ensures ok { OnOk result (self.new ≡ self.old ++ clause.now ∷ []) }
-        ensures err { OnErr result (self.new ≡ self.old) }
+        ensures ok { OnOk result (self.new.clauses ≡ self.old.clauses ++ clause.now ∷ []) }
+        ensures err { OnErr result (self.new.clauses ≡ self.old.clauses) }
         ensures no_stream { IsErrOf result RefutationError.Stream → ⊥ }
+        ensures moves { (live : Live) (said : List Lit) → Holds self.old live
+            → SaysSame (Some clause.now) (Some said)
+            → Moves self.new result (numbered_clause live number said) }
+        ensures in_row { IsInRow self.old → IsTable self.old → number ≡ self.old.added + 1
+            → OnOk result (IsInRow self.new) }
     {
         if entry(&self.places, number) != UNUSED {
             return Err(RefutationError::Twice);
@@ -143,9 +164,10 @@ impl Numbered {
         if self.is_too_large(number) {
             return Err(RefutationError::Large);
         }
-        let Ok(place) = u32::try_from(self.clauses.len() + 1) else {
+        if self.clauses.len() >= (DELETED - 1) as usize {
             return Err(RefutationError::Memory);
-        };
+        }
+        let place = (self.clauses.len() + 1) as u32;
         self.numbers.push(number)?;
         put_entry(&mut self.places, number, place)?;
         self.clauses.push(clause)?;
@@ -156,7 +178,7 @@ impl Numbered {
 
     /// The place of the clause that a number names, if any.
     pub(crate) fn place(&self, number: u32) -> Option<usize>
-        ensures { IfSome result (λ i. i < length self.now) }
+        ensures { result ≡ place_in self.now number }
     {
         let place = entry(&self.places, number).checked_sub(1)? as usize;
         if place < self.clauses.len() {
@@ -168,8 +190,10 @@ impl Numbered {
 
     /// Deletes the clause that a number names, which names none from now on.
     pub(crate) fn remove(&mut self, number: u32) -> Result<(), RefutationError>
-        ensures same { self.new ≡ self.old }
+        ensures same { self.new.clauses ≡ self.old.clauses }
         ensures no_stream { IsErrOf result RefutationError.Stream → ⊥ }
+        ensures moves { (live : Live) → Holds self.old live
+            → Moves self.new result (deleted live (number ∷ [])) }
     {
         let Some(place) = self.place(number) else {
             return Err(RefutationError::Unnamed);
@@ -184,8 +208,10 @@ impl Numbered {
     /// Frees the memory of deleted clauses, where most literals are of those. Each clause that is
     /// left was there.
     pub(crate) fn reclaim(&mut self) -> Result<(), RefutationError>
-        ensures kept { OnOk result (All (Contains self.old) self.new) }
-        ensures err { OnErr result (self.new ≡ self.old) }
+        ensures kept { OnOk result (All (Contains self.old.clauses) self.new.clauses) }
+        ensures err { OnErr result (self.new.clauses ≡ self.old.clauses) }
+        ensures holds { (live : Live) → Holds self.old live → OnOk result (Holds self.new live) }
+        ensures memory { OnlyMemory result }
         ensures no_stream { IsErrOf result RefutationError.Stream → ⊥ }
     {
         if self.deleted <= self.live {
@@ -196,8 +222,9 @@ impl Numbered {
 
     /// Moves the clauses together that numbers name.
     fn compact(&mut self) -> Result<(), MemoryError>
-        ensures kept { OnOk result (All (Contains self.old) self.new) }
-        ensures err { OnErr result (self.new ≡ self.old) }
+        ensures kept { OnOk result (All (Contains self.old.clauses) self.new.clauses) }
+        ensures err { OnErr result (self.new.clauses ≡ self.old.clauses) }
+        ensures holds { (live : Live) → Holds self.old live → OnOk result (Holds self.new live) }
     {
         let mut clauses = LitVvec::new(self.alloc);
         let mut numbers = Vec::new(self.alloc);
@@ -216,7 +243,7 @@ impl Numbered {
 
     /// The clauses.
     pub(crate) fn clauses(&self) -> &LitVvec
-        ensures { result.now ≡ self.now }
+        ensures { result.now ≡ self.now.clauses }
     {
         &self.clauses
     }

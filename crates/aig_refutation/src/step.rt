@@ -1,7 +1,9 @@
 //! Steps of a proof, as lines of text.
 
-ghost use Rattle.std.specs.Prelude.{◌≡◌, ◌<◌, ◌≤◌, ◌^◌, IfOk, IsErrOf, IsTrue, OnOk, true};
-ghost use Rattle.aig_refutation.specs.Words.{rest};
+ghost use Rattle.std.specs.Prelude.{◌≡◌, ◌<◌, ◌≤◌, ◌^◌, [], Some, IfOk, IsErrOf, IsTrue, OnOk, false, true};
+ghost use Rattle.aig_refutation.specs.Proofs.{after_clause, clause_number, literal_of};
+ghost use Rattle.aig_refutation.specs.Reading.{GivesStep, reads_added, reads_after, reads_clause, reads_deleted, reads_dropped, reads_numbers, said_by};
+ghost use Rattle.aig_refutation.specs.Words.{Answers, Gives, IsClosed, Tries, is_last, place, rest, said_number};
 
 use crate::error::RefutationError;
 use crate::words::{End, Number, Word, Words};
@@ -26,7 +28,8 @@ pub(crate) struct Step {
 
 /// The number of a clause.
 fn clause_number(number: Number) -> Result<u32, RefutationError>
-    ensures { IsErrOf result RefutationError.Stream → ⊥ }
+    ensures no_stream { IsErrOf result RefutationError.Stream → ⊥ }
+    ensures number { Answers (λ n. n) (clause_number (said_number number)) result }
 {
     if number.positive && number.value != 0 {
         Ok(number.value)
@@ -38,7 +41,8 @@ fn clause_number(number: Number) -> Result<u32, RefutationError>
 /// The literal of a number: one more than its variable's number, and negative where it is inverted.
 fn literal(number: Number, variables: usize) -> Result<Lit, RefutationError>
     requires { variables ≤ 2 ^ 31 }
-    ensures { IsErrOf result RefutationError.Stream → ⊥ }
+    ensures no_stream { IsErrOf result RefutationError.Stream → ⊥ }
+    ensures literal { Answers (λ lit. lit) (literal_of variables (said_number number)) result }
 {
     let Some(variable) = number.value.checked_sub(1) else {
         return Err(RefutationError::Line);
@@ -60,6 +64,10 @@ fn read_clause<R: Source>(
     requires { variables ≤ 2 ^ 31 }
     ensures stream { IsErrOf result RefutationError.Stream → R.failed r.new ≡ true }
     ensures fewer { OnOk result (rest R.pulls words.new r.new ≤ rest R.pulls words.old r.old) }
+    ensures clause { Gives (λ done. clause.new.items)
+        (reads_clause variables (said_number first) clause.old.items)
+        (place R.left R.failed R.pulls words.old r.old)
+        (place R.left R.failed R.pulls words.new r.new) result }
 {
     let mut number = first;
     while number.value != 0 {
@@ -81,6 +89,11 @@ fn read_numbers<R: Source>(
     requires { negative ≡ RefutationError.Stream → ⊥ }
     ensures stream { IsErrOf result RefutationError.Stream → R.failed r.new ≡ true }
     ensures fewer { OnOk result (rest R.pulls words.new r.new ≤ rest R.pulls words.old r.old) }
+    ensures numbers { Gives (λ done. numbers.new.items)
+        (reads_numbers negative (said_number first) numbers.old.items)
+        (place R.left R.failed R.pulls words.old r.old)
+        (place R.left R.failed R.pulls words.new r.new) result }
+    ensures closed { OnOk result (IsClosed words.new.end) }
 {
     let mut number = first;
     while number.value != 0 {
@@ -95,7 +108,9 @@ fn read_numbers<R: Source>(
 
 impl Step {
     /// A step to be read.
-    pub(crate) fn new(alloc: Global) -> Step {
+    pub(crate) fn new(alloc: Global) -> Step
+        ensures { result.is_numbered ≡ false }
+    {
         Step {
             is_numbered: false,
             deletes: false,
@@ -117,6 +132,9 @@ impl Step {
         ensures stream { IsErrOf result RefutationError.Stream → R.failed r.new ≡ true }
         ensures fewer { IfOk result (λ there. IsTrue there
             → rest R.pulls words.new r.new < rest R.pulls words.old r.old) }
+        ensures step { GivesStep self.old.is_numbered variables (said_by self.new)
+            (place R.left R.failed R.pulls words.old r.old)
+            (place R.left R.failed R.pulls words.new r.new) result }
     {
         self.clause.clear();
         self.numbers.clear();
@@ -139,6 +157,10 @@ impl Step {
         requires { variables ≤ 2 ^ 31 }
         ensures stream { IsErrOf result RefutationError.Stream → R.failed r.new ≡ true }
         ensures fewer { OnOk result (rest R.pulls words.new r.new ≤ rest R.pulls words.old r.old) }
+        ensures step { Gives (λ done. said_by self.new) (reads_dropped variables)
+            (place R.left R.failed R.pulls words.old r.old)
+            (place R.left R.failed R.pulls words.new r.new) result }
+        ensures closed { OnOk result (IsClosed words.new.end) }
     {
         self.is_numbered = false;
         self.deletes = true;
@@ -158,6 +180,12 @@ impl Step {
         requires { variables ≤ 2 ^ 31 }
         ensures stream { IsErrOf result RefutationError.Stream → R.failed r.new ≡ true }
         ensures fewer { OnOk result (rest R.pulls words.new r.new ≤ rest R.pulls words.old r.old) }
+        ensures step { self.old.clause.items ≡ [] → self.old.numbers.items ≡ []
+            → Gives (λ done. said_by self.new)
+            (reads_after self.old.is_numbered variables (said_number first))
+            (place R.left R.failed R.pulls words.old r.old)
+            (place R.left R.failed R.pulls words.new r.new) result }
+        ensures closed { OnOk result (IsClosed words.new.end) }
     {
         self.deletes = false;
         match words.next(r)? {
@@ -180,6 +208,11 @@ impl Step {
     ) -> Result<(), RefutationError>
         ensures stream { IsErrOf result RefutationError.Stream → R.failed r.new ≡ true }
         ensures fewer { OnOk result (rest R.pulls words.new r.new ≤ rest R.pulls words.old r.old) }
+        ensures step { self.old.numbers.items ≡ []
+            → Gives (λ done. said_by self.new) (reads_deleted (said_number number))
+            (place R.left R.failed R.pulls words.old r.old)
+            (place R.left R.failed R.pulls words.new r.new) result }
+        ensures closed { OnOk result (IsClosed words.new.end) }
     {
         self.is_numbered = true;
         self.deletes = true;
@@ -201,6 +234,13 @@ impl Step {
         requires { variables ≤ 2 ^ 31 }
         ensures stream { IsErrOf result RefutationError.Stream → R.failed r.new ≡ true }
         ensures fewer { OnOk result (rest R.pulls words.new r.new ≤ rest R.pulls words.old r.old) }
+        ensures step { self.old.deletes ≡ false → self.old.clause.items ≡ []
+            → self.old.numbers.items ≡ []
+            → Gives (λ done. said_by self.new)
+            (reads_added self.old.is_numbered variables (said_number first) (said_number second))
+            (place R.left R.failed R.pulls words.old r.old)
+            (place R.left R.failed R.pulls words.new r.new) result }
+        ensures closed { OnOk result (IsClosed words.new.end) }
     {
         read_clause(words, r, second, variables, &mut self.clause)?;
         match words.next(r)? {
@@ -224,7 +264,9 @@ impl Step {
         variables: usize,
     ) -> Result<(), RefutationError>
         requires { variables ≤ 2 ^ 31 }
-        ensures { IsErrOf result RefutationError.Stream → ⊥ }
+        ensures no_stream { IsErrOf result RefutationError.Stream → ⊥ }
+        ensures step { Tries (λ done. said_by self.new) (after_clause self.old.is_numbered variables
+            (is_last (Some end)) (said_number first) [] []) result }
     {
         if self.is_numbered {
             return Err(end.fault());

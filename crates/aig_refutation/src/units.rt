@@ -1,16 +1,26 @@
 //! Clauses that are in conflict by themselves.
 
+ghost use Rattle.std.specs.Prelude.{◌≡◌, ◌⊎◌, ℕ, [], IfOk, length, slice_index_or};
+ghost use Rattle.aig_base.specs.Clauses.{number_of_lit};
+ghost use Rattle.aig_refutation.specs.Checking.{IsInConflict};
+
 use aig_base::{Lit, LitVvec, MemoryError};
 use std::alloc::Global;
 
 /// The number of the clause that has a literal alone, or 0 where there is none.
-fn unit_of(units: &[u32], lit: Lit) -> u32 {
+fn unit_of(units: &[u32], lit: Lit) -> u32
+    ensures { result ≡ slice_index_or units.now (number_of_lit lit) 0 }
+{
     let i = u32::from(lit) as usize;
     if i < units.len() { units[i] } else { 0 }
 }
 
 /// Says which clause has a literal alone.
-fn set_unit(units: &mut [u32], lit: Lit, number: u32) {
+fn set_unit(units: &mut [u32], lit: Lit, number: u32)
+    ensures count { length units.new ≡ length units.old }
+    ensures others { (i : ℕ) → (slice_index_or units.new i 0 ≡ slice_index_or units.old i 0)
+        ⊎ (i ≡ number_of_lit lit) }
+{
     let i = u32::from(lit) as usize;
     if i < units.len() {
         units[i] = number;
@@ -23,7 +33,9 @@ pub(crate) fn find_conflict(
     alloc: Global,
     clauses: &LitVvec,
     variables: usize,
-) -> Result<Vec<u32>, MemoryError> {
+) -> Result<Vec<u32>, MemoryError>
+    ensures { IfOk result (λ hints. (hints.items ≡ []) ⊎ IsInConflict clauses.now) }
+{
     let mut units = vec![in alloc; 0; variables.saturating_mul(2)]?;
     let mut number = 0u32;
     for i in 0..clauses.len() {

@@ -4,9 +4,11 @@
 //! returns. It ends with a line feed, and the last one may end with the stream. Lines that are
 //! blank, or begin with `c` or `p`, are passed over.
 
-ghost use Rattle.std.specs.Prelude.{◌≡◌, ◌+◌, ◌<◌, ◌≤◌, ◌^◌, None, Some, IfOk, IfSome, IsErrOf, IsTrue, OnOk, true};
+ghost use Rattle.std.specs.Prelude.{◌≡◌, ◌+◌, ◌<◌, ◌≤◌, ◌^◌, ◌∷◌, [], None, Some, IfOk, IfSome, IsErrOf, IsTrue, OnOk, true};
 ghost use Rattle.aig_lexer.specs.Takes.{feed};
-ghost use Rattle.aig_refutation.specs.Words.{IsAfter, is_last, rest};
+ghost use Rattle.aig_refutation.specs.Skipping.{EndsLine, GivesDigits, SkipsBlanks, end_line};
+ghost use Rattle.aig_refutation.specs.Text.{fault, number_in, signed, word_in};
+ghost use Rattle.aig_refutation.specs.Words.{Answers, ClosesAt, Gives, GivesFirst, GivesWord, IsAfter, IsClosed, IsWord, end_after, fault_of, is_last, next_in, next_number, place, rest, said_number};
 
 use crate::error::RefutationError;
 use aig_base::Source;
@@ -45,7 +47,7 @@ pub(crate) enum Word {
 impl End {
     /// Why a line is no step that ends where a further word is needed.
     pub(crate) fn fault(self) -> RefutationError
-        ensures { result ≡ RefutationError.Stream → ⊥ }
+        ensures { result ≡ fault_of self }
     {
         match self {
             End::Line => RefutationError::Line,
@@ -56,7 +58,7 @@ impl End {
 
 /// Why a byte is refused that stands where no step has it.
 fn fault(byte: u8) -> RefutationError
-    ensures { result ≡ RefutationError.Stream → ⊥ }
+    ensures { result ≡ fault byte }
 {
     match byte {
         0..=8 | 14..=31 | 127..=255 => RefutationError::Binary,
@@ -74,6 +76,8 @@ fn skip_blanks<R: Source>(
     ensures fewer { IfOk result (λ byte. IfSome byte (λ _.
         (feed R.left R.failed R.pulls buffer.new r.new).most
         < (feed R.left R.failed R.pulls buffer.old r.old).most)) }
+    ensures skipped { SkipsBlanks (feed R.left R.failed R.pulls buffer.old r.old)
+        (feed R.left R.failed R.pulls buffer.new r.new) result }
 {
     loop {
         match buffer.next(r)? {
@@ -89,6 +93,8 @@ fn skip_line<R: Source>(buffer: &mut InputBuffer, r: &mut R) -> Result<bool, Ref
     ensures fewer { IfOk result (λ there. IsTrue there
         → (feed R.left R.failed R.pulls buffer.new r.new).most
         < (feed R.left R.failed R.pulls buffer.old r.old).most) }
+    ensures skipped { EndsLine (feed R.left R.failed R.pulls buffer.old r.old)
+        (feed R.left R.failed R.pulls buffer.new r.new) result }
 {
     while let Some(byte) = buffer.next(r)? {
         if byte == b'\n' {
@@ -110,6 +116,8 @@ fn read_digits<R: Source>(
     ensures fewer { IfOk result (λ x. IfSome x.1 (λ _.
         (feed R.left R.failed R.pulls buffer.new r.new).most
         ≤ (feed R.left R.failed R.pulls buffer.old r.old).most)) }
+    ensures digits { GivesDigits first (feed R.left R.failed R.pulls buffer.old r.old)
+        (feed R.left R.failed R.pulls buffer.new r.new) result }
 {
     if !first.is_ascii_digit() {
         return Err(fault(first));
@@ -135,16 +143,18 @@ pub(crate) struct Words {
 }
 
 impl Model for Words {
-    ghost use Rattle.aig_refutation.specs.Words.{Text, is_last};
+    ghost use Rattle.aig_refutation.specs.Words.{Text};
 
     ghost Value = { Text };
 
-    ghost view = { λ w. record { held = w.buffer; ended = is_last w.end } };
+    ghost view = { λ w. record { held = w.buffer; end = w.end } };
 }
 
 impl Words {
     /// A text none of which was taken.
-    pub(crate) fn new() -> Words {
+    pub(crate) fn new() -> Words
+        ensures { result ≡ record { held = []; end = None } }
+    {
         Words {
             buffer: InputBuffer::new(),
             end: None,
@@ -155,7 +165,7 @@ impl Words {
     #[inline(always)]
     fn end_word(&mut self, byte: Option<u8>) -> Result<(), RefutationError>
         ensures same { self.new.held ≡ self.old.held }
-        ensures ended { OnOk result (byte ≡ None → self.new.ended ≡ true) }
+        ensures ended { Answers (λ done. self.new.end) (end_after self.old.end byte) result }
         ensures no_stream { IsErrOf result RefutationError.Stream → ⊥ }
     {
         match byte {
@@ -178,6 +188,11 @@ impl Words {
         ensures stream { IsErrOf result RefutationError.Stream → R.failed r.new ≡ true }
         ensures fewer { OnOk result (rest R.pulls self.new r.new
             ≤ (feed R.left R.failed R.pulls self.old.held r.old).most + 1) }
+        ensures number { self.old.end ≡ None
+            → GivesWord (λ bytes. signed positive (number_in (digit ∷ bytes)))
+            (feed R.left R.failed R.pulls self.old.held r.old)
+            (feed R.left R.failed R.pulls self.new.held r.new) self.new.end result }
+        ensures some { IfOk result IsWord }
     {
         let (value, end) = read_digits(&mut self.buffer, r, digit)?;
         self.end_word(end)?;
@@ -190,6 +205,10 @@ impl Words {
         ensures stream { IsErrOf result RefutationError.Stream → R.failed r.new ≡ true }
         ensures fewer { OnOk result (rest R.pulls self.new r.new
             ≤ (feed R.left R.failed R.pulls self.old.held r.old).most + 1) }
+        ensures word { self.old.end ≡ None → GivesWord (λ bytes. word_in (first ∷ bytes))
+            (feed R.left R.failed R.pulls self.old.held r.old)
+            (feed R.left R.failed R.pulls self.new.held r.new) self.new.end result }
+        ensures some { IfOk result IsWord }
     {
         if first == b'd' {
             let end = self.buffer.next(r)?;
@@ -208,7 +227,7 @@ impl Words {
     /// Ends the line.
     fn end_line(&mut self, end: End) -> Word
         ensures same { self.new.held ≡ self.old.held }
-        ensures ended { self.new.ended ≡ is_last (Some end) }
+        ensures ended { self.new.end ≡ Some end }
         ensures word { result ≡ Word.End end }
     {
         self.end = Some(end);
@@ -220,6 +239,9 @@ impl Words {
         ensures stream { IsErrOf result RefutationError.Stream → R.failed r.new ≡ true }
         ensures fewer { IfOk result (λ word.
             IsAfter (rest R.pulls self.old r.old) word (rest R.pulls self.new r.new)) }
+        ensures word { Gives (λ word. word) next_in (place R.left R.failed R.pulls self.old r.old)
+            (place R.left R.failed R.pulls self.new r.new) result }
+        ensures closed { IfOk result (λ word. ClosesAt word self.new.end) }
     {
         if let Some(end) = self.end {
             return Ok(Word::End(end));
@@ -235,6 +257,9 @@ impl Words {
     pub(crate) fn number<R: Source>(&mut self, r: &mut R) -> Result<Number, RefutationError>
         ensures stream { IsErrOf result RefutationError.Stream → R.failed r.new ≡ true }
         ensures fewer { OnOk result (rest R.pulls self.new r.new < rest R.pulls self.old r.old) }
+        ensures number { Gives said_number next_number
+            (place R.left R.failed R.pulls self.old r.old)
+            (place R.left R.failed R.pulls self.new r.new) result }
     {
         match self.next(r)? {
             Word::Number(number) => Ok(number),
@@ -247,6 +272,9 @@ impl Words {
     pub(crate) fn finish<R: Source>(&mut self, r: &mut R) -> Result<(), RefutationError>
         ensures stream { IsErrOf result RefutationError.Stream → R.failed r.new ≡ true }
         ensures fewer { OnOk result (rest R.pulls self.new r.new ≤ rest R.pulls self.old r.old) }
+        ensures ended { Gives (λ end. end) end_line (place R.left R.failed R.pulls self.old r.old)
+            (place R.left R.failed R.pulls self.new r.new) result }
+        ensures closed { OnOk result (IsClosed self.new.end) }
     {
         match self.next(r)? {
             Word::End(_) => Ok(()),
@@ -259,6 +287,8 @@ impl Words {
         ensures stream { IsErrOf result RefutationError.Stream → R.failed r.new ≡ true }
         ensures fewer { IfOk result (λ word. IfSome word (λ _.
             rest R.pulls self.new r.new < rest R.pulls self.old r.old)) }
+        ensures first { GivesFirst (place R.left R.failed R.pulls self.old r.old)
+            (place R.left R.failed R.pulls self.new r.new) result }
     {
         if let Some(End::Stream) = self.end {
             return Ok(None);

@@ -16,7 +16,7 @@ use Rattle.aig_format.specs.Numbering.{node_of_variable}
 use Rattle.aig_runs.specs.Encodes.{Encodes}
 use Rattle.aig_runs.specs.Queries.{IsQueryOf, IsRefuted, IsSafeTo, query_clauses}
 use Rattle.aig_runs.proofs.Queries.{queries_ask}
-use Rattle.aig_runs.proofs.Safety.{refuted_queries_are_safe}
+use Rattle.aig_runs.proofs.SafeSteps.{refuted_queries_are_safe}
 
 -- the numbers of the literals, clause for clause
 abbrev codes_of : List (List Lit) → List (List ℕ)

@@ -8,6 +8,16 @@ mod Starting
 pub mod CircuitQueries
 pub mod Witnesses
 pub mod Queries
-pub mod Safety
+pub mod SafeSteps
 mod Examples
 mod Refuted
+mod SafetyRefuted
+mod Invariants
+mod Splicing
+mod Induction
+mod States
+mod Certificates
+mod Differing
+pub mod Below
+mod Windows
+mod SafetyExamples

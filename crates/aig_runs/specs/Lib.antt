@@ -3,3 +3,8 @@ pub mod Files
 pub mod Encodes
 pub mod Queries
 pub mod CircuitQueries
+pub mod Safety
+pub mod Inductive
+pub mod Induction
+pub mod WindowClauses
+pub mod Certificate

@@ -1,9 +1,21 @@
-//! What the clauses of an unrolled circuit say of runs, and what query clauses ask for.
+//! What the clauses of an unrolled circuit say of runs, what query clauses ask for, and answers about a file's machine that rest on
+//! proofs which are checked.
 #![tactic(auto)]
 
+mod circuits;
 mod laws;
+mod safety;
+mod window;
 
+pub use circuits::{refuted_circuit_queries_have_no_witness, safe_circuits_are_safe_machines};
 pub use laws::{
     circuit_queries_ask, circuit_witnesses_are_file_witnesses, clauses_are_circuit_runs,
     clauses_are_file_runs, queries_ask, refuted_queries_are_safe,
 };
+pub use safety::{
+    certificates_are_safe, distinct_windows_are_complete, extended_files_have_runs,
+    inductive_invariants_are_safe, inductive_windows_are_safe, invariants_are_windows,
+    refutations_are_safe, refuted_queries_have_no_witness, refuted_windows_are_inductive,
+    safe_steps_are_safe,
+};
+pub use window::Window;

@@ -10,7 +10,7 @@ use Rattle.aig_circuit.specs.Edge.{edge_to}
 use Rattle.aig_circuit.specs.Properties.{no_properties}
 use Rattle.aig_runs.specs.Queries.{last_bads}
 use Rattle.aig_witness.specs.Witness.{Witness}
-use Rattle.aig_witness_check.specs.Shown.{IsKnownWitness}
+use Rattle.aig_witness.specs.Shown.{IsKnownWitness}
 use Rattle.aig_solutions.specs.Solutions.{AreInputsTo, IsFirstTrue, IsWitnessIn, inputs_in}
 
 -- Latch 1 keeps what it has, and is bad where it is true, as input 2 is where it is false. With one

@@ -13,7 +13,7 @@ use Rattle.aig_solutions.specs.declared.words.Word.{Word}
 use Rattle.aig_solutions.specs.Lines.{GivesWord, IsLeft, IsNoMore, IsNoMoreValues, TakesValues, reached_by, reached_from, values_from, words_said}
 use Rattle.aig_solutions.specs.Reading.{◌>>=◌, finished, is_end, is_inverse, last_answer, lines_after, lines_of, literal_in, solution_from, take_words, with_literal, words_from}
 use Rattle.aig_solutions.specs.Solutions.{value_at}
-use Rattle.aig_witness_check.specs.Shown.{known_of}
+use Rattle.aig_witness.specs.Shown.{known_of}
 use Rattle.aig_solutions.proofs.SignedWords.{IsRead, error-weaker, error_tells, read_is}
 
 -- ---- one literal

@@ -4,7 +4,7 @@ use Rattle.std.specs.Prelude.{◌&&◌, nat_lt}
 use Rattle.std.specs.Option.{option_map_or}
 use Rattle.std.proofs.lemmas.Bool.{ne_eqb}
 use Rattle.std.proofs.lemmas.Option.{same_Some}
-use Rattle.aig_parsing.specs.Parse.{is_digit}
+use Rattle.aig_format.specs.Parse.{is_digit}
 use Rattle.aig_solutions.specs.declared.error.SolutionError.TheVariants as errors
 use Rattle.aig_solutions.specs.Lines.{digit_after}
 use Rattle.aig_solutions.specs.Reading.{literal_in, number_after}

@@ -27,12 +27,12 @@ use Rattle.aig_runs.specs.Encodes.{Encodes}
 use Rattle.aig_runs.specs.Files.{HasLeafValues, IsOneRun}
 use Rattle.aig_runs.specs.Queries.{IsQueryOf, IsWitness, SatisfiesBoth, last_bads}
 use Rattle.aig_witness.specs.Witness.{Witness}
-use Rattle.aig_witness_check.specs.Machine.{HasGiven, ShowsBad}
-use Rattle.aig_witness_check.specs.Shown.{known_of}
+use Rattle.aig_witness.specs.Machine.{HasGiven, ShowsBad}
+use Rattle.aig_witness.specs.Shown.{known_of}
 use Rattle.aig_solutions.specs.Solutions.{AreValuesOf, IsWitnessIn, edge_at, inputs_in, value_at}
 use Rattle.aig_format_laws.proofs.MachineRuns.{literal_same}
-use Rattle.aig_witness_check.proofs.Started.{known_is}
-use Rattle.aig_witness_check.proofs.Given.{known_not}
+use Rattle.aig_witness.proofs.Started.{known_is}
+use Rattle.aig_witness.proofs.Given.{known_not}
 
 -- ---- values
 

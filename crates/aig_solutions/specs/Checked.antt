@@ -10,7 +10,7 @@ use Rattle.aig_solutions.specs.declared.error.SolutionError.TheVariants as error
 use Rattle.aig_solutions.specs.Reading.{GivesSolution, solution_in}
 use Rattle.aig_solutions.specs.Solutions.{HasNoTrue, IsWitnessIn}
 use Rattle.aig_witness.specs.Witness.{Witness}
-use Rattle.aig_witness_check.specs.Answers.{IsWrong}
+use Rattle.aig_witness.specs.Answers.{IsWrong}
 
 -- there is a value for each variable of the clauses; where the bytes of a solver's answer are
 -- known, these are the values that they say

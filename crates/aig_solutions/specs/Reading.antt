@@ -11,11 +11,11 @@ use Rattle.std.specs.Str.{bytes_eq}
 use Rattle.std.specs.declared.alloc.Global.{Global}
 use Rattle.aig_base.specs.declared.logic.three.Lbool.{Lbool}
 use Rattle.aig_base.specs.declared.logic.three.Lbool.TheVariants.{FALSE, TRUE, NONE}
-use Rattle.aig_parsing.specs.Parse.{is_digit}
+use Rattle.aig_format.specs.Parse.{is_digit}
 use Rattle.aig_solutions.specs.declared.error.SolutionError.{SolutionError}
 use Rattle.aig_solutions.specs.declared.error.SolutionError.TheVariants as errors
 use Rattle.aig_solutions.specs.Solutions.{value_at}
-use Rattle.aig_witness_check.specs.Shown.{known_of}
+use Rattle.aig_witness.specs.Shown.{known_of}
 
 -- ---- lines and words
 

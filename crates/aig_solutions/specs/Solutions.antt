@@ -14,7 +14,7 @@ use Rattle.aig_runs.specs.Queries.{last_bads}
 use Rattle.aig_encode.specs.declared.encoding.Encoded.{Encoded}
 use Rattle.aig_witness.specs.declared.witness.Witness as lists
 use Rattle.aig_witness.specs.Witness.{Witness, said_by}
-use Rattle.aig_witness_check.specs.Shown.{known_of}
+use Rattle.aig_witness.specs.Shown.{known_of}
 
 -- the value of variable n: unknown where there is none
 abbrev pub value_at : List Lbool → ℕ → Lbool

@@ -4,15 +4,14 @@ ghost use Rattle.std.specs.Prelude.{◌≡◌, ◌+◌, ◌<◌, ◌^◌, IfErr,
 ghost use Rattle.aig_solutions.specs.Checked.{RefusesSolution, RefusesValues, SaysWitness};
 ghost use Rattle.aig_unroll.specs.Unroll.{UnrollsTo};
 ghost use Rattle.aig_witness.specs.Witness.{said_by};
-ghost use Rattle.aig_witness_check.specs.Shown.{IsKnownWitness};
+ghost use Rattle.aig_witness.specs.Shown.{IsKnownWitness};
 
 use crate::error::SolutionError;
 use crate::reading::read_solution;
 use crate::witness::witness_of;
 use aig_base::Source;
 use aig_encode::Query;
-use aig_witness::Witness;
-use aig_witness_check::check_circuit;
+use aig_witness::{Witness, check_circuit};
 use std::alloc::Global;
 
 /// Reads a solver's answer to the clauses of a query of step `k`, and returns the witness that it says.

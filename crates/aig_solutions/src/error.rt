@@ -4,7 +4,7 @@ ghost use Rattle.std.specs.Prelude.{◌≡◌};
 ghost use Rattle.aig_solutions.specs.declared.error.SolutionError.TheVariants as errors;
 
 use aig_base::{MemoryError, StreamFault};
-use aig_witness_check::WitnessFault;
+use aig_witness::WitnessFault;
 use thiserror::Error;
 
 /// Why a solver's answer gives no values, or these no witness of a bad state.

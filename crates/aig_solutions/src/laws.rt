@@ -10,7 +10,7 @@ ghost use Rattle.aig_runs.specs.Encodes.{Encodes};
 ghost use Rattle.aig_runs.specs.Queries.{IsQueryOf, SatisfiesBoth};
 ghost use Rattle.aig_solutions.specs.Solutions.{AreValuesOf, IsWitnessIn};
 ghost use Rattle.aig_witness.specs.Witness.{Witness};
-ghost use Rattle.aig_witness_check.specs.Machine.{ShowsBad};
+ghost use Rattle.aig_witness.specs.Machine.{ShowsBad};
 
 /// Law: where values are those of an assignment that satisfies both the clauses of a file's query and the further ones, the
 /// witness that they say shows a bad state of the file's machine.

@@ -134,13 +134,14 @@ fn no_values(alloc: Global, variables: usize) -> Result<Vec<Lbool>, MemoryError>
 /// The answer is a line `s SATISFIABLE`, and lines of `v` and literals, of which a 0 ends the last, after it or before it; what
 /// follows both is not read. A literal is the number of its variable and one more, with a minus where it is inverted. Blanks
 /// are spaces, tabs and carriage returns; lines of these alone, and those that begin with `c`, are passed over. (The output of
-/// the SAT competitions.) It takes memory for the values, and reads through a buffer of 4,096 bytes.
+/// the SAT competitions.) It takes memory for the values, and reads through a buffer of 16,384 bytes.
 ///
 /// # Errors
 ///
 /// `Unsatisfiable` and `Unknown` where the solver answers so, `Answer` where a line that is none of these, or the end, comes
 /// before the answer; `Line`, `Literal`, `Variable` and `Clash` name the first fault of other lines, and `Unfinished` a missing
 /// 0; `Stream` where a read failed; `Memory`.
+#[inline(never)]
 pub fn read_solution<R: Source>(
     alloc: Global,
     r: &mut R,

@@ -49,11 +49,6 @@ with_leaves name FalseTree = FalseTree
 with_leaves name (LeafTree leaf) = LeafTree (name leaf)
 with_leaves name (AndTree i s j t) = AndTree i (with_leaves name s) j (with_leaves name t)
 
--- the tree of node n with each leaf named by its place among the leaves, so that trees of two
--- circuits are compared
-abbrev pub placed_tree : List AigNode → ℕ → Tree
-placed_tree nodes n = with_leaves (leaves_before nodes) (tree_of nodes n)
-
 -- the numbers of the nodes, in order
 abbrev pub node_numbers : List AigNode → List ℕ
 node_numbers nodes = map (λ node. node.node_id) nodes

@@ -6,7 +6,8 @@ use Rattle.aig_circuit.specs.declared.node.AigNode.{AigNode}
 use Rattle.aig_circuit.specs.Node.{kind_at}
 use Rattle.aig_circuit.specs.Circuit.{Circuit, IsLeaf}
 use Rattle.aig_circuit.specs.Renumber.{kept_circuit, renumbered_kind}
-use Rattle.aig_strash.specs.Exchange.{HaveEqualTrees, IsRepresentative, IsGate, equal_up_to_exchange, representative_of, image_of, kept_before, kept_nodes, leaves_before, placed_tree}
+use Rattle.aig_circuit.specs.Tree.{tree_of}
+use Rattle.aig_strash.specs.Exchange.{HaveEqualTrees, IsRepresentative, IsGate, equal_up_to_exchange, representative_of, image_of, kept_before, kept_nodes, leaves_before, with_leaves}
 
 -- the circuit of the kept nodes, in their order; operands are put in order again, lists follow, and
 -- so do names of kept nodes
@@ -16,9 +17,11 @@ strashed c = kept_circuit (image_of c.nodes) (kept_nodes c.nodes) c
 -- Node n of the old circuit is node `number n` of the new one, in which no two nodes have trees
 -- that are equal up to exchange.
 pub record MergesTrees (old new : Circuit) (number : ℕ → ℕ) : Type 0 where
-  -- an old node's tree is that of its image
+  -- an old node's tree is that of its image, each leaf named by its place among the leaves
   pub trees : (n : ℕ) → n < length old.nodes
-      → IsTrue (equal_up_to_exchange (placed_tree new.nodes (number n)) (placed_tree old.nodes n))
+      → IsTrue (equal_up_to_exchange
+      (with_leaves (leaves_before new.nodes) (tree_of new.nodes (number n)))
+      (with_leaves (leaves_before old.nodes) (tree_of old.nodes n)))
   -- nodes have one image exactly where their trees are equal
   pub merged : (m n : ℕ) → m < length old.nodes → n < length old.nodes
       → (number m ≡ number n) ↔ HaveEqualTrees old.nodes m n

@@ -6,9 +6,9 @@ use Rattle.std.proofs.lemmas.Bool.{le-ltb}
 use Rattle.aig_format.specs.File.{NameLine, HeaderNumbers}
 use Rattle.aig_format.specs.Fits.{same_place}
 use Rattle.aig_format.specs.Spells.{is_letter}
-use Rattle.aig_parsing.specs.Parse.{◌>>=◌, parse_ended, parse_if, parse_text, parse_name, name_from}
+use Rattle.aig_format.specs.Parse.{◌>>=◌, parse_ended, parse_if, parse_text, parse_name, name_from}
 use Rattle.aig_format.specs.Letters.{count_of, is_kept}
-use Rattle.aig_parsing.specs.ParseTested.{tests_name}
+use Rattle.aig_format.specs.ParseTested.{tests_name}
 use Rattle.aig_lexer.specs.Takes.{Feed, Takes, Misses}
 use Rattle.aig_lexer.proofs.Going.{GoesOn, goes_start, goes_same, goes_call, goes_wrong, goes_nowhere, goes_done}
 use Rattle.aig_lexer.proofs.Taking.{misses_first}

@@ -6,8 +6,8 @@ use Rattle.aig_base.proofs.Mapping.{turned}
 use Rattle.aig_format.specs.File.{HeaderNumbers}
 use Rattle.aig_format.specs.Letters.{count_of}
 use Rattle.aig_format.specs.Spells.{is_letter}
-use Rattle.aig_parsing.specs.Parse.{is_comment, is_digit, parse_ended, parse_if, parse_number}
-use Rattle.aig_parsing.proofs.Numbers.{bind_some}
+use Rattle.aig_format.specs.Parse.{is_comment, is_digit, parse_ended, parse_if, parse_number}
+use Rattle.aig_format.proofs.NumberReaders.{bind_some}
 use Rattle.aig_lexer.specs.Takes.{Feed, Ends, Takes}
 use Rattle.aig_symbols.specs.NameSteps.{PlaceComes, parse_place}
 

@@ -5,7 +5,7 @@ use Rattle.std.specs.List.{AllByRecursion}
 use Rattle.std.specs.FinMap.{FinMap}
 use Rattle.aig_format.specs.File.{NameLine, HeaderNumbers}
 use Rattle.aig_format.specs.Letters.{is_kept}
-use Rattle.aig_parsing.specs.Parse.{is_comment}
+use Rattle.aig_format.specs.Parse.{is_comment}
 use Rattle.aig_lexer.specs.Takes.{Feed, Ends, Takes, Misses}
 use Rattle.aig_symbols.specs.Names.{tail_of, kept_names, node_at}
 use Rattle.aig_symbols.specs.NameSteps.{IsNoTail, parse_place, with_name}

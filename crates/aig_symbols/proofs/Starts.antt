@@ -4,7 +4,7 @@ use Rattle.std.proofs.KnownBytes.{Consumes-whole}
 use Rattle.std.proofs.lemmas.Bool.{ne_eqb, lt-ltb, le-ltb}
 use Rattle.aig_format.specs.File.{HeaderNumbers}
 use Rattle.aig_format.specs.Letters.{count_of}
-use Rattle.aig_parsing.specs.Parse.{is_comment, parse_ended, parse_if, parse_number}
+use Rattle.aig_format.specs.Parse.{is_comment, parse_ended, parse_if, parse_number}
 use Rattle.aig_lexer.specs.Takes.{Feed, Advances, Steps, Takes, Misses}
 use Rattle.aig_lexer.specs.Words.{parse_number_from}
 use Rattle.aig_lexer.proofs.Feeds.{ends_on, steps_end}

@@ -4,10 +4,10 @@ use Rattle.std.specs.Io.KnownBytes.{Consumes}
 use Rattle.std.proofs.lemmas.Option.{cond_some, IfSome_then}
 use Rattle.std.proofs.lemmas.List.{length-append}
 use Rattle.aig_format.specs.File.{NameLine, HeaderNumbers}
-use Rattle.aig_parsing.specs.Parse.{◌>>=◌, is_comment, parse_name, parse_tail}
-use Rattle.aig_parsing.specs.ParseTested.{tests_name, parse_fitting_tail}
-use Rattle.aig_parsing.proofs.Numbers.{bind_some}
-use Rattle.aig_parsing.proofs.Names.{Reads-name, name_is_some, name_goes_on}
+use Rattle.aig_format.specs.Parse.{◌>>=◌, is_comment, parse_name, parse_tail}
+use Rattle.aig_format.specs.ParseTested.{tests_name, parse_fitting_tail}
+use Rattle.aig_format.proofs.NumberReaders.{bind_some}
+use Rattle.aig_format.proofs.Names.{Reads-name, name_is_some, name_goes_on}
 use Rattle.aig_lexer.specs.Takes.{Feed, Advances, Ends, Takes, Misses}
 use Rattle.aig_lexer.proofs.Feeds.{advances_none, advances_on, ends_on}
 use Rattle.aig_lexer.proofs.Going.{known_rest}

@@ -1,7 +1,7 @@
 -- A name's bytes, one by one.
 use Rattle.std.proofs.Common.{◌≡◌, ◌≢◌, ℕ, List, [], ◌∷◌, ◌++◌, Option, Some, None, refl, ap, append_assoc, append-nil, sym}
 use Rattle.std.proofs.lemmas.Bool.{ne_eqb}
-use Rattle.aig_parsing.specs.Parse.{◌>>=◌, parse_text}
+use Rattle.aig_format.specs.Parse.{◌>>=◌, parse_text}
 
 -- a text after some bytes
 abbrev following : List ℕ → List ℕ × List ℕ → Option (List ℕ × List ℕ)

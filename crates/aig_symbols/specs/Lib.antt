@@ -1,3 +1,2 @@
-pub mod NameFaults
 pub mod Names
 pub mod NameSteps

@@ -5,9 +5,9 @@ use Rattle.std.specs.Ordering.{nat_cmp}
 use Rattle.std.specs.FinMap.{FinMap, insert}
 use Rattle.aig_format.specs.File.{HeaderNumbers}
 use Rattle.aig_format.specs.Letters.{count_of}
-use Rattle.aig_parsing.specs.Parse.{is_comment, parse_ended, parse_if, parse_map}
+use Rattle.aig_format.specs.Parse.{is_comment, parse_ended, parse_if, parse_map}
 use Rattle.aig_lexer.specs.declared.error.LexError.{LexError}
-use Rattle.aig_lexer.specs.Faults.{LexTells}
+use Rattle.aig_lexer.specs.Faults.{Tells, word_cause}
 use Rattle.aig_lexer.specs.Takes.{Feed, Ends, Takes}
 
 -- the place of a name, up to the space after it: a letter, and a position within its section
@@ -28,7 +28,7 @@ PlaceComes ns before after (Ok None) =
     (taken : List ℕ) × (is_comment taken ≡ true) × Ends before after taken
 PlaceComes ns before after (Ok (Some place)) = Takes (parse_place ns) before after place
 PlaceComes ns before after (Err e) =
-    LexTells e (IfSome before.coming (IsNoTail ns)) after.failed
+    Tells (word_cause e) (IfSome before.coming (IsNoTail ns)) after.failed
 
 -- all that was to come was taken, or a read failed
 abbrev pub TakesRest : {X E : Type 0} → Feed → Feed → Result X E → Type 0

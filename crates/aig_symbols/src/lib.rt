@@ -3,4 +3,4 @@
 
 mod names;
 
-pub use names::{NameError, read_names};
+pub use names::read_names;

@@ -4,21 +4,18 @@ ghost use Rattle.std.specs.Prelude.{◌≡◌, ◌≢◌, not, ◌||◌, ◌++�
 ghost use Rattle.std.specs.Str.{is_utf8};
 ghost use Rattle.aig_circuit.specs.Circuit.{latch_leaves};
 ghost use Rattle.aig_circuit.specs.View.{names_of};
-ghost use Rattle.aig_parsing.specs.Parse.{parse_if, parse_text};
+ghost use Rattle.aig_format.specs.Parse.{parse_if, parse_text};
 ghost use Rattle.aig_lexer.specs.Header.{numbers_of};
 ghost use Rattle.aig_lexer.specs.Takes.{Makes, feed};
-ghost use Rattle.aig_symbols.specs.NameFaults.{NameTells};
-ghost use Rattle.aig_symbols.specs.Names.{EndsWith, kept_names, tail_of};
+ghost use Rattle.aig_symbols.specs.Names.{EndsWith, kept_names, name_cause, tail_of};
 ghost use Rattle.aig_symbols.specs.NameSteps.{with_name};
 
-mod error;
 mod place;
 mod text;
 
 use aig_base::Source;
 use aig_circuit::AigLatch;
-use aig_lexer::{Header, InputBuffer};
-pub use error::NameError;
+use aig_lexer::{Header, InputBuffer, LineError};
 use place::{named_node, next_place};
 use std::alloc::{AllocFailed, Global};
 use std::collections::{BTreeSet, HashMap};
@@ -31,8 +28,8 @@ fn read_name<R: Source>(
     r: &mut R,
     node: Option<usize>,
     names: &mut HashMap<usize, String>,
-) -> Result<(), NameError>
-    ensures { Makes NameTells
+) -> Result<(), LineError>
+    ensures { Makes name_cause
         (λ _ name. names_of names.new.entries ≡ with_name node name (names_of names.old.entries))
         (feed R.left R.failed R.pulls buffer.old r.old)
         (feed R.left R.failed R.pulls buffer.new r.new) result
@@ -44,7 +41,7 @@ fn read_name<R: Source>(
     match kept_text(alloc, buffer, r) {
         Ok(text) => match names.insert(node, text) {
             Ok(_) => Ok(()),
-            Err(AllocFailed { value: (_, _text) }) => Err(NameError::Memory),
+            Err(AllocFailed { value: (_, _text) }) => Err(LineError::Memory),
         },
         Err(error) => Err(error),
     }
@@ -57,7 +54,7 @@ fn read_name<R: Source>(
 /// inputs and latches have to be UTF-8 and are answered by their nodes: `inputs` has the nodes of the inputs, and the
 /// leaves of `latchs` are those of the latches, all of them different. Other names are read and not held.
 ///
-/// Returns `Shape` where the bytes are no such names and comment, `Stream` where a read failed, and `Memory` where a growth
+/// Returns `Syntax` where the bytes are no such names and comment, `Stream` where a read failed, and `Memory` where a growth
 /// was refused.
 pub fn read_names<R: Source>(
     alloc: Global,
@@ -66,11 +63,11 @@ pub fn read_names<R: Source>(
     header: &Header,
     inputs: &[usize],
     latchs: &[AigLatch],
-) -> Result<HashMap<usize, String>, NameError>
+) -> Result<HashMap<usize, String>, LineError>
     requires inputs { length inputs.now ≡ header.now.inputs }
     requires latchs { length latchs.now ≡ header.now.latches }
     requires distinct { AllPairs (λ m n. m ≢ n) (inputs.now ++ latch_leaves latchs.now) }
-    ensures { EndsWith NameTells
+    ensures { EndsWith name_cause
         (λ map names. names_of map.entries ≡ kept_names inputs.now (latch_leaves latchs.now) names)
         (feed R.left R.failed R.pulls buffer.old r.old)
         (feed R.left R.failed R.pulls buffer.new r.new) result (tail_of (numbers_of header.now)) }
@@ -85,8 +82,8 @@ pub fn read_names<R: Source>(
         };
         match places.insert((letter, position)) {
             Ok(true) => {}
-            Ok(false) => return Err(NameError::Shape),
-            Err(_) => return Err(NameError::Memory),
+            Ok(false) => return Err(LineError::Syntax),
+            Err(_) => return Err(LineError::Memory),
         }
         let node = named_node(letter, position, inputs, latchs);
         if let Err(error) = read_name(alloc, buffer, r, node, &mut names) {

@@ -35,11 +35,7 @@ pub record Reads (c unrolled : Circuit) (k : ℕ) (y : ℕ → Bool) (x : ℕ �
   pub state : All (λ n. x 0 n ≡ y n) (latch_leaves c.latchs)
   pub others : (t : ℕ) → t ≤ k → All (λ n. x t n ≡ y (place_at c unrolled t n)) (other_leaves c)
 
--- how many nodes k further steps of a circuit with n nodes and l latches take at the most: all
--- nodes once, and for each step one for each gate and each leaf that is no latch's
-abbrev pub size_by_counts : ℕ → ℕ → ℕ → ℕ
-size_by_counts n l k = n + k * (n - 1 - l)
-
--- that bound of a circuit
+-- how many nodes k further steps of a circuit take at the most: all nodes once, and for each step
+-- one for each gate and each leaf that is no latch's
 abbrev pub unrolled_size : Circuit → ℕ → ℕ
-unrolled_size c k = size_by_counts (length c.nodes) (length c.latchs) k
+unrolled_size c k = length c.nodes + k * (length c.nodes - 1 - length c.latchs)

@@ -1,10 +1,9 @@
 //! Further steps of a circuit.
 
-ghost use Rattle.std.specs.Prelude.{◌≡◌, ◌≤◌, ◌↔◌, IfOk, IsTrue, OnErr, OnOk, length};
+ghost use Rattle.std.specs.Prelude.{◌≡◌, ◌+◌, ◌-◌, ◌*◌, ◌≤◌, ◌↔◌, IfOk, IsTrue, OnErr, OnOk, length};
 ghost use Rattle.aig_circuit.specs.Build.{Grows};
 ghost use Rattle.aig_circuit.specs.Circuit.{BeginsWith, IsCircuit};
 ghost use Rattle.aig_circuit.specs.View.{lists_circuit};
-ghost use Rattle.aig_unroll.specs.Places.{size_by_counts};
 ghost use Rattle.aig_unroll.specs.Step.{IsPrepared, IsUnrolled};
 ghost use Rattle.aig_unroll.specs.Unroll.{UnrollsBySteps, UnrollsOnce, UnrollsTo};
 
@@ -112,7 +111,7 @@ fn add_steps(
 /// Returns whether a circuit of so many nodes and latches has, with `k` steps more, at most `limit` nodes by the bound that
 /// `unroll_to` keeps. Exact for every `k` and `limit`.
 pub fn is_size_within(nodes: usize, latchs: usize, k: usize, limit: usize) -> bool
-    ensures { IsTrue result ↔ (size_by_counts nodes latchs k ≤ limit) }
+    ensures { IsTrue result ↔ (nodes + k * (nodes - 1 - latchs) ≤ limit) }
 {
     let added = nodes.saturating_sub(1).saturating_sub(latchs);
     nodes <= limit && (added == 0 || k <= (limit - nodes) / added)

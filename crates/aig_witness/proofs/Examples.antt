@@ -3,7 +3,7 @@ use Rattle.std.proofs.Common.{◌≡◌, [], ◌∷◌, None, Some, refl, sym, s
 use Rattle.std.specs.Prelude.{codes}
 use Rattle.std.specs.Fmt.{digits}
 use Rattle.aig_base.specs.declared.logic.three.Lbool.TheVariants.{FALSE, TRUE, NONE}
-use Rattle.aig_parsing.specs.Parse.{parse_digits, parse_ended, parse_number}
+use Rattle.aig_format.specs.Parse.{parse_digits, parse_ended, parse_number}
 use Rattle.std.proofs.lemmas.Option.{same_Some}
 use Rattle.aig_witness.specs.declared.error.WitnessError.TheVariants as errors
 use Rattle.aig_witness.specs.Faults.{IsFault}

@@ -7,36 +7,19 @@ use Rattle.std.proofs.lemmas.List.{map-append}
 use Rattle.std.proofs.lemmas.Option.{IfSome_then}
 use Rattle.std.proofs.KnownBytes.{Consumes-trans}
 use Rattle.aig_base.specs.declared.logic.three.Lbool.{Lbool}
-use Rattle.aig_parsing.specs.Parse.{◌>>=◌, parse_ended, parse_map, strip}
+use Rattle.aig_format.specs.Parse.{◌>>=◌, parse_ended, parse_map, strip}
+use Rattle.aig_lexer.specs.Faults.{Cause, Tells}
 use Rattle.aig_lexer.specs.Takes.{Feed, Ends, Gives, Misses, Steps, Takes}
 use Rattle.aig_lexer.specs.Words.{parse_expected}
+use Rattle.aig_lexer.proofs.Faults.{tells-weaker}
 use Rattle.aig_lexer.proofs.Taking.{takes_mapped}
 use Rattle.aig_lexer.proofs.Going.{GoesOn, goes_call, goes_done, goes_wrong, known_rest}
 use Rattle.aig_witness.specs.declared.error.WitnessError.{WitnessError}
 use Rattle.aig_witness.specs.declared.error.WitnessError.TheVariants.{Memory, Stream, Status, Property, Values}
-use Rattle.aig_witness.specs.Faults.{EndsWithout, GivesOr, HasFault, IsFault, IsFaultAfterStatus, TellsOf, WitnessTells}
+use Rattle.aig_witness.specs.Faults.{EndsWithout, GivesOr, HasFault, IsFault, IsFaultAfterStatus, property_cause, values_cause, witness_cause}
 use Rattle.aig_witness.specs.Reading.{after_comments, parse_first, parse_next, parse_parts, parse_point_after, parse_property, parse_row_after, parse_steps_after, parse_values, parse_witness, value_of_letter, witness_from}
 use Rattle.aig_witness.specs.declared.witness.Witness as lists
 use Rattle.aig_witness.specs.Witness.{Witness, parts_of, rows_of, said_by}
-
--- ---- what errors tell
-
-pub witness-weaker : (e : WitnessError) (P Q : Type 0) (failed : Bool) → (P → Q)
-    → WitnessTells e P failed → WitnessTells e Q failed
-witness-weaker Memory P Q failed f h = tt
-witness-weaker Stream P Q failed f h = h
-witness-weaker e P Q failed f h = f h
-
-pub kind-weaker : (kind e : WitnessError) (P Q : Type 0) (failed : Bool) → (P → Q)
-    → TellsOf kind e P failed → TellsOf kind e Q failed
-kind-weaker kind e P Q failed f h = witness-weaker e ((e ≡ kind) × P) ((e ≡ kind) × Q) failed
-    (λ x. (x.0, f x.1)) h
-
--- a fault of one kind, among others
-pub kind-known : (kind e : WitnessError) (P : Type 0) (Fault : WitnessError → Type 0)
-    (failed : Bool) → (P → Fault kind) → TellsOf kind e P failed → WitnessTells e (Fault e) failed
-kind-known kind e P Fault failed f h = witness-weaker e ((e ≡ kind) × P) (Fault e) failed
-    (λ x. subst Fault (sym x.0) (f x.1)) h
 
 -- what is left is read by a call
 takes_rest : {Y : Type 0} (p q : List ℕ → Option (Y × List ℕ)) (before mid after : Feed) (y : Y)
@@ -44,16 +27,16 @@ takes_rest : {Y : Type 0} (p q : List ℕ → Option (Y × List ℕ)) (before mi
 takes_rest p q before mid after y h k = goes_done p y before after
     (goes_call p q q (λ bs. Some (y, bs)) before mid after y h k (λ bs rest e. e))
 
-pub gives_rest : {X Y : Type 0} (kind : WitnessError) (view : X → Y) (p q : List ℕ
+pub gives_rest : {X Y : Type 0} (cause : WitnessError → Cause) (view : X → Y) (p q : List ℕ
     → Option (Y × List ℕ)) (before mid after : Feed) (r : Result X WitnessError)
-    → GoesOn p before q mid → Gives (TellsOf kind) view mid after r q
-    → Gives (TellsOf kind) view before after r p
-gives_rest {X} kind view p q before mid after r h k = go r k
+    → GoesOn p before q mid → Gives cause view mid after r q
+    → Gives cause view before after r p
+gives_rest {X} cause view p q before mid after r h k = go r k
   where
-    go : (r : Result X WitnessError) → Gives (TellsOf kind) view mid after r q
-        → Gives (TellsOf kind) view before after r p
+    go : (r : Result X WitnessError) → Gives cause view mid after r q
+        → Gives cause view before after r p
     go (Ok x) k = takes_rest p q before mid after (view x) h k
-    go (Err e) k = kind-weaker kind e _ _ after.failed (goes_wrong p q before mid h) k
+    go (Err e) k = tells-weaker (cause e) _ _ after.failed (goes_wrong p q before mid h) k
 
 -- ---- a line of values
 
@@ -195,20 +178,27 @@ property_begins b is bs = subst (λ k. parse_property (k ∷ bs) ≡ parse_ended
 
 -- ---- the lines after that of the status
 
-module _ (before mid : Feed) (bad : ℕ) (e : WitnessError) (failed : Bool) where
-  pub property_fault : TellsOf Property e (Misses parse_property before) failed
-      → WitnessTells e (IfSome before.coming (IsFaultAfterStatus e)) failed
-  property_fault h = kind-known Property e (Misses parse_property before) (λ e. IfSome before.coming
-      (IsFaultAfterStatus e)) failed (λ m. m) h
+module _ (before mid : Feed) (bad : ℕ) (failed : Bool) where
+  pub property_fault : (e : WitnessError)
+      → Tells (property_cause e) (Misses parse_property before) failed
+      → Tells (witness_cause e) (IfSome before.coming (IsFaultAfterStatus e)) failed
+  property_fault Stream h = h
+  property_fault Property h = h
+  property_fault Memory h = absurd h
+  property_fault Status h = absurd h
+  property_fault Values h = absurd h
 
-  pub values_fault : Takes parse_property before mid bad
-      → TellsOf Values e (Misses parse_values mid) failed
-      → WitnessTells e (IfSome before.coming (IsFaultAfterStatus e)) failed
-  values_fault k h = kind-known Values e (Misses parse_values mid) (λ e. IfSome before.coming
-      (IsFaultAfterStatus e)) failed
-      (λ m. known_rest before.coming mid.coming k.taken (IsFaultAfterStatus Values)
-      (λ lines. parse_values lines ≡ None) k.advances.consumed m
-      (λ lines none. (bad, lines, k.reads lines, none))) h
+  pub values_fault : (e : WitnessError) → Takes parse_property before mid bad
+      → Tells (values_cause e) (Misses parse_values mid) failed
+      → Tells (witness_cause e) (IfSome before.coming (IsFaultAfterStatus e)) failed
+  values_fault Memory k h = tt
+  values_fault Stream k h = h
+  values_fault Values k h =
+      known_rest before.coming mid.coming k.taken (IsFaultAfterStatus Values)
+      (λ lines. parse_values lines ≡ None) k.advances.consumed h
+      (λ lines none. (bad, lines, k.reads lines, none))
+  values_fault Status k h = absurd h
+  values_fault Property k h = absurd h
 
 -- ---- the status line
 
@@ -269,7 +259,7 @@ module _ (first : ℕ) (one : first ≡ 49) where
     gives_after after (Ok w) h = takes_rest (λ bs. parse_witness (first ∷ bs))
         (parse_map witness_from parse_parts) before mid after (said_by w) goes_status
         (takes_mapped witness_from parse_parts mid after (parts_of w) h)
-    gives_after after (Err e) h = witness-weaker e _ _ after.failed
+    gives_after after (Err e) h = tells-weaker (witness_cause e) _ _ after.failed
         (λ m. known_rest before.coming mid.coming line.taken (IsFaultFrom first e)
         (IsFaultAfterStatus e) line.advances.consumed m (fault_from e)) h
 

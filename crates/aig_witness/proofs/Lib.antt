@@ -2,3 +2,11 @@ mod Spelled
 pub mod Going
 mod Pieces
 mod Examples
+mod Simulated
+mod Zips
+pub mod Started
+mod ShownRuns
+mod Nexts
+pub mod Given
+mod Exact
+mod ShowingExamples

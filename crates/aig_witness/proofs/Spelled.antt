@@ -9,11 +9,11 @@ use Rattle.aig_base.specs.declared.logic.three.Lbool.{Lbool}
 use Rattle.aig_base.specs.declared.logic.three.Lbool.TheVariants.{FALSE, TRUE, NONE}
 use Rattle.aig_format.specs.Text.{◌then◌, Each, Ended, IsDigit, Just}
 use Rattle.aig_format.proofs.Entries.{chosen}
-use Rattle.aig_parsing.specs.Parse.{◌>>=◌, parse_both, parse_ended, parse_map, strip}
-use Rattle.aig_parsing.proofs.Numbers.{bind_some}
-use Rattle.aig_parsing.proofs.Joined.{Reads, Reads-both, Reads-ended, Reads-mapped}
-use Rattle.aig_parsing.proofs.Sections.{Reads-following}
-use Rattle.aig_parsing.proofs.Printed.{number_written}
+use Rattle.aig_format.specs.Parse.{◌>>=◌, parse_both, parse_ended, parse_map, strip}
+use Rattle.aig_format.proofs.NumberReaders.{bind_some}
+use Rattle.aig_format.proofs.Joined.{Reads, Reads-both, Reads-ended, Reads-mapped}
+use Rattle.aig_format.proofs.Sections.{Reads-following}
+use Rattle.aig_format.proofs.Printed.{number_written}
 use Rattle.aig_witness.specs.Reading.{after_comments, parse_first, parse_next, parse_parts, parse_point_after, parse_property, parse_row_after, parse_steps_after, value_of_letter, parse_witness, witness_from}
 use Rattle.aig_witness.specs.Witness.{SpellsWitness, Witness, letter_of, row_text, witness_text}
 

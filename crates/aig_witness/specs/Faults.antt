@@ -1,24 +1,34 @@
 -- Part of what is promised.
 -- What an answer tells of the bytes. (AIGER 1.9, "Witness format".)
 use Rattle.std.specs.Prelude.{◌≡◌, ◌≢◌, ℕ, Bool, true, false, List, [], codes, Option, Some, None, IfSome, Result, Ok, Err}
+use Rattle.aig_lexer.specs.Faults.{Cause, Memory, Never, Other, Stream, Tells}
 use Rattle.aig_lexer.specs.Takes.{Feed, Ends, Misses, Takes}
 use Rattle.aig_lexer.specs.Words.{parse_expected}
-use Rattle.aig_parsing.specs.Parse.{strip}
+use Rattle.aig_format.specs.Parse.{strip}
 use Rattle.aig_witness.specs.declared.error.WitnessError.{WitnessError}
 use Rattle.aig_witness.specs.declared.error.WitnessError.TheVariants as errors
 use Rattle.aig_witness.specs.declared.witness.Witness as lists
 use Rattle.aig_witness.specs.Reading.{after_comments, parse_next, parse_property, parse_values}
 use Rattle.aig_witness.specs.Witness.{said_by}
 
--- this fact, or that the stream failed; nothing, where memory ran out
-abbrev pub WitnessTells : WitnessError → Type 0 → Bool → Type 0
-WitnessTells errors.Memory P failed = Unit {0}
-WitnessTells errors.Stream P failed = failed ≡ true
-WitnessTells e P failed = P
+-- why a witness isn't read
+abbrev pub witness_cause : WitnessError → Cause
+witness_cause errors.Memory = Memory
+witness_cause errors.Stream = Stream
+witness_cause e = Other
 
--- the same, where no line but those of one kind is read
-abbrev pub TellsOf : WitnessError → WitnessError → Type 0 → Bool → Type 0
-TellsOf kind e P failed = WitnessTells e ((e ≡ kind) × P) failed
+-- why the line of the property isn't
+abbrev pub property_cause : WitnessError → Cause
+property_cause errors.Stream = Stream
+property_cause errors.Property = Other
+property_cause e = Never
+
+-- why lines of values aren't
+abbrev pub values_cause : WitnessError → Cause
+values_cause errors.Memory = Memory
+values_cause errors.Stream = Stream
+values_cause errors.Values = Other
+values_cause e = Never
 
 -- ---- which line is the first that is malformed or cut
 
@@ -48,7 +58,7 @@ abbrev pub GivesOr : {X Y : Type 0} → (WitnessError → List ℕ → Type 0) �
     → Result X WitnessError → (List ℕ → Option (Y × List ℕ)) → Type 0
 GivesOr Fault view before after (Ok x) read = Takes read before after (view x)
 GivesOr Fault view before after (Err e) read =
-    WitnessTells e (IfSome before.coming (Fault e)) after.failed
+    Tells (witness_cause e) (IfSome before.coming (Fault e)) after.failed
 
 -- a line feed was taken, or another byte or none comes, or a read failed
 abbrev pub EndsLine : {E : Type 0} → Feed → Feed → Result Bool E → Type 0
@@ -67,4 +77,5 @@ pub record EndsWithout (before after : Feed) : Type 0 where
 abbrev pub GivesNext : Feed → Feed → Result (Option lists.Witness) WitnessError → Type 0
 GivesNext before after (Ok (Some w)) = Takes parse_next before after (Some (said_by w))
 GivesNext before after (Ok None) = EndsWithout before after
-GivesNext before after (Err e) = WitnessTells e (HasFault e before.coming) after.failed
+GivesNext before after (Err e) =
+    Tells (witness_cause e) (HasFault e before.coming) after.failed

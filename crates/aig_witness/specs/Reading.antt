@@ -3,7 +3,7 @@
 use Rattle.std.specs.Prelude.{ℕ, Bool, true, false, not, ◌==◌, if◌then◌else◌, List, [], ◌∷◌, ◌++◌, codes, Option, Some, None}
 use Rattle.aig_base.specs.declared.logic.three.Lbool.{Lbool}
 use Rattle.aig_base.specs.declared.logic.three.Lbool.TheVariants.{FALSE, TRUE, NONE}
-use Rattle.aig_parsing.specs.Parse.{◌>>=◌, parse_both, parse_ended, parse_map, strip}
+use Rattle.aig_format.specs.Parse.{◌>>=◌, parse_both, parse_ended, parse_map, strip}
 use Rattle.aig_witness.specs.Witness.{Witness}
 
 -- the value of a letter

@@ -4,7 +4,7 @@ ghost use Rattle.std.specs.Prelude.{◌≡◌};
 ghost use Rattle.aig_witness.specs.declared.error.WitnessError.TheVariants as errors;
 
 use aig_base::StreamFault;
-use std::alloc::{AllocError, AllocFailed};
+use std::alloc::AllocError;
 use thiserror::Error;
 
 /// Why a witness is not read.
@@ -31,14 +31,6 @@ impl From<AllocError> for WitnessError {
     ghost from_gives = { λ _ r. r ≡ errors.Memory };
 
     fn from(_error: AllocError) -> WitnessError {
-        WitnessError::Memory
-    }
-}
-
-impl<T: Drop> From<AllocFailed<T>> for WitnessError {
-    ghost from_gives = { λ _ r. r ≡ errors.Memory };
-
-    fn from(_error: AllocFailed<T>) -> WitnessError {
         WitnessError::Memory
     }
 }

@@ -2,14 +2,14 @@
 
 ghost use Rattle.std.specs.Prelude.{◌≡◌, ◌∷◌, []};
 ghost use Rattle.aig_lexer.specs.Takes.{Gives, feed};
-ghost use Rattle.aig_witness.specs.Faults.{EndsLine, GivesNext, GivesOr, IsFault, IsFaultAfterStatus, TellsOf};
+ghost use Rattle.aig_witness.specs.Faults.{EndsLine, GivesNext, GivesOr, IsFault, IsFaultAfterStatus, property_cause, values_cause};
 ghost use Rattle.aig_witness.specs.Reading.{parse_parts, parse_property, parse_row_after, parse_steps_after, parse_values, value_of_letter, parse_witness};
 ghost use Rattle.aig_witness.specs.Witness.{parts_of, rows_of, said_by, values_of};
 
 use crate::error::WitnessError;
 use crate::witness::Witness;
 use aig_base::{Lbool, Source, StreamFault};
-use aig_lexer::{InputBuffer, LexError, ended};
+use aig_lexer::{InputBuffer, LexError, append, ended};
 use std::alloc::Global;
 
 /// The value of a letter, if it is that of one.
@@ -31,7 +31,7 @@ fn read_row<R: Source>(
     r: &mut R,
     first: u8,
 ) -> Result<Vec<Lbool>, WitnessError>
-    ensures { Gives (TellsOf WitnessError.Values) (λ row. row.items)
+    ensures { Gives values_cause (λ row. row.items)
         (feed R.left R.failed R.pulls buffer.old r.old)
         (feed R.left R.failed R.pulls buffer.new r.new) result
         (λ bs. parse_row_after [] (first ∷ bs)) }
@@ -42,7 +42,7 @@ fn read_row<R: Source>(
         let Some(value) = value_of(letter) else {
             return Err(WitnessError::Values);
         };
-        row.push(value)?;
+        append(&mut row, value)?;
         let Some(next) = buffer.next(r)? else {
             return Err(WitnessError::Values);
         };
@@ -57,7 +57,7 @@ fn read_state<R: Source>(
     buffer: &mut InputBuffer,
     r: &mut R,
 ) -> Result<Vec<Lbool>, WitnessError>
-    ensures { Gives (TellsOf WitnessError.Values) (λ row. row.items)
+    ensures { Gives values_cause (λ row. row.items)
         (feed R.left R.failed R.pulls buffer.old r.old)
         (feed R.left R.failed R.pulls buffer.new r.new) result (parse_row_after []) }
 {
@@ -84,7 +84,7 @@ fn read_steps<R: Source>(
     buffer: &mut InputBuffer,
     r: &mut R,
 ) -> Result<Vec<Vec<Lbool>>, WitnessError>
-    ensures { Gives (TellsOf WitnessError.Values) (λ steps. rows_of steps.items)
+    ensures { Gives values_cause (λ steps. rows_of steps.items)
         (feed R.left R.failed R.pulls buffer.old r.old)
         (feed R.left R.failed R.pulls buffer.new r.new) result (parse_steps_after [] []) }
 {
@@ -97,14 +97,14 @@ fn read_steps<R: Source>(
             return Ok(steps);
         }
         let row = read_row(alloc, buffer, r, first)?;
-        steps.push(row)?;
+        append(&mut steps, row)?;
     }
     Err(WitnessError::Values)
 }
 
 /// Reads the line of a bad state property: `b` and its number.
 fn read_property<R: Source>(buffer: &mut InputBuffer, r: &mut R) -> Result<u32, WitnessError>
-    ensures { Gives (TellsOf WitnessError.Property) (λ bad. bad)
+    ensures { Gives property_cause (λ bad. bad)
         (feed R.left R.failed R.pulls buffer.old r.old)
         (feed R.left R.failed R.pulls buffer.new r.new) result parse_property }
 {
@@ -124,7 +124,7 @@ fn read_values<R: Source>(
     buffer: &mut InputBuffer,
     r: &mut R,
 ) -> Result<(Vec<Lbool>, Vec<Vec<Lbool>>), WitnessError>
-    ensures { Gives (TellsOf WitnessError.Values) values_of
+    ensures { Gives values_cause values_of
         (feed R.left R.failed R.pulls buffer.old r.old)
         (feed R.left R.failed R.pulls buffer.new r.new) result parse_values }
 {

@@ -8,7 +8,7 @@ use std::process::ExitCode;
 
 const USAGE: &str =
     "usage: aigedit refine FILE, reencode FILE, unroll FILE K, move FILE, compress FILE, bads FILE, \
-    miter FILE OTHER, join FILE CERT, merge FILE OTHER";
+    reduce FILE, miter FILE OTHER, join FILE CERT, merge FILE OTHER";
 
 fn main(rt: HostRuntime) -> ExitCode {
     let ending = act(

@@ -5,7 +5,7 @@ ghost use Rattle.aig_circuit.specs.Circuit.{latch_leaves};
 ghost use Rattle.aig_format.specs.Letters.{count_of, letter_of_inputs, letter_of_latches};
 ghost use Rattle.aig_lexer.specs.Header.{numbers_of};
 ghost use Rattle.aig_lexer.specs.Takes.{feed};
-ghost use Rattle.aig_parsing.specs.Parse.{is_comment};
+ghost use Rattle.aig_format.specs.Parse.{is_comment};
 ghost use Rattle.aig_symbols.specs.Names.{node_at};
 ghost use Rattle.aig_symbols.specs.NameSteps.{PlaceComes};
 

@@ -2,7 +2,7 @@ use Rattle.std.proofs.Common.{◌≡◌, suc, ◌+◌, ◌*◌, ◌<◌, ◌≤�
 use Rattle.std.proofs.Math.Nat.{add-mul, mul-le-mul_right}
 use Rattle.std.proofs.lemmas.List.Elements.{All-drop, All-same, All-take}
 use Rattle.aig_circuit.specs.declared.edge.AigEdge.{AigEdge}
-use Rattle.aig_certify.specs.WindowClauses.{apart_clauses, pair_clauses, state_at}
+use Rattle.aig_runs.specs.WindowClauses.{apart_clauses, pair_clauses, state_at}
 use Rattle.aig_answers.proofs.Asking.{pair_cut}
 use Rattle.aig_answers.proofs.Growing.{free, free_length, free_step, more_step}
 use Rattle.aig_answers.proofs.distinct.push_apart.Goals as goal

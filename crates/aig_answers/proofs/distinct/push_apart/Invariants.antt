@@ -1,5 +1,5 @@
 use Rattle.std.proofs.Common.{◌≡◌, ◌*◌, ◌++◌, length}
-use Rattle.aig_certify.specs.WindowClauses.{apart_clauses}
+use Rattle.aig_runs.specs.WindowClauses.{apart_clauses}
 use Rattle.aig_answers.proofs.Growing.{free}
 use Rattle.aig_answers.proofs.distinct.push_apart.Given as goal
 

@@ -1,6 +1,6 @@
 use Rattle.std.proofs.Common.{◌≡◌, suc, ◌+◌, ◌*◌, ◌≤◌, ◌++◌, length, sym, ap, ◌∙◌, arith}
 use Rattle.std.proofs.Math.Nat.{add-mul, mul-le-mul_right}
-use Rattle.aig_certify.specs.WindowClauses.{apart_clauses, count_pairs, pairwise_clauses}
+use Rattle.aig_runs.specs.WindowClauses.{apart_clauses, count_pairs, pairwise_clauses}
 use Rattle.aig_answers.proofs.Growing.{free, free_length, free_step, more_step}
 use Rattle.aig_answers.proofs.Pairs.{pairs_next, some_latches}
 use Rattle.aig_answers.proofs.distinct.push_distinct.Goals as goal

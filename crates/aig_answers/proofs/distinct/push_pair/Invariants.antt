@@ -1,5 +1,5 @@
 use Rattle.std.proofs.Common.{◌≡◌, ◌++◌, length, take}
-use Rattle.aig_certify.specs.WindowClauses.{difference_clauses, variables_from}
+use Rattle.aig_runs.specs.WindowClauses.{difference_clauses, variables_from}
 use Rattle.aig_answers.proofs.Growing.{free}
 use Rattle.aig_answers.proofs.distinct.push_pair.Given as goal
 

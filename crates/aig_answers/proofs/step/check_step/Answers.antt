@@ -5,19 +5,19 @@ use Rattle.aig_answers.specs.Answers.{asked_verdict}
 use Rattle.aig_answers.proofs.Verdicts.{proof_of_step, proof_taken, query_of_step}
 use Rattle.aig_answers.proofs.step.check_step.Goals as goal
 
-pub returns-in_err-asked-clause-verdict : goal.returns-in_err-asked-clause-verdict
-returns-in_err-asked-clause-verdict g c =
+pub returns-in_err-encoded-clause-verdict : goal.returns-in_err-encoded-clause-verdict
+returns-in_err-encoded-clause-verdict g c =
     let p = err_from_is_err_and c.from_residual.result c.from_residual.ensures.1 in
-    rw (p.1, p.2) c.in_err-asked.ensures.verdict
+    rw (p.1, p.2) c.in_err-encoded.ensures.verdict
 
-pub returns-in_err-asked-clause-own : goal.returns-in_err-asked-clause-own
-returns-in_err-asked-clause-own g c =
+pub returns-in_err-encoded-clause-own : goal.returns-in_err-encoded-clause-own
+returns-in_err-encoded-clause-own g c =
     let p = err_from_is_err_and c.from_residual.result c.from_residual.ensures.1 in
-    rw (p.1, p.2) (query_of_step c.in_err-asked.field-0.0 c.in_err-asked.ensures.own)
+    rw (p.1, p.2) (query_of_step c.in_err-encoded.field-0.0 c.in_err-encoded.ensures.own)
 
 pub returns-clause-answer : goal.returns-clause-answer
 returns-clause-answer g c =
-    let o = c.in_ok-asked.ensures.answer in
+    let o = c.in_ok-encoded.ensures.answer in
     IfOk-weaker c.refute.result _ _ (λ u none. record {
       file = o.file;
       bytes = o.bytes;
@@ -27,7 +27,7 @@ returns-clause-answer g c =
     }) c.refute.ensures.refuted
 
 pub returns-clause-verdict : goal.returns-clause-verdict
-returns-clause-verdict g c = subst (Judges (asked_verdict c.args.limit c.args.k) c.args.limit _ _ _) (sym (proof_taken c.refute.result c.refute.ensures.own)) c.in_ok-asked.ensures.verdict
+returns-clause-verdict g c = subst (Judges (asked_verdict c.args.limit c.args.k) c.args.limit _ _ _) (sym (proof_taken c.refute.result c.refute.ensures.own)) c.in_ok-encoded.ensures.verdict
 
 pub returns-clause-own : goal.returns-clause-own
 returns-clause-own g c = proof_of_step c.refute.result c.refute.ensures.own

@@ -1,5 +1,5 @@
 use Rattle.std.proofs.Common.{◌≡◌, length, take}
-use Rattle.aig_certify.specs.WindowClauses.{state_edges}
+use Rattle.aig_runs.specs.WindowClauses.{state_edges}
 use Rattle.aig_answers.proofs.windows.watch.Given as goal
 
 abbrev pub invariant-loop-i : goal.invariant-loop-i

@@ -4,7 +4,7 @@ use Rattle.aig_commands.specs.declared.tool.TheConstants.{LIMIT}
 use Rattle.aig_format.specs.File.{File}
 use Rattle.aig_format.specs.Fits.{Accepts}
 use Rattle.aig_reader.specs.Verdicts.{Accepted}
-use Rattle.aig_witness_check.specs.Files.{ShowsNext, verdict_of}
+use Rattle.aig_witness.specs.Files.{ShowsNext, verdict_of}
 use Rattle.aig_calls.specs.Calls.{shown_at}
 use Rattle.aig_calls.specs.Statuses.{IsOfWitness}
 use Rattle.aig_calls.proofs.Making.{checked, not_checked}

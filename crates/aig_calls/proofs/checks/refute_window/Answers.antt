@@ -1,7 +1,7 @@
 use Rattle.std.proofs.Common.{ℕ, ◌+◌, rules}
 use Rattle.std.proofs.lemmas.Bool.{or_right}
 use Rattle.aig_answers.specs.Answers.{IsAsked, verdict_of, window_verdict}
-use Rattle.aig_certify.specs.Induction.{IsKInductive}
+use Rattle.aig_runs.specs.Induction.{IsKInductive}
 use Rattle.aig_commands.specs.declared.tool.TheConstants.{LIMIT}
 use Rattle.aig_runs.specs.Queries.{IsSafeTo}
 use Rattle.aig_calls.specs.Statuses.{IsOfProof}

@@ -1,6 +1,6 @@
 use Rattle.std.proofs.Common.{subst}
-use Rattle.aig_certify.specs.Induction.{IsKInductive}
-use Rattle.aig_certify.specs.declared.window.Window.TheVariants.{Plain}
+use Rattle.aig_runs.specs.Induction.{IsKInductive}
+use Rattle.aig_runs.specs.declared.window.Window.TheVariants.{Plain}
 use Rattle.aig_certificates.proofs.TextFiles.{at_none, one_spelled}
 use Rattle.aig_certificates.proofs.certified.check_both.Goals as goal
 

@@ -1,5 +1,5 @@
 use Rattle.aig_answers.specs.Answers.{IsAsked, asked_verdict}
-use Rattle.aig_certify.specs.Safety.{IsSafeAt}
+use Rattle.aig_runs.specs.Safety.{IsSafeAt}
 use Rattle.aig_certificates.proofs.TextFiles.{told_of_text}
 use Rattle.aig_certificates.proofs.held.check_text_step.Goals as goal
 

@@ -1,6 +1,6 @@
 use Rattle.aig_answers.specs.Answers.{IsAsked, window_verdict}
-use Rattle.aig_certify.specs.Induction.{IsKInductive}
-use Rattle.aig_certify.specs.declared.window.Window.TheVariants.{Plain}
+use Rattle.aig_runs.specs.Induction.{IsKInductive}
+use Rattle.aig_runs.specs.declared.window.Window.TheVariants.{Plain}
 use Rattle.aig_certificates.proofs.TextFiles.{told_of_text}
 use Rattle.aig_certificates.proofs.held.check_text_window.Goals as goal
 

@@ -1,7 +1,7 @@
 use Rattle.std.proofs.Common.{refl}
 use Rattle.std.proofs.lemmas.Result.{err_from_is_err_and}
 use Rattle.aig_reader.specs.declared.error.ReadError.TheVariants as read
-use Rattle.aig_witness_check.specs.declared.file.ShowError.TheVariants as shows
+use Rattle.aig_witness.specs.declared.file.ShowError.TheVariants as shows
 use Rattle.aig_checks.specs.declared.tool.CheckError.TheVariants as errors
 use Rattle.aig_checks.specs.declared.tool.TheConstants.{LIMIT}
 use Rattle.aig_checks.specs.Running.{shown_line}

@@ -1,7 +1,7 @@
 use Rattle.std.proofs.Common.{refl, subst}
 use Rattle.std.proofs.lemmas.Result.{err_from_is_err_and}
 use Rattle.aig_circuit.specs.Circuit.{Circuit}
-use Rattle.aig_witness_check.specs.Shown.{IsKnownWitness}
+use Rattle.aig_witness.specs.Shown.{IsKnownWitness}
 use Rattle.aig_checks.specs.declared.tool.TheConstants.{LIMIT}
 use Rattle.aig_checks.proofs.Outcomes.{no_query_proof, proof_refused, read_again, solution_ends}
 use Rattle.aig_checks.proofs.tool.print_witness.Goals as goal

@@ -7,7 +7,7 @@ use Rattle.aig_format.specs.Circuit.{circuit_of, edge_of, file_of}
 use Rattle.aig_format.specs.declared.FileKind.TheVariants.{Text}
 use Rattle.aig_reduction.specs.Reduction.{HaveSameWitnesses}
 use Rattle.aig_runs.specs.CircuitQueries.{HasCircuitWitness}
-use Rattle.aig_edits.specs.declared.edit.Edit.TheVariants.{Bads, Compress, Move, Reencode, Refine, Unroll}
+use Rattle.aig_edits.specs.declared.edit.Edit.TheVariants.{Bads, Compress, Move, Reduce, Reencode, Refine, Unroll}
 use Rattle.aig_edits.specs.Edits.{AreAsSafe, EditShows, IsEdited}
 use Rattle.aig_edits.proofs.edit_printing.edited_files_show.Goals as goal
 
@@ -38,4 +38,5 @@ returns c = λ edit f limit m fits made again.
           let outputs : HasCircuitWitness m k ↔ HasCircuitOutput circuit k = subst (λ d. HasCircuitWitness d k ↔ HasCircuitOutput circuit k) (sym exact) (c.outputs_become_bads.ensures circuit k) in
           let shown = c.shown_runs_are_machine_runs.ensures.outputs f limit k fits in
           (λ w. shown.0 (outputs.0 ((written k).1 w)), λ b. (written k).0 (outputs.1 (shown.1 b)))
+      | Reduce ↦ λ reduced. safe reduced.witnesses
     ]) made

@@ -1,16 +1,20 @@
-use Rattle.std.proofs.Common.{◌≡◌, ℕ, Bool, false, List, sym, subst}
+use Rattle.std.proofs.Common.{◌≡◌, ◌≤◌, ℕ, Bool, false, List, sym, subst}
 use Rattle.std.proofs.lemmas.Result.{err_from_is_err_and}
 use Rattle.aig_base.specs.Clauses.{AreBelow}
+use Rattle.aig_format.specs.Circuit.{circuit_of}
 use Rattle.aig_format.specs.File.{File}
+use Rattle.aig_format.specs.Fits.{Accepts}
+use Rattle.aig_runs.specs.Encodes.{Encodes}
 use Rattle.aig_runs.specs.Queries.{IsQueryOf, query_clauses}
 use Rattle.aig_runs.proofs.Queries.{queries_ask}
+use Rattle.aig_unroll.specs.Places.{unrolled_size}
 use Rattle.aig_encode.specs.declared.query_clauses.Query.{Query}
-use Rattle.aig_encode.specs.Encoding.{IsEncoding, IsQuery, IsWithin, encoded_verdict}
+use Rattle.aig_encode.specs.Encoding.{IsQuery, encoded_verdict}
 use Rattle.aig_reader.proofs.Verdicts.{short_of}
 use Rattle.aig_encode.proofs.queries.query.Goals as goal
 
 -- an encoded file with the query clauses is a query
-asked : (f : File) (limit k : ℕ) (optimize : Bool) (bytes : List ℕ) (q : Query) → q.extra ≡ query_clauses q.encoded.circuit k q.encoded.unrolled → IsWithin limit k bytes f → IsEncoding k optimize f q.encoded → IsQuery k optimize f q
+asked : (f : File) (limit k : ℕ) (optimize : Bool) (bytes : List ℕ) (q : Query) → q.extra ≡ query_clauses q.encoded.circuit k q.encoded.unrolled → Accepts bytes limit f × (unrolled_size (circuit_of f) k ≤ limit) → Encodes f k optimize q.encoded.circuit q.encoded.unrolled q.encoded.clauses → IsQuery k optimize f q
 asked f limit k optimize bytes q exact within encodes =
     let e = q.encoded in
     let asks = queries_ask f limit k optimize e.circuit e.unrolled e.clauses within.0.1 encodes in

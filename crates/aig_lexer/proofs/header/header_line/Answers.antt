@@ -1,5 +1,5 @@
 use Rattle.aig_format.specs.declared.FileKind.{FileKind}
-use Rattle.aig_parsing.specs.Parse.{header_from, parse_header_numbers, parse_kind}
+use Rattle.aig_format.specs.Parse.{header_from, parse_header_numbers, parse_kind}
 use Rattle.aig_lexer.proofs.Taking.{takes_both}
 use Rattle.aig_lexer.proofs.header.header_line.Goals as goal
 

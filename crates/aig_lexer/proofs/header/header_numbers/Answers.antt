@@ -1,12 +1,13 @@
 use Rattle.std.proofs.Common.{◌∙◌, ◌+◌, ◌-◌, ◌∷◌, ◌++◌, [], ◌≤◌, ℕ, None, length, refl, ap, subst, arith}
 use Rattle.std.proofs.lemmas.Result.{err_from_is_err_and}
 use Rattle.std.proofs.lemmas.List.{length-append}
-use Rattle.aig_parsing.specs.Parse.{header_from, parse_header_numbers, parse_number}
+use Rattle.aig_format.specs.Parse.{header_from, parse_header_numbers, parse_number}
 use Rattle.aig_lexer.specs.Takes.{feed, Takes, Misses}
 use Rattle.aig_lexer.proofs.Going.{goes_start, goes_call, goes_done, goes_wrong, goes_nowhere, goes_same}
 use Rattle.aig_lexer.proofs.HeaderNumbers.{numbers_following, numbers_start, numbers_too_many, numbers_stop, numbers_go, numbers_give, numbers_break, numbers_set, header_from-set}
 use Rattle.aig_lexer.proofs.Taking.{misses_where}
-use Rattle.aig_lexer.proofs.Words.{on_shape-weaker}
+use Rattle.aig_lexer.specs.Faults.{word_cause}
+use Rattle.aig_lexer.proofs.Faults.{tells-weaker}
 use Rattle.aig_lexer.proofs.header.header_numbers.Goals as goal
 use Rattle.aig_lexer.proofs.header.header_numbers.Goals.{else-end-eq10-via-then-end-eq10+else-i-ge-FEWEST, else-end-eq10-via-else-end-eq10}
 
@@ -23,7 +24,7 @@ returns-in_err-value g c =
     let p = err_from_is_err_and c.from_residual.result c.from_residual.ensures.1 in
     let h = c.loop-i.invariant in
     let now = feed g.R.Source.left g.R.Source.failed g.R.Source.pulls c.loop-i.buffer c.loop-i.r in
-    rw (p.1, p.2) (on_shape-weaker c.in_err-value.field-0.0 _ _ _
+    rw (p.1, p.2) (tells-weaker (word_cause c.in_err-value.field-0.0) _ _ _
     (λ (m : Misses parse_number now). goes_wrong parse_header_numbers (numbers_following h.written (9 - c.loop-i.i)) _ now h.goes_on (misses_where parse_number (numbers_following h.written (9 - c.loop-i.i)) now m (numbers_stop h.written c.loop-i.i c.loop-i-test.true)))
     c.in_err-value.ensures)
 

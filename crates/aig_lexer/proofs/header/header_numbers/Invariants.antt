@@ -1,5 +1,5 @@
 use Rattle.std.proofs.Common.{◌≡◌, ◌++◌, ◌-◌, ℕ, List, length, replicate}
-use Rattle.aig_parsing.specs.Parse.{parse_header_numbers}
+use Rattle.aig_format.specs.Parse.{parse_header_numbers}
 use Rattle.aig_lexer.specs.Takes.{feed}
 use Rattle.aig_lexer.proofs.Going.{GoesOn}
 use Rattle.aig_lexer.proofs.HeaderNumbers.{numbers_following}

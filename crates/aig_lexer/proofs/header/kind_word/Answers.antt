@@ -7,14 +7,15 @@ use Rattle.aig_lexer.specs.Takes.{Advances}
 use Rattle.aig_lexer.proofs.Feeds.{advances_on}
 use Rattle.aig_lexer.proofs.KindWord.{takes_word, misses_word, misses_short}
 use Rattle.aig_lexer.proofs.Taking.{byte_came}
-use Rattle.aig_lexer.proofs.Words.{on_shape-weaker}
+use Rattle.aig_lexer.specs.Faults.{word_cause}
+use Rattle.aig_lexer.proofs.Faults.{tells-weaker}
 use Rattle.aig_lexer.proofs.header.kind_word.Goals as goal
 
 pub returns-in_err-byte : goal.returns-in_err-byte
 returns-in_err-byte g c =
     let p = err_from_is_err_and c.from_residual.result c.from_residual.ensures.1 in
     let short : length (take c.loop-byte.byte-index c.loop-byte.byte-items) < 4 = omega (arith, length-take c.loop-byte.byte-index c.loop-byte.byte-items) in
-    rw (p.1, p.2) (on_shape-weaker c.in_err-byte.field-0.0 _ _ _ (misses_short _ _ _ c.loop-byte.invariant short) c.in_err-byte.ensures)
+    rw (p.1, p.2) (tells-weaker (word_cause c.in_err-byte.field-0.0) _ _ _ (misses_short _ _ _ c.loop-byte.invariant short) c.in_err-byte.ensures)
 
 pub loop-byte-preserved : goal.loop-byte-preserved
 loop-byte-preserved g c =

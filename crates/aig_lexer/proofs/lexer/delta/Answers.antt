@@ -1,4 +1,4 @@
-use Rattle.aig_parsing.specs.Parse.{parse_delta}
+use Rattle.aig_format.specs.Parse.{parse_delta}
 use Rattle.aig_lexer.proofs.Taking.{takes_front}
 use Rattle.aig_lexer.proofs.lexer.delta.Goals as goal
 

@@ -1,12 +1,13 @@
 use Rattle.std.proofs.Common.{◌∙◌, ◌∷◌, [], ◌+◌, ◌-◌, ◌*◌, ◌%◌, ℕ, None, sym, ap, arith}
 use Rattle.std.proofs.lemmas.Grind.{pow_more}
 use Rattle.std.proofs.lemmas.Result.{err_from_is_err_and}
-use Rattle.aig_parsing.specs.Parse.{parse_delta}
+use Rattle.aig_format.specs.Parse.{parse_delta}
 use Rattle.aig_lexer.specs.Takes.{feed}
 use Rattle.aig_lexer.proofs.Deltas.{groups_following, delta_starts, delta_ends, delta_gives, delta_overflows, delta_goes, delta_too_long, group_fits, place_fits}
 use Rattle.aig_lexer.proofs.Going.{goes_start, goes_taken, goes_done, goes_nowhere, goes_same}
 use Rattle.aig_lexer.proofs.Taking.{byte_came, goes_short}
-use Rattle.aig_lexer.proofs.Words.{on_shape-weaker}
+use Rattle.aig_lexer.specs.Faults.{word_cause}
+use Rattle.aig_lexer.proofs.Faults.{tells-weaker}
 use Rattle.aig_lexer.proofs.lexer.delta_by_bytes.Goals as goal
 
 pub loop-init : goal.loop-init
@@ -19,7 +20,7 @@ loop-init g c = record {
 pub returns-in_err-b : goal.returns-in_err-b
 returns-in_err-b g c =
     let p = err_from_is_err_and c.from_residual.result c.from_residual.ensures.1 in
-    rw (p.1, p.2) (on_shape-weaker c.in_err-b.field-0.0 _ _ _
+    rw (p.1, p.2) (tells-weaker (word_cause c.in_err-b.field-0.0) _ _ _
     (goes_short parse_delta (groups_following c.loop.difference c.loop.place (5 - c.loop.counter)) _ _ c.loop.invariant.goes_on (delta_ends c.loop.difference c.loop.place c.loop.counter c.loop-test.true))
     c.in_err-b.ensures)
 

@@ -1,5 +1,5 @@
 use Rattle.std.proofs.Common.{◌≡◌, ◌-◌, ◌^◌, ◌<◌}
-use Rattle.aig_parsing.specs.Parse.{parse_delta}
+use Rattle.aig_format.specs.Parse.{parse_delta}
 use Rattle.aig_lexer.specs.Takes.{feed}
 use Rattle.aig_lexer.proofs.Deltas.{groups_following}
 use Rattle.aig_lexer.proofs.Going.{GoesOn}

@@ -1,8 +1,8 @@
 use Rattle.std.proofs.Common.{◌+◌, ◌-◌, ◌*◌, ◌^◌, ◌≤◌, ℕ, List, Some, slice_index_or, arith}
 use Rattle.std.proofs.lemmas.Grind.{pow_more}
 use Rattle.std.proofs.Math.Nat.{pow-le-pow_right}
-use Rattle.aig_parsing.specs.Parse.{parse_digits}
-use Rattle.aig_parsing.proofs.Numbers.{digits_go, digits_stop}
+use Rattle.aig_format.specs.Parse.{parse_digits}
+use Rattle.aig_format.proofs.NumberReaders.{digits_go, digits_stop}
 use Rattle.aig_lexer.proofs.Front.{reads_more, is_other_than_digit}
 use Rattle.aig_lexer.proofs.lexer.digits_in.Goals as goal
 

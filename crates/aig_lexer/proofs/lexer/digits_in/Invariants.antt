@@ -1,5 +1,5 @@
 use Rattle.std.proofs.Common.{◌≡◌, ◌+◌, ◌++◌, ◌<◌, ◌^◌, ℕ, List, take}
-use Rattle.aig_parsing.specs.Parse.{parse_digits}
+use Rattle.aig_format.specs.Parse.{parse_digits}
 use Rattle.aig_lexer.proofs.lexer.digits_in.Given as goal
 
 abbrev pub invariant-loop-i : goal.invariant-loop-i

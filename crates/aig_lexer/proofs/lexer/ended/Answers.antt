@@ -1,5 +1,5 @@
 use Rattle.std.proofs.Common.{◌+◌}
-use Rattle.aig_parsing.specs.Parse.{parse_number}
+use Rattle.aig_format.specs.Parse.{parse_number}
 use Rattle.aig_lexer.proofs.Taking.{takes_front}
 use Rattle.aig_lexer.proofs.Words.{takes_ended, misses_end}
 use Rattle.aig_lexer.proofs.lexer.ended.Goals as goal

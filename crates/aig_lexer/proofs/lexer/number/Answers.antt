@@ -1,5 +1,5 @@
 use Rattle.std.proofs.Common.{◌+◌}
-use Rattle.aig_parsing.specs.Parse.{parse_number}
+use Rattle.aig_format.specs.Parse.{parse_number}
 use Rattle.aig_lexer.proofs.Taking.{takes_front}
 use Rattle.aig_lexer.proofs.lexer.number.Goals as goal
 

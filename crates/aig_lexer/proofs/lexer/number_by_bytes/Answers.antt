@@ -1,11 +1,12 @@
 use Rattle.std.proofs.Common.{◌+◌, ◌*◌, ◌-◌, ◌∷◌, [], None, refl, arith}
 use Rattle.std.proofs.lemmas.Result.{err_from_is_err_and}
-use Rattle.aig_parsing.specs.Parse.{parse_byte, parse_digits}
-use Rattle.aig_parsing.proofs.Numbers.{digits_go, digits_overflow, digits_stop, digits_end}
+use Rattle.aig_format.specs.Parse.{parse_byte, parse_digits}
+use Rattle.aig_format.proofs.NumberReaders.{digits_go, digits_overflow, digits_stop, digits_end}
 use Rattle.aig_lexer.proofs.Front.{is_other_than_digit}
 use Rattle.aig_lexer.proofs.Going.{goes_start, goes_taken, goes_done, goes_nowhere}
 use Rattle.aig_lexer.proofs.Taking.{byte_came, goes_short, takes_fewer}
-use Rattle.aig_lexer.proofs.Words.{on_shape-weaker}
+use Rattle.aig_lexer.specs.Faults.{word_cause}
+use Rattle.aig_lexer.proofs.Faults.{tells-weaker}
 use Rattle.aig_lexer.proofs.lexer.number_by_bytes.Goals as goal
 
 pub loop-b-init : goal.loop-b-init
@@ -17,7 +18,7 @@ loop-b-init g c = record {
 pub returns-in_err-b : goal.returns-in_err-b
 returns-in_err-b g c =
     let p = err_from_is_err_and c.from_residual.result c.from_residual.ensures.1 in
-    rw (p.1, p.2) (on_shape-weaker c.in_err-b.field-0.0 _ _ _
+    rw (p.1, p.2) (tells-weaker (word_cause c.in_err-b.field-0.0) _ _ _
     (goes_short (parse_digits c.args.first) (parse_digits c.loop-b.value) _ _ c.loop-b.invariant.goes_on (digits_end c.loop-b.value))
     c.in_err-b.ensures)
 

@@ -1,5 +1,5 @@
 use Rattle.std.proofs.Common.{◌<◌, ◌^◌}
-use Rattle.aig_parsing.specs.Parse.{parse_digits}
+use Rattle.aig_format.specs.Parse.{parse_digits}
 use Rattle.aig_lexer.specs.Takes.{feed}
 use Rattle.aig_lexer.proofs.Going.{GoesOn}
 use Rattle.aig_lexer.proofs.lexer.number_by_bytes.Given as goal

@@ -1,6 +1,6 @@
 use Rattle.std.proofs.Common.{◌∙◌, ◌-◌, ℕ, sym}
-use Rattle.aig_parsing.specs.Parse.{parse_digits}
-use Rattle.aig_parsing.proofs.Numbers.{number_goes, number_stops}
+use Rattle.aig_format.specs.Parse.{parse_digits}
+use Rattle.aig_format.proofs.NumberReaders.{number_goes, number_stops}
 use Rattle.aig_lexer.specs.Words.{parse_number_from}
 use Rattle.aig_lexer.specs.Takes.{feed}
 use Rattle.aig_lexer.proofs.Front.{is_other_than_digit}

@@ -1,8 +1,8 @@
 use Rattle.std.proofs.Common.{◌≡◌, suc, ◌+◌, ◌-◌, ◌≤◌, [], ◌∷◌, ◌++◌, ◌∙◌, ℕ, List, Option, length, take, drop, get_or, arith}
 use Rattle.std.proofs.lemmas.List.{take_all}
 use Rattle.std.proofs.lemmas.Option.{IfSome_then}
-use Rattle.aig_parsing.specs.Parse.{parse_digits, parse_number}
-use Rattle.aig_parsing.proofs.Numbers.{number_goes}
+use Rattle.aig_format.specs.Parse.{parse_digits, parse_number}
+use Rattle.aig_format.proofs.NumberReaders.{number_goes}
 use Rattle.aig_lexer.proofs.lexer.number_in.Goals as goal
 
 -- a number whose first digit is the first of these bytes

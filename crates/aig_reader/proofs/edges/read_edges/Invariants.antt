@@ -1,5 +1,5 @@
 use Rattle.std.proofs.Common.{◌≡◌, ℕ, List, [], ◌++◌, map}
-use Rattle.aig_parsing.specs.Parse.{parse_ended, parse_if, parse_entries}
+use Rattle.aig_format.specs.Parse.{parse_ended, parse_if, parse_entries}
 use Rattle.aig_ordering.specs.Lists.{edge_from}
 use Rattle.aig_lexer.specs.Takes.{Takes, feed}
 use Rattle.aig_reader.proofs.edges.read_edges.Given as goal

@@ -3,15 +3,17 @@ use Rattle.std.proofs.lemmas.Bool.{and_right}
 use Rattle.std.proofs.lemmas.Result.{err_from_is_err_and}
 use Rattle.aig_format.specs.declared.FileKind.{FileKind}
 use Rattle.aig_format.specs.File.{GateLine}
-use Rattle.aig_parsing.specs.ParseTested.{may_define, may_use}
+use Rattle.aig_format.specs.ParseTested.{may_define, may_use}
 use Rattle.aig_lexer.specs.Takes.{feed}
 use Rattle.aig_reader.specs.Gates.{literals_of}
+use Rattle.aig_lexer.specs.Faults.{line_cause}
+use Rattle.aig_lexer.proofs.Faults.{tells-sound}
 use Rattle.aig_reader.proofs.Defined.{has_next, last_literal, new_literal}
 use Rattle.aig_reader.proofs.GateLines.{more_gates, new_among}
 use Rattle.aig_reader.proofs.OwnLines.{misses_line, misses_own, misses_rest, takes_line}
-use Rattle.aig_reader.proofs.TestedLines.{on_line-from_shape, on_line-unfailed}
+use Rattle.aig_reader.proofs.TestedLines.{line-from_word}
 use Rattle.aig_reader.proofs.gates.gate_line.Goals as goal
-use Rattle.aig_parsing.specs.Parse.{gate_line_from, parse_operands}
+use Rattle.aig_format.specs.Parse.{gate_line_from, parse_operands}
 
 abbrev tests : FileKind → ℕ → List ℕ → GateLine → Bool
 tests kind greatest literals g = may_define kind greatest literals g.lhs && may_use kind greatest g
@@ -26,14 +28,14 @@ pub returns-in_err-lhs : goal.returns-in_err-lhs
 returns-in_err-lhs g c = λ kind greatest leaves before room h.
     let p = err_from_is_err_and c.from_residual.result c.from_residual.ensures.1 in
     let literals = leaves ++ literals_of before in
-    rw (p.1, p.2) (on_line-from_shape c.in_err-lhs.field-0.0 _ _ _ (misses_own kind 32 literals (parse_operands kind) gate_line_from (tests kind greatest literals) (feed g.R.Source.left g.R.Source.failed g.R.Source.pulls c.args.buffer.now c.args.r.now)) (c.in_err-lhs.ensures.exact kind greatest literals h.defined))
+    rw (p.1, p.2) (line-from_word c.in_err-lhs.field-0.0 _ _ _ (misses_own kind 32 literals (parse_operands kind) gate_line_from (tests kind greatest literals) (feed g.R.Source.left g.R.Source.failed g.R.Source.pulls c.args.buffer.now c.args.r.now)) (c.in_err-lhs.ensures.exact kind greatest literals h.defined))
 
 pub returns-in_err-rhs0 : goal.returns-in_err-rhs0
 returns-in_err-rhs0 g c = λ kind greatest leaves before room h.
     let p = err_from_is_err_and c.from_residual-in_err-rhs0.result c.from_residual-in_err-rhs0.ensures.1 in
     let literals = leaves ++ literals_of before in
     let own = c.in_ok-lhs.ensures.exact kind greatest literals h.defined in
-    rw (p.1, p.2) (on_line-from_shape c.in_err-rhs0.field-0.0 _ _ _ (misses_rest kind 32 literals (parse_operands kind) gate_line_from (tests kind greatest literals) _ _ c.in_ok-lhs.lhs own) (c.in_err-rhs0.ensures kind greatest literals h.defined))
+    rw (p.1, p.2) (line-from_word c.in_err-rhs0.field-0.0 _ _ _ (misses_rest kind 32 literals (parse_operands kind) gate_line_from (tests kind greatest literals) _ _ c.in_ok-lhs.lhs own) (c.in_err-rhs0.ensures kind greatest literals h.defined))
 
 pub returns-then-not-are_usable : goal.returns-then-not-are_usable
 returns-then-not-are_usable g c = λ kind greatest leaves before room h.
@@ -49,7 +51,7 @@ returns-in_err-define g c = λ kind greatest leaves before room h.
     let literals = leaves ++ literals_of before in
     let rest : ℕ × ℕ = (c.in_ok-rhs0.rhs0, c.in_ok-rhs0.rhs1) in
     let own = c.in_ok-lhs.ensures.exact kind greatest literals h.defined in
-    rw (p.1, p.2) (on_line-unfailed c.in_err-define.field-0.0 _ _ _
+    rw (p.1, p.2) (tells-sound (line_cause c.in_err-define.field-0.0) _ _ _
     (λ (no : may_define kind greatest literals c.in_ok-lhs.lhs ≡ false).
     misses_line kind 32 literals (parse_operands kind) gate_line_from (tests kind greatest literals) _ _ c.in_ok-lhs.lhs own _ rest (c.in_ok-rhs0.ensures kind greatest literals h.defined) (rw no refl))
     (c.in_err-define.ensures kind greatest literals h.defined))

@@ -1,16 +1,17 @@
 use Rattle.std.proofs.Common.{◌≡◌, ◌∙◌, ◌∷◌, ◌++◌, ◌+◌, ◌<◌, ◌≤◌, [], ℕ, List, length, ap, subst, sym, length-append, arith}
 use Rattle.std.proofs.lemmas.Result.{err_from_is_err_and}
 use Rattle.std.proofs.lemmas.List.{append-nil, length-map}
-use Rattle.aig_parsing.specs.ParseTested.{parse_gate_entry}
+use Rattle.aig_format.specs.ParseTested.{parse_gate_entry}
 use Rattle.aig_format.specs.declared.FileKind.{FileKind}
 use Rattle.aig_format.specs.File.{GateLine}
 use Rattle.aig_lexer.specs.Takes.{Feed, Takes}
 use Rattle.aig_lexer.proofs.Taking.{takes_nothing}
-use Rattle.aig_parsing.specs.Parse.{parse_entries}
+use Rattle.aig_format.specs.Parse.{parse_entries}
 use Rattle.aig_reader.specs.Gates.{literals_of}
 use Rattle.aig_reader.specs.Variables.{AreDefined}
+use Rattle.aig_lexer.specs.Faults.{line_cause}
+use Rattle.aig_lexer.proofs.Faults.{tells-weaker}
 use Rattle.aig_reader.proofs.Entries.{takes_count, takes_every, takes_more, misses_more}
-use Rattle.aig_reader.proofs.TestedLines.{on_line-weaker}
 use Rattle.aig_reader.proofs.gates.read_gates.Goals as goal
 
 -- after i gates of so many there is room for one more
@@ -40,7 +41,7 @@ returns-in_err-gate_line g c = λ kind greatest leaves room defined.
     let p = err_from_is_err_and c.from_residual-in_err-gate_line.result c.from_residual-in_err-gate_line.ensures.1 in
     let h = c.loop.invariant kind greatest leaves room defined in
     let low = one_more kind greatest leaves c.args.count c.loop.counter _ _ h.0 h.2 room c.loop-test.true in
-    rw (p.1, p.2) (on_line-weaker c.in_err-gate_line.field-0.0 _ _ _ (misses_more (parse_gate_entry kind greatest leaves) c.loop.counter c.args.count _ _ h.0 c.loop-test.true h.2) (c.in_err-gate_line.ensures kind greatest leaves h.0 low h.1))
+    rw (p.1, p.2) (tells-weaker (line_cause c.in_err-gate_line.field-0.0) _ _ _ (misses_more (parse_gate_entry kind greatest leaves) c.loop.counter c.args.count _ _ h.0 c.loop-test.true h.2) (c.in_err-gate_line.ensures kind greatest leaves h.0 low h.1))
 
 pub loop-preserved : goal.loop-preserved
 loop-preserved g c = λ kind greatest leaves room defined.

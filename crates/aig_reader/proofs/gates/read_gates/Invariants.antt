@@ -4,8 +4,8 @@ use Rattle.aig_reader.specs.Gates.{AreGates}
 use Rattle.aig_reader.specs.Variables.{AreDefined}
 use Rattle.aig_lexer.specs.Takes.{Made, feed}
 use Rattle.aig_reader.proofs.gates.read_gates.Given as goal
-use Rattle.aig_parsing.specs.ParseTested.{parse_gate_entry}
-use Rattle.aig_parsing.specs.Parse.{parse_entries}
+use Rattle.aig_format.specs.ParseTested.{parse_gate_entry}
+use Rattle.aig_format.specs.Parse.{parse_entries}
 
 abbrev pub invariant-loop : goal.invariant-loop
 invariant-loop g l =

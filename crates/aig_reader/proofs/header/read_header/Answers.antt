@@ -4,8 +4,8 @@ use Rattle.std.proofs.lemmas.Result.{err_from_is_err_and}
 use Rattle.aig_lexer.specs.Header.{numbers_of}
 use Rattle.aig_lexer.specs.Takes.{feed}
 use Rattle.aig_lexer.proofs.Taking.{takes_tested}
-use Rattle.aig_parsing.specs.Parse.{parse_header}
-use Rattle.aig_parsing.specs.ParseTested.{fits_header}
+use Rattle.aig_format.specs.Parse.{parse_header}
+use Rattle.aig_format.specs.ParseTested.{fits_header}
 use Rattle.aig_reader.proofs.HeaderLines.{no_header, unread_header}
 use Rattle.aig_reader.proofs.header.read_header.Goals as goal
 

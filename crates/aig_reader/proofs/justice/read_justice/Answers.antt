@@ -1,6 +1,6 @@
 use Rattle.std.proofs.Common.{◌∙◌, ◌++◌, ℕ, List, ap}
-use Rattle.aig_parsing.specs.Parse.{parse_numbers}
-use Rattle.aig_parsing.specs.ParseTested.{parse_literal_sets}
+use Rattle.aig_format.specs.Parse.{parse_numbers}
+use Rattle.aig_format.specs.ParseTested.{parse_literal_sets}
 use Rattle.aig_reader.proofs.TestedLines.{makes_next}
 use Rattle.aig_reader.proofs.justice.read_justice.Goals as goal
 

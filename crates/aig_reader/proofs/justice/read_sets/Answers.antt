@@ -6,8 +6,9 @@ use Rattle.std.specs.declared.alloc.Global.{Global}
 use Rattle.aig_circuit.specs.declared.edge.AigEdge.{AigEdge}
 use Rattle.aig_lexer.proofs.Taking.{takes_nothing}
 use Rattle.aig_ordering.specs.Lists.{edge_from}
+use Rattle.aig_lexer.specs.Faults.{line_cause}
+use Rattle.aig_lexer.proofs.Faults.{tells-weaker}
 use Rattle.aig_reader.proofs.Entries.{made_push, takes_set, misses_set, takes_sets}
-use Rattle.aig_reader.proofs.TestedLines.{on_line-weaker}
 use Rattle.aig_reader.proofs.justice.read_sets.Goals as goal
 
 abbrev items_of : Vec AigEdge Global → List AigEdge
@@ -27,13 +28,13 @@ returns-in_err-read_edges g c =
     let p = err_from_is_err_and c.from_residual.result c.from_residual.ensures.1 in
     let h = c.loop-size.invariant in
     let sizes = c.args.sizes.now in
-    rw (p.1, p.2) (on_line-weaker c.in_err-read_edges.field-0.0 _ _ _ (misses_set c.args.greatest sizes c.loop-size.size-index _ _ h.0 h.2 (omega arith)) c.in_err-read_edges.ensures)
+    rw (p.1, p.2) (tells-weaker (line_cause c.in_err-read_edges.field-0.0) _ _ _ (misses_set c.args.greatest sizes c.loop-size.size-index _ _ h.0 h.2 (omega arith)) c.in_err-read_edges.ensures)
 
 pub loop-size-preserved : goal.loop-size-preserved
 loop-size-preserved g c =
     let h = c.loop-size.invariant in
     let k = c.in_ok-read_edges.ensures in
-    (h.0 ++ k.0 ∷ [], push_set _ _ _ c.read_edges.new.edges h.0 k.0 h.1 (k.1 ∙ ap (λ (es : List AigEdge). es ++ map edge_from k.0) c.new-set.ensures.items) c.in_ok-push.ensures.items, takes_set c.args.greatest c.args.sizes.now c.loop-size.size-index _ _ h.0 h.2 _ k.0 k.2)
+    (h.0 ++ k.0 ∷ [], push_set _ _ _ c.read_edges.new.edges h.0 k.0 h.1 (k.1 ∙ ap (λ (es : List AigEdge). es ++ map edge_from k.0) c.new-set.ensures.items) c.in_ok-append.ensures, takes_set c.args.greatest c.args.sizes.now c.loop-size.size-index _ _ h.0 h.2 _ k.0 k.2)
 
 pub returns : goal.returns
 returns g c =

@@ -3,7 +3,7 @@ use Rattle.aig_lexer.specs.Takes.{Takes, feed}
 use Rattle.aig_ordering.specs.Lists.{edge_from}
 use Rattle.aig_reader.proofs.Entries.{set_at}
 use Rattle.aig_reader.proofs.justice.read_sets.Given as goal
-use Rattle.aig_parsing.specs.Parse.{parse_entries}
+use Rattle.aig_format.specs.Parse.{parse_entries}
 
 abbrev pub invariant-loop-size : goal.invariant-loop-size
 invariant-loop-size g l =

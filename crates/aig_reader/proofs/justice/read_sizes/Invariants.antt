@@ -1,5 +1,5 @@
 use Rattle.std.proofs.Common.{◌≡◌, ℕ, List, [], ◌++◌}
-use Rattle.aig_parsing.specs.Parse.{parse_ended, parse_entries}
+use Rattle.aig_format.specs.Parse.{parse_ended, parse_entries}
 use Rattle.aig_lexer.specs.Takes.{Takes, feed}
 use Rattle.aig_reader.proofs.justice.read_sizes.Given as goal
 

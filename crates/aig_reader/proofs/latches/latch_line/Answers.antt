@@ -3,11 +3,13 @@ use Rattle.std.proofs.lemmas.Result.{err_from_is_err_and}
 use Rattle.aig_format.specs.declared.FileKind.{FileKind}
 use Rattle.aig_format.specs.File.{LatchLine}
 use Rattle.aig_format.specs.Fits.{is_literal, is_reset}
-use Rattle.aig_parsing.specs.Parse.{latch_line_from, parse_next_and_reset}
-use Rattle.aig_parsing.specs.ParseTested.{has_next, may_define}
+use Rattle.aig_format.specs.Parse.{latch_line_from, parse_next_and_reset}
+use Rattle.aig_format.specs.ParseTested.{has_next, may_define}
 use Rattle.aig_lexer.specs.Takes.{feed}
+use Rattle.aig_lexer.specs.Faults.{line_cause}
+use Rattle.aig_lexer.proofs.Faults.{tells-sound}
 use Rattle.aig_reader.proofs.OwnLines.{misses_line, misses_own, misses_rest, takes_line}
-use Rattle.aig_reader.proofs.TestedLines.{on_line-from_shape, on_line-unfailed}
+use Rattle.aig_reader.proofs.TestedLines.{line-from_word}
 use Rattle.aig_reader.proofs.latches.latch_line.Goals as goal
 
 -- the literals before the line
@@ -27,21 +29,21 @@ pub returns-in_err-literal : goal.returns-in_err-literal
 returns-in_err-literal g c = λ kind inputs before h.
     let p = err_from_is_err_and c.from_residual.result c.from_residual.ensures.1 in
     let literals = literals_after inputs before in
-    rw (p.1, p.2) (on_line-from_shape c.in_err-literal.field-0.0 _ _ _ (misses_own kind 32 literals rest line_of (tests kind c.args.greatest literals) (feed g.R.Source.left g.R.Source.failed g.R.Source.pulls c.args.buffer.now c.args.r.now)) (c.in_err-literal.ensures.exact kind c.args.greatest literals h))
+    rw (p.1, p.2) (line-from_word c.in_err-literal.field-0.0 _ _ _ (misses_own kind 32 literals rest line_of (tests kind c.args.greatest literals) (feed g.R.Source.left g.R.Source.failed g.R.Source.pulls c.args.buffer.now c.args.r.now)) (c.in_err-literal.ensures.exact kind c.args.greatest literals h))
 
 pub returns-in_err-next : goal.returns-in_err-next
 returns-in_err-next g c = λ kind inputs before h.
     let p = err_from_is_err_and c.from_residual-in_err-next.result c.from_residual-in_err-next.ensures.1 in
     let literals = literals_after inputs before in
     let own = c.in_ok-literal.ensures.exact kind c.args.greatest literals h in
-    rw (p.1, p.2) (on_line-from_shape c.in_err-next.field-0.0 _ _ _ (misses_rest kind 32 literals rest line_of (tests kind c.args.greatest literals) _ _ c.in_ok-literal.literal own) c.in_err-next.ensures)
+    rw (p.1, p.2) (line-from_word c.in_err-next.field-0.0 _ _ _ (misses_rest kind 32 literals rest line_of (tests kind c.args.greatest literals) _ _ c.in_ok-literal.literal own) c.in_err-next.ensures)
 
 pub returns-in_err-input : goal.returns-in_err-input
 returns-in_err-input g c = λ kind inputs before h.
     let p = err_from_is_err_and c.from_residual-in_err-input.result c.from_residual-in_err-input.ensures.1 in
     let literals = literals_after inputs before in
     let own = c.in_ok-literal.ensures.exact kind c.args.greatest literals h in
-    rw (p.1, p.2) (on_line-unfailed c.in_err-input.field-0.0 _ _ _
+    rw (p.1, p.2) (tells-sound (line_cause c.in_err-input.field-0.0) _ _ _
     (λ (no : may_define kind c.args.greatest literals c.in_ok-literal.literal ≡ false).
     misses_line kind 32 literals rest line_of (tests kind c.args.greatest literals) _ _ c.in_ok-literal.literal own _ (c.in_ok-next.next, c.in_ok-next.reset) c.in_ok-next.ensures (rw no refl))
     (c.in_err-input.ensures kind c.args.greatest literals h))
@@ -52,7 +54,7 @@ returns-in_err-next-2 g c = λ kind inputs before h.
     let literals = literals_after inputs before in
     let own = c.in_ok-literal.ensures.exact kind c.args.greatest literals h in
     let first = (c.in_ok-input.ensures kind c.args.greatest literals h).0 in
-    rw (p.1, p.2) (on_line-unfailed c.in_err-next-2.field-0.0 _ _ _
+    rw (p.1, p.2) (tells-sound (line_cause c.in_err-next-2.field-0.0) _ _ _
     (λ (no : is_literal c.args.greatest c.in_ok-next.next ≡ false).
     misses_line kind 32 literals rest line_of (tests kind c.args.greatest literals) _ _ c.in_ok-literal.literal own _ (c.in_ok-next.next, c.in_ok-next.reset) c.in_ok-next.ensures (rw (first, no) refl))
     c.in_err-next-2.ensures)
@@ -64,7 +66,7 @@ returns-in_err-init g c = λ kind inputs before h.
     let own = c.in_ok-literal.ensures.exact kind c.args.greatest literals h in
     let first = (c.in_ok-input.ensures kind c.args.greatest literals h).0 in
     let second = c.in_ok-next-2.ensures.0 in
-    rw (p.1, p.2) (on_line-unfailed c.in_err-init.field-0.0 _ _ _
+    rw (p.1, p.2) (tells-sound (line_cause c.in_err-init.field-0.0) _ _ _
     (λ (no : is_reset c.in_ok-literal.literal c.in_ok-next.reset ≡ false).
     misses_line kind 32 literals rest line_of (tests kind c.args.greatest literals) _ _ c.in_ok-literal.literal own _ (c.in_ok-next.next, c.in_ok-next.reset) c.in_ok-next.ensures (rw (first, second, no) refl))
     (c.in_err-init.ensures c.in_ok-next.next))

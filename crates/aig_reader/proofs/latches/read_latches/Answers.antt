@@ -1,16 +1,17 @@
 use Rattle.std.proofs.Common.{◌≡◌, ◌∙◌, ◌∷◌, ◌++◌, ◌+◌, [], ℕ, List, length, map, ap, sym, subst, append_assoc, append-nil, length-append, arith}
 use Rattle.std.proofs.lemmas.Result.{err_from_is_err_and}
 use Rattle.std.proofs.lemmas.List.{length-map, map_push}
-use Rattle.aig_parsing.specs.ParseTested.{parse_latch_entry}
+use Rattle.aig_format.specs.ParseTested.{parse_latch_entry}
 use Rattle.aig_format.specs.declared.FileKind.{FileKind}
 use Rattle.aig_format.specs.File.{LatchLine}
 use Rattle.aig_lexer.proofs.Taking.{takes_nothing}
 use Rattle.aig_reader.specs.declared.variables.DefinedVariables.{DefinedVariables}
 use Rattle.aig_ordering.specs.Lists.{latch_of_line}
 use Rattle.aig_reader.specs.Variables.{AreDefined}
+use Rattle.aig_lexer.specs.Faults.{line_cause}
+use Rattle.aig_lexer.proofs.Faults.{tells-weaker}
 use Rattle.aig_reader.proofs.Defined.{has_next}
 use Rattle.aig_reader.proofs.Entries.{takes_count, takes_every, takes_more, misses_more, made_push}
-use Rattle.aig_reader.proofs.TestedLines.{on_line-weaker}
 use Rattle.aig_reader.proofs.latches.read_latches.Goals as goal
 
 abbrev literal_of : LatchLine → ℕ
@@ -41,14 +42,14 @@ pub returns-in_err-latch : goal.returns-in_err-latch
 returns-in_err-latch g c = λ kind inputs defined.
     let p = err_from_is_err_and c.from_residual.result c.from_residual.ensures.1 in
     let h = c.loop.invariant kind inputs defined in
-    rw (p.1, p.2) (on_line-weaker c.in_err-latch.field-0.0 _ _ _ (misses_more (parse_latch_entry kind c.args.greatest inputs) c.loop.counter c.args.count _ _ h.0 c.loop-test.true h.2) (c.in_err-latch.ensures kind inputs h.0 h.1.1))
+    rw (p.1, p.2) (tells-weaker (line_cause c.in_err-latch.field-0.0) _ _ _ (misses_more (parse_latch_entry kind c.args.greatest inputs) c.loop.counter c.args.count _ _ h.0 c.loop-test.true h.2) (c.in_err-latch.ensures kind inputs h.0 h.1.1))
 
 pub loop-preserved : goal.loop-preserved
 loop-preserved g c = λ kind inputs defined.
     let h = c.loop.invariant kind inputs defined in
     let k = c.in_ok-latch.ensures kind inputs h.0 h.1.1 in (
       h.0 ++ k.0 ∷ [],
-      (made_push latch_of_line _ h.0 k.0 _ _ _ h.1.0 k.1.0 c.in_ok-push.ensures.items, defined_push kind c.args.greatest _ inputs h.0 k.0 k.1.1),
+      (made_push latch_of_line _ h.0 k.0 _ _ _ h.1.0 k.1.0 c.in_ok-append.ensures, defined_push kind c.args.greatest _ inputs h.0 k.0 k.1.1),
       takes_more (parse_latch_entry kind c.args.greatest inputs) c.loop.counter _ _ _ h.0 k.0 h.2 k.2,
     )
 

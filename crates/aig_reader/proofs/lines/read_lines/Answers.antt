@@ -1,19 +1,20 @@
 use Rattle.std.proofs.Common.{◌++◌, ◌+◌, [], ℕ, ap, refl, sym, arith}
 use Rattle.std.specs.Prelude.{◌==◌}
 use Rattle.std.proofs.lemmas.Result.{err_from_is_err_and}
-use Rattle.aig_parsing.specs.Parse.{Parts}
-use Rattle.aig_parsing.proofs.SectionFacts.{lines_tell}
+use Rattle.aig_format.specs.Parse.{Parts}
+use Rattle.aig_format.proofs.SectionFacts.{lines_tell}
 use Rattle.aig_lexer.specs.Header.{numbers_of}
-use Rattle.aig_parsing.specs.ParseTested.{parse_fitting_sections, parse_section_lines}
+use Rattle.aig_format.specs.ParseTested.{parse_fitting_sections, parse_section_lines}
 use Rattle.aig_lexer.specs.Takes.{Feed, Makes, Misses, feed}
 use Rattle.aig_lexer.specs.declared.header.Header.{Header}
 use Rattle.aig_lexer.proofs.Taking.{misses_tested}
 use Rattle.aig_format.specs.Fits.{is_accepted_order}
 use Rattle.aig_reader.specs.declared.error.Section.TheVariants.{Inputs, Latches}
-use Rattle.aig_reader.specs.Faults.{SectionTells, error_in, gate_error_in}
+use Rattle.aig_reader.specs.Faults.{error_in, gate_error_in, section_cause}
 use Rattle.aig_reader.specs.Sections.{AreLinesOf, file_by}
+use Rattle.aig_lexer.proofs.Faults.{tells-weaker}
 use Rattle.aig_reader.proofs.TableGates.{compact_held}
-use Rattle.aig_reader.proofs.Body.{in_gates, in_section, makes_in, makes_sections, missed_in, misses_inputs, misses_latches, misses_properties, on_section-weaker}
+use Rattle.aig_reader.proofs.Body.{in_gates, in_section, makes_in, makes_sections, missed_in, misses_inputs, misses_latches, misses_properties}
 use Rattle.aig_reader.proofs.Steps.{numbered_made}
 use Rattle.aig_reader.proofs.ReadLeaves.{InputsRead, LatchesRead, inputs_read, latches_read, literals_with}
 use Rattle.aig_reader.proofs.lines.read_lines.Goals as goal
@@ -38,7 +39,7 @@ returns-in_err-result_of g c =
     let e = c.in_err-result_of.field-0.0 in
     let p = err_from_is_err_and c.from_residual.result c.from_residual.ensures.1 in
     let missed = missed_in (error_in Inputs) (in_section Inputs) _ _ _ _ c.read_inputs-inputs.result c.result_of.result e c.result_of.ensures c.in_err-result_of.was (c.read_inputs-inputs.ensures header.kind header.greatest c.requires.defined) in
-    rw (p.1, p.2) (on_section-weaker e _ _ _ (refused header (feed g.R.Source.left g.R.Source.failed g.R.Source.pulls c.args.buffer.now c.args.r.now) _ (misses_inputs header.kind (numbers_of header) (feed g.R.Source.left g.R.Source.failed g.R.Source.pulls c.args.buffer.now c.args.r.now))) missed)
+    rw (p.1, p.2) (tells-weaker (section_cause e) _ _ _ (refused header (feed g.R.Source.left g.R.Source.failed g.R.Source.pulls c.args.buffer.now c.args.r.now) _ (misses_inputs header.kind (numbers_of header) (feed g.R.Source.left g.R.Source.failed g.R.Source.pulls c.args.buffer.now c.args.r.now))) missed)
 
 -- the inputs, as they were read
 inputs_of : (g : given.Over) (c : In_ok-result_of g)
@@ -64,7 +65,7 @@ returns-in_err-result_of-2 g c =
     let e = c.in_err-result_of-2.field-0.0 in
     let p = err_from_is_err_and c.from_residual-in_err-result_of-2.result c.from_residual-in_err-result_of-2.ensures.1 in
     let missed = missed_in (error_in Latches) (in_section Latches) _ _ _ _ c.read_latches-latchs.result c.result_of-2.result e c.result_of-2.ensures c.in_err-result_of-2.was (c.read_latches-latchs.ensures header.kind inputs.literals inputs.defined) in
-    rw (p.1, p.2) (on_section-weaker e _ _ _ (refused header (feed g.R.Source.left g.R.Source.failed g.R.Source.pulls c.args.buffer.now c.args.r.now) _ (misses_latches header.kind (numbers_of header) _ _ inputs.literals inputs.takes)) missed)
+    rw (p.1, p.2) (tells-weaker (section_cause e) _ _ _ (refused header (feed g.R.Source.left g.R.Source.failed g.R.Source.pulls c.args.buffer.now c.args.r.now) _ (misses_latches header.kind (numbers_of header) _ _ inputs.literals inputs.takes)) missed)
 
 -- and the latches after them
 latches_of : (g : given.Over) (c : In_ok-result_of-2 g)
@@ -89,7 +90,7 @@ returns-in_err-read_properties g c =
     let inputs = inputs_of g at.In_ok-result_of in
     let latches = latches_of g at.In_ok-result_of-2 inputs in
     let p = err_from_is_err_and c.from_residual-in_err-read_properties.result c.from_residual-in_err-read_properties.ensures.1 in
-    rw (p.1, p.2) (on_section-weaker c.in_err-read_properties.field-0.0 _ _ _ (refused header (feed g.R.Source.left g.R.Source.failed g.R.Source.pulls c.args.buffer.now c.args.r.now) _ (misses_properties header.kind (numbers_of header) _ _ inputs.literals inputs.takes _ latches.lines latches.takes)) c.in_err-read_properties.ensures)
+    rw (p.1, p.2) (tells-weaker (section_cause c.in_err-read_properties.field-0.0) _ _ _ (refused header (feed g.R.Source.left g.R.Source.failed g.R.Source.pulls c.args.buffer.now c.args.r.now) _ (misses_properties header.kind (numbers_of header) _ _ inputs.literals inputs.takes _ latches.lines latches.takes)) c.in_err-read_properties.ensures)
 
 pub read_gates-gates-requires : goal.read_gates-gates-requires
 read_gates-gates-requires g c =
@@ -113,7 +114,7 @@ gates_of : (g : given.Over) (c : After-gates_result g)
     (feed g.R.Source.left g.R.Source.failed g.R.Source.pulls c.read_latches-latchs.new.buffer
     c.read_latches-latchs.new.r) c.read_latches-latchs.new.variables
     c.read_latches-latchs.new.latchs.items)
-    → Makes SectionTells
+    → Makes section_cause
     (λ held x. AreLinesOf (file_by c.args.header x) (c.args.header.greatest == c.args.header.inputs + c.args.header.latches + c.args.header.gates)
     (record { inputs = c.read_inputs-inputs.new.inputs; latchs = c.read_latches-latchs.new.latchs; properties = c.read_properties.new.properties }) c.read_gates-gates.new.variables held)
     (feed g.R.Source.left g.R.Source.failed g.R.Source.pulls c.args.buffer.now c.args.r.now)
@@ -148,7 +149,7 @@ returns-in_err-gates g c =
     let e = c.in_err-gates.field-0.0 in
     let p = err_from_is_err_and c.from_residual-in_err-gates.result c.from_residual-in_err-gates.ensures.1 in
     let gates = gates_of g at.After-gates_result inputs (latches_of g at.In_ok-result_of-2 inputs) in
-    rw (p.1, p.2) (on_section-weaker e _ _ _ (refused header (feed g.R.Source.left g.R.Source.failed g.R.Source.pulls c.args.buffer.now c.args.r.now) _ (λ none. none)) (rw c.in_err-gates.was at gates))
+    rw (p.1, p.2) (tells-weaker (section_cause e) _ _ _ (refused header (feed g.R.Source.left g.R.Source.failed g.R.Source.pulls c.args.buffer.now c.args.r.now) _ (λ none. none)) (rw c.in_err-gates.was at gates))
 
 pub number-requires : goal.number-requires
 number-requires g c =

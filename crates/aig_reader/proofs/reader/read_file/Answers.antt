@@ -4,8 +4,8 @@ use Rattle.std.proofs.lemmas.Result.{err_from_is_err_and}
 use Rattle.aig_circuit.specs.Circuit.{latch_leaves}
 use Rattle.aig_circuit.specs.View.{names_of}
 use Rattle.aig_circuit.specs.declared.node.AigLatch.{AigLatch}
-use Rattle.aig_parsing.specs.Parse.{file_from}
-use Rattle.aig_parsing.specs.ParseTested.{parse_fitting_header}
+use Rattle.aig_format.specs.Parse.{file_from}
+use Rattle.aig_format.specs.ParseTested.{parse_fitting_header}
 use Rattle.aig_lexer.specs.Header.{numbers_of}
 use Rattle.aig_lexer.specs.Takes.{feed}
 use Rattle.aig_lexer.proofs.Taking.{takes_both}

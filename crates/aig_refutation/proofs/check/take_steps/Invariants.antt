@@ -1,9 +1,27 @@
+use Rattle.std.proofs.Common.{◌≡◌, None}
+use Rattle.aig_refutation.specs.Checking.{Live}
 use Rattle.aig_refutation.specs.Formula.{ImpliesAll}
-use Rattle.aig_refutation.specs.Words.{rest}
+use Rattle.aig_refutation.specs.Reading.{said_by}
+use Rattle.aig_refutation.specs.Tables.{Holds}
+use Rattle.aig_refutation.specs.Words.{place, rest}
+use Rattle.aig_refutation.proofs.Outcomes.{GoesOn}
 use Rattle.aig_refutation.proofs.check.take_steps.Given as goal
 
 abbrev pub invariant-steps : goal.invariant-steps
-invariant-steps g l = ImpliesAll l.fn.checker l.checker
+invariant-steps g l = record {
+  implied : ImpliesAll l.fn.checker.table.clauses l.checker.table.clauses;
+  shown : (live : Live) → l.fn.search ≡ None → Holds l.fn.checker.table live
+      → l.fn.checker.variables ≡ l.variables
+      → record {
+        search : l.search ≡ None;
+        variables : l.checker.variables ≡ l.variables;
+        now : Live;
+        holds : Holds l.checker.table now;
+        goes : GoesOn l.variables live (said_by l.fn.step) (place g.R.Source.left g.R.Source.failed
+            g.R.Source.pulls l.fn.words l.fn.r) now (said_by l.step) (place g.R.Source.left
+            g.R.Source.failed g.R.Source.pulls l.words l.r);
+      };
+}
 
 abbrev pub decreases-steps : goal.decreases-steps
 decreases-steps g l = rest g.R.Source.pulls l.words l.r

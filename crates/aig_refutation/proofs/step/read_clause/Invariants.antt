@@ -1,9 +1,17 @@
 use Rattle.std.proofs.Common.{◌≤◌}
-use Rattle.aig_refutation.specs.Words.{rest}
+use Rattle.aig_refutation.specs.Reading.{reads_clause}
+use Rattle.aig_refutation.specs.Words.{place, rest, said_number}
+use Rattle.aig_refutation.proofs.Parts.{GoesOn}
 use Rattle.aig_refutation.proofs.step.read_clause.Given as goal
 
 abbrev pub invariant-loop-number : goal.invariant-loop-number
-invariant-loop-number g l = rest g.R.Source.pulls l.words l.r ≤ rest g.R.Source.pulls l.fn.words l.fn.r
+invariant-loop-number g l = record {
+  fewer : rest g.R.Source.pulls l.words l.r ≤ rest g.R.Source.pulls l.fn.words l.fn.r;
+  goes : GoesOn (reads_clause l.fn.variables (said_number l.fn.first) l.fn.clause.items)
+      (reads_clause l.fn.variables (said_number l.number) l.clause.items) (place g.R.Source.left
+      g.R.Source.failed g.R.Source.pulls l.fn.words l.fn.r) (place g.R.Source.left
+      g.R.Source.failed g.R.Source.pulls l.words l.r);
+}
 
 abbrev pub decreases-loop-number : goal.decreases-loop-number
 decreases-loop-number g l = rest g.R.Source.pulls l.words l.r

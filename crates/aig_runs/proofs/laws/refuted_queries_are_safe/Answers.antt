@@ -1,4 +1,4 @@
-use Rattle.aig_runs.proofs.Safety as lemma
+use Rattle.aig_runs.proofs.SafeSteps as lemma
 use Rattle.aig_runs.proofs.laws.refuted_queries_are_safe.Goals as goal
 
 pub returns : goal.returns

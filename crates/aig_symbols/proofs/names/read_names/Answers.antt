@@ -11,10 +11,12 @@ use Rattle.aig_circuit.specs.View.{names_of}
 use Rattle.aig_format.specs.Letters.{count_of}
 use Rattle.aig_lexer.specs.Header.{numbers_of}
 use Rattle.aig_lexer.specs.Takes.{feed, Misses}
+use Rattle.aig_lexer.proofs.Faults.{tells-weaker}
 use Rattle.aig_lexer.proofs.Taking.{takes_fewer}
+use Rattle.aig_symbols.specs.Names.{name_cause}
 use Rattle.aig_symbols.specs.NameSteps.{parse_place}
 use Rattle.aig_symbols.proofs.KeptNames.{equal_spots, spot_cmp}
-use Rattle.aig_symbols.proofs.NameFaults.{on_name-from_shape, on_name-weaker}
+use Rattle.aig_symbols.proofs.NameFaults.{name-from_word}
 use Rattle.aig_symbols.proofs.NameLines.{name_text_at}
 use Rattle.aig_symbols.proofs.Places.{came_place, came_end, takes_within}
 use Rattle.aig_symbols.proofs.SoFar.{so_far_none, place_refused, names_end, repeated_refused, name_refused, name_read}
@@ -32,7 +34,7 @@ returns-in-Ok-None g c =
 
 pub returns-in-Err : goal.returns-in-Err
 returns-in-Err g c =
-    rw c.into.ensures (on_name-from_shape c.in-Err.error _ _ _ (place_refused (numbers_of c.args.header.now) c.args.inputs.now (latch_leaves c.args.latchs.now) _ _ _ _ c.loop-place.invariant) c.in-Err.ensures)
+    rw c.into.ensures (name-from_word c.in-Err.error _ _ _ (place_refused (numbers_of c.args.header.now) c.args.inputs.now (latch_leaves c.args.latchs.now) _ _ _ _ c.loop-place.invariant) c.in-Err.ensures)
 
 pub returns-in-Ok-false : goal.returns-in-Ok-false
 returns-in-Ok-false g c =
@@ -58,7 +60,7 @@ pub returns-in-Err-read_name : goal.returns-in-Err-read_name
 returns-in-Err-read_name g c =
     let place = c.in-Ok-Some.place in
     let k = came_place (numbers_of c.args.header.now) _ (feed g.R.Source.left g.R.Source.failed g.R.Source.pulls c.next_place.new.buffer c.next_place.new.r) c.in-Ok-Some.field-0 place c.in-Ok-Some.ensures c.in-Ok-Some.field-0-is in
-    on_name-weaker c.in-Err-read_name.error _ _ (g.R.Source.failed c.read_name.new.r)
+    tells-weaker (name_cause c.in-Err-read_name.error) _ _ (g.R.Source.failed c.read_name.new.r)
     (λ (none : Misses (name_text_at (is_some c.named_node-node.result)) (feed g.R.Source.left g.R.Source.failed g.R.Source.pulls c.next_place.new.buffer c.next_place.new.r)). name_refused (numbers_of c.args.header.now) c.args.inputs.now (latch_leaves c.args.latchs.now) _ _ _ _ _ place c.loop-place.invariant k c.named_node-node.result c.named_node-node.ensures
     (not-true _ (sym c.in-Ok-true.ensures.added ∙ c.in-Ok-true.field-0-test)) none)
     c.in-Err-read_name.ensures

@@ -11,7 +11,7 @@ returns-in_err-bad g c =
     let p = err_from_is_err_and c.from_residual.result c.from_residual.ensures.1 in
     let before = feed g.R.Source.left g.R.Source.failed g.R.Source.pulls c.args.buffer.now
     c.args.r.now in
-    rw (p.1, p.2) (property_fault before before 0 c.in_err-bad.field-0.0 _ c.in_err-bad.ensures)
+    rw (p.1, p.2) (property_fault before before 0 _ c.in_err-bad.field-0.0 c.in_err-bad.ensures)
 
 pub returns-in_err-state : goal.returns-in_err-state
 returns-in_err-state g c =
@@ -21,7 +21,7 @@ returns-in_err-state g c =
     c.args.r.now in
     let mid = feed g.R.Source.left g.R.Source.failed g.R.Source.pulls c.read_property.new.buffer
     c.read_property.new.r in
-    rw (p.1, p.2) (values_fault before mid c.in_ok-bad.bad c.in_err-state.field-0.0 _
+    rw (p.1, p.2) (values_fault before mid c.in_ok-bad.bad _ c.in_err-state.field-0.0
     c.in_ok-bad.ensures c.in_err-state.ensures)
 
 pub returns : goal.returns

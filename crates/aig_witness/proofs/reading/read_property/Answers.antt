@@ -1,5 +1,5 @@
 use Rattle.std.proofs.Common.{Some, refl}
-use Rattle.aig_parsing.specs.Parse.{parse_ended}
+use Rattle.aig_format.specs.Parse.{parse_ended}
 use Rattle.aig_lexer.specs.Takes.{feed}
 use Rattle.aig_lexer.proofs.Going.{goes_byte, goes_call, goes_done, goes_start}
 use Rattle.aig_witness.specs.Reading.{parse_property}

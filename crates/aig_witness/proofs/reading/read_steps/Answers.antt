@@ -3,12 +3,13 @@ use Rattle.std.proofs.lemmas.Result.{err_from_is_err_and}
 use Rattle.aig_base.specs.declared.logic.three.Lbool.{Lbool}
 use Rattle.aig_lexer.specs.Takes.{feed, Misses}
 use Rattle.aig_lexer.specs.Words.{parse_expected}
+use Rattle.aig_lexer.proofs.Faults.{tells-weaker}
 use Rattle.aig_lexer.proofs.Going.{goes_byte, goes_call, goes_done, goes_end, goes_wrong}
 use Rattle.aig_lexer.proofs.Taking.{misses_where}
-use Rattle.aig_witness.specs.declared.error.WitnessError.TheVariants.{Values}
+use Rattle.aig_witness.specs.Faults.{values_cause}
 use Rattle.aig_witness.specs.Reading.{parse_point_after, parse_row_after, parse_steps_after}
 use Rattle.aig_witness.specs.Witness.{rows_of}
-use Rattle.aig_witness.proofs.Going.{kind-weaker, line_read, line_wrong, point_comes, point_ends, point_wrong, rows_more, steps_cut}
+use Rattle.aig_witness.proofs.Going.{line_read, line_wrong, point_comes, point_ends, point_wrong, rows_more, steps_cut}
 use Rattle.aig_witness.proofs.reading.read_steps.Goals as goal
 
 abbrev read : List ℕ → Option (List (List Lbool) × List ℕ)
@@ -18,15 +19,13 @@ pub returns-then-not-branch : goal.returns-then-not-branch
 returns-then-not-branch g c =
     let rows = rows_of c.loop-steps.steps.items in
     let now = feed g.R.Source.left g.R.Source.failed g.R.Source.pulls c.next.new.self
-    c.next.new.r in (
-      refl,
-      goes_wrong read (parse_point_after rows []) _ now
-          (goes_byte read (parse_steps_after rows []) (parse_point_after rows []) _ _ now
-          c.in_ok-first.field-0 c.in-Some.first c.loop-steps.invariant c.in_ok-first.ensures.steps
-          c.in-Some.is (point_comes rows c.in-Some.first c.if-first-eq46.true))
-          (misses_where (parse_expected 10) (parse_point_after rows []) now
-          (rw c.if-not-branch.true at c.in_ok-ends_line.ensures) (point_wrong rows)),
-    )
+    c.next.new.r in
+    goes_wrong read (parse_point_after rows []) _ now
+    (goes_byte read (parse_steps_after rows []) (parse_point_after rows []) _ _ now
+    c.in_ok-first.field-0 c.in-Some.first c.loop-steps.invariant c.in_ok-first.ensures.steps
+    c.in-Some.is (point_comes rows c.in-Some.first c.if-first-eq46.true))
+    (misses_where (parse_expected 10) (parse_point_after rows []) now
+    (rw c.if-not-branch.true at c.in_ok-ends_line.ensures) (point_wrong rows))
 
 pub returns-then-first-eq46 : goal.returns-then-first-eq46
 returns-then-first-eq46 g c =
@@ -54,7 +53,7 @@ returns-in_err-row g c =
     let begun = goes_byte read (parse_steps_after rows []) (λ bs. parse_steps_after rows []
     (b ∷ bs)) _ _ now c.in_ok-first.field-0 b c.loop-steps.invariant c.in_ok-first.ensures.steps
     c.in-Some.is (λ bs. refl) in
-    rw (p.1, p.2) (kind-weaker Values c.in_err-row.field-0.0 _ _ _
+    rw (p.1, p.2) (tells-weaker (values_cause c.in_err-row.field-0.0) _ _ _
     (λ (m : Misses (λ bs. parse_row_after [] (b ∷ bs)) now). goes_wrong read
     (λ bs. parse_steps_after rows [] (b ∷ bs)) _ now begun
     (misses_where (λ bs. parse_row_after [] (b ∷ bs)) (λ bs. parse_steps_after rows [] (b ∷ bs))
@@ -73,17 +72,15 @@ loop-steps-preserved g c =
     let begun = goes_byte read (parse_steps_after rows []) (λ bs. parse_steps_after rows []
     (b ∷ bs)) _ _ now c.in_ok-first.field-0 b c.loop-steps.invariant c.in_ok-first.ensures.steps
     c.in-Some.is (λ bs. refl) in
-    rw (c.in_ok-push.ensures.items, rows_more c.loop-steps.steps.items row)
+    rw (c.in_ok-append.ensures, rows_more c.loop-steps.steps.items row)
     (goes_call read (λ bs. parse_row_after [] (b ∷ bs)) (λ bs. parse_steps_after rows [] (b ∷ bs))
     (parse_steps_after (rows ++ row.items ∷ []) []) _ now after row.items begun
     c.in_ok-row.ensures (line_read rows b c.if-first-eq46.false row.items))
 
 pub returns : goal.returns
 returns g c =
-    let rows = rows_of c.loop-steps.steps.items in (
-      refl,
-      goes_end read (parse_steps_after rows []) _ _
-          (feed g.R.Source.left g.R.Source.failed g.R.Source.pulls c.next.new.self c.next.new.r)
-          c.in_ok-first.field-0 c.loop-steps.invariant c.in_ok-first.ensures.steps c.in_default.is
-          (steps_cut rows),
-    )
+    let rows = rows_of c.loop-steps.steps.items in
+    goes_end read (parse_steps_after rows []) _ _
+    (feed g.R.Source.left g.R.Source.failed g.R.Source.pulls c.next.new.self c.next.new.r)
+    c.in_ok-first.field-0 c.loop-steps.invariant c.in_ok-first.ensures.steps c.in_default.is
+    (steps_cut rows)

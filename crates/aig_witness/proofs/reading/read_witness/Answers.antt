@@ -1,10 +1,12 @@
 use Rattle.std.proofs.Common.{◌∷◌, not, nat_eq, true, false, Some, refl, subst}
 use Rattle.std.proofs.lemmas.Result.{err_from_is_err_and}
 use Rattle.aig_lexer.specs.Takes.{feed}
+use Rattle.aig_lexer.proofs.Faults.{tells-weaker}
 use Rattle.aig_lexer.proofs.Going.{GoesOn, goes_byte, goes_call, goes_done, goes_start}
+use Rattle.aig_witness.specs.Faults.{witness_cause}
 use Rattle.aig_witness.specs.Reading.{parse_next, parse_witness}
 use Rattle.aig_witness.specs.Witness.{said_by}
-use Rattle.aig_witness.proofs.Going.{comment_begins, comments_end, fault_next, goes_next, next_from, nothing_left, past_comments, witness-weaker, witness_found}
+use Rattle.aig_witness.proofs.Going.{comment_begins, comments_end, fault_next, goes_next, next_from, nothing_left, past_comments, witness_found}
 use Rattle.aig_witness.proofs.reading.read_witness.Goals as goal
 
 pub loop-b-init : goal.loop-b-init
@@ -69,7 +71,7 @@ returns-in_err-witness g c =
     let begun = goes_byte (past_comments false) (past_comments false) (λ bs. Some (tt, b ∷ bs)) _ _
     mid c.in_ok-b.field-0 b outside c.in_ok-b.ensures.steps c.in-Some.is
     (comments_end b c.if-b-eq99.false) in
-    rw (p.1, p.2) (witness-weaker c.in_err-witness.field-0.0 _ _ _
+    rw (p.1, p.2) (tells-weaker (witness_cause c.in_err-witness.field-0.0) _ _ _
     (fault_next c.in_err-witness.field-0.0 b before mid begun) c.in_err-witness.ensures)
 
 pub returns : goal.returns

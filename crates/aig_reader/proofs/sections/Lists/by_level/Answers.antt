@@ -1,28 +1,43 @@
-use Rattle.std.proofs.Common.{◌≡◌, ◌∙◌, ◌&&◌, Bool, true, false, Option, refl, sym, subst}
+use Rattle.std.proofs.Common.{◌≡◌, ◌∙◌, ◌&&◌, ℕ, Bool, true, false, Option, Vec, refl, sym, subst}
 use Rattle.std.specs.Prelude.{MatchOption}
+use Rattle.std.specs.declared.alloc.Global.{Global}
 use Rattle.std.specs.List.{list_all}
 use Rattle.std.proofs.lemmas.Bool.{and_parts}
 use Rattle.std.proofs.lemmas.Result.{err_from_is_err_and}
+use Rattle.aig_circuit.specs.declared.node.AigNode.{AigNode}
+use Rattle.aig_format.specs.Circuit.{circuit_of}
+use Rattle.aig_format.specs.File.{File}
 use Rattle.aig_format.specs.Levels.{has_level}
+use Rattle.aig_lexer.specs.Faults.{Tested}
+use Rattle.aig_lexer.proofs.Faults.{tells-weaker}
 use Rattle.aig_ordering.specs.Numbers.{has_number}
 use Rattle.aig_reader.specs.declared.error.Section.{Section}
-use Rattle.aig_reader.specs.Numbered.{AreNumbersOf, have_operands, knows_lists, lists_pass}
+use Rattle.aig_reader.specs.Faults.{section_cause}
+use Rattle.aig_reader.specs.Numbered.{AreNumbersOf, AreTablesOf, have_operands, knows_lists, lists_pass}
 use Rattle.aig_reader.proofs.ByLevel.{lists_have, lists_known, lists_numbered}
-use Rattle.aig_reader.proofs.Numbered.{in_order, well_founded-is, no_nodes}
+use Rattle.aig_reader.proofs.Numbered.{in_gates, well_founded-is, no_nodes}
 use Rattle.aig_reader.proofs.Steps.{numbered_circuit}
 use Rattle.aig_reader.proofs.sections.Lists.by_level.Goals as goal
+use Rattle.aig_reader.proofs.sections.Lists.by_level.Goals.{After-result_of}
+
+module _ (c : After-result_of) (f : File) (t : AreTablesOf f c.args.gates.items c.args.marked.now c.args.self.now) where
+  -- what numbering the nodes gave
+  numbered : Tested section_cause (list_all (has_level f) f.gates && have_operands f) (λ (x : Vec AigNode Global × Vec ℕ Global). (x.0.items ≡ (circuit_of f).nodes) × AreNumbersOf f x.1.items) c.result_of.result
+  numbered = in_gates _ _ c.number_nodes-numbered.result c.result_of.result c.result_of.ensures (c.number_nodes-numbered.ensures f t.good t.nodes t.marks t.not_compact)
 
 pub returns-in_err-nodes : goal.returns-in_err-nodes
 returns-in_err-nodes c = λ f t.
+    let here = (goal.at.returns-in_err-nodes c).After-result_of in
     let p = err_from_is_err_and c.from_residual.result c.from_residual.ensures.1 in
     let levels = list_all (has_level f) f.gates in
-    rw (p.1, p.2) (in_order c.in_err-nodes.field-0.0 _ _
+    let e = c.in_err-nodes.field-0.0 in
+    rw (p.1, p.2) (tells-weaker (section_cause e) _ _ false
     (λ (no : (levels && have_operands f) ≡ false). well_founded-is f levels _ _ refl refl ∙ no_nodes levels (knows_lists f) (have_operands f) no)
-    (c.in_err-nodes.ensures f t.good t.nodes t.known t.not_compact))
+    (rw c.in_err-nodes.was at (numbered here f t)))
 
 pub returns-in-Some : goal.returns-in-Some
 returns-in-Some c = λ f t.
-    let nodes = c.in_ok-nodes.ensures f t.good t.nodes t.known t.not_compact in
+    let nodes = rw c.in_ok-nodes.was at (numbered (goal.at.returns-in-Some c).After-result_of f t) in
     let table = c.deref.result.now in
     let are = subst (AreNumbersOf f) (sym c.deref.ensures.value) nodes.1.1 in
     let passes : Bool = lists_pass (has_number table) c.args.self.now in
@@ -33,7 +48,7 @@ pub renumber-requires : goal.renumber-requires
 renumber-requires c =
     let f = c.requires.tables.0 in
     let t = c.requires.tables.1 in
-    let nodes = c.in_ok-nodes.ensures f t.good t.nodes t.known t.not_compact in
+    let nodes = rw c.in_ok-nodes.was at (numbered (goal.at.renumber-requires c).After-result_of f t) in
     let table = c.deref.result.now in
     let are = subst (AreNumbersOf f) (sym c.deref.ensures.value) nodes.1.1 in
     let passes : Bool = lists_pass (has_number table) c.args.self.now in
@@ -42,7 +57,7 @@ renumber-requires c =
 
 pub returns : goal.returns
 returns c = λ f t.
-    let nodes = c.in_ok-nodes.ensures f t.good t.nodes t.known t.not_compact in
+    let nodes = rw c.in_ok-nodes.was at (numbered (goal.at.returns c).After-result_of f t) in
     let table = c.deref.result.now in
     let are = subst (AreNumbersOf f) (sym c.deref.ensures.value) nodes.1.1 in
     let passes : Bool = lists_pass (has_number table) c.args.self.now in

@@ -2,10 +2,11 @@ use Rattle.std.proofs.Common.{◌≡◌, ℕ, ◌+◌, ◌∙◌, true, false, l
 use Rattle.aig_format.specs.File.{File}
 use Rattle.aig_format.specs.Numbering.{is_compact}
 use Rattle.aig_ordering.specs.Gates.{nodes_in}
-use Rattle.aig_ordering.specs.Tables.{AreKnownOf, AreNodesOf}
+use Rattle.aig_ordering.specs.Tables.{AreMarksOf, AreNodesOf}
 use Rattle.aig_ordering.proofs.NodesIn.{length-nodes_in}
 use Rattle.aig_reader.specs.Numbered.{AreTablesOf}
 use Rattle.aig_reader.specs.Sections.{AreLinesOf}
+use Rattle.aig_reader.proofs.Defined.{marks_of}
 use Rattle.aig_reader.proofs.Steps.{well_founded_judged, nodes_placed, compact_judged}
 use Rattle.aig_reader.proofs.sections.Lists.number.Goals as goal
 use Rattle.aig_reader.proofs.sections.Lists.number.Goals.{After-deref, else-is_complete-via-else-is_complete, else-is_complete-via-then-is_complete+else-is_in_order}
@@ -25,8 +26,8 @@ module _ (c : After-deref) (f : File) (top : c.args.greatest ≡ f.greatest) (h 
       let all : length (nodes_in gates.items) ≡ f.greatest + 1 = omega (arith, length-nodes_in gates.items, gates.ok.0, made.1, top) in
       nodes_placed f h.good (nodes_in gates.items) made.0 all
 
-  known_are : AreKnownOf f c.deref.result.now
-  known_are = let d = rw c.in-Text.is at h.defined in rw c.deref.ensures.value (c.in_ok-known-in-Text.ensures f d.1)
+  marks_are : AreMarksOf f c.deref.result.now
+  marks_are = let d = rw c.in-Text.is at h.defined in rw c.deref.ensures.value (marks_of f c.in-Text.marks d.1)
 
   well_founded : is_compact f ≡ false
   well_founded = sym h.compact ∙ elim c.else-is_complete.branch [
@@ -37,7 +38,7 @@ module _ (c : After-deref) (f : File) (top : c.args.greatest ≡ f.greatest) (h 
 tables_are : (c : After-deref) (f : File) → c.args.greatest ≡ f.greatest
     → AreLinesOf f c.args.is_complete c.args.self.now c.args.variables.now c.args.gates
     → AreTablesOf f c.in_ok-gates.gates.items c.deref.result.now c.args.self.now
-tables_are c f top h = record { good = h.good; nodes = gates_are c f top h; known = known_are c f top h; lists = h.lists; not_compact = well_founded c f top h }
+tables_are c f top h = record { good = h.good; nodes = gates_are c f top h; marks = marks_are c f top h; lists = h.lists; not_compact = well_founded c f top h }
 
 pub by_level-requires-clause-tables : goal.by_level-requires-clause-tables
 by_level-requires-clause-tables c = (c.requires.0, tables_are c c.requires.0 c.requires.1 c.requires.2)

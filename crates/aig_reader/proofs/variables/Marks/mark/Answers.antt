@@ -2,7 +2,7 @@ use Rattle.std.proofs.Common.{◌+◌, ◌/◌, ◌∙◌, ◌||◌, ℕ, Bool, 
 use Rattle.std.specs.Prelude.{◌==◌}
 use Rattle.std.proofs.lemmas.List.{with_items_is}
 use Rattle.std.proofs.lemmas.Result.{err_from_is_err_and}
-use Rattle.aig_reader.specs.Bits.{bit_is_set}
+use Rattle.aig_ordering.specs.Bits.{bit_is_set}
 use Rattle.aig_reader.proofs.Defined.{marked_again, marked_more}
 use Rattle.aig_reader.proofs.variables.Marks.mark.Goals as goal
 

@@ -1,7 +1,8 @@
 use Rattle.std.proofs.Common.{◌∷◌, ◌++◌, [], refl, sym, ◌∙◌}
 use Rattle.aig_lexer.specs.Header.{numbers_of}
 use Rattle.aig_lexer.proofs.Feeds.{advances_on, ends_on, steps_byte, steps_end}
-use Rattle.aig_lexer.proofs.Words.{on_shape-weaker}
+use Rattle.aig_lexer.specs.Faults.{word_cause}
+use Rattle.aig_lexer.proofs.Faults.{tells-weaker}
 use Rattle.aig_symbols.proofs.Starts.{no_tail, comment_comes, place_comes, no_number, no_space, too_great}
 use Rattle.aig_symbols.proofs.names.place.next_place.Goals as goal
 
@@ -26,7 +27,7 @@ pub returns-in-Err-number_from : goal.returns-in-Err-number_from
 returns-in-Err-number_from g c =
     let one = c.in-Ok-Some in
     let two = c.in-Ok-Some-next in
-    on_shape-weaker c.in-Err-number_from.error _ _ _
+    tells-weaker (word_cause c.in-Err-number_from.error) _ _ _
     (no_number (numbers_of c.args.header.now) _ _ one.letter two.first
     (advances_on _ _ _ (one.letter ∷ []) (two.first ∷ []) (steps_byte _ _ one.field-0 one.ensures.steps one.letter one.field-0-is) (steps_byte _ _ two.field-0 two.ensures.steps two.first two.field-0-is))
     (sym c.begins_comment.ensures ∙ c.if-begins_comment.false))

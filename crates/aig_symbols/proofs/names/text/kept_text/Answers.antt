@@ -1,6 +1,6 @@
 use Rattle.std.proofs.Common.{◌++◌, ◌∷◌, []}
 use Rattle.std.specs.Str.{is_utf8}
-use Rattle.aig_parsing.specs.Parse.{parse_text}
+use Rattle.aig_format.specs.Parse.{parse_text}
 use Rattle.aig_lexer.specs.Takes.{feed}
 use Rattle.aig_lexer.proofs.Feeds.{steps_fewer}
 use Rattle.aig_lexer.proofs.Going.{goes_byte, goes_end, goes_done}
@@ -21,7 +21,7 @@ pub loop-bytes-preserved : goal.loop-bytes-preserved
 loop-bytes-preserved g c =
     let bytes = c.loop-bytes.bytes.items in
     let came = c.in-Ok-Some in
-    rw c.in_ok-push-in-Ok-Some.ensures.items (goes_byte parse_text (text_from bytes) (text_from (bytes ++ came.byte ∷ [])) _ _ _ came.field-0 came.byte c.loop-bytes.invariant came.ensures.steps came.field-0-is (text_goes bytes came.byte came.byte-test.1))
+    rw c.in_ok-append-in-Ok-Some.ensures (goes_byte parse_text (text_from bytes) (text_from (bytes ++ came.byte ∷ [])) _ _ _ came.field-0 came.byte c.loop-bytes.invariant came.ensures.steps came.field-0-is (text_goes bytes came.byte came.byte-test.1))
 
 pub loop-bytes-smaller : goal.loop-bytes-smaller
 loop-bytes-smaller g c = steps_fewer _ _ c.in-Ok-Some.field-0 c.in-Ok-Some.ensures.steps c.in-Ok-Some.byte c.in-Ok-Some.field-0-is

@@ -1,5 +1,5 @@
 use Rattle.aig_lexer.specs.Takes.{feed}
-use Rattle.aig_parsing.specs.Parse.{parse_text}
+use Rattle.aig_format.specs.Parse.{parse_text}
 use Rattle.aig_lexer.proofs.Going.{GoesOn}
 use Rattle.aig_symbols.proofs.Texts.{text_from}
 use Rattle.aig_symbols.proofs.names.text.kept_text.Given as goal

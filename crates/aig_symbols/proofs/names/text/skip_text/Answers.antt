@@ -1,5 +1,5 @@
 use Rattle.std.proofs.Common.{◌++◌, ◌∷◌, []}
-use Rattle.aig_parsing.specs.Parse.{parse_text}
+use Rattle.aig_format.specs.Parse.{parse_text}
 use Rattle.aig_lexer.proofs.Feeds.{steps_fewer}
 use Rattle.aig_lexer.proofs.Going.{goes_byte, goes_end, goes_done}
 use Rattle.aig_symbols.proofs.Texts.{text_from, text_goes, text_ends, text_stops}

@@ -1,6 +1,6 @@
 use Rattle.std.proofs.Common.{ℕ, List}
 use Rattle.aig_lexer.specs.Takes.{feed}
-use Rattle.aig_parsing.specs.Parse.{parse_text}
+use Rattle.aig_format.specs.Parse.{parse_text}
 use Rattle.aig_lexer.proofs.Going.{GoesOn}
 use Rattle.aig_symbols.proofs.Texts.{text_from}
 use Rattle.aig_symbols.proofs.names.text.skip_text.Given as goal

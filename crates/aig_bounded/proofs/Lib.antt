@@ -1,0 +1,10 @@
+mod Lowered
+mod Extended
+mod Shown
+mod Stepped
+mod Joined
+mod Reached
+mod Read
+mod Marked
+mod Cut
+pub mod Witnesses

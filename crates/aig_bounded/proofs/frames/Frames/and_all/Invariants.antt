@@ -1,0 +1,6 @@
+use Rattle.std.proofs.Common.{take}
+use Rattle.aig_bounded.proofs.Joined.{AndSoFar}
+use Rattle.aig_bounded.proofs.frames.Frames.and_all.Given as goal
+
+abbrev pub invariant-loop-edge : goal.invariant-loop-edge
+invariant-loop-edge l = AndSoFar l.fn.self l.self l.images l.fn.first (take l.edge-index l.edges) l.all

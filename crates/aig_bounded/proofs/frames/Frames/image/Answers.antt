@@ -1,0 +1,42 @@
+use Rattle.std.proofs.Common.{◌&&◌, ℕ, Bool, ◌≡◌}
+use Rattle.aig_circuit.specs.declared.node.AigNodeType.TheVariants.{And, False, Leaf}
+use Rattle.aig_circuit.specs.declared.edge.AigEdge.{AigEdge}
+use Rattle.aig_circuit.specs.Circuit.{IsInRange}
+use Rattle.aig_circuit.specs.Tree.{edge_value}
+use Rattle.aig_bounded.specs.Frames.{AddsAnds, Shows}
+use Rattle.aig_bounded.specs.Steps.{MakesImage}
+use Rattle.aig_bounded.proofs.Stepped.{if_ok, if_ok_all, if_some_at, kind_read, makes_false, makes_gate, makes_open, makes_state}
+use Rattle.aig_bounded.proofs.frames.Frames.image.Goals as goal
+
+pub returns-in-False : goal.returns-in-False
+returns-in-False c =
+    let is = kind_read c.args.circuit.now.nodes c.nodes.result.now c.args.id _ False c.typ.result.now c.requires.there c.nodes.ensures.value c.typ.ensures c.in-False.is in
+    makes_false c.args.circuit.now c.args.step c.args.id c.args.self.now c.constant.result c.requires.frames is c.constant.ensures
+
+pub returns-in-Some : goal.returns-in-Some
+returns-in-Some c =
+    let is = kind_read c.args.circuit.now.nodes c.nodes.result.now c.args.id _ Leaf c.typ.result.now c.requires.there c.nodes.ensures.value c.typ.ensures c.in-Leaf.is in
+    makes_state c.args.circuit.now c.args.step c.args.id c.args.self.now c.in-Some.state c.requires.frames is
+    (if_some_at _ c.in-Some.state (λ (e : AigEdge). Shows c.args.circuit.now c.args.step c.args.self.now e (λ run. run c.args.step c.args.id)) c.in-Some.is c.requires.known)
+
+pub returns-in-None : goal.returns-in-None
+returns-in-None c =
+    let is = kind_read c.args.circuit.now.nodes c.nodes.result.now c.args.id _ Leaf c.typ.result.now c.requires.there c.nodes.ensures.value c.typ.ensures c.in-Leaf.is in
+    if_ok c.open.result _ _
+    (λ e opens. makes_open c.args.circuit.now c.args.step c.args.id c.args.self.now c.open.new.self e c.requires.frames is (c.requires.free is c.in-None.is) opens)
+    c.open.ensures
+
+pub returns-in-And : goal.returns-in-And
+returns-in-And c =
+    let a = c.in-And.fanin0 in
+    let b = c.in-And.fanin1 in
+    let old = c.args.self.now in
+    let new = c.and.new.self in
+    let first = c.image_of-first.result in
+    let second = c.image_of-second.result in
+    let is = kind_read c.args.circuit.now.nodes c.nodes.result.now c.args.id _ (And a b) c.typ.result.now c.requires.there c.nodes.ensures.value c.typ.ensures c.in-And.is in
+    if_ok_all c.and.result (IsInRange new.nodes.items)
+    (λ (e : AigEdge). (y : ℕ → Bool) → edge_value new.nodes.items y e ≡ (edge_value old.nodes.items y first && edge_value old.nodes.items y second))
+    (MakesImage c.args.circuit.now c.args.step c.args.id old new) (AddsAnds old new)
+    (λ e there value adds. makes_gate c.args.circuit.now c.args.step c.args.id old new c.args.images.now a b first second e c.nodes.ensures.circuit c.requires.frames is c.requires.operands c.image_of-first.ensures c.image_of-second.ensures adds there value)
+    c.and.ensures.edge c.and.ensures.value c.and.ensures.adds

@@ -1,0 +1,8 @@
+use Rattle.std.proofs.Common.{Some}
+use Rattle.aig_circuit.specs.declared.node.AigLatch.{AigLatch}
+use Rattle.aig_bounded.specs.Steps.{SetsStates, image_in}
+use Rattle.aig_bounded.proofs.steps.advance.Given as goal
+
+abbrev pub invariant-loop-latch : goal.invariant-loop-latch
+invariant-loop-latch l =
+    SetsStates l.latch-items l.latch-index (λ (latch : AigLatch). Some (image_in l.images latch.next)) l.fn.states l.states

@@ -1,0 +1,5 @@
+pub mod Question
+pub mod Depths
+pub mod Frames
+pub mod Steps
+pub mod Cut

@@ -1,0 +1,294 @@
+//! The steps of a circuit as nodes of a question.
+
+ghost use Rattle.std.specs.Prelude.{◌≡◌, ◌+◌, ◌-◌, ◌<◌, ◌≤◌, ◌&&◌, ℕ, Bool, true, false, None, Some, IfOk, IfSome, OnOk, List, All, length, slice_index_or};
+ghost use Rattle.std.specs.List.{list_all, list_any};
+ghost use Rattle.aig_circuit.specs.Circuit.{AreNodes, IsCircuit, IsInRange, IsLeaf};
+ghost use Rattle.aig_circuit.specs.Edge.{edge_to};
+ghost use Rattle.aig_circuit.specs.Edges.{HasConstantInit};
+ghost use Rattle.aig_circuit.specs.Reach.{IsFanin};
+ghost use Rattle.aig_circuit.specs.Tree.{edge_value};
+ghost use Rattle.aig_bounded.specs.declared.frames.Frames.{Frames};
+ghost use Rattle.aig_bounded.specs.Question.{IsPlace};
+ghost use Rattle.aig_bounded.specs.Depths.{AreDepths};
+ghost use Rattle.aig_bounded.specs.Frames.{AddsAnds, AreFrames, Extends, Shows};
+ghost use Rattle.aig_bounded.specs.Steps.{HasImages, HasStates, MakesImage, SetsStates, ShowsNode, Sum, image_in, reached_to};
+
+use crate::depths::depths;
+use crate::error::BoundedError;
+use crate::frames::Frames;
+use crate::place::Place;
+use aig_base::MemoryError;
+use aig_circuit::{AigEdge, AigNodeType, CircuitView};
+use std::alloc::Global;
+
+/// What is known of the steps so far.
+#[derive(Clone, Copy)]
+pub(crate) struct Sums {
+    /// Every constraint holds at each of them.
+    pub(crate) within: AigEdge,
+    /// Some bad state is reached at one of them, within the constraints up to there.
+    pub(crate) reached: AigEdge,
+}
+
+impl Sums {
+    /// What is known of no steps.
+    fn start() -> Sums
+        ensures { result ≡ record { within = edge_to 0 true; reached = edge_to 0 false } }
+    {
+        Sums {
+            within: AigEdge::constant(true),
+            reached: AigEdge::constant(false),
+        }
+    }
+}
+
+/// The image of an edge, where `images` has that of its node.
+fn image_of(images: &[AigEdge], edge: AigEdge) -> AigEdge
+    requires { edge.node_id < length images.now }
+    ensures { result ≡ image_in images.now edge }
+{
+    images[edge.node_id()].not_if(edge.compl())
+}
+
+impl Frames {
+    /// The image of node `id` at a step, from those of smaller nodes: a gate is the and of its operands' images, a latch's
+    /// leaf has the latch's state, and any other leaf is opened.
+    fn image(
+        &mut self,
+        circuit: &CircuitView<'_>,
+        step: usize,
+        id: usize,
+        images: &[AigEdge],
+        states: &[Option<AigEdge>],
+    ) -> Result<AigEdge, BoundedError>
+        requires frames { AreFrames circuit.now step id self.old }
+        requires there { id < length circuit.now.nodes }
+        requires table { length images.now ≡ length circuit.now.nodes }
+        requires operands { (m : ℕ) → IsFanin circuit.now.nodes id m
+            → ShowsNode circuit.now step self.old images.now m }
+        requires states { length states.now ≡ length circuit.now.nodes }
+        requires known { IfSome (slice_index_or states.now id None) (λ e.
+            Shows circuit.now step self.old e (λ run. run step id)) }
+        requires free { IsLeaf circuit.now.nodes id → slice_index_or states.now id None ≡ None
+            → IsPlace circuit.now (record { step = step; leaf = id }) }
+        ensures { IfOk result (MakesImage circuit.now step id self.old self.new) }
+    {
+        match *circuit.nodes()[id].typ() {
+            AigNodeType::False => Ok(AigEdge::constant(false)),
+            AigNodeType::Leaf => match states[id] {
+                Some(state) => Ok(state),
+                None => self.open(Place { step, leaf: id }),
+            },
+            AigNodeType::And(fanin0, fanin1) => {
+                let first = image_of(images, fanin0);
+                let second = image_of(images, fanin1);
+                self.and(first, second)
+            }
+        }
+    }
+
+    /// Makes the images of the nodes at a step that something reads in the steps that are left.
+    fn add_nodes(
+        &mut self,
+        circuit: &CircuitView<'_>,
+        depths: &[usize],
+        left: usize,
+        step: usize,
+        images: &mut [AigEdge],
+        states: &[Option<AigEdge>],
+    ) -> Result<(), BoundedError>
+        requires frames { AreFrames circuit.now step 0 self.old }
+        requires table { length images.old ≡ length circuit.now.nodes }
+        requires depths { AreDepths circuit.now (left + step) depths.now }
+        requires states { HasStates circuit.now step depths.now left self.old states.now }
+        ensures shows { OnOk result (HasImages circuit.now step depths.now left
+            (length circuit.now.nodes) self.new images.new) }
+        ensures frames { OnOk result (AreFrames circuit.now (step + 1) 0 self.new) }
+        ensures extends { OnOk result (Extends self.old self.new) }
+    {
+        for id in 0..circuit.nodes().len() {
+            if depths[id] <= left {
+                let image = self.image(circuit, step, id, images, states)?;
+                images[id] = image;
+            }
+        }
+        Ok(())
+    }
+
+    /// The and of an edge and the images of others.
+    fn and_all(
+        &mut self,
+        first: AigEdge,
+        edges: &[AigEdge],
+        images: &[AigEdge],
+    ) -> Result<AigEdge, BoundedError>
+        requires sound { AreNodes self.old.nodes.items }
+        requires first { IsInRange self.old.nodes.items first }
+        requires edges { All (λ e. e.node_id < length images.now) edges.now }
+        requires images { All (λ e.
+            IsInRange self.old.nodes.items (image_in images.now e)) edges.now }
+        ensures edge { IfOk result (IsInRange self.new.nodes.items) }
+        ensures value { IfOk result (λ all. (y : ℕ → Bool) → edge_value self.new.nodes.items y all
+            ≡ (edge_value self.old.nodes.items y first
+            && list_all
+            (λ e. edge_value self.old.nodes.items y (image_in images.now e)) edges.now)) }
+        ensures adds { OnOk result (AddsAnds self.old self.new) }
+    {
+        let mut all = first;
+        for edge in edges {
+            all = self.and(all, image_of(images, *edge))?;
+        }
+        Ok(all)
+    }
+
+    /// The or of the images of edges.
+    fn or_all(&mut self, edges: &[AigEdge], images: &[AigEdge]) -> Result<AigEdge, BoundedError>
+        requires sound { AreNodes self.old.nodes.items }
+        requires edges { All (λ e. e.node_id < length images.now) edges.now }
+        requires images { All (λ e.
+            IsInRange self.old.nodes.items (image_in images.now e)) edges.now }
+        ensures edge { IfOk result (IsInRange self.new.nodes.items) }
+        ensures value { IfOk result (λ any. (y : ℕ → Bool) → edge_value self.new.nodes.items y any
+            ≡ list_any (λ e. edge_value self.old.nodes.items y (image_in images.now e)) edges.now) }
+        ensures adds { OnOk result (AddsAnds self.old self.new) }
+    {
+        let mut any = AigEdge::constant(false);
+        for edge in edges {
+            any = self.or(any, image_of(images, *edge))?;
+        }
+        Ok(any)
+    }
+
+    /// What is known of the steps with one more, of which these are the images.
+    fn add_sums(
+        &mut self,
+        circuit: &CircuitView<'_>,
+        images: &[AigEdge],
+        step: usize,
+        sums: Sums,
+    ) -> Result<Sums, BoundedError>
+        requires frames { AreFrames circuit.now (step + 1) 0 self.old }
+        requires table { length images.now ≡ length circuit.now.nodes }
+        requires bads { All (λ e. ShowsNode circuit.now step self.old images.now e.node_id)
+            circuit.now.properties.bads }
+        requires constraints { All (λ e. ShowsNode circuit.now step self.old images.now e.node_id)
+            circuit.now.properties.constraints }
+        requires sums { Sum circuit.now step step self.old sums }
+        ensures sums { IfOk result (Sum circuit.now step (step + 1) self.new) }
+        ensures frames { OnOk result (AreFrames circuit.now (step + 1) 0 self.new) }
+        ensures extends { OnOk result (Extends self.old self.new) }
+    {
+        let within = self.and_all(sums.within, circuit.constraints(), images)?;
+        let bad = self.or_all(circuit.bads(), images)?;
+        let now = self.and(within, bad)?;
+        let reached = self.or(sums.reached, now)?;
+        Ok(Sums { within, reached })
+    }
+
+    /// Adds the last step, and returns the edge that is true where a bad state is reached at one of all.
+    fn add_last(
+        &mut self,
+        circuit: &CircuitView<'_>,
+        depths: &[usize],
+        last: usize,
+        images: &mut [AigEdge],
+        states: &[Option<AigEdge>],
+        sums: Sums,
+    ) -> Result<AigEdge, BoundedError>
+        requires circuit { IsCircuit circuit.now }
+        requires table { length images.old ≡ length circuit.now.nodes }
+        requires depths { AreDepths circuit.now last depths.now }
+        requires frames { AreFrames circuit.now last 0 self.old }
+        requires states { HasStates circuit.now last depths.now 0 self.old states.now }
+        requires sums { Sum circuit.now last last self.old sums }
+        ensures shows { IfOk result (λ e.
+            Shows circuit.now last self.new e (λ run. reached_to circuit.now run (last + 1))) }
+        ensures frames { OnOk result (AreFrames circuit.now (last + 1) 0 self.new) }
+        ensures limit { OnOk result (self.new.limit ≡ self.old.limit) }
+    {
+        self.add_nodes(circuit, depths, 0, last, images, states)?;
+        let all = self.add_sums(circuit, images, last, sums)?;
+        Ok(all.reached)
+    }
+
+    /// Adds the steps 0 to `last`, and returns the edge that is true where a bad state is reached at one of them.
+    fn add_steps(
+        &mut self,
+        circuit: &CircuitView<'_>,
+        depths: &[usize],
+        last: usize,
+        images: &mut [AigEdge],
+        states: &mut [Option<AigEdge>],
+    ) -> Result<AigEdge, BoundedError>
+        requires circuit { IsCircuit circuit.now }
+        requires frames { AreFrames circuit.now 0 0 self.old }
+        requires table { length images.old ≡ length circuit.now.nodes }
+        requires depths { AreDepths circuit.now last depths.now }
+        requires states { HasStates circuit.now 0 depths.now last self.old states.old }
+        ensures shows { IfOk result (λ e.
+            Shows circuit.now last self.new e (λ run. reached_to circuit.now run (last + 1))) }
+        ensures frames { OnOk result (AreFrames circuit.now (last + 1) 0 self.new) }
+        ensures limit { OnOk result (self.new.limit ≡ self.old.limit) }
+    {
+        let mut sums = Sums::start();
+        for step in 0..last {
+            self.add_nodes(circuit, depths, last - step, step, images, states)?;
+            sums = self.add_sums(circuit, images, step, sums)?;
+            advance(circuit, images, states);
+        }
+        self.add_last(circuit, depths, last, images, states, sums)
+    }
+}
+
+/// Gives each latch the image of its next edge as its state.
+fn advance(circuit: &CircuitView<'_>, images: &[AigEdge], states: &mut [Option<AigEdge>])
+    requires table { length images.now ≡ length circuit.now.nodes }
+    requires states { length states.old ≡ length circuit.now.nodes }
+    ensures { SetsStates circuit.now.latchs (length circuit.now.latchs)
+        (λ latch. Some (image_in images.now latch.next))
+        states.old states.new }
+{
+    for latch in circuit.latchs() {
+        states[latch.input()] = Some(image_of(images, latch.next()));
+    }
+}
+
+/// The states of latches at the start: constant where their initial edges are, and open where they have none.
+fn start_states(
+    alloc: Global,
+    circuit: &CircuitView<'_>,
+) -> Result<Vec<Option<AigEdge>>, MemoryError>
+    requires { All HasConstantInit circuit.now.latchs }
+    ensures { IfOk result (λ states. (depths : List ℕ) (left : ℕ) (f : Frames)
+        → AreNodes f.nodes.items → HasStates circuit.now 0 depths left f states.items) }
+{
+    let mut states = vec![in alloc; None; circuit.nodes().len()]?;
+    for latch in circuit.latchs() {
+        states[latch.input()] = latch.init();
+    }
+    Ok(states)
+}
+
+/// The nodes of the steps 0 to `last`, and the edge that is true where a bad state is reached at one of them.
+pub(crate) fn expanded(
+    alloc: Global,
+    circuit: &CircuitView<'_>,
+    last: usize,
+    limit: usize,
+) -> Result<(Frames, AigEdge), BoundedError>
+    requires starts { All HasConstantInit circuit.now.latchs }
+    requires some { 1 ≤ limit }
+    ensures shows { IfOk result (λ made. Shows circuit.now last made.0 made.1
+        (λ run. reached_to circuit.now run (last + 1))) }
+    ensures frames { IfOk result (λ made. AreFrames circuit.now (last + 1) 0 made.0) }
+    ensures limit { IfOk result (λ made. made.0.limit ≡ limit) }
+    ensures circuit { IsCircuit circuit.now }
+{
+    let count = circuit.nodes().len();
+    let depths = depths(alloc, circuit, last)?;
+    let mut images = vec![in alloc; AigEdge::constant(false); count]?;
+    let mut states = start_states(alloc, circuit)?;
+    let mut frames = Frames::new(alloc, limit)?;
+    let reached = frames.add_steps(circuit, &depths, last, &mut images, &mut states)?;
+    Ok((frames, reached))
+}

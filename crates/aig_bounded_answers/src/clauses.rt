@@ -1,0 +1,121 @@
+//! The clauses of a bounded check.
+
+ghost use Rattle.std.specs.Prelude.{◌≡◌, ◌≢◌, ◌≤◌, ◌^◌, [], All, IfOk, length};
+ghost use Rattle.aig_circuit.specs.Circuit.{IsCircuit};
+ghost use Rattle.aig_circuit.specs.Edges.{HasConstantInit};
+ghost use Rattle.aig_runs.specs.Queries.{unit_clauses};
+ghost use Rattle.aig_circuit.specs.View.{lists_circuit};
+ghost use Rattle.aig_reader.specs.Reading.{IsReadAs};
+ghost use Rattle.aig_bounded_answers.specs.Asking.{AsksBounded, IsAskedWithin};
+ghost use Rattle.aig_bounded_answers.specs.Encoded.{IsEncoded, IsEncodedQuestion};
+
+use crate::error::BoundedAnswerError;
+use aig_base::{DagCnf, LitVvec, MemoryError, Source};
+use aig_bounded::{BoundedError, Question, bounded_question};
+use aig_circuit::{CircuitLists, CircuitView};
+use aig_cnf::encode;
+use aig_query::push_units;
+use aig_reader::read;
+use std::alloc::Global;
+
+/// The clauses of a bounded check.
+#[derive(Drop)]
+pub struct BoundedClauses {
+    /// The question.
+    pub question: Question,
+    /// The clauses of its circuit.
+    pub clauses: DagCnf,
+    /// The clause that its output is true.
+    pub further: LitVvec,
+}
+
+/// The clause that the output of a question is true.
+fn output_clauses(alloc: Global, circuit: &CircuitView<'_>) -> Result<LitVvec, MemoryError>
+    requires { length circuit.now.nodes ≤ 2 ^ 31 }
+    ensures { IfOk result (λ further. further ≡ unit_clauses circuit.now.properties.outputs) }
+{
+    let mut further = LitVvec::new(alloc);
+    push_units(&mut further, circuit.outputs())?;
+    Ok(further)
+}
+
+/// The clauses of a question.
+fn clauses_of(
+    alloc: Global,
+    question: Question,
+    optimize: bool,
+) -> Result<BoundedClauses, MemoryError>
+    requires circuit { IsCircuit (lists_circuit question.circuit) }
+    requires few { length question.circuit.nodes.items ≤ 2 ^ 31 }
+    ensures { IfOk result (IsEncoded question optimize) }
+{
+    let further = output_clauses(alloc, &CircuitView::new(&question.circuit))?;
+    let clauses = encode(alloc, &CircuitView::new(&question.circuit), optimize)?;
+    Ok(BoundedClauses {
+        question,
+        clauses,
+        further,
+    })
+}
+
+/// The clauses of the question of a circuit.
+fn ask(
+    alloc: Global,
+    circuit: &CircuitView<'_>,
+    limit: usize,
+    k: usize,
+    optimize: bool,
+) -> Result<BoundedClauses, BoundedError>
+    requires starts { All HasConstantInit circuit.now.latchs }
+    requires some { 1 ≤ limit }
+    requires few { limit ≤ 2 ^ 31 }
+    ensures { IfOk result (IsEncodedQuestion circuit.now k optimize) }
+{
+    let question = bounded_question(alloc, circuit, k, limit)?;
+    let made = clauses_of(alloc, question, optimize)?;
+    Ok(made)
+}
+
+/// The clauses of the question of a file's circuit, unless nothing is asked of it.
+fn ask_file(
+    alloc: Global,
+    lists: &CircuitLists,
+    limit: usize,
+    k: usize,
+    optimize: bool,
+) -> Result<BoundedClauses, BoundedAnswerError>
+    requires circuit { IsCircuit (lists_circuit lists.now) }
+    requires starts { All HasConstantInit lists.now.latchs.items }
+    requires some { 1 ≤ limit }
+    requires few { limit ≤ 2 ^ 31 }
+    ensures bads { IfOk result (λ _. lists.now.properties.bads.items ≢ []) }
+    ensures asks { IfOk result (IsEncodedQuestion (lists_circuit lists.now) k optimize) }
+{
+    if lists.properties.bads.is_empty() {
+        return Err(BoundedAnswerError::NoBads);
+    }
+    let made = ask(alloc, &CircuitView::new(lists), limit, k, optimize)?;
+    Ok(made)
+}
+
+/// Reads a circuit from the bytes of an AIGER file, and makes the clauses of one question: whether some bad state is
+/// reached, within the constraints, at a step from 0 to `k` on a run from an initial state. The further clause is that the
+/// question's output is true. A file without bad state properties is refused, as nothing is asked of it. Requires
+/// `1 <= limit <= 2^31`.
+pub fn bounded<R: Source>(
+    alloc: Global,
+    r: &mut R,
+    limit: usize,
+    k: usize,
+    optimize: bool,
+) -> Result<BoundedClauses, BoundedAnswerError>
+    requires some { 1 ≤ limit }
+    requires few { limit ≤ 2 ^ 31 }
+    // The bytes that were read are a file within the limit, with a bad literal, and the clauses are those of its question.
+    ensures { IfOk result (IsReadAs (IsAskedWithin limit) (λ f. AsksBounded f k optimize)
+        (R.left r.old) (R.left r.new)) }
+{
+    let lists = read(alloc, r, limit)?;
+    let made = ask_file(alloc, &lists, limit, k, optimize)?;
+    Ok(made)
+}

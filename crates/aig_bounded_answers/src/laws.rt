@@ -1,0 +1,22 @@
+//! Laws of the clauses of bounded checks.
+
+ghost use Rattle.std.specs.Prelude.{◌≡◌, ◌↔◌, ◌++◌, ℕ, Bool, false, All};
+ghost use Rattle.aig_base.specs.Formula.{IsSatisfiable, clauses_in};
+ghost use Rattle.aig_circuit.specs.Edge.{edge_to};
+ghost use Rattle.aig_format.specs.File.{File};
+ghost use Rattle.aig_format.specs.Fits.{Fits};
+ghost use Rattle.aig_runs.specs.Queries.{IsSafeTo};
+ghost use Rattle.aig_bounded_answers.specs.declared.clauses.BoundedClauses.{BoundedClauses};
+ghost use Rattle.aig_bounded_answers.specs.Asking.{AsksBounded};
+
+/// Law: the clauses of a file's question can't be satisfied exactly where no bad state is reached up to the last step; and none
+/// is where the question's output is the constant false.
+pub fn refuted_questions_are_safe()
+    ensures refuted { (f : File) (limit k : ℕ) (optimize : Bool) (made : BoundedClauses)
+        → Fits f limit → AsksBounded f k optimize made
+        → (¬ IsSatisfiable (clauses_in made.clauses ++ made.further)) ↔ IsSafeTo f k }
+    ensures folded { (f : File) (limit k : ℕ) (optimize : Bool) (made : BoundedClauses)
+        → Fits f limit → AsksBounded f k optimize made
+        → All (λ e. e ≡ edge_to 0 false) made.question.circuit.properties.outputs.items
+        → IsSafeTo f k }
+{}

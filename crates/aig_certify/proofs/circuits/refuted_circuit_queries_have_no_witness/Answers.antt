@@ -1,5 +1,0 @@
-use Rattle.aig_certify.proofs.Refuted.{refuted_both}
-use Rattle.aig_certify.proofs.circuits.refuted_circuit_queries_have_no_witness.Goals as goal
-
-pub returns : goal.returns
-returns c = λ circuit unrolled k clauses further asks none w. refuted_both clauses further none (asks.satisfiable.1 w)

@@ -1,5 +1,0 @@
-use Rattle.aig_runs.proofs.Safety.{safe_is}
-use Rattle.aig_certify.proofs.laws.safe_steps_are_safe.Goals as goal
-
-pub returns : goal.returns
-returns c = λ f n. (safe_is f n).0

@@ -1,3 +1,0 @@
-pub mod Parse
-pub mod ParseTested
-pub mod Writable

@@ -1,5 +1,0 @@
-use Rattle.aig_reader.proofs.MarkedBits.{bits_after_set}
-use Rattle.aig_reader.proofs.bits.set_bit.Goals as goal
-
-pub returns : goal.returns
-returns c = bits_after_set c.args.words.now c.args.place c.requires

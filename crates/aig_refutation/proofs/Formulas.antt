@@ -1,0 +1,199 @@
+-- The clauses of a formula, as they are taken and compared with a proof's text.
+use Rattle.std.proofs.Common.{◌≡◌, ℕ, zero, suc, ◌<◌, ◌≤◌, Bool, true, false, ◌&&◌, inl, Option, Some, None, Result, Ok, Err, List, [], ◌∷◌, ◌++◌, length, slice_get, get_or, refl, sym, ap, subst, ◌∙◌, arith}
+use Rattle.std.specs.List.{Contains}
+use Rattle.std.proofs.lemmas.List.Elements.{Contains-get_or}
+use Rattle.std.proofs.lemmas.Option.{get_or_from_slice_get, slice_get_within}
+use Rattle.std.specs.Prelude.{IfSome}
+use Rattle.std.specs.Io.KnownBytes.{prepend_known}
+use Rattle.std.proofs.KnownBytes.{prepend_known-nil}
+use Rattle.std.proofs.lemmas.Bool.{false≢true}
+use Rattle.std.proofs.lemmas.List.Folds.{list_all-append}
+use Rattle.aig_base.specs.declared.logic.literal.Lit.{Lit}
+use Rattle.aig_base.specs.Clauses.{number_of_lit}
+use Rattle.aig_base.specs.Formula.{clauses_in}
+use Rattle.aig_refutation.specs.declared.error.RefutationError.{RefutationError}
+use Rattle.aig_refutation.specs.declared.error.RefutationError.TheVariants as errors
+use Rattle.aig_refutation.specs.Checking.{IsInConflict, Shows, all_live, are_all_in, are_in, shown_by}
+use Rattle.aig_refutation.specs.Concluding.{IsFormula, RefusesFormula, ShowsText, text_outcome}
+use Rattle.aig_refutation.specs.Tables.{Checked, HoldsFormula}
+use Rattle.aig_refutation.specs.Words.{Tells}
+use Rattle.aig_lexer.specs.Takes.{Feed}
+use Rattle.aig_refutation.proofs.Known.{tells_on}
+
+-- ---- clauses at their places
+
+pub contains_at : (clauses : List (List Lit)) (i : ℕ) (clause : List Lit) → slice_get clauses i ≡ Some
+    clause → Contains clauses clause
+contains_at clauses i clause is = subst (Contains clauses) (get_or_from_slice_get clauses i clause []
+    is) (Contains-get_or clauses i [] (slice_get_within clauses i clause is))
+
+pub empty_of : (clause : List Lit) → length clause < 1 → clause ≡ []
+empty_of [] small = refl
+empty_of (lit ∷ clause) small = absurd (omega (arith, small))
+
+pub one_of : (clause : List Lit) (d : Lit) → 1 ≤ length clause → length clause < 2 → clause ≡ get_or
+    clause 0 d ∷ []
+one_of [] d least small = absurd (omega (arith, least))
+one_of (lit ∷ []) d least small = refl
+one_of (lit ∷ other ∷ clause) d least small = absurd (omega (arith, small))
+
+-- literals of one number are one
+pub same_number : (a b : Lit) → number_of_lit a ≡ number_of_lit b → a ≡ b
+same_number a b is = let lit_of : ℕ → Lit = λ n. record { code = n } in ap lit_of is
+
+-- ---- variables of clauses
+
+and_false : (b : Bool) → (b && false) ≡ false
+and_false true = refl
+and_false false = refl
+
+module _ (variables : ℕ) where
+  pub inside_more : (now old : List (List Lit)) (clause : List Lit) → now ≡ old ++ clause ∷ [] →
+      are_all_in variables old ≡ true → are_in variables clause ≡ true → are_all_in variables now ≡
+      true
+  inside_more now old clause is before inside = ap (are_all_in variables) is ∙ list_all-append
+      (are_in variables) old (clause ∷ []) ∙ rw (before, inside) refl
+
+  -- a clause is out
+  pub one_out : (clauses : List (List Lit)) (i : ℕ) (clause : List Lit) → slice_get clauses i ≡ Some
+      clause → are_in variables clause ≡ false → are_all_in variables clauses ≡ false
+  one_out [] i clause there out = cc
+  one_out (c ∷ clauses) zero clause there out = let same : c ≡ clause = cc in ap (λ (b : Bool). b &&
+      are_all_in variables clauses) (ap (are_in variables) same ∙ out)
+  one_out (c ∷ clauses) (suc i) clause there out = ap (λ (b : Bool). are_in variables c && b)
+      (one_out clauses i clause there out) ∙ and_false (are_in variables c)
+
+  -- one of these lists is out
+  pub part_out : (lists : List (List (List Lit))) (further : List (List Lit)) (i : ℕ) (clauses :
+      List (List Lit)) → slice_get lists i ≡ Some clauses → are_all_in variables clauses ≡ false →
+      are_all_in variables (clauses_in lists ++ further) ≡ false
+  part_out [] further i clauses there out = cc
+  part_out (c ∷ lists) further zero clauses there out =
+      let same : c ≡ clauses = cc in
+      list_all-append (are_in variables) (c ++ clauses_in lists) further ∙ ap (λ (b : Bool). b &&
+      are_all_in variables further) (list_all-append (are_in variables) c (clauses_in lists) ∙ ap
+      (λ (b : Bool). b && are_all_in variables (clauses_in lists)) (ap (are_all_in variables) same ∙
+      out))
+  part_out (c ∷ lists) further (suc i) clauses there out =
+      let later = part_out lists further i clauses there out in
+      let here : are_all_in variables ((c ++ clauses_in lists) ++ further) ≡ (are_all_in variables c
+      && are_all_in variables (clauses_in lists ++ further)) = list_all-append (are_in variables) (c
+      ++ clauses_in lists) further ∙ ap (λ (b : Bool). b && are_all_in variables further) (list_all-append (are_in variables) c (clauses_in lists)) ∙ and_assoc (are_all_in variables
+      c) (are_all_in variables (clauses_in lists)) (are_all_in variables further) ∙ ap (λ (b : Bool). are_all_in variables c && b) (sym (list_all-append (are_in variables) (clauses_in lists) further)) in
+      here ∙ ap (λ (b : Bool). are_all_in variables c && b) later ∙ and_false (are_all_in variables
+      c)
+    where
+      and_assoc : (a b c : Bool) → ((a && b) && c) ≡ (a && (b && c))
+      and_assoc true b c = refl
+      and_assoc false b c = refl
+
+  pub last_out : (clauses further : List (List Lit)) → are_all_in variables further ≡ false →
+      are_all_in variables (clauses ++ further) ≡ false
+  last_out clauses further out = list_all-append (are_in variables) clauses further ∙ ap (λ (b :
+      Bool). are_all_in variables clauses && b) out ∙ and_false (are_all_in variables clauses)
+
+-- the last ones are refused
+pub refused_last : {X : Type 0} (n m : ℕ) → n ≡ m → (clauses further : List (List Lit)) (r : Result X
+    RefutationError) → RefusesFormula n further r → RefusesFormula m (clauses ++ further) r
+refused_last n m is clauses further (Ok x) h = tt
+refused_last n m is clauses further (Err e) h = tells_on e ((e ≡ errors.Variable) × (are_all_in n
+    further ≡ false)) ((e ≡ errors.Variable) × (are_all_in m (clauses ++ further) ≡ false)) (λ
+    wrong. (
+      wrong.0,
+      ap (λ (k : ℕ). are_all_in k (clauses ++ further)) (sym is) ∙ last_out n clauses further wrong.1,
+    )) h
+
+-- ---- the first clauses
+
+-- no clauses are those of a formula
+pub formula_empty : (variables : ℕ) → IsFormula (record {
+  table = record { clauses = []; numbers = []; places = []; added = 0 };
+  variables = variables;
+})
+unfolding all_live
+formula_empty variables = record {
+  holds = record {
+    holds = record {
+      table = record {
+        count = refl;
+        numbering = record {
+          few = omega arith;
+          within = λ n. inl (omega arith);
+          named = λ n i is small. absurd (omega arith);
+        };
+      };
+      there = λ n. tt;
+      used = λ n. refl;
+      added = refl;
+    };
+    row = record { all = refl; next = refl };
+  };
+  inside = refl;
+}
+
+-- one clause more
+pub formula_more : (old new : Checked) (clause : List Lit) → IsFormula old → new.table.clauses ≡ old.table.clauses ++ clause ∷ [] →
+    new.variables ≡ old.variables → HoldsFormula new.table → are_in old.variables clause ≡ true →
+    IsFormula new
+formula_more old new clause before is same holds inside = record {
+  holds = holds;
+  inside = ap (λ (n : ℕ). are_all_in n new.table.clauses) same ∙ inside_more old.variables
+      new.table.clauses old.table.clauses clause is before.inside inside;
+}
+
+-- ---- what is promised
+
+module _ (variables : ℕ) (clauses : List (List Lit)) (text : Option (List ℕ)) where
+  abbrev IsShown : Result (Unit {0}) RefutationError → Type 0
+  IsShown result = are_all_in variables clauses ≡ true → (IsInConflict clauses → ⊥) → IfSome text (λ
+      bytes. IfSome (shown_by variables clauses bytes) (λ shown. result ≡ shown))
+
+  pub shows_err : (e : RefutationError) → Tells e (IsShown (Err e)) → Shows variables clauses text
+      (Err e)
+  shows_err errors.Memory t = tt
+  shows_err errors.Stream t = tt
+  shows_err errors.Variable t = t
+  shows_err errors.Line t = t
+  shows_err errors.Literal t = t
+  shows_err errors.Unnamed t = t
+  shows_err errors.Twice t = t
+  shows_err errors.Large t = t
+  shows_err errors.Step t = t
+  shows_err errors.Asymmetry t = t
+  shows_err errors.Binary t = t
+  shows_err errors.Unfinished t = t
+
+  -- a literal has no variable
+  pub shows_refused : (e : RefutationError) → Tells e ((e ≡ errors.Variable) ×
+      (are_all_in variables clauses ≡ false)) → Shows variables clauses text (Err e)
+  shows_refused e h = shows_err e (tells_on e _ (IsShown (Err e)) (λ out inside conflict. absurd
+      (false≢true (sym out.1 ∙ inside))) h)
+
+  -- the clauses are in conflict at once
+  pub shows_conflict : (e : RefutationError) → Tells e (IsInConflict clauses) → Shows variables
+      clauses text (Err e)
+  shows_conflict e h = shows_err e (tells_on e _ (IsShown (Err e)) (λ is inside conflict. absurd
+      (conflict is)) h)
+
+  -- the text is known, or nothing is said of it
+  known : (P : List ℕ → Type 0) → ((bytes : List ℕ) → text ≡ Some bytes → P bytes) → IfSome text P
+  known P h = by text refl
+    where
+      by : (o : Option (List ℕ)) → text ≡ o → IfSome o P
+      by None is = tt
+      by (Some bytes) is = h bytes is
+
+  turned : (o : Option (Result (Unit {0}) RefutationError)) (r : Result (Unit {0}) RefutationError) →
+      IfSome o (λ x. x ≡ r) → IfSome o (λ x. r ≡ x)
+  turned None r h = tt
+  turned (Some x) r h = sym h
+
+  -- the steps of the text were checked
+  pub shows_text : (f : Feed) → f.coming ≡ prepend_known [] text → (r : Result (Unit {0})
+      RefutationError) → ShowsText f (text_outcome variables (all_live clauses)) r → Shows variables
+      clauses text r
+  shows_text f is (Ok done) h = λ inside conflict. known _ (λ bytes there. turned (text_outcome
+      variables (all_live clauses) bytes) (Ok tt) (h bytes (is ∙ prepend_known-nil text ∙ there)))
+  shows_text f is (Err e) h = shows_err e (tells_on e _ (IsShown (Err e)) (λ says inside conflict.
+      known _ (λ bytes there. turned (text_outcome variables (all_live clauses) bytes) (Err e) (says
+      bytes (is ∙ prepend_known-nil text ∙ there)))) h)

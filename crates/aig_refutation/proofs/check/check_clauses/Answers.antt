@@ -1,0 +1,62 @@
+use Rattle.std.proofs.Common.{◌≡◌, ℕ, Bool, false, ◌++◌, List, Ok, [], length, refl, sym, ap, subst, ◌∙◌}
+use Rattle.std.proofs.lemmas.Result.{err_from_is_err_and}
+use Rattle.aig_base.specs.declared.logic.literal.Lit.{Lit}
+use Rattle.aig_base.specs.Formula.{clauses_in}
+use Rattle.aig_lexer.specs.Takes.{feed}
+use Rattle.aig_refutation.specs.declared.error.RefutationError.TheVariants as errors
+use Rattle.aig_refutation.specs.Checking.{IsInConflict, all_live, are_all_in}
+use Rattle.aig_refutation.specs.Concluding.{ConcludesConflict, ShowsText, text_outcome}
+use Rattle.aig_refutation.specs.Tables.{Checked, Holds}
+use Rattle.aig_refutation.specs.Words.{Tells}
+use Rattle.aig_refutation.proofs.Formulas.{shows_conflict, shows_refused, shows_text}
+use Rattle.aig_refutation.proofs.check.check_clauses.Goals as goal
+
+pub returns-in_err-number_clauses-clause-shown : goal.returns-in_err-number_clauses-clause-shown
+returns-in_err-number_clauses-clause-shown g c formula same fresh =
+    let clauses = clauses_in c.args.cnf.now ++ c.args.further.now in
+    let e = c.in_err-number_clauses.field-0.0 in
+    let p = err_from_is_err_and c.from_residual.result c.from_residual.ensures.1 in
+    rw (p.1, p.2)
+    (shows_refused (length c.args.cnf.now) clauses (g.R.Source.left c.args.r.now) e (subst (λ (n :
+    ℕ). Tells e ((e ≡ errors.Variable) × (are_all_in n clauses ≡ false))) same
+    (c.in_err-number_clauses.ensures.refused formula)))
+
+pub returns-in_err-refutes_at_once-clause-shown : goal.returns-in_err-refutes_at_once-clause-shown
+returns-in_err-refutes_at_once-clause-shown g c formula same fresh =
+    let clauses = clauses_in c.args.cnf.now ++ c.args.further.now in
+    let e = c.in_err-refutes_at_once.field-0.0 in
+    let p = err_from_is_err_and c.from_residual-in_err-refutes_at_once.result
+    c.from_residual-in_err-refutes_at_once.ensures.1 in
+    rw (p.1, p.2)
+    (shows_conflict (length c.args.cnf.now) clauses (g.R.Source.left c.args.r.now) e (subst (λ (list
+    : List (List Lit)). Tells e (IsInConflict list)) c.in_ok-number_clauses.ensures.formula
+    c.in_err-refutes_at_once.ensures.conflict))
+
+pub returns-then-branch-clause-shown : goal.returns-then-branch-clause-shown
+returns-then-branch-clause-shown g c formula same fresh = λ inside no_conflict.
+    let is : IsInConflict c.number_clauses.new.checker.table.clauses = subst (λ (b : Bool).
+    ConcludesConflict c.number_clauses.new.checker.table.clauses (Ok b)) c.if-branch.true
+    c.in_ok-refutes_at_once.ensures.conflict in
+    absurd (no_conflict (subst IsInConflict c.in_ok-number_clauses.ensures.formula is))
+
+pub returns-clause-shown : goal.returns-clause-shown
+returns-clause-shown g c formula same fresh =
+    let clauses = clauses_in c.args.cnf.now ++ c.args.further.now in
+    let live = all_live clauses in
+    let before = feed g.R.Source.left g.R.Source.failed g.R.Source.pulls [] c.args.r.now in
+    let table = c.number_clauses.new.checker.table in
+    let kept = c.in_ok-refutes_at_once.ensures.same c.if-branch.false in
+    let here : Holds table live = subst (λ (list : List (List Lit)). Holds table (all_live list))
+    c.in_ok-number_clauses.ensures.formula (c.in_ok-number_clauses.ensures.holds
+    formula).holds.holds in
+    let holds : Holds c.refutes_at_once.new.checker.table live = subst (λ (checker : Checked). Holds
+    checker.table live) (sym kept) here in
+    let count = c.num_vars.ensures.count in
+    let variables : c.refutes_at_once.new.checker.variables ≡ c.num_vars.result =
+    ap (λ checker. checker.variables) kept ∙ c.in_ok-number_clauses.ensures.variables ∙ same ∙ sym
+    count in
+    let shown : ShowsText before (text_outcome (length c.args.cnf.now) live) c.check_steps.result =
+    subst (λ (n : ℕ). ShowsText before (text_outcome n live) c.check_steps.result) count
+    (c.check_steps.ensures.shown live fresh holds variables) in
+    shows_text (length c.args.cnf.now) clauses (g.R.Source.left c.args.r.now) before refl
+    c.check_steps.result shown

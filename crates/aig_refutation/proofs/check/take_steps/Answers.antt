@@ -1,0 +1,120 @@
+use Rattle.std.proofs.Common.{Bool, true, false, Ok, Err, ℕ, subst, ◌∙◌}
+use Rattle.std.proofs.lemmas.Result.{err_from_is_err_and}
+use Rattle.aig_refutation.specs.Concluding.{TakesStep}
+use Rattle.aig_refutation.specs.Reading.{GivesStep, said_by}
+use Rattle.aig_refutation.specs.Words.{place}
+use Rattle.aig_refutation.proofs.Following.{implied_on}
+use Rattle.aig_refutation.proofs.Outcomes.{loop_last, loop_more, loop_none, loop_unread, loop_wrong}
+use Rattle.aig_refutation.proofs.check.take_steps.Goals as goal
+
+pub returns-in_err-take_step-clause-shown : goal.returns-in_err-take_step-clause-shown
+returns-in_err-take_step-clause-shown g c live none holds same =
+    let at = place g.R.Source.left g.R.Source.failed g.R.Source.pulls in
+    let before = at c.args.words.now c.args.r.now in
+    let mid = at c.steps.words c.steps.r in
+    let variables = c.args.variables in
+    let first = said_by c.args.step.now in
+    let step = said_by c.steps.step in
+    let t = c.take_step.new.checker.table in
+    let s = c.steps.invariant.shown live none holds same in
+    let e = c.in_err-take_step.field-0.0 in
+    let p = err_from_is_err_and c.from_residual.result c.from_residual.ensures.1 in
+    let wrong : TakesStep variables s.now t (Err e) step = subst (λ (n : ℕ). TakesStep n s.now t (Err
+    e) step) s.variables (c.in_err-take_step.ensures.takes s.now s.search s.holds) in
+    rw (p.1, p.2) (loop_wrong variables live first before s.now step mid s.goes t e wrong)
+
+pub returns-in_err-read-clause-shown : goal.returns-in_err-read-clause-shown
+returns-in_err-read-clause-shown g c live none holds same =
+    let at = place g.R.Source.left g.R.Source.failed g.R.Source.pulls in
+    let before = at c.args.words.now c.args.r.now in
+    let mid = at c.steps.words c.steps.r in
+    let variables = c.args.variables in
+    let first = said_by c.args.step.now in
+    let step = said_by c.steps.step in
+    let t = c.take_step.new.checker.table in
+    let s = c.steps.invariant.shown live none holds same in
+    let on : TakesStep variables s.now t (Ok false) step = subst (λ (b : Bool). TakesStep variables
+    s.now t (Ok b) step) c.if-not-branch.true (subst (λ (n : ℕ). TakesStep n s.now t (Ok
+    c.in_ok-take_step.field-0) step) s.variables (c.in_ok-take_step.ensures.takes s.now s.search
+    s.holds)) in
+    let after = at c.read.new.words c.read.new.r in
+    let other = said_by c.read.new.self in
+    let numbered = c.in_ok-take_step.ensures.numbered s.search in
+    let e = c.in_err-read.field-0.0 in
+    let p = err_from_is_err_and c.from_residual-in_err-read.result
+    c.from_residual-in_err-read.ensures.1 in
+    let given : GivesStep true variables other mid after (Err e) = subst (λ (b : Bool). GivesStep b
+    variables other mid after (Err e)) numbered.1 c.in_err-read.ensures.step in
+    rw (p.1, p.2)
+    (loop_unread variables live first before s.now step mid s.goes t on other after e given)
+
+pub returns-then-not-branch-2-clause-shown : goal.returns-then-not-branch-2-clause-shown
+returns-then-not-branch-2-clause-shown g c live none holds same =
+    let at = place g.R.Source.left g.R.Source.failed g.R.Source.pulls in
+    let before = at c.args.words.now c.args.r.now in
+    let mid = at c.steps.words c.steps.r in
+    let variables = c.args.variables in
+    let first = said_by c.args.step.now in
+    let step = said_by c.steps.step in
+    let t = c.take_step.new.checker.table in
+    let s = c.steps.invariant.shown live none holds same in
+    let on : TakesStep variables s.now t (Ok false) step = subst (λ (b : Bool). TakesStep variables
+    s.now t (Ok b) step) c.if-not-branch.true (subst (λ (n : ℕ). TakesStep n s.now t (Ok
+    c.in_ok-take_step.field-0) step) s.variables (c.in_ok-take_step.ensures.takes s.now s.search
+    s.holds)) in
+    let after = at c.read.new.words c.read.new.r in
+    let other = said_by c.read.new.self in
+    let numbered = c.in_ok-take_step.ensures.numbered s.search in
+    let given : GivesStep true variables other mid after (Ok false) = subst (λ (b : Bool). GivesStep
+    true variables other mid after (Ok b)) c.if-not-branch-2.true (subst (λ (b : Bool). GivesStep b
+    variables other mid after (Ok c.in_ok-read.field-0)) numbered.1 c.in_ok-read.ensures.step) in
+    loop_none variables live first before s.now step mid s.goes t on other after given
+
+pub steps-preserved : goal.steps-preserved
+steps-preserved g c = record {
+  implied = implied_on _ _ _ c.steps.invariant.implied c.in_ok-take_step.ensures.implied;
+  shown = λ live none holds same.
+      let at = place g.R.Source.left g.R.Source.failed g.R.Source.pulls in
+      let before = at c.args.words.now c.args.r.now in
+      let mid = at c.steps.words c.steps.r in
+      let variables = c.args.variables in
+      let first = said_by c.args.step.now in
+      let step = said_by c.steps.step in
+      let t = c.take_step.new.checker.table in
+      let s = c.steps.invariant.shown live none holds same in
+      let on : TakesStep variables s.now t (Ok false) step = subst (λ (b : Bool). TakesStep variables
+      s.now t (Ok b) step) c.if-not-branch.true (subst (λ (n : ℕ). TakesStep n s.now t (Ok
+      c.in_ok-take_step.field-0) step) s.variables (c.in_ok-take_step.ensures.takes s.now s.search
+      s.holds)) in
+      let after = at c.read.new.words c.read.new.r in
+      let other = said_by c.read.new.self in
+      let numbered = c.in_ok-take_step.ensures.numbered s.search in
+      let given : GivesStep true variables other mid after (Ok true) = subst (λ (b : Bool). GivesStep
+      true variables other mid after (Ok b)) c.if-not-branch-2.false (subst (λ (b : Bool). GivesStep b
+      variables other mid after (Ok c.in_ok-read.field-0)) numbered.1 c.in_ok-read.ensures.step) in
+      let more = loop_more variables live first before s.now step mid s.goes t on other after given
+      in
+      record {
+        search = numbered.0;
+        variables = numbered.2 ∙ s.variables;
+        now = more.0;
+        holds = more.1;
+        goes = more.2;
+      };
+}
+
+pub returns-clause-shown : goal.returns-clause-shown
+returns-clause-shown g c live none holds same =
+    let at = place g.R.Source.left g.R.Source.failed g.R.Source.pulls in
+    let before = at c.args.words.now c.args.r.now in
+    let mid = at c.steps.words c.steps.r in
+    let variables = c.args.variables in
+    let first = said_by c.args.step.now in
+    let step = said_by c.steps.step in
+    let t = c.take_step.new.checker.table in
+    let s = c.steps.invariant.shown live none holds same in
+    let on : TakesStep variables s.now t (Ok true) step = subst (λ (b : Bool). TakesStep variables
+    s.now t (Ok b) step) c.if-not-branch.false (subst (λ (n : ℕ). TakesStep n s.now t (Ok
+    c.in_ok-take_step.field-0) step) s.variables (c.in_ok-take_step.ensures.takes s.now s.search
+    s.holds)) in
+    loop_last variables live first before s.now step mid s.goes t on

@@ -1,0 +1,72 @@
+-- Serves private clauses alone.
+-- What the steps that are left show.
+use Rattle.std.specs.Prelude.{◌≡◌, ℕ, Bool, true, false, List, Option, Some, None, IfSome, option_map, Result, Ok, Err}
+use Rattle.aig_base.specs.declared.logic.literal.Lit.{Lit}
+use Rattle.aig_lexer.specs.Takes.{Feed}
+use Rattle.aig_refutation.specs.declared.error.RefutationError.{RefutationError}
+use Rattle.aig_refutation.specs.declared.error.RefutationError.TheVariants as errors
+use Rattle.aig_refutation.specs.Checking.{IsInConflict, Live, are_all_in, is_last_step, outcome, taken}
+use Rattle.aig_refutation.specs.Proofs.{Script, script_if, script_of, then_lines}
+use Rattle.aig_refutation.specs.Steps.{Step}
+use Rattle.aig_refutation.specs.Tables.{Checked, Holds, HoldsFormula, Table}
+use Rattle.aig_refutation.specs.Text.{lines_of}
+use Rattle.aig_refutation.specs.Words.{Place, Says, Tells, lines_at}
+
+-- the clauses are those of a formula, whose literals all have variables
+pub record IsFormula (checker : Checked) : Type 0 where
+  pub holds : HoldsFormula checker.table
+  pub inside : are_all_in checker.variables checker.table.clauses ≡ true
+
+-- a formula's clauses are refused, where a literal has no variable
+abbrev pub RefusesFormula : {X : Type 0} → ℕ → List (List Lit) → Result X RefutationError → Type 0
+RefusesFormula variables clauses (Ok x) = Unit {0}
+RefusesFormula variables clauses (Err e) =
+    Tells e ((e ≡ errors.Variable) × (are_all_in variables clauses ≡ false))
+
+-- a step is taken, and whether it is the last
+abbrev pub MovesStep : Table → Result Bool RefutationError → Result Live RefutationError → Bool
+    → Type 0
+MovesStep new (Ok done) said last =
+    (next : Live) × (said ≡ Ok next) × Holds new next × (done ≡ last)
+MovesStep new (Err e) said last = Tells e (said ≡ Err e)
+
+-- a step of a line is taken, which must have a number
+abbrev pub TakesStep : ℕ → Live → Table → Result Bool RefutationError → Option Step → Type 0
+TakesStep variables live new result (Some step) =
+    MovesStep new result (taken variables live step) (is_last_step step)
+TakesStep variables live new (Ok done) None = ⊥
+TakesStep variables live new (Err e) None = Tells e (e ≡ errors.Line)
+
+-- what steps show of the clauses that are there
+abbrev pub shown_of : ℕ → Live → Script → Result (Unit {0}) RefutationError
+shown_of variables live script = outcome variables live script.steps script.fault
+
+-- what a step and the lines after it show
+abbrev pub left_outcome : ℕ → Live → Option Step → Place → List ℕ
+    → Result (Unit {0}) RefutationError
+left_outcome variables live step place bytes =
+    shown_of variables live (then_lines (Ok step) (script_of variables (lines_at place.end bytes)))
+
+-- this is the result, memory and the stream aside
+abbrev pub Concludes : Feed → (List ℕ → Result (Unit {0}) RefutationError)
+    → Result (Unit {0}) RefutationError → Type 0
+Concludes before shown (Ok done) = Says before (λ bytes. shown bytes ≡ Ok tt)
+Concludes before shown (Err e) = Tells e (Says before (λ bytes. shown bytes ≡ Err e))
+
+-- the same of a whole text, where its first step has a number
+abbrev pub ShowsText : Feed → (List ℕ → Option (Result (Unit {0}) RefutationError))
+    → Result (Unit {0}) RefutationError → Type 0
+ShowsText before shown (Ok done) = Says before (λ bytes. IfSome (shown bytes) (λ x. x ≡ Ok tt))
+ShowsText before shown (Err e) =
+    Tells e (Says before (λ bytes. IfSome (shown bytes) (λ x. x ≡ Err e)))
+
+-- what a text shows, where its first step has a number
+abbrev pub text_outcome : ℕ → Live → List ℕ → Option (Result (Unit {0}) RefutationError)
+text_outcome variables live bytes =
+    option_map (shown_of variables live) (script_if variables (lines_of bytes))
+
+-- the clauses are in conflict at once, or there is no memory
+abbrev pub ConcludesConflict : List (List Lit) → Result Bool RefutationError → Type 0
+ConcludesConflict clauses (Ok true) = IsInConflict clauses
+ConcludesConflict clauses (Ok false) = Unit {0}
+ConcludesConflict clauses (Err e) = Tells e (IsInConflict clauses)

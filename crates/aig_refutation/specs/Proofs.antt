@@ -1,0 +1,180 @@
+-- Part of what is promised.
+-- The steps that a proof's text says, and why it says no further one. (LRAT: Cruz-Filipe, Heule,
+-- Hunt, Kaufmann and Schneider-Kamp, 2017. The lines are those that cadical writes.)
+use Rattle.std.specs.Prelude.{ℕ, ◌-◌, ◌==◌, Bool, true, false, not, ◌&&◌, ◌||◌, nat_lt, if◌then◌else◌, List, [], ◌∷◌, Option, Some, None, Result, Ok, Err}
+use Rattle.aig_base.specs.declared.logic.literal.Lit.{Lit}
+use Rattle.aig_base.specs.Clauses.{lit_to}
+use Rattle.aig_refutation.specs.declared.error.RefutationError.{RefutationError}
+use Rattle.aig_refutation.specs.declared.error.RefutationError.TheVariants as errors
+use Rattle.aig_refutation.specs.Steps.{Step, Adds, Deletes}
+use Rattle.aig_refutation.specs.Text.{Word, ◌>>=◌, begins, lines_of, word_in}
+use Rattle.aig_refutation.specs.Text as text
+
+-- ---- parts of a line
+
+-- why a line is no step in which a word is missing: the last line was cut off
+abbrev pub missing : Bool → RefutationError
+missing is_last = if is_last then errors.Unfinished else errors.Line
+
+-- the number that a word is
+abbrev pub number_of : Word → Result (Bool × ℕ) RefutationError
+number_of (text.Number positive value) = Ok (positive, value)
+number_of text.Deletes = Err errors.Line
+
+-- whether a number is the 0 after a list
+abbrev pub is_zero : Bool × ℕ → Bool
+is_zero n = n.1 == 0
+
+-- the number of a clause, which has no minus and isn't 0
+abbrev pub clause_number : Bool × ℕ → Result ℕ RefutationError
+clause_number n = if n.0 && not (is_zero n) then Ok n.1 else Err errors.Line
+
+-- the literal of a number: one more than its variable's number, and negative where it is inverted
+abbrev pub literal_of : ℕ → Bool × ℕ → Result Lit RefutationError
+literal_of variables n =
+    if is_zero n then Err errors.Line
+    else if nat_lt (n.1 - 1) variables then Ok (lit_to (n.1 - 1) n.0)
+    else Err errors.Literal
+
+-- a literal before those of a clause
+abbrev pub with_first : Lit → List Lit × List (List ℕ) → Result (List Lit × List (List ℕ))
+    RefutationError
+with_first lit rest = Ok (lit ∷ rest.0, rest.1)
+
+-- the clause up to its 0, and the words after it
+unfoldable pub clause_in : ℕ → Bool → List (List ℕ)
+    → Result (List Lit × List (List ℕ)) RefutationError
+clause_in variables is_last [] = Err (missing is_last)
+clause_in variables is_last (word ∷ words) = word_in word >>= number_of >>= λ n.
+    if is_zero n then Ok ([], words)
+    else (literal_of variables n >>= λ lit. clause_in variables is_last words >>= with_first lit)
+
+-- the same, where its first number was read
+unfoldable pub clause_from : ℕ → Bool → Bool × ℕ → List (List ℕ)
+    → Result (List Lit × List (List ℕ)) RefutationError
+clause_from variables is_last n words =
+    if is_zero n then Ok ([], words)
+    else (literal_of variables n >>= λ lit. clause_in variables is_last words >>= with_first lit)
+
+-- nothing more stands in the line
+unfoldable pub ended : List (List ℕ) → Result (Unit {0}) RefutationError
+ended [] = Ok tt
+ended (word ∷ words) = word_in word >>= λ more. Err errors.Line
+
+-- a number before others
+abbrev pub with_number : ℕ → List ℕ → Result (List ℕ) RefutationError
+with_number n numbers = Ok (n ∷ numbers)
+
+-- numbers of clauses up to the 0 that ends the line, where a negative one is this error
+unfoldable pub numbers_in : RefutationError → Bool → List (List ℕ) → Result (List ℕ) RefutationError
+numbers_in negative is_last [] = Err (missing is_last)
+numbers_in negative is_last (word ∷ words) = word_in word >>= number_of >>= λ n.
+    if is_zero n then (ended words >>= λ end. Ok [])
+    else if n.0 then (numbers_in negative is_last words >>= with_number n.1)
+    else Err negative
+
+-- the same, where the first of them was read
+unfoldable pub numbers_from : RefutationError → Bool → Bool × ℕ → List (List ℕ)
+    → Result (List ℕ) RefutationError
+numbers_from negative is_last n words =
+    if is_zero n then (ended words >>= λ end. Ok [])
+    else if n.0 then (numbers_in negative is_last words >>= with_number n.1)
+    else Err negative
+
+-- ---- lines
+
+-- a step of a DRAT file, of which no more is said here
+abbrev pub unnumbered : {A : Type 0} → A → Result (Option Step) RefutationError
+unnumbered x = Ok None
+
+-- what a line says after a number and a clause: hints, or the clause is the whole line and begins
+-- with that number, unless the lines before had numbers
+unfoldable pub after_clause : Bool → ℕ → Bool → Bool × ℕ → List Lit → List (List ℕ)
+    → Result (Option Step) RefutationError
+after_clause numbered variables is_last n clause [] =
+    if numbered then Err (missing is_last) else (literal_of variables n >>= unnumbered)
+after_clause numbered variables is_last n clause (word ∷ words) =
+    word_in word >>= number_of >>= λ hint. clause_number n >>= λ number.
+    numbers_from errors.Asymmetry is_last hint words >>= λ hints. Ok (Some (Adds number clause
+    hints))
+
+-- what a line says after a number and this word
+unfoldable pub after_word : Bool → ℕ → Bool → Bool × ℕ → Word → List (List ℕ)
+    → Result (Option Step) RefutationError
+after_word numbered variables is_last n text.Deletes words = clause_number n >>= λ number.
+    numbers_in errors.Line is_last words >>= λ numbers. Ok (Some (Deletes numbers))
+after_word numbered variables is_last n (text.Number positive value) words =
+    clause_from variables is_last (positive, value) words >>= λ rest.
+    after_clause numbered variables is_last n rest.0 rest.1
+
+-- what a line says after a number
+unfoldable pub after_number : Bool → ℕ → Bool → Bool × ℕ → List (List ℕ)
+    → Result (Option Step) RefutationError
+after_number numbered variables is_last n [] = if is_zero n then Ok None else Err (missing is_last)
+after_number numbered variables is_last n (word ∷ words) =
+    word_in word >>= λ next. after_word numbered variables is_last n next words
+
+-- what a line says after its first word
+unfoldable pub after_first : Bool → ℕ → Bool → Word → List (List ℕ)
+    → Result (Option Step) RefutationError
+after_first numbered variables is_last text.Deletes words =
+    clause_in variables is_last words >>= λ rest. ended rest.1 >>= unnumbered
+after_first numbered variables is_last (text.Number positive value) words =
+    after_number numbered variables is_last (positive, value) words
+
+-- the step of a line, none where it is one of a DRAT file; whether lines before had numbers,
+-- and whether it is the last
+unfoldable pub line_in : Bool → ℕ → Bool → List ℕ → List (List ℕ) → Result (Option Step)
+    RefutationError
+line_in numbered variables is_last word words =
+    if begins 97 word then Err errors.Binary
+    else (word_in word >>= λ first. after_first numbered variables is_last first words)
+
+-- ---- texts
+
+-- what a text says: steps, and what is wrong where there is no further one
+pub record Script : Type 0 where
+  pub steps : List Step
+  pub fault : RefutationError
+
+-- whether a line says nothing that begins with this word
+abbrev pub is_comment : List ℕ → Bool
+is_comment word = begins 99 word || begins 112 word
+
+-- whether no line follows
+abbrev pub is_none : List (List (List ℕ)) → Bool
+is_none [] = true
+is_none (line ∷ lines) = false
+
+-- what a line of an LRAT file says, and then others
+abbrev pub then_lines : Result (Option Step) RefutationError → Script → Script
+then_lines (Ok (Some step)) rest = record { steps = step ∷ rest.steps; fault = rest.fault }
+then_lines (Ok None) rest = record { steps = []; fault = errors.Line }
+then_lines (Err e) rest = record { steps = []; fault = e }
+
+-- what lines say after a step that has a number
+unfoldable pub script_of : ℕ → List (List (List ℕ)) → Script
+script_of variables [] = record { steps = []; fault = errors.Unfinished }
+script_of variables ([] ∷ lines) = script_of variables lines
+script_of variables ((word ∷ words) ∷ lines) =
+    if is_comment word then script_of variables lines
+    else then_lines (line_in true variables (is_none lines) word words) (script_of variables lines)
+
+-- the same, unless the first line is a step of a DRAT file
+abbrev pub if_numbered : Result (Option Step) RefutationError → Script → Option Script
+if_numbered (Ok None) rest = None
+if_numbered said rest = Some (then_lines said rest)
+
+-- what lines say whose first step has a number, or is none
+unfoldable pub script_if : ℕ → List (List (List ℕ)) → Option Script
+script_if variables [] = None
+script_if variables ([] ∷ lines) = script_if variables lines
+script_if variables ((word ∷ words) ∷ lines) =
+    if is_comment word then script_if variables lines
+    else if_numbered (line_in false variables (is_none lines) word words)
+    (script_of variables lines)
+
+-- the steps that the bytes of a proof say, if the first line that is one has the form of an LRAT
+-- file
+abbrev pub steps_in : ℕ → List ℕ → Option Script
+steps_in variables bytes = script_if variables (lines_of bytes)

@@ -1,0 +1,100 @@
+-- The clauses of a window are of variables that are there.
+use Rattle.std.proofs.Common.{◌≡◌, ℕ, ◌+◌, ◌*◌, ◌<◌, ◌≤◌, Bool, false, not, List, [], ◌∷◌, ◌++◌, length, map, drop, sym, ap, subst, ◌∙◌, arith, length-drop, length-append}
+use Rattle.std.specs.Prelude.{All, replicate}
+use Rattle.std.proofs.Math.Nat.{add-mul, mul-le-mul_right}
+use Rattle.std.proofs.lemmas.List.{append-nil, length-take-le, length-replicate, length-map}
+use Rattle.std.proofs.lemmas.List.Elements.{All-append, All-drop, All-from_recursion, All-take, All-weaker, recursion_from_All}
+use Rattle.aig_base.specs.declared.logic.literal.Lit.{Lit}
+use Rattle.aig_base.specs.Clauses as clauses
+use Rattle.aig_base.specs.Clauses.{variable_of}
+use Rattle.aig_base.proofs.Literals.{variable_of-lit_to}
+use Rattle.aig_circuit.specs.declared.edge.AigEdge.{AigEdge}
+use Rattle.aig_circuit.specs.Edge.{inverse, lit_of}
+use Rattle.aig_circuit.specs.Circuit.{Circuit, IsCircuit}
+use Rattle.aig_format.proofs.Entries.{rec_append}
+use Rattle.aig_unroll.specs.Unroll.{UnrollsTo}
+use Rattle.aig_runs.specs.Queries.{last_bads, unit_clauses}
+use Rattle.aig_runs.specs.declared.window.Window.{Window}
+use Rattle.aig_runs.specs.declared.window.Window.TheVariants.{Plain, Distinct}
+use Rattle.aig_runs.specs.WindowClauses.{AsksWindow, count_free, count_pairs, distinct_clauses, first_bads, induction_clauses, state_at, state_edges, watched}
+use Rattle.aig_runs.proofs.Differing.{AreBelow, AreEdgesBelow, IsBelow, distinct_below}
+
+-- ---- the clauses of edges
+
+units_below : (n : ℕ) (es : List AigEdge) → AreEdgesBelow n es → AreBelow n (unit_clauses es)
+units_below n [] low = tt
+units_below n (e ∷ es) low = let here = low.0 in ((omega (arith, variable_of-lit_to e.node_id (not e.compl)), tt), units_below n es low.1)
+
+inverses_below : (n : ℕ) (es : List AigEdge) → AreEdgesBelow n es → AreEdgesBelow n (map inverse es)
+inverses_below n [] low = tt
+inverses_below n (e ∷ es) low = (low.0, inverses_below n es low.1)
+
+any_below : (n : ℕ) (es : List AigEdge) → AreEdgesBelow n es → IsBelow n (map lit_of es)
+any_below n [] low = tt
+any_below n (e ∷ es) low = let here = low.0 in (omega (arith, variable_of-lit_to e.node_id (not e.compl)), any_below n es low.1)
+
+-- the edges are in range, as recursion says it
+in_order : (n : ℕ) (es : List AigEdge) → All (λ e. e.node_id < n) es → AreEdgesBelow n es
+in_order n es all = recursion_from_All (λ e. e.node_id < n) es all
+
+pub induction_below : (c u : Circuit) (k n : ℕ) → n ≡ length u.nodes → IsCircuit u → AreBelow n (induction_clauses c k u)
+induction_below c u k n has is =
+    let Below = λ (e : AigEdge). e.node_id < n in
+    let range = λ (es : List AigEdge) (all : All (λ e. e.node_id < length u.nodes) es). subst (λ m. All (λ e. e.node_id < m) es) (sym has) all in
+    let early = first_bads c k u in
+    let first = units_below n u.properties.constraints (in_order n u.properties.constraints (range u.properties.constraints is.properties.constraints)) in
+    let second = units_below n (map inverse early) (inverses_below n early (in_order n early (All-take Below ((k + 1) * length c.properties.bads) u.properties.bads (range u.properties.bads is.properties.bads)))) in
+    let third = any_below n (last_bads c (k + 1) u) (in_order n (last_bads c (k + 1) u) (All-drop Below ((k + 1) * length c.properties.bads) u.properties.bads (range u.properties.bads is.properties.bads))) in
+    (rec_append (IsBelow n) (unit_clauses u.properties.constraints ++ unit_clauses (map inverse early)) (map lit_of (last_bads c (k + 1) u) ∷ [])).1
+    ((rec_append (IsBelow n) (unit_clauses u.properties.constraints) (unit_clauses (map inverse early))).1 (first, second), (third, tt))
+
+-- ---- states
+
+-- each of so many rows of l edges has l edges that are there
+pub states_below : (es : List AigEdge) (l n steps : ℕ) → length es ≡ steps * l → All (λ e. e.node_id < n) es → (t : ℕ) → t < steps → (length (state_at l es t) ≡ l) × AreEdgesBelow n (state_at l es t)
+states_below es l n steps count all t low =
+    let Below = λ (e : AigEdge). e.node_id < n in
+    let less : (t + 1) * l ≤ steps * l = mul-le-mul_right l (omega arith) in
+    let row : (t + 1) * l ≡ t * l + l = omega (arith, add-mul t 1 l) in
+    (length-take-le l (drop (t * l) es) (simp length-drop (omega (arith, less, row, count))), in_order n (state_at l es t) (All-take Below l (drop (t * l) es) (All-drop Below (t * l) es all)))
+
+-- ---- windows
+
+module _ (form : Window) (c : Circuit) (k : ℕ) (optimize : Bool) (lists : List (List (List Lit))) (further : List (List Lit)) (asks : AsksWindow form c k optimize lists further) where
+  -- how many variables there are
+  pub variables_of_window : length lists ≡ length asks.clauses + count_free form c k
+  variables_of_window = ap length asks.exact ∙ length-append asks.clauses (replicate (count_free form c k) []) ∙ ap (λ m. length asks.clauses + m) (length-replicate (count_free form c k) [])
+
+-- in the form by elements
+below_all : (n : ℕ) (all : List (List Lit)) → AreBelow n all → clauses.AreBelow n all
+below_all n all low =
+    All-weaker (IsBelow n) (All (λ lit. variable_of lit < n)) (λ clause is. All-from_recursion (λ lit. variable_of lit < n) clause is) all (All-from_recursion (IsBelow n) all low)
+
+weaker_below : (n m : ℕ) → n ≤ m → (all : List (List Lit)) → clauses.AreBelow n all → clauses.AreBelow m all
+weaker_below n m h all low = All-weaker (All (λ lit. variable_of lit < n)) (All (λ lit. variable_of lit < m)) (λ clause is. All-weaker (λ lit. variable_of lit < n) (λ lit. variable_of lit < m) (λ lit less. omega arith) clause is) all low
+
+-- the states stand in rows
+outputs_count : (c : Circuit) (k : ℕ) (u : Circuit) → UnrollsTo (watched Distinct c) (k + 1) u → length u.properties.outputs ≡ (k + 2) * length c.latchs
+outputs_count c k u unrolls =
+    let y : ℕ → Bool = λ n. false in
+    let r = unrolls.run_of y in
+    let count = (unrolls.same y r.0 r.1 r.2).properties.outputs.count in
+    let states : length (state_edges c) ≡ length c.latchs = length-map _ _ ∙ length-map _ _ in
+    count ∙ ap (λ m. (k + 1 + 1) * m) states ∙ ap (λ m. m * length c.latchs) (omega arith)
+
+pub window_below : (form : Window) (c : Circuit) (k : ℕ) (optimize : Bool) (lists : List (List (List Lit))) (further : List (List Lit)) → AsksWindow form c k optimize lists further → clauses.AreBelow (length lists) further
+window_below Plain c k optimize lists further asks =
+    let n = length asks.clauses in
+    let low = induction_below c asks.unrolled k n asks.has_clauses.count asks.is_circuit in
+    rw (asks.further_exact, append-nil) (weaker_below n (length lists) (omega (arith, variables_of_window Plain c k optimize lists further asks)) _ (below_all n _ low))
+window_below Distinct c k optimize lists further asks =
+    let n = length asks.clauses in
+    let l = length c.latchs in
+    let u = asks.unrolled in
+    let m = n + count_pairs (k + 2) * l in
+    let low = induction_below c u k n asks.has_clauses.count asks.is_circuit in
+    let first = weaker_below n m (omega arith) (induction_clauses c k u) (below_all n (induction_clauses c k u) low) in
+    let range = subst (λ m. All (λ (e : AigEdge). e.node_id < m) u.properties.outputs) (sym asks.has_clauses.count) asks.is_circuit.properties.outputs in
+    let states = states_below u.properties.outputs l n (k + 2) (outputs_count c k u asks.steps) range in
+    let second = below_all m (distinct_clauses n l u.properties.outputs (k + 2)) (distinct_below n (k + 2) u.properties.outputs l states n (k + 2) m (omega arith) (omega arith) (omega arith)) in
+    rw (asks.further_exact, variables_of_window Distinct c k optimize lists further asks) (All-append (All (λ lit. variable_of lit < m)) (induction_clauses c k u) (distinct_clauses n l u.properties.outputs (k + 2)) first second)

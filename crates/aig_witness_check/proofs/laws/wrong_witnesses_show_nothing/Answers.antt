@@ -1,5 +1,0 @@
-use Rattle.aig_witness_check.proofs.Exact.{wrong_shows_nothing}
-use Rattle.aig_witness_check.proofs.laws.wrong_witnesses_show_nothing.Goals as goal
-
-pub returns : goal.returns
-returns c = wrong_shows_nothing

@@ -1,4 +1,0 @@
-pub mod Shown
-pub mod Machine
-pub mod Answers
-pub mod Files
