@@ -11,7 +11,8 @@ fn main() -> ExitCode {
     let is_path = |word: &&String| word.parse::<u64>().is_err() && !["raw", "distinct"].contains(&word.as_str());
     let files: Vec<Vec<u8>> = words.iter().skip(1).filter(is_path).map(|path| std::fs::read(path).expect("a file")).collect();
     let file = files[0].as_slice();
-    let given = files.get(1).map_or(&[][..], Vec::as_slice);
+    let beside = |at: usize| files.get(at).map_or(&[][..], Vec::as_slice);
+    let given = beside(1);
     let line = |text: String| text.into_bytes();
     let answer = match words[0].as_str() {
         "text" => aig::text(file),
@@ -28,6 +29,9 @@ fn main() -> ExitCode {
         "refuted" => aig::check_refuted(file, step, optimize, given).map(|()| line(format!("no bad state at step {step}\n"))),
         "inductive" => aig::check_inductive(file, step, distinct, optimize, given)
             .map(|()| line(format!("no bad state at any step, if none up to step {step}\n"))),
+        "certified" => aig::check_certified(file, given, optimize, beside(2), beside(3))
+            .map(|()| line("no bad state at any step\n".to_string())),
+        "equal" => aig::check_equal(file, given, step, optimize, beside(2)).map(|()| line(format!("equal at step {step}\n"))),
         _ => return ExitCode::from(2),
     };
     match answer {
