@@ -1,2 +1,3 @@
 mod Safe
 mod Asked
+mod Refuted
