@@ -38,7 +38,7 @@ void require(std::uint32_t status) {
 // The clauses of a step, in memory that is kept from step to step.
 struct Query {
   std::vector<std::int32_t> numbers = std::vector<std::int32_t>(1 << 16);
-  std::size_t count = 0, variables = 0;
+  std::size_t count = 0, variables = 0, clauses_len = 0;
 
   void ask(const std::string &file, std::uint64_t k) {
     auto status = call(file, k);
@@ -51,7 +51,7 @@ struct Query {
 
 private:
   std::uint32_t call(const std::string &file, std::uint64_t k) {
-    return aig_query_numbers(at(file), file.size(), k, true, numbers.data(), numbers.size(), &count, &variables);
+    return aig_query_numbers(at(file), file.size(), k, true, numbers.data(), numbers.size(), &count, &variables, &clauses_len);
   }
 };
 
@@ -96,7 +96,7 @@ Answer solve(const Query &query) {
   solver.set("binary", 0);
   solver.set("quiet", 1);
   solver.trace_proof(trace.stream(), "proof");
-  for (std::size_t i = 0; i < query.count; i++) solver.add(query.numbers[i]);
+  for (std::size_t i = 0; i < query.clauses_len; i++) solver.add(query.numbers[i]);
   solver.reserve(static_cast<int>(query.variables));
   switch (solver.solve()) {
   case 10: return {true, solution(solver, query.variables)};

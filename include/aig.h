@@ -136,10 +136,12 @@ uint32_t aig_cnf(const uint8_t *file, size_t file_len, uint64_t k, bool optimize
  * A file without bad state properties has one that can't be satisfied. */
 uint32_t aig_query(const uint8_t *file, size_t file_len, uint64_t k, bool optimize, uint8_t *out, size_t out_len, size_t *needed);
 
-/* The clauses of the query as DIMACS numbers, with a 0 after each clause. `*variables` is how many variables they have. A file
- * without bad state properties is refused. */
+/* The clauses of the query as DIMACS numbers, with a 0 after each clause, and behind them its map: the literals that stand for each
+ * input at step 0, then at step 1 and so on to step `k`, for each latch at step 0, and for each bad state property at step `k`, in
+ * the file's order and with no 0 between. `*variables` is how many variables the clauses have, and `*clauses_len` how many of the
+ * numbers are those of the clauses: the map begins there. A file without bad state properties is refused. */
 uint32_t aig_query_numbers(const uint8_t *file, size_t file_len, uint64_t k, bool optimize, int32_t *out, size_t out_len,
-                           size_t *needed, size_t *variables);
+                           size_t *needed, size_t *variables, size_t *clauses_len);
 
 /* The clauses of the query, in DIMACS form, and before them comments that say which literals stand for the inputs at each step, the
  * latches at step 0 and the bad state properties at step `k`. A file without bad state properties is refused. */

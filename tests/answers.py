@@ -3,8 +3,8 @@
 
 Rows stand in the tables below, and were worked by hand. A row is the words of a command, which is run in the table's folder, with the
 bytes of the second cell as its file GIVEN; what is printed; and what the row is about, where that has to be said. `usage` ends with
-status 2, a line that begins with the program's name with status 1, both to standard error, and all else goes to standard output with
-status 0. In these cells `\\n` is a line feed, `\\x` a byte in hexadecimal, and `{PIECE}*N` the piece N times.
+status 2, a line that begins with the program's name with status 1, or 20 where a question is settled, both to standard error, and all
+else goes to standard output with status 0. In these cells `\\n` is a line feed, `\\x` a byte in hexadecimal, and `{PIECE}*N` the piece N times.
 
 What aigtool and aigedit print is cut at each length, too, by a limit on the size of files: then a beginning of it is there, and the
 last write is told to have failed. And rows that are made here have long clauses, limits on time and memory, and full devices.
@@ -26,10 +26,13 @@ TABLES = {
     "answers/proofs.tsv": "aigcheck {}",
     "answers/solutions.tsv": "aigcheck {}",
     "answers/certificates.tsv": "aigcheck {}",
+    "answers/bounded.tsv": "aigcheck {}",
     "answers/words.tsv": "aigcheck {}",
     "witnesses/rows.tsv": "aigcheck run {} GIVEN",
 }
 FILES = TESTS / "answers"
+# What is told where the question of `bounded` is settled.
+SETTLED = b"aigcheck: no bad state up to step "
 # The programs whose printed texts are cut.
 CUT = ["aigtool", "aigedit"]
 
@@ -85,6 +88,8 @@ def wanted_of(program, printed):
     """The status, standard output and standard error that a row wants."""
     if printed == b"usage":
         return 2, b"", harness.USAGE[program]
+    if printed.startswith(SETTLED):
+        return 20, b"", printed
     return (1, b"", printed) if printed.startswith(program.encode() + b": ") else (0, printed, b"")
 
 

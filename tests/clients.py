@@ -42,6 +42,7 @@ MADE = {
     "other": "aag 3 2 0 1 1\n2\n4\n7\n6 4 2\n",
     "three": "aag 3 3 0 1 0\n2\n4\n6\n6\n",
     "toggle": "aag 1 0 1 0 0 1\n2 3\n2\n",
+    "held_back": "aag 2 1 1 0 0 1\n2\n4 2\n5\n",
     "many": "aag 16777216 0 0 0 0\n",
     "past": "aag 1 1 0 1 0\n2\n4\n",
     "base": "11 0 9 10 6 7 5 0\n",
@@ -52,6 +53,8 @@ MADE = {
     "raw_proof": "18 -4 0 17 14 2 3 7 10 0\n19 0 17 18 15 13 5 6 4 0\n",
     "nothing": "",
 }
+# Of a latch that holds its input back by a step, and is bad where it is 0: at step 1 by the input at step 0.
+HELD_BACK = "c i0 at step 0 is 2\nc i0 at step 1 is 4\nc l0 at step 0 is 3\nc b0 at step 1 is -2\n"
 SAFE, SAME = "no bad state at any step\n", "equal at step 0\n"
 FOLLOWS, UNNAMED = "proof step does not follow", "number of no clause in proof"
 ROWS = [
@@ -81,7 +84,8 @@ ROWS = [
     *((f"{words} 4294967296 {given}", "calls: step past 2^32 - 1\n") for words, given in (("refuted past", "proof"), ("inductive past", "proof"), ("witness past", "proof"))),
     ("window differing 4294967295", "calls: unrolled circuit may pass the limit\n"),
     ("binary and", "aig 3 2 0 1 1\n6\n\x02\x02"),
-    ("numbers toggle 0", "p cnf 2 3\n-1 0\n-2 0\n2 0\n"),
+    ("numbers toggle 0", "c l0 at step 0 is 2\nc b0 at step 0 is 2\np cnf 2 3\n-1 0\n-2 0\n2 0\n"),
+    ("numbers held_back 1", f"{HELD_BACK}p cnf 4 3\n-1 0\n-3 0\n-2 0\n"),
     ("numbers and 0", "calls: no bad state property\n"),
     ("numbers past 0", "calls: bad literal in outputs\n"),
 ]
@@ -109,7 +113,8 @@ def prepared(row):
 
 
 def table_rows():
-    """Rows of the programs' tables that have a call: not those of wrong words, and not those of paths that can't be read."""
+    """Rows of the programs' tables that have a call: not those of wrong words, and not those of paths that can't be read. Those of clauses
+    are rows of `numbers` too: the comments that the map says are those that the program prints."""
     for table, form in answers.TABLES.items():
         path = TESTS / table
         for row in path.read_text(encoding="utf-8").splitlines():
@@ -120,6 +125,8 @@ def table_rows():
             known = [(path.parent / word).is_file() or word in ("GIVEN", "raw", "distinct") or word.isdigit() for word in words[1:]]
             if printed != "usage" and all(known) and len(words) > 1 and words[0] in CALLED:
                 yield path.parent, program, words, spelled(given), printed
+                if words[0] == "clauses":
+                    yield path.parent, program, ["numbers", *words[1:]], spelled(given), printed
 
 
 def told(program, printed):
@@ -150,11 +157,6 @@ class Clients:
             (self.folder / "GIVEN").write_bytes(given)
             placed = [str(self.folder / word) if word == "GIVEN" else word for word in words]
             self.tally.wants(f"C: {program} {' '.join(words)}: {given[:300]}", told(program, printed), harness.run([calls, program, *placed], cwd=place))
-            if words[0] == "clauses":
-                plain = told(program, printed)
-                lines = b"".join(line for line in plain[1].splitlines(True) if not line.startswith(b"c"))
-                numbers = harness.run([calls, program, "numbers", *placed[1:]], cwd=place)
-                self.tally.wants(f"C: numbers {' '.join(words[1:])}", (plain[0], lines, plain[2]), numbers)
         harness.write_files(self.folder, {name: text.encode("latin-1") for name, text in MADE.items()})
         for words, printed in ROWS:
             self.tally.wants(f"C: {words}", told("calls", repeated(printed)), harness.run([calls, "calls", *words.split()], cwd=self.folder))
@@ -261,6 +263,15 @@ class Clients:
         self.tally.wants("C++: no bads", (2, b"", b"bmc: no bad state property\n"), harness.run([checker, answers.FILES / "no_bads.aag"]))
 
 
+def text_of(clauses):
+    """The text of clauses that Python was given as numbers, with the comments of `aigcheck clauses`."""
+    inputs = [f"c i{i} at step {t} is {lit}\n" for t, row in enumerate(clauses.inputs) for i, lit in enumerate(row)]
+    latches = [f"c l{i} at step 0 is {lit}\n" for i, lit in enumerate(clauses.latches)]
+    bads = [f"c b{i} at step {len(clauses.inputs) - 1} is {lit}\n" for i, lit in enumerate(clauses.bads)]
+    lines = " ".join(map(str, clauses.numbers)).replace(" 0 ", " 0\n")
+    return "".join([*inputs, *latches, *bads, f"p cnf {clauses.variables} {clauses.numbers.count(0)}\n{lines}\n"])
+
+
 def by_python(aig, place, program, words, given):
     """How a command ends through the Python module, as its program would."""
     command, *rest = words
@@ -278,9 +289,7 @@ def by_python(aig, place, program, words, given):
         elif command in ("cnf", "query", "clauses", "window"):
             out = getattr(aig, command)(file, k, **setting)
         elif command == "numbers":
-            variables, numbers = aig.query_numbers(file, k, **setting)
-            lines = " ".join(map(str, numbers)).replace(" 0 ", " 0\n") + "\n"
-            out = f"p cnf {variables} {numbers.count(0)}\n{lines}".encode()
+            out = text_of(aig.query_numbers(file, k, **setting)).encode()
         elif command == "witness":
             out = aig.witness(file, k, beside[0], **setting)
         elif command == "run":

@@ -68,19 +68,31 @@ def reached_by(machine, last):
     return any(bad for _, bad in states)
 
 
+def counts(machine):
+    """A line for each count of a machine, whose gates come after what they read."""
+    levels = {}
+    for gate, *operands in machine.gates:
+        levels[gate // 2] = 1 + max(levels.get(literal // 2, 0) for literal in operands)
+    lists = machine.inputs, machine.latches, machine.outputs, machine.gates, machine.bads, machine.constraints, machine.justice, machine.fairness
+    words = "inputs latches outputs gates bads constraints justice fairness levels".split()
+    return "".join(f"{word} {count}\n" for word, count in zip(words, [*map(len, lists), max(levels.values(), default=0)]))
+
+
 class Edits:
     """A program, a folder of files, and what was seen."""
 
     def __init__(self, program, folder, tally):
         self.program, self.folder, self.tally = program, folder, tally
 
+    def printed(self, *words):
+        """What a command prints."""
+        status, out, said = harness.run([self.program, *words], cwd=self.folder)
+        self.tally.check(status == 0, f"{words}: status {status}, {said}")
+        return out.decode()
+
     def edited(self, *words):
         """The machine of what a command prints."""
-        status, out, said = harness.run([self.program, *words], cwd=self.folder)
-        if status != 0:
-            self.tally.check(False, f"{words}: status {status}, {said}")
-            return None
-        return machine_of(out.decode())
+        return machine_of(self.printed(*words))
 
     def compare(self, what, wanted, given):
         """Checks that a bad state is reached at the same steps."""
@@ -97,9 +109,16 @@ class Edits:
         for k in range(LAST):
             made = self.edited("unroll", "file", str(k))
             self.compare(f"unroll {k}", reached_by(machine, k), 0 in reached(made, made.bads))
+            if machine.bads:
+                made = self.edited("question", "file", str(k))
+                self.compare(f"question {k}", min(bads, default=LAST) <= k, 0 in reached(made, made.outputs))
         if not machine.bads:
             made = self.edited("bads", "file")
             self.compare("bads", reached(machine, machine.outputs), reached(made, made.bads))
+        self.compare("info", counts(machine), self.printed("info", "file"))
+        for n, output in enumerate(machine.outputs):
+            made = self.edited("cone", "file", str(n))
+            self.compare(f"cone {n}", (reached(machine, [output]), 1), (reached(made, made.outputs), len(made.outputs)))
         runs = [reached(one, [1]) for one in (machine, other)]
         made = self.edited("merge", "file", "other")
         self.compare("merge", bads & runs[1] | runs[0] & reached(other, other.bads), reached(made, made.bads))

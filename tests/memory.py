@@ -32,7 +32,8 @@ WHOLE = (
 COMMANDS = [["text"], ["strash"], ["cnf", "2"], ["cnf", "2", "raw"], ["query", "1"], ["query", "1", "raw"]]
 
 # What the commands of aigcheck read beside that file, whose constraint fails in each initial state: a latch that waits for an input,
-# its certificate, a latch that takes the input of the step before, and a count of two bits; and proofs, a solver's answer and a witness.
+# its certificate, a latch that takes the input of the step before, a count of two bits, and an input and another with its inverse; and
+# proofs, solvers' answers and a witness.
 CHECKED = {
     "waiting.aag": b"aag 3 1 1 0 1 1\n2\n4 4\n6\n6 4 2\ni0 go\nl0 waits\nb0 gone\n",
     "held.aag": b"aag 2 1 1 0 0 0 1\n2\n4 4\n5\nl0 waits\n",
@@ -40,8 +41,11 @@ CHECKED = {
     "counter.aag": b"aag 10 1 2 0 7 1\n2\n4 12\n6 18\n20\n8 4 2\n10 5 3\n12 11 9\n14 8 6\n16 9 7\n18 17 15\n20 6 4\ni0 up\nl0 low\nl1 high\n",
     "conflict": b"0\n",
     "hints": b"13 3 0 9 5 0\n14 0 12 13 11 0\n",
+    "joined": b"12 0 11 8 9 3 6 0\n",
     "deletions": b"3 0\nd 3 -4 0\n0\n",
+    "apart.aag": b"aag 5 2 0 0 3 1\n2\n4\n10\n6 4 2\n8 5 2\n10 8 6\ni0 both\ni1 one\n",
     "solution": b"c a solver\ns SATISFIABLE\nv -1 2\nv -3 -4 0\n",
+    "solved": b"s SATISFIABLE\nv -1 2 0\n",
     "witness": b"c before\n1\nb0\n00\n1\n1\n1\n0\n.\n",
 }
 CHECKS = [
@@ -53,6 +57,9 @@ CHECKS = [
     ["witness", "delayed.aag", "1", "solution"],
     ["witness", "delayed.aag", "1", "solution", "raw"],
     ["run", "counter.aag", "witness"],
+    *(["bounded", "counter.aag", "4", *raw] for raw in ([], ["raw"])),
+    *(["refuted", "apart.aag", "to", "0", proof] for proof in ("conflict", "joined")),
+    ["witness", "delayed.aag", "to", "1", "solved"],
     *(["certified", "waiting.aag", "held.aag", "conflict", "conflict", *raw] for raw in ([], ["raw"])),
     *(["equal", form, other, "1", "conflict"] for form, other in (("whole.aag", "whole.aig"), ("whole.aig", "whole.aag"))),
     ["equal", "delayed.aag", "delayed.aag", "1", "conflict", "raw"],
@@ -60,7 +67,7 @@ CHECKS = [
     ["obligations", "whole.aag", "whole.aig", "raw"],
 ]
 # The commands of aigedit on that file, and on it and itself: its miter, it as its own certificate, and it twice.
-EDITS = [[command, form, *k] for command, *k in (["refine"], ["reencode"], ["unroll", "2"], ["move"], ["compress"], ["reduce"]) for form in ("whole.aag", "whole.aig")]
+EDITS = [[command, form, *k] for command, *k in (["refine"], ["reencode"], ["unroll", "2"], ["move"], ["compress"], ["reduce"], ["cone", "0"], ["question", "1"], ["info"]) for form in ("whole.aag", "whole.aig")]
 EDITS += [[command, form, other] for command in ("miter", "join", "merge") for form, other in (("whole.aag", "whole.aig"), ("whole.aig", "whole.aag"))]
 
 # Where a file has a few nodes all requests together stay below this, and room for nodes within the limit is reserved.

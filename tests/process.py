@@ -22,10 +22,8 @@ from outs import chain
 
 CLAUSES_OF_AND = b"p cnf 4 4\n-1 0\n-4 2 0\n-4 3 0\n4 -2 -3 0\n"
 DEEP = 1_000_000
-# As much stack as docs/COMMANDS.md says is enough.
-STACK = 128 << 10
-# And of those of aigcheck on two files, which hold more readers at once.
-PAIR_STACK, ON_PAIRS = 160 << 10, ("certified", "equal", "obligations")
+# As much stack as docs/COMMANDS.md says is enough for aigtool, and for aigcheck, whose commands hold several readers at once.
+STACK, CHECK_STACK = 128 << 10, 160 << 10
 
 
 class Room:
@@ -204,7 +202,7 @@ def a_small_stack_is_enough(room):
     room.write("deep", chain(200_000).replace(b" 1 200000\n", b" 0 200000 1\n", 1))
     commands += [(room.checker, [command, "deep", "0"]) for command in ("clauses", "window")]
     for program, words in commands:
-        stack = PAIR_STACK if words[0] in ON_PAIRS else STACK
+        stack = CHECK_STACK if program is room.checker else STACK
         for _ in range(10):
             status, _, error = harness.run([program, *words], cwd=room.folder, preexec_fn=limit(resource.RLIMIT_STACK, stack))
             room.check((status, error) == (0, b""), f"{program.name} {words}: status {status}, {error}")

@@ -47,7 +47,7 @@ _size, _bool, _step = ctypes.c_size_t, ctypes.c_bool, ctypes.c_uint64
 _BYTES = [ctypes.c_char_p, _size]
 _STEP = [_step, _bool]
 _OUT = [ctypes.POINTER(ctypes.c_uint8), _size, ctypes.POINTER(_size)]
-_NUMBERS_OUT = [ctypes.POINTER(ctypes.c_int32), _size, ctypes.POINTER(_size), ctypes.POINTER(_size)]
+_NUMBERS_OUT = [ctypes.POINTER(ctypes.c_int32), _size, *[ctypes.POINTER(_size)] * 3]
 
 # What each call of `aig.h` takes.
 _TAKES = {
@@ -86,10 +86,14 @@ class Refused(Exception):
 
 
 class Clauses(NamedTuple):
-    """Clauses as DIMACS numbers, with a 0 after each, over the variables from 1 up to this one."""
+    """Clauses as DIMACS numbers, with a 0 after each, over the variables from 1 up to this one. The other lists say which literals stand
+    for the inputs, step by step, for the latches at step 0 and for the bad state properties at the last step, in the file's order."""
 
     variables: int
     numbers: list[int]
+    inputs: list[list[int]]
+    latches: list[int]
+    bads: list[int]
 
 
 class Shown(NamedTuple):
@@ -124,6 +128,12 @@ def _answer(name: str, *words, kind=ctypes.c_uint8, more: int = 0) -> tuple:
         if status != SMALL:
             raise Refused(status) if status != MEMORY else MemoryError(_message(status))
         room = counts[0].value
+
+
+def _counts(file: bytes) -> tuple[int, int]:
+    """How many inputs and latches a file has, by its header line, which is a good one."""
+    words = file[: file.index(b"\n")].split()
+    return int(words[2]), int(words[3])
 
 
 def _bytes(name: str, *words) -> bytes:
@@ -174,10 +184,15 @@ def query(file: bytes, k: int, *, optimize: bool = True) -> bytes:
 
 
 def query_numbers(file: bytes, k: int, *, optimize: bool = True) -> Clauses:
-    """The clauses of a file's query for step `k` as numbers. A file without bad state properties is refused."""
-    words = [*_given(file), _steps(k), optimize]
-    out, count, variables = _answer("aig_query_numbers", *words, kind=ctypes.c_int32, more=1)
-    return Clauses(variables, out[:count])
+    """The clauses of a file's query for step `k` as numbers, and their map. A file without bad state properties is refused."""
+    whole = bytes(file)
+    words = [*_given(whole), _steps(k), optimize]
+    out, count, variables, clauses_len = _answer("aig_query_numbers", *words, kind=ctypes.c_int32, more=2)
+    numbers, places = out[:clauses_len], out[clauses_len:count]
+    inputs, latches = _counts(whole)
+    steps = [places[t * inputs : (t + 1) * inputs] for t in range(k + 1)]
+    rest = places[(k + 1) * inputs :]
+    return Clauses(variables, numbers, steps, rest[:latches], rest[latches:])
 
 
 def clauses(file: bytes, k: int, *, optimize: bool = True) -> bytes:

@@ -52,6 +52,7 @@ static struct bytes read_file(const char *path) {
   }
   if (ferror(file)) stop("read failed");
   fclose(file);
+  all.at[all.len] = 0;
   return all;
 }
 
@@ -137,20 +138,31 @@ static void hold(uint32_t status) {
   if (status != AIG_DONE) refuse(status);
 }
 
-/* Prints the numbers of a query as DIMACS text. */
+/* Prints so many literals of a map, as the comments of aigcheck clauses, and gives what is behind them. */
+static const int32_t *print_map(const int32_t *at, char letter, size_t count, uint64_t step) {
+  for (size_t i = 0; i < count; i++) printf("c %c%zu at step %llu is %d\n", letter, i, (unsigned long long)step, at[i]);
+  return at + count;
+}
+
+/* Prints the numbers of a query as DIMACS text, after the comments that its map says. */
 static void print_numbers(const struct words *w) {
-  size_t needed = 0, variables = 0, count = 0;
+  size_t needed = 0, variables = 0, clauses_len = 0, count = 0, inputs = 0, latches = 0, bads = 0;
   int32_t none[1] = {7}, *out;
-  uint32_t status = aig_query_numbers(w->file.at, w->file.len, w->k, w->optimize, none, 0, &needed, &variables);
+  uint32_t status = aig_query_numbers(w->file.at, w->file.len, w->k, w->optimize, none, 0, &needed, &variables, &clauses_len);
   if (status > AIG_SMALL) {
-    if (needed || variables || none[0] != 7) wrong("memory was written with no answer");
+    if (needed || variables || clauses_len || none[0] != 7) wrong("memory was written with no answer");
     refuse(status);
   }
   out = room_for(needed * sizeof *out);
-  hold(aig_query_numbers(w->file.at, w->file.len, w->k, w->optimize, out, needed, &needed, &variables));
-  for (size_t i = 0; i < needed; i++) count += out[i] == 0;
+  hold(aig_query_numbers(w->file.at, w->file.len, w->k, w->optimize, out, needed, &needed, &variables, &clauses_len));
+  if (sscanf((const char *)w->file.at, "%*s %*u %zu %zu %*u %*u %zu", &inputs, &latches, &bads) != 3) wrong("a header line");
+  const int32_t *at = out + clauses_len;
+  for (uint64_t t = 0; t <= w->k; t++) at = print_map(at, 'i', inputs, t);
+  at = print_map(at, 'l', latches, 0);
+  if (print_map(at, 'b', bads, w->k) != out + needed) wrong("a map of another length");
+  for (size_t i = 0; i < clauses_len; i++) count += out[i] == 0;
   printf("p cnf %zu %zu\n", variables, count);
-  for (size_t i = 0; i < needed; i++) printf(out[i] ? "%d " : "%d\n", out[i]);
+  for (size_t i = 0; i < clauses_len; i++) printf(out[i] ? "%d " : "%d\n", out[i]);
 }
 
 /* Prints which bad state a witness shows. */

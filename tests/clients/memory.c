@@ -51,7 +51,7 @@ static uint32_t strash(void) { return aig_strash(GIVEN(WHOLE), PUT); }
 static uint32_t cnf(void) { return aig_cnf(GIVEN(WHOLE), 2, true, PUT); }
 static uint32_t query(void) { return aig_query(GIVEN(WHOLE), 2, false, PUT); }
 static uint32_t query_numbers(void) {
-  return aig_query_numbers(GIVEN(WHOLE), 2, true, (int32_t *)(void *)out, sizeof out / 4, &numbers[0], &numbers[1]);
+  return aig_query_numbers(GIVEN(WHOLE), 2, true, (int32_t *)(void *)out, sizeof out / 4, &numbers[0], &numbers[1], &numbers[2]);
 }
 static uint32_t clauses(void) { return aig_clauses(GIVEN(WHOLE), 2, true, PUT); }
 static uint32_t window(void) { return aig_window(GIVEN(WHOLE), 1, true, false, PUT); }

@@ -3,6 +3,19 @@
 use std::io::Write;
 use std::process::ExitCode;
 
+/// The text of clauses that were given as numbers, with the comments of `aigcheck clauses`.
+fn text_of(clauses: &aig::Clauses) -> String {
+    let comment = |letter, i, t, lit: &i32| format!("c {letter}{i} at step {t} is {lit}\n");
+    let inputs = clauses.inputs.iter().enumerate().flat_map(|(t, row)| row.iter().enumerate().map(move |(i, lit)| comment('i', i, t, lit)));
+    let latches = clauses.latches.iter().enumerate().map(|(i, lit)| comment('l', i, 0, lit));
+    let last = clauses.inputs.len() - 1;
+    let bads = clauses.bads.iter().enumerate().map(|(i, lit)| comment('b', i, last, lit));
+    let count = clauses.numbers.iter().filter(|number| **number == 0).count();
+    let numbers = clauses.numbers.iter().map(|number| if *number == 0 { "0\n".to_string() } else { format!("{number} ") });
+    let head = format!("p cnf {} {count}\n", clauses.variables);
+    inputs.chain(latches).chain(bads).chain([head]).chain(numbers).collect()
+}
+
 fn main() -> ExitCode {
     let words: Vec<String> = std::env::args().skip(1).collect();
     let has = |name: &str| words.iter().any(|word| word == name);
@@ -21,6 +34,7 @@ fn main() -> ExitCode {
         "cnf" => aig::cnf(file, step, optimize),
         "query" => aig::query(file, step, optimize),
         "clauses" => aig::clauses(file, step, optimize),
+        "numbers" => aig::query_numbers(file, step, optimize).map(|clauses| line(text_of(&clauses))),
         "window" => aig::window(file, step, distinct, optimize),
         "witness" => aig::witness(file, step, optimize, given),
         "miter" => aig::miter(file, given),

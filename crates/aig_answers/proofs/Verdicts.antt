@@ -16,6 +16,9 @@ use Rattle.aig_reader.proofs.Verdicts.{of_no_file, refused_again, said_of_read}
 use Rattle.aig.specs.Reading.{IsFileCircuit}
 use Rattle.aig_unroll.specs.Places.{unrolled_size}
 use Rattle.aig_runs.specs.declared.window.Window.{Window}
+use Rattle.aig_encode.specs.declared.error.EncodeError.{EncodeError}
+use Rattle.aig_encode.specs.declared.error.EncodeError.TheVariants as encode
+use Rattle.aig_encode.specs.Encoding as encoding
 use Rattle.aig_refutation.specs.declared.error.RefutationError.{RefutationError}
 use Rattle.aig_answers.specs.Answers.{IsOfCircuitQuery, IsOfInduction, IsOfQuery, IsOfStep, IsOfWindow, asked_verdict, verdict_of, window_size, window_verdict}
 use Rattle.aig_answers.specs.Parts.{IsSaidBy, circuit_verdict, circuit_window_verdict}
@@ -119,6 +122,24 @@ proof_taken (Ok u) own = refl
 proof_taken (Err e) own = ap verdict_of own.1
 
 -- ---- errors
+
+-- bytes that no answer was given of are not taken
+not_taken : (e : EncodeError) → encoding.verdict_of e ≢ Accepted
+not_taken (encode.Read e) is = of_no_file e (subst IsOfFile (sym is) tt)
+not_taken encode.Memory is = cc
+not_taken encode.TooLarge is = cc
+
+pub query_not_taken : (e : AnswerError) → IsOfQuery e → verdict_of e ≢ Accepted
+query_not_taken (errors.Encode e) own is = not_taken e is
+query_not_taken errors.NoBads own is = cc
+query_not_taken errors.TooLarge own is = own
+query_not_taken (errors.Refutation e) own is = own
+
+pub window_not_taken : (e : AnswerError) → IsOfWindow e → verdict_of e ≢ Accepted
+window_not_taken (errors.Encode e) own is = not_taken e is
+window_not_taken errors.NoBads own is = cc
+window_not_taken errors.TooLarge own is = cc
+window_not_taken (errors.Refutation e) own is = own
 
 pub query_of_step : (e : AnswerError) → IsOfQuery e → IsOfStep e
 query_of_step (errors.Encode e) own = own

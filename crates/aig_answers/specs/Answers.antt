@@ -1,8 +1,10 @@
 -- Part of what is promised.
--- What is asked of a circuit, what an answer says of the bytes of a file, and which errors a call
--- has.
-use Rattle.std.specs.Prelude.{◌≢◌, ℕ, ◌+◌, ◌≤◌, ◌==◌, nat_lt, if◌then◌else◌, Bool, List, [], length}
+-- What is asked of a circuit, what an answer says of the bytes of a file and of a proof, and which
+-- errors a call has.
+use Rattle.std.specs.Prelude.{◌≢◌, ℕ, ◌+◌, ◌≤◌, ◌==◌, nat_lt, if◌then◌else◌, Bool, List, [], ◌++◌, length, Option, Result, Ok, Err}
+use Rattle.aig_base.specs.declared.logic.literal.Lit.{Lit}
 use Rattle.aig_base.specs.Clauses.{AreBelow}
+use Rattle.aig_base.specs.Formula.{clauses_in}
 use Rattle.aig_circuit.specs.Circuit.{Circuit}
 use Rattle.aig_cnf.specs.Cnf.{FixesRoots, HasClauses, NodeValuesSatisfy}
 use Rattle.aig_format.specs.Circuit.{circuit_of}
@@ -14,9 +16,12 @@ use Rattle.aig_unroll.specs.Places.{unrolled_size}
 use Rattle.aig_unroll.specs.Unroll.{UnrollsTo}
 use Rattle.aig_runs.specs.CircuitQueries.{AsksOfCircuit}
 use Rattle.aig_runs.specs.declared.window.Window.{Window}
-use Rattle.aig_runs.specs.WindowClauses.{count_free}
+use Rattle.aig_runs.specs.WindowClauses.{AsksWindow, count_free}
+use Rattle.aig_refutation.specs.Checking.{Shows}
 use Rattle.aig_encode.specs.declared.error.EncodeError.TheVariants as encode
+use Rattle.aig_encode.specs.declared.query_clauses.Query.{Query}
 use Rattle.aig_encode.specs.Encoding as encoding
+use Rattle.aig_encode.specs.Encoding.{IsQuery}
 use Rattle.aig_answers.specs.declared.circuits.CircuitQuery.{CircuitQuery}
 use Rattle.aig_answers.specs.declared.error.AnswerError.{AnswerError}
 use Rattle.aig_answers.specs.declared.error.AnswerError.TheVariants as errors
@@ -72,6 +77,39 @@ verdict_of (errors.Encode e) = encoding.verdict_of e
 verdict_of errors.NoBads = NoBads
 verdict_of errors.TooLarge = Crowded
 verdict_of (errors.Refutation e) = Accepted
+
+-- ---- proofs
+
+-- which proofs of clauses are taken: the answer is what the text of the proof shows
+abbrev pub TellsOfProof : List (List (List Lit)) → List (List Lit) → Option (List ℕ)
+    → Result (Unit {0}) AnswerError → Type 0
+TellsOfProof lists further text (Ok done) =
+    Shows (length lists) (clauses_in lists ++ further) text (Ok done)
+TellsOfProof lists further text (Err (errors.Refutation e)) =
+    Shows (length lists) (clauses_in lists ++ further) text (Err e)
+TellsOfProof lists further text (Err e) = Unit {0}
+
+-- the proof is held against the clauses of the file's query for step k
+abbrev pub TellsOfStep : ℕ → Bool → Option (List ℕ) → File → Result (Unit {0}) AnswerError → Type 0
+TellsOfStep k optimize text f answer =
+    (q : Query) × IsQuery k optimize f q × TellsOfProof q.encoded.clauses q.extra text answer
+
+-- against those of the file's window
+abbrev pub TellsOfWindow : Window → ℕ → Bool → Option (List ℕ) → File
+    → Result (Unit {0}) AnswerError → Type 0
+TellsOfWindow form k optimize text f answer =
+    (lists : List (List (List Lit))) × (further : List (List Lit))
+    × AsksWindow form (circuit_of f) k optimize lists further
+    × TellsOfProof lists further text answer
+
+-- against those of a circuit's query for step k
+abbrev pub TellsOfCircuit : ℕ → Bool → Option (List ℕ) → Circuit → Result (Unit {0}) AnswerError
+    → Type 0
+TellsOfCircuit k optimize text c answer =
+    (q : CircuitQuery) × IsCircuitQuery c k optimize q
+    × TellsOfProof q.clauses q.further text answer
+
+-- ---- errors of calls
 
 -- the errors of a file's query
 abbrev pub IsOfQuery : AnswerError → Type 0

@@ -1,7 +1,7 @@
 //! Queries of circuits that were built or changed.
 
 ghost use Rattle.std.specs.Prelude.{◌≡◌, ◌≢◌, ◌⊎◌, ◌<◌, ◌≤◌, ◌^◌, ◌↔◌, [], IfErr, IfOk, IsErrOf, IsTrue, OnOk};
-ghost use Rattle.aig_answers.specs.Answers.{IsCircuitQuery, IsOfCircuitQuery, verdict_of};
+ghost use Rattle.aig_answers.specs.Answers.{IsCircuitQuery, IsOfCircuitQuery, TellsOfCircuit, verdict_of};
 ghost use Rattle.aig_runs.specs.Safety.{IsCircuitSafeAt};
 ghost use Rattle.aig_reader.specs.Verdicts.{Accepted, verdict_by};
 ghost use Rattle.aig_unroll.specs.Places.{unrolled_size};
@@ -101,6 +101,9 @@ pub fn check_query_of<P: Source>(
         ↔ ((circuit.now.properties.bads ≢ []) × (limit < unrolled_size circuit.now k)) }
     ensures own { IfErr result IsOfCircuitQuery }
     ensures unread { verdict_by verdict_of result ≢ Accepted → proof.new ≡ proof.old }
+    // Where the proof is looked at, the answer is what its text shows of the query's clauses.
+    ensures shown { verdict_by verdict_of result ≡ Accepted
+        → TellsOfCircuit k optimize (P.left proof.old) circuit.now result }
     // Stream only where a read failed in this call.
     ensures proof_stream { IsErrOf result (AnswerError.Refutation RefutationError.Stream)
         → IsTrue (P.failed proof.new) }

@@ -2,6 +2,7 @@
 
 ghost use Rattle.std.specs.Prelude.{◌≡◌, ◌++◌, IfErr, IsErrOf, IsTrue, OnOk};
 ghost use Rattle.aig_answers.specs.declared.error.AnswerError.TheVariants as errors;
+ghost use Rattle.aig_answers.specs.Answers.{TellsOfProof};
 ghost use Rattle.aig_base.specs.Formula.{IsSatisfiable, clauses_in};
 
 use crate::error::AnswerError;
@@ -20,6 +21,7 @@ pub(crate) fn refute<P: Source>(
     ensures own { IfErr result (λ e. (x : RefutationError) × (e ≡ errors.Refutation x)) }
     ensures stream { IsErrOf result (AnswerError.Refutation RefutationError.Stream)
         → IsTrue (P.failed proof.new) }
+    ensures shown { TellsOfProof clauses.now further.now (P.left proof.old) result }
 {
     check_refutation(alloc, clauses, further, proof)?;
     Ok(())

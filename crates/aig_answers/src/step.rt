@@ -1,7 +1,7 @@
 //! No bad state at a step.
 
 ghost use Rattle.std.specs.Prelude.{◌≡◌, ◌≢◌, ◌^◌, ◌≤◌, IfErr, IfOk, IsErrOf, IsTrue, length};
-ghost use Rattle.aig_answers.specs.Answers.{IsAsked, IsCircuitQuery, IsOfQuery, IsOfStep, asked_verdict, verdict_of};
+ghost use Rattle.aig_answers.specs.Answers.{IsAsked, IsCircuitQuery, IsOfQuery, IsOfStep, TellsOfStep, asked_verdict, verdict_of};
 ghost use Rattle.aig_answers.specs.Parts.{IsSaidBy, circuit_verdict};
 ghost use Rattle.aig_base.specs.Clauses.{AreBelow};
 ghost use Rattle.aig_runs.specs.Safety.{IsSafeAt};
@@ -106,6 +106,9 @@ pub fn check_step<R: Source, P: Source>(
         (R.failed r.new) (verdict_by verdict_of result) }
     ensures own { IfErr result IsOfStep }
     ensures unread { verdict_by verdict_of result ≢ Accepted → proof.new ≡ proof.old }
+    // Of a file that is taken, the answer is what the text of the proof shows of the query's clauses.
+    ensures shown { verdict_by verdict_of result ≡ Accepted → IsReadAs (IsAsked limit k)
+        (TellsOfStep k optimize (P.left proof.old)) (R.left r.old) (R.left r.new) result }
     // Stream only where a read failed in this call.
     ensures proof_stream { IsErrOf result (AnswerError.Refutation RefutationError.Stream)
         → IsTrue (P.failed proof.new) }

@@ -1,7 +1,7 @@
 //! Windows of steps that keep a machine safe.
 
 ghost use Rattle.std.specs.Prelude.{◌≡◌, ◌≢◌, ◌+◌, ◌*◌, ◌≤◌, ◌<◌, ◌^◌, ◌↔◌, ◌++◌, [], IfErr, IfOk, IsErrOf, IsTrue, OnOk, length, replicate};
-ghost use Rattle.aig_answers.specs.Answers.{IsAsked, IsOfInduction, IsOfWindow, verdict_of, window_size, window_verdict};
+ghost use Rattle.aig_answers.specs.Answers.{IsAsked, IsOfInduction, IsOfWindow, TellsOfWindow, verdict_of, window_size, window_verdict};
 ghost use Rattle.aig_answers.specs.Parts.{IsSaidBy, circuit_window_verdict};
 ghost use Rattle.aig_base.specs.Clauses.{AreBelow};
 ghost use Rattle.aig_runs.specs.Induction.{IsKInductive};
@@ -220,6 +220,9 @@ pub fn check_window<R: Source, P: Source>(
         (R.failed r.new) (verdict_by verdict_of result) }
     ensures own { IfErr result IsOfInduction }
     ensures unread { verdict_by verdict_of result ≢ Accepted → proof.new ≡ proof.old }
+    // Of a file that is taken, the answer is what the text of the proof shows of the window's clauses.
+    ensures shown { verdict_by verdict_of result ≡ Accepted → IsReadAs (IsAsked limit (k + 1))
+        (TellsOfWindow form k optimize (P.left proof.old)) (R.left r.old) (R.left r.new) result }
     // Stream only where a read failed in this call.
     ensures proof_stream { IsErrOf result (AnswerError.Refutation RefutationError.Stream)
         → IsTrue (P.failed proof.new) }

@@ -1,10 +1,13 @@
 -- What is asked of a file that was read.
-use Rattle.std.proofs.Common.{◌≡◌, ◌≢◌, ℕ, ◌≤◌, ◌^◌, Bool, Option, List, [], ◌∷◌, map, sym, ap, subst, ◌∙◌, refl}
+use Rattle.std.proofs.Common.{◌≡◌, ◌≢◌, ℕ, ◌<◌, Bool, not, Option, List, [], ◌∷◌, length, map, sym, ap, subst, ◌∙◌, arith, ◌+◌, ◌≤◌}
+use Rattle.std.proofs.lemmas.List.Elements.{All-from_recursion}
 use Rattle.std.specs.Prelude.{All}
+use Rattle.std.specs.List.{AllZip}
+use Rattle.aig_base.specs.Clauses.{AreBelow, variable_of}
+use Rattle.aig_base.proofs.Literals.{variable_of-lit_to}
 use Rattle.aig_circuit.specs.declared.edge.AigEdge.{AigEdge}
-use Rattle.aig_circuit.specs.declared.node.AigLatch.{AigLatch}
 use Rattle.aig_circuit.specs.declared.view.CircuitLists.{CircuitLists}
-use Rattle.aig_circuit.specs.Circuit.{Circuit, IsCircuit}
+use Rattle.aig_circuit.specs.Circuit.{Circuit, IsCircuit, IsClosed, IsInRange}
 use Rattle.aig_circuit.specs.Edge.{lit_of}
 use Rattle.aig_circuit.specs.Edges.{HasConstantInit}
 use Rattle.aig_circuit.specs.Properties.{Properties}
@@ -13,13 +16,23 @@ use Rattle.aig_format.specs.Circuit.{circuit_of, edge_of}
 use Rattle.aig_format.specs.File.{File}
 use Rattle.aig_format.specs.Fits.{Accepts, Fits}
 use Rattle.aig_format.proofs.Circuits.{IsCircuit-of_file}
+use Rattle.aig_format_laws.proofs.Closed.{IsClosed-of_file}
 use Rattle.aig_format_laws.proofs.Writable.{plain_starts}
 use Rattle.aig_reader.specs.Reading.{AreListsOf, IsReadAs}
 use Rattle.aig_runs.specs.Queries.{unit_clauses}
+use Rattle.aig_solutions.specs.declared.error.SolutionError.{SolutionError}
+use Rattle.aig_witness.specs.declared.witness.Witness as witnesses
+use Rattle.aig_witness.specs.Machine.{ShowsBad}
+use Rattle.aig_witness.specs.Shown.{IsKnownWitness}
+use Rattle.aig_witness.specs.Witness.{Witness, said_by}
 use Rattle.aig_bounded.specs.Question.{IsQuestion}
 use Rattle.aig_bounded_answers.specs.declared.clauses.BoundedClauses.{BoundedClauses}
-use Rattle.aig_bounded_answers.specs.Asking.{AsksBounded, IsAskedWithin}
+use Rattle.aig_bounded_answers.specs.Asking.{AsksBounded, IsAskedWithin, RefusesAnswer, RefusesSolution}
 use Rattle.aig_bounded_answers.specs.Encoded.{IsEncoded, IsEncodedQuestion}
+use Rattle.aig_bounded_answers.specs.Naming.{IsNamed}
+use Rattle.aig_bounded_answers.specs.Solving.{WitnessWithin}
+use Rattle.aig_bounded_answers.proofs.Verdicts.{count_of}
+use Rattle.aig_bounded_answers.specs.declared.naming.Named.{Named}
 use Rattle.aig_bounded.specs.declared.question.Question.{Question}
 
 module _ (limit k : ℕ) (optimize : Bool) (lists : CircuitLists) (old new : Option (List ℕ))
@@ -27,11 +40,32 @@ module _ (limit k : ℕ) (optimize : Bool) (lists : CircuitLists) (old new : Opt
   pub read_circuit : IsCircuit (lists_circuit lists)
   read_circuit = subst IsCircuit (sym read.means) (IsCircuit-of_file read.file limit read.holds.1)
 
+  pub read_closed : IsClosed (lists_circuit lists)
+  read_closed = subst IsClosed (sym read.means) (IsClosed-of_file read.file limit read.holds.1)
+
   pub read_starts : All HasConstantInit lists.latchs.items
-  read_starts = subst (λ (c : Circuit). All HasConstantInit c.latchs) (sym read.means) (plain_starts read.file)
+  read_starts = subst (λ (c : Circuit). All HasConstantInit c.latchs) (sym read.means)
+      (plain_starts read.file)
 
   bads_of : lists.properties.bads.items ≢ [] → read.file.properties.bads ≢ []
-  bads_of some none = some (ap (λ (c : Circuit). c.properties.bads) read.means ∙ ap (λ bads. map (edge_of read.file) bads) none)
+  bads_of some none = some (ap (λ (c : Circuit). c.properties.bads) read.means ∙ ap (λ bads. map
+      (edge_of read.file) bads) none)
+
+  -- the question is one of the file
+  asks_file : (made : BoundedClauses) → IsEncodedQuestion (lists_circuit lists) k optimize made
+      → AsksBounded read.file k optimize made
+  asks_file made e = record {
+    output = e.output;
+    asks = subst (λ c. IsQuestion c k (lists_circuit made.question.circuit) e.output
+        made.question.places.items) read.means e.asks;
+    named = subst (λ c. AllZip (IsNamed c) made.question.places.items made.named.items) read.means
+        e.named;
+    has_clauses = e.encoded.has_clauses;
+    fixes = e.encoded.fixes;
+    satisfied = e.encoded.satisfied;
+    exact = e.encoded.exact ∙ ap (λ (p : Properties AigEdge). unit_clauses p.outputs)
+        e.asks.properties;
+  }
 
   pub asked_of : (made : BoundedClauses) → lists.properties.bads.items ≢ []
       → IsEncodedQuestion (lists_circuit lists) k optimize made
@@ -40,27 +74,81 @@ module _ (limit k : ℕ) (optimize : Bool) (lists : CircuitLists) (old new : Opt
     file = read.file;
     bytes = read.bytes;
     holds = (read.holds, bads_of some);
-    means = means is;
+    means = asks_file made is;
     taken = read.taken;
   }
-    where
-      means : IsEncodedQuestion (lists_circuit lists) k optimize made
-          → AsksBounded read.file k optimize made
-      means e = record {
-        output = e.output;
-        asks = subst (λ c. IsQuestion c k (lists_circuit made.question.circuit) e.output made.question.places.items) read.means e.asks;
-        has_clauses = e.encoded.has_clauses;
-        fixes = e.encoded.fixes;
-        satisfied = e.encoded.satisfied;
-        exact = e.encoded.exact ∙ ap (λ (p : Properties AigEdge). unit_clauses p.outputs) e.asks.properties;
-      }
+
+  -- a refusal of a solver's answer is of a question of the file
+  pub refusal_of : (text : Option (List ℕ)) (refused : Bool) (made : BoundedClauses) (e :
+      SolutionError)
+      → lists.properties.bads.items ≢ [] → IsEncodedQuestion (lists_circuit lists) k optimize made
+      → RefusesAnswer text refused (length lists.properties.bads.items) made e
+      → IsReadAs (IsAskedWithin limit) (RefusesSolution text refused k optimize) old new e
+  refusal_of text refused made e some is refusal = record {
+    file = read.file;
+    bytes = read.bytes;
+    holds = (read.holds, bads_of some);
+    means = (
+      made,
+      asks_file made is,
+      subst (λ n. RefusesAnswer text refused n made e) (count_of
+          read.file lists read.means) refusal,
+    );
+    taken = read.taken;
+  }
+
+  -- a known witness of the lists' circuit shows a bad state of the file's machine
+  pub shown_of : ((f : File) (limit : ℕ) (w : Witness) → Fits f limit → IsKnownWitness (circuit_of
+      f) w → ShowsBad f w)
+      → (w : witnesses.Witness) → lists.properties.bads.items ≢ []
+      → WitnessWithin (lists_circuit lists) k (said_by w)
+      → IsReadAs (IsAskedWithin limit) (λ f w. ShowsBad f (said_by w) × (length (said_by w).steps ≤
+      k + 1)) old new w
+  shown_of law w some known = record {
+    file = read.file;
+    bytes = read.bytes;
+    holds = (read.holds, bads_of some);
+    means = (
+      law read.file limit (said_by w) read.holds.1 (subst (λ c. IsKnownWitness c (said_by
+          w)) read.means known.0),
+      known.1,
+    );
+    taken = read.taken;
+  }
+
+-- the further clause is of variables that are there
+pub AreBelow-further : (f : File) (k : ℕ) (optimize : Bool) (made : BoundedClauses)
+    → AsksBounded f k optimize made → AreBelow (length made.clauses) made.further
+AreBelow-further f k optimize made is =
+    let asks = lists_circuit made.question.circuit in
+    let outputs = subst (λ (p : Properties AigEdge). All (IsInRange asks.nodes) p.outputs)
+    is.asks.properties is.asks.circuit.properties.outputs in
+    let there : is.output.node_id < length asks.nodes = outputs 0 is.output (omega arith) in
+    let count : length made.clauses ≡ length asks.nodes = is.has_clauses.count in
+    let below : variable_of (lit_of is.output) < length made.clauses = omega (
+      arith,
+      variable_of-lit_to is.output.node_id (not is.output.compl),
+      there,
+      count,
+    ) in
+    let literal = All-from_recursion (λ lit. variable_of lit < length made.clauses) (lit_of
+    is.output ∷ []) (below, tt) in
+    subst (AreBelow (length made.clauses)) (sym is.exact) (All-from_recursion (All (λ lit.
+    variable_of lit < length made.clauses)) ((lit_of is.output ∷ []) ∷ []) (literal, tt))
 
 -- a question with its clauses
-pub encoded_question : (c : Circuit) (k : ℕ) (optimize : Bool) (q : Question) (made : BoundedClauses)
-    → (e : AigEdge) × IsQuestion c k (lists_circuit q.circuit) e q.places.items
-    → IsEncoded q optimize made → IsEncodedQuestion c k optimize made
-encoded_question c k optimize q made asks encoded = record {
+pub encoded_question : (c : Circuit) (k : ℕ) (optimize : Bool) (q : Question) (made :
+    BoundedClauses)
+    → (named : List Named) → (e : AigEdge) × IsQuestion c k (lists_circuit q.circuit) e
+    q.places.items
+    → AllZip (IsNamed c) q.places.items named
+    → IsEncoded q named optimize made → IsEncodedQuestion c k optimize made
+encoded_question c k optimize q made named asks names encoded = record {
   output = asks.0;
-  asks = subst (λ (x : Question). IsQuestion c k (lists_circuit x.circuit) asks.0 x.places.items) (sym encoded.same) asks.1;
-  encoded = subst (λ x. IsEncoded x optimize made) (sym encoded.same) encoded;
+  asks = subst (λ (x : Question). IsQuestion c k (lists_circuit x.circuit) asks.0 x.places.items)
+      (sym encoded.same) asks.1;
+  named = subst (λ (x : Question). AllZip (IsNamed c) x.places.items made.named.items) (sym
+      encoded.same) (subst (AllZip (IsNamed c) q.places.items) (sym encoded.same_names) names);
+  encoded = subst (λ x. IsEncoded x made.named.items optimize made) (sym encoded.same) (subst (λ
+      ns. IsEncoded q ns optimize made) (sym encoded.same_names) encoded);
 }

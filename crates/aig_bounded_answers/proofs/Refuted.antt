@@ -1,10 +1,20 @@
 -- Wrong results, of which the definitions are false.
-use Rattle.std.proofs.Common.{◌≡◌, ◌≢◌, ℕ, Bool, List, [], ◌∷◌, length, ap, arith}
+use Rattle.std.proofs.Common.{◌≡◌, ◌≢◌, ◌≤◌, ◌^◌, ℕ, Bool, false, Option, Some, Ok, Err, IfOk, List, [], length, slice_get, sym, ap, subst, ◌∙◌, arith}
+use Rattle.std.specs.Prelude.{Contains}
+use Rattle.std.proofs.lemmas.List.Elements.{Contains-get_or}
+use Rattle.std.proofs.lemmas.Option.{get_or_from_slice_get, slice_get_within}
+use Rattle.aig_base.specs.declared.logic.three.Lbool.{Lbool}
 use Rattle.aig_circuit.specs.Circuit.{Circuit}
 use Rattle.aig_circuit.specs.View.{lists_circuit}
 use Rattle.aig_format.specs.File.{File}
+use Rattle.aig_solutions.specs.declared.error.SolutionError.TheVariants.{NoBad}
+use Rattle.aig_solutions.specs.Reading.{solution_in}
+use Rattle.aig_bounded.specs.declared.place.Place.{Place}
 use Rattle.aig_bounded_answers.specs.declared.clauses.BoundedClauses.{BoundedClauses}
-use Rattle.aig_bounded_answers.specs.Asking.{AsksBounded, IsAskedWithin}
+use Rattle.aig_bounded_answers.specs.declared.error.BoundedAnswerError.{BoundedAnswerError}
+use Rattle.aig_bounded_answers.specs.declared.naming.Named.{Named}
+use Rattle.aig_bounded_answers.specs.Asking.{AreSolution, AsksBounded, IsAskedWithin, IsSettled, RefusesAnswer, TellsOfProof}
+use Rattle.aig_bounded_answers.specs.Naming.{IsNamed, leaf_of}
 
 -- a file without bad literals, of which nothing is asked
 no_bads : (limit : ℕ) (bytes : List ℕ) (f : File) → f.properties.bads ≡ []
@@ -22,7 +32,8 @@ no_bare_clauses f k optimize made is none =
 no_latch : (f : File) (k : ℕ) (optimize : Bool) (made : BoundedClauses)
     → AsksBounded f k optimize made → length (lists_circuit made.question.circuit).latchs ≢ 1
 no_latch f k optimize made is one =
-    let count : length (lists_circuit made.question.circuit).latchs ≡ 0 = ap length is.asks.latchs in
+    let count : length (lists_circuit made.question.circuit).latchs ≡ 0 = ap length is.asks.latchs
+    in
     omega (arith, count, one)
 
 -- a question with two outputs
@@ -30,5 +41,28 @@ no_second_output : (f : File) (k : ℕ) (optimize : Bool) (made : BoundedClauses
     → AsksBounded f k optimize made
     → length (lists_circuit made.question.circuit).properties.outputs ≢ 2
 no_second_output f k optimize made is two =
-    let count : length (lists_circuit made.question.circuit).properties.outputs ≡ 1 = ap (λ p. length p.outputs) is.asks.properties in
+    let count : length (lists_circuit made.question.circuit).properties.outputs ≡ 1 = ap (λ p.
+    length p.outputs) is.asks.properties in
     omega (arith, count, two)
+
+-- a latch's leaf named as an input
+no_input_name : (c : Circuit) (p : Place) (name : Named) → name.is_latch ≡ false
+    → ¬ Contains c.inputs p.leaf → ¬ IsNamed c p name
+no_input_name c p name input none named =
+    let found : slice_get c.inputs name.number ≡ Some p.leaf = subst (λ b. leaf_of c b name.number
+    ≡ Some p.leaf) input named.1 in
+    let low = slice_get_within c.inputs name.number p.leaf found in
+    none (subst (Contains c.inputs) (get_or_from_slice_get c.inputs name.number p.leaf 0 found)
+    (Contains-get_or c.inputs name.number 0 low))
+
+-- an error where nothing needs a proof
+no_refused_settled : {P : Type 0} (left : P → Option (List ℕ)) (made : BoundedClauses) (p rest : P)
+    (e : BoundedAnswerError) → IsSettled made → ¬ TellsOfProof left made p rest (Err e)
+no_refused_settled left made p rest e settled told = let is = (told.settled settled).0 in cc
+
+-- a solution of clauses that is refused as none, where a witness can name each bad literal
+no_refused_solution : (bytes : List ℕ) (failed : Bool) (bads : ℕ) (made : BoundedClauses)
+    (values : List Lbool) → bads ≤ 2 ^ 32 → solution_in (length made.clauses) bytes ≡ Ok values
+    → AreSolution made values → ¬ RefusesAnswer (Some bytes) failed bads made NoBad
+no_refused_solution bytes failed bads made values few said holds refused =
+    refused.2 few (subst (λ r. IfOk r (AreSolution made)) (sym said ∙ refused.1.1) holds)

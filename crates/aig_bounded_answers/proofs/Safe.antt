@@ -3,24 +3,23 @@ use Rattle.std.proofs.Common.{◌≡◌, ◌↔◌, ◌++◌, ◌∷◌, [], ◌
 use Rattle.std.proofs.lemmas.Bool.{false≢true}
 use Rattle.std.proofs.lemmas.List.Elements.{All-cons, All-nil}
 use Rattle.std.proofs.lemmas.List.Folds.{list_all-append}
-use Rattle.std.specs.Prelude.{◌&&◌, ◌≤◌, All}
+use Rattle.std.specs.Prelude.{◌&&◌, All}
 use Rattle.aig_base.specs.declared.logic.literal.Lit.{Lit}
 use Rattle.aig_base.specs.Clauses.{Satisfies, are_true, is_true_clause, literal_value}
 use Rattle.aig_base.specs.Formula.{IsSatisfiable, clauses_in}
 use Rattle.aig_circuit.specs.declared.edge.AigEdge.{AigEdge}
 use Rattle.aig_circuit.specs.Circuit.{Circuit, IsCircuit}
-use Rattle.aig_circuit.specs.Properties.{Properties}
+use Rattle.aig_circuit.specs.Properties.{Properties, no_properties}
 use Rattle.aig_circuit.specs.Edge.{edge_to, lit_of}
 use Rattle.aig_circuit.specs.Tree.{edge_value, node_value}
 use Rattle.aig_circuit.specs.View.{lists_circuit}
 use Rattle.aig_circuit.proofs.Trees.{node_value-false}
-use Rattle.aig_cnf.specs.Cnf.{IsFixed, edge_in}
+use Rattle.aig_cnf.specs.Cnf.{FixesRoots, IsFixed, edge_in}
 use Rattle.aig_format.specs.Circuit.{circuit_of}
 use Rattle.aig_format.specs.File.{File}
 use Rattle.aig_format.specs.Fits.{Fits}
 use Rattle.aig_format.proofs.Circuits.{IsCircuit-of_file}
-use Rattle.aig_runs.specs.CircuitQueries.{HasCircuitWitness}
-use Rattle.aig_runs.specs.Queries.{IsSafeTo, IsWitness}
+use Rattle.aig_runs.specs.Queries.{IsSafeTo}
 use Rattle.aig_runs.proofs.SafeSteps.{safe_is}
 use Rattle.aig_runs.proofs.Witnesses.{witness_back, witness_forth}
 use Rattle.aig_format_laws.specs.Nodes.{values_over}
@@ -41,12 +40,14 @@ or_only true h = refl
 or_only false h = h
 
 -- where the clauses in a row are true, those of each variable are
-satisfied_by : (v : ℕ → Bool) (lists : List (List (List Lit))) → IsTrue (are_true v (clauses_in lists))
+satisfied_by : (v : ℕ → Bool) (lists : List (List (List Lit))) → IsTrue (are_true v (clauses_in
+    lists))
     → Satisfies v lists
 satisfied_by v [] h = All-nil (λ clauses. IsTrue (are_true v clauses))
 satisfied_by v (clauses ∷ lists) h =
     let both = sym (list_all-append (is_true_clause v) clauses (clauses_in lists)) ∙ h in
-    All-cons (λ clauses. IsTrue (are_true v clauses)) clauses lists (and_first (are_true v clauses) (are_true v (clauses_in lists)) both)
+    All-cons (λ clauses. IsTrue (are_true v clauses)) clauses lists (and_first (are_true v clauses)
+    (are_true v (clauses_in lists)) both)
     (satisfied_by v lists (and_second (are_true v clauses) (are_true v (clauses_in lists)) both))
 
 both_true : (a b : Bool) → a ≡ true → b ≡ true → (a && b) ≡ true
@@ -59,7 +60,30 @@ all_by : (v : ℕ → Bool) (lists : List (List (List Lit))) → Satisfies v lis
 all_by v [] s = refl
 all_by v (clauses ∷ lists) s =
     list_all-append (is_true_clause v) clauses (clauses_in lists)
-    ∙ both_true (are_true v clauses) (are_true v (clauses_in lists)) (s 0 clauses (omega arith)) (all_by v lists (λ k d h. s (suc k) d (omega arith)))
+    ∙ both_true (are_true v clauses) (are_true v (clauses_in lists)) (s 0 clauses (omega arith))
+    (all_by v lists (λ k d h. s (suc k) d (omega arith)))
+
+-- where an assignment satisfies the clauses of a question, its output is true
+pub output_holds : (asks : Circuit) (made : BoundedClauses) (output : AigEdge) → FixesRoots asks
+    made.clauses
+    → asks.properties ≡ record no_properties { outputs = output ∷ [] } → made.further ≡ (lit_of
+    output ∷ []) ∷ []
+    → ((v : ℕ → Bool) (e : AigEdge) → literal_value v (lit_of e) ≡ edge_in v e)
+    → (v : ℕ → Bool) → IsTrue (are_true v (clauses_in made.clauses ++ made.further))
+    → IsTrue (edge_value asks.nodes v output)
+output_holds asks made output fixes properties exact literals v h =
+    let both = sym (list_all-append (is_true_clause v) (clauses_in made.clauses) made.further) ∙ h
+    in
+    let first = satisfied_by v made.clauses (and_first (are_true v (clauses_in made.clauses))
+    (are_true v made.further) both) in
+    let second = and_second (are_true v (clauses_in made.clauses)) (are_true v made.further) both in
+    let unit : ((literal_value v (lit_of output) || false) && true) ≡ true = subst (λ clauses.
+    are_true v clauses ≡ true) exact second in
+    let literal = or_only (literal_value v (lit_of output)) (and_first (literal_value v (lit_of
+    output) || false) true unit) in
+    let outputs = subst (λ (p : Properties AigEdge). All (IsFixed asks made.clauses) p.outputs)
+    properties fixes.properties.outputs in
+    sym (outputs 0 output (omega arith) v first) ∙ sym (literals v output) ∙ literal
 
 module _ (f : File) (limit k : ℕ) (optimize : Bool) (made : BoundedClauses) (fits : Fits f limit)
     (is : AsksBounded f k optimize made)
@@ -75,34 +99,36 @@ module _ (f : File) (limit k : ℕ) (optimize : Bool) (made : BoundedClauses) (f
   satisfied_where y holds =
       let v = node_value asks.nodes y in
       let literal : literal_value v (lit_of is.output) ≡ true = literals v is.output ∙ holds in
-      let further : IsTrue (are_true v ((lit_of is.output ∷ []) ∷ [])) = ap (λ b. (b || false) && true) literal in
-      let rest : IsTrue (are_true v made.further) = subst (λ clauses. IsTrue (are_true v clauses)) (sym is.exact) further in (
+      let further : IsTrue (are_true v ((lit_of is.output ∷ []) ∷ [])) = ap (λ b. (b || false) &&
+      true) literal in
+      let rest : IsTrue (are_true v made.further) = subst (λ clauses. IsTrue (are_true v clauses))
+      (sym is.exact) further in (
         v,
         list_all-append (is_true_clause v) (clauses_in made.clauses) made.further
-            ∙ both_true (are_true v (clauses_in made.clauses)) (are_true v made.further) (all_by v made.clauses (is.satisfied y)) rest,
+            ∙ both_true (are_true v (clauses_in made.clauses)) (are_true v made.further) (all_by v
+            made.clauses (is.satisfied y)) rest,
       )
 
   true_where : IsSatisfiable (clauses_in made.clauses ++ made.further)
       → (y : ℕ → Bool) × IsTrue (edge_value asks.nodes y is.output)
-  true_where (v, h) =
-      let both = sym (list_all-append (is_true_clause v) (clauses_in made.clauses) made.further) ∙ h in
-      let first = satisfied_by v made.clauses (and_first (are_true v (clauses_in made.clauses)) (are_true v made.further) both) in
-      let second = and_second (are_true v (clauses_in made.clauses)) (are_true v made.further) both in
-      let unit : ((literal_value v (lit_of is.output) || false) && true) ≡ true = subst (λ clauses. are_true v clauses ≡ true) is.exact second in
-      let literal = or_only (literal_value v (lit_of is.output)) (and_first (literal_value v (lit_of is.output) || false) true unit) in
-      let outputs = subst (λ (p : Properties AigEdge). All (IsFixed asks made.clauses) p.outputs) is.asks.properties is.fixes.properties.outputs in
-      (v, sym (outputs 0 is.output (omega arith) v first) ∙ sym (literals v is.output) ∙ literal)
+  true_where (v, h) = (
+    v,
+    output_holds asks made is.output is.fixes is.asks.properties is.exact
+        literals v h,
+  )
 
   safe_where : ((y : ℕ → Bool) → IsTrue (edge_value asks.nodes y is.output) → ⊥) → IsSafeTo f k
   safe_where none =
       (safe_is f k).0 (λ t h w.
       let x = witness_forth f limit t w.0 fits w.1 in
-      let y = (question_asks (circuit_of f) k asks is.output made.question.places.items circuit is.asks).1 (t, h, (x.0, x.1)) in
+      let y = (question_asks (circuit_of f) k asks is.output made.question.places.items circuit
+      is.asks).1 (t, h, (x.0, x.1)) in
       none y.0 y.1)
 
   none_where : IsSafeTo f k → (y : ℕ → Bool) → IsTrue (edge_value asks.nodes y is.output) → ⊥
   none_where safe y holds =
-      let reached = (question_asks (circuit_of f) k asks is.output made.question.places.items circuit is.asks).0 (y, holds) in
+      let reached = (question_asks (circuit_of f) k asks is.output made.question.places.items
+      circuit is.asks).0 (y, holds) in
       let t = reached.0 in
       let x = reached.2.0 in
       (safe_is f k).1 safe t reached.1 (values_over f x, witness_back f limit t x fits reached.2.1)
@@ -115,7 +141,9 @@ module _ (f : File) (limit k : ℕ) (optimize : Bool) (made : BoundedClauses) (f
 
   pub folded_is_safe : All (λ e. e ≡ edge_to 0 false) asks.properties.outputs → IsSafeTo f k
   folded_is_safe all =
-      let outputs = subst (λ (p : Properties AigEdge). All (λ e. e ≡ edge_to 0 false) p.outputs) is.asks.properties all in
+      let outputs = subst (λ (p : Properties AigEdge). All (λ e. e ≡ edge_to 0 false) p.outputs)
+      is.asks.properties all in
       let false_is : is.output ≡ edge_to 0 false = outputs 0 is.output (omega arith) in
       safe_where (λ y holds.
-      false≢true (sym (node_value-false asks.nodes y 0 is.asks.circuit.nodes.false_first) ∙ sym (ap (edge_value asks.nodes y) false_is) ∙ holds))
+      false≢true (sym (node_value-false asks.nodes y 0 is.asks.circuit.nodes.false_first) ∙ sym (ap
+      (edge_value asks.nodes y) false_is) ∙ holds))

@@ -1,2 +1,4 @@
 pub mod Asking
 pub mod Encoded
+pub mod Naming
+pub mod Solving

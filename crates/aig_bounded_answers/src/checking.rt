@@ -1,44 +1,35 @@
 //! Proofs of bounded checks.
 
-ghost use Rattle.std.specs.Prelude.{◌≡◌, ◌≤◌, ◌^◌, ◌++◌, ◌⊎◌, false, All, IfOk, IsTrue, OnOk};
+ghost use Rattle.std.specs.Prelude.{◌≡◌, ◌≢◌, ◌≤◌, ◌^◌, ◌++◌, ◌⊎◌, IfErr, IfOk, IsErrOf, IsTrue, OnOk};
 ghost use Rattle.aig_base.specs.Formula.{IsSatisfiable, clauses_in};
-ghost use Rattle.aig_circuit.specs.Edge.{edge_to};
 ghost use Rattle.aig_reader.specs.Reading.{IsReadAs};
+ghost use Rattle.aig_reader.specs.Verdicts.{Accepted, Judges, verdict_by};
 ghost use Rattle.aig_runs.specs.Queries.{IsSafeTo};
-ghost use Rattle.aig_bounded_answers.specs.Asking.{IsAskedWithin};
+ghost use Rattle.aig_bounded_answers.specs.declared.error.BoundedAnswerError.TheVariants as errors;
+ghost use Rattle.aig_bounded_answers.specs.Asking.{AnswersProof, IsAskedWithin, IsOfCheck, IsSettled, TellsOfProof, bounded_verdict, verdict_of};
 
 use crate::clauses::{BoundedClauses, bounded};
 use crate::error::BoundedAnswerError;
 use crate::laws::refuted_questions_are_safe;
 use aig_base::Source;
-use aig_bounded::Question;
-use aig_refutation::check_refutation;
+use aig_refutation::{RefutationError, check_refutation};
 use std::alloc::Global;
 
-/// Whether each output of a question is the constant false.
-fn is_false(question: &Question) -> bool
-    ensures { IsTrue result
-        → All (λ e. e ≡ edge_to 0 false) question.now.circuit.properties.outputs.items }
-{
-    question
-        .circuit
-        .properties
-        .outputs
-        .iter()
-        .all(|e| e.is_constant(false))
-}
-
-/// Checks a proof that the clauses of a question can't be satisfied, unless the question is the constant false.
+/// Checks a proof that the clauses of a question can't be satisfied, unless the question is settled. The one error is that of
+/// the proof.
 fn refute<P: Source>(
     alloc: Global,
     made: &BoundedClauses,
     proof: &mut P,
 ) -> Result<(), BoundedAnswerError>
-    ensures { OnOk result (All (λ e. e ≡ edge_to 0 false)
-        made.now.question.circuit.properties.outputs.items
+    ensures refuted { OnOk result (IsSettled made.now
         ⊎ (¬ IsSatisfiable (clauses_in made.now.clauses ++ made.now.further))) }
+    ensures told { TellsOfProof P.left made.now proof.old proof.new result }
+    ensures own { IfErr result (λ e. (x : RefutationError) × (e ≡ errors.Refutation x)) }
+    ensures stream { IsErrOf result (BoundedAnswerError.Refutation RefutationError.Stream)
+        → IsTrue (P.failed proof.new) }
 {
-    if is_false(&made.question) {
+    if made.is_settled() {
         return Ok(());
     }
     check_refutation(alloc, &made.clauses, &made.further, proof)?;
@@ -62,8 +53,22 @@ pub fn check_bounded<R: Source, P: Source>(
     requires some { 1 ≤ limit }
     requires few { limit ≤ 2 ^ 31 }
     // The bytes that were read are a file within the limit, with a bad literal, whose machine reaches no bad state up to step k.
-    ensures { IfOk result (IsReadAs (IsAskedWithin limit) (λ f _. IsSafeTo f k)
+    ensures answer { IfOk result (IsReadAs (IsAskedWithin limit) (λ f _. IsSafeTo f k)
         (R.left r.old) (R.left r.new)) }
+    // A file is refused exactly where it isn't within the limit or has no bad literal, and a refusal says why.
+    ensures verdict { Judges bounded_verdict limit (R.left r.old) (R.left r.new) (R.failed r.new)
+        (verdict_by verdict_of result) }
+    ensures own { IfErr result IsOfCheck }
+    // The proof is read only where the file is taken.
+    ensures unread { verdict_by verdict_of result ≢ Accepted → proof.new ≡ proof.old }
+    // Stream only where a read of the proof failed in this call.
+    ensures stream { IsErrOf result (BoundedAnswerError.Refutation RefutationError.Stream)
+        → IsTrue (P.failed proof.new) }
+    // Where the file is taken, the clauses of a question of it are settled, and nothing is read of the proof, or the result
+    // is what the bytes of the proof show of them.
+    ensures shown { verdict_by verdict_of result ≡ Accepted
+        → IsReadAs (IsAskedWithin limit) (AnswersProof P.left k optimize proof.old proof.new)
+        (R.left r.old) (R.left r.new) result }
 {
     refuted_questions_are_safe();
     let made = bounded(alloc, r, limit, k, optimize)?;

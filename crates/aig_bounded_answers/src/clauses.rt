@@ -1,15 +1,18 @@
 //! The clauses of a bounded check.
 
-ghost use Rattle.std.specs.Prelude.{◌≡◌, ◌≢◌, ◌≤◌, ◌^◌, [], All, IfOk, length};
-ghost use Rattle.aig_circuit.specs.Circuit.{IsCircuit};
+ghost use Rattle.std.specs.Prelude.{◌≡◌, ◌↔◌, ◌≤◌, ◌^◌, All, IfErr, IfOk, IsTrue, length};
+ghost use Rattle.aig_base.specs.Clauses.{AreBelow};
+ghost use Rattle.aig_circuit.specs.Circuit.{IsCircuit, IsClosed};
 ghost use Rattle.aig_circuit.specs.Edges.{HasConstantInit};
 ghost use Rattle.aig_runs.specs.Queries.{unit_clauses};
 ghost use Rattle.aig_circuit.specs.View.{lists_circuit};
 ghost use Rattle.aig_reader.specs.Reading.{IsReadAs};
-ghost use Rattle.aig_bounded_answers.specs.Asking.{AsksBounded, IsAskedWithin};
-ghost use Rattle.aig_bounded_answers.specs.Encoded.{IsEncoded, IsEncodedQuestion};
+ghost use Rattle.aig_reader.specs.Verdicts.{Judges, verdict_by};
+ghost use Rattle.aig_bounded_answers.specs.Asking.{AsksBounded, IsAskedWithin, IsOfQuestion, IsSettled, bounded_verdict, verdict_of};
+ghost use Rattle.aig_bounded_answers.specs.Encoded.{IsEncoded, IsEncodedQuestion, IsSaidOfBads};
 
 use crate::error::BoundedAnswerError;
+use crate::naming::{Named, name_places};
 use aig_base::{DagCnf, LitVvec, MemoryError, Source};
 use aig_bounded::{BoundedError, Question, bounded_question};
 use aig_circuit::{CircuitLists, CircuitView};
@@ -23,10 +26,28 @@ use std::alloc::Global;
 pub struct BoundedClauses {
     /// The question.
     pub question: Question,
+    /// What its inputs stand for, one for one.
+    pub named: Vec<Named>,
     /// The clauses of its circuit.
     pub clauses: DagCnf,
     /// The clause that its output is true.
     pub further: LitVvec,
+}
+
+impl BoundedClauses {
+    /// Returns whether the question is settled: its output is the constant false, so that no bad state is reached, and no
+    /// proof is needed.
+    pub fn is_settled(&self) -> bool
+        // Exactly where each output of the question's circuit is the constant false.
+        ensures { IsTrue result ↔ IsSettled self.now }
+    {
+        self.question
+            .circuit
+            .properties
+            .outputs
+            .iter()
+            .all(|e| e.is_constant(false))
+    }
 }
 
 /// The clause that the output of a question is true.
@@ -39,20 +60,22 @@ fn output_clauses(alloc: Global, circuit: &CircuitView<'_>) -> Result<LitVvec, M
     Ok(further)
 }
 
-/// The clauses of a question.
+/// The clauses of a question, with the names of its inputs.
 fn clauses_of(
     alloc: Global,
     question: Question,
+    named: Vec<Named>,
     optimize: bool,
 ) -> Result<BoundedClauses, MemoryError>
     requires circuit { IsCircuit (lists_circuit question.circuit) }
     requires few { length question.circuit.nodes.items ≤ 2 ^ 31 }
-    ensures { IfOk result (IsEncoded question optimize) }
+    ensures { IfOk result (IsEncoded question named.items optimize) }
 {
     let further = output_clauses(alloc, &CircuitView::new(&question.circuit))?;
     let clauses = encode(alloc, &CircuitView::new(&question.circuit), optimize)?;
     Ok(BoundedClauses {
         question,
+        named,
         clauses,
         further,
     })
@@ -66,18 +89,20 @@ fn ask(
     k: usize,
     optimize: bool,
 ) -> Result<BoundedClauses, BoundedError>
+    requires closed { IsClosed circuit.now }
     requires starts { All HasConstantInit circuit.now.latchs }
     requires some { 1 ≤ limit }
     requires few { limit ≤ 2 ^ 31 }
     ensures { IfOk result (IsEncodedQuestion circuit.now k optimize) }
 {
     let question = bounded_question(alloc, circuit, k, limit)?;
-    let made = clauses_of(alloc, question, optimize)?;
+    let named = name_places(alloc, circuit, &question.places)?;
+    let made = clauses_of(alloc, question, named, optimize)?;
     Ok(made)
 }
 
 /// The clauses of the question of a file's circuit, unless nothing is asked of it.
-fn ask_file(
+pub(crate) fn ask_file(
     alloc: Global,
     lists: &CircuitLists,
     limit: usize,
@@ -85,11 +110,13 @@ fn ask_file(
     optimize: bool,
 ) -> Result<BoundedClauses, BoundedAnswerError>
     requires circuit { IsCircuit (lists_circuit lists.now) }
+    requires closed { IsClosed (lists_circuit lists.now) }
     requires starts { All HasConstantInit lists.now.latchs.items }
     requires some { 1 ≤ limit }
     requires few { limit ≤ 2 ^ 31 }
-    ensures bads { IfOk result (λ _. lists.now.properties.bads.items ≢ []) }
     ensures asks { IfOk result (IsEncodedQuestion (lists_circuit lists.now) k optimize) }
+    ensures said { IsSaidOfBads lists.now.properties.bads.items (verdict_by verdict_of result) }
+    ensures own { IfErr result IsOfQuestion }
 {
     if lists.properties.bads.is_empty() {
         return Err(BoundedAnswerError::NoBads);
@@ -112,8 +139,14 @@ pub fn bounded<R: Source>(
     requires some { 1 ≤ limit }
     requires few { limit ≤ 2 ^ 31 }
     // The bytes that were read are a file within the limit, with a bad literal, and the clauses are those of its question.
-    ensures { IfOk result (IsReadAs (IsAskedWithin limit) (λ f. AsksBounded f k optimize)
+    ensures answer { IfOk result (IsReadAs (IsAskedWithin limit) (λ f. AsksBounded f k optimize)
         (R.left r.old) (R.left r.new)) }
+    // The further clause is of variables that are there.
+    ensures below { IfOk result (λ made. AreBelow (length made.clauses) made.further) }
+    // A file is refused exactly where it isn't within the limit or has no bad literal, and a refusal says why.
+    ensures verdict { Judges bounded_verdict limit (R.left r.old) (R.left r.new) (R.failed r.new)
+        (verdict_by verdict_of result) }
+    ensures own { IfErr result IsOfQuestion }
 {
     let lists = read(alloc, r, limit)?;
     let made = ask_file(alloc, &lists, limit, k, optimize)?;

@@ -8,6 +8,7 @@ use aig_base::MemoryError;
 use aig_bounded::BoundedError;
 use aig_reader::ReadError;
 use aig_refutation::RefutationError;
+use aig_solutions::SolutionError;
 use thiserror::Error;
 
 /// Why there is no answer.
@@ -25,6 +26,9 @@ pub enum BoundedAnswerError {
     /// The proof is refused.
     #[error("{0}")]
     Refutation(RefutationError),
+    /// The solver's answer gives no witness of a bad state.
+    #[error("{0}")]
+    Solution(SolutionError),
 }
 
 impl From<ReadError> for BoundedAnswerError {
@@ -48,6 +52,14 @@ impl From<RefutationError> for BoundedAnswerError {
 
     fn from(error: RefutationError) -> BoundedAnswerError {
         BoundedAnswerError::Refutation(error)
+    }
+}
+
+impl From<SolutionError> for BoundedAnswerError {
+    ghost from_gives = { λ e r. r ≡ errors.Solution e };
+
+    fn from(error: SolutionError) -> BoundedAnswerError {
+        BoundedAnswerError::Solution(error)
     }
 }
 

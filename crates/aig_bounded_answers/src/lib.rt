@@ -1,12 +1,19 @@
-//! Bounded checks of the machines of AIGER files, from bytes: the clauses of one question, and proofs of them.
+//! Bounded checks of the machines of AIGER files, from bytes: the clauses of one question, and proofs and
+//! solutions of them.
 #![tactic(auto)]
 
 mod checking;
 mod clauses;
 mod error;
 mod laws;
+mod naming;
+mod simulating;
+mod solving;
+mod values;
 
 pub use checking::check_bounded;
 pub use clauses::{BoundedClauses, bounded};
 pub use error::BoundedAnswerError;
 pub use laws::refuted_questions_are_safe;
+pub use naming::Named;
+pub use solving::bounded_witness;

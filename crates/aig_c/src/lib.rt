@@ -94,7 +94,9 @@ pub extern "C" fn aig_query(
     aig_calls::print_query(alloc, file, k, optimize, out, needed)
 }
 
-/// The clauses of the query of a file for step `k`, as DIMACS numbers with a 0 after each clause, and how many variables they have.
+/// The clauses of the query of a file for step `k`, as DIMACS numbers with a 0 after each clause, how many variables they have and
+/// how many numbers they are; and behind them the literals that stand for the inputs at the steps 0 to `k`, the latches at step 0
+/// and the bad state properties at step `k`.
 #[unsafe(no_mangle)]
 pub extern "C" fn aig_query_numbers(
     alloc: Global,
@@ -104,12 +106,24 @@ pub extern "C" fn aig_query_numbers(
     out: &mut [i32],
     needed: &mut usize,
     variables: &mut usize,
+    clauses_len: &mut usize,
 ) -> u32
-    ensures gives { Gives (asked_verdict LIMIT k) LIMIT (IsListed k optimize variables.new)
-        (AtStep k IsOfText) file.now result out.old out.new needed.old needed.new }
-    ensures kept { 2 ≤ result → variables.new ≡ variables.old }
+    ensures gives { Gives (asked_verdict LIMIT k) LIMIT
+        (IsListed k optimize variables.new clauses_len.new) (AtStep k IsOfText) file.now result
+        out.old out.new needed.old needed.new }
+    ensures kept { 2 ≤ result
+        → (variables.new ≡ variables.old) × (clauses_len.new ≡ clauses_len.old) }
 {
-    aig_calls::query_numbers(alloc, file, k, optimize, out, needed, variables)
+    aig_calls::query_numbers(
+        alloc,
+        file,
+        k,
+        optimize,
+        out,
+        needed,
+        variables,
+        clauses_len,
+    )
 }
 
 /// The clauses of the query of a file for step `k`, in DIMACS form, and before them comments that say which literals stand for its

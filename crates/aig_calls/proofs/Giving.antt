@@ -95,17 +95,21 @@ module _ (of : File → Verdict) (limit : ℕ) (bytes : List ℕ) where
 -- ---- numbers
 
 module _ (of : File → Verdict) (limit : ℕ) (bytes : List ℕ) (IsOwn : ℕ → Type 0) (k : ℕ)
-    (optimize : Bool) (old new : List ℤ) (before needed had variables : ℕ) where
+    (optimize : Bool) (old new : List ℤ) (before needed had variables had_len clauses_len : ℕ) where
   -- what was listed is put into the caller's memory
   pub lists : (made : Result Listed ℕ) (status : ℕ)
-      → Makes of limit (λ f made. IsListed k optimize made.variables f made.numbers.items) IsOwn bytes made
-      → PutsList made status old new before needed had variables
-      → Gives of limit (IsListed k optimize variables) IsOwn bytes status old new before needed
+      → Makes of limit
+      (λ f made. IsListed k optimize made.variables made.clauses_len f made.numbers.items)
+      IsOwn bytes made
+      → PutsList made status old new before needed had variables had_len clauses_len
+      → Gives of limit (IsListed k optimize variables clauses_len) IsOwn bytes status old new
+      before needed
   lists (Ok made) status makes puts =
-      given of limit bytes (IsListed k optimize variables) IsOwn made.numbers.items status old new before needed
-      makes.said makes.own
-      (subst (λ n. IsFileWith limit bytes (λ f. IsListed k optimize n f made.numbers.items)) (sym puts.1) makes.answer)
-      puts.0
+      let Means = λ (n m : ℕ). IsFileWith limit bytes
+      (λ f. IsListed k optimize n m f made.numbers.items) in
+      let counted = subst (λ n. Means n made.clauses_len) (sym puts.1) makes.answer in
+      given of limit bytes (IsListed k optimize variables clauses_len) IsOwn made.numbers.items
+      status old new before needed makes.said makes.own (subst (Means variables) (sym puts.2) counted) puts.0
   lists (Err error) status makes puts =
-      not_given of limit bytes (IsListed k optimize variables) IsOwn error status old new before needed makes.said
-      makes.own.0 makes.own.1 puts.0 puts.1 puts.2
+      not_given of limit bytes (IsListed k optimize variables clauses_len) IsOwn error status old
+      new before needed makes.said makes.own.0 makes.own.1 puts.0 puts.1 puts.2

@@ -3,3 +3,4 @@ mod Giving
 mod Saying
 mod Pairing
 mod Listing
+mod Placing

@@ -1,7 +1,8 @@
--- Clauses that are listed one after another.
-use Rattle.std.proofs.Common.{◌≡◌, ℕ, ◌+◌, ◌<◌, ◌≤◌, Some, List, [], ◌∷◌, ◌++◌, length, get_or, take, zero, suc, sym, ap, ◌∙◌, append_assoc, append-nil, subst, arith}
+-- Clauses and numbers that are listed one after another.
+use Rattle.std.proofs.Common.{◌≡◌, ℕ, ◌+◌, ◌<◌, ◌≤◌, Some, List, [], ◌∷◌, ◌++◌, length, get_or, map, take, zero, suc, sym, ap, ◌∙◌, append_assoc, append-nil, subst, arith}
 use Rattle.std.specs.Prelude.{All, slice_get}
 use Rattle.std.specs.List.{flat_map}
+use Rattle.std.proofs.lemmas.List.{map-append, take_more}
 use Rattle.std.proofs.lemmas.Option.{get_or_from_slice_get}
 use Rattle.aig_base.specs.declared.logic.literal.Lit.{Lit}
 use Rattle.aig_base.specs.Clauses.{AreBelow}
@@ -25,6 +26,16 @@ pub turn : {X Y : Type 0} (f : X → List Y) (xs : List X) (i : ℕ) (x : X) →
 turn f xs i x lt here a b c before more =
     more ∙ ap (λ l. l ++ f x) before ∙ append_assoc a (flat_map f (take i xs)) (f x)
     ∙ ap (λ y. a ++ (flat_map f (take i xs) ++ f y)) (sym here) ∙ ap (λ l. a ++ l) (sym (next f xs i x lt))
+
+-- one more item follows
+pub map_turn : {X Y : Type 0} (f : X → Y) (xs : List X) (i : ℕ) (d : X) → i < length xs
+    → (a b c : List Y) → b ≡ a ++ map f (take i xs) → c ≡ b ++ f (get_or xs i d) ∷ []
+    → c ≡ a ++ map f (take (i + 1) xs)
+map_turn f xs i d lt a b c before more =
+    let last = f (get_or xs i d) ∷ [] in
+    let longer = map-append f (take i xs) (get_or xs i d ∷ []) in
+    more ∙ ap (λ l. l ++ last) before ∙ append_assoc a (map f (take i xs)) last
+    ∙ ap (λ l. a ++ l) (sym (ap (map f) (take_more xs i d lt) ∙ longer))
 
 -- what holds of each holds of the one at a place
 pub at_place : {X : Type 0} (P : X → Type 0) (xs : List X) (i : ℕ) (x : X) → i < length xs

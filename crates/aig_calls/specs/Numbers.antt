@@ -1,12 +1,18 @@
 -- Part of what is promised.
--- Clauses as DIMACS numbers, with a 0 after each.
-use Rattle.std.specs.Prelude.{◌≡◌, ℕ, ◌+◌, if◌then◌else◌, Bool, List, [], ◌∷◌, ◌++◌, length, map, ℤ, pos, negsuc}
-use Rattle.std.specs.List.{flat_map}
+-- Clauses as DIMACS numbers, with a 0 after each, and which literals stand for inputs, latches and
+-- bad literals. (DIMACS CNF format; bounded model checking: time frames.)
+use Rattle.std.specs.Prelude.{◌≡◌, ℕ, ◌+◌, if◌then◌else◌, Bool, true, List, [], ◌∷◌, ◌++◌, length, map, ℤ, pos, negsuc}
+use Rattle.std.specs.List.{flat_map, range_with_len}
 use Rattle.aig_base.specs.declared.logic.literal.Lit.{Lit}
-use Rattle.aig_base.specs.Clauses.{is_positive, variable_of}
+use Rattle.aig_base.specs.Clauses.{is_positive, lit_to, variable_of}
 use Rattle.aig_encode.specs.declared.query_clauses.Query.{Query}
 use Rattle.aig_encode.specs.Encoding.{IsQuery}
+use Rattle.aig_circuit.specs.declared.edge.AigEdge.{AigEdge}
+use Rattle.aig_circuit.specs.Circuit.{Circuit, latch_leaves}
+use Rattle.aig_circuit.specs.Edge.{lit_of}
 use Rattle.aig_format.specs.File.{File}
+use Rattle.aig_runs.specs.Queries.{last_bads}
+use Rattle.aig_unroll.specs.Places.{place_at}
 
 -- a variable's number and one more, negative where the literal is inverted
 abbrev pub dimacs_number : Lit → ℤ
@@ -21,8 +27,34 @@ abbrev pub query_numbers : Query → List ℤ
 query_numbers q =
     flat_map (flat_map clause_numbers) q.encoded.clauses ++ flat_map clause_numbers q.extra
 
--- the numbers are those of the clauses of the file's query for step k, which has so many variables
-abbrev pub IsListed : ℕ → Bool → ℕ → File → List ℤ → Type 0
-IsListed k optimize variables f numbers =
-    (q : Query) × IsQuery k optimize f q × (variables ≡ length q.encoded.clauses)
-    × (numbers ≡ query_numbers q)
+-- the number of a variable's literal that isn't inverted
+abbrev pub variable_number : ℕ → ℤ
+variable_number n = dimacs_number (lit_to n true)
+
+-- the number of the literal of an edge
+abbrev pub edge_number : AigEdge → ℤ
+edge_number e = dimacs_number (lit_of e)
+
+-- for each input the number of its place at step t
+abbrev pub input_numbers : Circuit → Circuit → ℕ → List ℤ
+input_numbers c unrolled t = map (λ n. variable_number (place_at c unrolled t n)) c.inputs
+
+-- the map of a query for step k: the numbers of the inputs at each step, of the latches at step 0,
+-- and of the bad edges of step k
+abbrev pub map_numbers : Query → ℕ → List ℤ
+map_numbers q k =
+    flat_map (input_numbers q.encoded.circuit q.encoded.unrolled) (range_with_len 0 (k + 1))
+    ++ map variable_number (latch_leaves q.encoded.circuit.latchs)
+    ++ map edge_number (last_bads q.encoded.circuit k q.encoded.unrolled)
+
+-- The numbers are those of a query's clauses, and its map behind them. There are so many variables,
+-- and so many of the numbers are those of the clauses.
+pub record AreNumbersOf (q : Query) (k variables clauses_len : ℕ) (numbers : List ℤ) : Type 0 where
+  pub all : variables ≡ length q.encoded.clauses
+  pub clauses : clauses_len ≡ length (query_numbers q)
+  pub exact : numbers ≡ query_numbers q ++ map_numbers q k
+
+-- they are those of the file's query for step k
+abbrev pub IsListed : ℕ → Bool → ℕ → ℕ → File → List ℤ → Type 0
+IsListed k optimize variables clauses_len f numbers =
+    (q : Query) × IsQuery k optimize f q × AreNumbersOf q k variables clauses_len numbers

@@ -67,12 +67,15 @@ Puts (Ok made) status old new before needed = IsGiven status made.items old new 
 Puts (Err error) status old new before needed =
     (status ≡ error) × (new ≡ old) × (needed ≡ before)
 
--- the numbers that were listed are given, with the count of variables, or there is a status
-abbrev pub PutsList : Result Listed ℕ → ℕ → List ℤ → List ℤ → ℕ → ℕ → ℕ → ℕ → Type 0
-PutsList (Ok listed) status old new before needed had variables =
+-- the numbers that were listed are given, with the counts of variables and of the clauses' numbers,
+-- or there is a status
+abbrev pub PutsList : Result Listed ℕ → ℕ → List ℤ → List ℤ → ℕ → ℕ → ℕ → ℕ → ℕ → ℕ → Type 0
+PutsList (Ok listed) status old new before needed had variables had_len clauses_len =
     IsGiven status listed.numbers.items old new needed × (variables ≡ listed.variables)
-PutsList (Err error) status old new before needed had variables =
+    × (clauses_len ≡ listed.clauses_len)
+PutsList (Err error) status old new before needed had variables had_len clauses_len =
     (status ≡ error) × (new ≡ old) × (needed ≡ before) × (variables ≡ had)
+    × (clauses_len ≡ had_len)
 
 -- the status of a text, whose error is one
 abbrev pub status_of : {T : Type 0} → Result T ℕ → ℕ

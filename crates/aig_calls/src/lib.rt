@@ -7,6 +7,7 @@ mod buffer;
 mod certificates;
 mod checked_printing;
 mod checks;
+mod mapping;
 mod meaning;
 mod numbers;
 mod pairs;

@@ -1,15 +1,17 @@
-//! A call that gives clauses as numbers.
+//! A call that gives the clauses of a query as numbers, and which literals stand for what.
 
-ghost use Rattle.std.specs.Prelude.{◌≡◌, ◌+◌, ◌-◌, ◌<◌, ◌≤◌, ◌++◌, ◌^◌, All, IfOk, OnOk, length};
+ghost use Rattle.std.specs.Prelude.{◌≡◌, ◌-◌, ◌<◌, ◌≤◌, ◌++◌, ◌^◌, All, IfOk, OnOk, length};
 ghost use Rattle.std.specs.List.{flat_map};
 ghost use Rattle.aig_answers.specs.Answers.{asked_verdict};
 ghost use Rattle.aig_base.specs.Clauses.{AreBelow, variable_of};
+ghost use Rattle.aig_unroll.specs.Unroll.{UnrollsTo};
 ghost use Rattle.aig_calls.specs.Calls.{Gives};
-ghost use Rattle.aig_calls.specs.Numbers.{IsListed, clause_numbers, dimacs_number, query_numbers};
+ghost use Rattle.aig_calls.specs.Numbers.{AreNumbersOf, IsListed, clause_numbers, dimacs_number};
 ghost use Rattle.aig_calls.specs.Parts.{Makes, PutsList};
 ghost use Rattle.aig_calls.specs.Statuses.{AtStep, IsOfText};
 
 use crate::buffer::give;
+use crate::mapping::push_map;
 use crate::status::{MEMORY, of_answer};
 use crate::steps::step_of;
 use aig_answers::asked_query;
@@ -18,15 +20,16 @@ use aig_commands::LIMIT;
 use aig_encode::Query;
 use std::alloc::Global;
 
-/// What is listed: the count of variables, and the numbers.
+/// What is listed: the count of variables, how many of the numbers are those of the clauses, and the numbers.
 #[derive(Drop)]
 struct Listed {
     variables: usize,
+    clauses_len: usize,
     numbers: Vec<i32>,
 }
 
 /// The DIMACS number of a literal, whose variable has a number below 2^31 - 1.
-fn number_of(lit: Lit) -> i32
+pub(crate) fn number_of(lit: Lit) -> i32
     requires { variable_of lit < 2 ^ 31 - 1 }
     ensures { result ≡ dimacs_number lit }
 {
@@ -70,50 +73,62 @@ fn push_lists(numbers: &mut Vec<i32>, clauses: &DagCnf) -> Result<(), MemoryErro
     Ok(())
 }
 
-/// The numbers of the clauses of a query.
-fn list(alloc: Global, asked: &Query) -> Result<Vec<i32>, MemoryError>
+/// The numbers of the clauses of a query for step `k`, and its map.
+fn list(alloc: Global, asked: &Query, k: usize) -> Result<Listed, MemoryError>
     requires few { length asked.now.encoded.clauses < 2 ^ 31 }
     requires below { AreBelow (length asked.now.encoded.clauses) asked.now.extra }
-    ensures { IfOk result (λ numbers. numbers.items ≡ query_numbers asked.now) }
+    requires steps { UnrollsTo asked.now.encoded.circuit k asked.now.encoded.unrolled }
+    requires nodes { length asked.now.encoded.unrolled.nodes < 2 ^ 31 }
+    requires small { k < 2 ^ 32 }
+    ensures { IfOk result (λ made. AreNumbersOf asked.now k made.variables made.clauses_len
+        made.numbers.items) }
 {
     let mut numbers = Vec::new(alloc);
     push_lists(&mut numbers, &asked.encoded.clauses)?;
     push_list(&mut numbers, &asked.extra)?;
-    Ok(numbers)
+    let variables = asked.encoded.clauses.num_vars();
+    let clauses_len = numbers.len();
+    push_map(alloc, &mut numbers, asked, k)?;
+    Ok(Listed {
+        variables,
+        clauses_len,
+        numbers,
+    })
 }
 
-/// Lists the clauses of the query of a file for step `k`.
+/// Lists the clauses and the map of the query of a file for step `k`.
 fn ask(alloc: Global, file: &[u8], k: usize, optimize: bool) -> Result<Listed, u32>
     requires { k < 2 ^ 32 }
     ensures { Makes (asked_verdict LIMIT k) LIMIT
-        (λ f made. IsListed k optimize made.variables f made.numbers.items) IsOfText file.now
-        result }
+        (λ f made. IsListed k optimize made.variables made.clauses_len f made.numbers.items)
+        IsOfText file.now result }
 {
     let mut source = FromRead::new(file);
     let asked = match asked_query(alloc, &mut source, LIMIT, k, optimize) {
         Ok(asked) => asked,
         Err(error) => return Err(of_answer(error)),
     };
-    let variables = asked.encoded.clauses.num_vars();
-    match list(alloc, &asked) {
-        Ok(numbers) => Ok(Listed { variables, numbers }),
+    match list(alloc, &asked, k) {
+        Ok(listed) => Ok(listed),
         Err(_) => Err(MEMORY),
     }
 }
 
-/// Gives the numbers that are listed, and how many variables there are.
+/// Gives the numbers that are listed, how many variables there are, and how many of the numbers are those of the clauses.
 fn give_list(
     listed: Result<Listed, u32>,
     out: &mut [i32],
     needed: &mut usize,
     variables: &mut usize,
+    clauses_len: &mut usize,
 ) -> u32
     ensures { PutsList listed result out.old out.new needed.old needed.new variables.old
-        variables.new }
+        variables.new clauses_len.old clauses_len.new }
 {
     match listed {
         Ok(listed) => {
             *variables = listed.variables;
+            *clauses_len = listed.clauses_len;
             give(listed.numbers.as_slice(), out, needed)
         }
         Err(status) => status,
@@ -121,7 +136,8 @@ fn give_list(
 }
 
 /// Gives the clauses that ask for a run of a file's machine to a bad state at step `k`, as DIMACS numbers with a 0 after each
-/// clause, and says how many variables they have.
+/// clause, and says how many variables they have and how many numbers they are. The further numbers are the literals that stand
+/// for its inputs at the steps 0 to `k`, for its latches at step 0, and for its bad state properties at step `k`.
 pub fn query_numbers(
     alloc: Global,
     file: &[u8],
@@ -130,13 +146,19 @@ pub fn query_numbers(
     out: &mut [i32],
     needed: &mut usize,
     variables: &mut usize,
+    clauses_len: &mut usize,
 ) -> u32
-    ensures gives { Gives (asked_verdict LIMIT k) LIMIT (IsListed k optimize variables.new)
-        (AtStep k IsOfText) file.now result out.old out.new needed.old needed.new }
-    ensures kept { 2 ≤ result → variables.new ≡ variables.old }
+    ensures gives { Gives (asked_verdict LIMIT k) LIMIT
+        (IsListed k optimize variables.new clauses_len.new) (AtStep k IsOfText) file.now result
+        out.old out.new needed.old needed.new }
+    ensures kept { 2 ≤ result
+        → (variables.new ≡ variables.old) × (clauses_len.new ≡ clauses_len.old) }
 {
     match step_of(k) {
-        Ok(k) => give_list(ask(alloc, file, k, optimize), out, needed, variables),
+        Ok(k) => {
+            let listed = ask(alloc, file, k, optimize);
+            give_list(listed, out, needed, variables, clauses_len)
+        }
         Err(status) => status,
     }
 }

@@ -3,6 +3,7 @@
 ghost use Rattle.std.specs.Prelude.{◌≡◌, ◌⊎◌, ◌<◌, ◌≤◌, ◌||◌, IsTrue, Some};
 ghost use Rattle.aig_answers.specs.Answers as answering;
 ghost use Rattle.aig_answers.specs.Answers.{IsOfWindow};
+ghost use Rattle.aig_bounded_answers.specs.Asking as bounding;
 ghost use Rattle.aig_checks.specs.Running as checking;
 ghost use Rattle.aig_checks.specs.Running.{IsErrorOf};
 ghost use Rattle.aig_checks.specs.declared.command.FileCommand.{FileCommand};
@@ -20,6 +21,7 @@ ghost use Rattle.aig_calls.specs.Statuses.{IsOfPair, IsOfPairProof, is_proof_fau
 
 use aig::ReadError;
 use aig_answers::AnswerError;
+use aig_bounded_answers::BoundedAnswerError;
 use aig_certificates::CertificateError;
 use aig_checks::CheckError;
 use aig_commands::ToolError;
@@ -250,7 +252,22 @@ fn of_solution(error: SolutionError) -> u32
     }
 }
 
+/// The status of a question up to a step that has no answer. One that is too large is told as memory that was refused.
+fn of_bounded(error: BoundedAnswerError) -> u32
+    ensures said { SaysOnly (said_by result) (bounding.verdict_of error) }
+    ensures least { 2 ≤ result }
+{
+    match error {
+        BoundedAnswerError::Read(error) => of_read(error),
+        BoundedAnswerError::NoBads => NO_BADS,
+        BoundedAnswerError::Question(_) => MEMORY,
+        BoundedAnswerError::Refutation(error) => of_refutation(error),
+        BoundedAnswerError::Solution(error) => of_solution(error),
+    }
+}
+
 /// The status of a command of `aigcheck` that has no answer. What is written to memory stops only where memory is refused.
+/// A question that is settled has that of clauses that can't be satisfied.
 pub(crate) fn of_check(error: CheckError) -> u32
     ensures said { SaysOnly (said_by result) (checking.verdict_of error) }
     ensures own { (c : FileCommand) → IsErrorOf c error → IsOwnOf c result }
@@ -263,6 +280,8 @@ pub(crate) fn of_check(error: CheckError) -> u32
         CheckError::Solution(error) => of_solution(error),
         CheckError::Show(error) => of_show(error),
         CheckError::Certificate(error) => of_certificate(error),
+        CheckError::Bounded(error) => of_bounded(error),
+        CheckError::Settled(_) => SOLUTION,
     }
 }
 

@@ -30,6 +30,9 @@ among actions.Run = (5, omega arith, refl)
 among actions.Certified = (6, omega arith, refl)
 among actions.Equal = (7, omega arith, refl)
 among actions.Obligations = (8, omega arith, refl)
+among actions.Bounded = (9, omega arith, refl)
+among actions.RefutedTo = (10, omega arith, refl)
+among actions.WitnessTo = (11, omega arith, refl)
 
 -- what holds of each in the list holds of each
 pub each : (P : Action → Type 0) → All P ALL → (a : Action) → P a
@@ -70,10 +73,11 @@ never_none (Err e) is = cc
 -- ---- what is given beside the files
 
 pub one_beside : (c : FileCommand) → ((k : ℕ) (o : Bool) → c ≢ on_file.Clauses k o) → ((k : ℕ) (form : Window) (o : Bool) → c ≢ on_file.Window k form o)
-    → beside_of (commands.File c) ≡ 1
-one_beside (on_file.Clauses k o) no_clauses no_window = absurd (no_clauses k o refl)
-one_beside (on_file.Window k form o) no_clauses no_window = absurd (no_window k form o refl)
-one_beside c no_clauses no_window = refl
+    → ((k : ℕ) (o : Bool) → c ≢ on_file.Bounded k o) → beside_of (commands.File c) ≡ 1
+one_beside (on_file.Clauses k o) no_clauses no_window no_bounded = absurd (no_clauses k o refl)
+one_beside (on_file.Window k form o) no_clauses no_window no_bounded = absurd (no_window k form o refl)
+one_beside (on_file.Bounded k o) no_clauses no_window no_bounded = absurd (no_bounded k o refl)
+one_beside c no_clauses no_window no_bounded = refl
 
 -- the names in a list of none, of one and of two
 pub no_names : (xs : List (String Global)) → length xs ≡ 0 → map string_bytes xs ≡ []

@@ -1,8 +1,9 @@
 -- The lines of comments, as a text for each place in a list, and behind them the clauses.
-use Rattle.std.proofs.Common.{◌≡◌, ℕ, ◌+◌, ◌-◌, ◌<◌, ◌==◌, true, false, Some, List, [], ◌∷◌, ◌++◌, length, get_or, take, drop, refl, ap, ◌∙◌, zero-add, arith}
+use Rattle.std.proofs.Common.{◌≡◌, ℕ, Bool, ◌+◌, ◌-◌, ◌<◌, ◌==◌, true, false, Some, List, [], ◌∷◌, ◌++◌, length, get_or, take, drop, refl, sym, ap, ◌∙◌, zero-add, arith}
 use Rattle.std.specs.Prelude.{codes, decimal}
-use Rattle.std.specs.List.{enumerate_from, flat_map, range_with_len}
+use Rattle.std.specs.List.{enumerate_from, flat_map, range_with_len, zip}
 use Rattle.std.proofs.lemmas.List.{length-drop, take_all}
+use Rattle.std.proofs.lemmas.Slice.Zip.{get_or-zip}
 use Rattle.std.proofs.lemmas.List.FromFn.{get_or-enumerate_from}
 use Rattle.aig_base.specs.declared.logic.literal.Lit.{Lit}
 use Rattle.aig_base.specs.Clauses.{lit_to, variable_of}
@@ -16,11 +17,19 @@ use Rattle.aig_dimacs.specs.Text.{IsFormula, dimacs_of, sign_of}
 use Rattle.aig_dimacs.proofs.Comments.{ArePassed, StaysInside, decimal_inside, ends-append, ends-line_feed, inside-append, inside-cons, line_passed, parse_formula-passed, passed-append, passed-flat_map, sign_inside}
 use Rattle.aig_dimacs.proofs.Reading.{parse_formula-dimacs_of}
 use Rattle.aig_encode.specs.declared.query_clauses.Query.{Query}
+use Rattle.aig_bounded_answers.specs.declared.clauses.BoundedClauses.{BoundedClauses}
+use Rattle.aig_checks.specs.Bounded.{bounded_comments, letter_of, place_line}
 use Rattle.aig_checks.specs.Comments.{bad_line, comments_of, input_line, input_lines, latch_comment, literal_line}
 use Rattle.aig_checks.specs.Printing.{query_text}
 
 pub line_at : {X : Type 0} (line : ℕ × X → List ℕ) (xs : List X) (i : ℕ) (d : X) → i < length xs → line (get_or (enumerate_from 0 xs) i (0, d)) ≡ line (i, get_or xs i d)
 line_at {X} line xs i d h = ap line (get_or-enumerate_from 0 xs i (0, d) h) ∙ ap (λ j. line (j, get_or xs i d)) (zero-add i)
+
+-- a pair of two lists
+pub get_or-pair : {K X : Type 0} (ks : List K) (xs : List X) (i : ℕ) (k : K) (x : X) → i < length ks → i < length xs → k ≡ get_or ks i k → x ≡ get_or xs i x
+    → get_or (zip ks xs) i (k, x) ≡ (k, x)
+get_or-pair ks xs i k x low down at is =
+    get_or-zip ks xs i (k, x) low down ∙ ap (λ n. (n, get_or xs i x)) (sym at) ∙ ap (λ y. (k, y)) (sym is)
 
 -- what follows the first m
 pub tail_is : {X : Type 0} (xs : List X) (m : ℕ) → take (length xs - m) (drop m xs) ≡ drop m xs
@@ -72,7 +81,22 @@ comments_passed c u k =
     (passed-append inputs latches (passed-flat_map (input_lines c u) (inputs_passed c u) (range_with_len 0 (k + 1))) (passed-flat_map latch_comment (λ x. literal_passed 108 x.0 0 (lit_to x.1 true) refl) (enumerate_from 0 (latch_leaves c.latchs))))
     (passed-flat_map (bad_line k) (λ x. literal_passed 98 x.0 k (lit_of x.1) refl) (enumerate_from 0 (last_bads c k u)))
 
+place_passed : (is_latch : Bool) (number step n : ℕ) → ArePassed (literal_line (letter_of is_latch) number step (lit_to n true))
+place_passed true number step n = literal_passed 108 number step (lit_to n true) refl
+place_passed false number step n = literal_passed 105 number step (lit_to n true) refl
+
+bounded_passed : (made : BoundedClauses) → ArePassed (bounded_comments made)
+unfolding bounded_comments
+bounded_passed made =
+    passed-flat_map place_line (λ x. place_passed x.1.is_latch x.1.number x.1.step x.0) (zip made.question.circuit.inputs.items made.named.items)
+
 -- the clauses behind them are read again
+pub bounded_again : (made : BoundedClauses) → IsFormula (length made.clauses) (clauses_in made.clauses ++ made.further)
+    → parse_formula (bounded_comments made ++ dimacs_of (length made.clauses) (clauses_in made.clauses ++ made.further)) ≡ Some (length made.clauses, clauses_in made.clauses ++ made.further)
+bounded_again made formula =
+    let all = clauses_in made.clauses ++ made.further in
+    parse_formula-passed (bounded_comments made) (dimacs_of (length made.clauses) all) (bounded_passed made) ∙ parse_formula-dimacs_of (length made.clauses) all formula
+
 pub query_text-again : (q : Query) (k : ℕ) (text : List ℕ) → text ≡ query_text q k
     → IsFormula (length q.encoded.clauses) (clauses_in q.encoded.clauses ++ q.extra)
     → parse_formula text ≡ Some (length q.encoded.clauses, clauses_in q.encoded.clauses ++ q.extra)

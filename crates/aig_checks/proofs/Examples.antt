@@ -17,7 +17,7 @@ use Rattle.aig_witness.specs.declared.error.WitnessError.TheVariants as witness
 use Rattle.aig_witness.specs.declared.file.ShowError.TheVariants as shows
 use Rattle.aig_checks.specs.declared.command.FileCommand.{FileCommand}
 use Rattle.aig_checks.specs.declared.tool.CheckError.TheVariants as errors
-use Rattle.aig_checks.specs.Running.{Answers, IsErrorOf, TellsOfGiven, file_verdict, shown_line, window_line}
+use Rattle.aig_checks.specs.Running.{Answers, IsErrorOf, TellsOfGiven, error_status, file_verdict, shown_line, step_line, window_line}
 use Rattle.aig_command_line.specs.Arguments.{Gives, setting_words}
 use Rattle.aig_checks.specs.declared.command.Action.{Action}
 use Rattle.aig_checks.specs.declared.command.Action.TheVariants as actions
@@ -120,6 +120,13 @@ unfolding digits
 no_window_told optimize given f answers =
     let word : 97 ≡ 115 = ap (λ text. slice_index text 16) answers.0 in omega (arith, word)
 
+-- steps up to one are told as that one
+no_one_step_told : (optimize : Bool) (given : Option (List ℕ)) (f : File)
+    → ¬ Answers (commands.RefutedTo 1 optimize) given f (step_line 1)
+unfolding digits
+no_one_step_told optimize given f answers =
+    let word : 97 ≡ 117 = ap (λ text. slice_index text 13) answers.0 in omega (arith, word)
+
 -- equal machines are told as a safe one
 no_safety_told : (k : ℕ) (optimize : Bool) (f g : File)
     → ¬ PairAnswers (on_pair.Equal k optimize) f g safe_line
@@ -144,6 +151,14 @@ no_second_proof k limit optimize f g e refuses = refuses
 no_proof_of_clauses : (k : ℕ) (optimize : Bool) (e : RefutationError)
     → ¬ IsErrorOf (commands.Clauses k optimize) (errors.Answer (answers.Refutation e))
 no_proof_of_clauses k optimize e is = is
+
+-- another step is told as settled
+no_other_step : (optimize : Bool) → ¬ IsErrorOf (commands.Bounded 1 optimize) (errors.Settled 0)
+no_other_step optimize is = omega (arith, is)
+
+-- a settled question ends as a refused file does
+no_status_of_refusals : (k : ℕ) → error_status (errors.Settled k) ≢ error_status errors.Open
+no_status_of_refusals k same = omega (arith, same)
 
 -- a witness that is refused is told as a read that failed, where none did
 no_failed_read : (limit : ℕ) (old new given : Option (List ℕ))

@@ -75,6 +75,7 @@ module _ {W : Type 0} (held : W → Option (List ℕ)) (write_failed : W → Boo
           own = tt;
           ok = (answer.0, answer.1, (appends_kept (held w) (held made) (held flat) answer.0 answer.2.0 keeps, sound));
           stopped = λ is. cc;
+          taken = λ ok. runs.taken tt;
           kept = tt;
           unread = tt;
           refusal = tt;
@@ -86,6 +87,7 @@ module _ {W : Type 0} (held : W → Option (List ℕ)) (write_failed : W → Boo
           own = tt;
           ok = tt;
           stopped = λ is. (answer.0, answer.1, stops_unflushed answer.0 answer.2.0 lost);
+          taken = λ is. runs.taken tt;
           kept = λ not. absurd (not refl);
           unread = λ no. absurd no;
           refusal = tt;

@@ -1,10 +1,16 @@
--- The places of leaves are nodes of the unrolled circuit, which has the bad edges of all steps.
-use Rattle.std.proofs.Common.{◌≡◌, ℕ, zero, suc, ◌+◌, ◌*◌, ◌<◌, Bool, false, length, arith}
+-- The places of leaves are nodes of the unrolled circuit, which has the bad edges of all steps; and
+-- the inputs of a question are variables.
+use Rattle.std.proofs.Common.{◌≡◌, ℕ, zero, suc, ◌+◌, ◌*◌, ◌^◌, ◌<◌, ◌≤◌, Bool, false, length, arith}
 use Rattle.aig_circuit.specs.declared.node.AigNodeType.TheVariants.{False, Leaf}
 use Rattle.aig_circuit.specs.Circuit.{Circuit, IsCircuit, IsLeaf}
 use Rattle.aig_circuit.proofs.Trees.{kind_at-within}
 use Rattle.aig_unroll.specs.Places.{place_at}
 use Rattle.aig_unroll.specs.Unroll.{UnrollsTo}
+use Rattle.std.specs.Prelude.{All}
+use Rattle.aig_circuit.specs.View.{lists_circuit}
+use Rattle.aig_format.specs.File.{File}
+use Rattle.aig_bounded_answers.specs.declared.clauses.BoundedClauses.{BoundedClauses}
+use Rattle.aig_bounded_answers.specs.Asking.{AsksBounded}
 use Rattle.aig_solutions.proofs.Showing.{get_below}
 
 module _ (c u : Circuit) (k : ℕ) (steps : UnrollsTo c k u) where
@@ -20,3 +26,10 @@ module _ (c u : Circuit) (k : ℕ) (steps : UnrollsTo c k u) where
       let y : ℕ → Bool = λ n. false in
       let r = steps.run_of y in
       (steps.same y r.0 r.1 r.2).properties.bads.count
+
+-- the inputs of a file's question are variables
+pub inputs_few : (f : File) (k : ℕ) (optimize : Bool) (made : BoundedClauses) → AsksBounded f k optimize made → length made.clauses ≤ 2 ^ 31
+    → All (λ n. n < 2 ^ 31) made.question.circuit.inputs.items
+inputs_few f k optimize made asks few i d low =
+    let within = kind_at-within (lists_circuit made.question.circuit).nodes _ Leaf (asks.asks.circuit.inputs i d low) in
+    omega (arith, within, asks.has_clauses.count, few)

@@ -1,3 +1,4 @@
+pub mod Bounded
 pub mod Words
 pub mod Comments
 pub mod Running

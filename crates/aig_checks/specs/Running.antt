@@ -1,7 +1,7 @@
 -- Part of what is promised.
 -- What a command does with the bytes of a file and of a proof or a witness: what it puts into its
 -- writer, and why it refuses them.
-use Rattle.std.specs.Prelude.{◌≡◌, ◌≢◌, ℕ, ◌+◌, Bool, false, IsTrue, List, [], ◌∷◌, ◌++◌, length, Option, Some, None, Result, IfErr, IsErrOf, OnOk, codes, decimal}
+use Rattle.std.specs.Prelude.{◌≡◌, ◌≢◌, ℕ, ◌+◌, Bool, false, IsTrue, List, [], ◌∷◌, ◌++◌, length, Option, Some, None, Result, Ok, Err, IfErr, IsErrOf, OnOk, codes, decimal}
 use Rattle.std.specs.Io.KnownBytes.{Appends}
 use Rattle.aig_base.specs.declared.logic.literal.Lit.{Lit}
 use Rattle.aig_base.specs.Formula.{clauses_in}
@@ -18,21 +18,26 @@ use Rattle.aig_runs.specs.declared.window.Window.{Window}
 use Rattle.aig_runs.specs.Induction.{IsKInductive}
 use Rattle.aig_runs.specs.Safety.{IsSafeAt}
 use Rattle.aig_runs.specs.WindowClauses.{AsksWindow}
+use Rattle.aig_refutation.specs.declared.error.RefutationError.{RefutationError}
 use Rattle.aig_refutation.specs.declared.error.RefutationError.TheVariants as refutation
 use Rattle.aig_encode.specs.declared.query_clauses.Query.{Query}
 use Rattle.aig_encode.specs.Encoding.{IsQuery}
 use Rattle.aig_answers.specs.declared.error.AnswerError.TheVariants as answers
 use Rattle.aig_answers.specs.Answers as asking
-use Rattle.aig_answers.specs.Answers.{IsAsked, IsOfInduction, IsOfQuery, IsOfStep, IsOfWindow, asked_verdict, window_verdict}
+use Rattle.aig_answers.specs.Answers.{IsAsked, IsOfInduction, IsOfQuery, IsOfStep, IsOfWindow, TellsOfStep, TellsOfWindow, asked_verdict, window_verdict}
 use Rattle.aig_witness.specs.Witness.{Witness, witness_text}
 use Rattle.aig_witness.specs.declared.file.ShowError.TheVariants as shows
 use Rattle.aig_witness.specs.declared.file.Shown.{Shown}
 use Rattle.aig_witness.specs.Files as showing
 use Rattle.aig_witness.specs.Files.{ShowsNext}
 use Rattle.aig_witness.specs.Machine.{ShowsBad}
+use Rattle.aig_bounded_answers.specs.declared.error.BoundedAnswerError.TheVariants as bounded
+use Rattle.aig_bounded_answers.specs.Asking as bounding
+use Rattle.aig_bounded_answers.specs.Asking.{IsAskedWithin, IsOfCheck, IsOfQuestion, IsOfWitness, bounded_verdict}
 use Rattle.aig_certificates.specs.Certificates as certificates
 use Rattle.aig_solutions.specs.declared.error.SolutionError.{SolutionError}
 use Rattle.aig_solutions.specs.Checked.{RefusesSolution, SaysWitness}
+use Rattle.aig_checks.specs.Bounded.{IsBoundedText, IsSettledTo, IsWitnessToText, TellsProof, safe_to_line}
 use Rattle.aig_checks.specs.Comments.{comments_of, named_text}
 use Rattle.aig_checks.specs.declared.command.FileCommand.{FileCommand}
 use Rattle.aig_checks.specs.declared.command.FileCommand.TheVariants as commands
@@ -102,17 +107,24 @@ Answers (commands.Inductive k form optimize) given f text =
     (text ≡ window_line k) × IsKInductive form f k × (IsSafeTo f k → (n : ℕ) → IsSafeTo f n)
 Answers (commands.Witness k optimize) given f text = IsWitnessText given f k optimize text
 Answers commands.Run given f text = IsShownLine given f text
+Answers (commands.Bounded k optimize) given f text = IsBoundedText f k optimize text
+Answers (commands.RefutedTo k optimize) given f text = (text ≡ safe_to_line k) × IsSafeTo f k
+Answers (commands.WitnessTo k optimize) given f text = IsWitnessToText f k text
 
 -- ---- files
 
--- how many further steps the command makes
-abbrev pub steps_of : FileCommand → ℕ
-steps_of (commands.Clauses k optimize) = k
-steps_of (commands.Window k form optimize) = k + 1
-steps_of (commands.Refuted k optimize) = k
-steps_of (commands.Inductive k form optimize) = k + 1
-steps_of (commands.Witness k optimize) = k
-steps_of commands.Run = 0
+-- the bytes are this file, of which the command asks something: within the limit with the further
+-- steps that it makes, or alone where these are folded
+abbrev pub IsAskedBy : FileCommand → ℕ → List ℕ → File → Type 0
+IsAskedBy (commands.Clauses k optimize) limit = IsAsked limit k
+IsAskedBy (commands.Window k form optimize) limit = IsAsked limit (k + 1)
+IsAskedBy (commands.Refuted k optimize) limit = IsAsked limit k
+IsAskedBy (commands.Inductive k form optimize) limit = IsAsked limit (k + 1)
+IsAskedBy (commands.Witness k optimize) limit = IsAsked limit k
+IsAskedBy commands.Run limit = IsAsked limit 0
+IsAskedBy (commands.Bounded k optimize) limit = IsAskedWithin limit
+IsAskedBy (commands.RefutedTo k optimize) limit = IsAskedWithin limit
+IsAskedBy (commands.WitnessTo k optimize) limit = IsAskedWithin limit
 
 -- the verdict on a file that fits
 abbrev pub file_verdict : FileCommand → ℕ → File → Verdict
@@ -122,14 +134,16 @@ file_verdict (commands.Refuted k optimize) limit f = asked_verdict limit k f
 file_verdict (commands.Inductive k form optimize) limit f = window_verdict form limit k f
 file_verdict (commands.Witness k optimize) limit f = asked_verdict limit k f
 file_verdict commands.Run limit f = Accepted
+file_verdict (commands.Bounded k optimize) limit f = bounded_verdict f
+file_verdict (commands.RefutedTo k optimize) limit f = bounded_verdict f
+file_verdict (commands.WitnessTo k optimize) limit f = bounded_verdict f
 
 -- the bytes that were taken are a file of which something is asked, and this holds of what the
 -- command puts into its writer for that file
 abbrev pub AnswersFile : FileCommand → ℕ → Option (List ℕ) → Option (List ℕ) → Option (List ℕ)
     → (List ℕ → Type 0) → Type 0
 AnswersFile c limit given old new Holds =
-    (text : List ℕ) × IsReadAs (IsAsked limit (steps_of c)) (Answers c given) old new text
-    × Holds text
+    (text : List ℕ) × IsReadAs (IsAskedBy c limit) (Answers c given) old new text × Holds text
 
 -- ---- errors
 
@@ -143,6 +157,14 @@ verdict_of (errors.Certificate e) = certificates.first_verdict e
 verdict_of errors.Write = Accepted
 verdict_of errors.Memory = Short
 verdict_of errors.Open = Refused
+verdict_of (errors.Bounded e) = bounding.verdict_of e
+verdict_of (errors.Settled k) = Accepted
+
+-- the status of the process that it ends with: 20 is that of a SAT solver whose clauses can't be
+-- satisfied
+abbrev pub error_status : CheckError → ℕ
+error_status (errors.Settled k) = 20
+error_status e = 1
 
 -- the command has this error
 abbrev pub IsErrorOf : FileCommand → CheckError → Type 0
@@ -155,6 +177,10 @@ IsErrorOf (commands.Inductive k form optimize) (errors.Answer e) = IsOfInduction
 IsErrorOf (commands.Witness k optimize) (errors.Answer e) = IsOfQuery e
 IsErrorOf (commands.Witness k optimize) (errors.Solution e) = Unit {0}
 IsErrorOf commands.Run (errors.Show e) = e ≢ shows.File read.Open
+IsErrorOf (commands.Bounded k optimize) (errors.Bounded e) = IsOfQuestion e
+IsErrorOf (commands.Bounded k optimize) (errors.Settled step) = step ≡ k
+IsErrorOf (commands.RefutedTo k optimize) (errors.Bounded e) = IsOfCheck e
+IsErrorOf (commands.WitnessTo k optimize) (errors.Bounded e) = IsOfWitness e
 IsErrorOf c e = ⊥
 
 -- it is of the file alone: what is given beside it wasn't read
@@ -162,6 +188,10 @@ abbrev pub IsOfFileAlone : CheckError → Type 0
 IsOfFileAlone (errors.Answer (answers.Refutation e)) = ⊥
 IsOfFileAlone (errors.Answer e) = Unit {0}
 IsOfFileAlone (errors.Show (shows.File e)) = Unit {0}
+IsOfFileAlone (errors.Bounded (bounded.Refutation e)) = ⊥
+IsOfFileAlone (errors.Bounded (bounded.Solution e)) = ⊥
+IsOfFileAlone (errors.Bounded e) = Unit {0}
+IsOfFileAlone (errors.Settled k) = Unit {0}
 IsOfFileAlone e = ⊥
 
 -- the solver's answer to the query of the file is refused so
@@ -177,17 +207,69 @@ TellsOfSolution (commands.Witness k optimize) limit old new given failed e =
     IsReadAs (IsAsked limit k) (RefusesAnswer given failed k optimize) old new e
 TellsOfSolution c limit old new given failed e = ⊥
 
--- what a refusal of what is given beside the file tells of it: a read of it is said to have failed
--- only where one did, and a solver's answer or a witness is refused as is promised of these
+-- a proof about a step or a window is refused so: its text shows this of the clauses of the file's
+-- query, or of its window
+abbrev pub TellsOfProof : FileCommand → ℕ → Option (List ℕ) → Option (List ℕ) → Option (List ℕ)
+    → Bool → RefutationError → Type 0
+TellsOfProof (commands.Refuted k optimize) limit old new given failed e =
+    IsReadAs (IsAsked limit k) (TellsOfStep k optimize given) old new (Err (answers.Refutation e))
+    × (e ≡ refutation.Stream → IsTrue failed)
+TellsOfProof (commands.Inductive k form optimize) limit old new given failed e =
+    IsReadAs (IsAsked limit (k + 1)) (TellsOfWindow form k optimize given) old new
+    (Err (answers.Refutation e))
+    × (e ≡ refutation.Stream → IsTrue failed)
+TellsOfProof c limit old new given failed e = ⊥
+
+-- a proof that no bad state is reached up to a step is refused so
+abbrev pub TellsOfRefutation : FileCommand → ℕ → Option (List ℕ) → Option (List ℕ)
+    → Option (List ℕ) → Bool → RefutationError → Type 0
+TellsOfRefutation (commands.RefutedTo k optimize) limit old new given failed e =
+    IsReadAs (IsAskedWithin limit) (TellsProof given k optimize) old new
+    (Err (bounded.Refutation e))
+    × (e ≡ refutation.Stream → IsTrue failed)
+TellsOfRefutation c limit old new given failed e = ⊥
+
+-- a solver's answer to a question up to a step is refused so
+abbrev pub TellsOfAnswer : FileCommand → ℕ → Option (List ℕ) → Option (List ℕ) → Option (List ℕ)
+    → Bool → SolutionError → Type 0
+TellsOfAnswer (commands.WitnessTo k optimize) limit old new given failed e =
+    IsReadAs (IsAskedWithin limit) (bounding.RefusesSolution given failed k optimize) old new e
+TellsOfAnswer c limit old new given failed e = ⊥
+
+-- the question of the file is settled
+abbrev pub TellsOfSettled : FileCommand → ℕ → Option (List ℕ) → Option (List ℕ) → Type 0
+TellsOfSettled (commands.Bounded k optimize) limit old new =
+    IsReadAs (IsAskedWithin limit) (λ f u. IsSettledTo k optimize f) old new (tt {0})
+TellsOfSettled c limit old new = ⊥
+
+-- what a refusal tells of the file's question or of what is given beside the file: a read of it is
+-- said to have failed only where one did, and a proof, a solver's answer or a witness is refused as
+-- is promised of these
 abbrev pub TellsOfGiven : FileCommand → ℕ → Option (List ℕ) → Option (List ℕ) → Option (List ℕ)
     → Bool → CheckError → Type 0
-TellsOfGiven c limit old new given failed (errors.Answer (answers.Refutation refutation.Stream)) =
-    IsTrue failed
+TellsOfGiven c limit old new given failed (errors.Answer (answers.Refutation e)) =
+    TellsOfProof c limit old new given failed e
 TellsOfGiven c limit old new given failed (errors.Solution e) =
     TellsOfSolution c limit old new given failed e
 TellsOfGiven c limit old new given failed (errors.Show e) =
     showing.Refuses limit old new given failed e
+TellsOfGiven c limit old new given failed (errors.Bounded (bounded.Refutation e)) =
+    TellsOfRefutation c limit old new given failed e
+TellsOfGiven c limit old new given failed (errors.Bounded (bounded.Solution e)) =
+    TellsOfAnswer c limit old new given failed e
+TellsOfGiven c limit old new given failed (errors.Settled k) = TellsOfSettled c limit old new
 TellsOfGiven c limit old new given failed e = Unit {0}
+
+-- a proof is taken where its text shows what is asked
+abbrev pub TakesProof : FileCommand → ℕ → Option (List ℕ) → Option (List ℕ) → Option (List ℕ)
+    → Type 0
+TakesProof (commands.Refuted k optimize) limit old new given =
+    IsReadAs (IsAsked limit k) (TellsOfStep k optimize given) old new (Ok tt)
+TakesProof (commands.Inductive k form optimize) limit old new given =
+    IsReadAs (IsAsked limit (k + 1)) (TellsOfWindow form k optimize given) old new (Ok tt)
+TakesProof (commands.RefutedTo k optimize) limit old new given =
+    IsReadAs (IsAskedWithin limit) (TellsProof given k optimize) old new (Ok tt)
+TakesProof c limit old new given = Unit {0}
 
 -- ---- runs
 
@@ -216,10 +298,13 @@ pub record Runs {R P W : Type 0} (left : R → Option (List ℕ)) (read_failed :
   -- a beginning of it is, and the writer has failed
   pub stopped : IsErrOf result errors.Write → AnswersFile c limit (given p) (left r) (left rest)
       (Stops (held w) (held made) (write_failed made))
+  -- then the proof was taken
+  pub taken : IfErr result (λ e. e ≡ errors.Write)
+      → TakesProof c limit (left r) (left rest) (given p)
   -- every other refusal leaves the writer as it was
   pub kept : IfErr result (λ e. e ≢ errors.Write → made ≡ w)
   -- what is given beside the file is read only where the file is taken
   pub unread : IfErr result (λ e. IsOfFileAlone e → used ≡ p)
-  -- and a refusal of it tells why
+  -- and a refusal of it, or of a settled question, tells why
   pub refusal : IfErr result
       (TellsOfGiven c limit (left r) (left rest) (given p) (given_failed used))

@@ -4,6 +4,8 @@ use Rattle.std.specs.Prelude.{◌≡◌, ℕ, Bool, true, false, List, codes}
 use Rattle.aig_runs.specs.declared.window.Window.{Window}
 use Rattle.aig_runs.specs.declared.window.Window.TheVariants.{Plain, Distinct}
 use Rattle.aig_command_line.specs.declared.arguments.Form.{Form}
+use Rattle.aig_command_line.specs.declared.arguments.Step.{Step}
+use Rattle.aig_command_line.specs.declared.arguments.Step.TheVariants.{Absent, At, UpTo}
 use Rattle.aig_command_line.specs.Arguments.{Arguments, Gives}
 use Rattle.aig_checks.specs.declared.command.Action.{Action}
 use Rattle.aig_checks.specs.declared.command.Action.TheVariants as actions
@@ -23,31 +25,37 @@ name_of actions.Run = codes "run"
 name_of actions.Certified = codes "certified"
 name_of actions.Equal = codes "equal"
 name_of actions.Obligations = codes "obligations"
+name_of actions.Bounded = codes "bounded"
+name_of actions.RefutedTo = codes "refuted"
+name_of actions.WitnessTo = codes "witness"
 
--- so many paths and K, so many further paths, `distinct` or nothing where it may be there, and
+-- so many paths and a step, so many further paths, `distinct` or nothing where it may be there, and
 -- `raw` or nothing
-abbrev pub on_step : ℕ → ℕ → Bool → Form
-on_step paths further distinct =
-    record { paths = paths; step = true; further = further; distinct = distinct; raw = true }
+abbrev pub on_step : ℕ → Step → ℕ → Bool → Form
+on_step paths step further distinct =
+    record { paths = paths; step = step; further = further; distinct = distinct; raw = true }
 
 -- FILE, CERT and so many proofs, and `raw` or nothing
 abbrev pub on_certificate : ℕ → Form
 on_certificate further =
-    record { paths = 2; step = false; further = further; distinct = false; raw = true }
+    record { paths = 2; step = Absent; further = further; distinct = false; raw = true }
 
 -- What comes after it: the paths are FILE, and CERT or OTHER; the further ones are PROOF, SOLUTION
 -- or WITNESS, or BASE and STEP.
 abbrev pub form_of : Action → Form
-form_of actions.Clauses = on_step 1 0 false
-form_of actions.Window = on_step 1 0 true
-form_of actions.Refuted = on_step 1 1 false
-form_of actions.Inductive = on_step 1 1 true
-form_of actions.Witness = on_step 1 1 false
+form_of actions.Clauses = on_step 1 At 0 false
+form_of actions.Window = on_step 1 At 0 true
+form_of actions.Refuted = on_step 1 At 1 false
+form_of actions.Inductive = on_step 1 At 1 true
+form_of actions.Witness = on_step 1 At 1 false
 form_of actions.Run =
-    record { paths = 1; step = false; further = 1; distinct = false; raw = false }
+    record { paths = 1; step = Absent; further = 1; distinct = false; raw = false }
 form_of actions.Certified = on_certificate 2
-form_of actions.Equal = on_step 2 1 false
+form_of actions.Equal = on_step 2 At 1 false
 form_of actions.Obligations = on_certificate 0
+form_of actions.Bounded = on_step 1 At 0 false
+form_of actions.RefutedTo = on_step 1 UpTo 1 false
+form_of actions.WitnessTo = on_step 1 UpTo 1 false
 
 -- the form of windows
 abbrev pub window_of : Bool → Window
@@ -67,6 +75,9 @@ command_of actions.Run k distinct optimize = commands.File on_file.Run
 command_of actions.Certified k distinct optimize = commands.Pair (on_pair.Certified optimize)
 command_of actions.Equal k distinct optimize = commands.Pair (on_pair.Equal k optimize)
 command_of actions.Obligations k distinct optimize = commands.Pair (on_pair.Obligations optimize)
+command_of actions.Bounded k distinct optimize = commands.File (on_file.Bounded k optimize)
+command_of actions.RefutedTo k distinct optimize = commands.File (on_file.RefutedTo k optimize)
+command_of actions.WitnessTo k distinct optimize = commands.File (on_file.WitnessTo k optimize)
 
 -- the words give the command, with its files and what is given beside them
 pub record IsCall (words : List (List ℕ)) (c : Command) (paths further : List (List ℕ)) : Type 0
@@ -92,6 +103,9 @@ step_of (commands.File (on_file.Window k form optimize)) = k
 step_of (commands.File (on_file.Refuted k optimize)) = k
 step_of (commands.File (on_file.Inductive k form optimize)) = k
 step_of (commands.File (on_file.Witness k optimize)) = k
+step_of (commands.File (on_file.Bounded k optimize)) = k
+step_of (commands.File (on_file.RefutedTo k optimize)) = k
+step_of (commands.File (on_file.WitnessTo k optimize)) = k
 step_of (commands.Pair (on_pair.Equal k optimize)) = k
 step_of c = 0
 
@@ -104,6 +118,7 @@ paths_of (commands.Pair c) = 2
 abbrev pub beside_of : Command → ℕ
 beside_of (commands.File (on_file.Clauses k optimize)) = 0
 beside_of (commands.File (on_file.Window k form optimize)) = 0
+beside_of (commands.File (on_file.Bounded k optimize)) = 0
 beside_of (commands.Pair (on_pair.Certified optimize)) = 2
 beside_of (commands.Pair (on_pair.Obligations optimize)) = 0
 beside_of c = 1

@@ -7,6 +7,7 @@ ghost use Rattle.aig_checks.specs.Asked.{answer_of};
 ghost use Rattle.aig_checks.specs.Opening.{unopened};
 ghost use Rattle.aig_checks.specs.Words.{beside_of, paths_of, step_of};
 
+use crate::bounded::{print_bounded, print_refuted_to, print_witness_to};
 use crate::command::{Call, Command, FileCommand, PairCommand, call_of};
 use crate::pairs::{print_certified, print_equal, print_obligations};
 use crate::tool::{
@@ -21,7 +22,8 @@ use std::alloc::Global;
 pub const USAGE: &str =
     "usage: aigcheck clauses FILE K [raw], window FILE K [distinct] [raw], refuted FILE K PROOF [raw], \
     inductive FILE K PROOF [distinct] [raw], witness FILE K SOLUTION [raw], run FILE WITNESS, \
-    certified FILE CERT BASE STEP [raw], equal FILE OTHER K PROOF [raw], obligations FILE CERT [raw]";
+    certified FILE CERT BASE STEP [raw], equal FILE OTHER K PROOF [raw], obligations FILE CERT [raw], \
+    bounded FILE K [raw], refuted FILE to K PROOF [raw], witness FILE to K SOLUTION [raw]";
 
 /// Its version.
 pub const VERSION: &str = "aigcheck 0.1.0";
@@ -63,7 +65,15 @@ fn run_beside<F: Opens, R: Source, W: Sink>(
             print_witness(alloc, k, optimize, r, &mut given, w)
         }
         FileCommand::Run => print_run(alloc, r, &mut given, w),
-        FileCommand::Clauses { .. } | FileCommand::Window { .. } => unreachable!(),
+        FileCommand::RefutedTo { k, optimize } => {
+            print_refuted_to(alloc, k, optimize, r, &mut given, w)
+        }
+        FileCommand::WitnessTo { k, optimize } => {
+            print_witness_to(alloc, k, optimize, r, &mut given, w)
+        }
+        FileCommand::Clauses { .. } | FileCommand::Window { .. } | FileCommand::Bounded { .. } => {
+            unreachable!()
+        }
     }
 }
 
@@ -84,6 +94,7 @@ fn run_on<F: Opens, R: Source, W: Sink>(
     match command {
         FileCommand::Clauses { k, optimize } => print_clauses(alloc, k, optimize, r, w),
         FileCommand::Window { k, form, optimize } => print_window(alloc, k, form, optimize, r, w),
+        FileCommand::Bounded { k, optimize } => print_bounded(alloc, k, optimize, r, w),
         _ => run_beside(alloc, files, command, further[0].as_str(), r, w),
     }
 }

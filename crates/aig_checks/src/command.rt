@@ -5,7 +5,7 @@ ghost use Rattle.aig_checks.specs.Words.{Give, IsCall, beside_of, command_of, fo
 ghost use Rattle.aig_checks.specs.declared.command.Command.{Command};
 
 use aig_answers::Window;
-use aig_command_line::{Form, HasForm, find};
+use aig_command_line::{Form, HasForm, Step, find};
 
 /// What the program is asked to do with a file.
 #[derive(Clone, Copy)]
@@ -51,6 +51,27 @@ pub enum FileCommand {
     },
     /// Check that a witness shows a bad state.
     Run,
+    /// Print the clauses that ask for a bad state up to step `k`, and which variables stand for what.
+    Bounded {
+        /// The step.
+        k: usize,
+        /// Whether exclusive ors and choices have clauses of their own.
+        optimize: bool,
+    },
+    /// Check a proof that no bad state is reached up to step `k`.
+    RefutedTo {
+        /// The step.
+        k: usize,
+        /// Whether exclusive ors and choices have clauses of their own.
+        optimize: bool,
+    },
+    /// Print the witness of a bad state up to step `k` that a solver's answer says.
+    WitnessTo {
+        /// The step.
+        k: usize,
+        /// Whether exclusive ors and choices have clauses of their own.
+        optimize: bool,
+    },
 }
 
 /// What the program is asked to do with two files.
@@ -105,15 +126,21 @@ pub enum Action {
     Equal,
     /// `obligations FILE CERT [raw]`.
     Obligations,
+    /// `bounded FILE K [raw]`.
+    Bounded,
+    /// `refuted FILE to K PROOF [raw]`.
+    RefutedTo,
+    /// `witness FILE to K SOLUTION [raw]`.
+    WitnessTo,
 }
 
-/// The form of a command on so many files and K.
-fn on_step(paths: usize, further: usize, distinct: bool) -> Form
-    ensures { result ≡ on_step paths further distinct }
+/// The form of a command on so many files and a step.
+fn on_step(paths: usize, step: Step, further: usize, distinct: bool) -> Form
+    ensures { result ≡ on_step paths step further distinct }
 {
     Form {
         paths,
-        step: true,
+        step,
         further,
         distinct,
         raw: true,
@@ -126,7 +153,7 @@ fn on_certificate(further: usize) -> Form
 {
     Form {
         paths: 2,
-        step: false,
+        step: Step::Absent,
         further,
         distinct: false,
         raw: true,
@@ -149,19 +176,23 @@ impl HasForm for Action {
             Action::Certified => "certified",
             Action::Equal => "equal",
             Action::Obligations => "obligations",
+            Action::Bounded => "bounded",
+            Action::RefutedTo => "refuted",
+            Action::WitnessTo => "witness",
         }
     }
 
     fn form(&self) -> Form {
         match self {
-            Action::Clauses => on_step(1, 0, false),
-            Action::Window => on_step(1, 0, true),
-            Action::Refuted | Action::Witness => on_step(1, 1, false),
-            Action::Inductive => on_step(1, 1, true),
-            Action::Equal => on_step(2, 1, false),
+            Action::Clauses | Action::Bounded => on_step(1, Step::At, 0, false),
+            Action::Window => on_step(1, Step::At, 0, true),
+            Action::Refuted | Action::Witness => on_step(1, Step::At, 1, false),
+            Action::RefutedTo | Action::WitnessTo => on_step(1, Step::UpTo, 1, false),
+            Action::Inductive => on_step(1, Step::At, 1, true),
+            Action::Equal => on_step(2, Step::At, 1, false),
             Action::Run => Form {
                 paths: 1,
-                step: false,
+                step: Step::Absent,
                 further: 1,
                 distinct: false,
                 raw: false,
@@ -185,7 +216,7 @@ fn window_of(distinct: bool) -> Window
 
 impl Action {
     /// Each of them.
-    const ALL: [Action; 9] = [
+    const ALL: [Action; 12] = [
         Action::Clauses,
         Action::Window,
         Action::Refuted,
@@ -195,6 +226,9 @@ impl Action {
         Action::Certified,
         Action::Equal,
         Action::Obligations,
+        Action::Bounded,
+        Action::RefutedTo,
+        Action::WitnessTo,
     ];
 
     /// The command, with K and the settings.
@@ -212,6 +246,9 @@ impl Action {
             Action::Certified => Command::Pair(PairCommand::Certified { optimize }),
             Action::Equal => Command::Pair(PairCommand::Equal { k, optimize }),
             Action::Obligations => Command::Pair(PairCommand::Obligations { optimize }),
+            Action::Bounded => Command::File(FileCommand::Bounded { k, optimize }),
+            Action::RefutedTo => Command::File(FileCommand::RefutedTo { k, optimize }),
+            Action::WitnessTo => Command::File(FileCommand::WitnessTo { k, optimize }),
         }
     }
 }
@@ -248,8 +285,8 @@ pub fn call_of(words: &[String]) -> Option<Call<'_>>
 /// The command that the words after the program's name give, or none where they are wrong.
 ///
 /// The word after the command's name is FILE. The next is WITNESS of `run`, CERT of `certified` and `obligations`, and OTHER of `equal`. Then comes
-/// K, where the command has one, and the words after that are PROOF of `refuted`, `inductive` and `equal`, SOLUTION of `witness`,
-/// and BASE and STEP of `certified`. It takes no memory.
+/// K, where the command has one, after the word `to` where it is on the steps up to K, and the words after that are PROOF of `refuted`,
+/// `inductive` and `equal`, SOLUTION of `witness`, and BASE and STEP of `certified`. It takes no memory.
 pub fn parse(words: &[String]) -> Option<Command>
     ensures exact { (c : Command) → (result ≡ Some c) ↔ Give (map string_bytes words.now) c }
     ensures small { IfSome result (λ c. step_of c < 2 ^ 32) }

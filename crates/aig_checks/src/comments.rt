@@ -25,7 +25,7 @@ fn sign(lit: Lit) -> &'static [u8]
 }
 
 /// Buffers the line that a literal stands for what has this letter and number, at a step.
-fn buffer_literal<W: Sink>(
+pub(crate) fn buffer_literal<W: Sink>(
     buffer: &mut OutputBuffer,
     w: &mut W,
     letter: &[u8],

@@ -2,6 +2,7 @@
 #![tactic(auto)]
 
 mod acting;
+mod bounded;
 mod command;
 mod comments;
 mod line;
@@ -9,6 +10,7 @@ mod pairs;
 mod tool;
 
 pub use acting::{USAGE, act};
+pub use bounded::{print_bounded, print_refuted_to, print_witness_to};
 pub use command::{Command, FileCommand, PairCommand, parse};
 pub use pairs::{print_certified, print_equal, print_obligations};
 pub use tool::{

@@ -7,7 +7,7 @@ ghost use Rattle.aig_dimacs.specs.Text.{IsFormula};
 ghost use Rattle.aig_output.specs.Sinks.{BuffersOrStops, WritesOrStops};
 ghost use Rattle.aig_unroll.specs.Unroll.{UnrollsTo};
 ghost use Rattle.aig_checks.specs.Printing.{IsKnownText, IsOfSolution, IsOfText, Prints, query_text};
-ghost use Rattle.aig_checks.specs.Running.{Runs, nothing_fails, nothing_given, shown_line};
+ghost use Rattle.aig_checks.specs.Running.{Runs, error_status, nothing_fails, nothing_given, shown_line};
 ghost use Rattle.aig_checks.specs.declared.tool.CheckError.TheVariants as errors;
 
 use crate::command::FileCommand;
@@ -15,7 +15,9 @@ use crate::comments::write_comments;
 use crate::line::buffer_named;
 use aig_answers::{AnswerError, Window, asked_query, check_step, check_window, window};
 use aig_base::{DagCnf, LitVvec, MemoryError, Sink, Source, StreamFault};
+use aig_bounded_answers::BoundedAnswerError;
 use aig_certificates::CertificateError;
+use aig_command_line::HasStatus;
 use aig_dimacs::write_dimacs;
 use aig_encode::Query;
 use aig_output::OutputBuffer;
@@ -33,7 +35,7 @@ pub fn limit_is_given()
     ensures { LIMIT ≡ 2 ^ 24 }
 {}
 
-/// Why the program ends with status 1.
+/// Why the program doesn't do what was asked.
 #[derive(Clone, Copy, Debug, PartialEq, Eq, Error)]
 pub enum CheckError {
     /// A path couldn't be opened.
@@ -57,6 +59,23 @@ pub enum CheckError {
     /// The answer wasn't written.
     #[error("write failed")]
     Write,
+    /// There is no answer about the steps up to one.
+    #[error("{0}")]
+    Bounded(BoundedAnswerError),
+    /// No bad state is reached up to this step, so that there are no clauses to solve.
+    #[error("no bad state up to step {0}")]
+    Settled(usize),
+}
+
+impl HasStatus for CheckError {
+    ghost status = { error_status };
+
+    fn status(&self) -> u8 {
+        match self {
+            CheckError::Settled(_) => 20,
+            _ => 1,
+        }
+    }
 }
 
 impl From<AnswerError> for CheckError {
@@ -96,6 +115,14 @@ impl From<CertificateError> for CheckError {
 
     fn from(error: CertificateError) -> CheckError {
         CheckError::Certificate(error)
+    }
+}
+
+impl From<BoundedAnswerError> for CheckError {
+    ghost from_gives = { λ e r. r ≡ errors.Bounded e };
+
+    fn from(error: BoundedAnswerError) -> CheckError {
+        CheckError::Bounded(error)
     }
 }
 
@@ -235,7 +262,8 @@ pub fn print_inductive<R: Source, P: Source, W: Sink>(
 /// Tells that clauses are read again from their text, as the counts of variables and of clauses fit.
 pub(crate) fn tell_formula(clauses: &DagCnf, further: &LitVvec)
     requires { AreBelow (length clauses.now) further.now }
-    ensures { IsFormula (length clauses.now) (clauses_in clauses.now ++ further.now) }
+    ensures formula { IsFormula (length clauses.now) (clauses_in clauses.now ++ further.now) }
+    ensures few { length clauses.now ≤ 2 ^ 31 }
 {
     let _counts = (clauses.num_vars(), clauses.num_clauses(), further.len());
 }

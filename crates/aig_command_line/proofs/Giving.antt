@@ -1,10 +1,12 @@
 -- The parts of words that give arguments.
-use Rattle.std.proofs.Common.{◌≡◌, ◌≢◌, ◌↔◌, ℕ, suc, ◌+◌, ◌<◌, ◌≤◌, Bool, true, false, List, [], ◌∷◌, ◌++◌, length, map, take, drop, Option, Some, None, refl, sym, ap, subst, ◌∙◌, Global, arith, length-append}
-use Rattle.std.specs.Prelude.{IsTrue, String, codes, not, string_bytes}
-use Rattle.std.specs.List.{IsFirstAndRest, IsSplitAt}
+use Rattle.std.proofs.Common.{◌≡◌, ℕ, ◌<◌, Bool, true, false, List, [], ◌∷◌, ◌++◌, length, map, drop, refl, sym, ap, subst, ◌∙◌, Global, arith, length-append}
+use Rattle.std.specs.Prelude.{String, codes, not, string_bytes}
+use Rattle.std.specs.List.{IsSplitAt}
 use Rattle.std.proofs.lemmas.List.{length-map, map-append, take-append-drop}
 use Rattle.aig_format.specs.Text.{IsNumber, value_of}
 use Rattle.aig_command_line.specs.declared.arguments.Form.{Form}
+use Rattle.aig_command_line.specs.declared.arguments.Step.{Step}
+use Rattle.aig_command_line.specs.declared.arguments.Step.TheVariants.{Absent, At, UpTo}
 use Rattle.aig_command_line.specs.Arguments.{AreStep, Arguments, Gives, setting_words}
 use Rattle.aig_command_line.specs.Settings.{AreSettings}
 
@@ -57,33 +59,52 @@ same_settings false false false false is = (refl, refl)
 
 -- ---- the step
 
-step_length : (wanted : Bool) (k m : ℕ) (a b : List (List ℕ)) → AreStep wanted k a
-    → AreStep wanted m b → length a ≡ length b
-step_length true k m a b h i = ap length h.1 ∙ sym (ap length i.1)
-step_length false k m a b h i = ap length h.1 ∙ sym (ap length i.1)
+step_length : (form : Step) (k m : ℕ) (a b : List (List ℕ)) → AreStep form k a → AreStep form m b
+    → length a ≡ length b
+step_length Absent k m a b h i = ap length h.1 ∙ sym (ap length i.1)
+step_length At k m a b h i = ap length h.1 ∙ sym (ap length i.1)
+step_length UpTo k m a b h i = ap length h.1 ∙ sym (ap length i.1)
 
-same_step : (wanted : Bool) (k m : ℕ) (words : List (List ℕ)) → AreStep wanted k words
-    → AreStep wanted m words → k ≡ m
-same_step true k m words h i =
+same_step : (form : Step) (k m : ℕ) (words : List (List ℕ)) → AreStep form k words
+    → AreStep form m words
+    → k ≡ m
+same_step Absent k m words h i = h.0 ∙ sym i.0
+same_step At k m words h i =
     let words_are = sym h.1 ∙ i.1 in
     let same : h.0 ≡ i.0 = cc in
     sym h.2.value ∙ ap value_of same ∙ i.2.value
-same_step false k m words h i = h.0 ∙ sym i.0
+same_step UpTo k m words h i =
+    let words_are = sym h.1 ∙ i.1 in
+    let same : h.0 ≡ i.0 = cc in
+    sym h.2.value ∙ ap value_of same ∙ i.2.value
 
--- a word that names a step, where one is wanted
-pub named_step : (wanted : Bool) (words : List (List ℕ)) (first : List ℕ) (after : List (List ℕ)) (k : ℕ) → wanted ≡ true → words ≡ first ∷ after → IsNumber k first
-    → (word : List (List ℕ)) × AreStep wanted k word × (words ≡ word ++ after)
-named_step true words first after k is are number = (first ∷ [], (first, refl, number), are)
-named_step false words first after k is are number = cc
+-- a number that names a step
+pub number_at : (form : Step) (k : ℕ) (words : List (List ℕ)) (word : List ℕ) (after : List (List ℕ)) → form ≡ At → IsNumber k word → words ≡ word ∷ after
+    → (names : List (List ℕ)) × AreStep form k names × (words ≡ names ++ after)
+number_at Absent k words word after is number are = cc
+number_at At k words word after is number are = (word ∷ [], (word, refl, number), are)
+number_at UpTo k words word after is number are = cc
 
--- and one that names none
-pub no_number : (wanted : Bool) (words : List (List ℕ)) (first : List ℕ) (after : List (List ℕ)) → wanted ≡ true → words ≡ first ∷ after → ((k : ℕ) → ¬ IsNumber k first)
-    → (k : ℕ) (word rest : List (List ℕ)) → AreStep wanted k word → ¬ (words ≡ word ++ rest)
-no_number true words first after is are none k word rest names same =
-    let spelled : first ∷ after ≡ names.0 ∷ rest = sym are ∙ same ∙ ap (λ l. l ++ rest) names.1 in
-    let one : first ≡ names.0 = cc in
-    none k (subst (IsNumber k) (sym one) names.2)
-no_number false words first after is are none k word rest names same = cc
+-- and one after the word `to`
+pub number_up_to : (form : Step) (k : ℕ) (words : List (List ℕ)) (word : List ℕ) (rest after : List (List ℕ)) → form ≡ UpTo → words ≡ codes "to" ∷ rest → IsNumber k word → rest ≡ word ∷ after
+    → (names : List (List ℕ)) × AreStep form k names × (words ≡ names ++ after)
+number_up_to Absent k words word rest after is to number are = cc
+number_up_to At k words word rest after is to number are = cc
+number_up_to UpTo k words word rest after is to number are =
+    (codes "to" ∷ word ∷ [], (word, refl, number), to ∙ ap (λ l. codes "to" ∷ l) are)
+
+-- a word that is no number
+pub no_number : (words : List (List ℕ)) (first : List ℕ) (after : List (List ℕ))
+    → words ≡ first ∷ after → ((k : ℕ) → ¬ IsNumber k first)
+    → (k : ℕ) (word : List ℕ) (rest : List (List ℕ)) → IsNumber k word → ¬ (words ≡ word ∷ rest)
+no_number words first after are none k word rest number same =
+    let spelled : first ∷ after ≡ word ∷ rest = sym are ∙ same in
+    let one : first ≡ word = cc in
+    none k (subst (IsNumber k) (sym one) number)
+
+-- the word `to` is none
+pub to_no_number : (k : ℕ) → ¬ IsNumber k (codes "to")
+to_no_number k number = omega (arith, number.each.0.1)
 
 -- ---- parts of words that give arguments
 
@@ -141,7 +162,8 @@ module _ (name : List ℕ) (form : Form) (words : List (String Global)) (first :
   so_many = (cut after paths rest form.paths split).1
 
   -- no word names a step
-  pub no_step : ((k : ℕ) (word last : List (List ℕ)) → AreStep form.step k word → ¬ (map string_bytes rest ≡ word ++ last))
+  pub no_step : ((k : ℕ) (word last : List (List ℕ)) → AreStep form.step k word
+      → ¬ (map string_bytes rest ≡ word ++ last))
       → (a : Arguments) → ¬ Gives name form (map string_bytes words) a
   no_step none a g =
       none a.step g.steps (a.further ++ setting_words a.distinct a.optimize) g.step
@@ -172,14 +194,16 @@ module _ (name : List ℕ) (form : Form) (words : List (String Global)) (first :
           (cut last further end form.further split_again).0
 
       -- the last words are no settings
-      pub no_settings : ((d o : Bool) → ¬ AreSettings form d o (map string_bytes end)) → (a : Arguments)
+      pub no_settings : ((d o : Bool) → ¬ AreSettings form d o (map string_bytes end))
+          → (a : Arguments)
           → ¬ Gives name form (map string_bytes words) a
       no_settings none a g =
           let follow = after_further name form (map string_bytes words) a g (string_bytes first) (map string_bytes paths) so_many k steps names (map string_bytes further) (map string_bytes end) (cut last further end form.further split_again).1 all_are in
           none a.distinct a.optimize (follow.1, g.distinct, g.raw)
 
       -- all fit
-      pub all_given : (d o : Bool) → AreSettings form d o (map string_bytes end) → string_bytes first ≡ name
+      pub all_given : (d o : Bool) → AreSettings form d o (map string_bytes end)
+          → string_bytes first ≡ name
           → Gives name form (map string_bytes words) (record { paths = map string_bytes paths; step = k; further = map string_bytes further; distinct = d; optimize = o })
       all_given d o settings is = record {
         steps = steps;

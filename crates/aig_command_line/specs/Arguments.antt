@@ -4,6 +4,8 @@ use Rattle.std.specs.Prelude.{◌≡◌, ℕ, Bool, true, false, not, IsTrue, Li
 use Rattle.aig_format.specs.Text.{IsNumber}
 use Rattle.aig_command_line.specs.declared.arguments.Form.{Form}
 use Rattle.aig_command_line.specs.declared.arguments.Given.{Given}
+use Rattle.aig_command_line.specs.declared.arguments.Step.{Step}
+use Rattle.aig_command_line.specs.declared.arguments.Step.TheVariants.{Absent, At, UpTo}
 
 -- what the words after a command's name give
 pub record Arguments : Type 0 where
@@ -15,24 +17,27 @@ pub record Arguments : Type 0 where
 
 -- the form of a command that takes so many paths alone
 abbrev pub of_paths : ℕ → Form
-of_paths n = record { paths = n; step = false; further = 0; distinct = false; raw = false }
+of_paths n = record { paths = n; step = Absent; further = 0; distinct = false; raw = false }
 
 -- the word, where it is there
 abbrev pub word_if : Bool → List ℕ → List (List ℕ)
 word_if true word = word ∷ []
 word_if false word = []
 
--- the words of K, where one is wanted: one or more digits with a value of at most 2^32 - 1
-abbrev pub AreStep : Bool → ℕ → List (List ℕ) → Type 0
-AreStep true k words = (word : List ℕ) × (words ≡ word ∷ []) × IsNumber k word
-AreStep false k words = (k ≡ 0) × (words ≡ [])
+-- the words of step K: none, K, or the word `to` and K, which has one or more digits and a value of
+-- at most 2^32 - 1
+abbrev pub AreStep : Step → ℕ → List (List ℕ) → Type 0
+AreStep Absent k words = (k ≡ 0) × (words ≡ [])
+AreStep At k words = (word : List ℕ) × (words ≡ word ∷ []) × IsNumber k word
+AreStep UpTo k words = (word : List ℕ) × (words ≡ codes "to" ∷ word ∷ []) × IsNumber k word
 
 -- the words of the settings
 abbrev pub setting_words : Bool → Bool → List (List ℕ)
 setting_words distinct optimize =
     word_if distinct (codes "distinct") ++ word_if (not optimize) (codes "raw")
 
--- the words are a command's name, its paths, K, further paths, and settings that it may have
+-- the words are a command's name, its paths, those of its step, further paths, and settings that it
+-- may have
 pub record Gives (name : List ℕ) (form : Form) (words : List (List ℕ)) (a : Arguments)
     : Type 0 where
   pub steps : List (List ℕ)

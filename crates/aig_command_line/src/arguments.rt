@@ -1,19 +1,31 @@
 //! What a command takes after its name.
 
-ghost use Rattle.std.specs.Prelude.{◌≡◌, ◌↔◌, ◌<◌, ◌≤◌, ◌^◌, ◌++◌, ◌⊎◌, ℕ, Bool, true, IfNone, IfSome, IsTrue, List, Some, length, map, string_bytes};
+ghost use Rattle.std.specs.Prelude.{◌≡◌, ◌↔◌, ◌<◌, ◌^◌, ◌++◌, ◌∷◌, ℕ, Bool, true, IfNone, IfSome, IsTrue, List, Some, codes, length, map, string_bytes};
 ghost use Rattle.aig_command_line.specs.Arguments.{AreStep, Arguments, Gives, of_paths, seen};
 ghost use Rattle.aig_command_line.specs.Settings.{AreSettings, IsRawSetting};
+ghost use Rattle.aig_format.specs.Text.{IsNumber};
 
 use crate::number::steps;
+
+/// Which words name a step.
+#[derive(Clone, Copy)]
+pub enum Step {
+    /// None.
+    Absent,
+    /// K.
+    At,
+    /// The word `to`, and then K.
+    UpTo,
+}
 
 /// What a command takes after its name, in this order.
 #[derive(Clone, Copy)]
 pub struct Form {
     /// How many paths.
     pub paths: usize,
-    /// Whether K comes after them, which names a step.
-    pub step: bool,
-    /// How many further paths come after K.
+    /// Which words come after them and name a step.
+    pub step: Step,
+    /// How many further paths come after these.
     pub further: usize,
     /// Whether the word `distinct` may come after these.
     pub distinct: bool,
@@ -28,7 +40,7 @@ impl Form {
     {
         Form {
             paths,
-            step: false,
+            step: Step::Absent,
             further: 0,
             distinct: false,
             raw: false,
@@ -90,18 +102,42 @@ fn settings(form: Form, words: &[String]) -> Option<(bool, bool)>
     }
 }
 
-/// The step that the first word names, where one is wanted, and the words after it.
-fn step(wanted: bool, words: &[String]) -> Option<(usize, &[String])>
-    ensures some { IfSome result (λ p. (word : List (List ℕ)) × AreStep wanted p.0 word
-        × (map string_bytes words.now ≡ word ++ map string_bytes p.1.now)) }
-    ensures none { IfNone result ((k : ℕ) (word rest : List (List ℕ)) → AreStep wanted k word
-        → ¬ (map string_bytes words.now ≡ word ++ rest)) }
+/// The number that the first word gives, and the words after it.
+fn number_first(words: &[String]) -> Option<(usize, &[String])>
+    ensures some { IfSome result (λ p. (word : List ℕ) × IsNumber p.0 word
+        × (map string_bytes words.now ≡ word ∷ map string_bytes p.1.now)) }
+    ensures none { IfNone result ((k : ℕ) (word : List ℕ) (rest : List (List ℕ))
+        → IsNumber k word → ¬ (map string_bytes words.now ≡ word ∷ rest)) }
 {
-    if !wanted {
-        return Some((0, words));
-    }
     let (first, rest) = words.split_first()?;
     Some((steps(first.as_str())?, rest))
+}
+
+/// The words after the word `to`, where that is the first.
+fn after_to(words: &[String]) -> Option<&[String]>
+    ensures some { IfSome result
+        (λ rest. map string_bytes words.now ≡ codes "to" ∷ map string_bytes rest.now) }
+    ensures none { IfNone result ((rest : List (List ℕ))
+        → ¬ (map string_bytes words.now ≡ codes "to" ∷ rest)) }
+{
+    match words {
+        [word, rest @ ..] if is_word(word, "to") => Some(rest),
+        _ => None,
+    }
+}
+
+/// The step that the first words name, as they should, and the words after these.
+fn step_first(form: Step, words: &[String]) -> Option<(usize, &[String])>
+    ensures some { IfSome result (λ p. (word : List (List ℕ)) × AreStep form p.0 word
+        × (map string_bytes words.now ≡ word ++ map string_bytes p.1.now)) }
+    ensures none { IfNone result ((k : ℕ) (word rest : List (List ℕ)) → AreStep form k word
+        → ¬ (map string_bytes words.now ≡ word ++ rest)) }
+{
+    match form {
+        Step::Absent => Some((0, words)),
+        Step::At => number_first(words),
+        Step::UpTo => number_first(after_to(words)?),
+    }
 }
 
 /// What the words of a command line give a command of this name and form, or none where they don't fit it. It takes no memory.
@@ -119,7 +155,7 @@ pub fn arguments_of<'a>(name: &str, form: Form, words: &'a [String]) -> Option<G
         return None;
     }
     let (paths, rest) = rest.split_at_checked(form.paths)?;
-    let (step, rest) = step(form.step, rest)?;
+    let (step, rest) = step_first(form.step, rest)?;
     let (further, rest) = rest.split_at_checked(form.further)?;
     let (distinct, optimize) = settings(form, rest)?;
     Some(Given {

@@ -11,10 +11,10 @@ mod output;
 mod status;
 
 pub use about::{Question, asked};
-pub use arguments::{Form, Given};
+pub use arguments::{Form, Given, Step};
 pub use command::{HasForm, find};
 pub use environment::words;
 pub use files::{OpenError, Opens, SystemFiles};
 pub use number::steps;
 pub use output::{Flush, FlushedWriter};
-pub use status::{Ending, StandardError, Tells, end};
+pub use status::{Ending, HasStatus, StandardError, Tells, end};

@@ -2,6 +2,7 @@
 -- Which words give which command.
 use Rattle.std.specs.Prelude.{◌≡◌, ℕ, Bool, true, List, codes}
 use Rattle.aig_command_line.specs.declared.arguments.Form.{Form}
+use Rattle.aig_command_line.specs.declared.arguments.Step.TheVariants.{At}
 use Rattle.aig_command_line.specs.Arguments.{Arguments, Gives, of_paths}
 use Rattle.aig_commands.specs.declared.command.Action.{Action}
 use Rattle.aig_commands.specs.declared.command.Action.TheVariants as actions
@@ -21,8 +22,8 @@ abbrev pub form_of : Action → Form
 form_of actions.Text = of_paths 1
 form_of actions.Binary = of_paths 2
 form_of actions.Strash = of_paths 1
-form_of actions.Cnf = record (of_paths 1) { step = true; raw = true }
-form_of actions.Query = record (of_paths 1) { step = true; raw = true }
+form_of actions.Cnf = record (of_paths 1) { step = At; raw = true }
+form_of actions.Query = record (of_paths 1) { step = At; raw = true }
 
 -- the command, with K and the setting
 abbrev pub command_of : Action → ℕ → Bool → Command

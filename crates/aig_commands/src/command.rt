@@ -4,7 +4,7 @@ ghost use Rattle.std.specs.Prelude.{◌≡◌, ◌≤◌, ◌↔◌, List, ℕ, 
 ghost use Rattle.aig_commands.specs.Words.{Give, IsCall, command_of, form_of, name_of};
 ghost use Rattle.aig_commands.specs.declared.command.Command.{Command};
 
-use aig_command_line::{Form, HasForm, find};
+use aig_command_line::{Form, HasForm, Step, find};
 
 /// What the program is asked to do.
 #[derive(Clone, Copy)]
@@ -49,7 +49,7 @@ pub enum Action {
 /// The form of a command on FILE, K and `raw` or nothing.
 const CLAUSES: Form = Form {
     paths: 1,
-    step: true,
+    step: Step::At,
     further: 0,
     distinct: false,
     raw: true,

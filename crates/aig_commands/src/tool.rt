@@ -14,6 +14,7 @@ ghost use Rattle.aig_commands.specs.Running.{Runs, steps_of};
 use crate::command::Command;
 use aig::{Aig, ReadError, WriteError};
 use aig_base::{DagCnf, LitVvec, MemoryError, Sink, Source, StreamFault};
+use aig_command_line::HasStatus;
 use aig_dimacs::write_dimacs;
 use aig_encode::{EncodeError, encode, query};
 use std::alloc::Global;
@@ -39,6 +40,14 @@ pub enum ToolError {
     /// The answer wasn't written.
     #[error("{0}")]
     Write(WriteError),
+}
+
+impl HasStatus for ToolError {
+    ghost status = { λ _. 1 };
+
+    fn status(&self) -> u8 {
+        1
+    }
 }
 
 impl From<ReadError> for ToolError {

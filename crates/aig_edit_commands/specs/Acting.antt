@@ -2,21 +2,28 @@
 -- What the program does with its words. Files are read as a trait says: what opening the file at a
 -- path may give, the bytes that are left, and whether a read failed. Of what is written to it says
 -- the bytes held, whether a write failed, and whether all of them are in their place.
-use Rattle.std.specs.Prelude.{◌≡◌, ◌↔◌, ℕ, Bool, IsTrue, List, [], ◌∷◌, Option, Result, Ok, Err, OnOk}
+use Rattle.std.specs.Prelude.{◌≡◌, ◌↔◌, ℕ, Bool, false, IsTrue, List, [], ◌∷◌, ◌++◌, Option, Result, Ok, Err, IfErr, OnOk}
+use Rattle.std.specs.Io.KnownBytes.{Appends}
+use Rattle.aig_output.specs.Sinks.{Stops}
+use Rattle.aig_command_line.specs.declared.about.Question.{Question}
+use Rattle.aig_command_line.specs.About.{word_of}
 use Rattle.aig_command_line.specs.declared.files.OpenError.{OpenError}
 use Rattle.aig_command_line.specs.declared.files.OpenError.TheVariants as opening
 use Rattle.aig_command_line.specs.declared.status.Ending.{Ending}
 use Rattle.aig_command_line.specs.declared.status.Ending.TheVariants as endings
 use Rattle.aig_command_line.specs.Ending.{ended}
-use Rattle.aig_edits.specs.declared.edit.Edit.{Edit}
 use Rattle.aig_edits.specs.declared.edit_error.EditError.{EditError}
 use Rattle.aig_edits.specs.declared.edit_error.EditError.TheVariants as edit
 use Rattle.aig_edits.specs.declared.error.PairError.{PairError}
 use Rattle.aig_edits.specs.declared.error.PairError.TheVariants as errors
 use Rattle.aig_edits.specs.declared.pairing.Pairing.{Pairing}
 use Rattle.aig_edits.specs.Edits.{IsEditOwn, IsEditUnwritten, PrintsEdit, ReadsFile, edit_verdict}
+use Rattle.aig_edits.specs.Info.{PrintsInfo}
 use Rattle.aig_edits.specs.Joints.{IsOwn, IsUnwritten, PrintsJoint, first_verdict, second_verdict}
 use Rattle.aig_edits.specs.Pairs.{ReadsPair}
+use Rattle.aig_edits.specs.Questions.{PrintsQuestion}
+use Rattle.aig_edits.specs.Reductions.{PrintsReduction}
+use Rattle.aig_format.specs.File.{File}
 use Rattle.aig_reader.specs.declared.error.ReadError.{ReadError}
 use Rattle.aig_reader.specs.declared.error.ReadError.TheVariants as read
 use Rattle.aig_edit_commands.specs.declared.acting.TheConstants.{LIMIT}
@@ -24,6 +31,8 @@ use Rattle.aig_edit_commands.specs.declared.acting.CommandError.{CommandError}
 use Rattle.aig_edit_commands.specs.declared.acting.CommandError.TheVariants as refusals
 use Rattle.aig_edit_commands.specs.declared.command.Command.{Command}
 use Rattle.aig_edit_commands.specs.declared.command.Command.TheVariants as commands
+use Rattle.aig_edit_commands.specs.declared.command.FileCommand.{FileCommand}
+use Rattle.aig_edit_commands.specs.declared.command.FileCommand.TheVariants as files
 use Rattle.aig_edit_commands.specs.Words.{IsCall}
 
 -- ---- two files
@@ -92,13 +101,20 @@ pub record PrintsFiles {F W : Type 0} (opens : List ℕ → Result F OpenError �
 
 -- ---- one file
 
--- What is printed of a file that is open: the text of the edited circuit, as `print_edit` prints
--- it, and after Ok it is flushed.
-pub record PrintsEdited {R W : Type 0} (left : R → Option (List ℕ)) (failed : R → Bool)
-    (held : W → Option (List ℕ)) (write_failed flushed : W → Bool) (edit : Edit) (r : R) (w : W)
+-- what is printed of the file
+abbrev pub Prints : {W : Type 0} → (W → Option (List ℕ)) → (W → Bool) → FileCommand → W → W → File
+    → Result Unit EditError → Type 0
+Prints held failed (files.Edit edit) w made = PrintsEdit held failed edit LIMIT w made
+Prints held failed files.Reduction w made = PrintsReduction held failed w made
+Prints held failed (files.Question k) w made = PrintsQuestion held failed k LIMIT w made
+Prints held failed files.Info w made = PrintsInfo held failed w made
+
+-- What is printed of a file that is open, and after Ok it is flushed.
+pub record PrintsOpen {R W : Type 0} (left : R → Option (List ℕ)) (failed : R → Bool)
+    (held : W → Option (List ℕ)) (write_failed flushed : W → Bool) (c : FileCommand) (r : R) (w : W)
     (result : Result Unit EditError) (rest : R) (made : W) : Type 0 where
-  pub reads : ReadsFile left failed LIMIT (PrintsEdit held write_failed edit LIMIT w made)
-      edit_verdict IsEditOwn r result rest
+  pub reads : ReadsFile left failed LIMIT (Prints held write_failed c w made) edit_verdict IsEditOwn
+      r result rest
   pub kept : IsEditUnwritten result → made ≡ w
   pub done : OnOk result (IsTrue (flushed made))
 
@@ -108,21 +124,21 @@ edit_unopened opening.Refused = edit.Read read.Open
 
 -- the file is open, or it is not, and nothing is written
 abbrev pub PrintsOpened : {F W : Type 0} → (F → Option (List ℕ)) → (F → Bool)
-    → (W → Option (List ℕ)) → (W → Bool) → (W → Bool) → Edit → Result F OpenError → W
+    → (W → Option (List ℕ)) → (W → Bool) → (W → Bool) → FileCommand → Result F OpenError → W
     → Result Unit EditError → W → Type 0
-PrintsOpened {F} left failed held write_failed flushed edit (Ok r) w result made =
-    (rest : F) × PrintsEdited left failed held write_failed flushed edit r w result rest made
-PrintsOpened left failed held write_failed flushed edit (Err e) w result made =
+PrintsOpened {F} left failed held write_failed flushed c (Ok r) w result made =
+    (rest : F) × PrintsOpen left failed held write_failed flushed c r w result rest made
+PrintsOpened left failed held write_failed flushed c (Err e) w result made =
     (result ≡ Err (edit_unopened e)) × (made ≡ w)
 
--- the file at the path is opened, and the edited circuit printed
+-- the file at the path is opened, and what the command says printed
 pub record PrintsFile {F W : Type 0} (opens : List ℕ → Result F OpenError → Type 0)
     (left : F → Option (List ℕ)) (failed : F → Bool) (held : W → Option (List ℕ))
-    (write_failed flushed : W → Bool) (edit : Edit) (file : List ℕ) (w : W)
+    (write_failed flushed : W → Bool) (c : FileCommand) (file : List ℕ) (w : W)
     (result : Result Unit EditError) (made : W) : Type 0 where
   pub opened : Result F OpenError
   pub opens_so : opens file opened
-  pub prints : PrintsOpened left failed held write_failed flushed edit opened w result made
+  pub prints : PrintsOpened left failed held write_failed flushed c opened w result made
 
 -- ---- commands
 
@@ -135,23 +151,36 @@ told among (Err e) = Err (among e)
 abbrev pub Acts : {F W : Type 0} → (List ℕ → Result F OpenError → Type 0)
     → (F → Option (List ℕ)) → (F → Bool) → (W → Option (List ℕ)) → (W → Bool) → (W → Bool)
     → Command → List (List ℕ) → W → Result Unit CommandError → W → Type 0
-Acts opens left failed held write_failed flushed (commands.Edit edit) paths w result made =
+Acts opens left failed held write_failed flushed (commands.File c) paths w result made =
     (file : List ℕ) → paths ≡ file ∷ []
     → (done : Result Unit EditError) × (result ≡ told refusals.One done)
-    × PrintsFile opens left failed held write_failed flushed edit file w done made
+    × PrintsFile opens left failed held write_failed flushed c file w done made
 Acts opens left failed held write_failed flushed (commands.Pair pairing) paths w result made =
     (file other : List ℕ) → paths ≡ file ∷ other ∷ []
     → (done : Result Unit PairError) × (result ≡ told refusals.Two done)
     × PrintsFiles opens left failed held write_failed flushed pairing file other w done made
 
+-- a text is written and flushed, or a beginning of it is written, and the writer has failed
+pub record Says {W : Type 0} (held : W → Option (List ℕ)) (write_failed flushed : W → Bool)
+    (text : List ℕ) (w : W) (result : Result Unit CommandError) (made : W) : Type 0 where
+  pub ok : OnOk result (Appends (held w) (held made) text)
+  pub sound : OnOk result (write_failed made ≡ false)
+  pub done : OnOk result (IsTrue (flushed made))
+  pub err : IfErr result
+      (λ e. (e ≡ refusals.Write) × Stops (held w) (held made) (write_failed made) text)
+
 -- what the words ask for was done, and how the program ends by it
 pub record Obeys {F W : Type 0} (opens : List ℕ → Result F OpenError → Type 0)
     (left : F → Option (List ℕ)) (failed : F → Bool) (held : W → Option (List ℕ))
-    (write_failed flushed : W → Bool) (words : List (List ℕ)) (w : W)
-    (ending : Ending CommandError) (made : W) : Type 0 where
-  -- they give no command exactly where it ends so
+    (write_failed flushed : W → Bool) (answer_of : Question → List ℕ) (words : List (List ℕ))
+    (w : W) (ending : Ending CommandError) (made : W) : Type 0 where
+  -- a question of the program is answered by a line
+  pub tells : (q : Question) → words ≡ word_of q ∷ [] → (done : Result Unit CommandError)
+      × (ending ≡ ended done) × Says held write_failed flushed (answer_of q ++ 10 ∷ []) w done made
+  -- other words give no command exactly where it ends so
   pub none : (ending ≡ endings.NoCommand)
-      ↔ ((c : Command) (paths : List (List ℕ)) → ¬ IsCall words c paths)
+      ↔ (((c : Command) (paths : List (List ℕ)) → ¬ IsCall words c paths)
+      × ((q : Question) → ¬ (words ≡ word_of q ∷ [])))
   pub kept : ending ≡ endings.NoCommand → made ≡ w
   -- and else the command that they give was run on its files
   pub acts : (c : Command) (paths : List (List ℕ)) → IsCall words c paths

@@ -1,2 +1,3 @@
 pub mod Words
 pub mod Acting
+pub mod Asked

@@ -1,14 +1,17 @@
 -- Serves private clauses alone.
 -- Which words give which command.
-use Rattle.std.specs.Prelude.{◌≡◌, ℕ, true, List, codes}
+use Rattle.std.specs.Prelude.{◌≡◌, ℕ, List, codes}
 use Rattle.aig_command_line.specs.declared.arguments.Form.{Form}
+use Rattle.aig_command_line.specs.declared.arguments.Step.TheVariants.{At}
 use Rattle.aig_command_line.specs.Arguments.{Arguments, Gives, of_paths}
+use Rattle.aig_edits.specs.declared.edit.Edit.{Edit}
 use Rattle.aig_edits.specs.declared.edit.Edit.TheVariants as edits
 use Rattle.aig_edits.specs.declared.pairing.Pairing.TheVariants as pairings
 use Rattle.aig_edit_commands.specs.declared.command.Action.{Action}
 use Rattle.aig_edit_commands.specs.declared.command.Action.TheVariants as actions
 use Rattle.aig_edit_commands.specs.declared.command.Command.{Command}
 use Rattle.aig_edit_commands.specs.declared.command.Command.TheVariants as commands
+use Rattle.aig_edit_commands.specs.declared.command.FileCommand.TheVariants as files
 
 -- the word that names a command
 abbrev pub name_of : Action → List ℕ
@@ -19,34 +22,46 @@ name_of actions.Move = codes "move"
 name_of actions.Compress = codes "compress"
 name_of actions.Bads = codes "bads"
 name_of actions.Reduce = codes "reduce"
+name_of actions.Cone = codes "cone"
+name_of actions.Question = codes "question"
+name_of actions.Info = codes "info"
 name_of actions.Miter = codes "miter"
 name_of actions.Join = codes "join"
 name_of actions.Merge = codes "merge"
 
--- what comes after it: FILE; FILE and K; two paths
+-- what comes after it: FILE; FILE and a number; two paths
 abbrev pub form_of : Action → Form
-form_of actions.Unroll = record (of_paths 1) { step = true }
+form_of actions.Unroll = record (of_paths 1) { step = At }
+form_of actions.Cone = record (of_paths 1) { step = At }
+form_of actions.Question = record (of_paths 1) { step = At }
 form_of actions.Miter = of_paths 2
 form_of actions.Join = of_paths 2
 form_of actions.Merge = of_paths 2
 form_of a = of_paths 1
 
--- the command, with K
+-- the command that prints what an edit makes of a file
+abbrev pub edit_by : Edit → Command
+edit_by edit = commands.File (files.Edit edit)
+
+-- the command, with its number
 abbrev pub command_of : Action → ℕ → Command
-command_of actions.Refine k = commands.Edit edits.Refine
-command_of actions.Reencode k = commands.Edit edits.Reencode
-command_of actions.Unroll k = commands.Edit (edits.Unroll k)
-command_of actions.Move k = commands.Edit edits.Move
-command_of actions.Compress k = commands.Edit edits.Compress
-command_of actions.Bads k = commands.Edit edits.Bads
-command_of actions.Reduce k = commands.Edit edits.Reduce
+command_of actions.Refine k = edit_by edits.Refine
+command_of actions.Reencode k = edit_by edits.Reencode
+command_of actions.Unroll k = edit_by (edits.Unroll k)
+command_of actions.Move k = edit_by edits.Move
+command_of actions.Compress k = edit_by edits.Compress
+command_of actions.Bads k = edit_by edits.Bads
+command_of actions.Reduce k = commands.File files.Reduction
+command_of actions.Cone k = edit_by (edits.Cone k)
+command_of actions.Question k = commands.File (files.Question k)
+command_of actions.Info k = commands.File files.Info
 command_of actions.Miter k = commands.Pair pairings.Miter
 command_of actions.Join k = commands.Pair pairings.Certificate
 command_of actions.Merge k = commands.Pair pairings.Merge
 
 -- how many files it is run on
 abbrev pub paths_of : Command → ℕ
-paths_of (commands.Edit edit) = 1
+paths_of (commands.File command) = 1
 paths_of (commands.Pair pairing) = 2
 
 -- the words give the command, with these paths

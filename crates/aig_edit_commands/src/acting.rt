@@ -1,20 +1,36 @@
 //! What the program does with its words.
 
-ghost use Rattle.std.specs.Prelude.{◌≡◌, IfOk, IfSome, IsErr, IsNone, length, map, string_bytes};
+ghost use Rattle.std.specs.Prelude.{◌≡◌, ◌++◌, ◌∷◌, [], IfOk, IfSome, IsErr, IsNone, length, map, string_bytes};
 ghost use Rattle.aig_command_line.specs.declared.status.Ending.TheVariants as endings;
+ghost use Rattle.aig_output.specs.Sinks.{BuffersOrStops, WritesOrStops};
 ghost use Rattle.aig_edits.specs.declared.error.PairError.TheVariants as errors;
 ghost use Rattle.aig_edits.specs.declared.edit_error.EditError.TheVariants as edit_errors;
 ghost use Rattle.aig_edit_commands.specs.declared.acting.CommandError.TheVariants as refusals;
-ghost use Rattle.aig_edit_commands.specs.Acting.{Acts, Obeys, PrintsBeside, PrintsEdited, PrintsFile, PrintsFiles, PrintsPair, edit_unopened, told, unopened};
+ghost use Rattle.aig_edit_commands.specs.Acting.{Acts, Obeys, Prints, PrintsBeside, PrintsFile, PrintsFiles, PrintsOpen, PrintsPair, Says, edit_unopened, told, unopened};
+ghost use Rattle.aig_edit_commands.specs.Asked.{answer_of};
+ghost use Rattle.aig_edits.specs.Edits.{IsEditOwn, IsEditUnwritten, ReadsFile, edit_verdict};
 ghost use Rattle.aig_edit_commands.specs.Words.{paths_of};
 
-use crate::command::{Command, call};
-use aig_base::{MemoryError, Source};
-use aig_command_line::{Ending, Flush, OpenError, Opens};
-use aig_edits::{Edit, EditError, PairError, Pairing, print_edit, print_joint};
+use crate::command::{Command, FileCommand, call};
+use aig_base::{MemoryError, Sink, Source, StreamFault};
+use aig_command_line::{Ending, Flush, HasStatus, OpenError, Opens, Question, asked};
+use aig_edits::{
+    EditError, PairError, Pairing, print_edit, print_info, print_joint, print_question,
+    print_reduction,
+};
+use aig_output::OutputBuffer;
 use aig_reader::ReadError;
 use std::alloc::Global;
 use thiserror::Error;
+
+/// How the program is used.
+pub const USAGE: &str =
+    "usage: aigedit refine FILE, reencode FILE, unroll FILE K, move FILE, compress FILE, bads FILE, \
+    reduce FILE, cone FILE N, question FILE K, info FILE, miter FILE OTHER, join FILE CERT, \
+    merge FILE OTHER";
+
+/// Its version.
+pub const VERSION: &str = "aigedit 0.1.0";
 
 /// The limit on the nodes of a circuit that the program reads.
 pub const LIMIT: usize = 1 << 24;
@@ -33,6 +49,25 @@ pub enum CommandError {
     /// Memory was refused before a file was opened.
     #[error("out of memory")]
     Memory,
+    /// What the program tells of itself couldn't be written.
+    #[error("write failed")]
+    Write,
+}
+
+impl From<StreamFault> for CommandError {
+    ghost from_gives = { λ _ r. r ≡ refusals.Write };
+
+    fn from(_fault: StreamFault) -> CommandError {
+        CommandError::Write
+    }
+}
+
+impl HasStatus for CommandError {
+    ghost status = { λ _. 1 };
+
+    fn status(&self) -> u8 {
+        1
+    }
 }
 
 /// What the file is refused for where it isn't opened.
@@ -44,33 +79,53 @@ fn edit_unopened(error: OpenError) -> EditError
     }
 }
 
-/// Prints what is made of a file that is opened, and flushes that.
-fn print_edited<R: Source, W: Flush>(
+/// Prints what a command prints of a file that is opened.
+fn print_read<R: Source, W: Sink>(
     alloc: Global,
-    edit: &Edit,
+    command: &FileCommand,
     r: &mut R,
     w: &mut W,
 ) -> Result<(), EditError>
-    ensures { PrintsEdited R.left R.failed W.held W.failed W.flushed edit.now r.old w.old result
+    ensures reads { ReadsFile R.left R.failed LIMIT
+        (Prints W.held W.failed command.now w.old w.new) edit_verdict IsEditOwn r.old result
+        r.new }
+    ensures kept { IsEditUnwritten result → w.new ≡ w.old }
+{
+    match command {
+        FileCommand::Edit(edit) => print_edit(alloc, edit, r, LIMIT, w),
+        FileCommand::Reduction => print_reduction(alloc, r, LIMIT, w),
+        FileCommand::Question(k) => print_question(alloc, *k, r, LIMIT, w),
+        FileCommand::Info => print_info(alloc, r, LIMIT, w),
+    }
+}
+
+/// Prints what a command prints of a file that is opened, and flushes that.
+fn print_open<R: Source, W: Flush>(
+    alloc: Global,
+    command: &FileCommand,
+    r: &mut R,
+    w: &mut W,
+) -> Result<(), EditError>
+    ensures { PrintsOpen R.left R.failed W.held W.failed W.flushed command.now r.old w.old result
         r.new w.new }
 {
-    print_edit(alloc, edit, r, LIMIT, w)?;
+    print_read(alloc, command, r, w)?;
     Ok(w.flush()?)
 }
 
-/// Prints what is made of the file at a path, and flushes that.
+/// Prints what a command prints of the file at a path, and flushes that.
 fn print_file<F: Opens, W: Flush>(
     alloc: Global,
     files: &F,
-    edit: &Edit,
+    command: &FileCommand,
     path: &str,
     w: &mut W,
 ) -> Result<(), EditError>
     ensures { PrintsFile (F.opens files.now) F.File.left F.File.failed W.held W.failed W.flushed
-        edit.now path.now w.old result w.new }
+        command.now path.now w.old result w.new }
 {
     match files.open(path) {
-        Ok(mut file) => print_edited(alloc, edit, &mut file, w),
+        Ok(mut file) => print_open(alloc, command, &mut file, w),
         Err(error) => Err(edit_unopened(error)),
     }
 }
@@ -146,18 +201,18 @@ fn print<F: Opens, W: Flush>(
 }
 
 /// Runs a command on one file.
-fn edit_file<F: Opens, W: Flush>(
+fn run_file<F: Opens, W: Flush>(
     alloc: Global,
     files: &F,
-    edit: &Edit,
+    command: &FileCommand,
     paths: &[String],
     w: &mut W,
 ) -> Result<(), CommandError>
     requires { length paths.now ≡ 1 }
     ensures { Acts (F.opens files.now) F.File.left F.File.failed W.held W.failed W.flushed
-        (Command.Edit edit.now) (map string_bytes paths.now) w.old result w.new }
+        (Command.File command.now) (map string_bytes paths.now) w.old result w.new }
 {
-    match print_file(alloc, files, edit, paths[0].as_str(), w) {
+    match print_file(alloc, files, command, paths[0].as_str(), w) {
         Ok(()) => Ok(()),
         Err(error) => Err(CommandError::One(error)),
     }
@@ -201,8 +256,49 @@ fn perform<F: Opens, W: Flush>(
         command.now (map string_bytes paths.now) w.old result w.new }
 {
     match command {
-        Command::Edit(edit) => edit_file(alloc, files, edit, paths, w),
+        Command::File(command) => run_file(alloc, files, command, paths, w),
         Command::Pair(pairing) => pair_files(alloc, files, *pairing, paths, w),
+    }
+}
+
+/// Buffers a text and a line feed.
+fn buffer_line<W: Sink>(
+    buffer: &mut OutputBuffer,
+    w: &mut W,
+    text: &[u8],
+) -> Result<(), StreamFault>
+    ensures { let line = text.now ++ 10 ∷ [] in
+        BuffersOrStops W.held W.failed buffer.old w.old result line buffer.new w.new }
+{
+    buffer.write_bytes(w, text)?;
+    buffer.write_bytes(w, b"\n")
+}
+
+/// Writes a text and a line feed.
+fn write_line<W: Sink>(text: &[u8], w: &mut W) -> Result<(), StreamFault>
+    ensures { let line = text.now ++ 10 ∷ [] in
+        WritesOrStops W.held W.failed w.old result line w.new }
+{
+    let mut buffer = OutputBuffer::new();
+    buffer_line(&mut buffer, w, text)?;
+    buffer.flush(w)
+}
+
+/// Writes a line, and flushes it.
+fn say<W: Flush>(text: &str, w: &mut W) -> Result<(), CommandError>
+    ensures { Says W.held W.failed W.flushed (text.now ++ 10 ∷ []) w.old result w.new }
+{
+    write_line(text.as_bytes(), w)?;
+    Ok(w.flush()?)
+}
+
+/// The answer to a question of the program.
+fn answer(question: Question) -> &'static str
+    ensures { result.now ≡ answer_of question }
+{
+    match question {
+        Question::Usage => USAGE,
+        Question::Version => VERSION,
     }
 }
 
@@ -214,12 +310,15 @@ fn obey<F: Opens, W: Flush>(
     w: &mut W,
 ) -> Ending<CommandError>
     ensures { Obeys (F.opens files.now) F.File.left F.File.failed W.held
-        W.failed W.flushed (map string_bytes words.now) w.old result w.new }
+        W.failed W.flushed answer_of (map string_bytes words.now) w.old result w.new }
 {
-    match call(words) {
-        Some((command, paths)) => Ending::of(perform(alloc, files, &command, paths, w)),
-        None => Ending::NoCommand,
+    if let Some(question) = asked(words) {
+        return Ending::of(say(answer(question), w));
     }
+    let Some((command, paths)) = call(words) else {
+        return Ending::NoCommand;
+    };
+    Ending::of(perform(alloc, files, &command, paths, w))
 }
 
 /// Does what the words after the program's name ask for, as they were read: opens the files, prints
@@ -232,7 +331,7 @@ pub fn act<F: Opens, W: Flush>(
 ) -> Ending<CommandError>
     ensures words { IfOk words.now (λ read. IfSome read (λ given.
         Obeys (F.opens files.now) F.File.left F.File.failed W.held
-        W.failed W.flushed (map string_bytes given.items) w.old result w.new)) }
+        W.failed W.flushed answer_of (map string_bytes given.items) w.old result w.new)) }
     // Words that aren't UTF-8 give no command.
     ensures other { IfOk words.now (λ read. IsNone read
         → (result ≡ endings.NoCommand) × (w.new ≡ w.old)) }

@@ -1,22 +1,35 @@
 //! The commands, and the words that give them.
 
 ghost use Rattle.std.specs.Prelude.{◌≡◌, List, ℕ, IfNone, IfSome, length, map, string_bytes};
-ghost use Rattle.aig_edit_commands.specs.Words.{IsCall, command_of, form_of, name_of, paths_of};
+ghost use Rattle.aig_edit_commands.specs.Words.{IsCall, command_of, edit_by, form_of, name_of, paths_of};
 ghost use Rattle.aig_edit_commands.specs.declared.command.Command.{Command};
 
-use aig_command_line::{Form, HasForm, find};
+use aig_command_line::{Form, HasForm, Step, find};
 use aig_edits::{Edit, Pairing};
+
+/// What the program is asked to do with one file.
+#[derive(Drop)]
+pub enum FileCommand {
+    /// Print what an edit makes of it.
+    Edit(Edit),
+    /// Print what of it its query needs.
+    Reduction,
+    /// Print the question whether a bad state is reached up to this step.
+    Question(usize),
+    /// Print its counts.
+    Info,
+}
 
 /// What the program is asked to do.
 #[derive(Drop)]
 pub enum Command {
     /// Print what is made of one file.
-    Edit(Edit),
+    File(FileCommand),
     /// Print what is made of two files.
     Pair(Pairing),
 }
 
-/// A command without K.
+/// A command without its number.
 #[derive(Clone, Copy)]
 pub enum Action {
     /// `refine FILE`: print a file cut to its cone of influence.
@@ -31,8 +44,14 @@ pub enum Action {
     Compress,
     /// `bads FILE`: print a file with its outputs as its bad literals.
     Bads,
-    /// `reduce FILE`: print what of a file its bad literals, constraints and latches read.
+    /// `reduce FILE`: print what of a file its bad literals and constraints reach.
     Reduce,
+    /// `cone FILE N`: print the cone of output N of a file.
+    Cone,
+    /// `question FILE K`: print the question whether a bad state of a file is reached up to step K.
+    Question,
+    /// `info FILE`: print the counts of a file.
+    Info,
     /// `miter FILE OTHER`: print the miter of two files.
     Miter,
     /// `join FILE CERT`: print a file beside its certificate.
@@ -41,10 +60,10 @@ pub enum Action {
     Merge,
 }
 
-/// The form of a command on FILE and K.
-const STEPS: Form = Form {
+/// The form of a command on FILE and a number.
+const NUMBERED: Form = Form {
     paths: 1,
-    step: true,
+    step: Step::At,
     further: 0,
     distinct: false,
     raw: false,
@@ -64,6 +83,9 @@ impl HasForm for Action {
             Action::Compress => "compress",
             Action::Bads => "bads",
             Action::Reduce => "reduce",
+            Action::Cone => "cone",
+            Action::Question => "question",
+            Action::Info => "info",
             Action::Miter => "miter",
             Action::Join => "join",
             Action::Merge => "merge",
@@ -72,7 +94,7 @@ impl HasForm for Action {
 
     fn form(&self) -> Form {
         match self {
-            Action::Unroll => STEPS,
+            Action::Unroll | Action::Cone | Action::Question => NUMBERED,
             Action::Miter | Action::Join | Action::Merge => Form::of_paths(2),
             _ => Form::of_paths(1),
         }
@@ -81,7 +103,7 @@ impl HasForm for Action {
 
 impl Action {
     /// Each of them.
-    const ALL: [Action; 10] = [
+    const ALL: [Action; 13] = [
         Action::Refine,
         Action::Reencode,
         Action::Unroll,
@@ -89,28 +111,41 @@ impl Action {
         Action::Compress,
         Action::Bads,
         Action::Reduce,
+        Action::Cone,
+        Action::Question,
+        Action::Info,
         Action::Miter,
         Action::Join,
         Action::Merge,
     ];
 
-    /// The command, with K.
+    /// The command, with its number.
     fn command(self, k: usize) -> Command
         ensures { result ≡ command_of self k }
     {
         match self {
-            Action::Refine => Command::Edit(Edit::Refine),
-            Action::Reencode => Command::Edit(Edit::Reencode),
-            Action::Unroll => Command::Edit(Edit::Unroll(k)),
-            Action::Move => Command::Edit(Edit::Move),
-            Action::Compress => Command::Edit(Edit::Compress),
-            Action::Bads => Command::Edit(Edit::Bads),
-            Action::Reduce => Command::Edit(Edit::Reduce),
+            Action::Refine => edit_by(Edit::Refine),
+            Action::Reencode => edit_by(Edit::Reencode),
+            Action::Unroll => edit_by(Edit::Unroll(k)),
+            Action::Move => edit_by(Edit::Move),
+            Action::Compress => edit_by(Edit::Compress),
+            Action::Bads => edit_by(Edit::Bads),
+            Action::Reduce => Command::File(FileCommand::Reduction),
+            Action::Cone => edit_by(Edit::Cone(k)),
+            Action::Question => Command::File(FileCommand::Question(k)),
+            Action::Info => Command::File(FileCommand::Info),
             Action::Miter => Command::Pair(Pairing::Miter),
             Action::Join => Command::Pair(Pairing::Certificate),
             Action::Merge => Command::Pair(Pairing::Merge),
         }
     }
+}
+
+/// The command that prints what an edit makes of a file.
+fn edit_by(edit: Edit) -> Command
+    ensures { result ≡ edit_by edit }
+{
+    Command::File(FileCommand::Edit(edit))
 }
 
 /// The command that the words after the program's name give, and the paths of its files, or none where they are wrong. It takes no

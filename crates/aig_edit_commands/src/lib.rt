@@ -4,5 +4,5 @@
 mod acting;
 mod command;
 
-pub use acting::{CommandError, LIMIT, act};
-pub use command::{Action, Command, call};
+pub use acting::{CommandError, LIMIT, USAGE, VERSION, act};
+pub use command::{Action, Command, FileCommand, call};

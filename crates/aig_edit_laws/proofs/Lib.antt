@@ -6,3 +6,5 @@ pub mod Written
 pub mod PlainForms
 pub mod Paired
 pub mod Reduced
+pub mod Cones
+mod Examples

@@ -1,8 +1,9 @@
 -- A file's machine shows what the file's circuit shows.
-use Rattle.std.proofs.Common.{◌≡◌, ◌↔◌, ℕ, ◌≤◌, Bool, List, map, IsTrue, refl, sym, ◌∙◌, arith}
-use Rattle.std.specs.Prelude.{All}
+use Rattle.std.proofs.Common.{◌≡◌, ◌↔◌, ℕ, ◌≤◌, Bool, Option, Some, None, List, map, IsTrue, refl, sym, subst, ◌∙◌, arith}
+use Rattle.std.specs.Prelude.{All, IfSome, IsSomeAnd, option_map, slice_get}
 use Rattle.std.specs.List.{AllByRecursion, list_any}
 use Rattle.std.proofs.lemmas.List.Elements.{All-from_recursion, All-map, recursion_from_All}
+use Rattle.std.proofs.lemmas.Option.{get_or_from_slice_get, slice_get-map, slice_get_within}
 use Rattle.aig_circuit.specs.declared.edge.AigEdge.{AigEdge}
 use Rattle.aig_circuit.specs.Circuit.{Circuit}
 use Rattle.aig_circuit.specs.Properties.{AllProperties}
@@ -19,18 +20,33 @@ use Rattle.aig_format.specs.Variables.{IsKnown}
 use Rattle.aig_format.proofs.Circuits.{used_by_section}
 use Rattle.aig_format_laws.specs.Nodes.{HasNodeValues, values_over}
 use Rattle.aig_runs.proofs.Rows.{any_zip}
-use Rattle.aig_edit_laws.specs.Shown.{HasBadBy, HasCircuitBadBy, HasCircuitOutput, HasCircuitRun, HasOutput, HasRun, IsAllowedMachineRun}
+use Rattle.aig_edit_laws.specs.Shown.{HasBadBy, HasCircuitBadBy, HasCircuitOutput, HasCircuitOutputAt, HasCircuitRun, HasOutput, HasOutputAt, HasRun, IsAllowedMachineRun}
+
+-- what holds of all entries holds of the one at a place
+at_place : {E : Type 0} (P : E → Type 0) (es : List E) (n : ℕ) → All P es
+    → IfSome (slice_get es n) P
+at_place P es n all = by_entry (slice_get es n) refl
+  where
+    by_entry : (o : Option _) → slice_get es n ≡ o → IfSome o P
+    by_entry None at = tt
+    by_entry (Some e) at =
+        subst P (get_or_from_slice_get es n e e at) (all n e (slice_get_within es n e at))
 
 -- what joins the runs of a file's machine and of its circuit, and what a file uses
 pub record Joined : Type 0 where
-  pub forth : (f : File) (limit last : ℕ) (run : ℕ → ℕ → Bool) → Fits f limit → IsMachineRun f last run
+  pub forth : (f : File) (limit last : ℕ) (run : ℕ → ℕ → Bool) → Fits f limit
+      → IsMachineRun f last run
       → (x : ℕ → ℕ → Bool) × IsRun (circuit_of f) last x × HasNodeValues f last x run
-  pub back : (f : File) (limit last : ℕ) (x : ℕ → ℕ → Bool) → Fits f limit → IsRun (circuit_of f) last x
+  pub back : (f : File) (limit last : ℕ) (x : ℕ → ℕ → Bool) → Fits f limit
+      → IsRun (circuit_of f) last x
       → IsMachineRun f last (values_over f x)
-  pub starts : (f : File) (limit last : ℕ) (x run : ℕ → ℕ → Bool) → Fits f limit → HasNodeValues f last x run
+  pub starts : (f : File) (limit last : ℕ) (x run : ℕ → ℕ → Bool) → Fits f limit
+      → HasNodeValues f last x run
       → IsMachineInitial f run ↔ IsInitial (circuit_of f) (x 0)
-  pub literals : (f : File) (last : ℕ) (x run : ℕ → ℕ → Bool) → HasNodeValues f last x run → (t e : ℕ) → t ≤ last
-      → IsKnown f e → edge_value (circuit_of f).nodes (x t) (edge_of f e) ≡ value_of_literal (run t) e
+  pub literals : (f : File) (last : ℕ) (x run : ℕ → ℕ → Bool) → HasNodeValues f last x run
+      → (t e : ℕ) → t ≤ last
+      → IsKnown f e
+      → edge_value (circuit_of f).nodes (x t) (edge_of f e) ≡ value_of_literal (run t) e
   pub known : (f : File) (limit : ℕ) → Fits f limit → AllByRecursion (IsKnown f) (used f)
 
 module _ (joined : Joined) (f : File) (limit k : ℕ) (fits : Fits f limit) where
@@ -60,7 +76,8 @@ module _ (joined : Joined) (f : File) (limit k : ℕ) (fits : Fits f limit) wher
 
     to_circuit : IsRun c k x → IsAllowedMachineRun f k run → IsAllowedRun c k x
     to_circuit is w = record {
-      from_start = record { run = is; start = (joined.starts f limit k x run fits values).0 w.start };
+      from_start =
+          record { run = is; start = (joined.starts f limit k x run fits values).0 w.start };
       allowed = λ t h.
           let holds = All-from_recursion (IsTrueLiteral t) f.properties.constraints (w.allowed t h) in
           All-map (IsTrueEdge t) (edge_of f) f.properties.constraints (λ j d l. (keeps t h).constraints j d l ∙ holds j d l);
@@ -77,6 +94,28 @@ module _ (joined : Joined) (f : File) (limit k : ℕ) (fits : Fits f limit) wher
 
     outputs_same : list_any (edge_value c.nodes (x k)) c.properties.outputs ≡ list_any (value_of_literal (run k)) f.properties.outputs
     outputs_same = any_same k f.properties.outputs (keeps k (omega arith)).outputs
+
+    output_forth : (o : Option ℕ) → IfSome o (Keeps k)
+        → IsSomeAnd (option_map (edge_of f) o) (IsTrueEdge k)
+        → IsSomeAnd o (IsTrueLiteral k)
+    output_forth (Some e) same is = sym same ∙ is
+    output_forth None same is = is
+
+    output_back : (o : Option ℕ) → IfSome o (Keeps k) → IsSomeAnd o (IsTrueLiteral k)
+        → IsSomeAnd (option_map (edge_of f) o) (IsTrueEdge k)
+    output_back (Some e) same is = same ∙ is
+    output_back None same is = is
+
+    -- output n is true at the last step where its literal is
+    output_same : (n : ℕ) → IsSomeAnd (slice_get c.properties.outputs n) (IsTrueEdge k)
+        ↔ IsSomeAnd (slice_get f.properties.outputs n) (IsTrueLiteral k)
+    output_same n =
+        let literals = f.properties.outputs in
+        let same = at_place (Keeps k) literals n (keeps k (omega arith)).outputs in
+        let edges = slice_get-map (edge_of f) literals n in (
+          λ is. output_forth (slice_get literals n) same (subst (λ o. IsSomeAnd o (IsTrueEdge k)) edges is),
+          λ is. subst (λ o. IsSomeAnd o (IsTrueEdge k)) (sym edges) (output_back (slice_get literals n) same is),
+        )
 
     bads_same : (t : ℕ) → t ≤ k → list_any (edge_value c.nodes (x t)) c.properties.bads ≡ list_any (value_of_literal (run t)) f.properties.bads
     bads_same t h = any_same t f.properties.bads (keeps t h).bads
@@ -96,6 +135,18 @@ module _ (joined : Joined) (f : File) (limit k : ℕ) (fits : Fits f limit) wher
     λ s.
         let found = joined.forth f limit k s.0 fits s.1.is_run in
         (found.0, to_circuit found.0 s.0 found.2 found.1 s.1, outputs_same found.0 s.0 found.2 ∙ s.2),
+  )
+
+  pub output_shown : (n : ℕ) → HasCircuitOutputAt c n k ↔ HasOutputAt f n k
+  output_shown n = (
+    λ s.
+        let x = s.0 in
+        let run = values_over f x in
+        let is = joined.back f limit k x fits s.1.from_start.run in
+        (run, to_machine x run (over x) is s.1, (output_same x run (over x) n).0 s.2),
+    λ s.
+        let found = joined.forth f limit k s.0 fits s.1.is_run in
+        (found.0, to_circuit found.0 s.0 found.2 found.1 s.1, (output_same found.0 s.0 found.2 n).1 s.2),
   )
 
   pub bads_shown : HasCircuitBadBy c k ↔ HasBadBy f k

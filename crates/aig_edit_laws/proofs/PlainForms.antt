@@ -57,10 +57,12 @@ unnamed_past c is n past feed = by_name (get c.names n) refl feed
   where
     by_name : (o : Option (List ℕ)) → get c.names n ≡ o → IsSomeAnd o (λ name. Contains name 10) → ⊥
     by_name None at feed = feed
-    by_name (Some name) at feed = let low : n < length c.nodes = is.named n (ap is_some at) in absurd (omega arith)
+    by_name (Some name) at feed =
+        let low : n < length c.nodes = is.named n (ap is_some at) in absurd (omega arith)
 
 -- of old named nodes and of numbers past the nodes no name holds a line feed
-names_past : (c : Circuit) → IsCircuit c → All (λ n. ¬ HasLineFeed c.names n) (named_nodes c) → (ns : List ℕ)
+names_past : (c : Circuit) → IsCircuit c → All (λ n. ¬ HasLineFeed c.names n) (named_nodes c)
+    → (ns : List ℕ)
     → ((n : ℕ) → Contains ns n → Contains (named_nodes c) n ⊎ (length c.nodes ≤ n))
     → All (λ n. ¬ HasLineFeed c.names n) ns
 names_past c is names ns old k d h =
@@ -106,7 +108,8 @@ module _ (old new : Circuit) (is : IsCircuit old) (plain : IsPlain old) (folds :
   leaves_longer : latch_leaves longer ≡ latch_leaves old.latchs ++ length old.nodes ∷ []
   leaves_longer = map-append (λ (l : AigLatch). l.input) old.latchs (held ∷ [])
 
-  old_named : (n : ℕ) → Contains (named_nodes old) n → Contains (old.inputs ++ (latch_leaves old.latchs ++ length old.nodes ∷ [])) n
+  old_named : (n : ℕ) → Contains (named_nodes old) n
+      → Contains (old.inputs ++ (latch_leaves old.latchs ++ length old.nodes ∷ [])) n
   old_named n has = elim (Contains-append_cases old.inputs (latch_leaves old.latchs) n has) [
     | inl input ↦ Contains-append_left old.inputs (latch_leaves old.latchs ++ length old.nodes ∷ []) n input
     | inr leaf ↦ Contains-append_right old.inputs (latch_leaves old.latchs ++ length old.nodes ∷ []) n
@@ -116,7 +119,8 @@ module _ (old new : Circuit) (is : IsCircuit old) (plain : IsPlain old) (folds :
   new_named : Contains (old.inputs ++ (latch_leaves old.latchs ++ length old.nodes ∷ [])) (length old.nodes)
   new_named = Contains-append_right old.inputs (latch_leaves old.latchs ++ length old.nodes ∷ []) (length old.nodes) (Contains-push (latch_leaves old.latchs) (length old.nodes))
 
-  folded_leaf : (n : ℕ) → IsLeaf new.nodes n → Contains (old.inputs ++ (latch_leaves old.latchs ++ length old.nodes ∷ [])) n
+  folded_leaf : (n : ℕ) → IsLeaf new.nodes n
+      → Contains (old.inputs ++ (latch_leaves old.latchs ++ length old.nodes ∷ [])) n
   folded_leaf n leaf =
       let was = leaf_kept (with_node old.nodes Leaf) new.nodes folds.nodes n leaf in
       elim (cases_lt n (length old.nodes)) [
@@ -127,7 +131,8 @@ module _ (old new : Circuit) (is : IsCircuit old) (plain : IsPlain old) (folds :
             subst (Contains (old.inputs ++ (latch_leaves old.latchs ++ length old.nodes ∷ []))) last new_named)
       ]
 
-  folded_names : (n : ℕ) → Contains (old.inputs ++ (latch_leaves old.latchs ++ length old.nodes ∷ [])) n
+  folded_names : (n : ℕ)
+      → Contains (old.inputs ++ (latch_leaves old.latchs ++ length old.nodes ∷ [])) n
       → Contains (named_nodes old) n ⊎ (length old.nodes ≤ n)
   folded_names n has = elim (Contains-append_cases old.inputs (latch_leaves old.latchs ++ length old.nodes ∷ []) n has) [
     | inl input ↦ inl (Contains-append_left old.inputs (latch_leaves old.latchs) n input)
@@ -154,7 +159,8 @@ module _ (old new : Circuit) (is : IsCircuit old) (plain : IsPlain old) (folds :
 
 -- ---- further steps
 
-same_starts : (xs ys : List AigLatch) → starts_of xs ≡ starts_of ys → All HasConstantInit ys → All HasConstantInit xs
+same_starts : (xs ys : List AigLatch) → starts_of xs ≡ starts_of ys → All HasConstantInit ys
+    → All HasConstantInit xs
 same_starts xs ys same plain =
     let P : Option AigEdge → Type 0 = λ o. IfSome o (λ e. e.node_id ≡ 0) in
     All-from_map (λ (l : AigLatch). l.init) P xs (subst (All P) (sym same) (All-map P (λ (l : AigLatch). l.init) ys plain))
@@ -190,7 +196,8 @@ module _ (c u : Circuit) (k : ℕ) (is : IsCircuit c) (plain : IsPlain c) (unrol
 
   pub plain-unrolled : IsPlain u
   plain-unrolled = record {
-    closed = λ n leaf. subst (λ (ns : List ℕ). Contains ns n) (sym same_named) (unrolled_leaf n leaf);
+    closed =
+        λ n leaf. subst (λ (ns : List ℕ). Contains ns n) (sym same_named) (unrolled_leaf n leaf);
     start = same_starts u.latchs c.latchs unrolls.keeps.starts plain.start;
     names = subst (λ names. All (λ n. ¬ HasLineFeed names n) (named_nodes u)) (sym unrolls.keeps.names)
         (subst (All (λ n. ¬ HasLineFeed c.names n)) (sym same_named) (names_past c is plain.names named unrolled_names));
@@ -199,7 +206,8 @@ module _ (c u : Circuit) (k : ℕ) (is : IsCircuit c) (plain : IsPlain c) (unrol
 -- ---- a cone
 
 -- an entry that passes a test is among those that it keeps
-filter_has : (test : ℕ → Bool) (ns : List ℕ) (n : ℕ) → test n ≡ true → Contains ns n → Contains (filter test ns) n
+pub filter_has : (test : ℕ → Bool) (ns : List ℕ) (n : ℕ) → test n ≡ true → Contains ns n
+    → Contains (filter test ns) n
 filter_has test [] n passes (k, h, at) = absurd (omega (arith, h))
 filter_has test (m ∷ ms) n passes (zero, h, at) = by_test (test m) refl
   where
@@ -208,72 +216,87 @@ filter_has test (m ∷ ms) n passes (zero, h, at) = by_test (test m) refl
     by_test false is = absurd (false≢true (sym is ∙ ap test at ∙ passes))
 filter_has test (m ∷ ms) n passes (suc k, h, at) = by_test (test m) (filter_has test ms n passes (k, omega arith, at))
   where
-    by_test : (b : Bool) → Contains (filter test ms) n → Contains (cond b (m ∷ filter test ms) (filter test ms)) n
+    by_test : (b : Bool) → Contains (filter test ms) n
+        → Contains (cond b (m ∷ filter test ms) (filter test ms)) n
     by_test true (j, low, is) = (suc j, omega arith, is)
     by_test false has = has
 
-module _ (c : Circuit) (kept : List ℕ) (is : IsCircuit c) (are : AreKept c kept) (plain : IsPlain c) where
-  abbrev number : ℕ → ℕ
-  number = position_of kept
+module _ (c : Circuit) (kept : List ℕ) (is : IsCircuit c) (are : AreKept c kept)
+    (closed : (n : ℕ) → Contains kept n → IsLeaf c.nodes n → Contains (named_nodes c) n)
+    (start : All HasConstantInit c.latchs) (names : All (λ n. ¬ HasLineFeed c.names n) (named_nodes c))
+  where
+    abbrev number : ℕ → ℕ
+    number = position_of kept
 
-  abbrev cut : Circuit
-  cut = only_kept kept c
+    abbrev cut : Circuit
+    cut = only_kept kept c
 
-  abbrev numbers : Numbers c.nodes (Contains kept) kept number
-  numbers = Numbers-kept c kept is are
+    abbrev numbers : Numbers c.nodes (Contains kept) kept number
+    numbers = Numbers-kept c kept is are
 
-  moved : named_nodes (refined kept c) ≡ map number (named_nodes cut)
-  moved = leaves-map number cut
+    moved : named_nodes (refined kept c) ≡ map number (named_nodes cut)
+    moved = leaves-map number cut
 
-  refined_leaf : (i : ℕ) → IsLeaf (refined kept c).nodes i → Contains (named_nodes (refined kept c)) i
-  refined_leaf i leaf =
-      let old = IsLeaf-back c.nodes (Contains kept) kept number (Merges-numbers c.nodes (Contains kept) kept number numbers) i leaf in
-      let n = get_or kept i 0 in
-      let there : Contains (named_nodes cut) n = elim (Contains-append_cases c.inputs (latch_leaves c.latchs) n (plain.closed n old.1)) [
-        | inl input ↦ Contains-append_left cut.inputs (latch_leaves c.latchs) n (filter_has (is_in kept) c.inputs n (is_in-there kept n (Contains-get_or kept i 0 old.0)) input)
-        | inr latch ↦ Contains-append_right cut.inputs (latch_leaves c.latchs) n latch
-      ] in
-      subst (λ (ns : List ℕ). Contains ns i) (sym moved) (subst (Contains (map number (named_nodes cut))) (numbers.place i old.0) (Contains-map number (named_nodes cut) n there))
+    refined_leaf : (i : ℕ) → IsLeaf (refined kept c).nodes i
+        → Contains (named_nodes (refined kept c)) i
+    refined_leaf i leaf =
+        let old = IsLeaf-back c.nodes (Contains kept) kept number (Merges-numbers c.nodes (Contains kept) kept number numbers) i leaf in
+        let n = get_or kept i 0 in
+        let there : Contains (named_nodes cut) n = elim (Contains-append_cases c.inputs (latch_leaves c.latchs) n (closed n (Contains-get_or kept i 0 old.0) old.1)) [
+          | inl input ↦ Contains-append_left cut.inputs (latch_leaves c.latchs) n (filter_has (is_in kept) c.inputs n (is_in-there kept n (Contains-get_or kept i 0 old.0)) input)
+          | inr latch ↦ Contains-append_right cut.inputs (latch_leaves c.latchs) n latch
+        ] in
+        subst (λ (ns : List ℕ). Contains ns i) (sym moved) (subst (Contains (map number (named_nodes cut))) (numbers.place i old.0) (Contains-map number (named_nodes cut) n there))
 
-  -- what the cut circuit names is kept, and the circuit names it
-  cut_named : (n : ℕ) → Contains (named_nodes cut) n → Contains kept n × Contains (named_nodes c) n
-  cut_named n has = elim (Contains-append_cases cut.inputs (latch_leaves c.latchs) n has) [
-    | inl input ↦ (let old = filter-back (is_in kept) c.inputs n input in (is_in-back kept n old.1, Contains-append_left c.inputs (latch_leaves c.latchs) n old.0))
-    | inr latch ↦ ((All-contains (Contains kept) (latch_leaves c.latchs) n (All-map (Contains kept) (λ (l : AigLatch). l.input) c.latchs (All-weaker (IsLatchIn (Contains kept)) (λ (l : AigLatch). Contains kept l.input) (λ l h. h.leaf) c.latchs (S-latchs c kept is are))) latch), Contains-append_right c.inputs (latch_leaves c.latchs) n latch)
-  ]
+    -- what the cut circuit names is kept, and the circuit names it
+    cut_named : (n : ℕ) → Contains (named_nodes cut) n
+        → Contains kept n × Contains (named_nodes c) n
+    cut_named n has = elim (Contains-append_cases cut.inputs (latch_leaves c.latchs) n has) [
+      | inl input ↦ (let old = filter-back (is_in kept) c.inputs n input in (is_in-back kept n old.1, Contains-append_left c.inputs (latch_leaves c.latchs) n old.0))
+      | inr latch ↦ ((All-contains (Contains kept) (latch_leaves c.latchs) n (All-map (Contains kept) (λ (l : AigLatch). l.input) c.latchs (All-weaker (IsLatchIn (Contains kept)) (λ (l : AigLatch). Contains kept l.input) (λ l h. h.leaf) c.latchs (S-latchs c kept is are))) latch), Contains-append_right c.inputs (latch_leaves c.latchs) n latch)
+    ]
 
-  cut_name : (n : ℕ) → Contains kept n → get cut.names n ≡ get c.names n
-  cut_name n has =
-      get-retain_keys c.names (is_in kept) n (λ k e. let same : n ≡ k = exact_unsigned n k e in ap (is_in kept) (sym same))
-      ∙ ap (λ b. cond b (get c.names n) None) (is_in-there kept n has)
+    cut_name : (n : ℕ) → Contains kept n → get cut.names n ≡ get c.names n
+    cut_name n has =
+        get-retain_keys c.names (is_in kept) n (λ k e. let same : n ≡ k = exact_unsigned n k e in ap (is_in kept) (sym same))
+        ∙ ap (λ b. cond b (get c.names n) None) (is_in-there kept n has)
 
-  names_kept : (n : ℕ) → IsTrue (contains_key cut.names n) → Contains kept n
-  names_kept n has = (speaks c kept is are).named n has
+    names_kept : (n : ℕ) → IsTrue (contains_key cut.names n) → Contains kept n
+    names_kept n has = (speaks c kept is are).named n has
 
-  refined_name : (m : ℕ) → Contains (named_nodes (refined kept c)) m → ¬ HasLineFeed (refined kept c).names m
-  refined_name m has feed = by_name (get (refined kept c).names m) refl feed
-    where
-      by_name : (o : Option (List ℕ)) → get (refined kept c).names m ≡ o → IsSomeAnd o (λ name. Contains name 10) → ⊥
-      by_name None found feed = feed
-      by_name (Some name) found feed =
-          let old = found_back (Contains kept) number (entries cut.names) m name (names_in_circuit (Contains kept) cut.names names_kept) (sym (get-from_entries nat_cmp_total _ m) ∙ found) in
-          let leaf = Contains-map_back number (named_nodes cut) m (subst (λ (ns : List ℕ). Contains ns m) moved has) in
-          let there = cut_named leaf.0 leaf.1 in
-          let same : old.0 ≡ leaf.0 = number-apart c.nodes (Contains kept) kept number numbers old.0 leaf.0 old.1 there.0 (old.2 ∙ sym leaf.2) in
-          let name_is : get c.names leaf.0 ≡ Some name = sym (cut_name leaf.0 there.0) ∙ ap (get cut.names) (sym same) ∙ get-entries cut.names old.0 ∙ old.3 in
-          All-contains (λ n. ¬ HasLineFeed c.names n) (named_nodes c) leaf.0 plain.names there.1
-          (subst (λ o. IsSomeAnd o (λ text. Contains text 10)) (sym name_is) feed)
+    refined_name : (m : ℕ) → Contains (named_nodes (refined kept c)) m
+        → ¬ HasLineFeed (refined kept c).names m
+    refined_name m has feed = by_name (get (refined kept c).names m) refl feed
+      where
+        by_name : (o : Option (List ℕ)) → get (refined kept c).names m ≡ o
+            → IsSomeAnd o (λ name. Contains name 10) → ⊥
+        by_name None found feed = feed
+        by_name (Some name) found feed =
+            let old = found_back (Contains kept) number (entries cut.names) m name (names_in_circuit (Contains kept) cut.names names_kept) (sym (get-from_entries nat_cmp_total _ m) ∙ found) in
+            let leaf = Contains-map_back number (named_nodes cut) m (subst (λ (ns : List ℕ). Contains ns m) moved has) in
+            let there = cut_named leaf.0 leaf.1 in
+            let same : old.0 ≡ leaf.0 = number-apart c.nodes (Contains kept) kept number numbers old.0 leaf.0 old.1 there.0 (old.2 ∙ sym leaf.2) in
+            let name_is : get c.names leaf.0 ≡ Some name = sym (cut_name leaf.0 there.0) ∙ ap (get cut.names) (sym same) ∙ get-entries cut.names old.0 ∙ old.3 in
+            All-contains (λ n. ¬ HasLineFeed c.names n) (named_nodes c) leaf.0 names there.1
+            (subst (λ o. IsSomeAnd o (λ text. Contains text 10)) (sym name_is) feed)
 
-  refined_start : (o : Option AigEdge) → IfSome o (λ e. e.node_id ≡ 0) → IfSome (option_map (renumbered_edge number) o) (λ e. e.node_id ≡ 0)
-  refined_start (Some e) zeroth = ap number zeroth ∙ numbers.false_first
-  refined_start None zeroth = tt
+    refined_start : (o : Option AigEdge) → IfSome o (λ e. e.node_id ≡ 0)
+        → IfSome (option_map (renumbered_edge number) o) (λ e. e.node_id ≡ 0)
+    refined_start (Some e) zeroth = ap number zeroth ∙ numbers.false_first
+    refined_start None zeroth = tt
 
-  pub plain-refined : IsPlain (refined kept c)
-  plain-refined = record {
-    closed = refined_leaf;
-    start = All-map HasConstantInit (renumbered_latch number) c.latchs (All-weaker HasConstantInit (λ l. HasConstantInit (renumbered_latch number l)) (λ l plain. refined_start l.init plain) c.latchs plain.start);
-    names = λ k d h. refined_name _ (Contains-get_or (named_nodes (refined kept c)) k d h);
-  }
+    -- only leaves that are kept need to be named
+    pub plain-cut : IsPlain (refined kept c)
+    plain-cut = record {
+      closed = refined_leaf;
+      start = All-map HasConstantInit (renumbered_latch number) c.latchs (All-weaker HasConstantInit (λ l. HasConstantInit (renumbered_latch number l)) (λ l plain. refined_start l.init plain) c.latchs start);
+      names = λ k d h. refined_name _ (Contains-get_or (named_nodes (refined kept c)) k d h);
+    }
+
+pub plain-refined : (c : Circuit) (kept : List ℕ) → IsCircuit c → AreKept c kept → IsPlain c
+    → IsPlain (refined kept c)
+plain-refined c kept is are plain =
+    plain-cut c kept is are (λ n has. plain.closed n) plain.start plain.names
 
 -- ---- two circuits
 
@@ -323,12 +346,14 @@ module _ (first second : Circuit) (is : IsCircuit first) (other : IsCircuit seco
     | inr new ↦ subst (Contains listed) new.2 (second_listed (suc new.0) (also.closed (suc new.0) (new.3 ∙ ap Some (leaf_before shift new.1 new.4))))
   ]
 
-  past : (ns : List ℕ) → All (IsLeaf second.nodes) ns → (n : ℕ) → Contains (map shift ns) n → length first.nodes ≤ n
+  past : (ns : List ℕ) → All (IsLeaf second.nodes) ns → (n : ℕ) → Contains (map shift ns) n
+      → length first.nodes ≤ n
   past ns leaves n has =
       let from = Contains-map_back shift ns n has in
       subst (λ m. length first.nodes ≤ m) from.2 (leaf-past first.nodes second.nodes is.nodes other.nodes from.0 (All-contains (IsLeaf second.nodes) ns from.0 leaves from.1))
 
-  merged_names : (n : ℕ) → Contains listed n → Contains (named_nodes first) n ⊎ (length first.nodes ≤ n)
+  merged_names : (n : ℕ) → Contains listed n
+      → Contains (named_nodes first) n ⊎ (length first.nodes ≤ n)
   merged_names n has = elim (Contains-append_cases (first.inputs ++ map shift second.inputs) (latch_leaves first.latchs ++ map shift (latch_leaves second.latchs)) n has) [
     | inl inputs ↦ elim (Contains-append_cases first.inputs (map shift second.inputs) n inputs) [
       | inl old ↦ inl (Contains-append_left first.inputs (latch_leaves first.latchs) n old)
@@ -340,13 +365,15 @@ module _ (first second : Circuit) (is : IsCircuit first) (other : IsCircuit seco
     ]
   ]
 
-  shifted_start : (o : Option AigEdge) → IfSome o (λ e. e.node_id ≡ 0) → IfSome (option_map (renumbered_edge shift) o) (λ e. e.node_id ≡ 0)
+  shifted_start : (o : Option AigEdge) → IfSome o (λ e. e.node_id ≡ 0)
+      → IfSome (option_map (renumbered_edge shift) o) (λ e. e.node_id ≡ 0)
   shifted_start (Some e) zeroth = ap shift zeroth
   shifted_start None zeroth = tt
 
   pub plain-merged : IsPlain both
   plain-merged = record {
-    closed = λ n leaf. subst (λ (ns : List ℕ). Contains ns n) (sym same_listed) (merged_leaf n leaf);
+    closed =
+        λ n leaf. subst (λ (ns : List ℕ). Contains ns n) (sym same_listed) (merged_leaf n leaf);
     start = All-append HasConstantInit first.latchs (map (renumbered_latch shift) second.latchs) plain.start
         (All-map HasConstantInit (renumbered_latch shift) second.latchs (All-weaker HasConstantInit (λ l. HasConstantInit (renumbered_latch shift l)) (λ l start. shifted_start l.init start) second.latchs also.start));
     names = subst (All (λ n. ¬ HasLineFeed first.names n)) (sym same_listed) (names_past first is plain.names listed merged_names);

@@ -1,11 +1,14 @@
 -- Part of what is promised.
 -- What runs of a file's machine, and of a circuit, show. (AIGER 1.9, "Properties"; bounded model
 -- checking.)
-use Rattle.std.specs.Prelude.{ℕ, ◌≤◌, Bool, IsTrue, []}
+use Rattle.std.specs.Prelude.{◌≡◌, ℕ, ◌≤◌, Bool, IsTrue, Some, IsSomeAnd, List, [], ◌∷◌, slice_get}
 use Rattle.std.specs.List.{list_any}
+use Rattle.aig_circuit.specs.declared.edge.AigEdge.{AigEdge}
 use Rattle.aig_circuit.specs.Circuit.{Circuit}
+use Rattle.aig_circuit.specs.Properties.{no_properties}
 use Rattle.aig_circuit.specs.Tree.{edge_value}
 use Rattle.aig_change.specs.Runs.{IsAllowedRun}
+use Rattle.aig_cone.specs.Refine.{AreKept, refined}
 use Rattle.aig_runs.specs.Safety.{IsConstrained}
 use Rattle.aig_format.specs.File.{File}
 use Rattle.aig_format.specs.Machine.{value_of_literal, IsMachineInitial, IsMachineRun}
@@ -29,6 +32,12 @@ HasOutput f k =
     (run : ℕ → ℕ → Bool) × IsAllowedMachineRun f k run
     × IsTrue (list_any (value_of_literal (run k)) f.properties.outputs)
 
+-- such a run has output n, of those from 0 on, at step k
+abbrev pub HasOutputAt : File → ℕ → ℕ → Type 0
+HasOutputAt f n k =
+    (run : ℕ → ℕ → Bool) × IsAllowedMachineRun f k run
+    × IsSomeAnd (slice_get f.properties.outputs n) (λ e. IsTrue (value_of_literal (run k) e))
+
 -- such a run has some bad literal at one of its steps
 abbrev pub HasBadBy : File → ℕ → Type 0
 HasBadBy f k =
@@ -51,6 +60,12 @@ HasCircuitOutput c k =
     (x : ℕ → ℕ → Bool) × IsAllowedRun c k x
     × IsTrue (list_any (edge_value c.nodes (x k)) c.properties.outputs)
 
+-- and of output n
+abbrev pub HasCircuitOutputAt : Circuit → ℕ → ℕ → Type 0
+HasCircuitOutputAt c n k =
+    (x : ℕ → ℕ → Bool) × IsAllowedRun c k x
+    × IsSomeAnd (slice_get c.properties.outputs n) (λ e. IsTrue (edge_value c.nodes (x k) e))
+
 -- and of a bad edge at one of the steps
 abbrev pub HasCircuitBadBy : Circuit → ℕ → Type 0
 HasCircuitBadBy c k =
@@ -63,3 +78,20 @@ outputs_as_bads c =
     record c {
       properties = record c.properties { outputs = []; bads = c.properties.outputs };
     }
+
+-- the circuit with this output and its constraints as the only properties
+abbrev pub output_alone : Circuit → AigEdge → Circuit
+output_alone c e =
+    record c {
+      properties =
+          record no_properties { outputs = e ∷ []; constraints = c.properties.constraints };
+    }
+
+-- the circuit of what output n, the constraints, the latches and the initial edges that aren't
+-- constant reach, with that output and the constraints as the only properties
+pub record IsConeOf (n : ℕ) (c cone : Circuit) : Type 0 where
+  pub output : AigEdge
+  pub there : slice_get c.properties.outputs n ≡ Some output
+  pub kept : List ℕ
+  pub are_kept : AreKept (output_alone c output) kept
+  pub exact : cone ≡ refined kept (output_alone c output)

@@ -10,11 +10,13 @@ ghost use Rattle.aig_format.specs.Fits.{Fits};
 ghost use Rattle.aig_reduction.specs.Reduction.{HaveSameWitnesses};
 ghost use Rattle.aig_runs.specs.CircuitQueries.{HasCircuitWitness};
 ghost use Rattle.aig_unroll.specs.Unroll.{UnrollsTo};
-ghost use Rattle.aig_edit_laws.specs.Shown.{HasBadBy, HasCircuitBadBy, HasCircuitOutput, HasCircuitRun, HasOutput, HasRun, HasWitness, outputs_as_bads};
+ghost use Rattle.aig_edit_laws.specs.Shown.{HasBadBy, HasCircuitBadBy, HasCircuitOutput, HasCircuitOutputAt, HasCircuitRun, HasOutput, HasOutputAt, HasRun, HasWitness, IsConeOf, outputs_as_bads};
 
 use aig_change::merging_pairs_runs;
 use aig_circuit::leaves_fix_values;
+use aig_cone::{refining_is_circuit, refining_keeps_runs};
 use aig_format_laws::{files_are_circuits, joins_runs};
+use aig_reduction::runs_keep_witnesses;
 use aig_runs::circuit_witnesses_are_file_witnesses;
 
 /// Law: a circuit whose bad edges became one has a witness at each step exactly where it had one before; and so has a circuit
@@ -42,6 +44,16 @@ pub fn outputs_become_bads()
         → HasCircuitWitness (outputs_as_bads c) k ↔ HasCircuitOutput c k }
 {}
 
+/// Law: the cone of a circuit's output shows that output exactly where the circuit does.
+pub fn cones_show_their_output()
+    ensures { (c cone : Circuit) (n k : ℕ) → IsCircuit c → IsConeOf n c cone
+        → HasCircuitOutput cone k ↔ HasCircuitOutputAt c n k }
+{
+    refining_is_circuit();
+    refining_keeps_runs();
+    runs_keep_witnesses();
+}
+
 /// Law: two circuits merged have a witness exactly where one of them has one, and the other a run as long from an initial
 /// state with every constraint at each step.
 pub fn merged_witnesses_are_pairs()
@@ -62,6 +74,8 @@ pub fn shown_runs_are_machine_runs()
         → HasCircuitWitness (circuit_of f) k ↔ HasWitness f k }
     ensures outputs { (f : File) (limit k : ℕ) → Fits f limit
         → HasCircuitOutput (circuit_of f) k ↔ HasOutput f k }
+    ensures output { (f : File) (limit n k : ℕ) → Fits f limit
+        → HasCircuitOutputAt (circuit_of f) n k ↔ HasOutputAt f n k }
     ensures bads { (f : File) (limit k : ℕ) → Fits f limit
         → HasCircuitBadBy (circuit_of f) k ↔ HasBadBy f k }
 {
@@ -76,4 +90,12 @@ pub fn written_circuits_have_witnesses()
         → HasCircuitWitness c k ↔ HasWitness f k }
 {
     circuit_witnesses_are_file_witnesses();
+}
+
+/// Law: and it shows the circuit's outputs.
+pub fn written_circuits_have_outputs()
+    ensures { (c : Circuit) (f : File) (k : ℕ) → IsReadAgain c f
+        → HasCircuitOutput c k ↔ HasOutput f k }
+{
+    shown_runs_are_machine_runs();
 }

@@ -5,7 +5,8 @@ mod laws;
 mod plain;
 
 pub use laws::{
-    changed_circuits_keep_witnesses, merged_witnesses_are_pairs, outputs_become_bads,
-    shown_runs_are_machine_runs, unrolled_witnesses_are_runs, written_circuits_have_witnesses,
+    changed_circuits_keep_witnesses, cones_show_their_output, merged_witnesses_are_pairs,
+    outputs_become_bads, shown_runs_are_machine_runs, unrolled_witnesses_are_runs,
+    written_circuits_have_outputs, written_circuits_have_witnesses,
 };
-pub use plain::{changed_circuits_are_plain, reductions_are_plain};
+pub use plain::{changed_circuits_are_plain, reductions_are_writable};

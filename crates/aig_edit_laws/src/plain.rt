@@ -9,9 +9,10 @@ ghost use Rattle.aig_format.specs.Writable.{IsWritable};
 ghost use Rattle.aig_reduction.specs.Reduction.{IsReduced};
 ghost use Rattle.aig_unroll.specs.Unroll.{UnrollsTo};
 ghost use Rattle.aig_edit_laws.specs.Plain.{IsPlain};
-ghost use Rattle.aig_edit_laws.specs.Shown.{outputs_as_bads};
+ghost use Rattle.aig_edit_laws.specs.Shown.{IsConeOf, outputs_as_bads};
 
 use aig_cone::refining_is_circuit;
+use aig_reduction::asked_circuits_are_circuits;
 
 /// Law: where only its size can keep a circuit from a written form, this is so of what is made of it.
 pub fn changed_circuits_are_plain()
@@ -23,15 +24,18 @@ pub fn changed_circuits_are_plain()
         → UnrollsTo c k unrolled → IsPlain unrolled }
     ensures refined { (c : Circuit) (kept : List ℕ) → IsCircuit c → AreKept c kept → IsPlain c
         → IsPlain (refined kept c) }
+    ensures cones { (c cone : Circuit) (n : ℕ) → IsCircuit c → IsPlain c → IsConeOf n c cone
+        → IsPlain cone }
     ensures merged { (first second : Circuit) → IsCircuit first → IsCircuit second
         → IsPlain first → IsPlain second → IsPlain (merged first second) }
     ensures bads { (c : Circuit) → IsPlain c → IsPlain (outputs_as_bads c) }
 {}
 
-/// Law: where a circuit has a written form, only its size can keep its reduction from one.
-pub fn reductions_are_plain()
+/// Law: where a circuit has a written form, its reduction has one.
+pub fn reductions_are_writable()
     ensures { (old new : Circuit) → IsCircuit old → IsWritable old → IsReduced old new
-        → IsPlain new }
+        → IsWritable new }
 {
+    asked_circuits_are_circuits();
     refining_is_circuit();
 }

@@ -1,12 +1,13 @@
 -- What the parts of an edit tell, at each way out of them.
 use Rattle.std.proofs.Common.{◌≡◌, ◌≢◌, ◌⊎◌, ℕ, Bool, List, Option, Some, None, Result, Ok, Err, refl, sym, ap, subst, inl, inr}
-use Rattle.std.specs.Prelude.{Any, IfSome, IsErrOf, IsSomeAnd, IsTrue}
+use Rattle.std.specs.Prelude.{Any, IfSome, IsErrOf, IsSomeAnd, IsTrue, slice_get}
 use Rattle.std.proofs.lemmas.List.Elements.{Contains-append_cases}
+use Rattle.std.proofs.lemmas.Option.{get_or_from_slice_get, slice_get_within}
 use Rattle.aig.specs.declared.aiger.WriteError.{WriteError}
 use Rattle.aig.specs.declared.aiger.WriteError.TheVariants as write
 use Rattle.aig.specs.Writing.{IsRefusal, IsVerdictOf}
 use Rattle.aig_circuit.specs.declared.edge.AigEdge.{AigEdge}
-use Rattle.aig_circuit.specs.Circuit.{Circuit, HasFreeLeaf, latch_leaves}
+use Rattle.aig_circuit.specs.Circuit.{Circuit, HasFreeLeaf, IsCircuit, IsInRange, latch_leaves}
 use Rattle.aig_circuit.specs.Edges.{HasConstantInit, HasNonConstantInit}
 use Rattle.aig_edit_laws.specs.Plain.{IsPlain}
 use Rattle.aig_format.specs.Circuit.{text_of}
@@ -28,25 +29,38 @@ err_of {T} {E} e x is = let error : E → Result T E = λ y. Err y in ap error i
 pub plain_of : (c : Circuit) → IsWritable c → IsPlain c
 plain_of c w = record { closed = w.closed; start = w.start; names = w.names }
 
+-- a property edge that is there is in range
+pub in_range_at : (c : Circuit) (n : ℕ) (e : AigEdge) → IsCircuit c → slice_get c.properties.outputs
+    n ≡ Some e → IsInRange c.nodes e
+in_range_at c n e is at =
+    let outputs = c.properties.outputs in
+    subst (IsInRange c.nodes) (get_or_from_slice_get outputs n e e at) (is.properties.outputs n e
+    (slice_get_within outputs n e at))
+
 -- what is made where the edit can be made
-pub edits : (edit : Edit) (limit : ℕ) (c : Circuit) (r : Result Circuit EditError) → CanEditCircuit edit c
+pub edits : (edit : Edit) (limit : ℕ) (c : Circuit) (r : Result Circuit EditError) → CanEditCircuit
+    edit c
     → AreStepsWithin edit limit c → Yields edit c r → Edits edit limit c r
 edits edit limit c (Ok m) can within y = (can, within, y.made.0, y.made.1)
-edits edit limit c (Err e) can within y = subst (λ e. Edits edit limit c (Err e)) (sym y.fault) (can, within)
+edits edit limit c (Err e) can within y = subst (λ e. Edits edit limit c (Err e)) (sym y.fault)
+    (can, within)
 
 -- ---- its text
 
 module _ (m : Circuit) (plain : IsPlain m) where
   no_free : HasFreeLeaf m.nodes m.inputs m.latchs → ⊥
-  no_free (n, leaf, free) = elim (Contains-append_cases m.inputs (latch_leaves m.latchs) n (plain.closed n leaf)) [
-    | inl input ↦ free.no_input input
-    | inr latch ↦ free.no_latch latch
-  ]
+  no_free (n, leaf, free) = elim (Contains-append_cases m.inputs (latch_leaves m.latchs) n
+      (plain.closed n leaf)) [
+        | inl input ↦ free.no_input input
+        | inr latch ↦ free.no_latch latch
+      ]
 
   no_variable : Any HasNonConstantInit m.latchs → ⊥
-  no_variable (k, latch, h, at, variable) = by_init latch.init (subst HasConstantInit at (plain.start k latch h)) variable
+  no_variable (k, latch, h, at, variable) = by_init latch.init (subst HasConstantInit at
+      (plain.start k latch h)) variable
     where
-      by_init : (o : Option AigEdge) → IfSome o (λ e. e.node_id ≡ 0) → IsSomeAnd o (λ e. e.node_id ≢ 0) → ⊥
+      by_init : (o : Option AigEdge) → IfSome o (λ e. e.node_id ≡ 0) → IsSomeAnd o (λ e. e.node_id ≢
+          0) → ⊥
       by_init (Some e) zero other = other zero
       by_init None zero other = other
 
@@ -54,9 +68,11 @@ module _ (m : Circuit) (plain : IsPlain m) where
   no_feed (k, n, h, at, feed) = subst (λ n. ¬ HasLineFeed m.names n) at (plain.names k n h) feed
 
   -- what isn't written is too large, or the writer stopped it
-  pub unwritten : {W : Type 0} (held : W → Option (List ℕ)) (failed : W → Bool) (w made : W) (e : WriteError)
+  pub unwritten : {W : Type 0} (held : W → Option (List ℕ)) (failed : W → Bool) (w made : W) (e :
+      WriteError)
       → IsVerdictOf m (Err e) → IsRefusal e ⊎ (e ≡ write.Stream)
-      → (e ≡ write.Stream → AppendsBeginning (held w) (held made) (text_of m) × IsTrue (failed made))
+      → (e ≡ write.Stream → AppendsBeginning (held w) (held made) (text_of m) × IsTrue (failed
+      made))
       → (e ≢ write.Stream → made ≡ w) → WritesText held failed m w (Err (edit_fault e)) made
   unwritten held failed w made write.TooLarge told fault stops kept = (told.3, kept (λ is. cc))
   unwritten held failed w made write.Stream told fault stops kept =
@@ -69,15 +85,18 @@ module _ (m : Circuit) (plain : IsPlain m) where
   unwritten held failed w made write.Open told (inl refused) stops kept = absurd refused
   unwritten held failed w made write.Open told (inr is) stops kept = cc
 
-module _ {W : Type 0} (held : W → Option (List ℕ)) (failed : W → Bool) (edit : Edit) (limit : ℕ) (c : Circuit) (w : W) where
+module _ {W : Type 0} (held : W → Option (List ℕ)) (failed : W → Bool) (edit : Edit) (limit : ℕ) (c
+    : Circuit) (w : W) where
   -- no text is written
-  pub unprinted : (e : EditError) → Edits edit limit c (Err e) → PrintsCircuit held failed edit limit c w (Err e) w
+  pub unprinted : (e : EditError) → Edits edit limit c (Err e) → PrintsCircuit held failed edit
+      limit c w (Err e) w
   unprinted errors.Write told = absurd told
   unprinted errors.TooLarge told = absurd told
   unprinted e told = (told, refl)
 
   -- or that of what was made
-  pub printed : (m : Circuit) (r : Result (Unit {0}) EditError) (made : W) → Edits edit limit c (Ok m)
+  pub printed : (m : Circuit) (r : Result (Unit {0}) EditError) (made : W) → Edits edit limit c (Ok
+      m)
       → WritesText held failed m w r made → PrintsCircuit held failed edit limit c w r made
   printed m (Ok u) made edited told = (m, edited, told)
   printed m (Err errors.Write) made edited told = (m, edited, told)

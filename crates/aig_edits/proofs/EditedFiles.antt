@@ -1,64 +1,101 @@
 -- What is printed of the circuit of a file is printed of the file.
-use Rattle.std.proofs.Common.{◌≡◌, ◌≢◌, ℕ, Bool, List, [], ◌∷◌, Option, Result, Ok, Err, map, refl, sym, ap, subst}
+use Rattle.std.proofs.Common.{◌≡◌, ℕ, ◌<◌, Bool, List, [], ◌∷◌, Option, Result, Ok, Err, map, refl, sym, ap, subst}
 use Rattle.std.specs.Prelude.{IfErr}
+use Rattle.std.proofs.lemmas.List.{length-map}
 use Rattle.aig_circuit.specs.Circuit.{Circuit}
 use Rattle.aig_format.specs.Circuit.{IsReadAgain, circuit_of, edge_of, file_of}
 use Rattle.aig_format.specs.declared.FileKind.TheVariants.{Text}
 use Rattle.aig_format.specs.File.{File}
 use Rattle.aig_format.specs.Fits.{Accepts, Fits}
 use Rattle.aig.specs.Reading.{IsFileCircuit}
-use Rattle.aig_reader.specs.declared.error.ReadError.{ReadError}
-use Rattle.aig_reader.specs.declared.error.ReadError.TheVariants as read
 use Rattle.aig_reader.specs.Reading.{IsReadAs}
-use Rattle.aig_reader.specs.Verdicts as reading
-use Rattle.aig_reader.specs.Verdicts.{Accepted, IsOfFile, Judges, verdict_by}
-use Rattle.aig_reader.proofs.Verdicts.{of_no_file}
+use Rattle.aig_reader.specs.Verdicts.{Accepted, Judges, verdict_by}
 use Rattle.aig_edits.specs.declared.edit.Edit.{Edit}
 use Rattle.aig_edits.specs.declared.edit.Edit.TheVariants as edits
 use Rattle.aig_edits.specs.declared.edit_error.EditError.{EditError}
 use Rattle.aig_edits.specs.declared.edit_error.EditError.TheVariants as errors
 use Rattle.aig_edits.specs.Edits.{CanEdit, EditShows, IsEditOwn, IsEditUnwritten, IsEdited, PrintsEdit, ReadsFile, edit_verdict}
 use Rattle.aig_edits.specs.EditParts.{CanEditCircuit, PrintsCircuit}
+use Rattle.aig_edits.proofs.ReadFiles.{taken_file}
 
-none_back : (f : File) (es : List ℕ) → map (edge_of f) es ≡ [] → es ≡ []
+pub none_back : (f : File) (es : List ℕ) → map (edge_of f) es ≡ [] → es ≡ []
 none_back f [] is = refl
 none_back f (e ∷ es) is = cc
 
 -- the edit can be made of the file where it can of its circuit
 can_back : (edit : Edit) (f : File) → CanEditCircuit edit (circuit_of f) → CanEdit edit f
 can_back edits.Bads f can = none_back f f.properties.bads can
+can_back (edits.Cone n) f can = subst (λ count. n < count) (length-map f.properties.outputs (edge_of
+    f)) can
 can_back edit f can = can
 
 can_forth : (edit : Edit) (f : File) → CanEdit edit f → CanEditCircuit edit (circuit_of f)
 can_forth edits.Bads f can = ap (map (edge_of f)) can
+can_forth (edits.Cone n) f can = subst (λ count. n < count) (sym (length-map f.properties.outputs
+    (edge_of f))) can
 can_forth edit f can = can
 
-module _ {W : Type 0} (held : W → Option (List ℕ)) (failed : W → Bool) (edit : Edit) (limit : ℕ) (w made : W) where
-  module _ (f : File) (shows : (m : Circuit) → IsEdited edit (circuit_of f) m → IsReadAgain m (file_of Text m) → EditShows edit f (file_of Text m)) where
-    of_circuit : (r : Result (Unit {0}) EditError) → PrintsCircuit held failed edit limit (circuit_of f) w r made
+module _ {W : Type 0} (held : W → Option (List ℕ)) (failed : W → Bool) (edit : Edit) (limit : ℕ) (w
+    made : W) where
+  module _ (f : File) (shows : (m : Circuit) → IsEdited edit (circuit_of f) m → IsReadAgain m
+      (file_of Text m) → EditShows edit f (file_of Text m)) where
+    of_circuit : (r : Result (Unit {0}) EditError) → PrintsCircuit held failed edit limit
+        (circuit_of f) w r made
         → PrintsEdit held failed edit limit w made f r
     of_circuit (Ok u) (m, edited, told) = (
       m,
       record {
-        edit_of = record { can = can_back edit f edited.0; within = edited.1; edited = edited.2; small = told.0 };
+        edit_of = record {
+          can = can_back edit f edited.0;
+          within = edited.1;
+          edited = edited.2;
+          small = told.0;
+        };
         again = told.1;
         shows = shows m edited.2 told.1;
       },
       told.2,
       told.3,
     )
-    of_circuit (Err errors.Write) (m, edited, told) =
-        (m, record { can = can_back edit f edited.0; within = edited.1; edited = edited.2; small = told.0 }, told.1)
-    of_circuit (Err errors.TooLarge) (m, edited, told) = (can_back edit f edited.0, edited.1, (m, edited.2, told.0))
-    of_circuit (Err errors.HasBads) (not, same) = λ can. not (can_forth edit f can)
+    of_circuit (Err errors.Write) (m, edited, told) = (
+      m,
+      record {
+        can = can_back edit f edited.0;
+        within = edited.1;
+        edited = edited.2;
+        small =
+            told.0;
+      },
+      told.1,
+    )
+    of_circuit (Err errors.TooLarge) (m, edited, told) = (
+      can_back edit f edited.0,
+      edited.1,
+      (
+        m,
+        edited.2,
+        told.0,
+      ),
+    )
+    of_circuit (Err errors.HasBads) ((is, not), same) = (is, λ can. not (can_forth edit f can))
+    of_circuit (Err errors.NoOutput) ((n, is, not), same) = (
+      n,
+      is,
+      λ can. not (can_forth edit f
+          can),
+    )
     of_circuit (Err errors.PassesLimit) ((can, not), same) = (can_back edit f can, not)
     of_circuit (Err errors.Memory) ((can, within), same) = (can_back edit f can, within)
+    of_circuit (Err errors.NoBads) (wrong, same) = absurd wrong
+    of_circuit (Err errors.QuestionTooLarge) (wrong, same) = absurd wrong
     of_circuit (Err (errors.Read e)) (wrong, same) = absurd wrong
 
     -- of the circuit that was read
     pub printed_file : (c : Circuit) (r : Result (Unit {0}) EditError) → c ≡ circuit_of f
-        → PrintsCircuit held failed edit limit c w r made → PrintsEdit held failed edit limit w made f r
-    printed_file c r is told = of_circuit r (subst (λ c. PrintsCircuit held failed edit limit c w r made) is told)
+        → PrintsCircuit held failed edit limit c w r made → PrintsEdit held failed edit limit w made
+        f r
+    printed_file c r is told = of_circuit r (subst (λ c. PrintsCircuit held failed edit limit c w r
+        made) is told)
 
   module _ (c : Circuit) where
     -- the file was taken
@@ -68,12 +105,14 @@ module _ {W : Type 0} (held : W → Option (List ℕ)) (failed : W → Bool) (ed
     taken (Err (errors.Read e)) told = absurd told.0
     taken (Err e) told = refl
 
-    pub own : (r : Result (Unit {0}) EditError) → PrintsCircuit held failed edit limit c w r made → IfErr r IsEditOwn
+    pub own : (r : Result (Unit {0}) EditError) → PrintsCircuit held failed edit limit c w r made →
+        IfErr r IsEditOwn
     own (Ok u) told = tt
     own (Err (errors.Read e)) told = absurd told.0
     own (Err e) told = tt
 
-    pub kept : (r : Result (Unit {0}) EditError) → PrintsCircuit held failed edit limit c w r made → IsEditUnwritten r → made ≡ w
+    pub kept : (r : Result (Unit {0}) EditError) → PrintsCircuit held failed edit limit c w r made →
+        IsEditUnwritten r → made ≡ w
     kept (Ok u) told not = absurd not
     kept (Err errors.Write) told not = absurd not
     kept (Err errors.TooLarge) told not = told.2.1
@@ -81,32 +120,20 @@ module _ {W : Type 0} (held : W → Option (List ℕ)) (failed : W → Bool) (ed
 
 -- ---- of what was read
 
-module _ {R W : Type 0} (left : R → Option (List ℕ)) (read_failed : R → Bool) (held : W → Option (List ℕ)) (failed : W → Bool) (edit : Edit) (limit : ℕ) (r rest : R) where
-  -- the file is refused
-  pub refused_edit : (w : W) (e : ReadError) → Judges (λ _. Accepted) limit (left r) (left rest) (read_failed rest) (reading.verdict_of e)
-      → e ≢ read.Open
-      → ReadsFile left read_failed limit (PrintsEdit held failed edit limit w w) edit_verdict IsEditOwn r (Err (errors.Read e)) rest
-  refused_edit w e said opened = record {
-    verdict = said;
-    answer = λ is. absurd (of_no_file e (subst IsOfFile (sym is) tt));
-    own = opened;
-  }
-
+module _ {R W : Type 0} (left : R → Option (List ℕ)) (read_failed : R → Bool) (held : W → Option
+    (List ℕ)) (failed : W → Bool) (edit : Edit) (limit : ℕ) (r rest : R) where
   -- it is taken, and the edit of its circuit is printed
   pub reads_edit : (w made : W) (c : Circuit) (result : Result (Unit {0}) EditError)
-      → ((edit : Edit) (f : File) (limit : ℕ) (m : Circuit) → Fits f limit → IsEdited edit (circuit_of f) m → IsReadAgain m (file_of Text m) → EditShows edit f (file_of Text m))
+      → ((edit : Edit) (f : File) (limit : ℕ) (m : Circuit) → Fits f limit → IsEdited edit
+      (circuit_of f) m → IsReadAgain m (file_of Text m) → EditShows edit f (file_of Text m))
       → Judges (λ _. Accepted) limit (left r) (left rest) (read_failed rest) Accepted
       → IsReadAs (λ bytes. Accepts bytes limit) IsFileCircuit (left r) (left rest) c
       → PrintsCircuit held failed edit limit c w result made
-      → ReadsFile left read_failed limit (PrintsEdit held failed edit limit w made) edit_verdict IsEditOwn r result rest
-  reads_edit w made c result shows said was told = record {
-    verdict = subst (Judges (λ _. Accepted) limit (left r) (left rest) (read_failed rest)) (sym (taken held failed edit limit w made c result told)) said;
-    answer = λ is. record {
-      file = was.file;
-      bytes = was.bytes;
-      holds = was.holds;
-      means = printed_file held failed edit limit w made was.file (λ m. shows edit was.file limit m was.holds.1) c result was.means told;
-      taken = was.taken;
-    };
-    own = own held failed edit limit w made c result told;
-  }
+      → ReadsFile left read_failed limit (PrintsEdit held failed edit limit w made) edit_verdict
+      IsEditOwn r result rest
+  reads_edit w made c result shows said was told =
+      taken_file left read_failed limit r rest (PrintsEdit held failed edit limit w made) c result
+      said was (taken held failed edit limit w made c result told) (own held failed edit limit w
+      made c result told)
+      (λ f fits is. printed_file held failed edit limit w made f (λ m. shows edit f limit m fits) c
+      result is told)

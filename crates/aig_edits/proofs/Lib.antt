@@ -4,3 +4,6 @@ pub mod JointFiles
 pub mod Printed
 pub mod Edited
 pub mod EditedFiles
+pub mod ReadFiles
+pub mod Asking
+pub mod Depths

@@ -54,28 +54,29 @@ module _ {R S : Type 0} (left : R → Option (List ℕ)) (failed : R → Bool)
       → Means f g result → Also f g made)
       → ReadsPair left failed left_of failed_of limit Also also_first also_second AlsoOwn r s made
       rest other
-  reads_on {result = result} Also also_first also_second AlsoOwn made told same also_same own means = record {
-    verdict = subst (Judges (λ _. Accepted) limit (left r) (left rest) (failed rest)) (sym same)
-        told.verdict;
-    other_verdict = λ h.
-        subst (Judges (λ _. Accepted) limit (left_of s) (left_of other) (failed_of other))
-        (sym also_same) (told.other_verdict (sym same ∙ h));
-    unread = λ h. told.unread (λ is. h (same ∙ is));
-    answer = λ h k.
-        let f = told.answer (sym same ∙ h) (sym also_same ∙ k) in
-        let g = f.means in
-        record {
-          file = f.file;
-          bytes = f.bytes;
-          holds = f.holds;
-          means = record {
-            file = g.file;
-            bytes = g.bytes;
-            holds = g.holds;
-            means = means f.file g.file f.bytes g.bytes f.holds g.holds g.means;
-            taken = g.taken;
-          };
-          taken = f.taken;
-        };
-    own = own;
-  }
+  reads_on {result = result} Also also_first also_second AlsoOwn made told same also_same own means
+      = record {
+        verdict = subst (Judges (λ _. Accepted) limit (left r) (left rest) (failed rest)) (sym same)
+            told.verdict;
+        other_verdict = λ h.
+            subst (Judges (λ _. Accepted) limit (left_of s) (left_of other) (failed_of other))
+            (sym also_same) (told.other_verdict (sym same ∙ h));
+        unread = λ h. told.unread (λ is. h (same ∙ is));
+        answer = λ h k.
+            let f = told.answer (sym same ∙ h) (sym also_same ∙ k) in
+            let g = f.means in
+            record {
+              file = f.file;
+              bytes = f.bytes;
+              holds = f.holds;
+              means = record {
+                file = g.file;
+                bytes = g.bytes;
+                holds = g.holds;
+                means = means f.file g.file f.bytes g.bytes f.holds g.holds g.means;
+                taken = g.taken;
+              };
+              taken = f.taken;
+            };
+        own = own;
+      }

@@ -1,6 +1,6 @@
 -- Part of what is promised.
 -- What is made of one file: the circuit that an edit makes of its circuit, and that circuit's text.
-use Rattle.std.specs.Prelude.{◌≡◌, ◌≢◌, ℕ, ◌≤◌, ◌↔◌, Bool, false, List, [], length, Option, Result, Ok, Err, IfErr}
+use Rattle.std.specs.Prelude.{◌≡◌, ◌≢◌, ℕ, ◌<◌, ◌≤◌, ◌↔◌, Bool, false, List, [], length, Option, Result, Ok, Err, IfErr}
 use Rattle.std.specs.Io.KnownBytes.{Appends}
 use Rattle.aig.specs.declared.aiger.WriteError.{WriteError}
 use Rattle.aig.specs.declared.aiger.WriteError.TheVariants as write
@@ -9,7 +9,7 @@ use Rattle.aig_change.specs.Changes.{CompressesBads, FoldsConstraints}
 use Rattle.aig_circuit.specs.Circuit.{Circuit}
 use Rattle.aig_circuit.specs.Reencode.{reencoded}
 use Rattle.aig_cone.specs.Refine.{AreKept, refined}
-use Rattle.aig_edit_laws.specs.Shown.{HasBadBy, HasOutput, HasWitness, outputs_as_bads}
+use Rattle.aig_edit_laws.specs.Shown.{HasBadBy, HasOutput, HasOutputAt, HasWitness, IsConeOf, outputs_as_bads}
 use Rattle.aig_format.specs.Circuit.{IsReadAgain, circuit_of, file_of, text_of}
 use Rattle.aig_format.specs.declared.FileKind.TheVariants.{Text}
 use Rattle.aig_format.specs.File.{File}
@@ -20,7 +20,6 @@ use Rattle.aig_reader.specs.declared.error.ReadError.TheVariants as read
 use Rattle.aig_reader.specs.Reading.{IsReadAs}
 use Rattle.aig_reader.specs.Verdicts as reading
 use Rattle.aig_reader.specs.Verdicts.{Accepted, Judges, Verdict, verdict_by}
-use Rattle.aig_reduction.specs.Reduction.{IsReduced}
 use Rattle.aig_unroll.specs.Places.{unrolled_size}
 use Rattle.aig_unroll.specs.Unroll.{UnrollsBySteps, UnrollsTo}
 use Rattle.aig_edits.specs.declared.edit.Edit.{Edit}
@@ -30,9 +29,10 @@ use Rattle.aig_edits.specs.declared.edit_error.EditError.TheVariants as errors
 
 -- ---- the circuit
 
--- outputs become bad literals only where there are none
+-- outputs become bad literals only where there are none, and a cone is that of an output
 abbrev pub CanEdit : Edit → File → Type 0
 CanEdit edits.Bads f = f.properties.bads ≡ []
+CanEdit (edits.Cone n) f = n < length f.properties.outputs
 CanEdit edit f = Unit {0}
 
 -- the circuit with its further steps, if there are any, may not pass the limit
@@ -48,22 +48,22 @@ IsEdited (edits.Unroll k) c m = UnrollsTo c k m × UnrollsBySteps c k m
 IsEdited edits.Move c m = FoldsConstraints c m
 IsEdited edits.Compress c m = CompressesBads c m
 IsEdited edits.Bads c m = m ≡ outputs_as_bads c
-IsEdited edits.Reduce c m = IsReduced c m
+IsEdited (edits.Cone n) c m = IsConeOf n c m
 
 -- at each step one machine is safe exactly where the other is
 abbrev pub AreAsSafe : File → File → Type 0
 AreAsSafe f h = (k : ℕ) → IsSafeAt h k ↔ IsSafeAt f k
 
 -- What the machine of the written file h shows of that of the file f that was read: the safety of
--- each step; the bad literals of all steps at step 0; or the outputs.
+-- each step; the bad literals of all steps at step 0; the outputs; or one of them.
 abbrev pub EditShows : Edit → File → File → Type 0
 EditShows edits.Refine f h = AreAsSafe f h
 EditShows edits.Reencode f h = AreAsSafe f h
 EditShows (edits.Unroll k) f h = HasWitness h 0 ↔ HasBadBy f k
 EditShows edits.Move f h = length f.properties.bads ≤ 1 → AreAsSafe f h
 EditShows edits.Compress f h = AreAsSafe f h
-EditShows edits.Reduce f h = AreAsSafe f h
 EditShows edits.Bads f h = (k : ℕ) → HasWitness h k ↔ HasOutput f k
+EditShows (edits.Cone n) f h = (k : ℕ) → HasOutput h k ↔ HasOutputAt f n k
 
 -- the edit makes the circuit of the file's, and it fits the format
 pub record IsEditOf (edit : Edit) (limit : ℕ) (f : File) (m : Circuit) : Type 0 where
@@ -97,7 +97,8 @@ IsEditOwn e = Unit {0}
 
 -- why the edit isn't written
 abbrev pub IsEditRefusal : Edit → ℕ → File → EditError → Type 0
-IsEditRefusal edit limit f errors.HasBads = ¬ CanEdit edit f
+IsEditRefusal edit limit f errors.HasBads = (edit ≡ edits.Bads) × (¬ CanEdit edit f)
+IsEditRefusal edit limit f errors.NoOutput = (n : ℕ) × (edit ≡ edits.Cone n) × (¬ CanEdit edit f)
 IsEditRefusal edit limit f errors.PassesLimit =
     CanEdit edit f × ¬ AreStepsWithin edit limit (circuit_of f)
 IsEditRefusal edit limit f errors.TooLarge =

@@ -3,3 +3,9 @@ pub mod Joints
 pub mod Parts
 pub mod Edits
 pub mod EditParts
+pub mod Info
+pub mod Levels
+pub mod Questions
+pub mod Reductions
+pub mod QuestionFaults
+pub mod QuestionParts

@@ -15,7 +15,7 @@ pub enum Edit {
     Compress,
     /// The circuit with its outputs as its bad edges, and no outputs: files from before AIGER 1.9 have no others.
     Bads,
-    /// The circuit of what bad edges, constraints and latches read, hashed, with no other properties (`reduced` of the crate
-    /// `aig_reduction`). All latches stay.
-    Reduce,
+    /// The circuit of what the output of this number, from 0 on, the constraints, the latches and the initial edges that aren't
+    /// constant reach, with that output and the constraints as the only properties.
+    Cone(usize),
 }

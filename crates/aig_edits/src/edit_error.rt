@@ -3,9 +3,11 @@
 ghost use Rattle.std.specs.Prelude.{◌≡◌};
 ghost use Rattle.aig_edits.specs.declared.edit_error.EditError.TheVariants as errors;
 ghost use Rattle.aig_edits.specs.Edits.{edit_fault};
+ghost use Rattle.aig_edits.specs.QuestionFaults.{question_fault};
 
 use aig::WriteError;
 use aig_base::{MemoryError, StreamFault};
+use aig_bounded::BoundedError;
 use aig_reader::ReadError;
 use thiserror::Error;
 
@@ -18,6 +20,15 @@ pub enum EditError {
     /// The file has bad literals, where its outputs would become them.
     #[error("has bad states already")]
     HasBads,
+    /// The file has no output of the number that is asked for.
+    #[error("no such output")]
+    NoOutput,
+    /// The file has no bad literal, so that its question asks for nothing.
+    #[error("no bad state property")]
+    NoBads,
+    /// The question has more nodes than the limit while it is made.
+    #[error("question passes the limit")]
+    QuestionTooLarge,
     /// The circuit with its further steps may have more nodes than the limit.
     #[error("unrolled circuit may pass the limit")]
     PassesLimit,
@@ -45,6 +56,17 @@ impl From<MemoryError> for EditError {
 
     fn from(_error: MemoryError) -> EditError {
         EditError::Memory
+    }
+}
+
+impl From<BoundedError> for EditError {
+    ghost from_gives = { λ e r. r ≡ question_fault e };
+
+    fn from(error: BoundedError) -> EditError {
+        match error {
+            BoundedError::TooLarge => EditError::QuestionTooLarge,
+            BoundedError::Memory => EditError::Memory,
+        }
     }
 }
 

@@ -9,7 +9,8 @@ ghost use Rattle.aig_format.specs.File.{File};
 ghost use Rattle.aig_format.specs.Fits.{Fits};
 ghost use Rattle.aig_format.specs.Writable.{IsWritable};
 ghost use Rattle.aig_edits.specs.declared.edit.Edit.{Edit};
-ghost use Rattle.aig_edits.specs.Edits.{EditShows, IsEditOwn, IsEditUnwritten, IsEdited, PrintsEdit, ReadsFile, edit_verdict};
+ghost use Rattle.aig_reduction.specs.Reduction.{HaveSameWitnesses};
+ghost use Rattle.aig_edits.specs.Edits.{AreAsSafe, EditShows, IsEditOwn, IsEditUnwritten, IsEdited, PrintsEdit, ReadsFile, edit_verdict};
 ghost use Rattle.aig_edits.specs.EditParts.{PrintsCircuit, WritesText};
 
 use crate::edit::Edit;
@@ -19,14 +20,24 @@ use aig::Aig;
 use aig_base::{Sink, Source};
 use aig_cone::{refining_is_circuit, refining_keeps_runs};
 use aig_edit_laws::{
-    changed_circuits_keep_witnesses, outputs_become_bads, shown_runs_are_machine_runs,
-    unrolled_witnesses_are_runs, written_circuits_have_witnesses,
+    changed_circuits_keep_witnesses, cones_show_their_output, outputs_become_bads,
+    shown_runs_are_machine_runs, unrolled_witnesses_are_runs, written_circuits_have_outputs,
+    written_circuits_have_witnesses,
 };
 use aig_format_laws::files_are_circuits;
 use aig_reduction::runs_keep_witnesses;
 use aig_renumber::reencoding_keeps_runs;
 use aig_runs::safe_circuits_are_safe_machines;
 use std::alloc::Global;
+
+/// Law: the machine of a file that is read again as a circuit is as safe as that of a file whose circuit has the same witnesses.
+pub(crate) fn same_witnesses_are_as_safe()
+    ensures { (f : File) (limit : ℕ) (m : Circuit) → Fits f limit → IsReadAgain m (file_of Text m)
+        → HaveSameWitnesses (circuit_of f) m → AreAsSafe f (file_of Text m) }
+{
+    safe_circuits_are_safe_machines();
+    written_circuits_have_witnesses();
+}
 
 /// Law: the machine of a file that is read again as an edited circuit shows what the edit says.
 fn edited_files_show()
@@ -35,7 +46,7 @@ fn edited_files_show()
         → EditShows edit f (file_of Text m) }
 {
     files_are_circuits();
-    safe_circuits_are_safe_machines();
+    same_witnesses_are_as_safe();
     refining_is_circuit();
     refining_keeps_runs();
     reencoding_keeps_runs();
@@ -43,8 +54,10 @@ fn edited_files_show()
     changed_circuits_keep_witnesses();
     unrolled_witnesses_are_runs();
     outputs_become_bads();
+    cones_show_their_output();
     shown_runs_are_machine_runs();
     written_circuits_have_witnesses();
+    written_circuits_have_outputs();
 }
 
 /// Writes the text form of a circuit, if it fits the format.
@@ -82,6 +95,7 @@ fn print_edited<W: Sink>(
 ///
 /// - `Read`: the file is refused.
 /// - `HasBads`: outputs would become bad literals, and the file has some.
+/// - `NoOutput`: the file has no output of the number whose cone is asked for.
 /// - `PassesLimit`: `n + k * (n - 1 - l)` passes `limit`, for `k` further steps of the `n` nodes and `l` latches of the circuit.
 /// - `TooLarge`: the circuit that was made has more than 2^31 nodes, or more than 2^32 - 1 entries in a list or a justice set.
 /// - `Memory`: memory was refused after the reading.

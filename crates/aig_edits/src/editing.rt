@@ -1,6 +1,6 @@
 //! Editing the circuit of a file.
 
-ghost use Rattle.std.specs.Prelude.{◌≡◌, ◌≤◌, ◌↔◌, ℕ, List, [], IsTrue};
+ghost use Rattle.std.specs.Prelude.{◌≡◌, ◌≤◌, ◌↔◌, ℕ, List, [], IsTrue, Some, slice_get};
 ghost use Rattle.aig_circuit.specs.Circuit.{Circuit};
 ghost use Rattle.aig_edit_laws.specs.Plain.{IsPlain};
 ghost use Rattle.aig_format.specs.Writable.{IsWritable};
@@ -10,8 +10,8 @@ ghost use Rattle.aig_edits.specs.declared.edit.Edit.TheVariants as edits;
 
 use crate::edit::Edit;
 use crate::edit_error::EditError;
-use aig::{Aig, PropList};
-use aig_edit_laws::{changed_circuits_are_plain, reductions_are_plain};
+use aig::{Aig, AigEdge, PropList};
+use aig_edit_laws::changed_circuits_are_plain;
 use aig_format_laws::binary_is_read;
 
 /// Cuts a circuit to its cone of influence.
@@ -77,14 +77,21 @@ fn with_outputs_as_bads(mut circuit: Aig) -> Result<Aig, EditError>
     Ok(circuit)
 }
 
-/// Keeps what bad edges, constraints and latches read, and hashes it.
-fn reduced(circuit: Aig) -> Result<Aig, EditError>
-    requires { IsWritable circuit }
-    ensures { Yields edits.Reduce circuit result }
+/// Keeps what output `n`, constraints and latches read, with that output and the constraints as the only properties.
+fn cone(mut graph: Aig, n: usize, output: AigEdge) -> Result<Aig, EditError>
+    requires plain { IsWritable graph }
+    requires there { slice_get graph.properties.outputs n ≡ Some output }
+    ensures { Yields (edits.Cone n) graph result }
 {
-    reductions_are_plain();
-    let _nodes = circuit.nodes();
-    Ok(aig_reduction::reduced(circuit)?)
+    changed_circuits_are_plain();
+    let _nodes = graph.nodes();
+    graph.clear_edges(PropList::Outputs);
+    graph.push_edge(PropList::Outputs, output)?;
+    graph.clear_edges(PropList::Bads);
+    graph.clear_justice();
+    graph.clear_edges(PropList::Fairness);
+    let (made, _old_numbers) = graph.coi_refine()?;
+    Ok(made)
 }
 
 /// Whether a circuit with so many further steps has at most `limit` nodes, by the bound that `unroll_to` keeps.
@@ -108,6 +115,10 @@ pub(crate) fn edited(edit: &Edit, circuit: Aig, limit: usize) -> Result<Aig, Edi
         Edit::Compress => compressed(circuit),
         Edit::Bads if !circuit.bads().is_empty() => Err(EditError::HasBads),
         Edit::Bads => with_outputs_as_bads(circuit),
-        Edit::Reduce => reduced(circuit),
+        Edit::Cone(n) if *n >= circuit.outputs().len() => Err(EditError::NoOutput),
+        Edit::Cone(n) => {
+            let output = circuit.outputs()[*n];
+            cone(circuit, *n, output)
+        }
     }
 }

@@ -1,5 +1,8 @@
 mod Carrying
 pub mod Witnesses
+pub mod Asked
+pub mod Dropped
+mod Sets
 mod Sizes
 mod Reducing
 mod Alone

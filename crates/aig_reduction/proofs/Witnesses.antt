@@ -4,10 +4,11 @@ use Rattle.aig_circuit.specs.Circuit.{Circuit, IsCircuit}
 use Rattle.aig_circuit.specs.Runs.{KeepsRuns}
 use Rattle.aig_cone.specs.Refine.{CutsRuns, cut_to}
 use Rattle.aig_runs.specs.CircuitQueries.{HasCircuitWitness}
-use Rattle.aig_reduction.specs.Reduction.{HaveSameWitnesses, asked_alone}
+use Rattle.aig_reduction.specs.Reduction.{HaveSameWitnesses}
 use Rattle.aig_reduction.proofs.Carrying.{witness_agrees, witness_back, witness_forth}
 
-pub renumbered_witnesses : (old new : Circuit) (number : ℕ → ℕ) → IsCircuit old → KeepsRuns old new number → HaveSameWitnesses old new
+pub renumbered_witnesses : (old new : Circuit) (number : ℕ → ℕ) → IsCircuit old
+    → KeepsRuns old new number → HaveSameWitnesses old new
 renumbered_witnesses old new number is keeps k = (forth, back)
   where
     under : (ℕ → ℕ → Bool) → ℕ → ℕ → Bool
@@ -28,7 +29,8 @@ renumbered_witnesses old new number is keeps k = (forth, back)
         let w = witness_agrees old is k x cut (λ t n h leaf. sym ((keeps.each (x t)).1 n leaf)) s.1 in
         (z, witness_forth old new k cut z (λ t. keeps.properties (z t)) ((keeps.runs k z).1 w.is_run) ((keeps.starts (z 0)).1 w.start) w)
 
-pub cut_witnesses : (old new : Circuit) (kept : List ℕ) → IsCircuit new → CutsRuns old new kept → HaveSameWitnesses old new
+pub cut_witnesses : (old new : Circuit) (kept : List ℕ) → IsCircuit new → CutsRuns old new kept
+    → HaveSameWitnesses old new
 cut_witnesses old new kept is cuts k = (forth, back)
   where
     forth : HasCircuitWitness old k → HasCircuitWitness new k
@@ -46,12 +48,7 @@ cut_witnesses old new kept is cuts k = (forth, back)
         let w = witness_agrees new is k s.0 z (λ t n h leaf. sym (e.2 t n leaf)) s.1 in
         (x, witness_back old new k x z (λ t. cuts.properties (x t)) e.1 ((cuts.starts (x 0)).0 w.start) w)
 
--- outputs, justice and fairness have no part in it
-pub alone_witnesses : (c : Circuit) → HaveSameWitnesses c (asked_alone c)
-alone_witnesses c k = (
-  λ s. let w = s.1 in (s.0, record { is_run = w.is_run; start = w.start; constraints = w.constraints; bad = w.bad }),
-  λ s. let w = s.1 in (s.0, record { is_run = w.is_run; start = w.start; constraints = w.constraints; bad = w.bad }),
-)
-
-pub both_witnesses : (c d e : Circuit) → HaveSameWitnesses c d → HaveSameWitnesses d e → HaveSameWitnesses c e
-both_witnesses c d e first second k = (λ s. (second k).0 ((first k).0 s), λ s. (first k).1 ((second k).1 s))
+pub both_witnesses : (c d e : Circuit) → HaveSameWitnesses c d → HaveSameWitnesses d e
+    → HaveSameWitnesses c e
+both_witnesses c d e first second k =
+    (λ s. (second k).0 ((first k).0 s), λ s. (first k).1 ((second k).1 s))

@@ -4,18 +4,24 @@ ghost use Rattle.std.specs.Prelude.{◌≡◌, ℕ, List};
 ghost use Rattle.aig_circuit.specs.Circuit.{Circuit, IsCircuit};
 ghost use Rattle.aig_circuit.specs.Runs.{KeepsRuns};
 ghost use Rattle.aig_cone.specs.Refine.{CutsRuns};
-ghost use Rattle.aig_reduction.specs.Reduction.{HaveSameWitnesses, IsReduced, asked_alone};
+ghost use Rattle.aig_reduction.specs.Reduction.{HaveSameWitnesses, IsAskedCone, IsReduced, asked_alone};
 
 /// Law: a circuit whose runs are another's, under new numbers or cut to the kept leaves, has a witness at each step exactly
-/// where that one has; and outputs, justice and fairness have no part in it.
+/// where that one has; and outputs, justice, fairness, and latches out of the cone of what is asked have no part in it.
 pub fn runs_keep_witnesses()
     ensures renumbered { (old new : Circuit) (number : ℕ → ℕ)
         → IsCircuit old → KeepsRuns old new number → HaveSameWitnesses old new }
     ensures cut { (old new : Circuit) (kept : List ℕ)
         → IsCircuit new → CutsRuns old new kept → HaveSameWitnesses old new }
-    ensures others { (c : Circuit) → HaveSameWitnesses c (asked_alone c) }
+    ensures others { (c : Circuit) (cone : List ℕ)
+        → IsCircuit c → IsAskedCone c cone → HaveSameWitnesses c (asked_alone cone c) }
     ensures both { (c d e : Circuit)
         → HaveSameWitnesses c d → HaveSameWitnesses d e → HaveSameWitnesses c e }
+{}
+
+/// Law: a circuit with the latches alone that its query's cone reaches is a circuit.
+pub fn asked_circuits_are_circuits()
+    ensures { (c : Circuit) (cone : List ℕ) → IsCircuit c → IsCircuit (asked_alone cone c) }
 {}
 
 /// Law: a circuit has one reduction.

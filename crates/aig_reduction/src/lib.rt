@@ -4,5 +4,5 @@
 mod laws;
 mod reduction;
 
-pub use laws::{reductions_are_alone, runs_keep_witnesses};
+pub use laws::{asked_circuits_are_circuits, reductions_are_alone, runs_keep_witnesses};
 pub use reduction::reduced;

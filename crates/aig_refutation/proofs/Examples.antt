@@ -1,7 +1,9 @@
 -- What the definitions say of small proofs: some follow, and wrong ones are refused.
-use Rattle.std.proofs.Common.{◌≡◌, ℕ, true, false, List, [], ◌∷◌, slice_get, refl}
+use Rattle.std.proofs.Common.{◌≡◌, ℕ, true, false, inl, inr, List, [], ◌∷◌, Option, Ok, Err, slice_get, refl, arith}
 use Rattle.aig_base.specs.declared.logic.literal.Lit.{Lit}
 use Rattle.aig_base.specs.Clauses.{lit_to}
+use Rattle.aig_refutation.specs.declared.error.RefutationError.TheVariants as errors
+use Rattle.aig_refutation.specs.Checking.{IsInConflict, Shows}
 use Rattle.aig_refutation.specs.Propagation.{is_rup}
 use Rattle.aig_refutation.specs.Steps.{Adds, Deletes, is_refutation}
 
@@ -72,3 +74,35 @@ unfinished = refl
 
 no_steps : is_refutation four [] ≡ false
 no_steps = refl
+
+-- ---- which results are shown
+
+-- a literal alone, and its inverse alone after another clause
+abbrev apart : List (List Lit)
+apart = (plain 0 ∷ []) ∷ (plain 0 ∷ plain 1 ∷ []) ∷ (inverted 0 ∷ []) ∷ []
+
+apart_in_conflict : IsInConflict apart
+apart_in_conflict = inr (plain 0, (0, omega arith, refl), (2, omega arith, refl))
+
+module _ (text : Option (List ℕ)) where
+  taken_at_once : Shows 2 apart text (Ok tt)
+  taken_at_once = record {
+    no_variable = λ out. cc;
+    in_conflict = λ _ _. refl;
+    by_steps = λ _ none. absurd (none apart_in_conflict);
+  }
+
+  -- clauses in conflict at once aren't refused
+  refused_at_once : Shows 2 apart text (Err errors.Step) → ⊥
+  refused_at_once shows = let wrong = shows.in_conflict refl apart_in_conflict in cc
+
+  refused_empty : Shows 2 ([] ∷ []) text (Err errors.Unfinished) → ⊥
+  refused_empty shows = let wrong = shows.in_conflict refl (inl (0, omega arith, refl)) in cc
+
+  -- a literal without a variable isn't passed over
+  out_taken : Shows 1 apart text (Ok tt) → ⊥
+  out_taken shows = let wrong = shows.no_variable refl in cc
+
+  -- and where each has one, none is said to have none
+  out_at_will : Shows 2 apart text (Err errors.Variable) → ⊥
+  out_at_will shows = let wrong = shows.in_conflict refl apart_in_conflict in cc

@@ -13,10 +13,10 @@ use Rattle.aig_base.specs.Clauses.{number_of_lit}
 use Rattle.aig_base.specs.Formula.{clauses_in}
 use Rattle.aig_refutation.specs.declared.error.RefutationError.{RefutationError}
 use Rattle.aig_refutation.specs.declared.error.RefutationError.TheVariants as errors
-use Rattle.aig_refutation.specs.Checking.{IsInConflict, Shows, all_live, are_all_in, are_in, shown_by}
+use Rattle.aig_refutation.specs.Checking.{IsInConflict, IsOutcome, Shows, all_live, are_all_in, are_in}
 use Rattle.aig_refutation.specs.Concluding.{IsFormula, RefusesFormula, ShowsText, text_outcome}
 use Rattle.aig_refutation.specs.Tables.{Checked, HoldsFormula}
-use Rattle.aig_refutation.specs.Words.{Tells}
+use Rattle.aig_refutation.specs.Words.{Says, Tells}
 use Rattle.aig_lexer.specs.Takes.{Feed}
 use Rattle.aig_refutation.proofs.Known.{tells_on}
 
@@ -141,12 +141,18 @@ formula_more old new clause before is same holds inside = record {
       new.table.clauses old.table.clauses clause is before.inside inside;
 }
 
+-- each literal of these clauses has a variable
+pub formula_inside : (checker : Checked) (n : ℕ) (clauses : List (List Lit)) → IsFormula checker
+    → checker.variables ≡ n → checker.table.clauses ≡ clauses → are_all_in n clauses ≡ true
+formula_inside checker n clauses holds variables list =
+    ap (are_all_in n) (sym list)
+    ∙ ap (λ (m : ℕ). are_all_in m checker.table.clauses) (sym variables) ∙ holds.inside
+
 -- ---- what is promised
 
 module _ (variables : ℕ) (clauses : List (List Lit)) (text : Option (List ℕ)) where
   abbrev IsShown : Result (Unit {0}) RefutationError → Type 0
-  IsShown result = are_all_in variables clauses ≡ true → (IsInConflict clauses → ⊥) → IfSome text (λ
-      bytes. IfSome (shown_by variables clauses bytes) (λ shown. result ≡ shown))
+  IsShown = IsOutcome variables clauses text
 
   pub shows_err : (e : RefutationError) → Tells e (IsShown (Err e)) → Shows variables clauses text
       (Err e)
@@ -166,14 +172,24 @@ module _ (variables : ℕ) (clauses : List (List Lit)) (text : Option (List ℕ)
   -- a literal has no variable
   pub shows_refused : (e : RefutationError) → Tells e ((e ≡ errors.Variable) ×
       (are_all_in variables clauses ≡ false)) → Shows variables clauses text (Err e)
-  shows_refused e h = shows_err e (tells_on e _ (IsShown (Err e)) (λ out inside conflict. absurd
-      (false≢true (sym out.1 ∙ inside))) h)
+  shows_refused e h = shows_err e (tells_on e _ (IsShown (Err e)) (λ wrong. record {
+    no_variable = λ _. ap (λ f. Err f) wrong.0;
+    in_conflict = λ inside. absurd (false≢true (sym wrong.1 ∙ inside));
+    by_steps = λ inside. absurd (false≢true (sym wrong.1 ∙ inside));
+  }) h)
+
+  -- there is no memory
+  pub shows_memory : (e : RefutationError) → Tells e ⊥ → Shows variables clauses text (Err e)
+  shows_memory e h = shows_err e (tells_on e ⊥ (IsShown (Err e)) (λ wrong. absurd wrong) h)
 
   -- the clauses are in conflict at once
-  pub shows_conflict : (e : RefutationError) → Tells e (IsInConflict clauses) → Shows variables
-      clauses text (Err e)
-  shows_conflict e h = shows_err e (tells_on e _ (IsShown (Err e)) (λ is inside conflict. absurd
-      (conflict is)) h)
+  pub shows_conflict : are_all_in variables clauses ≡ true → IsInConflict clauses
+      → Shows variables clauses text (Ok tt)
+  shows_conflict inside is = record {
+    no_variable = λ out. absurd (false≢true (sym out ∙ inside));
+    in_conflict = λ _ _. refl;
+    by_steps = λ _ none. absurd (none is);
+  }
 
   -- the text is known, or nothing is said of it
   known : (P : List ℕ → Type 0) → ((bytes : List ℕ) → text ≡ Some bytes → P bytes) → IfSome text P
@@ -189,11 +205,21 @@ module _ (variables : ℕ) (clauses : List (List Lit)) (text : Option (List ℕ)
   turned (Some x) r h = sym h
 
   -- the steps of the text were checked
-  pub shows_text : (f : Feed) → f.coming ≡ prepend_known [] text → (r : Result (Unit {0})
-      RefutationError) → ShowsText f (text_outcome variables (all_live clauses)) r → Shows variables
-      clauses text r
-  shows_text f is (Ok done) h = λ inside conflict. known _ (λ bytes there. turned (text_outcome
-      variables (all_live clauses) bytes) (Ok tt) (h bytes (is ∙ prepend_known-nil text ∙ there)))
-  shows_text f is (Err e) h = shows_err e (tells_on e _ (IsShown (Err e)) (λ says inside conflict.
-      known _ (λ bytes there. turned (text_outcome variables (all_live clauses) bytes) (Err e) (says
-      bytes (is ∙ prepend_known-nil text ∙ there)))) h)
+  module _ (inside : are_all_in variables clauses ≡ true) (none : IsInConflict clauses → ⊥)
+      (f : Feed) (is : f.coming ≡ prepend_known [] text) where
+    is_shown : (r : Result (Unit {0}) RefutationError)
+        → Says f (λ bytes. IfSome (text_outcome variables (all_live clauses) bytes) (λ x. x ≡ r))
+        → IsShown r
+    is_shown r says = record {
+      no_variable = λ out. absurd (false≢true (sym out ∙ inside));
+      in_conflict = λ _ conflict. absurd (none conflict);
+      by_steps = λ _ _. known _ (λ bytes there.
+          turned (text_outcome variables (all_live clauses) bytes) r
+          (says bytes (is ∙ prepend_known-nil text ∙ there)));
+    }
+
+    pub shows_text : (r : Result (Unit {0}) RefutationError)
+        → ShowsText f (text_outcome variables (all_live clauses)) r
+        → Shows variables clauses text r
+    shows_text (Ok done) h = is_shown (Ok tt) h
+    shows_text (Err e) h = shows_err e (tells_on e _ (IsShown (Err e)) (is_shown (Err e)) h)

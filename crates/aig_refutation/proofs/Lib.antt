@@ -21,3 +21,4 @@ mod Adding
 mod Showing
 mod Outcomes
 mod Formulas
+mod Conflicts

@@ -583,7 +583,7 @@ module _ (old : Table) (before : HoldsFormula old) (number : ℕ) (is : number �
   used_count : length (all_live old.clauses).used ≡ old.added
   used_count = omega (arith, before.holds.added, before.row.all, before.holds.table.numbering.few)
 
-  is_next : (clause : List Lit) → numbered_clause (all_live old.clauses) number clause ≡ Ok
+  pub is_next : (clause : List Lit) → numbered_clause (all_live old.clauses) number clause ≡ Ok
       (with_clause (all_live old.clauses) number clause)
   is_next clause =
       let few = before.holds.table.numbering.few in

@@ -117,14 +117,21 @@ shown_by variables clauses bytes =
 abbrev pub are_all_in : ℕ → List (List Lit) → Bool
 are_all_in variables clauses = list_all (are_in variables) clauses
 
--- A proof of known bytes whose first line that is a step has a number is taken exactly where its
--- steps refute the clauses, and refused for the reason that they have, memory and the stream
--- aside. Clauses that two of them, or one, refute at once need no proof, and those of which a
--- literal has no variable are refused.
-abbrev pub Shows : ℕ → List (List Lit) → Option (List ℕ) → Result (Unit {0}) RefutationError → Type
-    0
+-- the outcome of clauses and a proof's text
+pub record IsOutcome (variables : ℕ) (clauses : List (List Lit)) (text : Option (List ℕ))
+    (result : Result (Unit {0}) RefutationError) : Type 0 where
+  -- clauses of which a literal has no variable are refused
+  pub no_variable : are_all_in variables clauses ≡ false → result ≡ Err errors.Variable
+  -- those in conflict at once need no proof
+  pub in_conflict : are_all_in variables clauses ≡ true → IsInConflict clauses → result ≡ Ok tt
+  -- Of others, a proof of known bytes whose first line that is a step has a number is taken exactly
+  -- where its steps refute them, and refused for the reason that they have.
+  pub by_steps : are_all_in variables clauses ≡ true → (IsInConflict clauses → ⊥)
+      → IfSome text (λ bytes. IfSome (shown_by variables clauses bytes) (λ shown. result ≡ shown))
+
+-- the result is that outcome, memory and the stream aside
+abbrev pub Shows : ℕ → List (List Lit) → Option (List ℕ)
+    → Result (Unit {0}) RefutationError → Type 0
 Shows variables clauses text (Err errors.Memory) = Unit {0}
 Shows variables clauses text (Err errors.Stream) = Unit {0}
-Shows variables clauses text result = are_all_in variables clauses ≡ true
-    → (IsInConflict clauses → ⊥)
-    → IfSome text (λ bytes. IfSome (shown_by variables clauses bytes) (λ shown. result ≡ shown))
+Shows variables clauses text result = IsOutcome variables clauses text result

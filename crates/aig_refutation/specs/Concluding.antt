@@ -1,14 +1,15 @@
 -- Serves private clauses alone.
 -- What the steps that are left show.
-use Rattle.std.specs.Prelude.{◌≡◌, ℕ, Bool, true, false, List, Option, Some, None, IfSome, option_map, Result, Ok, Err}
+use Rattle.std.specs.Prelude.{◌≡◌, ℕ, Bool, true, false, List, [], ◌∷◌, Option, Some, None, IfSome, option_map, Result, Ok, Err}
 use Rattle.aig_base.specs.declared.logic.literal.Lit.{Lit}
+use Rattle.aig_base.specs.Clauses.{inverse_lit}
 use Rattle.aig_lexer.specs.Takes.{Feed}
 use Rattle.aig_refutation.specs.declared.error.RefutationError.{RefutationError}
 use Rattle.aig_refutation.specs.declared.error.RefutationError.TheVariants as errors
 use Rattle.aig_refutation.specs.Checking.{IsInConflict, Live, are_all_in, is_last_step, outcome, taken}
 use Rattle.aig_refutation.specs.Proofs.{Script, script_if, script_of, then_lines}
 use Rattle.aig_refutation.specs.Steps.{Step}
-use Rattle.aig_refutation.specs.Tables.{Checked, Holds, HoldsFormula, Table}
+use Rattle.aig_refutation.specs.Tables.{Checked, Holds, HoldsFormula, Table, clause_by}
 use Rattle.aig_refutation.specs.Text.{lines_of}
 use Rattle.aig_refutation.specs.Words.{Place, Says, Tells, lines_at}
 
@@ -65,8 +66,18 @@ abbrev pub text_outcome : ℕ → Live → List ℕ → Option (Result (Unit {0}
 text_outcome variables live bytes =
     option_map (shown_of variables live) (script_if variables (lines_of bytes))
 
--- the clauses are in conflict at once, or there is no memory
+-- the clauses that these numbers name, from 1 on, are in conflict at once, and none are where there
+-- is no number
+abbrev pub FindsConflict : List (List Lit) → List ℕ → Type 0
+FindsConflict clauses [] = IsInConflict clauses → ⊥
+FindsConflict clauses (n ∷ []) = clause_by clauses n ≡ Some []
+FindsConflict clauses (m ∷ n ∷ []) = (lit : Lit)
+    × (clause_by clauses m ≡ Some (inverse_lit lit ∷ []))
+    × (clause_by clauses n ≡ Some (lit ∷ []))
+FindsConflict clauses (m ∷ n ∷ o ∷ more) = ⊥
+
+-- whether the clauses are in conflict at once, unless there is no memory
 abbrev pub ConcludesConflict : List (List Lit) → Result Bool RefutationError → Type 0
 ConcludesConflict clauses (Ok true) = IsInConflict clauses
-ConcludesConflict clauses (Ok false) = Unit {0}
-ConcludesConflict clauses (Err e) = Tells e (IsInConflict clauses)
+ConcludesConflict clauses (Ok false) = IsInConflict clauses → ⊥
+ConcludesConflict clauses (Err e) = Tells e ⊥

@@ -62,7 +62,8 @@ fn number_clauses(
 /// conflict, and says whether they do.
 fn refutes_at_once(alloc: Global, checker: &mut Checker) -> Result<bool, RefutationError>
     ensures same { IfOk result (λ done. done ≡ false → checker.new ≡ checker.old) }
-    ensures conflict { ConcludesConflict checker.old.table.clauses result }
+    ensures conflict { IsFormula checker.old
+        → ConcludesConflict checker.old.table.clauses result }
     ensures implied { OnOk result (ImpliesAll checker.old.table.clauses checker.new.table.clauses) }
     ensures refuted { IfOk result (λ done. IsTrue done
         → ¬ IsSatisfiable checker.old.table.clauses) }
@@ -345,6 +346,10 @@ fn check_clauses<R: Source>(
 /// steps follow by reverse unit propagation. The clauses of `cnf`, variable by variable, and those
 /// of `further` after them are numbered from 1 on, and variable v is written as v + 1.
 ///
+/// Clauses of which a literal has no variable are refused as `Variable`. Others in conflict at once
+/// need no proof, and nothing is read: one is empty, or one has a literal alone and another its
+/// inverse alone.
+///
 /// The lines of an LRAT file are `N L.. 0 H.. 0`, which adds the clause of the literals `L` under
 /// the number `N`, along the hints `H`, and `N d M.. 0`, which deletes the clauses of the numbers
 /// `M`. A number names one clause alone: one that was used before is refused as `Twice`, whether
@@ -369,8 +374,9 @@ pub fn check_refutation<R: Source>(
     ensures refuted { OnOk result (¬ IsSatisfiable (clauses_in cnf.now ++ further.now)) }
     // Stream only where a read failed in this call.
     ensures stream { IsErrOf result RefutationError.Stream → R.failed r.new ≡ true }
-    // Ok exactly where an LRAT proof shows it, where its bytes are known and the clauses aren't in
-    // conflict at once; otherwise the error that its text has, or one of memory or the stream.
+    // Memory and the stream aside: Variable where a literal has no variable, else Ok where the
+    // clauses are in conflict at once, and else of an LRAT proof whose bytes are known Ok exactly
+    // where its steps refute the clauses, and otherwise the error that its text has.
     ensures shown { Shows (length cnf.now) (clauses_in cnf.now ++ further.now) (R.left r.old)
         result }
 {

@@ -1,8 +1,9 @@
 //! Clauses that are in conflict by themselves.
 
-ghost use Rattle.std.specs.Prelude.{◌≡◌, ◌⊎◌, ℕ, [], IfOk, length, slice_index_or};
+ghost use Rattle.std.specs.Prelude.{◌≡◌, ◌-◌, ◌<◌, ◌^◌, IfOk, length, slice_index_or, slice_set, true};
 ghost use Rattle.aig_base.specs.Clauses.{number_of_lit};
-ghost use Rattle.aig_refutation.specs.Checking.{IsInConflict};
+ghost use Rattle.aig_refutation.specs.Checking.{are_all_in};
+ghost use Rattle.aig_refutation.specs.Concluding.{FindsConflict};
 
 use aig_base::{Lit, LitVvec, MemoryError};
 use std::alloc::Global;
@@ -17,9 +18,7 @@ fn unit_of(units: &[u32], lit: Lit) -> u32
 
 /// Says which clause has a literal alone.
 fn set_unit(units: &mut [u32], lit: Lit, number: u32)
-    ensures count { length units.new ≡ length units.old }
-    ensures others { (i : ℕ) → (slice_index_or units.new i 0 ≡ slice_index_or units.old i 0)
-        ⊎ (i ≡ number_of_lit lit) }
+    ensures { units.new ≡ slice_set units.old (number_of_lit lit) number }
 {
     let i = u32::from(lit) as usize;
     if i < units.len() {
@@ -34,7 +33,8 @@ pub(crate) fn find_conflict(
     clauses: &LitVvec,
     variables: usize,
 ) -> Result<Vec<u32>, MemoryError>
-    ensures { IfOk result (λ hints. (hints.items ≡ []) ⊎ IsInConflict clauses.now) }
+    ensures { are_all_in variables clauses.now ≡ true → length clauses.now < 2 ^ 32 - 1
+        → IfOk result (λ hints. FindsConflict clauses.now hints.items) }
 {
     let mut units = vec![in alloc; 0; variables.saturating_mul(2)]?;
     let mut number = 0u32;

@@ -1,12 +1,15 @@
 -- What the verdict on known bytes says of the file that they are.
-use Rattle.std.proofs.Common.{◌≡◌, ◌≢◌, ℕ, ◌≤◌, Bool, true, false, Option, Some, List, [], length, refl, sym, ap, subst, ◌∙◌}
+use Rattle.std.proofs.Common.{◌≡◌, ◌≢◌, ℕ, ◌≤◌, Bool, true, false, Option, Some, None, List, [], ◌++◌, length, append-nil, unwrap_or, refl, sym, ap, subst, ◌∙◌}
 use Rattle.std.specs.Prelude.{◌==◌, nat_lt, if◌then◌else◌, IfSome}
 use Rattle.std.proofs.lemmas.Bool.{eqb-false, eqb-true, ltb-false}
 use Rattle.std.proofs.lemmas.List.{nil_from_length}
+use Rattle.std.specs.Io.KnownBytes.{Consumes, IsAtEnd}
 use Rattle.aig_format.specs.Circuit.{circuit_of}
 use Rattle.aig_format.specs.File.{File}
 use Rattle.aig_format.specs.Fits.{Accepts}
 use Rattle.aig_reader.specs.Verdicts.{Accepted, IsOfFile, IsSettled, IsVerdictOn, Judges, NoBads, TooLarge, Verdict}
+use Rattle.aig_reader.specs.Reading.{IsReadAs}
+use Rattle.aig_runs.specs.Safety.{IsSafeAt}
 use Rattle.aig_unroll.specs.Places.{unrolled_size}
 use Rattle.aig_answers.specs.Answers.{IsAsked, asked_verdict}
 
@@ -54,3 +57,24 @@ module _ (limit k : ℕ) (bytes : List ℕ) (old new : Option (List ℕ)) (faile
       let on = on_bytes v (told.exact (subst IsSettled (sym same) tt)) in
       let f = on.only (subst IsOfFile (sym same) tt) in
       (f.0, f.1, none limit k f.0 (sym same ∙ on.each f.0 f.1))
+
+-- known bytes that were taken to the end are all of them
+all_taken : (bytes taken : List ℕ) (old new : Option (List ℕ)) → old ≡ Some bytes
+    → Consumes old new taken → IsAtEnd new → taken ≡ bytes
+all_taken bytes taken None new is took end = cc
+all_taken bytes taken (Some xs) None is took end = absurd took
+all_taken bytes taken (Some xs) (Some ys) is took end =
+    let rest : xs ≡ taken ++ [] = subst (λ l. xs ≡ taken ++ l) end took in
+    sym (append-nil taken) ∙ sym rest ∙ ap (λ known. unwrap_or known []) is
+
+-- a file was read to its end whose machine is safe
+pub safe : (limit k : ℕ) (bytes : List ℕ) (old new : Option (List ℕ)) (failed : Bool) (u : Unit {0})
+    → old ≡ Some bytes → Judges (asked_verdict limit k) limit old new failed Accepted
+    → IsReadAs (IsAsked limit k) (λ f _. IsSafeAt f k) old new u
+    → (f : File) × Accepts bytes limit f × IsSafeAt f k
+safe limit k bytes old new failed u is told read = (
+  read.file,
+  subst (λ b. Accepts b limit read.file)
+      (all_taken bytes read.bytes old new is read.taken (told.whole tt).1) read.holds.0.0,
+  read.means,
+)

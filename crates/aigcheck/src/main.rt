@@ -3,9 +3,9 @@
 
 use aig_checks::{USAGE, act};
 pub use aig_checks::{
-    CheckError, Command, FileCommand, PairCommand, parse, print_certified, print_clauses,
-    print_equal, print_inductive, print_obligations, print_refuted, print_run, print_window,
-    print_witness,
+    CheckError, Command, FileCommand, PairCommand, parse, print_bounded, print_certified,
+    print_clauses, print_equal, print_inductive, print_obligations, print_refuted,
+    print_refuted_to, print_run, print_window, print_witness, print_witness_to,
 };
 use aig_command_line::{FlushedWriter, StandardError, SystemFiles, end, words};
 use std::io;

@@ -2,13 +2,9 @@
 #![tactic(auto)]
 
 use aig_command_line::{FlushedWriter, StandardError, SystemFiles, end, words};
-use aig_edit_commands::act;
+use aig_edit_commands::{USAGE, act};
 use std::io;
 use std::process::ExitCode;
-
-const USAGE: &str =
-    "usage: aigedit refine FILE, reencode FILE, unroll FILE K, move FILE, compress FILE, bads FILE, \
-    reduce FILE, miter FILE OTHER, join FILE CERT, merge FILE OTHER";
 
 fn main(rt: HostRuntime) -> ExitCode {
     let ending = act(

@@ -31,6 +31,7 @@ unsafe extern "C" {
         out_len: usize,
         needed: *mut usize,
         variables: *mut usize,
+        clauses_len: *mut usize,
     ) -> u32;
     pub fn aig_clauses(
         file: *const u8,

@@ -3,6 +3,7 @@
 //! What each call promises is proved, of the calls of `aig.h` that stand under it; this crate is not. A call keeps nothing, and calls can
 //! be made from several threads.
 
+use std::cell::Cell;
 use std::fmt;
 
 mod calls;
@@ -30,13 +31,19 @@ impl fmt::Debug for Status {
 
 impl std::error::Error for Status {}
 
-/// Clauses as DIMACS numbers, with a 0 after each.
+/// Clauses as DIMACS numbers, with a 0 after each, and which literals stand for what, in the file's order.
 #[derive(Clone, Debug, PartialEq, Eq)]
 pub struct Clauses {
     /// How many variables they have: 1 up to this one.
     pub variables: usize,
     /// The numbers.
     pub numbers: Vec<i32>,
+    /// The literals that stand for the inputs, step by step.
+    pub inputs: Vec<Vec<i32>>,
+    /// Those that stand for the latches at step 0.
+    pub latches: Vec<i32>,
+    /// Those that stand for the bad state properties at the last step.
+    pub bads: Vec<i32>,
 }
 
 /// A bad state that a witness shows.
@@ -102,13 +109,28 @@ pub fn query(file: &[u8], k: u64, optimize: bool) -> Result<Vec<u8>> {
     given(ROOM, |out, len, needed| unsafe { calls::aig_query(file.as_ptr(), file.len(), k, optimize, out, len, needed) })
 }
 
-/// The clauses of a file's query for step `k` as numbers. A file without bad state properties is refused.
+/// How many inputs and latches a file has, by its header line, which is a good one.
+fn counts(file: &[u8]) -> (usize, usize) {
+    let line = file.split(|byte| *byte == b'\n').next().unwrap_or_default();
+    let text = String::from_utf8_lossy(line);
+    let mut words = text.split(' ').skip(2).map(|word| word.parse().unwrap_or_default());
+    (words.next().unwrap_or_default(), words.next().unwrap_or_default())
+}
+
+/// The clauses of a file's query for step `k` as numbers, and their map. A file without bad state properties is refused.
 pub fn query_numbers(file: &[u8], k: u64, optimize: bool) -> Result<Clauses> {
-    let variables = std::cell::Cell::new(0);
-    let numbers = given(ROOM, |out, len, needed| unsafe {
-        calls::aig_query_numbers(file.as_ptr(), file.len(), k, optimize, out, len, needed, variables.as_ptr())
+    let (variables, clauses_len) = (Cell::new(0), Cell::new(0));
+    let mut numbers = given(ROOM, |out, len, needed| unsafe {
+        let (variables, clauses_len) = (variables.as_ptr(), clauses_len.as_ptr());
+        calls::aig_query_numbers(file.as_ptr(), file.len(), k, optimize, out, len, needed, variables, clauses_len)
     })?;
-    Ok(Clauses { variables: variables.get(), numbers })
+    let (input_count, latch_count) = counts(file);
+    let steps = k as usize + 1;
+    let mut places = numbers.split_off(clauses_len.get());
+    let mut latches = places.split_off(steps * input_count);
+    let bads = latches.split_off(latch_count);
+    let inputs = (0..steps).map(|t| places[t * input_count..][..input_count].to_vec()).collect();
+    Ok(Clauses { variables: variables.get(), numbers, inputs, latches, bads })
 }
 
 /// The clauses of a file's query for step `k`, in DIMACS form, after comments that say which literals stand for what.

@@ -12,3 +12,6 @@ returns-clause-own g c = proof_of_circuit c.refute.result c.refute.ensures.own
 
 pub returns-clause-unread : goal.returns-clause-unread
 returns-clause-unread g c = λ other. absurd (other (proof_taken c.refute.result c.refute.ensures.own))
+
+pub returns-clause-shown : goal.returns-clause-shown
+returns-clause-shown g c taken = (c.in_ok-asked.asked, c.in_ok-asked.ensures.query, c.refute.ensures.shown)

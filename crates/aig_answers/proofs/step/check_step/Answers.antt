@@ -2,7 +2,7 @@ use Rattle.std.proofs.Common.{sym, subst}
 use Rattle.std.proofs.lemmas.Result.{IfOk-weaker, err_from_is_err_and}
 use Rattle.aig_reader.specs.Verdicts.{Judges}
 use Rattle.aig_answers.specs.Answers.{asked_verdict}
-use Rattle.aig_answers.proofs.Verdicts.{proof_of_step, proof_taken, query_of_step}
+use Rattle.aig_answers.proofs.Verdicts.{proof_of_step, proof_taken, query_not_taken, query_of_step}
 use Rattle.aig_answers.proofs.step.check_step.Goals as goal
 
 pub returns-in_err-encoded-clause-verdict : goal.returns-in_err-encoded-clause-verdict
@@ -34,3 +34,19 @@ returns-clause-own g c = proof_of_step c.refute.result c.refute.ensures.own
 
 pub returns-clause-unread : goal.returns-clause-unread
 returns-clause-unread g c = λ other. absurd (other (proof_taken c.refute.result c.refute.ensures.own))
+
+pub returns-in_err-encoded-clause-shown : goal.returns-in_err-encoded-clause-shown
+returns-in_err-encoded-clause-shown g c =
+    let p = err_from_is_err_and c.from_residual.result c.from_residual.ensures.1 in
+    rw (p.1, p.2) (λ taken. absurd (query_not_taken c.in_err-encoded.field-0.0 c.in_err-encoded.ensures.own taken))
+
+pub returns-clause-shown : goal.returns-clause-shown
+returns-clause-shown g c taken =
+    let o = c.in_ok-encoded.ensures.answer in
+    record {
+      file = o.file;
+      bytes = o.bytes;
+      holds = o.holds;
+      means = (_, o.means, c.refute.ensures.shown);
+      taken = o.taken;
+    }

@@ -2,7 +2,7 @@ use Rattle.std.proofs.Common.{sym, subst}
 use Rattle.std.proofs.lemmas.Result.{IfOk-weaker, err_from_is_err_and}
 use Rattle.aig_reader.specs.Verdicts.{Judges}
 use Rattle.aig_answers.specs.Answers.{window_verdict}
-use Rattle.aig_answers.proofs.Verdicts.{proof_of_induction, proof_taken, window_of_induction}
+use Rattle.aig_answers.proofs.Verdicts.{proof_of_induction, proof_taken, window_not_taken, window_of_induction}
 use Rattle.aig_answers.proofs.windows.check_window.Goals as goal
 
 pub returns-in_err-asked-clause-verdict : goal.returns-in_err-asked-clause-verdict
@@ -34,3 +34,19 @@ returns-clause-own g c = proof_of_induction c.refute.result c.refute.ensures.own
 
 pub returns-clause-unread : goal.returns-clause-unread
 returns-clause-unread g c = λ other. absurd (other (proof_taken c.refute.result c.refute.ensures.own))
+
+pub returns-in_err-asked-clause-shown : goal.returns-in_err-asked-clause-shown
+returns-in_err-asked-clause-shown g c =
+    let p = err_from_is_err_and c.from_residual.result c.from_residual.ensures.1 in
+    rw (p.1, p.2) (λ taken. absurd (window_not_taken c.in_err-asked.field-0.0 c.in_err-asked.ensures.own taken))
+
+pub returns-clause-shown : goal.returns-clause-shown
+returns-clause-shown g c taken =
+    let o = c.in_ok-asked.ensures.answer in
+    record {
+      file = o.file;
+      bytes = o.bytes;
+      holds = o.holds;
+      means = (_, _, o.means, c.refute.ensures.shown);
+      taken = o.taken;
+    }

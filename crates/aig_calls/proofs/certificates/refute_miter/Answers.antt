@@ -1,4 +1,4 @@
-use Rattle.std.proofs.Common.{refl, arith, rules, inl}
+use Rattle.std.proofs.Common.{refl, arith, inl}
 use Rattle.aig_edits.specs.declared.pairing.Pairing.TheVariants.{Miter}
 use Rattle.aig_calls.specs.Statuses.{done}
 use Rattle.aig_calls.proofs.Pairing.{both_whole, misfit_tells, no_misfit, pair_tells}

@@ -13,6 +13,15 @@ list-requires-clause-few c =
     let low = subst (λ (d : Circuit). unrolled_size d c.args.k ≤ LIMIT) (sym o.means.0.of_file) o.holds.0.1 in
     omega (arith, low, o.means.0.steps.size, o.means.0.has_clauses.count)
 
+pub list-requires-clause-nodes : goal.list-requires-clause-nodes
+list-requires-clause-nodes c =
+    let o = c.in-Ok.ensures.answer in
+    let low = subst (λ (d : Circuit). unrolled_size d c.args.k ≤ LIMIT) (sym o.means.0.of_file) o.holds.0.1 in
+    omega (arith, low, o.means.0.steps.size)
+
+pub list-requires-clause-steps : goal.list-requires-clause-steps
+list-requires-clause-steps c = c.in-Ok.ensures.answer.means.0.steps
+
 pub returns-in-Ok-list : goal.returns-in-Ok-list
 returns-in-Ok-list c =
     let k = c.args.k in
@@ -24,5 +33,5 @@ returns-in-Ok-list c =
     record {
       said = told.exact tt;
       own = (search rules, search rules);
-      answer = (f.0, f.1, (asked, f.2, c.num_vars-variables.ensures.count, c.in-Ok-list.ensures));
+      answer = (f.0, f.1, (asked, f.2, c.in-Ok-list.ensures));
     }

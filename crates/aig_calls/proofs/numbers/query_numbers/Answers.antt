@@ -12,7 +12,9 @@ returns-in-Ok-clause-gives c =
     let bytes = c.args.file.now in
     let optimize = c.args.optimize in
     let variables = c.give_list.new.variables in
-    let made = rw step.0 at c.ask.ensures in
-    gives_at (asked_verdict LIMIT k) LIMIT bytes (IsListed k optimize variables) k IsOfText _ _ _ _ _ step.1
-    (lists (asked_verdict LIMIT k) LIMIT bytes IsOfText k optimize _ _ _ _ c.args.variables.now variables c.ask.result _ made
+    let clauses_len = c.give_list.new.clauses_len in
+    let made = rw step.0 at c.ask-listed.ensures in
+    gives_at (asked_verdict LIMIT k) LIMIT bytes (IsListed k optimize variables clauses_len) k
+    IsOfText _ _ _ _ _ step.1 (lists (asked_verdict LIMIT k) LIMIT bytes IsOfText k optimize _ _ _
+    _ c.args.variables.now variables c.args.clauses_len.now clauses_len c.ask-listed.result _ made
     c.give_list.ensures)

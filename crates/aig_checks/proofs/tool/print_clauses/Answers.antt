@@ -4,7 +4,7 @@ use Rattle.aig_circuit.specs.Circuit.{Circuit}
 use Rattle.aig_unroll.specs.Places.{unrolled_size}
 use Rattle.aig_checks.specs.declared.tool.TheConstants.{LIMIT}
 use Rattle.aig_checks.proofs.Commenting.{query_text-again}
-use Rattle.aig_checks.proofs.Outcomes.{no_query_proof, proof_refused, read_again, text_ends}
+use Rattle.aig_checks.proofs.Outcomes.{query_refused, read_again, text_ends}
 use Rattle.aig_checks.proofs.tool.print_clauses.Goals as goal
 
 pub print_query-requires-clause-steps : goal.print_query-requires-clause-steps
@@ -21,11 +21,11 @@ returns-in_err-asked g c =
     let p = err_from_is_err_and c.from_residual.result c.from_residual.ensures.1 in
     let told = c.in_err-asked.ensures in
     let e = c.in_err-asked.field-0.0 in
-    rw (p.1, p.2) (proof_refused e told.verdict told.own refl (λ alone. refl) (λ is. absurd (no_query_proof e told.own is)))
+    rw (p.1, p.2) (query_refused e told.verdict told.own told.own refl refl)
 
 pub returns : goal.returns
 returns g c =
     let read = c.in_ok-asked.ensures in
     let q = c.in_ok-asked.asked in
     let told = c.print_query.ensures in
-    text_ends c.print_query.result _ read.verdict (λ text is. read_again read.answer (λ bytes f holds asks. record { query = q; asks = asks; exact = is; again = query_text-again q c.args.k text is c.tell_formula.ensures })) told.prints told.own tt
+    text_ends c.print_query.result _ tt read.verdict (λ text is. read_again read.answer (λ bytes f holds asks. record { query = q; asks = asks; exact = is; again = query_text-again q c.args.k text is c.tell_formula.ensures.formula })) told.prints told.own tt

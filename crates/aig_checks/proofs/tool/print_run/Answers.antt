@@ -21,11 +21,11 @@ returns-in_err-write_shown g c =
     let p = err_from_is_err_and c.from_residual-in_err-write_shown.result c.from_residual-in_err-write_shown.ensures.1 in
     let shown = c.in_ok-shown.shown in
     let read = c.in_ok-shown.ensures in
-    rw (p.1, p.2) (stopped (shown_line shown.bad shown.step) read.verdict (shown_answers LIMIT _ _ _ shown read.answer) c.in_err-write_shown.ensures.err)
+    rw (p.1, p.2) (stopped (shown_line shown.bad shown.step) tt read.verdict (shown_answers LIMIT _ _ _ shown read.answer) c.in_err-write_shown.ensures.err)
 
 pub returns : goal.returns
 returns g c =
     let shown = c.in_ok-shown.shown in
     let read = c.in_ok-shown.ensures in
     let told = c.in_ok-write_shown.ensures in
-    answered tt (shown_line shown.bad shown.step) read.verdict (shown_answers LIMIT _ _ _ shown read.answer) told.ok told.sound
+    answered tt (shown_line shown.bad shown.step) tt read.verdict (shown_answers LIMIT _ _ _ shown read.answer) told.ok told.sound

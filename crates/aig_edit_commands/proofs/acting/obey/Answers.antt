@@ -1,25 +1,46 @@
-use Rattle.std.proofs.Common.{map, ◌∙◌, refl, sym}
-use Rattle.std.specs.Prelude.{string_bytes}
-use Rattle.aig_edit_commands.proofs.Calling.{never_none, one_call}
+use Rattle.std.proofs.Common.{◌≡◌, [], ◌∷◌, ◌++◌, map, ◌∙◌, refl, subst, sym}
+use Rattle.std.specs.Prelude.{Result, string_bytes}
+use Rattle.std.proofs.lemmas.Option.{same_Some}
+use Rattle.aig_command_line.specs.Ending.{ended}
+use Rattle.aig_edit_commands.specs.declared.acting.CommandError.{CommandError}
+use Rattle.aig_edit_commands.specs.Acting.{Says}
+use Rattle.aig_edit_commands.specs.Asked.{answer_of}
+use Rattle.aig_edit_commands.proofs.Calling.{never_none, no_command, one_call}
 use Rattle.aig_edit_commands.proofs.acting.obey.Goals as goal
 
 pub returns-in-Some : goal.returns-in-Some
 returns-in-Some g c =
     let words = map string_bytes c.args.words.now in
-    let paths = map string_bytes c.in-Some.paths.now in
-    let call = c.in-Some.ensures.some in
+    let is = (c.asked.ensures c.in-Some.question).0 c.in-Some.is in
     record {
-      none = (λ is. absurd (never_none c.perform.result (sym c.of.ensures ∙ is)), λ no. absurd (no c.in-Some.command paths call));
-      kept = λ is. absurd (never_none c.perform.result (sym c.of.ensures ∙ is));
-      acts = λ d others h. let same = one_call words d c.in-Some.command others paths h call in
-          rw (same.0, same.1) (c.perform.result, c.of.ensures, c.perform.ensures);
+      tells = λ q are.
+          subst (λ x. (done : Result (Unit {0}) CommandError) × (c.of.result ≡ ended done) × Says g.W.Sink.held g.W.Sink.failed g.W.Flush.flushed (answer_of x ++ 10 ∷ []) c.args.w.now done c.say.new.w)
+          (same_Some _ _ (sym c.in-Some.is ∙ (c.asked.ensures q).1 are)) (c.say.result, c.of.ensures, rw c.answer.ensures at c.say.ensures);
+      none = (λ e. absurd (never_none c.say.result (sym c.of.ensures ∙ e)), λ no. absurd (no.1 c.in-Some.question is));
+      kept = λ e. absurd (never_none c.say.result (sym c.of.ensures ∙ e));
+      acts = λ d paths h. elim (no_command words c.in-Some.question d paths is h) [ ];
     }
 
-pub returns-in-None : goal.returns-in-None
-returns-in-None g c =
-    let none = c.in-None.ensures.none in
+pub returns-in_default-call : goal.returns-in_default-call
+returns-in_default-call g c =
+    let none = c.in_default-call.ensures.none in
     record {
-      none = (λ is. none, λ no. refl);
+      tells = λ q are. elim (c.in_default.not-Some q ((c.asked.ensures q).1 are)) [ ];
+      none =
+          (λ is. (none, λ q are. c.in_default.not-Some q ((c.asked.ensures q).1 are)), λ no. refl);
       kept = λ is. refl;
       acts = λ d paths h. elim (none d paths h) [ ];
+    }
+
+pub returns : goal.returns
+returns g c =
+    let words = map string_bytes c.args.words.now in
+    let paths = map string_bytes c.in-Some-call.paths.now in
+    let given = c.in-Some-call.ensures.some in
+    record {
+      tells = λ q are. elim (c.in_default.not-Some q ((c.asked.ensures q).1 are)) [ ];
+      none = (λ is. absurd (never_none c.perform.result (sym c.of-2.ensures ∙ is)), λ no. absurd (no.0 c.in-Some-call.command paths given));
+      kept = λ is. absurd (never_none c.perform.result (sym c.of-2.ensures ∙ is));
+      acts = λ d others h. let same = one_call words d c.in-Some-call.command others paths h given in
+          rw (same.0, same.1) (c.perform.result, c.of-2.ensures, c.perform.ensures);
     }

@@ -1,4 +1,4 @@
-use Rattle.std.proofs.Common.{map, sym, ◌∙◌}
+use Rattle.std.proofs.Common.{map}
 use Rattle.std.specs.Prelude.{string_bytes}
 use Rattle.aig_command_line.specs.Arguments.{Arguments, Gives}
 use Rattle.aig_edit_commands.specs.Words.{form_of, name_of}

@@ -1,3 +1,4 @@
+use Rattle.aig_edit_laws.proofs.Cones.{plain-cone}
 use Rattle.aig_edit_laws.proofs.PlainForms.{plain-bads, plain-compressed, plain-folded, plain-merged, plain-refined, plain-unrolled}
 use Rattle.aig_edit_laws.proofs.plain.changed_circuits_are_plain.Goals as goal
 
@@ -18,3 +19,6 @@ returns-clause-bads c = plain-bads
 
 pub returns-clause-merged : goal.returns-clause-merged
 returns-clause-merged c = plain-merged
+
+pub returns-clause-cones : goal.returns-clause-cones
+returns-clause-cones c = plain-cone

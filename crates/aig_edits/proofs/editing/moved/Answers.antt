@@ -5,5 +5,6 @@ pub returns : goal.returns
 returns c =
     let old = c.args.circuit.now in
     let folds = c.in_ok-aig_move.ensures in
-    let plain = c.changed_circuits_are_plain.ensures.folded old c.in_ok-aig_move.field-0 c.nodes-nodes.ensures.circuit (plain_of old c.requires) folds in
+    let plain = c.changed_circuits_are_plain.ensures.folded old c.in_ok-aig_move.field-0
+    c.nodes-nodes.ensures.circuit (plain_of old c.requires) folds in
     record { made = (folds, plain); fault = tt }

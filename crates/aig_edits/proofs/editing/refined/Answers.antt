@@ -8,5 +8,13 @@ returns c =
     let told = c.in_ok-made.ensures in
     let refines = told.refined in
     let old = c.args.circuit.now in
-    let plain = c.changed_circuits_are_plain.ensures.refined old refines.kept told.circuit refines.are_kept (plain_of old c.requires) in
-    record { made = ((refines.kept, refines.are_kept, refines.exact), subst IsPlain (sym refines.exact) plain); fault = tt }
+    let plain = c.changed_circuits_are_plain.ensures.refined old refines.kept told.circuit
+    refines.are_kept (plain_of old c.requires) in
+    record {
+      made = (
+        (refines.kept, refines.are_kept, refines.exact),
+        subst IsPlain (sym
+            refines.exact) plain,
+      );
+      fault = tt;
+    }

@@ -5,5 +5,6 @@ pub returns : goal.returns
 returns c =
     let told = c.in_ok-unroll_to.ensures in
     let old = c.args.circuit.now in
-    let plain = c.changed_circuits_are_plain.ensures.unrolled old c.in_ok-unroll_to.field-0 c.args.k told.circuit (plain_of old c.requires) told.unrolls in
+    let plain = c.changed_circuits_are_plain.ensures.unrolled old c.in_ok-unroll_to.field-0 c.args.k
+    told.circuit (plain_of old c.requires) told.unrolls in
     record { made = ((told.unrolls, told.steps), plain); fault = tt }

@@ -13,9 +13,19 @@ pub returns : goal.returns
 returns c =
     let old = c.args.circuit in
     let all = old.properties.outputs in
-    let past : length all ≤ c.loop-i.i = omega (arith, c.loop-i-test.false, ap length c.outputs-i-end.ensures.value) in
+    let past : length all ≤ c.loop-i.i = omega (
+      arith,
+      c.loop-i-test.false,
+      ap length
+          c.outputs-i-end.ensures.value,
+    ) in
     let exact : c.clear_edges.new.self ≡ outputs_as_bads old =
     c.clear_edges.ensures ∙ ap (λ (d : Circuit). with_edges Outputs d []) c.loop-i.invariant.same
-    ∙ ap (λ (bads : List AigEdge). record old { properties = record old.properties { outputs = []; bads = bads } }) (c.loop-i.invariant.bads ∙ take_all c.loop-i.i all past) in
+    ∙ ap (λ (bads : List AigEdge). record old {
+      properties = record old.properties {
+        outputs = [];
+        bads = bads;
+      };
+    }) (c.loop-i.invariant.bads ∙ take_all c.loop-i.i all past) in
     let plain = c.changed_circuits_are_plain.ensures.bads old (plain_of old c.requires.plain) in
     record { made = (exact, subst IsPlain (sym exact) plain); fault = tt }

@@ -42,5 +42,6 @@ returns c =
         lists = lists.0 (c.are_numbers.ensures.0 c.if-not-are_numbers.false);
         sets = subst Short c.justice-2.ensures.value (sets.0 (c.are_short.ensures.0 h));
       },
-      λ small. c.are_short.ensures.1 (sets.1 (subst Short (sym c.justice-2.ensures.value) small.sets)),
+      λ small. c.are_short.ensures.1 (sets.1 (subst Short (sym c.justice-2.ensures.value)
+          small.sets)),
     )

@@ -14,6 +14,11 @@ returns c =
     let exact : lists_circuit c.merge.new.first ≡ merged a b =
     c.in_ok-merge.ensures.merged ∙ ap (λ (d : Circuit). merged d b) c.in_ok-lists.ensures.copy in (
       tt,
-      (exact, subst (λ m. PairsRuns a b m (shifted (length a.nodes))) (sym exact) (c.merging_pairs_runs.ensures a b c.requires.first c.requires.second)),
-      subst IsCircuit (sym exact) (c.merging_is_circuit.ensures a b c.requires.first c.requires.second),
+      (
+        exact,
+        subst (λ m. PairsRuns a b m (shifted (length a.nodes))) (sym exact)
+            (c.merging_pairs_runs.ensures a b c.requires.first c.requires.second),
+      ),
+      subst IsCircuit (sym exact) (c.merging_is_circuit.ensures a b c.requires.first
+          c.requires.second),
     )

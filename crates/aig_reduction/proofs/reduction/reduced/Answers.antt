@@ -1,19 +1,31 @@
-use Rattle.std.proofs.Common.{◌≡◌, [], ap, subst, ◌∙◌}
+use Rattle.std.proofs.Common.{◌≡◌, ap, subst, sym, ◌∙◌}
+use Rattle.std.proofs.lemmas.Result.{IfOk-weaker}
 use Rattle.aig_circuit.specs.Circuit.{Circuit, IsCircuit}
-use Rattle.aig_circuit.specs.declared.prop_list.PropList.TheVariants.{Fairness}
-use Rattle.aig_circuit.specs.PropLists.{with_edges}
-use Rattle.aig.specs.Others.{IsRefined}
+use Rattle.aig_circuit.specs.View.{lists_circuit}
+use Rattle.aig_cone.specs.Refine.{AreKept, refined}
+use Rattle.aig_strash.specs.Strash.{strashed}
 use Rattle.aig_reduction.specs.Reduction.{asked_alone}
-use Rattle.aig_reduction.proofs.Reducing.{reduces_if}
+use Rattle.aig_reduction.proofs.Reducing.{reduces}
 use Rattle.aig_reduction.proofs.reduction.reduced.Goals as goal
 
-pub returns : goal.returns
-returns c =
-    let old = c.args.circuit in
-    let mid = c.in_ok-refined.refined in
-    let without = c.clear_justice.ensures ∙ ap (λ (d : Circuit). record d { properties = record d.properties { justice = [] } }) c.clear_edges.ensures in
-    let alone : c.clear_edges-2.new.self ≡ asked_alone old = c.clear_edges-2.ensures ∙ ap (λ (d : Circuit). with_edges Fairness d []) without in
-    let is = subst IsCircuit alone (subst IsCircuit c.circuit.view_is c.circuit.invariant) in
-    let is_mid = subst IsCircuit c.refined.view_is c.refined.invariant in
-    let refines = subst (λ d. IsRefined d mid c.in_ok-refined._old_numbers) alone c.in_ok-refined.ensures.refined in
-    reduces_if old mid c.in_ok-refined._old_numbers is is_mid refines c.strash.result c.strash.ensures.exact c.strash.ensures.runs
+pub new-requires : goal.new-requires
+new-requires c =
+    let e = c.in_ok-asked.ensures in
+    subst IsCircuit (sym e.1.2) (c.asked_circuits_are_circuits.ensures c.args.circuit.now e.1.0 e.0)
+
+pub returns-clause-reduced : goal.returns-clause-reduced
+returns-clause-reduced c =
+    let old = c.args.circuit.now in
+    let e = c.in_ok-asked.ensures in
+    let asked = asked_alone e.1.0 old in
+    let asked_is : c.new.result ≡ asked = c.new.ensures ∙ e.1.2 in
+    let r = c.in_ok-refined.ensures in
+    let kept = r.0 in
+    let mid = refined kept asked in
+    let are = subst (λ (d : Circuit). AreKept d kept) asked_is r.1 in
+    let mid_is : c.new-2.result ≡ mid = c.new-2.ensures ∙ r.2 ∙ ap (refined kept) asked_is in
+    let is = c.asked_circuits_are_circuits.ensures old e.1.0 e.0 in
+    let is_mid = c.refining_is_circuit.ensures asked kept is are in
+    IfOk-weaker c.strash.result _ _
+    (λ lists same. reduces old e.1.0 kept e.0 e.1.1 are is_mid (c.refining_keeps_runs.ensures asked kept is are) (c.strashing_keeps_runs.ensures mid is_mid) (lists_circuit lists) (same ∙ ap strashed mid_is))
+    c.strash.ensures

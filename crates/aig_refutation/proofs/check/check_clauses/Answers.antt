@@ -8,7 +8,7 @@ use Rattle.aig_refutation.specs.Checking.{IsInConflict, all_live, are_all_in}
 use Rattle.aig_refutation.specs.Concluding.{ConcludesConflict, ShowsText, text_outcome}
 use Rattle.aig_refutation.specs.Tables.{Checked, Holds}
 use Rattle.aig_refutation.specs.Words.{Tells}
-use Rattle.aig_refutation.proofs.Formulas.{shows_conflict, shows_refused, shows_text}
+use Rattle.aig_refutation.proofs.Formulas.{formula_inside, shows_conflict, shows_memory, shows_refused, shows_text}
 use Rattle.aig_refutation.proofs.check.check_clauses.Goals as goal
 
 pub returns-in_err-number_clauses-clause-shown : goal.returns-in_err-number_clauses-clause-shown
@@ -28,27 +28,34 @@ returns-in_err-refutes_at_once-clause-shown g c formula same fresh =
     let p = err_from_is_err_and c.from_residual-in_err-refutes_at_once.result
     c.from_residual-in_err-refutes_at_once.ensures.1 in
     rw (p.1, p.2)
-    (shows_conflict (length c.args.cnf.now) clauses (g.R.Source.left c.args.r.now) e (subst (λ (list
-    : List (List Lit)). Tells e (IsInConflict list)) c.in_ok-number_clauses.ensures.formula
-    c.in_err-refutes_at_once.ensures.conflict))
+    (shows_memory (length c.args.cnf.now) clauses (g.R.Source.left c.args.r.now) e
+    (c.in_err-refutes_at_once.ensures.conflict (c.in_ok-number_clauses.ensures.holds formula)))
 
 pub returns-then-branch-clause-shown : goal.returns-then-branch-clause-shown
-returns-then-branch-clause-shown g c formula same fresh = λ inside no_conflict.
-    let is : IsInConflict c.number_clauses.new.checker.table.clauses = subst (λ (b : Bool).
-    ConcludesConflict c.number_clauses.new.checker.table.clauses (Ok b)) c.if-branch.true
-    c.in_ok-refutes_at_once.ensures.conflict in
-    absurd (no_conflict (subst IsInConflict c.in_ok-number_clauses.ensures.formula is))
+returns-then-branch-clause-shown g c formula same fresh =
+    let clauses = clauses_in c.args.cnf.now ++ c.args.further.now in
+    let checker = c.number_clauses.new.checker in
+    let holds = c.in_ok-number_clauses.ensures.holds formula in
+    let list = c.in_ok-number_clauses.ensures.formula in
+    let is : IsInConflict checker.table.clauses = subst (λ (b : Bool). ConcludesConflict
+    checker.table.clauses (Ok b)) c.if-branch.true
+    (c.in_ok-refutes_at_once.ensures.conflict holds) in
+    let inside = formula_inside checker (length c.args.cnf.now) clauses holds
+    (c.in_ok-number_clauses.ensures.variables ∙ same) list in
+    shows_conflict (length c.args.cnf.now) clauses (g.R.Source.left c.args.r.now) inside
+    (subst IsInConflict list is)
 
 pub returns-clause-shown : goal.returns-clause-shown
 returns-clause-shown g c formula same fresh =
     let clauses = clauses_in c.args.cnf.now ++ c.args.further.now in
     let live = all_live clauses in
     let before = feed g.R.Source.left g.R.Source.failed g.R.Source.pulls [] c.args.r.now in
-    let table = c.number_clauses.new.checker.table in
+    let checker = c.number_clauses.new.checker in
+    let formula_holds = c.in_ok-number_clauses.ensures.holds formula in
+    let list = c.in_ok-number_clauses.ensures.formula in
     let kept = c.in_ok-refutes_at_once.ensures.same c.if-branch.false in
-    let here : Holds table live = subst (λ (list : List (List Lit)). Holds table (all_live list))
-    c.in_ok-number_clauses.ensures.formula (c.in_ok-number_clauses.ensures.holds
-    formula).holds.holds in
+    let here : Holds checker.table live = subst (λ (list : List (List Lit)). Holds checker.table
+    (all_live list)) list formula_holds.holds.holds in
     let holds : Holds c.refutes_at_once.new.checker.table live = subst (λ (checker : Checked). Holds
     checker.table live) (sym kept) here in
     let count = c.num_vars.ensures.count in
@@ -58,5 +65,11 @@ returns-clause-shown g c formula same fresh =
     let shown : ShowsText before (text_outcome (length c.args.cnf.now) live) c.check_steps.result =
     subst (λ (n : ℕ). ShowsText before (text_outcome n live) c.check_steps.result) count
     (c.check_steps.ensures.shown live fresh holds variables) in
-    shows_text (length c.args.cnf.now) clauses (g.R.Source.left c.args.r.now) before refl
+    let none : IsInConflict checker.table.clauses → ⊥ = subst (λ (b : Bool). ConcludesConflict
+    checker.table.clauses (Ok b)) c.if-branch.false
+    (c.in_ok-refutes_at_once.ensures.conflict formula_holds) in
+    let inside = formula_inside checker (length c.args.cnf.now) clauses formula_holds
+    (c.in_ok-number_clauses.ensures.variables ∙ same) list in
+    shows_text (length c.args.cnf.now) clauses (g.R.Source.left c.args.r.now) inside
+    (subst (λ (list : List (List Lit)). IsInConflict list → ⊥) list none) before refl
     c.check_steps.result shown

@@ -1,9 +1,12 @@
-use Rattle.std.proofs.Common.{◌≢◌, [], ◌∷◌}
-use Rattle.std.specs.Prelude.{slice_index_or}
-use Rattle.std.specs.List.{Contains}
-use Rattle.aig_base.specs.declared.logic.literal.Lit.{Lit}
-use Rattle.aig_base.specs.Clauses.{number_of_lit}
+use Rattle.std.proofs.Common.{◌≡◌, ◌*◌, ◌-◌, ◌<◌, ◌^◌, true, length}
+use Rattle.std.specs.Prelude.{min}
+use Rattle.aig_refutation.specs.Checking.{are_all_in}
+use Rattle.aig_refutation.proofs.Conflicts.{IsSearched}
 use Rattle.aig_refutation.proofs.units.find_conflict.Given as goal
 
 abbrev pub invariant-loop-i : goal.invariant-loop-i
-invariant-loop-i l = (lit : Lit) → slice_index_or l.units.items (number_of_lit lit) 0 ≢ 0 → Contains l.clauses (lit ∷ [])
+invariant-loop-i l = record {
+  count : length l.units.items ≡ min (l.variables * 2) (2 ^ 64 - 1);
+  searched : are_all_in l.variables l.clauses ≡ true → length l.clauses < 2 ^ 32 - 1
+      → record { number : l.number ≡ l.i; units : IsSearched l.clauses l.i l.units.items };
+}

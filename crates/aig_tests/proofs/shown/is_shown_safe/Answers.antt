@@ -2,8 +2,16 @@ use Rattle.std.proofs.Common.{◌≡◌, ap}
 use Rattle.std.proofs.lemmas.Bool.{false≢true}
 use Rattle.aig_answers.specs.declared.error.AnswerError.TheVariants as errors
 use Rattle.aig_answers.specs.Answers.{verdict_of}
-use Rattle.aig_tests.proofs.Asking.{asked, nothing}
+use Rattle.aig_tests.proofs.Asking.{asked, nothing, safe}
 use Rattle.aig_tests.proofs.shown.is_shown_safe.Goals as goal
+
+pub returns-in-Ok-clause-safe : goal.returns-in-Ok-clause-safe
+returns-in-Ok-clause-safe g c bytes is = λ yes.
+    safe 16777216 c.args.k bytes _ _ _ _ is c.in-Ok.ensures.verdict c.in-Ok.ensures.answer
+
+pub returns-in-Ok-clause-asked : goal.returns-in-Ok-clause-asked
+returns-in-Ok-clause-asked g c bytes is ok =
+    asked 16777216 c.args.k bytes _ _ _ is c.in-Ok.ensures.verdict
 
 pub returns-in-Err-Refutation-clause-asked : goal.returns-in-Err-Refutation-clause-asked
 returns-in-Err-Refutation-clause-asked g c bytes is ok = asked 16777216 c.args.k bytes _ _ _ is (rw c.in-Err-Refutation.field-0-is at c.in-Err-Refutation.ensures.verdict)

@@ -1,0 +1,8 @@
+use Rattle.std.proofs.Common.{◌≡◌, ℕ, ◌<◌, length}
+use Rattle.std.specs.Prelude.{slice_index}
+use Rattle.aig_bounded_answers.specs.Encoded.{HasName}
+use Rattle.aig_bounded_answers.proofs.naming.name_inputs.Given as goal
+
+abbrev pub invariant-loop-number : goal.invariant-loop-number
+invariant-loop-number l = (length l.names ≡ length l.circuit.nodes)
+    × ((k : ℕ) → k < l.number → HasName l.circuit l.names (slice_index l.circuit.inputs k))

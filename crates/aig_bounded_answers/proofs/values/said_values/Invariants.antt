@@ -1,0 +1,14 @@
+use Rattle.std.proofs.Common.{◌≡◌, ℕ, ◌<◌}
+use Rattle.std.specs.Prelude.{slice_index, slice_index_or}
+use Rattle.aig_witness.specs.Shown.{known_of}
+use Rattle.aig_witness.specs.Witness.{said_by}
+use Rattle.aig_bounded_answers.specs.declared.naming.Named.{Named}
+use Rattle.aig_bounded_answers.specs.Asking.{assigned}
+use Rattle.aig_bounded_answers.specs.Solving.{Begins, value_said}
+use Rattle.aig_bounded_answers.proofs.values.said_values.Given as goal
+
+abbrev pub invariant-loop-i : goal.invariant-loop-i
+invariant-loop-i l = Begins l.circuit l.k (said_by l.witness)
+    × ((j : ℕ) (d : Named) → j < l.i → value_said (said_by l.witness) (slice_index_or
+    l.made.named.items j d)
+    ≡ known_of (assigned l.values (slice_index l.made.question.circuit.inputs.items j)))

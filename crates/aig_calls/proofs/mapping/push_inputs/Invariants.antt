@@ -1,0 +1,10 @@
+use Rattle.std.proofs.Common.{◌≡◌, ℕ, ◌++◌, map, take}
+use Rattle.aig_unroll.specs.Places.{place_at}
+use Rattle.aig_calls.specs.Numbers.{variable_number}
+use Rattle.aig_calls.proofs.mapping.push_inputs.Given as goal
+
+abbrev pub invariant-loop-n : goal.invariant-loop-n
+invariant-loop-n l =
+    let q = l.asked.encoded in
+    let number = λ (n : ℕ). variable_number (place_at q.circuit q.unrolled l.t n) in
+    l.numbers.items ≡ l.fn.numbers.items ++ map number (take l.n-index l.inputs)

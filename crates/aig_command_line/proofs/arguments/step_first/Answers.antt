@@ -1,0 +1,16 @@
+use Rattle.std.proofs.Common.{map}
+use Rattle.std.specs.Prelude.{string_bytes}
+use Rattle.std.proofs.lemmas.Option.{IfSome_then}
+use Rattle.aig_command_line.proofs.Giving.{number_at, number_up_to}
+use Rattle.aig_command_line.proofs.arguments.step_first.Goals as goal
+
+pub returns-in-At-clause-some : goal.returns-in-At-clause-some
+returns-in-At-clause-some c =
+    IfSome_then c.number_first.result c.number_first.ensures.some
+    (λ p first. number_at c.args.form p.0 (map string_bytes c.args.words.now) first.0 _ c.in-At.is first.1 first.2)
+
+pub returns-in_ok-after_to-in-UpTo-clause-some : goal.returns-in_ok-after_to-in-UpTo-clause-some
+returns-in_ok-after_to-in-UpTo-clause-some c =
+    let to = c.in_ok-after_to-in-UpTo.ensures.some in
+    IfSome_then c.number_first-in-UpTo.result c.number_first-in-UpTo.ensures.some
+    (λ p first. number_up_to c.args.form p.0 (map string_bytes c.args.words.now) first.0 _ _ c.in-UpTo.is to first.1 first.2)

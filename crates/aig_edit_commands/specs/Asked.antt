@@ -1,0 +1,11 @@
+-- Serves private clauses alone.
+-- What the program tells of itself.
+use Rattle.std.specs.Prelude.{ℕ, List}
+use Rattle.aig_command_line.specs.declared.about.Question.{Question}
+use Rattle.aig_command_line.specs.declared.about.Question.TheVariants.{Usage, Version}
+use Rattle.aig_edit_commands.specs.declared.acting.TheConstants.{USAGE, VERSION}
+
+-- the answer to a question
+abbrev pub answer_of : Question → List ℕ
+answer_of Usage = USAGE.now
+answer_of Version = VERSION.now

@@ -1,0 +1,47 @@
+-- What a call that reads one file tells, from what the reading told.
+use Rattle.std.proofs.Common.{◌≡◌, ◌≢◌, ℕ, Bool, List, Option, Result, Err, sym, subst}
+use Rattle.std.specs.Prelude.{IfErr}
+use Rattle.aig_format.specs.File.{File}
+use Rattle.aig_format.specs.Fits.{Accepts, Fits}
+use Rattle.aig_reader.specs.declared.error.ReadError.{ReadError}
+use Rattle.aig_reader.specs.declared.error.ReadError.TheVariants as read
+use Rattle.aig_reader.specs.Reading.{IsReadAs}
+use Rattle.aig_reader.specs.Verdicts as reading
+use Rattle.aig_reader.specs.Verdicts.{Accepted, IsOfFile, Judges, verdict_by}
+use Rattle.aig_reader.proofs.Verdicts.{of_no_file}
+use Rattle.aig_edits.specs.declared.edit_error.EditError.{EditError}
+use Rattle.aig_edits.specs.declared.edit_error.EditError.TheVariants as errors
+use Rattle.aig_edits.specs.Edits.{IsEditOwn, ReadsFile, edit_verdict}
+
+module _ {R T : Type 0} (left : R → Option (List ℕ)) (failed : R → Bool) (limit : ℕ) (r rest : R)
+    (Means : File → Result T EditError → Type 0) where
+  -- the file is refused
+  pub refused_file : (e : ReadError)
+      → Judges (λ _. Accepted) limit (left r) (left rest) (failed rest) (reading.verdict_of e) → e ≢
+      read.Open
+      → ReadsFile left failed limit Means edit_verdict IsEditOwn r (Err (errors.Read e)) rest
+  refused_file e said opened = record {
+    verdict = said;
+    answer = λ is. absurd (of_no_file e (subst IsOfFile (sym is) tt));
+    own = opened;
+  }
+
+  -- it is taken, and what was read of it leads to the result
+  pub taken_file : {X : Type 0} {Has : File → X → Type 0} (x : X) (result : Result T EditError)
+      → Judges (λ _. Accepted) limit (left r) (left rest) (failed rest) Accepted
+      → IsReadAs (λ bytes. Accepts bytes limit) Has (left r) (left rest) x
+      → verdict_by edit_verdict result ≡ Accepted → IfErr result IsEditOwn
+      → ((f : File) → Fits f limit → Has f x → Means f result)
+      → ReadsFile left failed limit Means edit_verdict IsEditOwn r result rest
+  taken_file x result said was taken own means = record {
+    verdict = subst (Judges (λ _. Accepted) limit (left r) (left rest) (failed rest)) (sym taken)
+        said;
+    answer = λ is. record {
+      file = was.file;
+      bytes = was.bytes;
+      holds = was.holds;
+      means = means was.file was.holds.1 was.means;
+      taken = was.taken;
+    };
+    own = own;
+  }

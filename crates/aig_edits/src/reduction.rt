@@ -1,0 +1,63 @@
+//! Printing what of one file its query needs.
+
+ghost use Rattle.std.specs.Prelude.{◌≡◌, ◌≤◌, ◌^◌, ℕ};
+ghost use Rattle.aig_circuit.specs.Circuit.{Circuit, IsCircuit};
+ghost use Rattle.aig_format.specs.Circuit.{circuit_of};
+ghost use Rattle.aig_format.specs.File.{File};
+ghost use Rattle.aig_format.specs.Fits.{Fits};
+ghost use Rattle.aig_format.specs.Writable.{AreTexts, IsWritable};
+ghost use Rattle.aig_reduction.specs.Reduction.{IsReduced};
+ghost use Rattle.aig_edits.specs.Edits.{IsEditOwn, IsEditUnwritten, ReadsFile, edit_verdict};
+ghost use Rattle.aig_edits.specs.Reductions.{IsReductionOf, PrintsReduction};
+
+use crate::edit_error::EditError;
+use crate::edit_printing::same_witnesses_are_as_safe;
+use aig_base::{Sink, Source};
+use aig_circuit::CircuitView;
+use aig_edit_laws::reductions_are_writable;
+use aig_format_laws::{files_are_circuits, written_is_read};
+use aig_reduction::reduced;
+use aig_writer::write_text;
+use std::alloc::Global;
+
+/// Law: the text of a reduction of a file's circuit is a file, which is as safe.
+fn reductions_show()
+    ensures { (f : File) (limit : ℕ) (m : Circuit) → Fits f limit → IsWritable (circuit_of f)
+        → IsCircuit m → AreTexts m.names → IsReduced (circuit_of f) m → IsReductionOf f m }
+{
+    files_are_circuits();
+    reductions_are_writable();
+    written_is_read();
+    same_witnesses_are_as_safe();
+}
+
+/// Reads a file in the AIGER format, and writes the text form of what its query needs to `w`: no outputs, justice or
+/// fairness, and of the latches those alone that the bad literals and the constraints reach (`reduced` of the crate
+/// `aig_reduction`). It doesn't flush `w`. Requires `1 <= limit <= 2^31`.
+///
+/// # Errors
+///
+/// After `Write` a beginning of the text was written. Every other refusal leaves the writer as it was.
+///
+/// - `Read`: the file is refused.
+/// - `Memory`: memory was refused after the reading.
+/// - `Write`: the writer failed in this call.
+pub fn print_reduction<R: Source, W: Sink>(
+    alloc: Global,
+    r: &mut R,
+    limit: usize,
+    w: &mut W,
+) -> Result<(), EditError>
+    requires some { 1 ≤ limit }
+    requires few { limit ≤ 2 ^ 31 }
+    // The bytes that were read are a file, and what is written is the text form of its reduction.
+    ensures reads { ReadsFile R.left R.failed limit
+        (PrintsReduction W.held W.failed w.old w.new) edit_verdict IsEditOwn r.old result r.new }
+    ensures kept { IsEditUnwritten result → w.new ≡ w.old }
+{
+    files_are_circuits();
+    reductions_show();
+    let lists = aig_reader::read(alloc, r, limit)?;
+    let made = reduced(alloc, &CircuitView::new(&lists))?;
+    Ok(write_text(w, &CircuitView::new(&made))?)
+}

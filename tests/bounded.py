@@ -1,0 +1,125 @@
+#!/usr/bin/env python3
+"""Compares bounded checks of small machines with a search over all states: bounded.py [FILES [SEED]]
+
+Asks of FILES (500) random machines, with constraints, resets of all three kinds and several bad states, whether a bad state is reached up
+to a step K from 0 to 12, by one question: `aigcheck bounded`, cadical, and `aigcheck refuted FILE to K` or `witness FILE to K`, whose
+witness `aigcheck run` takes. Where a question is settled at once, the search has to find no bad state either. The file of `aigedit
+question` has an output that can be true exactly where the search finds one. Where a bad state is reached, mangled proofs are refused.
+
+It ends with the first that differs, and else prints one line. It needs cadical, and is no part of tests/run."""
+import collections
+import concurrent.futures
+import itertools
+import random
+import sys
+import tempfile
+from pathlib import Path
+
+import harness
+from aiger import machine_of
+from harness import CHECK, EDIT, output
+from random_machines import Files, deep_machine, random_machine
+
+LAST = 12
+# How many inputs a question may have of which all values are tried.
+FEW = 10
+
+
+class Trial(Files):
+    """A random machine, and a step up to which it is asked."""
+
+    def __init__(self, seed, folder):
+        super().__init__(folder)
+        self.rng = random.Random(seed)
+        self.machine = self.rng.choice([random_machine, deep_machine])(self.rng)
+        self.first, self.step = self.machine.first_bad(), self.rng.randint(0, LAST)
+        self.file = self.put("made.aag", self.machine.text())
+        self.is_reached = self.first is not None and self.first <= self.step
+        self.setting = self.rng.choice([[], ["raw"]])
+
+    def fail(self, why):
+        """Ends with the machine that shows a fault."""
+        super().fail(f"{why}; up to step {self.step}; a search finds a bad state at step {self.first}")
+
+    def refutes(self, proof):
+        """Whether aigcheck takes a proof that no bad state is reached."""
+        return self.takes(f"no bad state up to step {self.step}", "refuted", self.file, "to", str(self.step), proof, *self.setting)
+
+    def run(self):
+        """Asks, and compares the answer."""
+        status, clauses, said = harness.run([CHECK, "bounded", self.file, str(self.step), *self.setting])
+        if status == 20:
+            self.compare_settled(clauses, said)
+        elif status == 0:
+            self.compare_asked(clauses)
+        else:
+            self.fail(f"bounded: {said}")
+        self.compare_question()
+        return self
+
+    def compare_settled(self, clauses, said):
+        """Compares an answer that needs no solver."""
+        self.counts["settled"] += 1
+        if self.is_reached or clauses or said != f"aigcheck: no bad state up to step {self.step}\n".encode():
+            self.fail(f"settled: {clauses} {said}")
+        if not self.refutes(self.put("empty", "")):
+            self.fail("an empty proof is refused")
+
+    def compare_asked(self, clauses):
+        """Compares a solver's answer."""
+        path, proof = self.put("clauses.cnf", clauses), str(self.folder / "proof")
+        status, printed, _ = harness.run(["cadical", "-q", "--no-binary", path, proof])
+        if status == (20 if self.is_reached else 10):
+            self.fail(f"cadical: {printed}")
+        if status == 10:
+            self.compare_witness(self.put("solution", printed))
+            self.refuse_mangled()
+        elif not self.refutes(proof):
+            self.fail(f"a proof is refused: {Path(proof).read_text()}")
+        else:
+            self.counts["refuted"] += 1
+
+    def compare_witness(self, solution):
+        """Compares the witness of a solution."""
+        witness = output([CHECK, "witness", self.file, "to", str(self.step), solution, *self.setting])
+        shown = output([CHECK, "run", self.file, self.put("witness", witness)]).split()
+        step = int(shown[-1])
+        self.counts["reached"] += 1
+        self.counts["reached at the first step"] += step == self.first
+        if not self.first <= step <= self.step or len(witness.splitlines()) != step + 5:
+            self.fail(f"a witness: {witness}, {shown}")
+
+    def refuse_mangled(self):
+        """Looks that proofs of other clauses are refused where a bad state is reached."""
+        for lines in [["0"], ["1 0", "0"], [f"{self.rng.randint(1, 9)} 0", f"-{self.rng.randint(1, 9)} 0", "0"]]:
+            self.counts["mangled, refused"] += 1
+            if self.refutes(self.put("mangled", "".join(line + "\n" for line in lines))):
+                self.fail(f"a proof is taken: {lines}")
+
+    def compare_question(self):
+        """Tries all values of the inputs of the question as a file."""
+        made = machine_of(output([EDIT, "question", self.file, str(self.step)]))
+        if made.latches or len(made.outputs) != 1 or made.bads or made.constraints:
+            self.fail(f"a question has {made}")
+        if len(made.inputs) > FEW:
+            return
+        self.counts["tried by all values"] += 1
+        values = (made.values([], bits) for bits in itertools.product([False, True], repeat=len(made.inputs)))
+        if any(given[made.outputs[0]] for given in values) != self.is_reached:
+            self.fail(f"a question's output: {made}")
+
+
+def counts_of(words):
+    """What is counted of a trial."""
+    return Trial(*words).run().counts
+
+
+def main():
+    files, seed = [int(word) for word in sys.argv[1:]] + [500, 1][len(sys.argv) - 1 :]
+    with tempfile.TemporaryDirectory() as folder, concurrent.futures.ProcessPoolExecutor() as pool:
+        counts = sum(pool.map(counts_of, [(f"{seed} {i}", f"{folder}/{i}") for i in range(files)]), collections.Counter())
+    print(f"seed {seed}: {files} files agree (" + ", ".join(f"{counts[what]} {what}" for what in sorted(counts)) + ")")
+
+
+if __name__ == "__main__":
+    main()

@@ -1,0 +1,356 @@
+#!/usr/bin/env python3
+"""Compares which proofs are taken with a checker of its own: proofs.py [PROOFS [SEED]]
+
+Makes PROOFS (1000) proofs of cadical, by settings of all kinds, for steps of random machines at which no bad state is reached: as text, in
+its binary form, and with hints, which a search by unit propagation here finds (LRAT). `aigcheck refuted` takes each text, and refuses the
+binary form by name. Each text is mangled, too, and aigcheck takes what comes of it exactly where the checker here does: a plain one of
+reverse unit propagation, which knows nothing of the library.
+
+It ends with the first that differs, and else prints one line. It is no part of tests/run."""
+import collections
+import concurrent.futures
+import random
+import sys
+import tempfile
+from pathlib import Path
+
+import harness
+from aiger import Machine
+from harness import CHECK, output
+from random_machines import Files, random_machine
+
+# How often a proof is mangled.
+MANGLED = 2
+SETTINGS = [[], ["--plain"], ["--unsat"], ["--sat"], ["--no-elim"], ["--no-probe"], ["--decompose=0"], ["--reduceint=10"], ["--seed=7"]]
+
+
+class Clauses:
+    """Clauses by their numbers, which have a literal, and the literals that were found to be true in any case."""
+
+    def __init__(self, clauses=()):
+        self.all, self.having, self.fixed = {}, collections.defaultdict(set), set()
+        for number, clause in enumerate(clauses, 1):
+            self.add(number, clause)
+
+    def add(self, number, clause):
+        """One more, under a number."""
+        self.all[number] = clause
+        for literal in clause:
+            self.having[literal].add(number)
+
+    def remove(self, number):
+        """One less."""
+        for literal in self.all.pop(number):
+            self.having[literal].discard(number)
+
+    def find(self, clause):
+        """The number of a clause of these literals, if there is one."""
+        among = self.having[clause[0]] if clause else self.all
+        return min((n for n in among if set(self.all[n]) == set(clause)), default=None)
+
+    def propagate(self, literals):
+        """The numbers of clauses along which unit propagation from true literals ends in a conflict, in order; None where it doesn't.
+        From none, it fixes what it finds."""
+        true, hints = self.fixed.union(literals), []
+        if any(-literal in true for literal in true):
+            return hints
+        waiting = [number for number, clause in self.all.items() if len(set(clause)) < 2]
+        waiting += [number for literal in true for number in sorted(self.having[-literal])]
+        for number in waiting:
+            clause = self.all[number]
+            left = {literal for literal in clause if -literal not in true}
+            if len(left) > 1 or left & true:
+                continue
+            hints.append(number)
+            if not left:
+                return hints
+            true |= left
+            waiting += sorted(self.having[-left.pop()])
+        self.fixed = self.fixed if literals else true
+        return None
+
+    def forget(self):
+        """Fixes no literal any more, and gives those that were fixed."""
+        fixed, self.fixed = self.fixed, set()
+        return fixed
+
+    def follow(self, clause):
+        """The hints by which a clause follows, or None."""
+        return self.propagate([-literal for literal in clause])
+
+
+class Formula:
+    """Clauses as DIMACS has them."""
+
+    def __init__(self, text):
+        header, *lines = [line.split() for line in text.splitlines() if line[0] != "c"]
+        self.variables = int(header[2])
+        self.clauses = [tuple(map(int, words[:-1])) for words in lines]
+
+    def is_in_conflict(self):
+        """Whether there is the empty clause, or a literal and its inverse alone."""
+        units = {clause[0] for clause in self.clauses if len(clause) == 1}
+        return () in self.clauses or any(-literal in units for literal in units)
+
+
+class Refusal(Exception):
+    """A proof is refused."""
+
+
+def numbers_of(line):
+    """The numbers of a line up to its 0, and those after it."""
+    try:
+        numbers = [int(word) for word in line]
+        end = numbers.index(0)
+    except ValueError:
+        raise Refusal(f"bad line {line}") from None
+    return numbers[:end], numbers[end + 1 :]
+
+
+def step_of(formula, line):
+    """Whether the line of a DRAT file deletes a clause, and that clause."""
+    deletes = line[:1] == ["d"]
+    clause, rest = numbers_of(line[deletes:])
+    if rest or any(abs(literal) > formula.variables for literal in clause):
+        raise Refusal(f"bad line {line}")
+    return deletes, clause
+
+
+def check_unnumbered(formula, lines):
+    """Takes the lines of a DRAT file up to a conflict, or raises why not."""
+    clauses, number = Clauses(formula.clauses), len(formula.clauses)
+    # The first line says which form the others have, and so it is read in any case.
+    if lines:
+        step_of(formula, lines[0])
+    if clauses.propagate([]) is not None:
+        return
+    for line in lines:
+        deletes, clause = step_of(formula, line)
+        if deletes:
+            found = clauses.find(clause)
+            # What has one literal alone is never deleted, nor is what was fixed, as in the checkers that are in use.
+            if found and len(set(clause)) > 1:
+                clauses.remove(found)
+            continue
+        if clauses.follow(clause) is None:
+            raise Refusal(f"{line} doesn't follow")
+        number += 1
+        clauses.add(number, tuple(clause))
+        if clauses.propagate([]) is not None:
+            return
+    raise Refusal("unfinished")
+
+
+def follows(clauses, clause, hints):
+    """Whether a clause follows along these hints, each of which names a clause with at most one literal that isn't false."""
+    true = {-literal for literal in clause}
+    if any(-literal in true for literal in true):
+        return True
+    for hint in hints:
+        left = {literal for literal in clauses.all[hint] if -literal not in true}
+        if not left:
+            return True
+        if len(left) > 1:
+            return False
+        true |= left
+    return False
+
+
+def check_numbered(formula, lines):
+    """Takes the lines of an LRAT file up to the empty clause, or raises why not."""
+    clauses = Clauses(formula.clauses)
+    used = set(clauses.all)
+    for line in lines:
+        if line[1:2] == ["d"]:
+            numbers, rest = numbers_of(line[2:])
+            if rest or int(line[0]) < 1 or min(numbers, default=1) < 1:
+                raise Refusal(f"bad line {line}")
+            for number in numbers:
+                if number not in clauses.all:
+                    raise Refusal(f"no clause {number}")
+                clauses.remove(number)
+            continue
+        clause, hints = numbers_of(line[1:])
+        hints, rest = numbers_of(map(str, hints))
+        number = int(line[0])
+        if rest or number < 1 or min(hints, default=1) < 1 or any(abs(literal) > formula.variables for literal in clause):
+            raise Refusal(f"bad line {line}")
+        if any(hint not in clauses.all for hint in hints) or not follows(clauses, clause, hints):
+            raise Refusal(f"{line} doesn't follow")
+        if number in used:
+            raise Refusal(f"{number} is used")
+        if not clause:
+            return
+        clauses.add(number, tuple(clause))
+        used.add(number)
+    raise Refusal("unfinished")
+
+
+def check(formula, lines):
+    """Takes a proof, or raises why not: one of numbers and hints where the first line has more behind its clause."""
+    if formula.is_in_conflict():
+        return
+    first = lines[0] if lines else []
+    has_numbers = first[:1] != ["d"] and (first[1:2] == ["d"] or (first[:1] != ["0"] and first.index("0") < len(first) - 1 if "0" in first else False))
+    (check_numbered if has_numbers else check_unnumbered)(formula, lines)
+
+
+def numbered(formula, lines):
+    """The lines of an LRAT file that say what those of a DRAT file do, with deletions of clauses alone that are there and fix nothing."""
+    clauses, number, made, fixed = Clauses(formula.clauses), len(formula.clauses), [], set()
+    for line in [*lines, ["0"]]:
+        clause = tuple(int(word) for word in line if word not in ["d", "0"])
+        if line[0] == "d":
+            found = clauses.find(clause)
+            if found and len(clause) > 1 and not fixed.intersection(clause):
+                clauses.remove(found)
+                made.append([str(number), "d", str(found), "0"])
+            continue
+        # Where unit propagation is in conflict, the empty clause follows. Hints name clauses that are there.
+        last = clauses.propagate([])
+        fixed = clauses.forget()
+        clause, hints = (clause, clauses.follow(clause)) if last is None else ((), last)
+        number += 1
+        made.append([str(number), *map(str, clause), "0", *map(str, hints), "0"])
+        if not clause:
+            break
+        clauses.add(number, clause)
+    return made
+
+
+def text_of(lines):
+    """The text of lines of words."""
+    return "".join(" ".join(line) + "\n" for line in lines)
+
+
+def random_formula(rng):
+    """A machine without latches that is bad where random clauses of three literals are all true, most often nowhere."""
+    inputs = rng.randint(4, 9)
+    gates = []
+
+    def both(left, right):
+        gates.append((2 * (inputs + len(gates) + 1), max(left, right), min(left, right)))
+        return gates[-1][0]
+
+    bad = 1
+    for _ in range(round(inputs * rng.uniform(5, 6))):
+        a, b, c = (2 * variable + rng.randrange(2) for variable in rng.sample(range(1, inputs + 1), 3))
+        bad = both(bad, both(both(a, b), c) ^ 1)
+    return Machine([2 * v for v in range(1, inputs + 1)], [], [], [bad], [], [], [], gates, {})
+
+
+class Trial(Files):
+    """A random machine, a step at which it is safe, and proofs of that."""
+
+    def __init__(self, seed, folder):
+        super().__init__(folder)
+        self.rng = random.Random(seed)
+        while True:
+            machine, self.step = self.rng.choice([(random_formula, 0), (random_machine, self.rng.randint(0, 4))])
+            machine = machine(self.rng)
+            self.file = self.put("made.aag", machine.text())
+            clauses = output([CHECK, "clauses", self.file, str(self.step)])
+            self.formula, self.clauses = Formula(clauses), self.put("clauses.cnf", clauses)
+            # Of those that unit propagation refutes alone few are kept.
+            self.setting = self.rng.choice(SETTINGS)
+            if self.proof("--no-binary") is None:
+                continue
+            if Clauses(self.formula.clauses).propagate([]) is None or self.rng.random() < 0.05:
+                return
+
+    def proof(self, form):
+        """The path of a proof that the clauses have no solution; None where they have one. The lines of a text are kept."""
+        path = str(self.folder / "proof")
+        if harness.run(["cadical", "-q", form, *self.setting, self.clauses, path])[0] != 20:
+            return None
+        if form == "--no-binary":
+            self.lines = [line.split() for line in Path(path).read_text().splitlines()]
+        return path
+
+    def is_taken(self, path):
+        """Whether aigcheck takes a proof."""
+        return self.takes(f"no bad state at step {self.step}", "refuted", self.file, str(self.step), path)
+
+    def compare(self, kind, lines):
+        """Compares a proof and what is mangled of it with the checker here."""
+        self.counts[kind] += 1
+        if not self.is_taken(self.put("proof", text_of(lines))):
+            self.fail(f"a proof of {kind} is refused:\n{text_of(lines)}")
+        for _ in range(MANGLED):
+            self.compare_mangled(kind, mangled(self.rng, lines))
+
+    def compare_mangled(self, kind, lines):
+        """Compares a mangled proof."""
+        try:
+            check(self.formula, lines)
+            taken = True
+        except Refusal:
+            taken = False
+        self.counts[f"{kind} mangled, {'taken' if taken else 'refused'}"] += 1
+        if self.is_taken(self.put("mangled", text_of(lines))) != taken:
+            self.fail(f"a mangled proof of {kind} is {'refused' if taken else 'taken'}:\n{text_of(lines)}")
+
+    def run(self):
+        """Compares all proofs of this machine."""
+        lines = self.lines
+        self.compare("cadical", lines)
+        if self.formula.is_in_conflict():
+            self.counts["in conflict at once"] += 1
+            return self
+        self.compare("hints", numbered(self.formula, lines))
+        self.refuses_binary(self.proof("--binary"))
+        return self
+
+    def refuses_binary(self, path):
+        """Looks how the binary form is refused: by name, unless a deletion comes first that looks like one of a text."""
+        first = Path(path).read_bytes()[:2]
+        status, _, said = harness.run([CHECK, "refuted", self.file, str(self.step), path])
+        self.counts["binary"] += 1
+        self.counts["binary, refused by name"] += b"binary" in said
+        if status != 1 or (b"binary" not in said and first[:1] == b"a"):
+            self.fail(f"a binary proof that begins with {first}: {said}")
+
+
+def mangled(rng, lines):
+    """Lines of a proof with some dropped, turned, swapped, cut or doubled, and then perhaps the empty clause."""
+    lines = [list(line) for line in lines]
+    for _ in range(rng.randint(1, 3)):
+        if not lines:
+            break
+        i, j = rng.randrange(len(lines)), rng.randrange(len(lines))
+        change = rng.choice(["drop", "turn", "turn", "swap", "cut", "double", "word"])
+        place = rng.randrange(len(lines[i]))
+        if change == "drop":
+            del lines[i]
+        elif change == "swap":
+            lines[i], lines[j] = lines[j], lines[i]
+        elif change == "cut":
+            del lines[i:]
+        elif change == "double":
+            lines.insert(j, list(lines[i]))
+        elif change == "word":
+            del lines[i][place]
+            lines = [line for line in lines if line]
+        elif lines[i][place] not in ["0", "d"]:
+            lines[i][place] = str(int(lines[i][place]) * -1 if rng.random() < 0.7 else int(lines[i][place]) + rng.choice([-1, 1]))
+    return lines
+
+
+def counts_of(words):
+    """What is counted of a trial."""
+    return Trial(*words).run().counts
+
+
+def main():
+    proofs, seed = [int(word) for word in sys.argv[1:]] + [1000, 1][len(sys.argv) - 1 :]
+    counts, count = collections.Counter(), 0
+    with tempfile.TemporaryDirectory() as folder, concurrent.futures.ProcessPoolExecutor() as pool:
+        while sum(counts[kind] for kind in ["cadical", "hints", "binary"]) < proofs:
+            for made in pool.map(counts_of, [(f"{seed} {i}", f"{folder}/{i}") for i in range(count, count + 50)]):
+                counts += made
+            count += 50
+    print(f"seed {seed}: {count} steps agree (" + ", ".join(f"{counts[what]} {what}" for what in sorted(counts)) + ")")
+
+
+if __name__ == "__main__":
+    main()
