@@ -4,7 +4,7 @@
 For the designs of tests/designs and a file of GATES (5000) gates in which tokens go through 52 stages (`circuits.py`), up to each STEP (20,
 50): processor seconds of `aigcheck bounded`, of cadical, of `aigcheck refuted FILE to K` or `witness FILE to K`, of all three, and of
 ABC's `bmc3`, and what part of the last the sum is. Then the geometric mean of these ratios, and that of `bounded` to `aigtool cnf FILE K`.
-Times below 10 ms count as 10 ms."""
+Times below 10 ms count as 10 ms. A program has 20 seconds; a row where one takes longer counts for nothing."""
 import math
 import os
 import subprocess
@@ -17,13 +17,13 @@ from measuring import row, run
 TOP = os.path.join(os.path.dirname(os.path.abspath(__file__)), "..")
 DESIGNS = os.path.join(TOP, "tests", "designs")
 CHECK, TOOL = (os.path.join(TOP, "crates", name, "out", name) for name in ["aigcheck", "aigtool"])
-LEAST = 0.01
+LEAST, MOST = 0.01, 20
 
 
 def timed(words, out):
     """The status of a program that prints into a file, and its processor seconds."""
     with open(out, "wb") as into:
-        status, seconds, _ = run(words, into)
+        status, seconds, _ = run(["timeout", str(MOST), *words], into)
     return status, max(seconds, LEAST)
 
 
@@ -34,6 +34,8 @@ def asked(file, step, folder):
     if status == 20:
         return "settled", making, 0, 0
     status, solving = timed(["cadical", "-q", "--no-binary", clauses, proof], solution)
+    if status not in (10, 20):
+        return "-", making, solving, 0
     words = [CHECK, "refuted", file, "to", str(step), proof] if status == 20 else [CHECK, "witness", file, "to", str(step), solution]
     checked, checking = timed(words, shown)
     return ("refuted" if status == 20 else "reached") if checked == 0 else "-", making, solving, checking
@@ -61,11 +63,12 @@ def main():
                 answer, *parts = asked(file, step, folder)
                 commands = f"read_aiger {file}; logic; undc; strash; zero; fold; bmc3 -F {step + 1}"
                 abc = timed(["berkeley-abc", "-q", commands], os.devnull)[1]
-                to_abc.append(sum(parts) / abc)
+                if answer != "-" and abc < MOST:
+                    to_abc.append(sum(parts) / abc)
                 to_cnf.append(parts[0] / timed([TOOL, "cnf", file, str(step)], os.devnull)[1])
-                times = [f"{seconds:.2f}" for seconds in [*parts, sum(parts), abc, to_abc[-1]]]
+                times = [f"{seconds:.2f}" for seconds in [*parts, sum(parts), abc, sum(parts) / abc]]
                 row([os.path.basename(file).removesuffix(".aig"), str(step), answer, *times])
-    print(f"all / bmc3: {mean(to_abc):.2f}, at most {max(to_abc):.2f}; bounded / cnf: {mean(to_cnf):.2f}, at most {max(to_cnf):.2f}")
+    print(f"all / bmc3 of {len(to_abc)}: {mean(to_abc):.2f}, at most {max(to_abc):.2f}; bounded / cnf: {mean(to_cnf):.2f}, at most {max(to_cnf):.2f}")
 
 
 if __name__ == "__main__":

@@ -30,6 +30,8 @@ from aigprove.witness import Witness, read
 
 EXAMPLES = [str(TOP / "examples" / f"{name}.aag") for name in ["credits", "queue", "pipeline", "handshake"]]
 BOUND = 6
+# Engines that show the steps up to the bound.
+BY_STEPS = ["steps", "steps,windows", "steps,windows,bmc3,pdr", "bounded"]
 NAMES = ["a", "a", "a b", "a=1", "i0", "l1", "b0", '"a"', "é", "a\\b", "x[0]", "\t", "i0:a", "d[0]", "d[0]", "d[1]", "d[1]", "d[2]", "d"]
 # A signal as it is printed, and its value: its place, a word, or a JSON string that may stand behind the place.
 SIGNAL = re.compile(r'((?:[il]\d+:)?"(?:[^"\\]|\\.)*"|[^\s"=]+)=(?:([01])|(\d+)\'h([0-9a-f]+))(?: |$)')
@@ -139,6 +141,7 @@ class Trial(Files):
         binary_names = {place: name for place, name in self.machine.names.items() if place[0] != "b"}
         self.compare_proved(self.text, self.machine.names, "steps", self.first_to(BOUND))
         self.compare_proved(self.binary, binary_names, "steps,windows", self.first_to(BOUND), "--jobs", "1")
+        self.compare_proved(self.text, self.machine.names, "bounded", self.first_to(BOUND))
         self.compare_proved(self.text, self.machine.names, "bmc3", self.first_to(BOUND))
         self.compare_proved(self.binary, binary_names, "pdr", self.first)
         # What windows show needs the steps before them.
@@ -158,7 +161,9 @@ class Trial(Files):
         keep, written = f"{file}-{engines}", self.folder / "witness"
         words = [PROVE, "--engine", engines, *options, file, "--witness", str(written), "--bound", str(BOUND), "--keep", keep]
         printed = output(words, [0, 10, 20])
-        lines = [line for line in printed.split("\n")[:-1] if not line.startswith("no bad state at step ")]
+        *lines, end = printed.split("\n")[:-1]
+        # What was shown on the way says nothing of the answer.
+        lines = [line for line in lines if not line.startswith(("no bad state at step ", "no bad state up to step "))] + [end]
         if first is not None:
             witness = read(Lines(written.read_bytes(), "WITNESS"), len(self.machine.latches), len(self.machine.inputs))
             self.compare_lines(lines, witness, names)
@@ -166,16 +171,16 @@ class Trial(Files):
             self.counts["reached"] += 1
         elif lines[-1:] == ["no bad state at any step"] and self.first is None:
             self.counts["proved safe"] += 1
-        elif lines == [f"no bad state up to step {BOUND}" if "steps" in engines else "nothing was shown"] and engines != "pdr":
+        elif lines == [f"no bad state up to step {BOUND}" if engines in BY_STEPS else "nothing was shown"] and engines != "pdr":
             self.counts["open"] += 1
         else:
             self.fail(f"aigprove: {printed}")
-        self.compare_kept(keep, printed)
+        self.compare_kept(keep, printed, ("no bad state at", "no bad state up to") if engines == "bounded" else "no bad state at")
 
-    def compare_kept(self, folder, printed):
-        """Has what was kept shown again, which prints the same lines, but for those of a run and of what is open."""
+    def compare_kept(self, folder, printed, heads):
+        """Has what was kept shown again, which prints the same lines with these heads, but for those of a run."""
         again = harness.shown_again(folder) or ""
-        shown = [line for line in printed.splitlines() if line.startswith("no bad state at")]
+        shown = [line for line in printed.splitlines() if line.startswith(heads)]
         if [line for line in again.splitlines() if line[0] != "b"] != shown:
             self.fail(f"check.sh prints {again}, and aigprove {printed}")
 

@@ -15,13 +15,16 @@ from aigprove.race import FAILED, Race
 from aigprove.source import Pair, Source, read
 
 TOP = os.path.dirname(os.path.dirname(os.path.dirname(os.path.realpath(__file__))))
+# Engines that are asked where none is named, and all.
 ENGINES = ["steps", "windows", "bmc3", "pdr"]
+ALL = [*ENGINES, "bounded"]
 BELIEVED = ["aigtool", "aigedit", "aigcheck"]
 ABOUT = """\
 Asks whether the machine of an AIGER file can reach a bad state, and believes no engine: what is printed was checked by aigcheck.
 
 Engines look for an answer side by side, and the first that is checked is printed:
   steps     asks a SAT solver about step 0, 1 and so on
+  bounded   asks it one question about all steps up to 1, 2, 4 and so on; by --engine alone
   windows   asks it about K + 2 steps from any state, bad at the last alone (k-induction)
   bmc3, pdr commands of ABC, whose counterexamples become witnesses and whose invariant becomes a certificate
 An engine that isn't installed, lies or breaks is told of on standard error, and changes nothing else.
@@ -59,8 +62,8 @@ def seconds(word):
 def engines(word):
     """Names of engines."""
     names = word.replace("abc", "bmc3,pdr").split(",")
-    if not set(names) <= set(ENGINES):
-        raise argparse.ArgumentTypeError(f"{word} names others than {', '.join(ENGINES)} and abc")
+    if not set(names) <= set(ALL):
+        raise argparse.ArgumentTypeError(f"{word} names others than {', '.join(ALL)} and abc")
     return names
 
 

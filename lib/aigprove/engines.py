@@ -7,7 +7,7 @@ import concurrent.futures
 import itertools
 import shutil
 
-from aigprove import plain, witness
+from aigprove import aiger, plain, witness
 from aigprove.programs import Fault, Folder, Sealed, ending
 from aigprove.questions import Question
 
@@ -63,7 +63,7 @@ class Steps:
             self.tried.clear()
             return False
         self.finish()
-        self.race.step(self.propagation(k))
+        self.race.step(k, self.propagation(k))
         return True
 
     def reaches(self, question):
@@ -72,18 +72,66 @@ class Steps:
         if not has_solution:
             self.finish(CHECKS - 1)
             claim = self.source.step(question, given)
-            self.checking.append((claim, self.checker.submit(self.judge.check, claim)))
+            self.checking.append((question.k, claim, self.checker.submit(self.judge.check, claim)))
             return False
         self.finish()
-        self.race.hand_in_run(self.judge.witness(self.source.asked, question.k, given))
+        self.race.hand_in_run(self.judge.witness(self.source.asked, question, given))
         return True
 
     def finish(self, left=0):
         """Waits for all checks but so many, and hands in what they show."""
         while len(self.checking) > left:
-            claim, check = self.checking.popleft()
+            k, claim, check = self.checking.popleft()
             check.result()
-            self.race.step(claim)
+            self.race.step(k, claim)
+
+
+class Bounded:
+    """Asks one question about all steps up to K, where K is 1, 2, 4 and so on, and the bound; then for the least step by halves."""
+
+    def __init__(self, race):
+        self.race, self.solver, self.judge, self.source = race, race.needs_solver(), race.judge, race.source
+
+    def run(self):
+        """Asks about more and more steps."""
+        shown = -1
+        for k in self.steps():
+            if run := self.reaches(k):
+                self.race.hand_in_run(self.least(shown, run))
+                return
+            shown = k
+        self.race.bound_reached()
+
+    def steps(self):
+        """The steps up to which it asks."""
+        bound = self.race.bound
+        yield from itertools.takewhile(lambda k: bound is None or k < bound, (1 << i for i in itertools.count()))
+        yield bound
+
+    def reaches(self, k):
+        """The witness of a run to a bad state up to step k, if there is one; else that there is none is checked, and handed in."""
+        self.race.progress("steps up to", k)
+        question = Question("bounded", k)
+        has_solution, given = self.solver.ask(question, self.source.asked)
+        if has_solution:
+            return self.judge.witness(self.source.asked, question, given)
+        claim = self.source.steps(question, given)
+        self.judge.check(claim)
+        self.race.step(k, claim, self.source.prefix)
+        return None
+
+    def least(self, shown, run):
+        """The witness of a run to the first step with a bad state, which is past a step that was shown and not past this run's last."""
+        while (last := self.last(run)) > shown + 1:
+            middle = (shown + last) // 2
+            found = self.reaches(middle)
+            shown, run = (shown, found) if found else (middle, run)
+        return run
+
+    def last(self, run):
+        """The last step of a witness."""
+        header = self.race.circuit.header
+        return len(witness.read(aiger.Lines(run, "WITNESS"), header.latches, header.inputs).steps) - 1
 
 
 class Windows:

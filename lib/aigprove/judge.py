@@ -3,6 +3,8 @@ import collections
 
 from aigprove.programs import Fault, Sealed, ending
 
+# The status of `aigcheck bounded` where no bad state is reached, as is seen without a solver.
+SETTLED = 20
 # How what aigcheck says ends where a proof doesn't follow.
 STEP = "proof step does not follow"
 
@@ -16,15 +18,19 @@ class Judge:
 
     def __init__(self, programs, aigtool, aigedit, aigcheck):
         self.programs, self.aigtool, self.aigedit, self.aigcheck = programs, aigtool, aigedit, aigcheck
-        # The proof that is the empty clause alone.
-        self.empty_clause = Sealed(b"0\n")
+        # The proof that is the empty clause alone, and the one without a step.
+        self.empty_clause, self.nothing = Sealed(b"0\n"), Sealed(b"")
 
-    def output(self, *words, **streams):
-        """What a program prints, which has to end with status 0."""
+    def ended(self, words, statuses, **streams):
+        """The status of a program, which has to be one of these, and what it prints."""
         status, printed, said = self.programs.output(words, **streams)
-        if status != 0:
+        if status not in statuses:
             raise Fault(said.partition("\n")[0] or f"{words[0]} {ending(status)}")
-        return printed
+        return status, printed
+
+    def output(self, *words):
+        """What a program prints, which has to end with status 0."""
+        return self.ended(words, [0])[1]
 
     def text(self, file):
         """The text form of a file, as bytes."""
@@ -35,9 +41,10 @@ class Judge:
         return Sealed(self.output(self.aigedit, command, *files).encode("ascii", "surrogateescape"))
 
     def print_question(self, question, file, out):
-        """Prints the clauses of a question."""
+        """Prints the clauses of a question, if it has any: whether it does."""
         program = self.aigtool if question.command == "query" else self.aigcheck
-        self.output(program, question.command, file, question.k, *question.form, stdout=out)
+        statuses = [0, SETTLED] if question.command == "bounded" else [0]
+        return self.ended([program, question.command, file, question.k, *question.form], statuses, stdout=out)[0] == 0
 
     def refusal(self, claim):
         """Why aigcheck doesn't print the line of a claim, where a proof doesn't follow; else None, and other faults are raised."""
@@ -57,6 +64,7 @@ class Judge:
         if why := self.refusal(claim):
             raise Fault(why)
 
-    def witness(self, file, k, solution):
-        """The witness that a solution of the question for step k says, as bytes."""
-        return self.output(self.aigcheck, "witness", file, k, solution).encode()
+    def witness(self, file, question, solution):
+        """The witness that a solution of a question says, as bytes."""
+        to = ["to"] if question.command == "bounded" else []
+        return self.output(self.aigcheck, "witness", file, *to, question.k, solution).encode()

@@ -11,12 +11,13 @@ SAID = 4096
 
 
 class Question(collections.namedtuple("Question", "command k form", defaults=[()])):
-    """Clauses that ask whether a bad state is reached at step k (`query`), or by a window of k + 2 steps from any state (`window`)."""
+    """Clauses that ask whether a bad state is reached at step k (`query`), at a step up to k (`bounded`), or by a window of k + 2 steps
+    from any state (`window`)."""
 
     @property
     def name(self):
         """The name of its proof."""
-        return "-".join([{"query": "step", "window": "window"}[self.command], str(self.k), *self.form])
+        return "-".join([{"query": "step", "bounded": "steps", "window": "window"}[self.command], str(self.k), *self.form])
 
 
 def cadical():
@@ -38,10 +39,12 @@ class Solver:
         self.words, self.programs, self.judge, self.above = words, programs, judge, above
 
     def ask(self, question, file):
-        """Whether a question has a solution, as it says, and the solution or the proof, which nobody has looked at."""
+        """Whether a question has a solution, as it says, and the solution or the proof, which nobody has looked at. One that has none at
+        once needs no proof."""
         with Folder(self.above) as folder:
             with folder.make("clauses.cnf") as out:
-                self.judge.print_question(question, file, out)
+                if not self.judge.print_question(question, file, out):
+                    return False, self.judge.nothing
             try:
                 status = folder.run(self.programs, [*self.words, folder.place("clauses.cnf"), folder.place("proof")])
             finally:

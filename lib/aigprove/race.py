@@ -7,7 +7,7 @@ import threading
 import time
 
 from aigprove import aiger, plain, waves, witness
-from aigprove.engines import Bmc3, Certificate, Missing, Pdr, Run, Steps, Windows
+from aigprove.engines import Bmc3, Bounded, Certificate, Missing, Pdr, Run, Steps, Windows
 from aigprove.evidence import Evidence
 from aigprove.programs import Fault, Sealed, Stopped, say
 from aigprove.questions import Solver
@@ -28,8 +28,8 @@ class Race:
         # Steps that were shown, from 0 on, a window that was, and engines that failed.
         self.steps, self.shown_window, self.faults = 0, None, []
         self.deadline = math.inf if words.timeout is None else self.begun + words.timeout
-        # What the progress line says.
-        self.doing = {}
+        # What the progress line says, and the last line that was printed.
+        self.doing, self.last = {}, None
         self.evidence = words.keep and Evidence(words.keep)
         if self.evidence:
             source.keep(self.evidence)
@@ -66,9 +66,9 @@ class Race:
         """Takes down what an engine does."""
         self.doing[what] = what if count is None else f"{what} {count}"
 
-    def step(self, claim):
-        """Takes a step that was checked."""
-        self.events.put(lambda: self.print_step(claim))
+    def step(self, k, claim, prefix=""):
+        """Takes that step k was checked, and all before it."""
+        self.events.put(lambda: self.print_step(k, claim, prefix))
 
     def window(self, k, claim):
         """Takes a window that was checked."""
@@ -100,6 +100,7 @@ class Race:
         """Prints a line, in the place of the progress line."""
         self.show_progress("")
         print(line, flush=True)
+        self.last = line
 
     def print_claim(self, claim, prefix=""):
         """Prints a line that was checked, and keeps what shows it."""
@@ -107,10 +108,10 @@ class Race:
         if self.evidence:
             self.evidence.shows(claim)
 
-    def print_step(self, claim):
-        """Prints that a step was shown."""
-        self.print_claim(claim)
-        self.steps += 1
+    def print_step(self, k, claim, prefix):
+        """Prints that step k was shown, or the steps up to it."""
+        self.print_claim(claim, prefix)
+        self.steps = max(self.steps, k + 1)
         return self.print_induction()
 
     def print_induction(self):
@@ -146,8 +147,10 @@ class Race:
         return UNSAFE
 
     def print_open(self):
-        """Prints up to which step all were shown."""
-        self.print_line(f"{self.source.so_far} up to step {self.steps - 1}" if self.steps else "nothing was shown")
+        """Prints up to which step all were shown, unless that was the last line."""
+        line = f"{self.source.so_far} up to step {self.steps - 1}" if self.steps else "nothing was shown"
+        if line != self.last:
+            self.print_line(line)
         return OPEN
 
     # The race.
@@ -159,7 +162,7 @@ class Race:
             given["certificate"] = lambda: Certificate(self, words.certificate)
         if words.run:
             given["run"] = lambda: Run(self, words.run)
-        own = {"steps": Steps, "windows": Windows, "bmc3": Bmc3, "pdr": Pdr}
+        own = {"steps": Steps, "bounded": Bounded, "windows": Windows, "bmc3": Bmc3, "pdr": Pdr}
         return given | {name: functools.partial(own[name], self) for name in words.engines}
 
     def start(self, name, make):
@@ -186,7 +189,7 @@ class Race:
     def end(self, name, why=None):
         """Takes that an engine ended without an answer."""
         self.left -= 1
-        self.doing.pop({"steps": "step", "windows": "window"}.get(name, name), None)
+        self.doing.pop({"steps": "step", "bounded": "steps up to", "windows": "window"}.get(name, name), None)
         if why:
             self.fail(name, why)
 

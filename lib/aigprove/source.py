@@ -56,6 +56,11 @@ class Asked:
         """That no bad state is reached at a step."""
         return self.claim(f"no bad state at step {question.k}", "refuted", [str(question.k), question.name], {question.name: proof})
 
+    def steps(self, question, proof):
+        """That none is reached at the steps up to one."""
+        words = ["to", str(question.k), question.name]
+        return self.claim(f"no bad state up to step {question.k}", "refuted", words, {question.name: proof})
+
     def window(self, question, proof):
         """That none is reached by windows from states that aren't bad."""
         line = f"no bad state at any step, if none up to step {question.k}"
