@@ -1,10 +1,11 @@
 #!/usr/bin/env python3
-"""Damages files at random, and checks what holds of aigtool whatever a file says.
+"""Damages files at random, and checks what holds of the programs whatever a file says.
 
-Files are made at random and damaged by bytes, by numbers and by lines. Of each: the program ends with status 0 or 1, with nothing
+Files are made at random and damaged by bytes, by numbers and by lines. Of each: aigtool ends with status 0 or 1, with nothing
 or with one line of a known text on standard error; it takes no more memory than the file and its header account for; what it
 prints is read again as the same; the text and the binary form of a file are one circuit, and have its counts and names; hashing
-twice is hashing once; and clauses have the counts that their first line says, and variables of it alone. Files that once
+twice is hashing once; clauses have the counts that their first line says, and variables of it alone; and aigedit and aigcheck take
+it or refuse it by one line, too. Files that once
 showed a fault stand in ROWS and are tried first.
 
 A run is repeated by its seed and the same count of files: --seed S --files N.
@@ -153,6 +154,9 @@ def made_file(rng):
 
 # ---- what holds
 
+# Commands of the other programs, and their step.
+BESIDE = [[harness.EDIT, "reduce"], [harness.EDIT, "info"], [harness.EDIT, "question", "2"], [harness.CHECK, "bounded", "2"]]
+
 
 class Fault(Exception):
     """What doesn't hold of a file."""
@@ -218,9 +222,26 @@ def counts_and_names(text):
     return lines[0], [line for line in lines if line[:1] in (b"i", b"l")]
 
 
+def check_beside(folder, data, is_accepted):
+    """What aigedit and aigcheck say of the same file: reductions and counts of what is accepted, questions where it has bad literals too, and
+    else one line."""
+    (folder / "file").write_bytes(data)
+    before = harness.limit(resource.RLIMIT_AS, MEMORY + OF_A_BYTE * len(data))
+    for program, command, *further in BESIDE:
+        status, out, error = harness.run([program, command, "file", *further], cwd=folder, preexec_fn=before)
+        done = (status, error) == (0, b"")
+        refused = out == b"" and re.fullmatch(rb"aig(edit|check): .*\n", error)
+        wants(done or (refused and status in (1, 20)), f"{command}: status {status}, {error}")
+        if not is_accepted:
+            wants(status == 1, f"{command} takes it")
+        elif not further or b"no bad state property" not in error:
+            wants(done or status == 20, f"{command} refuses it: {error}")
+
+
 def check(tool, rng, data):
     """What holds of a file. Returns whether it is accepted."""
     text = tool.run(data, "text")
+    check_beside(tool.folder, data, text is not None)
     steps, setting = str(rng.choice([0, 1, 3])), rng.choice([[], ["raw"]])
     answers = [tool.binary(data), tool.run(data, "strash")]
     answers += [tool.run(data, command, steps, *setting) for command in ["cnf", "query"]]
